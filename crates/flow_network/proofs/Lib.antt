@@ -1,0 +1,5 @@
+pub mod Bounds
+pub mod Duality
+pub mod Smallest
+pub mod Push
+pub mod Moves

@@ -1,0 +1,24 @@
+use Rattle.std.proofs.Common.{arith, eqb, slice_index, length, ◌≡◌, ◌<◌}
+use Rattle.std.proofs.lemmas.List.{get_or_read}
+use Rattle.flow_network.specs.Preflow.{arc_at}
+use Rattle.flow_network.specs.Cut.{nodes}
+use Rattle.flow_network.proofs.Bounds.{flow-le-capacities, number-le-sum}
+use Rattle.flow_network.proofs.Duality.{arc_is}
+use Rattle.flow_network.proofs.check.gets_of.Goals as goal
+
+pub overflow_add-index_mut : goal.overflow_add-index_mut
+overflow_add-index_mut c =
+    let net = c.args.net.now in
+    let h = c.arcs-arcs.ensures.limits in
+    let k = c.loop-k.k in
+    let l : k < length net.arcs = rw c.arcs-arcs.ensures.value at c.loop-k-test.true in
+    let u = (arc_at net k).to in
+    let node : u < nodes net = (arc_is net h k l).to in
+    let flow = flow-le-capacities net (slice_index c.args.arc_flow.now) (λ i. eqb (arc_at net i).to u) k l c.requires.within in
+    let start = number-le-sum net.sources u (node) in
+    let read = rw c.arcs-arcs.ensures.value at c.index_mut.ensures.value in
+    let inside : u < length c.loop-k.totals.items = omega (arith, c.loop-k.invariant.0, node) in
+    let here : c.index_mut.result.now ≡ slice_index c.loop-k.totals.items u =
+    get_or_read c.loop-k.totals.items u c.index_mut.result.now inside read 0 in
+    let told = c.loop-k.invariant.1 u node in
+    omega (arith, here, told, flow, start, h.total)

@@ -1,0 +1,53 @@
+use Rattle.std.specs.Prelude.{◌≡◌, ℕ, ◌+◌, ◌<◌, ◌≤◌, ◌^◌, Bool, true, not, ◌&&◌, List, length, slice_index, sum, sum_by, All}
+use Rattle.sums.specs.Sums.{sum_below, counted}
+use Rattle.flow_network.specs.declared.arc.Arc.{Arc}
+
+-- a net: of each node what the source can send it and what it can send the sink, and the arcs
+pub record Network : Type 0 where
+  pub sources : List ℕ
+  pub sinks : List ℕ
+  pub arcs : List Arc
+
+-- how many nodes
+abbrev pub nodes : Network → ℕ
+nodes net = length net.sources
+
+-- does the arc lead from outside the set into it?
+abbrev pub enters : (ℕ → Bool) → Arc → Bool
+enters side arc = side arc.to && not (side arc.from)
+
+-- the capacity of a cut, which is a set of nodes, the sink's side
+abbrev pub capacity_of : Network → (ℕ → Bool) → ℕ
+capacity_of net side =
+    sum_below (nodes net) (λ v. counted (side v) (slice_index net.sources v)) +
+    sum_below (nodes net) (λ v. counted (not (side v)) (slice_index net.sinks v)) +
+    sum_by (λ arc. counted (enters side arc) arc.capacity) net.arcs
+
+-- no set of nodes has a lower capacity
+abbrev pub IsLeastCut : Network → (ℕ → Bool) → Type 0
+IsLeastCut net side = (other : ℕ → Bool) → capacity_of net side ≤ capacity_of net other
+
+-- each node below n of the one set is in the other
+abbrev pub LiesWithin : ℕ → (ℕ → Bool) → (ℕ → Bool) → Type 0
+LiesWithin n side other = (v : ℕ) → v < n → side v ≡ true → other v ≡ true
+
+-- a least cut, and within each least cut
+pub record IsSmallestLeastCut (net : Network) (side : ℕ → Bool) : Type 0 where
+  pub least : IsLeastCut net side
+  pub smallest : (other : ℕ → Bool) → IsLeastCut net other → LiesWithin (nodes net) side other
+
+-- the arc leads between nodes below n
+pub record IsArc (n : ℕ) (arc : Arc) : Type 0 where
+  pub from : arc.from < n
+  pub to : arc.to < n
+
+-- all capacities together
+abbrev pub total_capacity : Network → ℕ
+total_capacity net = sum net.sources + sum net.sinks + sum_by (λ arc. arc.capacity) net.arcs
+
+-- what is true of every net
+pub record IsNet (net : Network) : Type 0 where
+  pub same : length net.sinks ≡ length net.sources
+  pub count : length net.sources ≤ 2 ^ 24
+  pub arcs : All (IsArc (length net.sources)) net.arcs
+  pub total : total_capacity net < 2 ^ 62

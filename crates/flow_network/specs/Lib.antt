@@ -1,0 +1,5 @@
+pub mod Cut
+pub mod Preflow
+pub mod Labels
+pub mod Answer
+pub mod Progress

@@ -1,0 +1,71 @@
+use Rattle.std.specs.Prelude.{◌≡◌, ℕ, zero, suc, ◌+◌, ◌-◌, ◌<◌, ◌≤◌, ◌⊎◌, Bool, true, ◌==◌, List, length, slice_index, slice_index_or}
+use Rattle.sums.specs.Sums.{sum_below, counted}
+use Rattle.flow_network.specs.declared.arc.Arc.{Arc}
+use Rattle.flow_network.specs.Cut.{Network, nodes, capacity_of}
+
+-- the arc at a place of the list
+abbrev pub arc_at : Network → ℕ → Arc
+arc_at net k = slice_index_or net.arcs k (record { from = 0; to = 0; capacity = 0 })
+
+-- what each arc carries, and what each node gives the sink
+pub record Flow : Type 0 where
+  pub arcs : List ℕ
+  pub sinks : List ℕ
+
+-- what comes to a node by arcs
+abbrev pub inflow : Network → Flow → ℕ → ℕ
+inflow net flow v = sum_below (length net.arcs) (λ k. counted ((arc_at net k).to == v) (slice_index flow.arcs k))
+
+-- what leaves a node by arcs
+abbrev pub outflow : Network → Flow → ℕ → ℕ
+outflow net flow v = sum_below (length net.arcs) (λ k. counted ((arc_at net k).from == v) (slice_index flow.arcs k))
+
+-- what a node gets: all source arcs are full
+abbrev pub gets : Network → Flow → ℕ → ℕ
+gets net flow v = slice_index net.sources v + inflow net flow v
+
+-- what a node passes on
+abbrev pub gives : Network → Flow → ℕ → ℕ
+gives net flow v = outflow net flow v + slice_index flow.sinks v
+
+-- what a node has and does not pass on
+abbrev pub excess : Network → Flow → ℕ → ℕ
+excess net flow v = gets net flow v - gives net flow v
+
+-- what the sink gets
+abbrev pub sink_gets : Network → Flow → ℕ
+sink_gets net flow = sum_below (nodes net) (slice_index flow.sinks)
+
+pub record IsPreflow (net : Network) (flow : Flow) : Type 0 where
+  pub arcs_len : length flow.arcs ≡ length net.arcs
+  pub sinks_len : length flow.sinks ≡ nodes net
+  pub arcs : (k : ℕ) → k < length net.arcs → slice_index flow.arcs k ≤ (arc_at net k).capacity
+  pub sinks : (v : ℕ) → v < nodes net → slice_index flow.sinks v ≤ slice_index net.sinks v
+  pub covered : (v : ℕ) → v < nodes net → gives net flow v ≤ gets net flow v
+
+-- the sink gets what the cut's capacity is, and that is the value
+pub record IsCertified (net : Network) (flow : Flow) (side : ℕ → Bool) (value : ℕ) : Type 0 where
+  pub preflow : IsPreflow net flow
+  pub full : sink_gets net flow ≡ capacity_of net side
+  pub told : value ≡ capacity_of net side
+
+-- from v to w an arc can carry more, or what an arc carries from w to v can be taken back
+abbrev pub IsResidual : Network → Flow → ℕ → ℕ → Type 0
+IsResidual net flow v w =
+    (k : ℕ) × (k < length net.arcs) ×
+    ((((arc_at net k).from ≡ v) × ((arc_at net k).to ≡ w) × (slice_index flow.arcs k < (arc_at net k).capacity))
+    ⊎ (((arc_at net k).to ≡ v) × ((arc_at net k).from ≡ w) × (0 < slice_index flow.arcs k)))
+
+-- a path of this many residual directions, the last of them to the sink, leads on from v
+abbrev pub ReachesIn : Network → Flow → ℕ → ℕ → Type 0
+ReachesIn net flow zero v = ⊥
+ReachesIn net flow (suc zero) v = (v < nodes net) × (slice_index flow.sinks v < slice_index net.sinks v)
+ReachesIn net flow (suc (suc d)) v = (w : ℕ) × IsResidual net flow v w × ReachesIn net flow (suc d) w
+
+abbrev pub Reaches : Network → Flow → ℕ → Type 0
+Reaches net flow v = (d : ℕ) × ReachesIn net flow d v
+
+-- the set is the set of nodes that reach the sink
+pub record IsReach (net : Network) (flow : Flow) (side : ℕ → Bool) : Type 0 where
+  pub sound : (v : ℕ) → v < nodes net → side v ≡ true → Reaches net flow v
+  pub complete : (v : ℕ) → v < nodes net → Reaches net flow v → side v ≡ true

@@ -1,0 +1,170 @@
+ghost use Rattle.std.specs.Prelude.{◌≡◌, ◌+◌, ◌<◌, ◌≤◌, ◌^◌, ◌↔◌, ℕ, IfOk, IsTrue, length, sum, slice_index, slice_index_or, false, not};
+ghost use Rattle.sums.specs.Sums.{sum_below, counted};
+ghost use Rattle.flow_network.specs.Cut.{nodes, capacity_of, IsNet};
+ghost use Rattle.flow_network.specs.Preflow.{arc_at, Flow, gets, gives, IsPreflow, IsCertified};
+ghost use Rattle.flow_network.specs.Answer.{IsRightCut};
+
+use crate::{Net, Solved};
+use std::alloc::{AllocError, Global};
+
+/// Whether no number is above that at its place in the other list.
+fn all_within(numbers: &[u64], limits: &[u64]) -> bool
+    requires { length numbers.now ≡ length limits.now }
+    ensures { IsTrue result ↔ ((k : ℕ) → k < length limits.now → slice_index numbers.now k ≤ slice_index limits.now k) }
+{
+    for k in 0..limits.len() {
+        if limits[k] < numbers[k] {
+            return false;
+        }
+    }
+    true
+}
+
+/// Whether no arc carries more than it can.
+fn arcs_within(net: &Net, arc_flow: &[u64]) -> bool
+    requires { length arc_flow.now ≡ length net.now.arcs }
+    ensures { IsTrue result ↔ ((k : ℕ) → k < length net.now.arcs → slice_index arc_flow.now k ≤ (arc_at net.now k).capacity) }
+{
+    let arcs = net.arcs();
+    for k in 0..arcs.len() {
+        if arcs[k].capacity < arc_flow[k] {
+            return false;
+        }
+    }
+    true
+}
+
+/// What each node gets.
+fn gets_of(alloc: Global, net: &Net, arc_flow: &[u64]) -> Result<Vec<u64>, AllocError>
+    requires len { length arc_flow.now ≡ length net.now.arcs }
+    requires within { (k : ℕ) → k < length net.now.arcs → slice_index arc_flow.now k ≤ (arc_at net.now k).capacity }
+    ensures len { IfOk result (λ totals. length totals.items ≡ nodes net.now) }
+    ensures value { IfOk result (λ totals. (v : ℕ) → v < nodes net.now → slice_index totals.items v ≡ gets net.now (record { arcs = arc_flow.now; sinks = net.now.sinks }) v) }
+{
+    let arcs = net.arcs();
+    let mut totals = Vec::from_slice(alloc, net.sources())?;
+    for k in 0..arcs.len() {
+        let node = arcs[k].to as usize;
+        totals[node] += arc_flow[k];
+    }
+    Ok(totals)
+}
+
+/// What each node passes on.
+fn gives_of(
+    alloc: Global,
+    net: &Net,
+    arc_flow: &[u64],
+    sink_flow: &[u64],
+) -> Result<Vec<u64>, AllocError>
+    requires len { length arc_flow.now ≡ length net.now.arcs }
+    requires sinks_len { length sink_flow.now ≡ nodes net.now }
+    requires within { (k : ℕ) → k < length net.now.arcs → slice_index arc_flow.now k ≤ (arc_at net.now k).capacity }
+    requires sinks_within { (v : ℕ) → v < nodes net.now → slice_index sink_flow.now v ≤ slice_index net.now.sinks v }
+    ensures len { IfOk result (λ totals. length totals.items ≡ nodes net.now) }
+    ensures value { IfOk result (λ totals. (v : ℕ) → v < nodes net.now → slice_index totals.items v ≡ gives net.now (record { arcs = arc_flow.now; sinks = sink_flow.now }) v) }
+{
+    let arcs = net.arcs();
+    let mut totals = Vec::from_slice(alloc, sink_flow)?;
+    for k in 0..arcs.len() {
+        let node = arcs[k].from as usize;
+        totals[node] += arc_flow[k];
+    }
+    Ok(totals)
+}
+
+/// Whether the numbers are a preflow.
+fn is_preflow(
+    alloc: Global,
+    net: &Net,
+    arc_flow: &[u64],
+    sink_flow: &[u64],
+) -> Result<bool, AllocError>
+    ensures { IfOk result (λ yes. IsTrue yes ↔ IsPreflow net.now (record { arcs = arc_flow.now; sinks = sink_flow.now })) }
+{
+    if arc_flow.len() != net.arcs().len() || sink_flow.len() != net.nodes() {
+        return Ok(false);
+    }
+    if !arcs_within(net, arc_flow) || !all_within(sink_flow, net.sinks()) {
+        return Ok(false);
+    }
+    let gets = gets_of(alloc, net, arc_flow)?;
+    let gives = gives_of(alloc, net, arc_flow, sink_flow)?;
+    Ok(all_within(gives.as_slice(), gets.as_slice()))
+}
+
+/// What the nodes of the one side give by their sources, and those of the other by their sinks.
+fn nodes_capacity(sources: &[u64], sinks: &[u64], side: &[bool]) -> u64
+    requires len { length side.now ≡ length sources.now }
+    requires sinks_len { length sinks.now ≡ length sources.now }
+    requires small { sum sources.now + sum sinks.now < 2 ^ 62 }
+    ensures value { result ≡ sum_below (length sources.now) (λ v. counted (slice_index_or side.now v false) (slice_index sources.now v)) +
+        sum_below (length sources.now) (λ v. counted (not (slice_index_or side.now v false)) (slice_index sinks.now v)) }
+{
+    let mut total = 0;
+    for v in 0..sources.len() {
+        total += if side[v] { sources[v] } else { sinks[v] };
+    }
+    total
+}
+
+/// The capacity of the cut that the bits tell.
+pub fn cut_capacity(net: &Net, side: &[bool]) -> u64
+    requires { length side.now ≡ nodes net.now }
+    ensures { result ≡ capacity_of net.now (λ v. slice_index_or side.now v false) }
+{
+    let mut total = nodes_capacity(net.sources(), net.sinks(), side);
+    for arc in net.arcs() {
+        if side[arc.to as usize] && !side[arc.from as usize] {
+            total += arc.capacity;
+        }
+    }
+    total
+}
+
+/// The sum of the numbers.
+fn total_of(numbers: &[u64]) -> u64
+    requires { sum numbers.now < 2 ^ 62 }
+    ensures { result ≡ sum numbers.now }
+{
+    numbers.iter().sum()
+}
+
+/// Whether the lists are a preflow whose value is told, and that of the cut.
+fn is_certified(
+    alloc: Global,
+    net: &Net,
+    arc_flow: &[u64],
+    sink_flow: &[u64],
+    side: &[bool],
+    value: u64,
+) -> Result<bool, AllocError>
+    requires limits { IsNet net.now }
+    requires len { length side.now ≡ nodes net.now }
+    ensures { IfOk result (λ yes. IsTrue yes ↔ IsCertified net.now (record { arcs = arc_flow.now; sinks = sink_flow.now }) (λ v. slice_index_or side.now v false) value) }
+{
+    if !is_preflow(alloc, net, arc_flow, sink_flow)? {
+        return Ok(false);
+    }
+    if total_of(sink_flow) != value {
+        return Ok(false);
+    }
+    Ok(value == cut_capacity(net, side))
+}
+
+/// Whether the cut is certified: lists of the wrong length are answered no.
+pub fn check_cut(alloc: Global, net: &Net, solved: &Solved) -> Result<bool, AllocError>
+    ensures { IfOk result (λ yes. IsTrue yes ↔ IsRightCut net.now solved.now) }
+{
+    if solved.sink_side.len() != net.nodes() {
+        return Ok(false);
+    }
+    is_certified(
+        alloc,
+        net,
+        solved.arc_flow.as_slice(),
+        solved.sink_flow.as_slice(),
+        solved.sink_side.as_slice(),
+        solved.value,
+    )
+}
