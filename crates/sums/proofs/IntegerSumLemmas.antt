@@ -1,4 +1,4 @@
-use Rattle.std.proofs.Common.{◌≡◌, ℕ, ◌+◌, ◌<◌, ◌≤◌, ◌^◌, Bool, true, false, List, [], ◌∷◌, ◌++◌, length, take, get_or, ℤ, pos, ◌+ℤ◌, ◌-ℤ◌, ◌≤ℤ◌, neg_ℤ, refl, sym, ap, arith, zero, suc, eqb, ◌≢◌, inl, inr, w64, FitsSigned, to_z, of_z, unsigned_abs}
+use Rattle.std.proofs.Common.{◌≡◌, ℕ, ◌+◌, ◌<◌, ◌≤◌, ◌^◌, Bool, true, false, List, [], ◌∷◌, ◌++◌, length, map, take, get_or, ℤ, pos, ◌+ℤ◌, ◌-ℤ◌, ◌≤ℤ◌, neg_ℤ, refl, sym, ap, arith, zero, suc, eqb, ◌≢◌, inl, inr, w64, FitsSigned, to_z, of_z, unsigned_abs}
 use Rattle.std.proofs.lemmas.Bool.{cases_lt}
 use Rattle.std.proofs.lemmas.Bool.Decides.{nat_tests}
 use Rattle.std.proofs.lemmas.Int.{ints, to_z-of_z}
@@ -155,3 +155,8 @@ abs-add y z = grind (arith, ints)
 
 pub abs-sub : (y z : ℤ) → unsigned_abs (y -ℤ z) ≤ unsigned_abs y + unsigned_abs z
 abs-sub y z = grind (arith, ints)
+
+-- the sum over what a function makes of each element
+pub int_sum_by-map : {A B : Type 0} (f : B → ℤ) (g : A → B) (xs : List A) → int_sum_by f (map g xs) ≡ int_sum_by (λ x. f (g x)) xs
+int_sum_by-map f g [] = refl
+int_sum_by-map f g (x ∷ xs) = omega (arith, ints, int_sum_by-map f g xs)
