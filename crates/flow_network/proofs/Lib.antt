@@ -1,5 +1,6 @@
 pub mod Bounds
 pub mod Duality
+pub mod Certificate
 pub mod Smallest
 pub mod Push
 pub mod Moves

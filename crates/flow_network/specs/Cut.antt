@@ -1,6 +1,8 @@
-use Rattle.std.specs.Prelude.{◌≡◌, ℕ, ◌+◌, ◌<◌, ◌≤◌, ◌^◌, Bool, true, not, ◌&&◌, List, length, slice_index, sum, sum_by, All}
+-- Nets and cuts (Ford, Fulkerson 1962, chapter I; Boykov, Veksler, Zabih 2001, section 4).
+use Rattle.std.specs.Prelude.{◌≡◌, ℕ, ◌+◌, ◌<◌, ◌≤◌, Bool, true, false, not, ◌&&◌, List, length, slice_index, slice_index_or, sum, sum_by, All}
 use Rattle.sums.specs.Sums.{sum_below, counted}
 use Rattle.flow_network.specs.declared.arc.Arc.{Arc}
+use Rattle.flow_network.specs.declared.limits.TheConstants.{MOST_NODES, CAPACITY_LIMIT}
 
 -- a net: of each node what the source can send it and what it can send the sink, and the arcs
 pub record Network : Type 0 where
@@ -8,15 +10,24 @@ pub record Network : Type 0 where
   pub sinks : List ℕ
   pub arcs : List Arc
 
+-- the net of these lists
+abbrev pub network_of : List ℕ → List ℕ → List Arc → Network
+network_of sources sinks arcs = record { sources = sources; sinks = sinks; arcs = arcs }
+
 -- how many nodes
 abbrev pub nodes : Network → ℕ
 nodes net = length net.sources
+
+-- the set of nodes that a list of bits tells
+abbrev pub set_of : List Bool → ℕ → Bool
+set_of bits v = slice_index_or bits v false
 
 -- does the arc lead from outside the set into it?
 abbrev pub enters : (ℕ → Bool) → Arc → Bool
 enters side arc = side arc.to && not (side arc.from)
 
--- the capacity of a cut, which is a set of nodes, the sink's side
+-- the capacity of a cut, told by its set of nodes on the sink's side: what the source can send the
+-- nodes in the set, what the nodes outside can send the sink, and what can enter the set by arcs
 abbrev pub capacity_of : Network → (ℕ → Bool) → ℕ
 capacity_of net side =
     sum_below (nodes net) (λ v. counted (side v) (slice_index net.sources v)) +
@@ -45,9 +56,9 @@ pub record IsArc (n : ℕ) (arc : Arc) : Type 0 where
 abbrev pub total_capacity : Network → ℕ
 total_capacity net = sum net.sources + sum net.sinks + sum_by (λ arc. arc.capacity) net.arcs
 
--- what is true of every net
+-- what is true of every net: a number for each node in both lists, arcs between nodes, and the limits
 pub record IsNet (net : Network) : Type 0 where
   pub same : length net.sinks ≡ length net.sources
-  pub count : length net.sources ≤ 2 ^ 24
+  pub count : length net.sources ≤ MOST_NODES
   pub arcs : All (IsArc (length net.sources)) net.arcs
-  pub total : total_capacity net < 2 ^ 62
+  pub total : total_capacity net < CAPACITY_LIMIT

@@ -1,3 +1,4 @@
+-- Labels that rise and excess that comes down to the sink (Goldberg, Tarjan 1988, section 3).
 use Rattle.std.specs.Prelude.{◌≡◌, ℕ, ◌+◌, ◌-◌, ◌*◌, ◌<◌, ◌≤◌, List, length, slice_index}
 use Rattle.sums.specs.Sums.{sum_below}
 use Rattle.flow_network.specs.Cut.{Network, nodes, total_capacity}

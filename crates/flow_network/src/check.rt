@@ -1,8 +1,9 @@
-ghost use Rattle.std.specs.Prelude.{◌≡◌, ◌+◌, ◌<◌, ◌≤◌, ◌^◌, ◌↔◌, ℕ, IfOk, IsTrue, length, sum, slice_index, slice_index_or, false, not};
+ghost use Rattle.std.specs.Prelude.{◌≡◌, ◌+◌, ◌<◌, ◌≤◌, ◌^◌, ◌↔◌, ℕ, IfOk, IsTrue, length, sum, slice_index, not};
 ghost use Rattle.sums.specs.Sums.{sum_below, counted};
-ghost use Rattle.flow_network.specs.Cut.{nodes, capacity_of, IsNet};
-ghost use Rattle.flow_network.specs.Preflow.{arc_at, Flow, gets, gives, IsPreflow, IsCertified};
-ghost use Rattle.flow_network.specs.Answer.{IsRightCut};
+ghost use Rattle.flow_network.specs.Cut.{nodes, set_of, capacity_of, IsNet};
+ghost use Rattle.flow_network.specs.Preflow.{flow_by, gets, gives, IsWithinArcs, IsWithinSinks, IsPreflow, IsCertified};
+ghost use Rattle.flow_network.specs.Answer.{IsRightCut, side_of};
+ghost use Rattle.flow_network.specs.Laws.{IsLeastCutOf};
 
 use crate::{Net, Solved};
 use std::alloc::{AllocError, Global};
@@ -10,7 +11,8 @@ use std::alloc::{AllocError, Global};
 /// Whether no number is above that at its place in the other list.
 fn all_within(numbers: &[u64], limits: &[u64]) -> bool
     requires { length numbers.now ≡ length limits.now }
-    ensures { IsTrue result ↔ ((k : ℕ) → k < length limits.now → slice_index numbers.now k ≤ slice_index limits.now k) }
+    ensures { IsTrue result ↔
+        ((k : ℕ) → k < length limits.now → slice_index numbers.now k ≤ slice_index limits.now k) }
 {
     for k in 0..limits.len() {
         if limits[k] < numbers[k] {
@@ -23,7 +25,7 @@ fn all_within(numbers: &[u64], limits: &[u64]) -> bool
 /// Whether no arc carries more than it can.
 fn arcs_within(net: &Net, arc_flow: &[u64]) -> bool
     requires { length arc_flow.now ≡ length net.now.arcs }
-    ensures { IsTrue result ↔ ((k : ℕ) → k < length net.now.arcs → slice_index arc_flow.now k ≤ (arc_at net.now k).capacity) }
+    ensures { IsTrue result ↔ IsWithinArcs net.now arc_flow.now }
 {
     let arcs = net.arcs();
     for k in 0..arcs.len() {
@@ -37,9 +39,10 @@ fn arcs_within(net: &Net, arc_flow: &[u64]) -> bool
 /// What each node gets.
 fn gets_of(alloc: Global, net: &Net, arc_flow: &[u64]) -> Result<Vec<u64>, AllocError>
     requires len { length arc_flow.now ≡ length net.now.arcs }
-    requires within { (k : ℕ) → k < length net.now.arcs → slice_index arc_flow.now k ≤ (arc_at net.now k).capacity }
+    requires within { IsWithinArcs net.now arc_flow.now }
     ensures len { IfOk result (λ totals. length totals.items ≡ nodes net.now) }
-    ensures value { IfOk result (λ totals. (v : ℕ) → v < nodes net.now → slice_index totals.items v ≡ gets net.now (record { arcs = arc_flow.now; sinks = net.now.sinks }) v) }
+    ensures value { IfOk result (λ totals. (v : ℕ) → v < nodes net.now →
+        slice_index totals.items v ≡ gets net.now (flow_by arc_flow.now net.now.sinks) v) }
 {
     let arcs = net.arcs();
     let mut totals = Vec::from_slice(alloc, net.sources())?;
@@ -59,10 +62,11 @@ fn gives_of(
 ) -> Result<Vec<u64>, AllocError>
     requires len { length arc_flow.now ≡ length net.now.arcs }
     requires sinks_len { length sink_flow.now ≡ nodes net.now }
-    requires within { (k : ℕ) → k < length net.now.arcs → slice_index arc_flow.now k ≤ (arc_at net.now k).capacity }
-    requires sinks_within { (v : ℕ) → v < nodes net.now → slice_index sink_flow.now v ≤ slice_index net.now.sinks v }
+    requires within { IsWithinArcs net.now arc_flow.now }
+    requires sinks_within { IsWithinSinks net.now sink_flow.now }
     ensures len { IfOk result (λ totals. length totals.items ≡ nodes net.now) }
-    ensures value { IfOk result (λ totals. (v : ℕ) → v < nodes net.now → slice_index totals.items v ≡ gives net.now (record { arcs = arc_flow.now; sinks = sink_flow.now }) v) }
+    ensures value { IfOk result (λ totals. (v : ℕ) → v < nodes net.now →
+        slice_index totals.items v ≡ gives net.now (flow_by arc_flow.now sink_flow.now) v) }
 {
     let arcs = net.arcs();
     let mut totals = Vec::from_slice(alloc, sink_flow)?;
@@ -80,7 +84,8 @@ fn is_preflow(
     arc_flow: &[u64],
     sink_flow: &[u64],
 ) -> Result<bool, AllocError>
-    ensures { IfOk result (λ yes. IsTrue yes ↔ IsPreflow net.now (record { arcs = arc_flow.now; sinks = sink_flow.now })) }
+    ensures { IfOk result (λ yes. IsTrue yes ↔
+        IsPreflow net.now (flow_by arc_flow.now sink_flow.now)) }
 {
     if arc_flow.len() != net.arcs().len() || sink_flow.len() != net.nodes() {
         return Ok(false);
@@ -98,8 +103,9 @@ fn nodes_capacity(sources: &[u64], sinks: &[u64], side: &[bool]) -> u64
     requires len { length side.now ≡ length sources.now }
     requires sinks_len { length sinks.now ≡ length sources.now }
     requires small { sum sources.now + sum sinks.now < 2 ^ 62 }
-    ensures value { result ≡ sum_below (length sources.now) (λ v. counted (slice_index_or side.now v false) (slice_index sources.now v)) +
-        sum_below (length sources.now) (λ v. counted (not (slice_index_or side.now v false)) (slice_index sinks.now v)) }
+    ensures { result ≡
+        sum_below (length sources.now) (λ v. counted (set_of side.now v) (slice_index sources.now v)) +
+        sum_below (length sources.now) (λ v. counted (not (set_of side.now v)) (slice_index sinks.now v)) }
 {
     let mut total = 0;
     for v in 0..sources.len() {
@@ -108,10 +114,12 @@ fn nodes_capacity(sources: &[u64], sinks: &[u64], side: &[bool]) -> u64
     total
 }
 
-/// The capacity of the cut that the bits tell.
+/// The capacity of the cut that the bits tell, one for each node, `true` on the sink's side: what
+/// the source can send the nodes there, what the others can send the sink, and the capacities of
+/// the arcs from the others to the nodes there (Boykov, Veksler, Zabih 2001, section 4).
 pub fn cut_capacity(net: &Net, side: &[bool]) -> u64
     requires { length side.now ≡ nodes net.now }
-    ensures { result ≡ capacity_of net.now (λ v. slice_index_or side.now v false) }
+    ensures { result ≡ capacity_of net.now (set_of side.now) }
 {
     let mut total = nodes_capacity(net.sources(), net.sinks(), side);
     for arc in net.arcs() {
@@ -141,7 +149,8 @@ fn is_certified(
 ) -> Result<bool, AllocError>
     requires limits { IsNet net.now }
     requires len { length side.now ≡ nodes net.now }
-    ensures { IfOk result (λ yes. IsTrue yes ↔ IsCertified net.now (record { arcs = arc_flow.now; sinks = sink_flow.now }) (λ v. slice_index_or side.now v false) value) }
+    ensures { IfOk result (λ yes. IsTrue yes ↔
+        IsCertified net.now (flow_by arc_flow.now sink_flow.now) (set_of side.now) value) }
 {
     if !is_preflow(alloc, net, arc_flow, sink_flow)? {
         return Ok(false);
@@ -152,9 +161,16 @@ fn is_certified(
     Ok(value == cut_capacity(net, side))
 }
 
-/// Whether the cut is certified: lists of the wrong length are answered no.
+/// Whether the numbers certify the cut: what arcs carry and nodes give the sink is a preflow, and
+/// what the sink gets by it is the capacity of the cut and the value. Then no cut of the net has a
+/// lower capacity (Ford, Fulkerson 1962; Goldberg, Tarjan 1988).
+///
+/// It may be asked of any numbers. Lists of the wrong length are answered no. The only error is
+/// want of memory, for two numbers a node.
 pub fn check_cut(alloc: Global, net: &Net, solved: &Solved) -> Result<bool, AllocError>
-    ensures { IfOk result (λ yes. IsTrue yes ↔ IsRightCut net.now solved.now) }
+    ensures right { IfOk result (λ yes. IsTrue yes ↔ IsRightCut net.now solved.now) }
+    ensures least { IfOk result (λ yes. IsTrue yes →
+        IsLeastCutOf net.now (side_of solved.now) solved.now.value) }
 {
     if solved.sink_side.len() != net.nodes() {
         return Ok(false);

@@ -1,27 +1,22 @@
-// Nets, cuts and preflows.
+//! Nets with a source and a sink, their cuts and preflows, and the test of a least cut.
+//!
+//! A cut is told by its set of nodes on the sink's side. Its capacity is what the source can send
+//! the nodes in the set, what the nodes outside can send the sink, and what can enter the set by
+//! arcs. `check_cut` tests a cut that was found elsewhere: where it says yes, no cut has a lower
+//! capacity. `laws` has the reasons (Ford, Fulkerson 1962; Goldberg, Tarjan 1988).
 #![tactic(auto)]
-
-ghost use Rattle.std.specs.Prelude.{◌≡◌, ℕ, ◌<◌, Bool, true};
-ghost use Rattle.flow_network.specs.Cut.{Network, nodes, IsNet, IsLeastCut, IsSmallestLeastCut};
-ghost use Rattle.flow_network.specs.Preflow.{Flow, IsCertified, IsPreflow, excess, IsReach};
 
 mod arc;
 mod check;
+pub mod laws;
+mod limits;
 mod net;
 mod solved;
+#[cfg(test)]
+mod tests;
 
 pub use arc::Arc;
 pub use check::{check_cut, cut_capacity};
+pub use limits::{CAPACITY_LIMIT, MOST_NODES};
 pub use net::Net;
 pub use solved::Solved;
-
-/// A law: a certified cut is a least cut.
-pub fn certified_is_least()
-    ensures { (net : Network) (flow : Flow) (side : ℕ → Bool) (value : ℕ) → IsNet net → IsCertified net flow side value → IsLeastCut net side }
-{}
-
-/// A law: where no node that reaches the sink has excess, the nodes that reach it are the smallest least cut.
-pub fn reach_is_smallest()
-    ensures { (net : Network) (flow : Flow) (side : ℕ → Bool) → IsNet net → IsPreflow net flow → IsReach net flow side →
-        ((v : ℕ) → v < nodes net → side v ≡ true → excess net flow v ≡ 0) → IsSmallestLeastCut net side }
-{}

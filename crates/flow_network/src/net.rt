@@ -1,10 +1,16 @@
 ghost use Rattle.std.specs.Prelude.{◌≡◌, ◌↔◌, ◌+◌, ◌<◌, IsTrue, length, sum, sum_by, All, MatchOption};
-ghost use Rattle.flow_network.specs.Cut.{Network, nodes, IsArc, IsNet};
+ghost use Rattle.flow_network.specs.Cut.{network_of, nodes, IsArc, IsNet};
 
-use crate::Arc;
+use crate::{Arc, CAPACITY_LIMIT, MOST_NODES};
 use std::marker::Model;
 
-/// A net: of each node what the source can send it and what it can send the sink, and the arcs.
+/// A net with a source and a sink: what the source can send each node, what each node can send
+/// the sink, and the arcs between nodes.
+///
+/// It keeps that there are as many numbers for sinks as for sources, at most `MOST_NODES` nodes,
+/// arcs between nodes that are there, and capacities below `CAPACITY_LIMIT` together. The source
+/// and the sink are no nodes (Boykov, Veksler, Zabih 2001, section 4: their t-links are the
+/// numbers for sources and sinks, their n-links the arcs).
 #[derive(Drop)]
 pub struct Net {
     sources: Vec<u64>,
@@ -13,13 +19,13 @@ pub struct Net {
 }
 
 impl Model for Net {
-    ghost use Rattle.flow_network.specs.Cut.{Network, IsNet};
+    ghost use Rattle.flow_network.specs.Cut.{Network, network_of, IsNet};
 
     ghost Value = { Network };
 
-    ghost view = { λ n. record { sources = n.sources.items; sinks = n.sinks.items; arcs = n.arcs.items } };
+    ghost view = { λ n. network_of n.sources.items n.sinks.items n.arcs.items };
 
-    ghost invariant = { λ n. IsNet (record { sources = n.sources.items; sinks = n.sinks.items; arcs = n.arcs.items }) };
+    ghost invariant = { λ n. IsNet (network_of n.sources.items n.sinks.items n.arcs.items) };
 }
 
 /// Whether each arc leads between nodes.
@@ -50,7 +56,8 @@ fn room_after(room: u64, numbers: &[u64]) -> Option<u64>
 
 /// What room is left after the capacities of the arcs.
 fn room_after_arcs(room: u64, arcs: &[Arc]) -> Option<u64>
-    ensures { MatchOption result (room < sum_by (λ arc. arc.capacity) arcs.now) (λ rest. rest + sum_by (λ arc. arc.capacity) arcs.now ≡ room) }
+    ensures { let all = sum_by (λ arc. arc.capacity) arcs.now in
+        MatchOption result (room < all) (λ rest. rest + all ≡ room) }
 {
     let mut rest = room;
     for arc in arcs {
@@ -63,17 +70,19 @@ fn room_after_arcs(room: u64, arcs: &[Arc]) -> Option<u64>
 }
 
 impl Net {
-    /// Whether the lists make a net.
+    /// Whether the lists make a net, the condition of `new`: as many sinks as sources, at most
+    /// `MOST_NODES` nodes, arcs between nodes that are there, and all capacities together below
+    /// `CAPACITY_LIMIT`. It may be asked of any lists.
     pub fn fits(sources: &[u64], sinks: &[u64], arcs: &[Arc]) -> bool
-        ensures { IsTrue result ↔ IsNet (record { sources = sources.now; sinks = sinks.now; arcs = arcs.now }) }
+        ensures { IsTrue result ↔ IsNet (network_of sources.now sinks.now arcs.now) }
     {
         if sinks.len() != sources.len()
-            || sources.len() > 16_777_216
+            || sources.len() > MOST_NODES
             || !arcs_fit(sources.len(), arcs)
         {
             return false;
         }
-        let Some(after_sources) = room_after(4_611_686_018_427_387_903, sources) else {
+        let Some(after_sources) = room_after(CAPACITY_LIMIT - 1, sources) else {
             return false;
         };
         let Some(after_sinks) = room_after(after_sources, sinks) else {
@@ -82,9 +91,11 @@ impl Net {
         room_after_arcs(after_sinks, arcs).is_some()
     }
 
+    /// The net of these lists, for which `fits` says yes: of each node what the source can send
+    /// it and what it can send the sink, and the arcs.
     pub fn new(sources: Vec<u64>, sinks: Vec<u64>, arcs: Vec<Arc>) -> Net
-        requires { IsNet (record { sources = sources.items; sinks = sinks.items; arcs = arcs.items }) }
-        ensures { result ≡ record { sources = sources.items; sinks = sinks.items; arcs = arcs.items } }
+        requires { IsNet (network_of sources.items sinks.items arcs.items) }
+        ensures { result ≡ network_of sources.items sinks.items arcs.items }
     {
         Net {
             sources,
@@ -93,7 +104,7 @@ impl Net {
         }
     }
 
-    /// How many nodes.
+    /// How many nodes the net has. They are numbered from 0.
     pub fn nodes(&self) -> usize
         ensures value { result ≡ nodes self.now }
         ensures limits { IsNet self.now }
@@ -101,7 +112,7 @@ impl Net {
         self.sources.len()
     }
 
-    /// What the source can send each node.
+    /// What the source can send each node, in the order of the nodes.
     pub fn sources(&self) -> &[u64]
         ensures value { result.now ≡ self.now.sources }
         ensures limits { IsNet self.now }
@@ -109,7 +120,7 @@ impl Net {
         self.sources.as_slice()
     }
 
-    /// What each node can send the sink.
+    /// What each node can send the sink, in the order of the nodes.
     pub fn sinks(&self) -> &[u64]
         ensures value { result.now ≡ self.now.sinks }
         ensures limits { IsNet self.now }
@@ -117,6 +128,7 @@ impl Net {
         self.sinks.as_slice()
     }
 
+    /// The arcs, in the order in which they were put in.
     pub fn arcs(&self) -> &[Arc]
         ensures value { result.now ≡ self.now.arcs }
         ensures limits { IsNet self.now }

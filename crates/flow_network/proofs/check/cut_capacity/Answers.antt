@@ -12,11 +12,11 @@ overflow_add-total c =
     let more = arcs-more-le arcs (enters side) c.loop-arc.arc-index c.loop-arc-test.true in
     let sides = sides-all-le c.args.net.now.sources c.args.net.now.sinks side c.sources.ensures.limits.same in
     let whole = ap (λ (xs : Rattle.std.proofs.Common.List Arc). sum_by (λ arc. arc.capacity) xs) c.arcs-arc-items.ensures.value in
-    let nodes_part = rw (c.sources.ensures.value, c.sinks.ensures.value) at c.nodes_capacity-total.ensures.value in
+    let nodes_part = rw (c.sources.ensures.value, c.sinks.ensures.value) at c.nodes_capacity-total.ensures in
     omega (arith, more, sides, whole, nodes_part, c.loop-arc.invariant, c.sources.ensures.limits.total)
 
 pub returns : goal.returns
 returns c =
-    let nodes_part = rw (c.sources.ensures.value, c.sinks.ensures.value) at c.nodes_capacity-total.ensures.value in
+    let nodes_part = rw (c.sources.ensures.value, c.sinks.ensures.value) at c.nodes_capacity-total.ensures in
     let all = rw (take_all c.loop-arc.arc-index c.arcs-arc-items.result.now c.loop-arc-test.false, c.arcs-arc-items.ensures.value) at c.loop-arc.invariant in
     omega (arith, all, nodes_part)
