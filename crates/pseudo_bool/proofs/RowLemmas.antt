@@ -42,3 +42,9 @@ pub whole_sum : (e : Formula) (x : ℕ → Bool) (rows : List Row) (start total 
 whole_sum e x rows start total i constant terms l sum =
     let all = rw (take_all i rows l) at sum in
     omega (arith, ints, all, constant, int_sum_by-map (term_value x) term_of rows, ap (int_sum_by (term_value x)) terms)
+
+-- the same of a row that was read
+pub read_is_term : (n : ℕ) (rows : List Row) (i : ℕ) (row : Row) → i < length rows → row ≡ get_or rows i row → All (IsTerm n) (terms_of rows) → IsTerm n (term_of row)
+read_is_term n rows i row l is h =
+    let there = h i (term_of row) (rw (length-map rows term_of) l) in
+    rw is (rw (get_or-map term_of rows i row (term_of row) l) at there)

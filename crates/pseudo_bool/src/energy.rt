@@ -67,6 +67,7 @@ impl Energy {
     pub fn term(&self, index: usize) -> Term
         requires { index < length self.now.terms }
         ensures value { slice_get self.now.terms index ≡ Some result }
+        ensures within { IsTerm self.now.variables result }
         ensures limits { IsEnergy self.now }
     {
         self.rows[index].term()

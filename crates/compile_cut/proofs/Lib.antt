@@ -1,0 +1,5 @@
+pub mod PartLemmas
+pub mod WeightLemmas
+pub mod CapacityLemmas
+pub mod Adding
+pub mod Composes

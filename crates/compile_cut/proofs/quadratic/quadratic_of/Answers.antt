@@ -1,0 +1,38 @@
+use Rattle.std.proofs.Common.{arith, ◌<◌, ◌≤◌, ◌∙◌, ap, length, unsigned_abs, w64, to_z, of_z}
+use Rattle.compile_cut.proofs.Adding.{start, step, whole_values, term-weaker, bounded-weaker, term_at}
+use Rattle.regular.specs.Regularity.{IsRegularTerm}
+use Rattle.compile_cut.proofs.PartLemmas.{passed_is}
+use Rattle.compile_cut.proofs.quadratic.quadratic_of.Goals as goal
+
+pub loop-index-init : goal.loop-index-init
+loop-index-init c =
+    let e = c.args.energy.now in
+    let small : unsigned_abs e.constant ≤ 1000000000000000 = c.constant.ensures.limits.constant in
+    let read : unsigned_abs c.constant.result ≤ 1000000000000000000 = omega (arith, ap unsigned_abs c.constant.ensures.value, small) in
+    start e (record { constant = to_z w64 (of_z w64 c.constant.result); weights = c.in_ok-vec.field-0; arcs = c.new.result })
+    small (passed_is c.constant.result read ∙ c.constant.ensures.value)
+    (rw c.variables.ensures.value at (c.in_ok-vec.ensures.items_if_clones_equal (λ y e. e))) c.new.ensures.items (c.in_ok-vec.ensures.len ∙ c.variables.ensures.value)
+
+pub add_term-requires-clause-bounded : goal.add_term-requires-clause-bounded
+add_term-requires-clause-bounded c =
+    bounded-weaker c.loop-index.index 8388607 c.loop-index.form
+    (omega (arith, c.loop-index-test.true, c.term_count-index-end.ensures.value, c.term.ensures.limits.count)) c.loop-index.invariant.bounded
+
+pub add_term-requires-clause-term : goal.add_term-requires-clause-term
+add_term-requires-clause-term c = term-weaker _ _ c.term.result c.loop-index.invariant.variables c.term.ensures.within
+
+pub add_term-requires-clause-regular : goal.add_term-requires-clause-regular
+add_term-requires-clause-regular c =
+    let here : c.loop-index.index < length c.args.energy.now.terms = omega (arith, c.loop-index-test.true, c.term_count-index-end.ensures.value) in
+    term_at IsRegularTerm c.args.energy.now.terms c.loop-index.index c.term.result here c.term.ensures.value c.requires
+
+pub loop-index-preserved : goal.loop-index-preserved
+loop-index-preserved c =
+    let here : c.loop-index.index < length c.args.energy.now.terms = omega (arith, c.loop-index-test.true, c.term_count-index-end.ensures.value) in
+    let bounded = c.in_ok-add_term.ensures.bounded c.loop-index.index c.loop-index.invariant.bounded in
+    step c.args.energy.now c.loop-index.index c.term.result c.loop-index.form c.add_term.new.self here c.term.ensures.value c.term.ensures.within
+    c.loop-index.invariant c.in_ok-add_term.ensures.value bounded c.in_ok-add_term.ensures.len
+
+pub returns-clause-values : goal.returns-clause-values
+returns-clause-values c =
+    whole_values c.args.energy.now c.loop-index.index c.loop-index.form (omega (arith, c.loop-index-test.false, c.term_count-index-end.ensures.value)) c.loop-index.invariant.values

@@ -1,0 +1,28 @@
+use Rattle.std.specs.Prelude.{◌≡◌, ℕ, ◌+◌, ◌*◌, ◌≤◌, Bool, All, ℤ, pos, ◌+ℤ◌, ◌≤ℤ◌, unsigned_abs, vec_len}
+use Rattle.pseudo_bool.specs.declared.term.Term.{Term}
+use Rattle.pseudo_bool.specs.Formula.{Formula, term_value, value_at}
+use Rattle.flow_network.specs.Cut.{IsArc}
+use Rattle.compile_cut.specs.declared.quadratic.Quadratic.{Quadratic}
+use Rattle.compile_cut.specs.Shown.{Shows}
+use Rattle.compile_cut.specs.Weights.{weights_value, weights_size, arcs_value, arcs_size, IsAbove}
+
+-- the value at a set of nodes
+abbrev pub quadratic_value : Quadratic → (ℕ → Bool) → ℤ
+quadratic_value q x = q.constant +ℤ weights_value q.weights.items x +ℤ pos (arcs_value q.arcs.items x)
+
+-- what is true after this many terms
+pub record IsBounded (terms : ℕ) (q : Quadratic) : Type 0 where
+  pub constant : unsigned_abs q.constant ≤ 1000000000000000 + 1000000000 * terms
+  pub size : weights_size q.weights.items + arcs_size q.arcs.items ≤ 60000000000 * terms
+  pub arcs : All (IsArc (vec_len q.weights)) q.arcs.items
+  pub above : All IsAbove q.arcs.items
+
+-- of the sets that are the same on the old nodes, the least new value is the old one and the term's
+pub record AddsTerm (old new : Quadratic) (term : Term) : Type 0 where
+  pub lower : (x : ℕ → Bool) → (quadratic_value old x +ℤ term_value x term) ≤ℤ quadratic_value new x
+  pub reached : (x : ℕ → Bool) → (y : ℕ → Bool) × Shows (vec_len old.weights) x y × (quadratic_value new y ≡ quadratic_value old x +ℤ term_value x term)
+
+-- of the sets that show an assignment, the least value is the energy's
+pub record SaysValues (e : Formula) (q : Quadratic) : Type 0 where
+  pub lower : (x : ℕ → Bool) → value_at e x ≤ℤ quadratic_value q x
+  pub reached : (x : ℕ → Bool) → (y : ℕ → Bool) × Shows e.variables x y × (quadratic_value q y ≡ value_at e x)

@@ -1,0 +1,120 @@
+ghost use Rattle.std.specs.Prelude.{◌≡◌, ℕ, ◌+◌, ◌*◌, ◌<◌, ◌≤◌, Bool, not, ◌&&◌, All, length, ◌+ℤ◌, unsigned_abs, sum_by, slice_index_or, pos, vec_len, OnOk, IfOk};
+ghost use Rattle.sums.specs.Sums.{counted};
+ghost use Rattle.sums.specs.IntegerSums.{int_counted};
+ghost use Rattle.pseudo_bool.specs.Formula.{entry, digit, IsWithin, IsTerm, IsEnergy, value_at};
+ghost use Rattle.regular.specs.Regularity.{IsRegular, IsRegularTerm, IsRegularTable};
+ghost use Rattle.flow_network.specs.Cut.{IsArc};
+ghost use Rattle.compile_cut.specs.Weights.{weights_value, weights_size, arcs_value, arcs_size, IsAbove};
+ghost use Rattle.compile_cut.specs.Form.{quadratic_value, IsBounded, AddsTerm, SaysValues};
+ghost use Rattle.compile_cut.specs.Shown.{three_count, three_digit};
+
+use crate::parts::{split_one, split_pair};
+use flow_network::Arc;
+use pseudo_bool::{Energy, TERM_LIMIT, Term, VALUE_LIMIT};
+use std::alloc::{AllocError, Global};
+
+/// A number, a weight for each node, and arcs: what the terms of an energy add up to.
+#[derive(Drop)]
+pub struct Quadratic {
+    pub constant: i64,
+    pub weights: Vec<i64>,
+    pub arcs: Vec<Arc>,
+}
+
+/// Adds to one of the weights.
+fn add_weight(weights: &mut Vec<i64>, at: u32, by: i64)
+    requires at { at < vec_len weights.old }
+    requires small { weights_size weights.old.items ≤ 1000000000000000000 }
+    requires step { unsigned_abs by ≤ 8 * VALUE_LIMIT }
+    ensures len { vec_len weights.new ≡ vec_len weights.old }
+    ensures value { (x : ℕ → Bool) → weights_value weights.new.items x ≡ weights_value weights.old.items x +ℤ int_counted (x at) by }
+    ensures size { weights_size weights.new.items ≤ weights_size weights.old.items + unsigned_abs by }
+{
+    weights[at as usize] += by;
+}
+
+/// Adds an arc, if it carries anything.
+fn add_arc(arcs: &mut Vec<Arc>, from: u32, to: u32, capacity: u64) -> Result<(), AllocError>
+    ensures value { OnOk result ((x : ℕ → Bool) → arcs_value arcs.new.items x ≡ arcs_value arcs.old.items x + counted (x to && not (x from)) capacity) }
+    ensures size { OnOk result (arcs_size arcs.new.items ≡ arcs_size arcs.old.items + capacity) }
+    ensures nodes { OnOk result ((n : ℕ) → from < n → to < n → All (IsArc n) arcs.old.items → All (IsArc n) arcs.new.items) }
+    ensures above { OnOk result (All IsAbove arcs.old.items → All IsAbove arcs.new.items) }
+{
+    if capacity > 0 {
+        arcs.push(Arc { from, to, capacity })?;
+    }
+    Ok(())
+}
+
+impl Quadratic {
+    /// Adds a table over one variable.
+    fn add_one(&mut self, first: u32, table: &[i64; 2])
+        requires bounded { IsBounded 8388607 self.old }
+        requires first { first < vec_len self.old.weights }
+        requires values { All (IsWithin VALUE_LIMIT) table.now }
+        ensures len { vec_len self.new.weights ≡ vec_len self.old.weights }
+        ensures bounded { (k : ℕ) → IsBounded k self.old → IsBounded (k + 1) self.new }
+        ensures value { (x : ℕ → Bool) → quadratic_value self.new x ≡ quadratic_value self.old x +ℤ entry table.now (digit (x first)) }
+    {
+        let part = split_one(table);
+        add_weight(&mut self.weights, first, part.weight);
+        self.constant += part.constant;
+    }
+
+    /// Adds a regular table over two variables.
+    fn add_pair(&mut self, first: u32, second: u32, table: &[i64; 4]) -> Result<(), AllocError>
+        requires bounded { IsBounded 8388607 self.old }
+        requires first { first < vec_len self.old.weights }
+        requires second { second < vec_len self.old.weights }
+        requires values { All (IsWithin VALUE_LIMIT) table.now }
+        requires regular { IsRegularTable table.now }
+        ensures len { vec_len self.new.weights ≡ vec_len self.old.weights }
+        ensures bounded { OnOk result ((k : ℕ) → IsBounded k self.old → IsBounded (k + 1) self.new) }
+        ensures value { OnOk result ((x : ℕ → Bool) → quadratic_value self.new x ≡ quadratic_value self.old x +ℤ entry table.now (2 * digit (x first) + digit (x second))) }
+    {
+        let part = split_pair(table);
+        add_arc(&mut self.arcs, first, second, part.arc)?;
+        add_weight(&mut self.weights, first, part.first);
+        add_weight(&mut self.weights, second, part.second);
+        self.constant += part.constant;
+        Ok(())
+    }
+
+    /// Adds a regular term over variables that have their nodes.
+    fn add_term(&mut self, term: &Term) -> Result<(), AllocError>
+        requires bounded { IsBounded 8388607 self.old }
+        requires term { IsTerm (vec_len self.old.weights) term.now }
+        requires regular { IsRegularTerm term.now }
+        ensures len { OnOk result (vec_len self.new.weights ≡ vec_len self.old.weights + three_digit term.now) }
+        ensures bounded { OnOk result ((k : ℕ) → IsBounded k self.old → IsBounded (k + 1) self.new) }
+        ensures value { OnOk result (AddsTerm self.old self.new term.now) }
+    {
+        match term {
+            Term::One(first, table) => {
+                self.add_one(*first, table);
+                Ok(())
+            }
+            Term::Two(first, second, table) => self.add_pair(*first, *second, table),
+        }
+    }
+}
+
+/// The terms of a regular energy, added up.
+pub fn quadratic_of(alloc: Global, energy: &Energy) -> Result<Quadratic, AllocError>
+    requires { IsRegular energy.now }
+    ensures values { IfOk result (λ form. SaysValues energy.now form) }
+    ensures bounded { IfOk result (λ form. IsBounded TERM_LIMIT form) }
+    ensures variables { IfOk result (λ form. energy.now.variables ≤ vec_len form.weights) }
+    ensures hidden { IfOk result (λ form. vec_len form.weights ≤ energy.now.variables + three_count energy.now) }
+    ensures limits { IfOk result (λ form. IsEnergy energy.now) }
+{
+    let mut form = Quadratic {
+        constant: energy.constant(),
+        weights: vec![in alloc; 0; energy.variables() as usize]?,
+        arcs: Vec::new(alloc),
+    };
+    for index in 0..energy.term_count() {
+        form.add_term(&energy.term(index))?;
+    }
+    Ok(form)
+}

@@ -1,0 +1,5 @@
+pub mod GridSteps
+pub mod Members
+pub mod Neighbours
+pub mod Apart
+pub mod GridLaws

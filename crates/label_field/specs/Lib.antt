@@ -1,0 +1,3 @@
+pub mod LabelFields
+pub mod PairLists
+pub mod Grids

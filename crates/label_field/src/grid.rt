@@ -1,0 +1,179 @@
+//! The pairs of neighbours of an image.
+ghost use Rattle.std.specs.Prelude.{◌≡◌, ℕ, ◌+◌, ◌-◌, ◌*◌, ◌<◌, ◌≤◌, ◌++◌, ◌↔◌, IsTrue, IfOk, OnOk, if◌then◌else◌, Some, None, length};
+ghost use Rattle.std.specs.List.{All};
+ghost use Rattle.label_field.specs.Grids.{IsImage, IsSmall, IsSteps, edge_count, corner_count, stays, landing, pairs_at, grid as grid_list, steps4, steps8};
+
+use crate::{Pair, Pairs, SITE_LIMIT, WEIGHT_LIMIT};
+use std::alloc::{AllocError, Global};
+
+/// The most columns, and the most rows, of an image.
+pub const SIDE_LIMIT: u32 = 4096;
+
+/// A step from a place of an image to a neighbour that comes after it: so many columns to the right,
+/// less so many to the left, and so many rows down.
+#[derive(Clone, Copy)]
+pub(crate) struct Step {
+    right: u32,
+    left: u32,
+    down: u32,
+}
+
+const RIGHT: Step = Step {
+    right: 1,
+    left: 0,
+    down: 0,
+};
+
+const DOWN: Step = Step {
+    right: 0,
+    left: 0,
+    down: 1,
+};
+
+const DOWN_RIGHT: Step = Step {
+    right: 1,
+    left: 0,
+    down: 1,
+};
+
+const DOWN_LEFT: Step = Step {
+    right: 0,
+    left: 1,
+    down: 1,
+};
+
+#[derive(Clone, Copy)]
+struct Image {
+    width: u32,
+    height: u32,
+    ghost fits: { IsImage width height },
+}
+
+impl Image {
+    // How many pairs of its sites share an edge.
+    fn edges(&self) -> usize
+        ensures value { result ≡ edge_count self.now.width self.now.height }
+        ensures bound { result ≤ 2 * SITE_LIMIT }
+    {
+        let (width, height) = (self.width as usize, self.height as usize);
+        (width - 1) * height + width * (height - 1)
+    }
+
+    // How many pairs of its sites share a corner alone.
+    fn corners(&self) -> usize
+        ensures value { result ≡ corner_count self.now.width self.now.height }
+        ensures bound { result ≤ 2 * SITE_LIMIT }
+    {
+        2 * ((self.width as usize - 1) * (self.height as usize - 1))
+    }
+}
+
+impl Step {
+    // The site where the step from this place ends, if that is in the image.
+    fn end(&self, image: Image, x: u32, y: u32) -> Option<u32>
+        requires small { IsSmall self.now }
+        requires column { x < image.width }
+        requires row { y < image.height }
+        ensures { result ≡ (if stays image.width image.height x y self.now then Some (landing image.width x y self.now) else None) }
+    {
+        let in_image = self.left <= x
+            && x + self.right < image.width + self.left
+            && y + self.down < image.height;
+        if in_image {
+            Some(x + self.right - self.left + (y + self.down) * image.width)
+        } else {
+            None
+        }
+    }
+}
+
+// Adds the pairs of a site with its neighbours, in the order of the steps.
+fn push_pairs(
+    list: &mut Vec<Pair>,
+    image: Image,
+    site: u32,
+    steps: &[Step],
+    weight: u32,
+) -> Result<(), AllocError>
+    requires site { site < image.width * image.height }
+    requires small { All IsSmall steps.now }
+    ensures { OnOk result (list.new.items ≡ list.old.items ++ pairs_at image.width image.height weight steps.now site) }
+{
+    let x = site % image.width;
+    let y = site / image.width;
+    for step in steps {
+        if let Some(second) = step.end(image, x, y) {
+            list.push(Pair {
+                first: site,
+                second,
+                weight,
+            })?;
+        }
+    }
+    Ok(())
+}
+
+// The pairs of each site, site by site.
+fn grid(
+    alloc: Global,
+    image: Image,
+    weight: u32,
+    steps: &[Step],
+    count: usize,
+) -> Result<Pairs, AllocError>
+    requires steps { IsSteps steps.now }
+    requires weight { weight ≤ WEIGHT_LIMIT }
+    ensures { IfOk result (λ pairs. pairs ≡ record { sites = image.width * image.height; list = grid_list image.width image.height weight steps.now }) }
+{
+    let sites = image.width * image.height;
+    let mut list = Vec::with_capacity(alloc, count)?;
+    for site in 0..sites {
+        push_pairs(&mut list, image, site, steps, weight)?;
+    }
+    Ok(Pairs::of_list(sites, list))
+}
+
+impl Pairs {
+    /// Whether an image may have this width and this height: each from 1 to `SIDE_LIMIT`, and their
+    /// product at most `SITE_LIMIT`.
+    pub fn fits_image(width: u32, height: u32) -> bool
+        ensures { IsTrue result ↔ IsImage width height }
+    {
+        1 <= width
+            && width <= SIDE_LIMIT
+            && 1 <= height
+            && height <= SIDE_LIMIT
+            && width * height <= SITE_LIMIT
+    }
+
+    /// The pairs of the sites of an image that share an edge, all of one weight. The site in column x and
+    /// row y is x + y * width. For each site in rising order comes its pair with the one on its right,
+    /// and then with the one below, where there is one.
+    pub fn grid4(alloc: Global, width: u32, height: u32, weight: u32) -> Result<Pairs, AllocError>
+        requires image { IsImage width height }
+        requires weight { weight ≤ WEIGHT_LIMIT }
+        ensures { IfOk result (λ pairs. pairs ≡ record { sites = width * height; list = grid_list width height weight steps4 }) }
+    {
+        let image = Image { width, height };
+        grid(alloc, image, weight, &[RIGHT, DOWN], image.edges())
+    }
+
+    /// The pairs of the sites of an image that share an edge or a corner, all of one weight. As
+    /// `Pairs::grid4`, and after these two come the pairs of the site with the ones down on the right and
+    /// down on the left.
+    pub fn grid8(alloc: Global, width: u32, height: u32, weight: u32) -> Result<Pairs, AllocError>
+        requires image { IsImage width height }
+        requires weight { weight ≤ WEIGHT_LIMIT }
+        ensures { IfOk result (λ pairs. pairs ≡ record { sites = width * height; list = grid_list width height weight steps8 }) }
+    {
+        let image = Image { width, height };
+        let count = image.edges() + image.corners();
+        grid(
+            alloc,
+            image,
+            weight,
+            &[RIGHT, DOWN, DOWN_RIGHT, DOWN_LEFT],
+            count,
+        )
+    }
+}

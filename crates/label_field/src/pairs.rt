@@ -1,0 +1,156 @@
+//! A list of weighted pairs of sites.
+ghost use Rattle.std.specs.Prelude.{◌≡◌, ◌<◌, ◌≤◌, ◌++◌, [], ◌∷◌, ◌↔◌, IsTrue, IfOk, IfErr, IfSome, OnOk, OnErr, SomeIff, Some, length, unsigned_abs, slice_set};
+ghost use Rattle.std.specs.List.{All, slice_get};
+ghost use Rattle.label_field.specs.PairLists.{IsPair, IsWeight, IsAccepted, IsRefusal};
+
+use crate::{LabelFieldError, Pair, SITE_LIMIT};
+use std::alloc::Global;
+use std::marker::Model;
+
+/// The most pairs that a list may have.
+pub const PAIR_LIMIT: usize = 4_194_304;
+
+/// The greatest weight of a pair. The least is 0.
+pub const WEIGHT_LIMIT: u32 = 1000;
+
+/// A list of weighted pairs of two unequal sites, in the order in which they were added. A pair may
+/// stand in it more than once, and then counts as often.
+#[derive(Drop)]
+pub struct Pairs {
+    sites: u32,
+    list: Vec<Pair>,
+}
+
+impl Model for Pairs {
+    ghost use Rattle.label_field.specs.PairLists.{PairList, IsPairList};
+
+    ghost Value = { PairList };
+
+    ghost view = { λ p. record { sites = p.sites; list = p.list.items } };
+
+    ghost invariant = { λ p. IsPairList (record { sites = p.sites; list = p.list.items }) };
+}
+
+impl Pairs {
+    /// Whether a list may be of this many sites: at most `SITE_LIMIT`.
+    pub fn fits(sites: u32) -> bool
+        ensures { IsTrue result ↔ (sites ≤ SITE_LIMIT) }
+    {
+        sites <= SITE_LIMIT
+    }
+
+    /// No pairs yet, of this many sites. It takes no memory.
+    pub fn new(alloc: Global, sites: u32) -> Pairs
+        requires { sites ≤ SITE_LIMIT }
+        ensures { result ≡ record { sites = sites; list = [] } }
+    {
+        Pairs::of_list(sites, Vec::new(alloc))
+    }
+
+    /// The list of these pairs.
+    pub(crate) fn of_list(sites: u32, list: Vec<Pair>) -> Pairs
+        requires sites { sites ≤ SITE_LIMIT }
+        requires count { length list.items ≤ PAIR_LIMIT }
+        requires pairs { All (IsPair sites) list.items }
+        ensures { result ≡ record { sites = sites; list = list.items } }
+    {
+        Pairs { sites, list }
+    }
+
+    /// Adds a pair at the end of the list. Refused, the first that holds: `NoSuchSite` where one of the
+    /// two is not a site, `SamePair` where they are one, `TooManyPairs` where the list is full, and
+    /// `WeightRange` where the weight is not from 0 to `WEIGHT_LIMIT`.
+    pub fn add(&mut self, first: u32, second: u32, weight: i64) -> Result<(), LabelFieldError>
+        ensures accepted { OnOk result (IsAccepted self.old first second weight) }
+        ensures added { OnOk result (self.new ≡ record self.old { list = self.old.list ++ record { first = first; second = second; weight = unsigned_abs weight } ∷ [] }) }
+
+        ensures refused { IfErr result (IsRefusal self.old first second weight) }
+        ensures unchanged { OnErr result (self.new ≡ self.old) }
+    {
+        if first >= self.sites || second >= self.sites {
+            return Err(LabelFieldError::NoSuchSite);
+        }
+        if first == second {
+            return Err(LabelFieldError::SamePair);
+        }
+        if self.list.len() >= PAIR_LIMIT {
+            return Err(LabelFieldError::TooManyPairs);
+        }
+        let Some(weight) = weight_of(weight) else {
+            return Err(LabelFieldError::WeightRange);
+        };
+        let pair = Pair {
+            first,
+            second,
+            weight,
+        };
+        self.list.push(pair)?;
+        Ok(())
+    }
+
+    /// How many sites there are to pair.
+    pub fn sites(&self) -> u32
+        ensures value { result ≡ self.now.sites }
+        ensures limit { result ≤ SITE_LIMIT }
+    {
+        self.sites
+    }
+
+    /// How many pairs are in the list.
+    pub fn len(&self) -> usize
+        ensures value { result ≡ length self.now.list }
+        ensures limit { result ≤ PAIR_LIMIT }
+    {
+        self.list.len()
+    }
+
+    /// Whether there is no pair.
+    pub fn is_empty(&self) -> bool
+        ensures { IsTrue result ↔ (self.now.list ≡ []) }
+    {
+        self.list.is_empty()
+    }
+
+    /// The pairs in their order.
+    pub fn as_slice(&self) -> &[Pair]
+        ensures value { result.now ≡ self.now.list }
+        ensures pairs { All (IsPair self.now.sites) result.now }
+        ensures limit { length result.now ≤ PAIR_LIMIT }
+    {
+        &self.list
+    }
+
+    /// The pair at an index of the list, counted from 0.
+    pub fn get(&self, index: usize) -> Pair
+        requires { index < length self.now.list }
+        ensures value { slice_get self.now.list index ≡ Some result }
+        ensures pair { IsPair self.now.sites result }
+    {
+        self.as_slice()[index]
+    }
+
+    /// Gives the pair at an index another weight, and leaves its sites and every other pair as they
+    /// are. It takes no memory.
+    pub fn set_weight(&mut self, index: usize, weight: u32)
+        requires in_list { index < length self.old.list }
+        requires in_limit { weight ≤ WEIGHT_LIMIT }
+        ensures { IfSome (slice_get self.old.list index) (λ pair. self.new ≡ record self.old { list = slice_set self.old.list index (record pair { weight = weight }) }) }
+    {
+        let pair = &mut self.list[index];
+        pair.weight = weight;
+    }
+}
+
+// The weight as it is kept, where it is in its range.
+fn weight_of(weight: i64) -> Option<u32>
+    ensures { SomeIff result (IsWeight weight) (unsigned_abs weight) }
+{
+    if weight < 0 {
+        return None;
+    }
+    let size = weight.unsigned_abs();
+    if size > u64::from(WEIGHT_LIMIT) {
+        return None;
+    }
+    Some(size as u32)
+}

@@ -1,0 +1,5 @@
+pub mod Ends
+pub mod Laws
+pub mod Order
+pub mod Scanning
+pub mod Searching

@@ -1,0 +1,69 @@
+use Rattle.std.specs.Prelude.{◌≡◌, ℕ, ◌+◌, ◌<◌, ◌≤◌, ◌⊎◌, ◌==◌, List, [], length, slice_index, sum_by}
+use Rattle.sums.specs.Sums.{counted}
+use Rattle.flow_network.specs.Cut.{Network, nodes}
+use Rattle.flow_network.specs.Preflow.{IsResidual}
+use Rattle.flow_network.specs.Progress.{top}
+
+-- labels, and the labelled nodes in the order in which they were found: the first `count` of a list
+pub record Found : Type 0 where
+  pub labels : List ℕ
+  pub order : List ℕ
+  pub count : ℕ
+
+abbrev pub found_of : List ℕ → List ℕ → ℕ → Found
+found_of labels order count = record { labels = labels; order = order; count = count }
+
+abbrev pub label_of : Found → ℕ → ℕ
+label_of found v = slice_index found.labels v
+
+abbrev pub node_at : Found → ℕ → ℕ
+node_at found i = slice_index found.order i
+
+-- the label of a node that has none: two more than there are nodes
+abbrev pub no_label : Found → ℕ
+no_label found = length found.labels + 2
+
+-- how many nodes have no label
+abbrev pub unlabelled : Found → ℕ
+unlabelled found = sum_by (λ label. counted (label == no_label found) 1) found.labels
+
+-- the order lists each labelled node once, by rising labels
+pub record IsOrder (found : Found) : Type 0 where
+  pub order_len : length found.order ≡ length found.labels
+  pub room : found.count + unlabelled found ≡ length found.labels
+  pub places : (i : ℕ) → i < found.count → node_at found i < length found.labels
+  pub short : (i : ℕ) → i < found.count → label_of found (node_at found i) ≤ i + 1
+  pub listed : (v : ℕ) → v < length found.labels → (label_of found v ≡ no_label found) ⊎ ((i : ℕ) × (i < found.count) × (node_at found i ≡ v))
+  pub rising : (i j : ℕ) → i ≤ j → j < found.count → label_of found (node_at found i) ≤ label_of found (node_at found j)
+
+-- no label in the order is above this one
+abbrev pub IsAtMost : ℕ → Found → Type 0
+IsAtMost label found = (i : ℕ) → i < found.count → label_of found (node_at found i) ≤ label
+
+-- this label may be given next
+pub record IsReady (label : ℕ) (found : Found) : Type 0 where
+  pub order : IsOrder found
+  pub below : IsAtMost label found
+  pub next : label ≤ found.count + 1
+
+-- some nodes that had no label have got this one, each for a reason, and stand last in the order
+pub record Grows (label : ℕ) (IsNext : ℕ → Type 0) (old new : Found) : Type 0 where
+  pub order : IsOrder new
+  pub below : IsAtMost label new
+  pub len : length new.labels ≡ length old.labels
+  pub more : old.count ≤ new.count
+  pub kept : (i : ℕ) → i < old.count → node_at new i ≡ node_at old i
+  pub labels : (v : ℕ) → v < length old.labels
+      → (label_of new v ≡ label_of old v) ⊎ ((label_of old v ≡ no_label old) × (label_of new v ≡ label) × IsNext v)
+
+-- the nodes that have a residual direction to w, where the arcs carry these amounts
+abbrev pub IsBefore : Network → List ℕ → ℕ → ℕ → Type 0
+IsBefore net carried w v = IsResidual net (record { arcs = carried; sinks = [] }) v w
+
+-- of the nodes that can give the sink more those below v have label 1, and some of the others
+pub record AreStarts (net : Network) (given : List ℕ) (v : ℕ) (found : Found) : Type 0 where
+  pub len : length found.labels ≡ nodes net
+  pub order : IsOrder found
+  pub below : IsAtMost 1 found
+  pub leads : (u : ℕ) → u < nodes net → (label_of found u ≡ top net) ⊎ ((label_of found u ≡ 1) × (slice_index given u < slice_index net.sinks u))
+  pub sinks : (u : ℕ) → u < v → u < nodes net → slice_index given u < slice_index net.sinks u → label_of found u ≤ 1

@@ -1,0 +1,212 @@
+ghost use Rattle.std.specs.Prelude.{◌≡◌, ◌+◌, ◌<◌, ◌≤◌, ℕ, length, slice_index};
+ghost use Rattle.flow_network.specs.Cut.{nodes, IsNet};
+ghost use Rattle.flow_network.specs.Preflow.{arc_at};
+ghost use Rattle.sink_distances.specs.Adjacency.{IsAdjacency};
+ghost use Rattle.sink_distances.specs.Distances.{AreDistances};
+ghost use Rattle.sink_distances.specs.Search.{found_of, AreStarts, IsBefore, IsReady, Grows};
+
+use crate::Adjacency;
+use flow_network::Net;
+
+/// A net, its arcs by node, and what each arc carries.
+#[derive(Clone, Copy)]
+struct Carried<'a> {
+    net: &'a Net,
+    adjacency: &'a Adjacency,
+    arc_flow: &'a [u64],
+}
+
+/// Labels the node where it has no label, and puts it last in the order. Answers how many nodes stand there.
+fn mark(labels: &mut [u32], order: &mut [u32], count: usize, v: u32, label: u32) -> usize
+    requires node { v < length labels.old }
+    requires ready { IsReady label (found_of labels.old order.old count) }
+    ensures grows { Grows label (λ u. u ≡ v)
+        (found_of labels.old order.old count) (found_of labels.new order.new result) }
+    ensures marked { slice_index labels.new v ≤ label }
+{
+    if labels[v as usize] as usize != labels.len() + 2 {
+        return count;
+    }
+    labels[v as usize] = label;
+    order[count] = v;
+    count + 1
+}
+
+/// Labels the nodes that can give the sink more.
+fn mark_starts(net: &Net, sink_flow: &[u64], labels: &mut [u32], order: &mut [u32]) -> usize
+    requires len { length labels.old ≡ nodes net.now }
+    requires order_len { length order.old ≡ nodes net.now }
+    requires sinks_len { length sink_flow.now ≡ nodes net.now }
+    ensures limits { IsNet net.now }
+    ensures starts { AreStarts net.now sink_flow.now (nodes net.now) (found_of labels.new order.new result) }
+{
+    labels.fill(net.nodes() as u32 + 2);
+    let sinks = net.sinks();
+    let mut count = 0;
+    for v in 0..net.nodes() {
+        if sink_flow[v] < sinks[v] {
+            count = mark(labels, order, count, v as u32, 1);
+        }
+    }
+    count
+}
+
+/// Labels the node that the arc leaves, where the arc can carry more.
+fn mark_tail(
+    carried: &Carried<'_>,
+    labels: &mut [u32],
+    order: &mut [u32],
+    count: usize,
+    k: usize,
+    label: u32,
+) -> usize
+    requires flow { length carried.now.arc_flow.now ≡ length carried.now.net.now.arcs }
+    requires len { length labels.old ≡ nodes carried.now.net.now }
+    requires arc { k < length carried.now.net.now.arcs }
+    requires ready { IsReady label (found_of labels.old order.old count) }
+    ensures grows { Grows label (IsBefore carried.now.net.now carried.now.arc_flow.now (arc_at carried.now.net.now k).to)
+        (found_of labels.old order.old count) (found_of labels.new order.new result) }
+    ensures marked { slice_index carried.now.arc_flow.now k < (arc_at carried.now.net.now k).capacity → slice_index labels.new (arc_at carried.now.net.now k).from ≤ label }
+{
+    let arc = carried.net.arcs()[k];
+    if carried.arc_flow[k] < arc.capacity {
+        mark(labels, order, count, arc.from, label)
+    } else {
+        count
+    }
+}
+
+/// Labels the nodes that can send the node more by an arc.
+fn mark_tails(
+    carried: &Carried<'_>,
+    labels: &mut [u32],
+    order: &mut [u32],
+    mut count: usize,
+    w: usize,
+    label: u32,
+) -> usize
+    requires adjacency { IsAdjacency carried.now.net.now carried.now.adjacency.now }
+    requires flow { length carried.now.arc_flow.now ≡ length carried.now.net.now.arcs }
+    requires len { length labels.old ≡ nodes carried.now.net.now }
+    requires node { w < nodes carried.now.net.now }
+    requires ready { IsReady label (found_of labels.old order.old count) }
+    ensures grows { Grows label (IsBefore carried.now.net.now carried.now.arc_flow.now w)
+        (found_of labels.old order.old count) (found_of labels.new order.new result) }
+    ensures marked { (k : ℕ) → k < length carried.now.net.now.arcs → (arc_at carried.now.net.now k).to ≡ w → slice_index carried.now.arc_flow.now k < (arc_at carried.now.net.now k).capacity
+        → slice_index labels.new (arc_at carried.now.net.now k).from ≤ label }
+{
+    let into = &carried.adjacency.into;
+    for p in into.starts[w]..into.starts[w + 1] {
+        count = mark_tail(carried, labels, order, count, into.places[p], label);
+    }
+    count
+}
+
+/// Labels the node that the arc enters, where it carries something.
+fn mark_head(
+    carried: &Carried<'_>,
+    labels: &mut [u32],
+    order: &mut [u32],
+    count: usize,
+    k: usize,
+    label: u32,
+) -> usize
+    requires flow { length carried.now.arc_flow.now ≡ length carried.now.net.now.arcs }
+    requires len { length labels.old ≡ nodes carried.now.net.now }
+    requires arc { k < length carried.now.net.now.arcs }
+    requires ready { IsReady label (found_of labels.old order.old count) }
+    ensures grows { Grows label (IsBefore carried.now.net.now carried.now.arc_flow.now (arc_at carried.now.net.now k).from)
+        (found_of labels.old order.old count) (found_of labels.new order.new result) }
+    ensures marked { 0 < slice_index carried.now.arc_flow.now k → slice_index labels.new (arc_at carried.now.net.now k).to ≤ label }
+{
+    let arc = carried.net.arcs()[k];
+    if carried.arc_flow[k] > 0 {
+        mark(labels, order, count, arc.to, label)
+    } else {
+        count
+    }
+}
+
+/// Labels the nodes that can take back what an arc carries to them from the node.
+fn mark_heads(
+    carried: &Carried<'_>,
+    labels: &mut [u32],
+    order: &mut [u32],
+    mut count: usize,
+    w: usize,
+    label: u32,
+) -> usize
+    requires adjacency { IsAdjacency carried.now.net.now carried.now.adjacency.now }
+    requires flow { length carried.now.arc_flow.now ≡ length carried.now.net.now.arcs }
+    requires len { length labels.old ≡ nodes carried.now.net.now }
+    requires node { w < nodes carried.now.net.now }
+    requires ready { IsReady label (found_of labels.old order.old count) }
+    ensures grows { Grows label (IsBefore carried.now.net.now carried.now.arc_flow.now w)
+        (found_of labels.old order.old count) (found_of labels.new order.new result) }
+    ensures marked { (k : ℕ) → k < length carried.now.net.now.arcs → (arc_at carried.now.net.now k).from ≡ w → 0 < slice_index carried.now.arc_flow.now k
+        → slice_index labels.new (arc_at carried.now.net.now k).to ≤ label }
+{
+    let out = &carried.adjacency.out;
+    for p in out.starts[w]..out.starts[w + 1] {
+        count = mark_head(carried, labels, order, count, out.places[p], label);
+    }
+    count
+}
+
+/// Labels the nodes that have a residual direction to the node, one above its label.
+fn mark_before(
+    carried: &Carried<'_>,
+    labels: &mut [u32],
+    order: &mut [u32],
+    count: usize,
+    w: usize,
+) -> usize
+    requires limits { IsNet carried.now.net.now }
+    requires adjacency { IsAdjacency carried.now.net.now carried.now.adjacency.now }
+    requires flow { length carried.now.arc_flow.now ≡ length carried.now.net.now.arcs }
+    requires len { length labels.old ≡ nodes carried.now.net.now }
+    requires node { w < nodes carried.now.net.now }
+    requires ready { IsReady (slice_index labels.old w + 1) (found_of labels.old order.old count) }
+    ensures grows { Grows (slice_index labels.old w + 1) (IsBefore carried.now.net.now carried.now.arc_flow.now w)
+        (found_of labels.old order.old count) (found_of labels.new order.new result) }
+    ensures marked { (v : ℕ) → IsBefore carried.now.net.now carried.now.arc_flow.now w v → slice_index labels.new v ≤ slice_index labels.old w + 1 }
+{
+    let label = labels[w] + 1;
+    let count = mark_tails(carried, labels, order, count, w, label);
+    mark_heads(carried, labels, order, count, w, label)
+}
+
+/// Writes the exact distance of each node to the sink over residual directions, or the number of nodes and 2 where
+/// no path leads there: a breadth-first search backwards from the sink (Goldberg and Tarjan 1988, section 3).
+///
+/// `arc_flow` is what each arc carries and `sink_flow` what each node gives the sink; they need be no preflow.
+/// `order` is room for the search: one place for each node, whose values before and after mean nothing.
+/// Takes no memory.
+pub fn write_distances(
+    net: &Net,
+    adjacency: &Adjacency,
+    arc_flow: &[u64],
+    sink_flow: &[u64],
+    labels: &mut [u32],
+    order: &mut [u32],
+)
+    requires adjacency { IsAdjacency net.now adjacency.now }
+    requires arcs_len { length arc_flow.now ≡ length net.now.arcs }
+    requires sinks_len { length sink_flow.now ≡ nodes net.now }
+    requires labels_len { length labels.old ≡ nodes net.now }
+    requires order_len { length order.old ≡ nodes net.now }
+    ensures { AreDistances net.now (record { arcs = arc_flow.now; sinks = sink_flow.now }) labels.new }
+{
+    let carried = Carried {
+        net,
+        adjacency,
+        arc_flow,
+    };
+    let mut count = mark_starts(net, sink_flow, labels, order);
+    let mut next = 0;
+    'search: while next < count {
+        let w = order[next] as usize;
+        count = mark_before(&carried, labels, order, count, w);
+        next += 1;
+    }
+}

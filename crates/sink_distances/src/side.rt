@@ -1,0 +1,47 @@
+ghost use Rattle.std.specs.Prelude.{◌≡◌, ℕ, IfOk, length, map, nat_lt, slice_index_or, false};
+ghost use Rattle.flow_network.specs.Cut.{nodes};
+ghost use Rattle.flow_network.specs.Preflow.{Flow, IsReach};
+ghost use Rattle.flow_network.specs.Progress.{top};
+ghost use Rattle.sink_distances.specs.Distances.{AreDistances};
+
+use crate::{arcs_by_node, write_distances};
+use flow_network::Net;
+use std::alloc::{AllocError, Global};
+
+/// The exact distance of each node to the sink over residual directions, as `write_distances` writes it.
+///
+/// Refuses only where memory runs out.
+pub fn distances(
+    alloc: Global,
+    net: &Net,
+    arc_flow: &[u64],
+    sink_flow: &[u64],
+) -> Result<Vec<u32>, AllocError>
+    requires arcs_len { length arc_flow.now ≡ length net.now.arcs }
+    requires sinks_len { length sink_flow.now ≡ nodes net.now }
+    ensures { IfOk result (λ labels. AreDistances net.now (record { arcs = arc_flow.now; sinks = sink_flow.now }) labels.items) }
+{
+    let adjacency = arcs_by_node(alloc, net)?;
+    let mut labels = vec![in alloc; 0u32; net.nodes()]?;
+    let mut order = vec![in alloc; 0u32; net.nodes()]?;
+    write_distances(
+        net,
+        &adjacency,
+        arc_flow,
+        sink_flow,
+        labels.as_mut_slice(),
+        order.as_mut_slice(),
+    );
+    Ok(labels)
+}
+
+/// The nodes that reach the sink over residual directions: those whose exact distance is below the number of nodes and 2.
+///
+/// Refuses only where memory runs out.
+pub fn sink_side(alloc: Global, net: &Net, labels: &[u32]) -> Result<Vec<bool>, AllocError>
+    ensures bits { IfOk result (λ side. side.items ≡ map (λ label. nat_lt label (top net.now)) labels.now) }
+    ensures reach { IfOk result (λ side. (flow : Flow) → AreDistances net.now flow labels.now → IsReach net.now flow (λ v. slice_index_or side.items v false)) }
+{
+    let top = net.nodes() as u32 + 2;
+    labels.iter().map(|label| *label < top).collect(alloc)
+}
