@@ -1,34 +1,79 @@
 //! Reading a whole input, up to a limit.
-ghost use Rattle.std.specs.Prelude.{◌≡◌, ◌+◌, ◌<◌, ◌≤◌, IfOk, IfErr, IfSome, IsErrOf, length};
-ghost use Rattle.byte_streams.specs.Input.{IsReadOr};
+ghost use Rattle.std.specs.Prelude.{◌≡◌, ◌+◌, ◌<◌, ◌≤◌, Bool, List, ℕ, Option, None, IfSome, length};
+ghost use Rattle.std.specs.Io.{ReadsAtMost};
+ghost use Rattle.std.specs.Io.KnownBytes.{ReadConsumes};
+ghost use Rattle.byte_streams.specs.Input.{IsReadOr, NotesFault, TellsFault};
 
 use std::alloc::Global;
+use std::io;
 use std::io::Read;
 
 /// The most bytes that an input may have.
 pub const INPUT_LIMIT: usize = 268_435_456;
 
+// The bytes that one call of `take` asks for.
 const CHUNK: usize = 4096;
 
 /// Why an input was not read.
 #[derive(Clone, Copy, Debug, PartialEq, Eq, Drop)]
 pub enum ReadError {
-    /// A growth was refused.
+    /// Memory was refused.
     OutOfMemory,
-    /// The reader answered a fault.
+    /// The source answered a fault.
     ReadFailed,
     /// The input has more bytes than the limit.
     InputTooLong,
 }
 
-/// Reads to the end, by one call of `read` a turn.
-pub fn read_input<R: Read>(alloc: Global, reader: &mut R) -> Result<Vec<u8>, ReadError>
-    ensures { IfSome (R.remaining reader.old) (λ input. IsReadOr INPUT_LIMIT input result) }
+/// Bytes to read, which remembers whether it failed.
+pub trait Source {
+    // The bytes that it will give from here on, where they are known.
+    ghost remaining: { Self → Option (List ℕ) } = { λ _. None };
+
+    // A call answered a fault.
+    ghost has_failed: { Self → Bool };
+
+    /// Fills the front of the buffer and answers how many bytes it gave.
+    fn take(&mut self, buffer: &mut [u8]) -> io::Result<usize>
+        ensures bound { ReadsAtMost result buffer.new }
+        ensures bytes { ReadConsumes (remaining self.old) (remaining self.new) result buffer.new }
+        ensures notes { NotesFault (has_failed self.old) (has_failed self.new) result };
+}
+
+/// A reader of std as a source.
+#[derive(Drop)]
+pub struct WatchedReader<'a, R> {
+    /// Where the bytes come from.
+    pub reader: &'a mut R,
+    /// The reader answered a fault.
+    pub has_failed: bool,
+}
+
+impl<R: Read> Source for WatchedReader<'_, R> {
+    ghost remaining = { λ s. R.remaining s.reader.now };
+
+    ghost has_failed = { λ s. s.has_failed };
+
+    fn take(&mut self, buffer: &mut [u8]) -> io::Result<usize> {
+        let result = self.reader.read(buffer);
+        if result.is_err() {
+            self.has_failed = true;
+        }
+        result
+    }
+}
+
+/// Reads to the end, to the first fault, or to the first byte beyond the limit, by at most
+/// `INPUT_LIMIT` + 1 calls of `take`. A fault is told exactly where a call answered one; a call that
+/// answers `Interrupted` is a fault like any other and is not made again.
+pub fn read_input<S: Source>(alloc: Global, source: &mut S) -> Result<Vec<u8>, ReadError>
+    ensures input { IfSome (S.remaining source.old) (λ input. IsReadOr INPUT_LIMIT input result) }
+    ensures fault { TellsFault (S.has_failed source.old) (S.has_failed source.new) result }
 {
     let mut input = Vec::new(alloc);
     let mut chunk = [0u8; CHUNK];
     for _ in 0..=INPUT_LIMIT {
-        let count = match reader.read(&mut chunk) {
+        let count = match source.take(&mut chunk) {
             Ok(0) => return Ok(input),
             Ok(count) => count,
             Err(_) => return Err(ReadError::ReadFailed),

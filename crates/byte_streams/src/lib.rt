@@ -4,7 +4,9 @@
 mod input;
 mod output;
 mod sink;
+#[cfg(test)]
+mod tests;
 
-pub use input::{INPUT_LIMIT, ReadError, read_input};
+pub use input::{INPUT_LIMIT, ReadError, Source, WatchedReader, read_input};
 pub use output::{WriteFailed, write_text};
 pub use sink::{Sink, Watched, put_text};

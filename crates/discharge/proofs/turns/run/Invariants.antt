@@ -1,0 +1,10 @@
+use Rattle.std.proofs.Common.{◌+◌, length}
+use Rattle.flow_network.specs.Cut.{nodes}
+use Rattle.discharge.specs.State.{IsWork, IsQueuedBut, left}
+use Rattle.discharge.proofs.turns.run.Given as goal
+
+abbrev pub invariant-turns : goal.invariant-turns
+invariant-turns l = IsWork l.net l.work × IsQueuedBut l.net (nodes l.net) l.work
+
+abbrev pub decreases-turns : goal.decreases-turns
+decreases-turns l = left l.net l.work + length l.work.queue.items

@@ -1,0 +1,12 @@
+// A least cut of a net by the preflow method, proved to be the smallest one.
+#![tactic(auto)]
+
+mod pushes;
+mod relabels;
+mod solver;
+#[cfg(test)]
+mod tests;
+mod turns;
+mod work;
+
+pub use solver::solve;

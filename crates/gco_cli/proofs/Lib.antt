@@ -1,0 +1,3 @@
+mod Best
+mod Reading
+mod Refusals

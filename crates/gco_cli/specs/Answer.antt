@@ -1,0 +1,35 @@
+-- The answer to an energy.
+use Rattle.std.specs.Prelude.{◌≡◌, ◌≤◌, ◌==◌, ℕ, Bool, true, false, ℤ, List, [], ◌++◌, Ok, codes, length, map, IsUtf8, if◌then◌else◌}
+use Rattle.std.specs.Fmt.{signed_decimal}
+use Rattle.byte_streams.specs.declared.input.TheConstants.{INPUT_LIMIT}
+use Rattle.pseudo_bool.specs.Formula.{Formula, assignment, value_at}
+use Rattle.compile_cut.specs.Shown.{IsSmallestLeastAssignment}
+use Rattle.problem_file.specs.Text.{energy_in}
+
+-- a yes-no value as a character
+abbrev pub digit_code : Bool → ℕ
+digit_code false = 48
+digit_code true = 49
+
+-- a blank and the digits of the variables in order, where there are any
+abbrev pub digits_text : List Bool → List ℕ
+digits_text bits = (if length bits == 0 then [] else codes " ") ++ map digit_code bits
+
+-- the two lines of an answer
+abbrev pub answer_text : ℤ → List Bool → List ℕ
+answer_text minimum bits = codes "minimum " ++ signed_decimal minimum ++ codes "\nassignment" ++ digits_text bits ++ codes "\n"
+
+-- the text tells the least value of the energy, and of the least assignments the one with the fewest ones
+pub record AnswersEnergy (e : Formula) (text : List ℕ) : Type 0 where
+  pub bits : List Bool
+  pub count : length bits ≡ e.variables
+  pub best : IsSmallestLeastAssignment e (assignment bits)
+  pub is : text ≡ answer_text (value_at e (assignment bits)) bits
+
+-- the input is a problem file, and names this energy
+abbrev pub NamesEnergy : List ℕ → Formula → Type 0
+NamesEnergy input e = (length input ≤ INPUT_LIMIT) × IsUtf8 input × (energy_in input ≡ Ok e)
+
+-- the text is the answer to the energy that the input names
+abbrev pub AnswersInput : List ℕ → List ℕ → Type 0
+AnswersInput input text = (e : Formula) × NamesEnergy input e × AnswersEnergy e text

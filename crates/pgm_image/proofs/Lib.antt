@@ -1,0 +1,12 @@
+pub mod HeaderLaws
+pub mod ImageLaws
+pub mod ImageBack
+pub mod Limits
+pub mod NumberLaws
+pub mod NumberStops
+pub mod PlainLaws
+pub mod PlainSteps
+pub mod Rasters
+pub mod RasterReads
+pub mod Stops
+pub mod WrittenLaws

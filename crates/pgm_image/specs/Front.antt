@@ -1,0 +1,95 @@
+-- What stands at the front of some bytes: an image, or what refuses one.
+use Rattle.std.specs.Prelude.{ℕ, List, [], ◌∷◌, ◌++◌, length, All, ◌≡◌, ◌≤◌, ◌<◌, ◌+◌, ◌-◌, ◌*◌, ◌⊎◌, true, Result, Ok, Err}
+use Rattle.pgm_image.specs.Picture.{Picture, IsPicture, SizeFits}
+use Rattle.pgm_image.specs.Raster.{raster, raster_size, IsFirstAbove}
+use Rattle.pgm_image.specs.Grammar.{is_gap, magic, AreNumbers, IsHeader, IsAnyHeader, IsEndedNumber, EndsNumber, StopsAt}
+use Rattle.pgm_image.specs.declared.error.PgmError.{PgmError}
+use Rattle.pgm_image.specs.declared.error.PgmError.TheVariants.{OutOfMemory, NotPgm, BadHeader, ZeroSize, TooLarge, BadMaxval, Truncated, SampleAboveMax, BadSample}
+use Rattle.pgm_image.specs.declared.header.Form.{Form}
+use Rattle.pgm_image.specs.declared.header.Form.TheVariants.{Raw, Plain}
+
+-- The samples of an image are all of the body. The white-space byte that ends the header begins the gap
+-- before the first plain sample. The last one ends with the bytes, or before white space.
+abbrev pub IsBody : Form → Picture → ℕ → List ℕ → List ℕ → Type 0
+IsBody Raw p last body rest = body ≡ raster p.maxval p.samples
+IsBody Plain p last body rest = AreNumbers p.samples (last ∷ body) × EndsNumber rest
+
+-- The first `used` bytes are a header and the samples of this picture.
+pub record Front (bytes : List ℕ) (p : Picture) (used : ℕ) : Type 0 where
+  pub form : Form
+  pub header : List ℕ
+  pub body : List ℕ
+  pub rest : List ℕ
+  pub is_picture : IsPicture p
+  pub is_header : IsHeader form header p.width p.height p.maxval
+  pub is_body : IsBody form p is_header.last body rest
+  pub whole : bytes ≡ header ++ (body ++ rest)
+  pub used_is : used ≡ length header + length body
+
+-- A header stands at the front, and what follows it, with its last byte, is so.
+pub record AfterHeader (Says : Form → ℕ → ℕ → ℕ → ℕ → List ℕ → Type 0) (bytes : List ℕ) : Type 0 where
+  pub form : Form
+  pub header : List ℕ
+  pub rest : List ℕ
+  pub width : ℕ
+  pub height : ℕ
+  pub maxval : ℕ
+  pub is_header : IsHeader form header width height maxval
+  pub whole : bytes ≡ header ++ rest
+  pub says : Says form width height maxval is_header.last rest
+
+-- the three numbers are within their limits
+abbrev pub Fits : ℕ → ℕ → ℕ → Type 0
+Fits w h m = SizeFits w h × (1 ≤ m) × (m ≤ 65535)
+
+abbrev pub IsTooLarge : ℕ → ℕ → Type 0
+IsTooLarge w h = (1 ≤ w) × (1 ≤ h) × ((4096 < w) ⊎ ((4096 < h) ⊎ (1048576 < w * h)))
+
+-- some plain samples, fewer than the count and none above m, stand at the front, and this follows
+pub record FewerSamples (count m : ℕ) (bytes xs tail : List ℕ) : Type 0 where
+  pub front : List ℕ
+  pub are_numbers : AreNumbers xs front
+  pub fewer : length xs < count
+  pub each : All (λ x. x ≤ m) xs
+  pub ends : EndsNumber tail
+  pub whole : bytes ≡ front ++ tail
+
+-- The input ends before the last sample: a raster's last byte, or a plain sample's first digit.
+abbrev pub IsCut : Form → ℕ → ℕ → ℕ → List ℕ → Type 0
+IsCut Raw count m last rest = length rest < raster_size count m
+IsCut Plain count m last rest = (xs : List ℕ) × (tail : List ℕ) × (more : List ℕ)
+    × FewerSamples count m (last ∷ rest) xs tail × (is_gap (tail ++ more) ≡ true)
+
+-- The sample with this index is the first above m.
+abbrev pub HasAbove : Form → ℕ → ℕ → ℕ → List ℕ → ℕ → Type 0
+HasAbove Raw count m last rest i = (xs : List ℕ) × (more : List ℕ)
+    × (length xs ≡ count) × (rest ≡ raster m xs ++ more) × IsFirstAbove m xs i
+HasAbove Plain count m last rest i = (xs : List ℕ) × (tail : List ℕ) × (x : ℕ) × (sample : List ℕ) × (more : List ℕ)
+    × FewerSamples count m (last ∷ rest) xs tail × AreNumbers (x ∷ []) sample × EndsNumber more
+    × (tail ≡ sample ++ more) × (m < x) × (length xs ≡ i)
+
+-- After some plain samples a byte cannot stand in the gap, in the number or directly after it. `end` is
+-- how many bytes there are from the image's first one on.
+abbrev pub HasBad : Form → ℕ → ℕ → ℕ → List ℕ → ℕ → ℕ → Type 0
+HasBad Raw count m last rest end at = ⊥
+HasBad Plain count m last rest end at = (xs : List ℕ) × (tail : List ℕ) × (k : ℕ)
+    × FewerSamples count m (last ∷ rest) xs tail × StopsAt IsEndedNumber tail k × (k < length tail)
+    × (at ≡ (end - length tail) + k)
+
+-- Why no image stands at the front. Want of memory comes only behind a header within the limits.
+abbrev pub Refuses : List ℕ → PgmError → Type 0
+Refuses bytes OutOfMemory = AfterHeader (λ form w h m last rest. Fits w h m) bytes
+Refuses bytes NotPgm = (form : Form) (rest : List ℕ) → bytes ≡ magic form ++ rest → ⊥
+Refuses bytes (BadHeader at) = ((form : Form) × (rest : List ℕ) × (bytes ≡ magic form ++ rest)) × StopsAt IsAnyHeader bytes at
+Refuses bytes ZeroSize = AfterHeader (λ form w h m last rest. (w ≡ 0) ⊎ (h ≡ 0)) bytes
+Refuses bytes TooLarge = AfterHeader (λ form w h m last rest. IsTooLarge w h) bytes
+Refuses bytes BadMaxval = AfterHeader (λ form w h m last rest. SizeFits w h × ((m ≡ 0) ⊎ (65535 < m))) bytes
+Refuses bytes Truncated = AfterHeader (λ form w h m last rest. Fits w h m × IsCut form (w * h) m last rest) bytes
+Refuses bytes (SampleAboveMax i) = AfterHeader (λ form w h m last rest. Fits w h m × HasAbove form (w * h) m last rest i) bytes
+Refuses bytes (BadSample at) = AfterHeader (λ form w h m last rest. Fits w h m × HasBad form (w * h) m last rest (length bytes) at) bytes
+
+-- what the format says of some bytes: their image, or its refusal
+abbrev pub Answers : List ℕ → Result (Picture × ℕ) PgmError → Type 0
+Answers bytes (Ok x) = Front bytes x.0 x.1
+Answers bytes (Err OutOfMemory) = ⊥
+Answers bytes (Err e) = Refuses bytes e

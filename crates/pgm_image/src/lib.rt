@@ -1,0 +1,21 @@
+//! Grey images in the Netpbm formats `P5` and `P2`.
+#![tactic(auto)]
+
+mod error;
+mod header;
+mod image;
+pub mod laws;
+mod plain;
+mod raster;
+mod reading;
+mod signs;
+mod words;
+mod writing;
+
+pub use error::{PgmError, WriteError};
+pub use image::{Image, MOST_MAXVAL, MOST_SAMPLES, MOST_SIDE};
+pub use reading::read_image;
+pub use writing::write_image;
+
+#[cfg(test)]
+mod tests;

@@ -1,0 +1,67 @@
+-- Reading a list of terms, item by item.
+use Rattle.std.proofs.Common.{◌≡◌, ◌≢◌, ℕ, ◌+◌, ◌<◌, ◌≤◌, List, [], ◌∷◌, ◌++◌, length, length-append, nat_le, true, false, codes, Option, Some, None, get_or, drop, Result, Ok, Err, refl, ap, ◌∙◌, arith, append_assoc, append-nil, drop_of_length-le, suc}
+use Rattle.std.proofs.lemmas.Bool.Decides.{nat_tests}
+use Rattle.toml.specs.Data.{Data, Items, Members, as_array, get_member}
+use Rattle.toml.specs.View.{items_view, view}
+use Rattle.toml.specs.declared.value.Value.{Value}
+use Rattle.toml.proofs.Views.{items_view-drop}
+use Rattle.pseudo_bool.specs.declared.limits.TheConstants.{TERM_LIMIT}
+use Rattle.pseudo_bool.specs.declared.term.Term.{Term}
+use Rattle.pseudo_bool.specs.Formula.{Formula}
+use Rattle.problem_file.specs.declared.fault.ProblemFault.{ProblemFault}
+use Rattle.problem_file.specs.declared.fault.ProblemFault.TheVariants.{TooManyTerms}
+use Rattle.problem_file.specs.Added.{Gains, GainsAll}
+use Rattle.problem_file.specs.Problem.{and_then, item_count, term_at, terms_from, terms_in}
+
+-- the terms that stand, and those that the items from place i on name
+abbrev pub with_rest : List Term → Result (List Term) ProblemFault → Result (List Term) ProblemFault
+with_rest done rest = and_then rest (λ terms. Ok (done ++ terms))
+
+-- the energy has the same variables and constant, and has read the items below place i
+pub record HasRead (start now : Formula) (vs : List Value) (i : ℕ) : Type 0 where
+  pub count : length now.terms ≡ i
+  pub same : now ≡ record start { terms = now.terms }
+  pub whole : terms_from start.variables 0 (items_view vs) ≡ with_rest now.terms (terms_from start.variables i (items_view (drop i vs)))
+
+-- what a term that is gained leaves of the whole
+record IsStep (start now new : Formula) (due : Result Term ProblemFault) (rest : Result (List Term) ProblemFault) : Type 0 where
+  count : length new.terms ≡ length now.terms + 1
+  same : new ≡ record start { terms = new.terms }
+  whole : with_rest now.terms (and_then due (λ term. and_then rest (λ terms. Ok (term ∷ terms)))) ≡ with_rest new.terms rest
+
+gained_one : (start now new : Formula) (term : Term) (rest : Result (List Term) ProblemFault) → now ≡ record start { terms = now.terms }
+    → new ≡ record now { terms = now.terms ++ term ∷ [] } → IsStep start now new (Ok term) rest
+gained_one start now new term (Err fault) same more = record { count = rw more (length-append now.terms (term ∷ [])); same = cc; whole = refl }
+gained_one start now new term (Ok terms) same more = record { count = rw more (length-append now.terms (term ∷ [])); same = cc; whole = rw (more, append_assoc) refl }
+
+gained_due : (start now new : Formula) (due : Result Term ProblemFault) (rest : Result (List Term) ProblemFault) → now ≡ record start { terms = now.terms }
+    → Gains now new due → IsStep start now new due rest
+gained_due start now new (Err fault) rest same gain = absurd gain
+gained_due start now new (Ok term) rest same gain = gained_one start now new term rest same gain
+
+pub read_step : (start now new : Formula) (vs : List Value) (i : ℕ) (v : Value) → i < length vs → v ≡ get_or vs i v → HasRead start now vs i
+    → Gains now new (term_at now.variables i (view v)) → HasRead start new vs (i + 1)
+read_step start now new vs i v within at read gain =
+    let step = gained_due start now new (term_at now.variables i (view v)) (terms_from start.variables (i + 1) (items_view (drop (i + 1) vs))) read.same gain in
+    let variables : now.variables ≡ start.variables = ap (λ (e : Formula). e.variables) read.same in
+    let here : terms_from start.variables i (items_view (drop i vs))
+    ≡ and_then (term_at now.variables i (view v)) (λ term. and_then (terms_from start.variables (i + 1) (items_view (drop (i + 1) vs))) (λ terms. Ok (term ∷ terms)))
+    = rw (items_view-drop vs i v within, ← at, variables) refl in
+    record { count = omega (arith, step.count, read.count); same = step.same; whole = read.whole ∙ ap (with_rest now.terms) here ∙ step.whole }
+
+item_count-items_view : (vs : List Value) → item_count (items_view vs) ≡ length vs
+item_count-items_view [] = refl
+item_count-items_view (v ∷ vs) = ap (λ n. suc n) (item_count-items_view vs)
+
+-- the terms of a table are those of the array that it has
+pub terms_found : (n : ℕ) (ms : Members) (d : Data) (vs : List Value) → Some d ≡ get_member (codes "terms") ms → Some (items_view vs) ≡ as_array d
+    → length vs ≤ TERM_LIMIT → terms_in n ms ≡ terms_from n 0 (items_view vs)
+terms_found n ms d vs at is few =
+    let test : nat_le (item_count (items_view vs)) TERM_LIMIT ≡ true = rw (item_count-items_view vs) (grind (arith, nat_tests)) in
+    rw (← at, ← is, test) refl
+
+pub too_many_terms : (n : ℕ) (ms : Members) (d : Data) (vs : List Value) → Some d ≡ get_member (codes "terms") ms → Some (items_view vs) ≡ as_array d
+    → TERM_LIMIT < length vs → terms_in n ms ≡ Err TooManyTerms
+too_many_terms n ms d vs at is many =
+    let test : nat_le (item_count (items_view vs)) TERM_LIMIT ≡ false = rw (item_count-items_view vs) (grind (arith, nat_tests)) in
+    rw (← at, ← is, test) refl

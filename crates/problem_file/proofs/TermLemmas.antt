@@ -1,0 +1,133 @@
+-- What an addition to an energy answers, beside what the integers of a term name.
+use Rattle.std.proofs.Common.{◌≡◌, ◌≢◌, ℕ, ◌<◌, ◌≤◌, Bool, true, false, nat_le, nat_lt, List, [], ◌∷◌, get_or, length, ℤ, pos, unsigned_abs, All, Result, Ok, Err, Option, Some, None, option_and_then, ◌⊎◌, inl, inr, refl, ap, arith, ◌++◌}
+use Rattle.std.specs.Prelude.{IsOkUnless}
+use Rattle.std.specs.Bool.{Decides}
+use Rattle.std.specs.List.{list_all}
+use Rattle.std.specs.Ordering.{int_eq}
+use Rattle.std.proofs.lemmas.Bool.{cases_Bool}
+use Rattle.std.proofs.lemmas.Bool.Decides.{nat_tests, Decides-by_and, Decides-int_eq, not_from_Decides}
+use Rattle.pseudo_bool.specs.declared.error.EnergyError.{EnergyError}
+use Rattle.pseudo_bool.specs.declared.error.EnergyError.TheVariants as energy
+use Rattle.pseudo_bool.specs.declared.limits.TheConstants.{VALUE_LIMIT}
+use Rattle.pseudo_bool.specs.declared.term.Term.{Term}
+use Rattle.pseudo_bool.specs.declared.term.Term.TheVariants.{One, Two}
+use Rattle.pseudo_bool.specs.Formula.{Formula, IsTerm, IsWithin}
+use Rattle.problem_file.specs.Added.{Gains}
+use Rattle.problem_file.specs.declared.fault.ProblemFault.{ProblemFault}
+use Rattle.problem_file.specs.declared.fault.ProblemFault.TheVariants as fault
+use Rattle.problem_file.specs.declared.fault.Field.TheVariants.{Terms}
+use Rattle.problem_file.specs.Problem.{checked, is_value, is_variable, term_from, term_of}
+use Rattle.problem_file.specs.Refusal.{refusal_of}
+use Rattle.problem_file.specs.Within.{within}
+
+-- the answer is the fault that is due, or, but for memory, the term that is due
+abbrev pub IsDue : {T : Type 0} → ℕ → Result Term ProblemFault → Term → Result T EnergyError → Type 0
+IsDue i due term r = ((e : EnergyError) × (due ≡ Err (refusal_of i e)) × (r ≡ Err e)) ⊎ ((due ≡ Ok term) × IsOkUnless r energy.OutOfMemory)
+
+pub due_at_ok : {T : Type 0} (i : ℕ) (due : Result Term ProblemFault) (term : Term) (r : Result T EnergyError) (t : T) → IsDue i due term r → r ≡ Ok t → due ≡ Ok term
+due_at_ok i due term r t (inl h) ok = cc (h.1, h.2)
+due_at_ok i due term r t (inr h) ok = h.0
+
+pub due_at_err : {T : Type 0} (i : ℕ) (due : Result Term ProblemFault) (term : Term) (r : Result T EnergyError) (e : EnergyError) → IsDue i due term r → r ≡ Err e → refusal_of i e ≢ fault.OutOfMemory → due ≡ Err (refusal_of i e)
+due_at_err i due term r e (inl h) err memory = cc (h.1, h.2)
+due_at_err i due term r e (inr h) err memory = absurd (memory (let only = rw err at h.1 in rw only))
+
+-- the term that is due is gained
+pub gained : (old new : Formula) (due : Result Term ProblemFault) (term : Term) → due ≡ Ok term → new ≡ record old { terms = old.terms ++ term ∷ [] } → Gains old new due
+gained old new due term is more = rw is more
+
+in_range : (z : ℤ) → Decides (is_value z) (IsWithin VALUE_LIMIT z)
+in_range z = (λ test. grind (arith, nat_tests), λ within. grind (arith, nat_tests))
+
+are_values : (table : List ℤ) → Decides (list_all is_value table) (All (IsWithin VALUE_LIMIT) table)
+are_values table = Decides-by_and is_value (IsWithin VALUE_LIMIT) (list_all is_value) in_range refl (λ _ _. refl) table
+
+pub one_is_due : {T : Type 0} (n i x : ℕ) (table : List ℤ) (r : Result T EnergyError)
+    → (n ≤ x → r ≡ Err energy.NoSuchVariable)
+    → (x < n → ¬ All (IsWithin VALUE_LIMIT) table → r ≡ Err energy.ValueRange)
+    → (IsTerm n (One x table) → IsOkUnless r energy.OutOfMemory)
+    → IsDue i (checked n i (pos x ∷ []) table (One x table)) (One x table) r
+one_is_due n i x table r variable range accepted =
+    elim (cases_Bool (nat_lt x n)) [
+      | inr other ↦ inl (energy.NoSuchVariable, rw other refl, variable (grind (arith, nat_tests)))
+      | inl here ↦
+          let known : x < n = grind (arith, nat_tests) in
+          elim (cases_Bool (list_all is_value table)) [
+            | inr beyond ↦ inl (energy.ValueRange, rw (here, beyond) refl, range known (not_from_Decides _ (are_values table) beyond))
+            | inl within_range ↦ inr (rw (here, within_range) refl, accepted (known, (are_values table).0 within_range))
+          ]
+    ]
+
+pub two_is_due : {T : Type 0} (n i x y : ℕ) (table : List ℤ) (r : Result T EnergyError)
+    → ((n ≤ x) ⊎ (n ≤ y) → r ≡ Err energy.NoSuchVariable)
+    → (x < n → x ≡ y → r ≡ Err energy.SameVariable)
+    → (x < n → y < n → x ≢ y → ¬ All (IsWithin VALUE_LIMIT) table → r ≡ Err energy.ValueRange)
+    → (IsTerm n (Two x y table) → IsOkUnless r energy.OutOfMemory)
+    → IsDue i (checked n i (pos x ∷ pos y ∷ []) table (Two x y table)) (Two x y table) r
+two_is_due n i x y table r variable same range accepted =
+    elim (cases_Bool (nat_lt x n)) [
+      | inr other ↦ inl (energy.NoSuchVariable, rw other refl, variable (inl (grind (arith, nat_tests))))
+      | inl first ↦
+          let first_known : x < n = grind (arith, nat_tests) in
+          elim (cases_Bool (nat_lt y n)) [
+            | inr other ↦ inl (energy.NoSuchVariable, rw (first, other) refl, variable (inr (grind (arith, nat_tests))))
+            | inl second ↦
+                let second_known : y < n = grind (arith, nat_tests) in
+                elim (cases_Bool (int_eq (pos x) (pos y))) [
+                  | inl equal ↦ inl (energy.SameVariable, rw (first, second, equal) refl, same first_known (let equal_numbers : pos x ≡ pos y = (Decides-int_eq (pos x) (pos y)).0 equal in cc))
+                  | inr unequal ↦
+                      let distinct : x ≢ y = λ equal. not_from_Decides _ (Decides-int_eq (pos x) (pos y)) unequal (ap pos equal) in
+                      elim (cases_Bool (list_all is_value table)) [
+                        | inr beyond ↦ inl (energy.ValueRange, rw (first, second, unequal, beyond) refl, range first_known second_known distinct (not_from_Decides _ (are_values table) beyond))
+                        | inl within_range ↦ inr (rw (first, second, unequal, within_range) refl, accepted (first_known, second_known, distinct, (are_values table).0 within_range))
+                      ]
+                ]
+          ]
+    ]
+
+-- a list that a reader of at most n integers gives is the whole list
+pub found : (n : ℕ) (o : Option (List ℤ)) (zs : List ℤ) → Some zs ≡ option_and_then (within n) o → o ≡ Some zs
+found n None zs e = cc
+found n (Some ys) zs e = elim (cases_Bool (nat_le (length ys) n)) [
+  | inl fits ↦ let same = rw fits at e in cc
+  | inr long ↦ let none = rw long at e in cc
+]
+
+-- more than two variables make no term
+pub long_on : (n i : ℕ) (on values : Option (List ℤ)) → None ≡ option_and_then (within 2) on → term_of n i on values ≡ Err (fault.BadElement Terms i)
+long_on n i None values e = refl
+long_on n i (Some []) values e = absurd (let no = e in cc)
+long_on n i (Some (x ∷ [])) values e = absurd (let no = e in cc)
+long_on n i (Some (x ∷ y ∷ [])) values e = absurd (let no = e in cc)
+long_on n i (Some (x ∷ y ∷ z ∷ on)) None e = refl
+long_on n i (Some (x ∷ y ∷ z ∷ on)) (Some values) e = refl
+
+-- more than four numbers make no table
+pub long_values : (n i : ℕ) (on : List ℤ) (values : Option (List ℤ)) → None ≡ option_and_then (within 4) values → term_of n i (Some on) values ≡ Err (fault.BadElement Terms i)
+long_values n i on None e = refl
+long_values n i on (Some []) e = absurd (let no = e in cc)
+long_values n i on (Some (a ∷ [])) e = absurd (let no = e in cc)
+long_values n i on (Some (a ∷ b ∷ [])) e = absurd (let no = e in cc)
+long_values n i on (Some (a ∷ b ∷ c ∷ [])) e = absurd (let no = e in cc)
+long_values n i on (Some (a ∷ b ∷ c ∷ d ∷ [])) e = absurd (let no = e in cc)
+long_values n i [] (Some (a ∷ b ∷ c ∷ d ∷ k ∷ values)) e = refl
+long_values n i (x ∷ []) (Some (a ∷ b ∷ c ∷ d ∷ k ∷ values)) e = refl
+long_values n i (x ∷ y ∷ []) (Some (a ∷ b ∷ c ∷ d ∷ k ∷ values)) e = refl
+long_values n i (x ∷ y ∷ z ∷ on) (Some (a ∷ b ∷ c ∷ d ∷ k ∷ values)) e = refl
+
+-- four numbers make a table of two variables
+pub four_named : (n i : ℕ) (on : List ℤ) (x y : ℤ) (table : List ℤ) → on ≡ x ∷ y ∷ [] → length table ≡ 4
+    → term_from n i on table ≡ checked n i (x ∷ y ∷ []) table (Two (unsigned_abs x) (unsigned_abs y) table)
+four_named n i on x y [] is e = absurd (omega arith)
+four_named n i on x y (a ∷ []) is e = absurd (omega arith)
+four_named n i on x y (a ∷ b ∷ []) is e = absurd (omega arith)
+four_named n i on x y (a ∷ b ∷ c ∷ []) is e = absurd (omega arith)
+four_named n i on x y (a ∷ b ∷ c ∷ d ∷ []) is e = rw is refl
+four_named n i on x y (a ∷ b ∷ c ∷ d ∷ k ∷ table) is e = absurd (omega arith)
+
+-- a list of two, by its elements
+pub two_listed : (zs : List ℤ) (d : ℤ) → length zs ≡ 2 → zs ≡ get_or zs 0 d ∷ get_or zs 1 d ∷ []
+two_listed [] d e = absurd (omega arith)
+two_listed (x ∷ []) d e = absurd (omega arith)
+two_listed (x ∷ y ∷ []) d e = refl
+two_listed (x ∷ y ∷ z ∷ zs) d e = absurd (omega arith)

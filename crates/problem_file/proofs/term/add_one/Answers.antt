@@ -1,0 +1,11 @@
+use Rattle.std.proofs.Common.{◌≡◌, ◌∙◌, pos, sym, w64}
+use Rattle.std.proofs.lemmas.Int.{to_z-of_z}
+use Rattle.problem_file.proofs.TermLemmas.{one_is_due, due_at_ok, gained}
+use Rattle.problem_file.proofs.term.add_one.Goals as goal
+
+pub returns-in-Ok-clause-ok : goal.returns-in-Ok-clause-ok
+returns-in-Ok-clause-ok c =
+    let due = one_is_due c.args.energy.now.variables c.args.place c.in_ok-first.first c.args.table c.add_term1.result
+    c.add_term1.ensures.variable c.add_term1.ensures.range (λ term. c.add_term1.ensures.accepted term c.requires.room) in
+    let on_is : c.args.on ≡ pos c.in_ok-first.first = sym (to_z-of_z w64 c.args.on c.ranges.on) ∙ c.in_ok-first.ensures.ok in
+    rw on_is (gained _ _ _ _ (due_at_ok _ _ _ _ _ due c.in-Ok.is) c.in-Ok.ensures.ok)

@@ -1,0 +1,98 @@
+ghost use Rattle.std.specs.Prelude.{◌≡◌, ◌≢◌, ◌≤◌, [], Ok, Err, pos, IfOk, IfErr, OnOk, IsUtf8, vec_len};
+ghost use Rattle.toml.specs.View.{array_view, table_view, view};
+ghost use Rattle.pseudo_bool.specs.declared.limits.TheConstants.{TERM_LIMIT, VALUE_LIMIT, VARIABLE_LIMIT};
+ghost use Rattle.pseudo_bool.specs.Formula.{IsWithin};
+ghost use Rattle.problem_file.specs.declared.fault.ProblemFault.TheVariants.{BadToml, OutOfMemory};
+ghost use Rattle.problem_file.specs.Added.{GainsAll};
+ghost use Rattle.problem_file.specs.Problem.{names, terms_from, terms_in};
+ghost use Rattle.problem_file.specs.Text.{energy_in};
+
+use crate::fields::{constant_of, member, variables_of};
+use crate::table::read_table;
+use crate::term::add_term;
+use crate::{Field, ProblemFault};
+use pseudo_bool::{Energy, TERM_LIMIT};
+use std::alloc::Global;
+use toml::{Table, Value};
+
+/// The energy that the bytes of a TOML text name, or its first fault.
+pub fn read_energy(alloc: Global, bytes: &[u8]) -> Result<Energy, ProblemFault>
+    ensures ok { IfOk result (λ energy. IsUtf8 bytes.now × (energy_in bytes.now ≡ Ok energy)) }
+    ensures refused { IfErr result (λ fault. fault ≢ OutOfMemory → IsUtf8 bytes.now → energy_in bytes.now ≡ Err fault) }
+    ensures text { IfErr result (λ fault. fault ≢ OutOfMemory → fault ≢ BadToml → IsUtf8 bytes.now) }
+{
+    let table = match read_table(alloc, bytes) {
+        Ok(table) => table,
+        Err(fault) => return Err(fault),
+    };
+    energy_of(alloc, &table)
+}
+
+/// The energy that a table names, or its first fault.
+/// The fields are read in the order `variables`, `constant`, `terms`, and each term whole before the next;
+/// other fields are ignored.
+pub fn energy_of(alloc: Global, table: &Table) -> Result<Energy, ProblemFault>
+    ensures ok { IfOk result (λ energy. names (table_view table.now) ≡ Ok energy) }
+    ensures refused { IfErr result (λ fault. fault ≢ OutOfMemory → names (table_view table.now) ≡ Err fault) }
+{
+    let variables = match variables_of(table) {
+        Ok(variables) => variables,
+        Err(fault) => return Err(fault),
+    };
+    let constant = match constant_of(table) {
+        Ok(constant) => constant,
+        Err(fault) => return Err(fault),
+    };
+    let mut energy = without_terms(alloc, variables, constant);
+    match add_terms(&mut energy, table) {
+        Ok(()) => Ok(energy),
+        Err(fault) => Err(fault),
+    }
+}
+
+/// The energy of so many variables that is the constant everywhere.
+fn without_terms(alloc: Global, variables: u32, constant: i64) -> Energy
+    requires variables { variables ≤ VARIABLE_LIMIT }
+    requires constant { IsWithin VALUE_LIMIT constant }
+    ensures { result ≡ record { constant = constant; variables = variables; terms = [] } }
+{
+    let mut energy = Energy::new(alloc);
+    let _ = energy.add_constant(constant);
+    for _ in 0..variables {
+        let _ = energy.add_variable();
+    }
+    energy
+}
+
+/// Adds the terms that a table names to an energy that has none.
+fn add_terms(energy: &mut Energy, table: &Table) -> Result<(), ProblemFault>
+    requires variables { energy.old.variables ≤ VARIABLE_LIMIT }
+    requires empty { energy.old.terms ≡ [] }
+    ensures ok { OnOk result (GainsAll energy.old energy.new (terms_in energy.old.variables (table_view table.now))) }
+    ensures refused { IfErr result (λ fault. fault ≢ OutOfMemory → terms_in energy.old.variables (table_view table.now) ≡ Err fault) }
+{
+    let Some(value) = member(table, "terms") else {
+        return Ok(());
+    };
+    let Some(items) = value.as_array() else {
+        return Err(ProblemFault::BadField(Field::Terms));
+    };
+    if items.len() > TERM_LIMIT {
+        return Err(ProblemFault::TooManyTerms);
+    }
+    add_items(energy, items)
+}
+
+/// Adds the terms that the items name to an energy that has none.
+fn add_items(energy: &mut Energy, items: &Vec<Value>) -> Result<(), ProblemFault>
+    requires variables { energy.old.variables ≤ VARIABLE_LIMIT }
+    requires empty { energy.old.terms ≡ [] }
+    requires room { vec_len items.now ≤ TERM_LIMIT }
+    ensures ok { OnOk result (GainsAll energy.old energy.new (terms_from energy.old.variables 0 (array_view items.now))) }
+    ensures refused { IfErr result (λ fault. fault ≢ OutOfMemory → terms_from energy.old.variables 0 (array_view items.now) ≡ Err fault) }
+{
+    for (place, item) in items.iter().enumerate() {
+        add_term(energy, place, item)?;
+    }
+    Ok(())
+}

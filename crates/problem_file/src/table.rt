@@ -1,0 +1,23 @@
+ghost use Rattle.std.specs.Prelude.{◌≡◌, ◌≢◌, IfOk, IfErr, IsUtf8, None, Some};
+ghost use Rattle.toml.specs.View.{table_view};
+ghost use Rattle.toml.specs.Parse.{parse_document};
+ghost use Rattle.problem_file.specs.declared.fault.ProblemFault.TheVariants.{BadToml, OutOfMemory};
+
+use crate::ProblemFault;
+use std::alloc::Global;
+use toml::Table;
+
+/// The table that the bytes of a TOML text are. It is `BadToml` where they are none, and else `OutOfMemory`.
+pub fn read_table(alloc: Global, bytes: &[u8]) -> Result<Table, ProblemFault>
+    ensures ok { IfOk result (λ table. IsUtf8 bytes.now × (parse_document bytes.now ≡ Some (table_view table))) }
+    ensures refused { IfErr result (λ fault. fault ≢ OutOfMemory → (fault ≡ BadToml) × (IsUtf8 bytes.now → parse_document bytes.now ≡ None)) }
+{
+    match toml::table_from_slice(alloc, bytes) {
+        Ok(table) => Ok(table),
+        Err(error) => Err(if error.is_memory() {
+            ProblemFault::OutOfMemory
+        } else {
+            ProblemFault::BadToml
+        }),
+    }
+}

@@ -1,0 +1,115 @@
+ghost use Rattle.std.specs.Prelude.{◌≡◌, ◌≢◌, ◌<◌, ◌≤◌, ℕ, [], ◌∷◌, false, length, unsigned_abs, pos, IfOk, IfErr, OnOk};
+ghost use Rattle.toml.specs.View.{view};
+ghost use Rattle.pseudo_bool.specs.declared.limits.TheConstants.{TERM_LIMIT, VARIABLE_LIMIT};
+ghost use Rattle.pseudo_bool.specs.declared.term.Term.TheVariants.{One, Two};
+ghost use Rattle.problem_file.specs.declared.fault.ProblemFault.TheVariants.{NoSuchVariable, OutOfMemory};
+ghost use Rattle.problem_file.specs.Added.{Gains};
+ghost use Rattle.problem_file.specs.Problem.{checked, is_variable, term_at, term_from};
+ghost use Rattle.problem_file.specs.Refusal.{refusal_of};
+
+use crate::fields::integers_at;
+use crate::{Field, ProblemFault};
+use pseudo_bool::{Energy, EnergyError};
+use toml::Value;
+
+/// Adds the term that the item at a place of the list names.
+pub fn add_term(energy: &mut Energy, place: usize, item: &Value) -> Result<(), ProblemFault>
+    requires variables { energy.old.variables ≤ VARIABLE_LIMIT }
+    requires room { length energy.old.terms < TERM_LIMIT }
+    ensures ok { OnOk result (Gains energy.old energy.new (term_at energy.old.variables place (view item.now))) }
+    ensures refused { IfErr result (λ fault. fault ≢ OutOfMemory → term_at energy.old.variables place (view item.now) ≡ Err fault) }
+{
+    let shape = ProblemFault::BadElement(Field::Terms, place);
+    let Some(on) = integers_at::<2>(item, "on") else {
+        return Err(shape);
+    };
+    let Some(values) = integers_at::<4>(item, "values") else {
+        return Err(shape);
+    };
+    add_listed(energy, place, &on, &values)
+}
+
+/// Adds the term over the listed variables with the listed numbers.
+fn add_listed(
+    energy: &mut Energy,
+    place: usize,
+    on: &[i64],
+    values: &[i64],
+) -> Result<(), ProblemFault>
+    requires variables { energy.old.variables ≤ VARIABLE_LIMIT }
+    requires room { length energy.old.terms < TERM_LIMIT }
+    ensures ok { OnOk result (Gains energy.old energy.new (term_from energy.old.variables place on.now values.now)) }
+    ensures refused { IfErr result (λ fault. fault ≢ OutOfMemory → term_from energy.old.variables place on.now values.now ≡ Err fault) }
+{
+    let shape = ProblemFault::BadElement(Field::Terms, place);
+    match on {
+        [first] => match <[i64; 2]>::try_from(values) {
+            Ok(table) => add_one(energy, place, *first, table),
+            Err(_) => Err(shape),
+        },
+        [first, second] => match <[i64; 4]>::try_from(values) {
+            Ok(table) => add_two(energy, place, *first, *second, table),
+            Err(_) => Err(shape),
+        },
+        _ => Err(shape),
+    }
+}
+
+/// Adds a term of one variable, whose number may be any integer.
+fn add_one(energy: &mut Energy, place: usize, on: i64, table: [i64; 2]) -> Result<(), ProblemFault>
+    requires variables { energy.old.variables ≤ VARIABLE_LIMIT }
+    requires room { length energy.old.terms < TERM_LIMIT }
+    ensures ok { OnOk result (Gains energy.old energy.new (checked energy.old.variables place (on ∷ []) table (One (unsigned_abs on) table))) }
+    ensures refused { IfErr result (λ fault. fault ≢ OutOfMemory → checked energy.old.variables place (on ∷ []) table (One (unsigned_abs on) table) ≡ Err fault) }
+{
+    let first = variable_of(place, on)?;
+    match energy.add_term1(first, table) {
+        Ok(()) => Ok(()),
+        Err(error) => Err(refusal_of(place, error)),
+    }
+}
+
+/// Adds a term of two variables, whose numbers may be any integers.
+fn add_two(
+    energy: &mut Energy,
+    place: usize,
+    on: i64,
+    and: i64,
+    table: [i64; 4],
+) -> Result<(), ProblemFault>
+    requires variables { energy.old.variables ≤ VARIABLE_LIMIT }
+    requires room { length energy.old.terms < TERM_LIMIT }
+    ensures ok { OnOk result (Gains energy.old energy.new (checked energy.old.variables place (on ∷ and ∷ []) table (Two (unsigned_abs on) (unsigned_abs and) table))) }
+    ensures refused { IfErr result (λ fault. fault ≢ OutOfMemory → checked energy.old.variables place (on ∷ and ∷ []) table (Two (unsigned_abs on) (unsigned_abs and) table) ≡ Err fault) }
+{
+    let first = variable_of(place, on)?;
+    let second = variable_of(place, and)?;
+    match energy.add_term2(first, second, table) {
+        Ok(()) => Ok(()),
+        Err(error) => Err(refusal_of(place, error)),
+    }
+}
+
+/// The number of a variable.
+fn variable_of(place: usize, number: i64) -> Result<u32, ProblemFault>
+    ensures ok { IfOk result (λ variable. number ≡ pos variable) }
+    ensures refused { IfErr result (λ fault. (fault ≡ NoSuchVariable place) × ((n : ℕ) → n ≤ VARIABLE_LIMIT → is_variable n number ≡ false)) }
+{
+    match u32::try_from(number) {
+        Ok(variable) => Ok(variable),
+        Err(_) => Err(ProblemFault::NoSuchVariable(place)),
+    }
+}
+
+/// The fault of the term at a place that an energy refuses.
+fn refusal_of(place: usize, error: EnergyError) -> ProblemFault
+    ensures { result ≡ refusal_of place error }
+{
+    match error {
+        EnergyError::NoSuchVariable => ProblemFault::NoSuchVariable(place),
+        EnergyError::SameVariable => ProblemFault::SameVariable(place),
+        EnergyError::ValueRange => ProblemFault::ValueRange(place),
+        EnergyError::TooManyTerms => ProblemFault::TooManyTerms,
+        EnergyError::OutOfMemory => ProblemFault::OutOfMemory,
+    }
+}
