@@ -1,3 +1,4 @@
 pub mod Integers
 pub mod ItemLemmas
+pub mod StatedLemmas
 pub mod TermLemmas

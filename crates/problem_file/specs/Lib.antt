@@ -1,5 +1,6 @@
 pub mod Added
 pub mod Problem
 pub mod Refusal
+pub mod Stated
 pub mod Text
 pub mod Within

@@ -5,6 +5,7 @@ ghost use Rattle.pseudo_bool.specs.Formula.{IsWithin};
 ghost use Rattle.problem_file.specs.declared.fault.ProblemFault.TheVariants.{BadToml, OutOfMemory};
 ghost use Rattle.problem_file.specs.Added.{GainsAll};
 ghost use Rattle.problem_file.specs.Problem.{names, terms_from, terms_in};
+ghost use Rattle.problem_file.specs.Stated.{States};
 ghost use Rattle.problem_file.specs.Text.{energy_in};
 
 use crate::fields::{constant_of, member, variables_of};
@@ -33,6 +34,7 @@ pub fn read_energy(alloc: Global, bytes: &[u8]) -> Result<Energy, ProblemFault>
 /// other fields are ignored.
 pub fn energy_of(alloc: Global, table: &Table) -> Result<Energy, ProblemFault>
     ensures ok { IfOk result (λ energy. names (table_view table.now) ≡ Ok energy) }
+    ensures stated { IfOk result (States (table_view table.now)) }
     ensures refused { IfErr result (λ fault. fault ≢ OutOfMemory → names (table_view table.now) ≡ Err fault) }
 {
     let variables = match variables_of(table) {

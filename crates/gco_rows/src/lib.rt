@@ -1,0 +1,11 @@
+//! Tests of whole runs of `gco`, in memory: worked rows, writers that stop, readers that fail.
+#![tactic(auto)]
+
+#[cfg(test)]
+mod answers;
+#[cfg(test)]
+mod faults;
+#[cfg(test)]
+mod refusals;
+#[cfg(test)]
+mod streams;

@@ -1,0 +1,10 @@
+use Rattle.std.proofs.Common.{◌≡◌, Ok, rules}
+use Rattle.toml.specs.View.{table_view}
+use Rattle.problem_file.specs.Problem.{names}
+use Rattle.problem_file.proofs.StatedLemmas.{stated}
+use Rattle.problem_file.proofs.energy.energy_of.Goals as goal
+
+pub returns-in-Ok-add_terms-clause-stated : goal.returns-in-Ok-add_terms-clause-stated
+returns-in-Ok-add_terms-clause-stated c =
+    let named : names (table_view c.args.table.now) ≡ Ok c.add_terms.new.energy = search rules in
+    stated (table_view c.args.table.now) c.add_terms.new.energy named

@@ -1,0 +1,39 @@
+-- What a table states of an energy: each of its numbers, as it stands.
+use Rattle.std.specs.Prelude.{◌≡◌, ⊤, ℤ, pos, List, [], ◌∷◌, Option, Some, None, codes}
+use Rattle.toml.specs.Data.{Data, integer, array, Items, no_items, item, Members, get, get_member}
+use Rattle.pseudo_bool.specs.declared.term.Term.{Term}
+use Rattle.pseudo_bool.specs.declared.term.Term.TheVariants.{One, Two}
+use Rattle.pseudo_bool.specs.Formula.{Formula}
+
+-- the items that are these integers
+abbrev pub integers : List ℤ → Items
+integers [] = no_items
+integers (z ∷ zs) = item (integer z) (integers zs)
+
+-- the item has the variables of the term under `on`, and its table under `values`
+abbrev pub StatesTerm : Data → Term → Type 0
+StatesTerm d (One x table) = (get (codes "on") d ≡ Some (array (integers (pos x ∷ [])))) × (get (codes "values") d ≡ Some (array (integers table)))
+StatesTerm d (Two x y table) = (get (codes "on") d ≡ Some (array (integers (pos x ∷ pos y ∷ [])))) × (get (codes "values") d ≡ Some (array (integers table)))
+
+-- the items have the terms, one each
+abbrev pub StatesTerms : Items → List Term → Type 0
+StatesTerms no_items [] = ⊤
+StatesTerms (item d ds) (term ∷ terms) = StatesTerm d term × StatesTerms ds terms
+StatesTerms no_items (term ∷ terms) = ⊥
+StatesTerms (item d ds) [] = ⊥
+
+-- what stands under `terms`: nothing where there is no term, or the list of the terms
+abbrev pub StatesList : Option Data → List Term → Type 0
+StatesList None terms = terms ≡ []
+StatesList (Some d) terms = (ds : Items) × (d ≡ array ds) × StatesTerms ds terms
+
+-- what stands under `constant`: nothing where it is 0, or the constant
+abbrev pub StatesConstant : Option Data → ℤ → Type 0
+StatesConstant None constant = constant ≡ pos 0
+StatesConstant (Some d) constant = d ≡ integer constant
+
+-- the table states the energy
+pub record States (ms : Members) (e : Formula) : Type 0 where
+  pub variables : get_member (codes "variables") ms ≡ Some (integer (pos e.variables))
+  pub constant : StatesConstant (get_member (codes "constant") ms) e.constant
+  pub terms : StatesList (get_member (codes "terms") ms) e.terms
