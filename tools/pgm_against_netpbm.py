@@ -44,8 +44,8 @@ def number(draw, value):
 def image(draw):
     """An image, mostly well formed."""
     form = draw.choice([b"P5", b"P2"]) if draw.random() < 0.98 else draw.choice([b"P6", b"P", b"", b"p5"])
-    width = draw.choice([0, 1, 1, 2, 3, 5, 8]) if draw.random() < 0.95 else draw.choice([4096, 4097, 99999999])
-    height = draw.choice([0, 1, 1, 2, 3]) if draw.random() < 0.95 else draw.choice([4096, 4097])
+    width = draw.choice([1, 1, 2, 3, 5, 8]) if draw.random() < 0.96 else draw.choice([0, 4096, 4097, 99999999])
+    height = draw.choice([1, 1, 2, 3]) if draw.random() < 0.96 else draw.choice([0, 4096, 4097])
     maxval = draw.choice([1, 2, 7, 254, 255, 256, 257, 1000, 65535])
     if draw.random() < 0.04:
         maxval = draw.choice([0, 65536, 100000])
@@ -70,7 +70,8 @@ def image(draw):
 
 
 def read_plain(text):
-    """The first image that netpbm writes as `P2`, or `P1` for a maxval of 1, or None if it is cut."""
+    """The first image that netpbm writes, or None where it is cut. Of maxval 1 it makes a `P1`, in which
+    0 is white."""
     words = text.split()
     if len(words) < 3 or words[0] not in (b"P1", b"P2"):
         return None
@@ -78,7 +79,7 @@ def read_plain(text):
     count = width * height
     if words[0] == b"P1":
         maxval = 1
-        samples = [int(bit) for bit in b"".join(words[3:]).decode()[:count] if bit in "01"]
+        samples = [1 - int(bit) for bit in b"".join(words[3:]).decode()[:count] if bit in "01"]
     else:
         maxval = int(words[3])
         samples = [int(word) for word in words[4:4 + count]]

@@ -1,4 +1,4 @@
-//! Grey images in the Netpbm formats `P5` and `P2`.
+//! Grey images in the Netpbm project's PGM format, `P5` and `P2`. docs/PGM.md has the rules.
 #![tactic(auto)]
 
 mod error;
@@ -15,7 +15,7 @@ mod writing;
 pub use error::{PgmError, WriteError};
 pub use image::{Image, MOST_MAXVAL, MOST_SAMPLES, MOST_SIDE};
 pub use reading::read_image;
-pub use writing::write_image;
+pub use writing::{put_image, write_image};
 
 #[cfg(test)]
 mod tests;

@@ -1,5 +1,6 @@
 //! Images by hand: inputs and what they give, and writers that stop.
 use super::*;
+use byte_streams::Watched;
 use std::alloc::Global;
 use std::io;
 use std::io::{Error, ErrorKind, Write};
@@ -165,6 +166,14 @@ fn small_images_are_written(rt: HostRuntime) -> Result<(), Fail> {
     for room in 0..=whole.len() {
         stops_at(&rt, rt.alloc(), &image, whole, room);
     }
+    let mut held: Vec<u8> = Vec::new(rt.alloc());
+    let mut sink = Watched {
+        writer: &mut held,
+        has_failed: false,
+    };
+    assert_eq!(rt; put_image(&image, &mut sink), Ok(()));
+    assert!(rt; !sink.has_failed);
+    assert!(rt; held.as_slice() == whole.as_slice());
     Ok(())
 }
 

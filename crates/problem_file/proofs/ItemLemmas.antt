@@ -1,7 +1,7 @@
 -- Reading a list of terms, item by item.
-use Rattle.std.proofs.Common.{◌≡◌, ◌≢◌, ℕ, ◌+◌, ◌<◌, ◌≤◌, List, [], ◌∷◌, ◌++◌, length, length-append, nat_le, true, false, codes, Option, Some, None, get_or, drop, Result, Ok, Err, refl, ap, ◌∙◌, arith, append_assoc, append-nil, drop_of_length-le, suc}
+use Rattle.std.proofs.Common.{◌≡◌, ℕ, ◌+◌, ◌<◌, ◌≤◌, List, [], ◌∷◌, ◌++◌, length, length-append, nat_le, true, false, codes, Some, get_or, drop, Result, Ok, Err, refl, ap, ◌∙◌, arith, append_assoc, suc}
 use Rattle.std.proofs.lemmas.Bool.Decides.{nat_tests}
-use Rattle.toml.specs.Data.{Data, Items, Members, as_array, get_member}
+use Rattle.toml.specs.Data.{Data, Members, as_array, get_member}
 use Rattle.toml.specs.View.{items_view, view}
 use Rattle.toml.specs.declared.value.Value.{Value}
 use Rattle.toml.proofs.Views.{items_view-drop}
@@ -10,7 +10,7 @@ use Rattle.pseudo_bool.specs.declared.term.Term.{Term}
 use Rattle.pseudo_bool.specs.Formula.{Formula}
 use Rattle.problem_file.specs.declared.fault.ProblemFault.{ProblemFault}
 use Rattle.problem_file.specs.declared.fault.ProblemFault.TheVariants.{TooManyTerms}
-use Rattle.problem_file.specs.Added.{Gains, GainsAll}
+use Rattle.problem_file.specs.Added.{Gains}
 use Rattle.problem_file.specs.Problem.{and_then, item_count, term_at, terms_from, terms_in}
 
 -- the terms that stand, and those that the items from place i on name

@@ -1,5 +1,5 @@
 -- What an addition to an energy answers, beside what the integers of a term name.
-use Rattle.std.proofs.Common.{◌≡◌, ◌≢◌, ℕ, ◌<◌, ◌≤◌, Bool, true, false, nat_le, nat_lt, List, [], ◌∷◌, get_or, length, ℤ, pos, unsigned_abs, All, Result, Ok, Err, Option, Some, None, option_and_then, ◌⊎◌, inl, inr, refl, ap, arith, ◌++◌}
+use Rattle.std.proofs.Common.{◌≡◌, ◌≢◌, ℕ, ◌<◌, ◌≤◌, nat_le, nat_lt, List, [], ◌∷◌, get_or, length, ℤ, pos, unsigned_abs, All, Result, Ok, Err, Option, Some, None, option_and_then, ◌⊎◌, inl, inr, refl, ap, arith, ◌++◌}
 use Rattle.std.specs.Prelude.{IsOkUnless}
 use Rattle.std.specs.Bool.{Decides}
 use Rattle.std.specs.List.{list_all}
@@ -16,7 +16,7 @@ use Rattle.problem_file.specs.Added.{Gains}
 use Rattle.problem_file.specs.declared.fault.ProblemFault.{ProblemFault}
 use Rattle.problem_file.specs.declared.fault.ProblemFault.TheVariants as fault
 use Rattle.problem_file.specs.declared.fault.Field.TheVariants.{Terms}
-use Rattle.problem_file.specs.Problem.{checked, is_value, is_variable, term_from, term_of}
+use Rattle.problem_file.specs.Problem.{checked, is_value, term_from, term_of}
 use Rattle.problem_file.specs.Refusal.{refusal_of}
 use Rattle.problem_file.specs.Within.{within}
 

@@ -1,4 +1,4 @@
-use Rattle.std.proofs.Common.{◌≡◌, ◌<◌, ◌≤◌, [], ◌∷◌, pos, length, arith, rules, sym}
+use Rattle.std.proofs.Common.{◌≡◌, pos, length, arith, rules, sym}
 use Rattle.problem_file.proofs.TermLemmas.{four_named, two_listed}
 use Rattle.problem_file.proofs.term.add_listed.Goals as goal
 
