@@ -6,7 +6,7 @@ use Rattle.flow_network.specs.Cut.{Network, nodes, capacity_of, IsLeastCut, IsSm
 use Rattle.compile_cut.specs.declared.quadratic.Quadratic.{Quadratic}
 use Rattle.compile_cut.specs.Shown.{ShowsValues, IsSmallestLeastAssignment}
 use Rattle.compile_cut.specs.Form.{quadratic_value, SaysValues}
-use Rattle.compile_cut.proofs.Adding.{terms_value-same}
+use Rattle.compile_cut.proofs.TermLemmas.{terms_value-same}
 
 pub shows_values : (e : Formula) (q : Quadratic) (net : Network) (k : ℤ) → IsEnergy e → SaysValues e q
     → ((x : ℕ → Bool) → pos (capacity_of net x) +ℤ k ≡ quadratic_value q x) → ShowsValues net k e

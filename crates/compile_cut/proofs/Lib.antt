@@ -1,5 +1,6 @@
 pub mod PartLemmas
+pub mod ThreeLemmas
 pub mod WeightLemmas
 pub mod CapacityLemmas
-pub mod Adding
+pub mod TermLemmas
 pub mod Composes

@@ -1,6 +1,6 @@
 use Rattle.std.specs.Prelude.{◌≡◌, ℕ, ◌<◌, ◌≤◌, Bool, sum_by, ℤ, pos, ◌+ℤ◌, ◌≤ℤ◌}
 use Rattle.pseudo_bool.specs.declared.term.Term.{Term}
-use Rattle.pseudo_bool.specs.declared.term.Term.TheVariants.{One, Two}
+use Rattle.pseudo_bool.specs.declared.term.Term.TheVariants.{One, Two, Three}
 use Rattle.pseudo_bool.specs.Formula.{Formula, value_at}
 use Rattle.flow_network.specs.Cut.{Network, capacity_of, LiesWithin}
 
@@ -24,6 +24,7 @@ ShowsValues net constant e =
 abbrev pub three_digit : Term → ℕ
 three_digit (One first table) = 0
 three_digit (Two first second table) = 0
+three_digit (Three first second third table) = 1
 
 -- how many terms of three variables there are
 abbrev pub three_count : Formula → ℕ

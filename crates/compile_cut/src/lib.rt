@@ -7,10 +7,12 @@ ghost use Rattle.pseudo_bool.specs.Formula.{Formula, value_at};
 ghost use Rattle.flow_network.specs.Cut.{Network, nodes, capacity_of, IsSmallestLeastCut};
 ghost use Rattle.compile_cut.specs.Shown.{ShowsValues, three_count, IsSmallestLeastAssignment};
 
+mod adding;
 mod capacities;
 mod compiled;
 mod parts;
 mod quadratic;
+mod three;
 
 pub use compiled::{Compiled, compile};
 pub use flow_network::{Arc, Net, Solved, check_cut};

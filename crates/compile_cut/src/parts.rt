@@ -1,11 +1,11 @@
-ghost use Rattle.std.specs.Prelude.{◌≡◌, ◌+◌, ◌*◌, ◌≤◌, All, pos, ◌+ℤ◌, ◌-ℤ◌, unsigned_abs};
+ghost use Rattle.std.specs.Prelude.{◌≡◌, ◌+◌, ◌*◌, ◌≤◌, All, pos, ◌+ℤ◌, ◌-ℤ◌, ◌≤ℤ◌, unsigned_abs};
 ghost use Rattle.pseudo_bool.specs.Formula.{entry, IsWithin};
 ghost use Rattle.regular.specs.Regularity.{IsRegularTable};
 
 use pseudo_bool::VALUE_LIMIT;
 
 /// A number less another.
-fn difference(a: i64, b: i64) -> i64
+pub fn difference(a: i64, b: i64) -> i64
     requires a { unsigned_abs a ≤ VALUE_LIMIT }
     requires b { unsigned_abs b ≤ VALUE_LIMIT }
     ensures value { result ≡ a -ℤ b }
@@ -15,7 +15,7 @@ fn difference(a: i64, b: i64) -> i64
 }
 
 /// Two numbers less two others.
-fn balance(a: i64, b: i64, c: i64, d: i64) -> i64
+pub fn balance(a: i64, b: i64, c: i64, d: i64) -> i64
     requires a { unsigned_abs a ≤ VALUE_LIMIT }
     requires b { unsigned_abs b ≤ VALUE_LIMIT }
     requires c { unsigned_abs c ≤ VALUE_LIMIT }
@@ -24,6 +24,29 @@ fn balance(a: i64, b: i64, c: i64, d: i64) -> i64
     ensures small { unsigned_abs result ≤ 4 * VALUE_LIMIT }
 {
     (a + b) - (c + d)
+}
+
+/// Two numbers less two others that are no more.
+pub fn gain(a: i64, b: i64, c: i64, d: i64) -> u64
+    requires a { unsigned_abs a ≤ VALUE_LIMIT }
+    requires b { unsigned_abs b ≤ VALUE_LIMIT }
+    requires c { unsigned_abs c ≤ VALUE_LIMIT }
+    requires d { unsigned_abs d ≤ VALUE_LIMIT }
+    requires regular { (c +ℤ d) ≤ℤ (a +ℤ b) }
+    ensures value { pos result ≡ a +ℤ b -ℤ c -ℤ d }
+    ensures small { result ≤ 4 * VALUE_LIMIT }
+{
+    balance(a, b, c, d).unsigned_abs()
+}
+
+/// The sum of two small numbers.
+pub fn sum(a: i64, b: i64) -> i64
+    requires a { unsigned_abs a ≤ 4 * VALUE_LIMIT }
+    requires b { unsigned_abs b ≤ 4 * VALUE_LIMIT }
+    ensures value { result ≡ a +ℤ b }
+    ensures small { unsigned_abs result ≤ 8 * VALUE_LIMIT }
+{
+    a + b
 }
 
 /// A table over one variable as a number and a weight.
@@ -74,6 +97,6 @@ pub fn split_pair(table: &[i64; 4]) -> PairPart
         constant: table[0],
         first: difference(table[2], table[0]),
         second: difference(table[3], table[2]),
-        arc: balance(table[1], table[2], table[0], table[3]).unsigned_abs(),
+        arc: gain(table[1], table[2], table[0], table[3]),
     }
 }

@@ -1,14 +1,19 @@
-ghost use Rattle.std.specs.Prelude.{◌≡◌, ℕ, ◌+◌, ◌*◌, ◌<◌, ◌≤◌, Bool, not, ◌&&◌, All, length, ◌+ℤ◌, unsigned_abs, sum_by, slice_index_or, pos, vec_len, OnOk, IfOk};
+ghost use Rattle.std.specs.Prelude.{◌≡◌, ℕ, ◌+◌, ◌*◌, ◌<◌, ◌≤◌, Bool, not, ◌&&◌, All, length, ◌+ℤ◌, ◌≤ℤ◌, unsigned_abs, sum_by, slice_index_or, pos, vec_len, OnOk, IfOk};
 ghost use Rattle.sums.specs.Sums.{counted};
 ghost use Rattle.sums.specs.IntegerSums.{int_counted};
 ghost use Rattle.pseudo_bool.specs.Formula.{entry, digit, IsWithin, IsTerm, IsEnergy, value_at};
-ghost use Rattle.regular.specs.Regularity.{IsRegular, IsRegularTerm, IsRegularTable};
+ghost use Rattle.regular.specs.Regularity.{IsRegular, IsRegularTerm, IsRegularTable, projection};
+ghost use Rattle.regular.specs.declared.fixed.Fixed.{Fixed};
 ghost use Rattle.flow_network.specs.Cut.{IsArc};
 ghost use Rattle.compile_cut.specs.Weights.{weights_value, weights_size, arcs_value, arcs_size, IsAbove};
 ghost use Rattle.compile_cut.specs.Form.{quadratic_value, IsBounded, AddsTerm, SaysValues};
 ghost use Rattle.compile_cut.specs.Shown.{three_count, three_digit};
 
+use crate::adding::{
+    Nodes, add_arc, add_hidden_arcs, add_three_arcs, add_three_weights, add_weight,
+};
 use crate::parts::{split_one, split_pair};
+use crate::three::split_three;
 use flow_network::Arc;
 use pseudo_bool::{Energy, TERM_LIMIT, Term, VALUE_LIMIT};
 use std::alloc::{AllocError, Global};
@@ -19,31 +24,6 @@ pub struct Quadratic {
     pub constant: i64,
     pub weights: Vec<i64>,
     pub arcs: Vec<Arc>,
-}
-
-/// Adds to one of the weights.
-fn add_weight(weights: &mut Vec<i64>, at: u32, by: i64)
-    requires at { at < vec_len weights.old }
-    requires small { weights_size weights.old.items ≤ 1000000000000000000 }
-    requires step { unsigned_abs by ≤ 8 * VALUE_LIMIT }
-    ensures len { vec_len weights.new ≡ vec_len weights.old }
-    ensures value { (x : ℕ → Bool) → weights_value weights.new.items x ≡ weights_value weights.old.items x +ℤ int_counted (x at) by }
-    ensures size { weights_size weights.new.items ≤ weights_size weights.old.items + unsigned_abs by }
-{
-    weights[at as usize] += by;
-}
-
-/// Adds an arc, if it carries anything.
-fn add_arc(arcs: &mut Vec<Arc>, from: u32, to: u32, capacity: u64) -> Result<(), AllocError>
-    ensures value { OnOk result ((x : ℕ → Bool) → arcs_value arcs.new.items x ≡ arcs_value arcs.old.items x + counted (x to && not (x from)) capacity) }
-    ensures size { OnOk result (arcs_size arcs.new.items ≡ arcs_size arcs.old.items + capacity) }
-    ensures nodes { OnOk result ((n : ℕ) → from < n → to < n → All (IsArc n) arcs.old.items → All (IsArc n) arcs.new.items) }
-    ensures above { OnOk result (All IsAbove arcs.old.items → All IsAbove arcs.new.items) }
-{
-    if capacity > 0 {
-        arcs.push(Arc { from, to, capacity })?;
-    }
-    Ok(())
 }
 
 impl Quadratic {
@@ -80,11 +60,35 @@ impl Quadratic {
         Ok(())
     }
 
+    /// Adds a regular table over three variables, with a hidden node.
+    fn add_three(&mut self, nodes: Nodes, table: &[i64; 8]) -> Result<(), AllocError>
+        requires bounded { IsBounded 8388607 self.old }
+        requires room { vec_len self.old.weights < 16777216 }
+        requires first { nodes.first < vec_len self.old.weights }
+        requires second { nodes.second < vec_len self.old.weights }
+        requires third { nodes.third < vec_len self.old.weights }
+        requires values { All (IsWithin VALUE_LIMIT) table.now }
+        requires regular { (fixed : Fixed) → fixed.position < 3 → IsRegularTable (projection table.now fixed) }
+        ensures len { OnOk result (vec_len self.new.weights ≡ vec_len self.old.weights + 1) }
+        ensures bounded { OnOk result ((k : ℕ) → IsBounded k self.old → IsBounded (k + 1) self.new) }
+        ensures value { OnOk result (AddsTerm self.old self.new (Term.Three nodes.first nodes.second nodes.third table.now)) }
+    {
+        let part = split_three(table);
+        let hidden = self.weights.len() as u32;
+        self.weights.push(part.hidden)?;
+        add_three_weights(&mut self.weights, nodes, &part);
+        add_three_arcs(&mut self.arcs, nodes, &part)?;
+        add_hidden_arcs(&mut self.arcs, hidden, nodes, part.hidden)?;
+        self.constant += part.constant;
+        Ok(())
+    }
+
     /// Adds a regular term over variables that have their nodes.
     fn add_term(&mut self, term: &Term) -> Result<(), AllocError>
         requires bounded { IsBounded 8388607 self.old }
         requires term { IsTerm (vec_len self.old.weights) term.now }
         requires regular { IsRegularTerm term.now }
+        requires room { vec_len self.old.weights < 16777216 }
         ensures len { OnOk result (vec_len self.new.weights ≡ vec_len self.old.weights + three_digit term.now) }
         ensures bounded { OnOk result ((k : ℕ) → IsBounded k self.old → IsBounded (k + 1) self.new) }
         ensures value { OnOk result (AddsTerm self.old self.new term.now) }
@@ -95,6 +99,14 @@ impl Quadratic {
                 Ok(())
             }
             Term::Two(first, second, table) => self.add_pair(*first, *second, table),
+            Term::Three(first, second, third, table) => {
+                let nodes = Nodes {
+                    first: *first,
+                    second: *second,
+                    third: *third,
+                };
+                self.add_three(nodes, table)
+            }
         }
     }
 }

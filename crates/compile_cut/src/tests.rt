@@ -1,4 +1,7 @@
+mod answers;
+
 use crate::compile;
+use answers::ANSWERS;
 use flow_network::{Net, cut_capacity};
 use pseudo_bool::{Energy, EnergyError};
 use regular::check;
@@ -47,5 +50,83 @@ fn cuts_show_the_values(rt: HostRuntime) -> Result<(), Fail> {
         let compiled = compile(rt.alloc(), regular)?;
         assert_eq!(rt; shown(&rt, &compiled.net, compiled.constant), values);
     }
+    Ok(())
+}
+
+/// The table whose numbers are the ternary digits of a number, less 1.
+fn table_of(number: usize) -> [i64; 8] {
+    let mut table = [0; 8];
+    let mut rest = number;
+    for entry in table.iter_mut() {
+        *entry = (rest % 3) as i64 - 1;
+        rest /= 3;
+    }
+    table.reverse();
+    table
+}
+
+/// The least capacity of the cuts that show three variables in a net of four nodes, with the constant added.
+fn least_shown(rt: &impl Abort, net: &Net, constant: i64, number: u8) -> i64 {
+    let mut least = u64::MAX;
+    for hidden in [false, true] {
+        let side = [number & 4 != 0, number & 2 != 0, number & 1 != 0, hidden];
+        assert_eq!(rt; net.nodes(), side.len());
+        least = least.min(cut_capacity(net, &side));
+    }
+    i64::try_from(least)
+        .expect(rt, "small")
+        .wrapping_add(constant)
+}
+
+/// The digit of the first failing projection, or the letter of the smallest least assignment.
+fn answer_of(rt: &impl Abort, alloc: Global, table: [i64; 8]) -> Result<u8, EnergyError> {
+    let mut energy = Energy::new(alloc);
+    for _ in 0..3 {
+        energy.add_variable()?;
+    }
+    energy.add_term3(0, 1, 2, table)?;
+    let regular = match check(&energy) {
+        Ok(regular) => regular,
+        Err(failing) => {
+            assert_eq!(rt; failing.term, 0);
+            let fixed = failing.fixed.expect(rt, "a projection");
+            let order = fixed
+                .position
+                .wrapping_mul(2)
+                .wrapping_add(usize::from(fixed.value));
+            return Ok(b'0'.wrapping_add(u8::try_from(order).expect(rt, "small")));
+        }
+    };
+    let compiled = compile(alloc, regular)?;
+    let mut least = i64::MAX;
+    let mut smallest = 7;
+    for (number, entry) in (0u8..).zip(table) {
+        let value = least_shown(rt, &compiled.net, compiled.constant, number);
+        assert_eq!(rt; value, entry);
+        if value < least {
+            least = value;
+            smallest = number;
+        } else if value == least {
+            smallest &= number;
+        }
+    }
+    Ok(b'a'.wrapping_add(smallest))
+}
+
+#[test]
+fn every_small_table_of_three(rt: HostRuntime) -> Result<(), Fail> {
+    let mut number = 0usize;
+    for line in ANSWERS {
+        for answer in line.bytes() {
+            let table = table_of(number);
+            assert_eq!(rt;
+                answer_of(&rt, rt.alloc(), table)?,
+                answer,
+                "table {number}"
+            );
+            number = number.wrapping_add(1);
+        }
+    }
+    assert_eq!(rt; number, 6561);
     Ok(())
 }

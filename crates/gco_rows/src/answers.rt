@@ -32,6 +32,43 @@ fn minima(rt: HostRuntime) {
     }
 }
 
+// Terms of three variables, of both kinds: the sum of the entries with an even number of ones less the
+// others is at least 0, and below 0.
+#[test]
+fn three(rt: HostRuntime) {
+    let ones =
+        "{ on = [0], values = [0,1] }, { on = [1], values = [0,1] }, { on = [2], values = [0,1] }";
+    for (terms, written) in [
+        (
+            "{ on = [0,1,2], values = [0,0,0,0,0,0,0,-4] }",
+            "minimum -1\nassignment 111\n",
+        ),
+        // 000 and 111 are both 0.
+        (
+            "{ on = [0,1,2], values = [0,0,0,0,0,0,0,-3] }",
+            "minimum 0\nassignment 000\n",
+        ),
+        (
+            "{ on = [0,1,2], values = [-1,0,0,0,0,0,0,0] }",
+            "minimum -1\nassignment 000\n",
+        ),
+    ] {
+        let file = format!(in rt.alloc(); "variables = 3\nterms = [{ones}, {terms}]").expect(
+            &rt, "memory",
+        );
+        expect_energy(&rt, file.as_str(), 0, written, "");
+    }
+    // Every assignment whose first variable is 1 is 0.
+    expect_energy(
+        &rt,
+        "variables = 3\nterms = [{ on = [0,1,2], values = [-1,0,0,0,0,0,0,0] }, \
+         { on = [0], values = [3,0] }]",
+        0,
+        "minimum 0\nassignment 100\n",
+        "",
+    );
+}
+
 // Where assignments are equally low, the one with the fewest ones is printed.
 #[test]
 fn ties(rt: HostRuntime) {

@@ -36,6 +36,18 @@ fn terms(rt: HostRuntime) {
             "{ on = [0], values = [0,-4294967297] }",
             "refused 18 term 0\n",
         ),
+        (
+            "{ on = [0,1,1], values = [0,0,0,0,0,0,0,0] }",
+            "refused 17 term 0\n",
+        ),
+        (
+            "{ on = [0,1,2], values = [0,0,0,0,0,0,0,0] }",
+            "refused 16 term 0\n",
+        ),
+        (
+            "{ on = [0,1,0], values = [0,0,0,0] }",
+            "refused 29 terms 0\n",
+        ),
         ("{ on = [0], values = [1] }", "refused 29 terms 0\n"),
         ("{ on = [9], values = [1,2,3,4] }", "refused 29 terms 0\n"),
         ("{ on = [], values = [1] }", "refused 29 terms 0\n"),
@@ -61,6 +73,21 @@ fn terms(rt: HostRuntime) {
 fn expect_terms(rt: &(impl AllocGlobal + Abort), terms: &str, said: &str) {
     let file = format!(in rt.alloc(); "variables = 2\nterms = [{terms}]").expect(rt, "memory");
     expect_energy(rt, file.as_str(), 1, "", said);
+}
+
+// Of a term of three the first projection that is not regular is told.
+#[test]
+fn projections(rt: HostRuntime) {
+    for (values, said) in [
+        ("0,0,0,-1,0,-1,0,-1", "refused 20 term 0 fixed 2 at 1\n"),
+        ("1,0,0,1,0,0,0,0", "refused 20 term 0 fixed 0 at 0\n"),
+        ("0,0,0,0,1,0,0,1", "refused 20 term 0 fixed 0 at 1\n"),
+    ] {
+        let file = format!(in rt.alloc();
+            "variables = 3\nterms = [{{ on = [0,1,2], values = [{values}] }}]"
+        ).expect(&rt, "memory");
+        expect_energy(&rt, file.as_str(), 1, "", said);
+    }
 }
 
 #[test]

@@ -5,7 +5,7 @@ use Rattle.std.proofs.lemmas.Bool.{and_parts}
 use Rattle.toml.specs.Data.{Data, integer, array, Items, no_items, item, Members, as_array, as_integer, get, get_member}
 use Rattle.pseudo_bool.specs.declared.limits.TheConstants.{VARIABLE_LIMIT, TERM_LIMIT}
 use Rattle.pseudo_bool.specs.declared.term.Term.{Term}
-use Rattle.pseudo_bool.specs.declared.term.Term.TheVariants.{One, Two}
+use Rattle.pseudo_bool.specs.declared.term.Term.TheVariants.{One, Two, Three}
 use Rattle.pseudo_bool.specs.Formula.{Formula}
 use Rattle.problem_file.specs.declared.fault.ProblemFault.{ProblemFault}
 use Rattle.problem_file.specs.declared.fault.ProblemFault.TheVariants.{NoSuchVariable, SameVariable, ValueRange}
@@ -60,6 +60,7 @@ checked_by false distinct small a b c term found e = absurd (let no = e in cc)
 abbrev IsListed : List ℤ → List ℤ → Term → Type 0
 IsListed on values (One x table) = (on ≡ pos x ∷ []) × (values ≡ table)
 IsListed on values (Two x y table) = (on ≡ pos x ∷ pos y ∷ []) × (values ≡ table)
+IsListed on values (Three x y z table) = (on ≡ pos x ∷ pos y ∷ pos z ∷ []) × (values ≡ table)
 
 one_listed : (n i : ℕ) (x : ℤ) (values : List ℤ) (found : Term) → checked n i (x ∷ []) values (One (unsigned_abs x) values) ≡ Ok found → IsListed (x ∷ []) values found
 one_listed n i x values found e =
@@ -76,6 +77,31 @@ two_listed n i x y values found e =
     let second_is = variable_back n y second.0 in
     rw same (cc, refl)
 
+three_listed : (n i : ℕ) (x y z : ℤ) (values : List ℤ) (found : Term)
+    → checked n i (x ∷ y ∷ z ∷ []) values (Three (unsigned_abs x) (unsigned_abs y) (unsigned_abs z) values) ≡ Ok found → IsListed (x ∷ y ∷ z ∷ []) values found
+three_listed n i x y z values found e =
+    let (known, same) = checked_by (list_all (is_variable n) (x ∷ y ∷ z ∷ [])) (is_distinct (x ∷ y ∷ z ∷ [])) (list_all is_value values) (NoSuchVariable i) (SameVariable i) (ValueRange i) (Three (unsigned_abs x) (unsigned_abs y) (unsigned_abs z) values) found e in
+    let first = and_parts (is_variable n x) (is_variable n y && (is_variable n z && true)) known in
+    let second = and_parts (is_variable n y) (is_variable n z && true) first.1 in
+    let third = and_parts (is_variable n z) true second.1 in
+    let first_is = variable_back n x first.0 in
+    let second_is = variable_back n y second.0 in
+    let third_is = variable_back n z third.0 in
+    rw same (cc, refl)
+
+-- a table of three variables has eight numbers
+eight_listed : (n i : ℕ) (x y z : ℤ) (values : List ℤ) (found : Term) → term_from n i (x ∷ y ∷ z ∷ []) values ≡ Ok found → IsListed (x ∷ y ∷ z ∷ []) values found
+eight_listed n i x y z [] found e = absurd (let no = e in cc)
+eight_listed n i x y z (a ∷ []) found e = absurd (let no = e in cc)
+eight_listed n i x y z (a ∷ b ∷ []) found e = absurd (let no = e in cc)
+eight_listed n i x y z (a ∷ b ∷ c ∷ []) found e = absurd (let no = e in cc)
+eight_listed n i x y z (a ∷ b ∷ c ∷ d ∷ []) found e = absurd (let no = e in cc)
+eight_listed n i x y z (a ∷ b ∷ c ∷ d ∷ p ∷ []) found e = absurd (let no = e in cc)
+eight_listed n i x y z (a ∷ b ∷ c ∷ d ∷ p ∷ q ∷ []) found e = absurd (let no = e in cc)
+eight_listed n i x y z (a ∷ b ∷ c ∷ d ∷ p ∷ q ∷ r ∷ []) found e = absurd (let no = e in cc)
+eight_listed n i x y z (a ∷ b ∷ c ∷ d ∷ p ∷ q ∷ r ∷ s ∷ []) found e = three_listed n i x y z (a ∷ b ∷ c ∷ d ∷ p ∷ q ∷ r ∷ s ∷ []) found e
+eight_listed n i x y z (a ∷ b ∷ c ∷ d ∷ p ∷ q ∷ r ∷ s ∷ k ∷ values) found e = absurd (let no = e in cc)
+
 listed : (n i : ℕ) (on values : List ℤ) (found : Term) → term_from n i on values ≡ Ok found → IsListed on values found
 listed n i [] values found e = absurd (let no = e in cc)
 listed n i (x ∷ []) [] found e = absurd (let no = e in cc)
@@ -88,12 +114,14 @@ listed n i (x ∷ y ∷ []) (a ∷ b ∷ []) found e = absurd (let no = e in cc)
 listed n i (x ∷ y ∷ []) (a ∷ b ∷ c ∷ []) found e = absurd (let no = e in cc)
 listed n i (x ∷ y ∷ []) (a ∷ b ∷ c ∷ d ∷ []) found e = two_listed n i x y (a ∷ b ∷ c ∷ d ∷ []) found e
 listed n i (x ∷ y ∷ []) (a ∷ b ∷ c ∷ d ∷ k ∷ values) found e = absurd (let no = e in cc)
-listed n i (x ∷ y ∷ z ∷ on) values found e = absurd (let no = e in cc)
+listed n i (x ∷ y ∷ z ∷ []) values found e = eight_listed n i x y z values found e
+listed n i (x ∷ y ∷ z ∷ w ∷ on) values found e = absurd (let no = e in cc)
 
 placed : (d : Data) (on values : List ℤ) (term : Term) → get (codes "on") d ≡ Some (array (integers on)) → get (codes "values") d ≡ Some (array (integers values))
     → IsListed on values term → StatesTerm d term
 placed d on values (One x table) at_on at_values h = (rw h.0 at at_on, rw h.1 at at_values)
 placed d on values (Two x y table) at_on at_values h = (rw h.0 at at_on, rw h.1 at at_values)
+placed d on values (Three x y z table) at_on at_values h = (rw h.0 at at_on, rw h.1 at at_values)
 
 term_by : (n i : ℕ) (d : Data) (on values : Option (List ℤ)) (term : Term) → integers_at (codes "on") d ≡ on → integers_at (codes "values") d ≡ values
     → term_of n i on values ≡ Ok term → StatesTerm d term

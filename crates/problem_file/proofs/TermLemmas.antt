@@ -1,5 +1,5 @@
 -- What an addition to an energy answers, beside what the integers of a term name.
-use Rattle.std.proofs.Common.{◌≡◌, ◌≢◌, ℕ, ◌<◌, ◌≤◌, nat_le, nat_lt, List, [], ◌∷◌, get_or, length, ℤ, pos, unsigned_abs, All, Result, Ok, Err, Option, Some, None, option_and_then, ◌⊎◌, inl, inr, refl, ap, arith, ◌++◌}
+use Rattle.std.proofs.Common.{true, false, ◌≡◌, ◌≢◌, ℕ, ◌<◌, ◌≤◌, nat_le, nat_lt, List, [], ◌∷◌, get_or, length, ℤ, pos, unsigned_abs, All, Result, Ok, Err, Option, Some, None, option_and_then, ◌⊎◌, inl, inr, refl, ap, arith, ◌++◌}
 use Rattle.std.specs.Prelude.{IsOkUnless}
 use Rattle.std.specs.Bool.{Decides}
 use Rattle.std.specs.List.{list_all}
@@ -10,7 +10,7 @@ use Rattle.pseudo_bool.specs.declared.error.EnergyError.{EnergyError}
 use Rattle.pseudo_bool.specs.declared.error.EnergyError.TheVariants as energy
 use Rattle.pseudo_bool.specs.declared.limits.TheConstants.{VALUE_LIMIT}
 use Rattle.pseudo_bool.specs.declared.term.Term.{Term}
-use Rattle.pseudo_bool.specs.declared.term.Term.TheVariants.{One, Two}
+use Rattle.pseudo_bool.specs.declared.term.Term.TheVariants.{One, Two, Three}
 use Rattle.pseudo_bool.specs.Formula.{Formula, IsTerm, IsWithin}
 use Rattle.problem_file.specs.Added.{Gains}
 use Rattle.problem_file.specs.declared.fault.ProblemFault.{ProblemFault}
@@ -85,6 +85,70 @@ two_is_due n i x y table r variable same range accepted =
           ]
     ]
 
+-- two numbers that are the same integer, and two that are not
+equal_here : (x y : ℕ) → int_eq (pos x) (pos y) ≡ true → x ≡ y
+equal_here x y test = let same : pos x ≡ pos y = (Decides-int_eq (pos x) (pos y)).0 test in cc
+
+unequal_here : (x y : ℕ) → int_eq (pos x) (pos y) ≡ false → x ≢ y
+unequal_here x y test equal = not_from_Decides _ (Decides-int_eq (pos x) (pos y)) test (ap pos equal)
+
+-- a term of three variables that are there
+three_known : {T : Type 0} (n i x y z : ℕ) (table : List ℤ) (r : Result T EnergyError)
+    → nat_lt x n ≡ true → nat_lt y n ≡ true → nat_lt z n ≡ true
+    → ((x ≡ y) ⊎ (x ≡ z) ⊎ (y ≡ z) → r ≡ Err energy.SameVariable)
+    → (x ≢ y → x ≢ z → y ≢ z → ¬ All (IsWithin VALUE_LIMIT) table → r ≡ Err energy.ValueRange)
+    → (x ≢ y → x ≢ z → y ≢ z → All (IsWithin VALUE_LIMIT) table → IsOkUnless r energy.OutOfMemory)
+    → IsDue i (checked n i (pos x ∷ pos y ∷ pos z ∷ []) table (Three x y z table)) (Three x y z table) r
+three_known n i x y z table r first second third same range accepted =
+    elim (cases_Bool (int_eq (pos x) (pos y))) [
+      | inl equal ↦ inl (energy.SameVariable, rw (first, second, third, equal) refl, same (inl (equal_here x y equal)))
+      | inr x_y ↦
+          elim (cases_Bool (int_eq (pos x) (pos z))) [
+            | inl equal ↦ inl (energy.SameVariable, rw (first, second, third, x_y, equal) refl, same (inr (inl (equal_here x z equal))))
+            | inr x_z ↦
+                elim (cases_Bool (int_eq (pos y) (pos z))) [
+                  | inl equal ↦ inl (energy.SameVariable, rw (first, second, third, x_y, x_z, equal) refl, same (inr (inr (equal_here y z equal))))
+                  | inr y_z ↦
+                      elim (cases_Bool (list_all is_value table)) [
+                        | inr beyond ↦ inl (
+                          energy.ValueRange,
+                          rw (first, second, third, x_y, x_z, y_z, beyond) refl,
+                          range (unequal_here x y x_y) (unequal_here x z x_z) (unequal_here y z y_z) (not_from_Decides _ (are_values table) beyond),
+                        )
+                        | inl within_range ↦ inr (
+                          rw (first, second, third, x_y, x_z, y_z, within_range) refl,
+                          accepted (unequal_here x y x_y) (unequal_here x z x_z) (unequal_here y z y_z) ((are_values table).0 within_range),
+                        )
+                      ]
+                ]
+          ]
+    ]
+
+pub three_is_due : {T : Type 0} (n i x y z : ℕ) (table : List ℤ) (r : Result T EnergyError)
+    → ((n ≤ x) ⊎ (n ≤ y) ⊎ (n ≤ z) → r ≡ Err energy.NoSuchVariable)
+    → (x < n → y < n → z < n → (x ≡ y) ⊎ (x ≡ z) ⊎ (y ≡ z) → r ≡ Err energy.SameVariable)
+    → (x < n → y < n → z < n → x ≢ y → x ≢ z → y ≢ z → ¬ All (IsWithin VALUE_LIMIT) table → r ≡ Err energy.ValueRange)
+    → (IsTerm n (Three x y z table) → IsOkUnless r energy.OutOfMemory)
+    → IsDue i (checked n i (pos x ∷ pos y ∷ pos z ∷ []) table (Three x y z table)) (Three x y z table) r
+three_is_due n i x y z table r variable same range accepted =
+    elim (cases_Bool (nat_lt x n)) [
+      | inr other ↦ inl (energy.NoSuchVariable, rw other refl, variable (inl (grind (arith, nat_tests))))
+      | inl first ↦
+          elim (cases_Bool (nat_lt y n)) [
+            | inr other ↦ inl (energy.NoSuchVariable, rw (first, other) refl, variable (inr (inl (grind (arith, nat_tests)))))
+            | inl second ↦
+                elim (cases_Bool (nat_lt z n)) [
+                  | inr other ↦ inl (energy.NoSuchVariable, rw (first, second, other) refl, variable (inr (inr (grind (arith, nat_tests)))))
+                  | inl third ↦
+                      let x_known : x < n = grind (arith, nat_tests) in
+                      let y_known : y < n = grind (arith, nat_tests) in
+                      let z_known : z < n = grind (arith, nat_tests) in
+                      three_known n i x y z table r first second third (same x_known y_known z_known) (range x_known y_known z_known)
+                      (λ x_y x_z y_z values. accepted (x_known, y_known, z_known, x_y, x_z, y_z, values))
+                ]
+          ]
+    ]
+
 -- a list that a reader of at most n integers gives is the whole list
 pub found : (n : ℕ) (o : Option (List ℤ)) (zs : List ℤ) → Some zs ≡ option_and_then (within n) o → o ≡ Some zs
 found n None zs e = cc
@@ -93,27 +157,27 @@ found n (Some ys) zs e = elim (cases_Bool (nat_le (length ys) n)) [
   | inr long ↦ let none = rw long at e in cc
 ]
 
--- more than two variables make no term
-pub long_on : (n i : ℕ) (on values : Option (List ℤ)) → None ≡ option_and_then (within 2) on → term_of n i on values ≡ Err (fault.BadElement Terms i)
-long_on n i None values e = refl
-long_on n i (Some []) values e = absurd (let no = e in cc)
-long_on n i (Some (x ∷ [])) values e = absurd (let no = e in cc)
-long_on n i (Some (x ∷ y ∷ [])) values e = absurd (let no = e in cc)
-long_on n i (Some (x ∷ y ∷ z ∷ on)) None e = refl
-long_on n i (Some (x ∷ y ∷ z ∷ on)) (Some values) e = refl
+-- more than eight numbers make no table
+nine_values : (n i : ℕ) (on : List ℤ) (a b c d e f g h k : ℤ) (values : List ℤ)
+    → term_from n i on (a ∷ b ∷ c ∷ d ∷ e ∷ f ∷ g ∷ h ∷ k ∷ values) ≡ Err (fault.BadElement Terms i)
+nine_values n i [] a b c d e f g h k values = refl
+nine_values n i (x ∷ []) a b c d e f g h k values = refl
+nine_values n i (x ∷ y ∷ []) a b c d e f g h k values = refl
+nine_values n i (x ∷ y ∷ z ∷ []) a b c d e f g h k values = refl
+nine_values n i (x ∷ y ∷ z ∷ w ∷ on) a b c d e f g h k values = refl
 
--- more than four numbers make no table
-pub long_values : (n i : ℕ) (on : List ℤ) (values : Option (List ℤ)) → None ≡ option_and_then (within 4) values → term_of n i (Some on) values ≡ Err (fault.BadElement Terms i)
+pub long_values : (n i : ℕ) (on : List ℤ) (values : Option (List ℤ)) → None ≡ option_and_then (within 8) values → term_of n i (Some on) values ≡ Err (fault.BadElement Terms i)
 long_values n i on None e = refl
 long_values n i on (Some []) e = absurd (let no = e in cc)
 long_values n i on (Some (a ∷ [])) e = absurd (let no = e in cc)
 long_values n i on (Some (a ∷ b ∷ [])) e = absurd (let no = e in cc)
 long_values n i on (Some (a ∷ b ∷ c ∷ [])) e = absurd (let no = e in cc)
 long_values n i on (Some (a ∷ b ∷ c ∷ d ∷ [])) e = absurd (let no = e in cc)
-long_values n i [] (Some (a ∷ b ∷ c ∷ d ∷ k ∷ values)) e = refl
-long_values n i (x ∷ []) (Some (a ∷ b ∷ c ∷ d ∷ k ∷ values)) e = refl
-long_values n i (x ∷ y ∷ []) (Some (a ∷ b ∷ c ∷ d ∷ k ∷ values)) e = refl
-long_values n i (x ∷ y ∷ z ∷ on) (Some (a ∷ b ∷ c ∷ d ∷ k ∷ values)) e = refl
+long_values n i on (Some (a ∷ b ∷ c ∷ d ∷ p ∷ [])) e = absurd (let no = e in cc)
+long_values n i on (Some (a ∷ b ∷ c ∷ d ∷ p ∷ q ∷ [])) e = absurd (let no = e in cc)
+long_values n i on (Some (a ∷ b ∷ c ∷ d ∷ p ∷ q ∷ r ∷ [])) e = absurd (let no = e in cc)
+long_values n i on (Some (a ∷ b ∷ c ∷ d ∷ p ∷ q ∷ r ∷ s ∷ [])) e = absurd (let no = e in cc)
+long_values n i on (Some (a ∷ b ∷ c ∷ d ∷ p ∷ q ∷ r ∷ s ∷ k ∷ values)) e = nine_values n i on a b c d p q r s k values
 
 -- four numbers make a table of two variables
 pub four_named : (n i : ℕ) (on : List ℤ) (x y : ℤ) (table : List ℤ) → on ≡ x ∷ y ∷ [] → length table ≡ 4
@@ -131,3 +195,25 @@ two_listed [] d e = absurd (omega arith)
 two_listed (x ∷ []) d e = absurd (omega arith)
 two_listed (x ∷ y ∷ []) d e = refl
 two_listed (x ∷ y ∷ z ∷ zs) d e = absurd (omega arith)
+
+-- eight numbers make a table of three variables
+pub eight_named : (n i : ℕ) (on : List ℤ) (x y z : ℤ) (table : List ℤ) → on ≡ x ∷ y ∷ z ∷ [] → length table ≡ 8
+    → term_from n i on table ≡ checked n i (x ∷ y ∷ z ∷ []) table (Three (unsigned_abs x) (unsigned_abs y) (unsigned_abs z) table)
+eight_named n i on x y z [] is e = absurd (omega arith)
+eight_named n i on x y z (a ∷ []) is e = absurd (omega arith)
+eight_named n i on x y z (a ∷ b ∷ []) is e = absurd (omega arith)
+eight_named n i on x y z (a ∷ b ∷ c ∷ []) is e = absurd (omega arith)
+eight_named n i on x y z (a ∷ b ∷ c ∷ d ∷ []) is e = absurd (omega arith)
+eight_named n i on x y z (a ∷ b ∷ c ∷ d ∷ p ∷ []) is e = absurd (omega arith)
+eight_named n i on x y z (a ∷ b ∷ c ∷ d ∷ p ∷ q ∷ []) is e = absurd (omega arith)
+eight_named n i on x y z (a ∷ b ∷ c ∷ d ∷ p ∷ q ∷ r ∷ []) is e = absurd (omega arith)
+eight_named n i on x y z (a ∷ b ∷ c ∷ d ∷ p ∷ q ∷ r ∷ s ∷ []) is e = rw is refl
+eight_named n i on x y z (a ∷ b ∷ c ∷ d ∷ p ∷ q ∷ r ∷ s ∷ k ∷ table) is e = absurd (omega arith)
+
+-- a list of three, by its elements
+pub three_listed : (zs : List ℤ) (d : ℤ) → length zs ≡ 3 → zs ≡ get_or zs 0 d ∷ get_or zs 1 d ∷ get_or zs 2 d ∷ []
+three_listed [] d e = absurd (omega arith)
+three_listed (x ∷ []) d e = absurd (omega arith)
+three_listed (x ∷ y ∷ []) d e = absurd (omega arith)
+three_listed (x ∷ y ∷ z ∷ []) d e = refl
+three_listed (x ∷ y ∷ z ∷ w ∷ zs) d e = absurd (omega arith)

@@ -5,7 +5,7 @@ use Rattle.std.specs.Ordering.{int_eq}
 use Rattle.toml.specs.Data.{Data, Items, no_items, item, Members, get, get_member, as_array, as_integer}
 use Rattle.pseudo_bool.specs.declared.limits.TheConstants.{VARIABLE_LIMIT, TERM_LIMIT, VALUE_LIMIT}
 use Rattle.pseudo_bool.specs.declared.term.Term.{Term}
-use Rattle.pseudo_bool.specs.declared.term.Term.TheVariants.{One, Two}
+use Rattle.pseudo_bool.specs.declared.term.Term.TheVariants.{One, Two, Three}
 use Rattle.pseudo_bool.specs.Formula.{Formula}
 use Rattle.problem_file.specs.declared.fault.ProblemFault.{ProblemFault}
 use Rattle.problem_file.specs.declared.fault.ProblemFault.TheVariants.{BadField, BadElement, NoSuchVariable, SameVariable, ValueRange, ConstantRange, TooManyTerms}
@@ -62,6 +62,8 @@ checked n i on values term =
 abbrev pub term_from : ℕ → ℕ → List ℤ → List ℤ → Result Term ProblemFault
 term_from n i (x ∷ []) (a ∷ b ∷ []) = checked n i (x ∷ []) (a ∷ b ∷ []) (One (unsigned_abs x) (a ∷ b ∷ []))
 term_from n i (x ∷ y ∷ []) (a ∷ b ∷ c ∷ d ∷ []) = checked n i (x ∷ y ∷ []) (a ∷ b ∷ c ∷ d ∷ []) (Two (unsigned_abs x) (unsigned_abs y) (a ∷ b ∷ c ∷ d ∷ []))
+term_from n i (x ∷ y ∷ z ∷ []) (a ∷ b ∷ c ∷ d ∷ e ∷ f ∷ g ∷ h ∷ []) =
+    checked n i (x ∷ y ∷ z ∷ []) (a ∷ b ∷ c ∷ d ∷ e ∷ f ∷ g ∷ h ∷ []) (Three (unsigned_abs x) (unsigned_abs y) (unsigned_abs z) (a ∷ b ∷ c ∷ d ∷ e ∷ f ∷ g ∷ h ∷ []))
 term_from n i _ _ = Err (BadElement Terms i)
 
 -- the integers of an array that has nothing else

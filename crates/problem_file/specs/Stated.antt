@@ -2,7 +2,7 @@
 use Rattle.std.specs.Prelude.{◌≡◌, ⊤, ℤ, pos, List, [], ◌∷◌, Option, Some, None, codes}
 use Rattle.toml.specs.Data.{Data, integer, array, Items, no_items, item, Members, get, get_member}
 use Rattle.pseudo_bool.specs.declared.term.Term.{Term}
-use Rattle.pseudo_bool.specs.declared.term.Term.TheVariants.{One, Two}
+use Rattle.pseudo_bool.specs.declared.term.Term.TheVariants.{One, Two, Three}
 use Rattle.pseudo_bool.specs.Formula.{Formula}
 
 -- the items that are these integers
@@ -14,6 +14,7 @@ integers (z ∷ zs) = item (integer z) (integers zs)
 abbrev pub StatesTerm : Data → Term → Type 0
 StatesTerm d (One x table) = (get (codes "on") d ≡ Some (array (integers (pos x ∷ [])))) × (get (codes "values") d ≡ Some (array (integers table)))
 StatesTerm d (Two x y table) = (get (codes "on") d ≡ Some (array (integers (pos x ∷ pos y ∷ [])))) × (get (codes "values") d ≡ Some (array (integers table)))
+StatesTerm d (Three x y z table) = (get (codes "on") d ≡ Some (array (integers (pos x ∷ pos y ∷ pos z ∷ [])))) × (get (codes "values") d ≡ Some (array (integers table)))
 
 -- the items have the terms, one each
 abbrev pub StatesTerms : Items → List Term → Type 0

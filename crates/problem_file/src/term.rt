@@ -1,7 +1,7 @@
 ghost use Rattle.std.specs.Prelude.{◌≡◌, ◌≢◌, ◌<◌, ◌≤◌, ℕ, [], ◌∷◌, false, length, unsigned_abs, pos, IfOk, IfErr, OnOk};
 ghost use Rattle.toml.specs.View.{view};
 ghost use Rattle.pseudo_bool.specs.declared.limits.TheConstants.{TERM_LIMIT, VARIABLE_LIMIT};
-ghost use Rattle.pseudo_bool.specs.declared.term.Term.TheVariants.{One, Two};
+ghost use Rattle.pseudo_bool.specs.declared.term.Term.TheVariants.{One, Two, Three};
 ghost use Rattle.problem_file.specs.declared.fault.ProblemFault.TheVariants.{NoSuchVariable, OutOfMemory};
 ghost use Rattle.problem_file.specs.Added.{Gains};
 ghost use Rattle.problem_file.specs.Problem.{checked, is_variable, term_at, term_from};
@@ -20,10 +20,10 @@ pub fn add_term(energy: &mut Energy, place: usize, item: &Value) -> Result<(), P
     ensures refused { IfErr result (λ fault. fault ≢ OutOfMemory → term_at energy.old.variables place (view item.now) ≡ Err fault) }
 {
     let shape = ProblemFault::BadElement(Field::Terms, place);
-    let Some(on) = integers_at::<2>(item, "on") else {
+    let Some(on) = integers_at::<3>(item, "on") else {
         return Err(shape);
     };
-    let Some(values) = integers_at::<4>(item, "values") else {
+    let Some(values) = integers_at::<8>(item, "values") else {
         return Err(shape);
     };
     add_listed(energy, place, &on, &values)
@@ -49,6 +49,10 @@ fn add_listed(
         },
         [first, second] => match <[i64; 4]>::try_from(values) {
             Ok(table) => add_two(energy, place, *first, *second, table),
+            Err(_) => Err(shape),
+        },
+        [first, second, third] => match <[i64; 8]>::try_from(values) {
+            Ok(table) => add_three(energy, place, *first, *second, *third, table),
             Err(_) => Err(shape),
         },
         _ => Err(shape),
@@ -85,6 +89,29 @@ fn add_two(
     let first = variable_of(place, on)?;
     let second = variable_of(place, and)?;
     match energy.add_term2(first, second, table) {
+        Ok(()) => Ok(()),
+        Err(error) => Err(refusal_of(place, error)),
+    }
+}
+
+/// Adds a term of three variables, whose numbers may be any integers.
+fn add_three(
+    energy: &mut Energy,
+    place: usize,
+    on: i64,
+    and: i64,
+    also: i64,
+    table: [i64; 8],
+) -> Result<(), ProblemFault>
+    requires variables { energy.old.variables ≤ VARIABLE_LIMIT }
+    requires room { length energy.old.terms < TERM_LIMIT }
+    ensures ok { OnOk result (Gains energy.old energy.new (checked energy.old.variables place (on ∷ and ∷ also ∷ []) table (Three (unsigned_abs on) (unsigned_abs and) (unsigned_abs also) table))) }
+    ensures refused { IfErr result (λ fault. fault ≢ OutOfMemory → checked energy.old.variables place (on ∷ and ∷ also ∷ []) table (Three (unsigned_abs on) (unsigned_abs and) (unsigned_abs also) table) ≡ Err fault) }
+{
+    let x = variable_of(place, on)?;
+    let y = variable_of(place, and)?;
+    let z = variable_of(place, also)?;
+    match energy.add_term3(x, y, z, table) {
         Ok(()) => Ok(()),
         Err(error) => Err(refusal_of(place, error)),
     }

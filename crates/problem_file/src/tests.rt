@@ -100,7 +100,17 @@ fn refuses_the_first_bad_term(rt: HostRuntime) -> Result<(), Fail> {
         ("{ on = [5], values = [0,0,0] }", shape),
         ("{ on = [0,1], values = [0,0] }", shape),
         ("{ on = [0,1], values = [0,0,0,1e9] }", shape),
-        ("{ on = [0,1,2], values = [0,0,0,0,0,0,0,0] }", shape),
+        ("{ on = [0,1,2], values = [0,0,0,0] }", shape),
+        ("{ on = [0,1,2,3], values = [0,0,0,0,0,0,0,0] }", shape),
+        ("{ on = [0,1,2], values = [0,0,0,0,0,0,0,0,0] }", shape),
+        (
+            "{ on = [0,0,2], values = [0,0,0,0,0,0,0,0] }",
+            ProblemFault::NoSuchVariable(1),
+        ),
+        (
+            "{ on = [0,1,0], values = [0,0,0,0,0,0,0,1000000001] }",
+            ProblemFault::SameVariable(1),
+        ),
         (
             "{ on = [5], values = [1000000001,0] }",
             ProblemFault::NoSuchVariable(1),

@@ -2,7 +2,7 @@ use Rattle.std.specs.Prelude.{◌≢◌, ℕ, ◌+◌, ◌*◌, ◌<◌, ◌≤�
 use Rattle.sums.specs.IntegerSums.{int_sum_by}
 use Rattle.pseudo_bool.specs.declared.limits.TheConstants.{VARIABLE_LIMIT, TERM_LIMIT, VALUE_LIMIT, CONSTANT_LIMIT}
 use Rattle.pseudo_bool.specs.declared.term.Term.{Term}
-use Rattle.pseudo_bool.specs.declared.term.Term.TheVariants.{One, Two}
+use Rattle.pseudo_bool.specs.declared.term.Term.TheVariants.{One, Two, Three}
 
 -- the number at a place of a table
 abbrev pub entry : List ℤ → ℕ → ℤ
@@ -16,6 +16,7 @@ digit b = cond b 1 0
 abbrev pub term_value : (ℕ → Bool) → Term → ℤ
 term_value x (One first table) = entry table (digit (x first))
 term_value x (Two first second table) = entry table (2 * digit (x first) + digit (x second))
+term_value x (Three first second third table) = entry table (4 * digit (x first) + 2 * digit (x second) + digit (x third))
 
 -- an energy: a constant, how many variables there are, and the terms
 pub record Formula : Type 0 where
@@ -39,6 +40,8 @@ IsWithin limit z = unsigned_abs z ≤ limit
 abbrev pub IsTerm : ℕ → Term → Type 0
 IsTerm n (One first table) = (first < n) × All (IsWithin VALUE_LIMIT) table
 IsTerm n (Two first second table) = (first < n) × (second < n) × (first ≢ second) × All (IsWithin VALUE_LIMIT) table
+IsTerm n (Three first second third table) =
+    (first < n) × (second < n) × (third < n) × (first ≢ second) × (first ≢ third) × (second ≢ third) × All (IsWithin VALUE_LIMIT) table
 
 -- what is true of every energy
 pub record IsEnergy (e : Formula) : Type 0 where

@@ -1,14 +1,35 @@
-use Rattle.std.specs.Prelude.{List, map}
+use Rattle.std.specs.Prelude.{ℕ, ◌<◌, ◌≤◌, List, [], All, length, map, slice_index_or}
 use Rattle.pseudo_bool.specs.declared.term.Term.{Term}
-use Rattle.pseudo_bool.specs.declared.term.Term.TheVariants.{One, Two}
+use Rattle.pseudo_bool.specs.declared.term.Term.TheVariants.{One, Two, Three}
 use Rattle.pseudo_bool.specs.declared.row.Row.{Row}
-use Rattle.pseudo_bool.specs.declared.row.Row.TheVariants.{One as RowOne, Two as RowTwo}
+use Rattle.pseudo_bool.specs.declared.row.Row.TheVariants.{One as RowOne, Two as RowTwo, Three as RowThree}
+use Rattle.pseudo_bool.specs.declared.row.Triple.{Triple}
+
+-- the term of a triple
+abbrev pub triple_term : Triple → Term
+triple_term t = Three t.first t.second t.third t.table
+
+-- the triple at a place
+abbrev pub triple_at : List Triple → ℕ → Triple
+triple_at triples place = slice_index_or triples place (record { first = 0; second = 0; third = 0; table = [] })
 
 -- the term that a row keeps
-abbrev pub term_of : Row → Term
-term_of (RowOne first table) = One first table
-term_of (RowTwo first second table) = Two first second table
+abbrev pub term_of : List Triple → Row → Term
+term_of triples (RowOne first table) = One first table
+term_of triples (RowTwo first second table) = Two first second table
+term_of triples (RowThree place) = triple_term (triple_at triples place)
 
 -- the terms that the rows keep
-abbrev pub terms_of : List Row → List Term
-terms_of rows = map term_of rows
+abbrev pub terms_of : List Triple → List Row → List Term
+terms_of triples rows = map (term_of triples) rows
+
+-- the triple that the row names is there
+abbrev pub IsKept : ℕ → Row → Type 0
+IsKept count (RowOne first table) = Unit {0}
+IsKept count (RowTwo first second table) = Unit {0}
+IsKept count (RowThree place) = place < count
+
+-- each triple that a row names is there, and there are no more triples than rows
+pub record AreKept (triples : List Triple) (rows : List Row) : Type 0 where
+  pub each : All (IsKept (length triples)) rows
+  pub count : length triples ≤ length rows

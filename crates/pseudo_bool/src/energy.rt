@@ -1,8 +1,8 @@
 ghost use Rattle.std.specs.Prelude.{◌≡◌, ◌≢◌, ◌+◌, ◌<◌, ◌≤◌, ◌↔◌, ◌⊎◌, [], ◌∷◌, ◌++◌, All, length, pos, ◌+ℤ◌, unsigned_abs, slice_get, IsTrue, IsOk, IfOk, IfErr, OnOk, OnErr, IsOkUnless};
 ghost use Rattle.pseudo_bool.specs.Formula.{IsEnergy, IsTerm, IsWithin, value_at, assignment};
-ghost use Rattle.pseudo_bool.specs.Rows.{term_of};
+ghost use Rattle.pseudo_bool.specs.Rows.{term_of, triple_term, IsKept};
 
-use crate::row::Row;
+use crate::row::{Row, Triple};
 use crate::{CONSTANT_LIMIT, EnergyError, TERM_LIMIT, Term, VALUE_LIMIT, VARIABLE_LIMIT};
 use std::alloc::Global;
 use std::marker::Model;
@@ -14,17 +14,19 @@ pub struct Energy {
     constant: i64,
     variables: u32,
     rows: Vec<Row>,
+    triples: Vec<Triple>,
 }
 
 impl Model for Energy {
     ghost use Rattle.pseudo_bool.specs.Formula.{Formula, IsEnergy};
-    ghost use Rattle.pseudo_bool.specs.Rows.{terms_of};
+    ghost use Rattle.pseudo_bool.specs.Rows.{terms_of, AreKept};
 
     ghost Value = { Formula };
 
-    ghost view = { λ e. record { constant = e.constant; variables = e.variables; terms = terms_of e.rows.items } };
+    ghost view = { λ e. record { constant = e.constant; variables = e.variables; terms = terms_of e.triples.items e.rows.items } };
 
-    ghost invariant = { λ e. IsEnergy (record { constant = e.constant; variables = e.variables; terms = terms_of e.rows.items }) };
+    ghost invariant = { λ e. IsEnergy (record { constant = e.constant; variables = e.variables; terms = terms_of e.triples.items e.rows.items }) ×
+        AreKept e.triples.items e.rows.items };
 }
 
 impl Energy {
@@ -36,6 +38,7 @@ impl Energy {
             constant: 0,
             variables: 0,
             rows: Vec::new(alloc),
+            triples: Vec::new(alloc),
         }
     }
 
@@ -70,7 +73,7 @@ impl Energy {
         ensures within { IsTerm self.now.variables result }
         ensures limits { IsEnergy self.now }
     {
-        self.rows[index].term()
+        self.rows[index].term(self.triples.as_slice())
     }
 
     /// A further variable, which answers its number: 0 for the first.
@@ -151,10 +154,48 @@ impl Energy {
         self.add_row(Row::Two(first, second, table))
     }
 
-    /// Adds a row, if there is room for one more.
+    /// Adds a term of three variables: the table has its numbers at 000, 001, 010, 011, 100, 101, 110 and 111.
+    pub fn add_term3(
+        &mut self,
+        first: u32,
+        second: u32,
+        third: u32,
+        table: [i64; 8],
+    ) -> Result<(), EnergyError>
+        ensures ok { OnOk result (self.new ≡ record self.old { terms = self.old.terms ++ Term.Three first second third table ∷ [] }) }
+        ensures err { OnErr result (self.new ≡ self.old) }
+
+        // The refusals, each where none before it applies.
+        ensures variable { (self.old.variables ≤ first) ⊎ (self.old.variables ≤ second) ⊎ (self.old.variables ≤ third) → result ≡ Err EnergyError.NoSuchVariable }
+        ensures same { first < self.old.variables → second < self.old.variables → third < self.old.variables →
+            (first ≡ second) ⊎ (first ≡ third) ⊎ (second ≡ third) → result ≡ Err EnergyError.SameVariable }
+        ensures range { first < self.old.variables → second < self.old.variables → third < self.old.variables →
+            first ≢ second → first ≢ third → second ≢ third → ¬ All (IsWithin VALUE_LIMIT) table → result ≡ Err EnergyError.ValueRange }
+        ensures full { IsTerm self.old.variables (Term.Three first second third table) → TERM_LIMIT ≤ length self.old.terms → result ≡ Err EnergyError.TooManyTerms }
+        ensures accepted { IsTerm self.old.variables (Term.Three first second third table) → length self.old.terms < TERM_LIMIT → IsOkUnless result EnergyError.OutOfMemory }
+    {
+        if first >= self.variables || second >= self.variables || third >= self.variables {
+            return Err(EnergyError::NoSuchVariable);
+        }
+        if first == second || first == third || second == third {
+            return Err(EnergyError::SameVariable);
+        }
+        if !are_values(&table) {
+            return Err(EnergyError::ValueRange);
+        }
+        self.add_triple(Triple {
+            first,
+            second,
+            third,
+            table,
+        })
+    }
+
+    /// Adds a row of one or two variables, if there is room for one more.
     fn add_row(&mut self, row: Row) -> Result<(), EnergyError>
-        requires { IsTerm self.old.variables (term_of row) }
-        ensures ok { OnOk result (self.new ≡ record self.old { terms = self.old.terms ++ term_of row ∷ [] }) }
+        requires term { IsTerm self.old.variables (term_of [] row) }
+        requires kept { IsKept 0 row }
+        ensures ok { OnOk result (self.new ≡ record self.old { terms = self.old.terms ++ term_of [] row ∷ [] }) }
         ensures err { OnErr result (self.new ≡ self.old) }
         ensures full { TERM_LIMIT ≤ length self.old.terms → result ≡ Err EnergyError.TooManyTerms }
         ensures accepted { length self.old.terms < TERM_LIMIT → IsOkUnless result EnergyError.OutOfMemory }
@@ -166,14 +207,33 @@ impl Energy {
         Ok(())
     }
 
+    /// Adds a triple, if there is room for one more term.
+    fn add_triple(&mut self, triple: Triple) -> Result<(), EnergyError>
+        requires { IsTerm self.old.variables (triple_term triple) }
+        ensures ok { OnOk result (self.new ≡ record self.old { terms = self.old.terms ++ triple_term triple ∷ [] }) }
+        ensures err { OnErr result (self.new ≡ self.old) }
+        ensures full { TERM_LIMIT ≤ length self.old.terms → result ≡ Err EnergyError.TooManyTerms }
+        ensures accepted { length self.old.terms < TERM_LIMIT → IsOkUnless result EnergyError.OutOfMemory }
+    {
+        if TERM_LIMIT <= self.rows.len() {
+            return Err(EnergyError::TooManyTerms);
+        }
+        let place = self.triples.len() as u32;
+        self.triples.reserve(1)?;
+        self.rows.push(Row::Three(place))?;
+        self.triples.push(triple)?;
+        Ok(())
+    }
+
     /// The value at an assignment, one bit for each variable.
     pub fn value(&self, bits: &[bool]) -> i64
         requires { length bits.now ≡ self.now.variables }
         ensures { result ≡ value_at self.now (assignment bits.now) }
     {
+        let triples = self.triples.as_slice();
         let mut total = self.constant;
         for row in &self.rows {
-            total += row.value(bits);
+            total += row.value(triples, bits);
         }
         total
     }

@@ -1,7 +1,7 @@
 ghost use Rattle.std.specs.Prelude.{◌≡◌};
 ghost use Rattle.pseudo_bool.specs.declared.error.EnergyError.TheVariants.{OutOfMemory};
 
-use std::alloc::AllocFailed;
+use std::alloc::{AllocError, AllocFailed};
 use thiserror::Error;
 
 /// Why an energy refused an addition. It is then as it was.
@@ -28,6 +28,14 @@ impl<T: Drop> From<AllocFailed<T>> for EnergyError {
     ghost from_gives = { λ _ e. e ≡ OutOfMemory };
 
     fn from(_failed: AllocFailed<T>) -> EnergyError {
+        EnergyError::OutOfMemory
+    }
+}
+
+impl From<AllocError> for EnergyError {
+    ghost from_gives = { λ _ e. e ≡ OutOfMemory };
+
+    fn from(_failed: AllocError) -> EnergyError {
         EnergyError::OutOfMemory
     }
 }

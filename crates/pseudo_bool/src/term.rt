@@ -5,4 +5,5 @@
 pub enum Term {
     One(u32, [i64; 2]),
     Two(u32, u32, [i64; 4]),
+    Three(u32, u32, u32, [i64; 8]),
 }

@@ -30,6 +30,26 @@ fn adds_the_entries_of_the_terms(rt: HostRuntime) -> Result<(), Fail> {
 }
 
 #[test]
+fn the_first_of_three_is_the_most_significant(rt: HostRuntime) -> Result<(), Fail> {
+    let mut energy = two_variables(rt.alloc())?;
+    energy.add_variable()?;
+    energy.add_term3(2, 0, 1, [10, 20, 30, 40, 50, 60, 70, 80])?;
+    energy.add_term3(0, 1, 2, [0, 100, 0, 0, 0, 0, 0, 0])?;
+    assert_eq!(rt; energy.variables(), 3);
+    assert_eq!(rt; energy.term_count(), 5);
+    assert_eq!(rt;
+        energy.term(3),
+        Term::Three(2, 0, 1, [10, 20, 30, 40, 50, 60, 70, 80])
+    );
+    assert_eq!(rt; energy.value(&[false, false, false]), 16);
+    assert_eq!(rt; energy.value(&[false, true, false]), 34);
+    assert_eq!(rt; energy.value(&[true, false, false]), 37);
+    assert_eq!(rt; energy.value(&[false, false, true]), 156);
+    assert_eq!(rt; energy.value(&[true, true, true]), 88);
+    Ok(())
+}
+
+#[test]
 fn refuses_in_order(rt: HostRuntime) -> Result<(), Fail> {
     let mut energy = two_variables(rt.alloc())?;
     let variable = Err(EnergyError::NoSuchVariable);
@@ -42,6 +62,15 @@ fn refuses_in_order(rt: HostRuntime) -> Result<(), Fail> {
     assert_eq!(rt; energy.add_term2(0, 2, [0; 4]), variable);
     assert_eq!(rt; energy.add_term2(0, 0, [0, 0, 0, 1_000_000_001]), same);
     assert_eq!(rt; energy.add_term2(0, 1, [0, 0, 0, 1_000_000_001]), range);
+    assert_eq!(rt; energy.term_count(), 3);
+    assert_eq!(rt; energy.add_term3(0, 0, 2, [0; 8]), variable);
+    energy.add_variable()?;
+    let beyond = [0, 0, 0, 0, 0, 0, 0, -1_000_000_001];
+    assert_eq!(rt; energy.add_term3(0, 3, 1, beyond), variable);
+    assert_eq!(rt; energy.add_term3(0, 2, 0, beyond), same);
+    assert_eq!(rt; energy.add_term3(2, 1, 1, beyond), same);
+    assert_eq!(rt; energy.add_term3(1, 1, 2, beyond), same);
+    assert_eq!(rt; energy.add_term3(0, 2, 1, beyond), range);
     assert_eq!(rt; energy.term_count(), 3);
     energy.add_term2(1, 0, [-1_000_000_000, 0, 0, 1_000_000_000])?;
     assert_eq!(rt; energy.term_count(), 4);
@@ -81,6 +110,10 @@ fn the_lists_have_limits(rt: HostRuntime) -> Result<(), Fail> {
         energy.add_term1(2_097_151, [1, 0])?;
     }
     assert_eq!(rt; energy.add_term1(0, [1, 0]), Err(EnergyError::TooManyTerms));
+    assert_eq!(rt;
+        energy.add_term3(0, 1, 2, [0; 8]),
+        Err(EnergyError::TooManyTerms)
+    );
     assert_eq!(rt; energy.term_count(), TERM_LIMIT);
     Ok(())
 }

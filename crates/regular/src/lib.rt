@@ -2,16 +2,17 @@
 //! (Kolmogorov and Zabih, PAMI 2004, sections 4.1 and 4.2).
 #![tactic(auto)]
 
-ghost use Rattle.std.specs.Prelude.{◌≡◌, ◌↔◌, IsTrue, IsOk, IfOk, IfErr, All, unsigned_abs, ◌≤◌, length};
-ghost use Rattle.pseudo_bool.specs.Formula.{IsEnergy, IsTerm, IsWithin};
-ghost use Rattle.regular.specs.Regularity.{IsRegular, IsRegularTerm, IsRegularTable, IsFirstFailing, FailsFirst, HasValues};
+ghost use Rattle.std.specs.Prelude.{◌≡◌, ◌↔◌, IsOk, IfOk, IfErr};
+ghost use Rattle.regular.specs.Regularity.{IsRegular, IsFirstFailing};
 
 mod fixed;
 mod regular;
+mod term;
 
 pub use fixed::{Fixed, NotRegular};
-use pseudo_bool::{Energy, Term, VALUE_LIMIT};
+use pseudo_bool::Energy;
 pub use regular::Regular;
+use term::test_term;
 
 /// Whether each term is regular by itself: if not, the first that is not.
 /// Terms are not added up, so two terms over the same variables do not make up for each other.
@@ -26,32 +27,6 @@ pub fn check(energy: &Energy) -> Result<Regular<'_>, NotRegular>
         }
     }
     Ok(Regular::new(energy))
-}
-
-/// Whether a term is regular: if not, what was fixed where it fails.
-fn test_term(term: &Term) -> Result<(), Option<Fixed>>
-    requires { HasValues term.now }
-    ensures regular { IsOk result ↔ IsRegularTerm term.now }
-    ensures first { IfErr result (FailsFirst term.now) }
-{
-    match term {
-        Term::One(_, _) => Ok(()),
-        Term::Two(_, _, table) => {
-            if is_regular_table(table) {
-                Ok(())
-            } else {
-                Err(None)
-            }
-        }
-    }
-}
-
-/// Whether a table of two variables is regular.
-fn is_regular_table(table: &[i64; 4]) -> bool
-    requires { All (IsWithin VALUE_LIMIT) table.now }
-    ensures { IsTrue result ↔ IsRegularTable table.now }
-{
-    table[0] + table[3] <= table[1] + table[2]
 }
 
 #[cfg(test)]

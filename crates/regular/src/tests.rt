@@ -1,4 +1,4 @@
-use crate::{NotRegular, check};
+use crate::{Fixed, NotRegular, check};
 use pseudo_bool::{Energy, EnergyError};
 use std::alloc::Global;
 use std::test::Fail;
@@ -28,6 +28,30 @@ fn each_term_is_tested_by_itself(rt: HostRuntime) -> Result<(), Fail> {
         fixed: None,
     };
     assert_eq!(rt; check(&energy).err(), Some(second));
+    Ok(())
+}
+
+#[test]
+fn the_first_failing_projection_is_named(rt: HostRuntime) -> Result<(), Fail> {
+    let cases = [
+        ([0, 0, 0, -1, 0, -1, 0, -1], Some((2, true))),
+        ([0, 0, 0, 1, 0, 0, 0, 0], Some((0, false))),
+        ([0, 0, 0, 0, 0, 1, 0, 0], Some((1, false))),
+        ([0, 0, 0, 0, 0, 0, 0, 1], Some((0, true))),
+        ([-1, 0, 0, 0, 0, 0, 0, 0], None),
+        ([0, 0, 0, 0, 0, 0, 0, -4], None),
+    ];
+    for (table, expected) in cases {
+        let mut energy = pairs(rt.alloc(), &[[0, 5, 5, 0]])?;
+        energy.add_variable()?;
+        energy.add_term3(2, 0, 1, table)?;
+        let found = check(&energy).err();
+        let place = expected.map(|(position, value)| NotRegular {
+            term: 1,
+            fixed: Some(Fixed { position, value }),
+        });
+        assert_eq!(rt; found, place);
+    }
     Ok(())
 }
 

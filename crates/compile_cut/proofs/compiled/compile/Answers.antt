@@ -1,6 +1,6 @@
 use Rattle.std.proofs.Common.{arith}
 use Rattle.std.proofs.lemmas.Result.{IfOk-weaker}
-use Rattle.compile_cut.proofs.Adding.{three_count-le}
+use Rattle.compile_cut.proofs.TermLemmas.{three_count-le}
 use Rattle.compile_cut.proofs.Composes.{shows_values}
 use Rattle.compile_cut.proofs.compiled.compile.Goals as goal
 

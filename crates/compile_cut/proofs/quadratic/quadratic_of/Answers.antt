@@ -1,5 +1,5 @@
 use Rattle.std.proofs.Common.{arith, ◌<◌, ◌≤◌, ◌∙◌, ap, length, unsigned_abs, w64, to_z, of_z}
-use Rattle.compile_cut.proofs.Adding.{start, step, whole_values, term-weaker, bounded-weaker, term_at}
+use Rattle.compile_cut.proofs.TermLemmas.{three_taken-le, start, step, whole_values, term-weaker, bounded-weaker, term_at}
 use Rattle.regular.specs.Regularity.{IsRegularTerm}
 use Rattle.compile_cut.proofs.PartLemmas.{passed_is}
 use Rattle.compile_cut.proofs.quadratic.quadratic_of.Goals as goal
@@ -36,3 +36,10 @@ loop-index-preserved c =
 pub returns-clause-values : goal.returns-clause-values
 returns-clause-values c =
     whole_values c.args.energy.now c.loop-index.index c.loop-index.form (omega (arith, c.loop-index-test.false, c.term_count-index-end.ensures.value)) c.loop-index.invariant.values
+
+pub add_term-requires-clause-room : goal.add_term-requires-clause-room
+add_term-requires-clause-room c =
+    let terms = three_taken-le c.loop-index.index c.args.energy.now.terms in
+    let count = c.term.ensures.limits.count in
+    let variables = c.term.ensures.limits.variables in
+    omega (arith, terms, count, variables, c.loop-index.invariant.hidden, c.loop-index-test.true, c.term_count-index-end.ensures.value)

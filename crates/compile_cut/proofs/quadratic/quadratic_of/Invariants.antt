@@ -1,4 +1,4 @@
-use Rattle.compile_cut.proofs.Adding.{HasAdded}
+use Rattle.compile_cut.proofs.TermLemmas.{HasAdded}
 use Rattle.compile_cut.proofs.quadratic.quadratic_of.Given as goal
 
 abbrev pub invariant-loop-index : goal.invariant-loop-index

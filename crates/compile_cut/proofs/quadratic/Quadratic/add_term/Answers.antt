@@ -1,5 +1,5 @@
 use Rattle.std.proofs.lemmas.Result.{on_ok_weaker}
-use Rattle.compile_cut.proofs.Adding.{adds_exactly}
+use Rattle.compile_cut.proofs.TermLemmas.{adds_exactly}
 use Rattle.compile_cut.proofs.quadratic.Quadratic.add_term.Goals as goal
 
 pub returns-in-One-clause-value : goal.returns-in-One-clause-value

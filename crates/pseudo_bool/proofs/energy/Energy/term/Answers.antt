@@ -7,8 +7,10 @@ use Rattle.pseudo_bool.proofs.energy.Energy.term.Goals as goal
 
 pub returns-clause-within : goal.returns-clause-within
 returns-clause-within c =
+    let rows = c.self.inside.rows.items in
+    let ts = c.self.inside.triples.items in
     let terms = ap (λ (e : Formula). length e.terms) c.self.view_is in
     let variables = ap (λ (e : Formula). e.variables) c.self.view_is in
-    let inside : c.args.index < length c.self.inside.rows.items = omega (arith, terms, length-map c.self.inside.rows.items term_of, c.requires) in
-    rw (c.term.ensures, ← variables)
-    (read_is_term c.self.inside.variables c.self.inside.rows.items c.args.index c.index.result.now inside c.index.ensures c.self.invariant.terms)
+    let inside : c.args.index < length rows = omega (arith, terms, length-map rows (term_of ts), c.requires) in
+    rw (c.term.ensures, c.as_slice.ensures.value, ← variables)
+    (read_is_term c.self.inside.variables ts rows c.args.index c.index.result.now inside c.index.ensures c.self.invariant.0.terms)

@@ -6,18 +6,20 @@ use Rattle.pseudo_bool.specs.Rows.{term_of}
 use Rattle.pseudo_bool.proofs.RowLemmas.{row_is_term, sum_step, whole_sum}
 use Rattle.pseudo_bool.proofs.energy.Energy.value.Goals as goal
 
-pub value-total-requires : goal.value-total-requires
-value-total-requires c =
-    let terms = rw (← c.deref-row-items.ensures.value) at c.self.invariant.terms in
+pub value-total-requires-clause-term : goal.value-total-requires-clause-term
+value-total-requires-clause-term c =
+    let terms = rw (← c.as_slice-triples.ensures.value, ← c.deref-row-items.ensures.value) at c.self.invariant.0.terms in
     let variables = ap (λ (e : Formula). e.variables) c.self.view_is in
-    rw (c.requires, ← variables) (row_is_term c.self.inside.variables c.deref-row-items.result.now c.loop-row.row-index c.loop-row-test.true terms)
+    rw (c.requires, ← variables)
+    (row_is_term c.self.inside.variables c.as_slice-triples.result.now c.deref-row-items.result.now c.loop-row.row-index c.loop-row-test.true terms)
 
 pub loop-row-preserved : goal.loop-row-preserved
 loop-row-preserved c =
     let rows = c.deref-row-items.result.now in
-    let count : length rows ≤ 8388608 = rw (c.deref-row-items.ensures.value) (omega (arith, length-map c.self.inside.rows.items term_of, c.self.invariant.count)) in
+    let ts = c.as_slice-triples.result.now in
+    let count : length rows ≤ 8388608 = rw (c.deref-row-items.ensures.value) (omega (arith, length-map c.self.inside.rows.items (term_of c.self.inside.triples.items), c.self.invariant.0.count)) in
     let step = sum_step c.args.self.now.constant (to_z w64 c.loop-row.total-bits) c.value-total.result
-    (λ row. term_value (assignment c.args.bits.now) (term_of row)) rows c.loop-row.row-index c.loop-row-test.true count
+    (λ row. term_value (assignment c.args.bits.now) (term_of ts row)) rows c.loop-row.row-index c.loop-row-test.true count
     c.loop-row.invariant.0 c.loop-row.invariant.1 c.value-total.ensures.value c.value-total.ensures.within in
     let part : FitsSigned w64 c.value-total.result = record { sfits = c.value-total.type_inv } in
     let sum : FitsSigned w64 (to_z w64 c.loop-row.total-bits +ℤ c.value-total.result) = step.fits in
@@ -25,6 +27,6 @@ loop-row-preserved c =
 
 pub returns : goal.returns
 returns c =
-    let rows = rw (← c.deref-row-items.ensures.value) at (ap (λ (e : Formula). e.terms) c.self.view_is) in
-    whole_sum c.args.self.now (assignment c.args.bits.now) c.deref-row-items.result.now c.args.self.now.constant (to_z w64 c.loop-row.total-bits)
+    let rows = rw (← c.as_slice-triples.ensures.value, ← c.deref-row-items.ensures.value) at (ap (λ (e : Formula). e.terms) c.self.view_is) in
+    whole_sum c.args.self.now (assignment c.args.bits.now) c.as_slice-triples.result.now c.deref-row-items.result.now c.args.self.now.constant (to_z w64 c.loop-row.total-bits)
     c.loop-row.row-index refl rows c.loop-row-test.false c.loop-row.invariant.0

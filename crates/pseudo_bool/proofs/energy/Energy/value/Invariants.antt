@@ -7,5 +7,5 @@ use Rattle.pseudo_bool.proofs.energy.Energy.value.Given as goal
 
 abbrev pub invariant-loop-row : goal.invariant-loop-row
 invariant-loop-row l =
-    (l.total ≡ l.fn.self.constant +ℤ int_sum_by (λ row. term_value (assignment l.bits) (term_of row)) (take l.row-index l.row-items)) ×
+    (l.total ≡ l.fn.self.constant +ℤ int_sum_by (λ row. term_value (assignment l.bits) (term_of l.triples row)) (take l.row-index l.row-items)) ×
     (unsigned_abs l.total ≤ CONSTANT_LIMIT + VALUE_LIMIT * l.row-index)

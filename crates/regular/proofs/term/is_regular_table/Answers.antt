@@ -2,7 +2,7 @@ use Rattle.std.proofs.Common.{arith, ◌≤◌, pos, ℤ, ◌≤ℤ◌, ◌+ℤ�
 use Rattle.std.proofs.lemmas.Int.{to_z-of_z}
 use Rattle.sums.proofs.IntegerSumLemmas.{within_fits, abs-add}
 use Rattle.pseudo_bool.specs.Formula.{entry}
-use Rattle.regular.proofs.is_regular_table.Goals as goal
+use Rattle.regular.proofs.term.is_regular_table.Goals as goal
 use lib.Signed.{le_z}
 
 compares : (a b c d : ℤ) → FitsSigned w64 a → FitsSigned w64 b → FitsSigned w64 c → FitsSigned w64 d

@@ -3,7 +3,7 @@ use Rattle.std.proofs.lemmas.List.{get_or_read}
 use Rattle.pseudo_bool.specs.Formula.{entry}
 use Rattle.compile_cut.proofs.PartLemmas.{constant_is}
 use Rattle.compile_cut.proofs.WeightLemmas.{weights_value-add, weight_small}
-use Rattle.compile_cut.proofs.quadratic.add_weight.Goals as goal
+use Rattle.compile_cut.proofs.adding.add_weight.Goals as goal
 
 pub returns-clause-value : goal.returns-clause-value
 returns-clause-value c x =

@@ -1,7 +1,7 @@
 -- The terms so far, added up.
 use Rattle.std.proofs.Common.{◌≡◌, ℕ, ◌+◌, ◌*◌, ◌<◌, ◌≤◌, Bool, true, false, List, [], ◌∷◌, length, take, replicate, pos, ◌+ℤ◌, unsigned_abs, sum_by, All, slice_get, Some, vec_len, refl, ◌∙◌, ap, subst, arith}
 use Rattle.std.proofs.lemmas.Int.{ints}
-use Rattle.std.proofs.lemmas.List.{take_all, get_or-replicate, length-replicate}
+use Rattle.std.proofs.lemmas.List.{take_all, get_or-replicate, length-replicate, length-take}
 use Rattle.std.proofs.lemmas.List.Elements.{All-head, All-tail, All-get_or, All-nil}
 use Rattle.std.proofs.lemmas.List.Sums.{sum_by_more, sum_by-le}
 use Rattle.std.proofs.lemmas.List.Folds.{sum_by-replicate}
@@ -9,7 +9,7 @@ use Rattle.std.proofs.lemmas.Option.{get_or_from_slice_get}
 use Rattle.sums.specs.IntegerSums.{int_sum_by, int_counted}
 use Rattle.sums.proofs.IntegerSumLemmas.{int_sum_by_more, int_sum_below-same, int_sum_below-zero}
 use Rattle.pseudo_bool.specs.declared.term.Term.{Term}
-use Rattle.pseudo_bool.specs.declared.term.Term.TheVariants.{One, Two}
+use Rattle.pseudo_bool.specs.declared.term.Term.TheVariants.{One, Two, Three}
 use Rattle.pseudo_bool.specs.Formula.{Formula, IsTerm, digit, entry, term_value}
 use Rattle.flow_network.specs.Cut.{IsArc}
 use Rattle.compile_cut.specs.declared.quadratic.Quadratic.{Quadratic}
@@ -24,6 +24,10 @@ term_value-same n (One first table) x y h s = ap (λ b. entry table (digit b)) (
 term_value-same n (Two first second table) x y h s =
     ap (λ b. entry table (2 * digit b + digit (y second))) (s first h.0)
     ∙ ap (λ b. entry table (2 * digit (x first) + digit b)) (s second h.1)
+term_value-same n (Three first second third table) x y h s =
+    ap (λ b. entry table (4 * digit b + 2 * digit (y second) + digit (y third))) (s first h.0)
+    ∙ ap (λ b. entry table (4 * digit (x first) + 2 * digit b + digit (y third))) (s second h.1)
+    ∙ ap (λ b. entry table (4 * digit (x first) + 2 * digit (x second) + digit b)) (s third h.2)
 
 pub terms_value-same : (n : ℕ) (ts : List Term) (x y : ℕ → Bool) → All (IsTerm n) ts → Shows n x y → int_sum_by (term_value y) ts ≡ int_sum_by (term_value x) ts
 terms_value-same n [] x y h s = refl
@@ -35,6 +39,7 @@ terms_value-same n (t ∷ ts) x y h s =
 pub term-weaker : (n m : ℕ) (t : Term) → n ≤ m → IsTerm n t → IsTerm m t
 term-weaker n m (One first table) l h = (omega (arith, h.0), h.1)
 term-weaker n m (Two first second table) l h = (omega (arith, h.0), omega (arith, h.1), h.2, h.3)
+term-weaker n m (Three first second third table) l h = (omega (arith, h.0), omega (arith, h.1), omega (arith, h.2), h.3, h.4, h.5, h.6)
 
 pub bounded-weaker : (i k : ℕ) (q : Quadratic) → i ≤ k → IsBounded i q → IsBounded k q
 bounded-weaker i k q l h =
@@ -133,6 +138,11 @@ whole_values e i q l says =
 three_digit-le : (t : Term) → three_digit t ≤ 1
 three_digit-le (One first table) = omega arith
 three_digit-le (Two first second table) = omega arith
+three_digit-le (Three first second third table) = omega arith
 
 pub three_count-le : (e : Formula) → three_count e ≤ length e.terms
 three_count-le e = omega (arith, sum_by-le three_digit 1 e.terms (λ k d l. three_digit-le _))
+
+pub three_taken-le : (i : ℕ) (ts : List Term) → sum_by three_digit (take i ts) ≤ i
+three_taken-le i ts =
+    omega (arith, sum_by-le three_digit 1 (take i ts) (λ k d l. three_digit-le _), length-take i ts)

@@ -1,0 +1,45 @@
+use Rattle.std.specs.Prelude.{◌≡◌, ℕ, suc, ◌+◌, ◌*◌, ◌≤◌, Bool, not, ◌&&◌, List, ℤ, pos, negsuc, ◌+ℤ◌, ◌-ℤ◌, ◌≤ℤ◌, unsigned_abs}
+use Rattle.sums.specs.Sums.{counted}
+use Rattle.sums.specs.IntegerSums.{int_counted}
+use Rattle.pseudo_bool.specs.Formula.{entry, digit}
+use Rattle.compile_cut.specs.declared.three.ThreePart.{ThreePart}
+
+-- the coefficient of the product of the three variables, in the polynomial that a table is
+abbrev pub cubic_weight : List ℤ → ℤ
+cubic_weight table =
+    (entry table 1 +ℤ entry table 2 -ℤ entry table 0 -ℤ entry table 3) +ℤ (entry table 4 +ℤ entry table 7 -ℤ entry table 5 -ℤ entry table 6)
+
+-- what the arcs between a hidden node of this weight and three others carry into a set:
+-- where the weight is above 0 they lead to the three, and where it is below 0 to the hidden node
+abbrev pub hidden_value : ℤ → Bool → Bool → Bool → Bool → ℕ
+hidden_value (pos n) w x y z = counted (x && not w) n + counted (y && not w) n + counted (z && not w) n
+hidden_value (negsuc n) w x y z = counted (w && not x) (suc n) + counted (w && not y) (suc n) + counted (w && not z) (suc n)
+
+-- the value of the parts, where the hidden node's arcs carry this much
+abbrev pub part_sum : ThreePart → Bool → Bool → Bool → Bool → ℕ → ℤ
+part_sum p w x y z carried =
+    p.constant +ℤ int_counted x p.first +ℤ int_counted y p.second +ℤ int_counted z p.third +ℤ int_counted w p.hidden
+    +ℤ pos (counted (y && not x) p.first_second + counted (z && not x) p.first_third + counted (z && not y) p.second_third + carried)
+
+-- the value of the parts, where the hidden node is in the set or not
+abbrev pub part_value : ThreePart → Bool → Bool → Bool → Bool → ℤ
+part_value p w x y z = part_sum p w x y z (hidden_value p.hidden w x y z)
+
+-- what a table of three variables has at their values
+abbrev pub entry_of_three : List ℤ → Bool → Bool → Bool → ℤ
+entry_of_three table x y z = entry table (4 * digit x + 2 * digit y + digit z)
+
+-- what the table has is the least value of the parts over the hidden node
+pub record IsLeastOverHidden (table : List ℤ) (p : ThreePart) : Type 0 where
+  pub lower : (w x y z : Bool) → entry_of_three table x y z ≤ℤ part_value p w x y z
+  pub reached : (x y z : Bool) → (w : Bool) × (part_value p w x y z ≡ entry_of_three table x y z)
+
+-- the parts are small
+pub record IsSmall (p : ThreePart) : Type 0 where
+  pub constant : unsigned_abs p.constant ≤ 1000000000
+  pub first : unsigned_abs p.first ≤ 8000000000
+  pub second : unsigned_abs p.second ≤ 2000000000
+  pub third : unsigned_abs p.third ≤ 8000000000
+  pub outer : unsigned_abs p.first + unsigned_abs p.third ≤ 10000000000
+  pub hidden : unsigned_abs p.hidden ≤ 8000000000
+  pub arcs : p.first_second + p.first_third + p.second_third ≤ 12000000000

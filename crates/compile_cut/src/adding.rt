@@ -1,0 +1,104 @@
+ghost use Rattle.std.specs.Prelude.{◌≡◌, ℕ, ◌+◌, ◌*◌, ◌<◌, ◌≤◌, Bool, not, ◌&&◌, All, ◌+ℤ◌, unsigned_abs, vec_len, OnOk};
+ghost use Rattle.sums.specs.Sums.{counted};
+ghost use Rattle.sums.specs.IntegerSums.{int_counted};
+ghost use Rattle.flow_network.specs.Cut.{IsArc};
+ghost use Rattle.compile_cut.specs.Weights.{weights_value, weights_size, arcs_value, arcs_size, IsAbove};
+ghost use Rattle.compile_cut.specs.Three.{hidden_value, IsSmall};
+
+use crate::three::ThreePart;
+use flow_network::Arc;
+use pseudo_bool::VALUE_LIMIT;
+use std::alloc::AllocError;
+
+/// Adds to one of the weights.
+pub fn add_weight(weights: &mut Vec<i64>, at: u32, by: i64)
+    requires at { at < vec_len weights.old }
+    requires small { weights_size weights.old.items ≤ 1000000000000000000 }
+    requires step { unsigned_abs by ≤ 8 * VALUE_LIMIT }
+    ensures len { vec_len weights.new ≡ vec_len weights.old }
+    ensures value { (x : ℕ → Bool) → weights_value weights.new.items x ≡ weights_value weights.old.items x +ℤ int_counted (x at) by }
+    ensures size { weights_size weights.new.items ≤ weights_size weights.old.items + unsigned_abs by }
+{
+    weights[at as usize] += by;
+}
+
+/// Adds an arc, if it carries anything.
+pub fn add_arc(arcs: &mut Vec<Arc>, from: u32, to: u32, capacity: u64) -> Result<(), AllocError>
+    ensures value { OnOk result ((x : ℕ → Bool) → arcs_value arcs.new.items x ≡ arcs_value arcs.old.items x + counted (x to && not (x from)) capacity) }
+    ensures size { OnOk result (arcs_size arcs.new.items ≡ arcs_size arcs.old.items + capacity) }
+    ensures nodes { OnOk result ((n : ℕ) → from < n → to < n → All (IsArc n) arcs.old.items → All (IsArc n) arcs.new.items) }
+    ensures above { OnOk result (All IsAbove arcs.old.items → All IsAbove arcs.new.items) }
+{
+    if capacity > 0 {
+        arcs.push(Arc { from, to, capacity })?;
+    }
+    Ok(())
+}
+
+/// The numbers of three variables.
+#[derive(Clone, Copy)]
+pub struct Nodes {
+    pub first: u32,
+    pub second: u32,
+    pub third: u32,
+}
+
+/// Adds the weights of three variables.
+pub fn add_three_weights(weights: &mut Vec<i64>, nodes: Nodes, part: &ThreePart)
+    requires first { nodes.first < vec_len weights.old }
+    requires second { nodes.second < vec_len weights.old }
+    requires third { nodes.third < vec_len weights.old }
+    requires room { weights_size weights.old.items ≤ 900000000000000000 }
+    requires small { IsSmall part.now }
+    ensures len { vec_len weights.new ≡ vec_len weights.old }
+    ensures value { (x : ℕ → Bool) → weights_value weights.new.items x ≡ weights_value weights.old.items x +ℤ int_counted (x nodes.first) part.now.first
+        +ℤ int_counted (x nodes.second) part.now.second +ℤ int_counted (x nodes.third) part.now.third }
+    ensures size { weights_size weights.new.items ≤ weights_size weights.old.items + 12000000000 }
+{
+    add_weight(weights, nodes.first, part.first);
+    add_weight(weights, nodes.second, part.second);
+    add_weight(weights, nodes.third, part.third);
+}
+
+/// Adds the arcs among three variables, each from an earlier to a later.
+pub fn add_three_arcs(arcs: &mut Vec<Arc>, nodes: Nodes, part: &ThreePart) -> Result<(), AllocError>
+    ensures value { OnOk result ((x : ℕ → Bool) → arcs_value arcs.new.items x ≡ arcs_value arcs.old.items x
+        + counted (x nodes.second && not (x nodes.first)) part.now.first_second
+        + counted (x nodes.third && not (x nodes.first)) part.now.first_third
+        + counted (x nodes.third && not (x nodes.second)) part.now.second_third) }
+    ensures size { OnOk result (arcs_size arcs.new.items ≡ arcs_size arcs.old.items + part.now.first_second + part.now.first_third + part.now.second_third) }
+    ensures nodes { OnOk result ((n : ℕ) → nodes.first < n → nodes.second < n → nodes.third < n → All (IsArc n) arcs.old.items → All (IsArc n) arcs.new.items) }
+    ensures above { OnOk result (All IsAbove arcs.old.items → All IsAbove arcs.new.items) }
+{
+    add_arc(arcs, nodes.first, nodes.second, part.first_second)?;
+    add_arc(arcs, nodes.first, nodes.third, part.first_third)?;
+    add_arc(arcs, nodes.second, nodes.third, part.second_third)?;
+    Ok(())
+}
+
+/// Adds the arcs between a hidden node of this weight and three variables:
+/// from the hidden node where the weight is above 0, and else to it.
+pub fn add_hidden_arcs(
+    arcs: &mut Vec<Arc>,
+    hidden: u32,
+    nodes: Nodes,
+    weight: i64,
+) -> Result<(), AllocError>
+    ensures value { OnOk result ((x : ℕ → Bool) → arcs_value arcs.new.items x ≡ arcs_value arcs.old.items x
+        + hidden_value weight (x hidden) (x nodes.first) (x nodes.second) (x nodes.third)) }
+    ensures size { OnOk result (arcs_size arcs.new.items ≡ arcs_size arcs.old.items + 3 * unsigned_abs weight) }
+    ensures nodes { OnOk result ((n : ℕ) → hidden < n → nodes.first < n → nodes.second < n → nodes.third < n → All (IsArc n) arcs.old.items → All (IsArc n) arcs.new.items) }
+    ensures above { OnOk result (All IsAbove arcs.old.items → All IsAbove arcs.new.items) }
+{
+    let capacity = weight.unsigned_abs();
+    if weight > 0 {
+        add_arc(arcs, hidden, nodes.first, capacity)?;
+        add_arc(arcs, hidden, nodes.second, capacity)?;
+        add_arc(arcs, hidden, nodes.third, capacity)?;
+        return Ok(());
+    }
+    add_arc(arcs, nodes.first, hidden, capacity)?;
+    add_arc(arcs, nodes.second, hidden, capacity)?;
+    add_arc(arcs, nodes.third, hidden, capacity)?;
+    Ok(())
+}
