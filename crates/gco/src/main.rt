@@ -1,25 +1,28 @@
 //! The program `gco`: one run over the standard streams.
 #![tactic(auto)]
 
+use byte_streams::Watched;
 use gco_cli::{refuse_argument, refuse_memory, run};
-use std::env;
 use std::io::ErrorKind;
 use std::process::ExitCode;
+use std::rt::Env;
+use std::{env, io};
 
 fn main(rt: HostRuntime) -> ExitCode {
-    let arguments = match env::args(&rt) {
-        Ok(arguments) => arguments,
+    let words = match words_of(&rt) {
+        Ok(words) => words,
         Err(error) => {
+            let mut stderr = rt.stderr();
+            let mut faults = Watched {
+                writer: &mut stderr,
+                has_failed: false,
+            };
             let status = match error.kind() {
-                ErrorKind::InvalidData => refuse_argument(&mut rt.stderr()),
-                _ => refuse_memory(&mut rt.stderr()),
+                ErrorKind::InvalidData => refuse_argument(&mut faults),
+                _ => refuse_memory(&mut faults),
             };
             return ExitCode::from(status);
         }
-    };
-    let words: Vec<String> = match arguments.collect(rt.alloc()) {
-        Ok(words) => words,
-        Err(_) => return ExitCode::from(refuse_memory(&mut rt.stderr())),
     };
     let status = run(
         &rt,
@@ -29,4 +32,10 @@ fn main(rt: HostRuntime) -> ExitCode {
         &mut rt.stderr(),
     );
     ExitCode::from(status)
+}
+
+// The words of the command line. `InvalidData` says that one is not text, and any other error that
+// memory was refused.
+fn words_of(rt: &(impl Env + AllocGlobal)) -> io::Result<Vec<String>> {
+    Ok(env::args(rt)?.collect(rt.alloc())?)
 }

@@ -1,8 +1,7 @@
 -- The faults of a problem file are those of the input.
-use Rattle.std.proofs.Common.{◌≡◌, ◌≢◌, ◌≤◌, ℕ, Bool, List, length, Option, None, Some, Result, Err, IfSome, IsUtf8, refl, subst}
+use Rattle.std.proofs.Common.{◌≡◌, ◌≢◌, ◌≤◌, ℕ, Bool, List, length, Option, None, Some, Err, IfSome, IsUtf8, refl, subst}
 use Rattle.byte_streams.specs.declared.input.TheConstants.{INPUT_LIMIT}
 use Rattle.problem_file.specs.Text.{energy_in}
-use Rattle.problem_file.specs.declared.fault.Field.{Field}
 use Rattle.problem_file.specs.declared.fault.ProblemFault.{ProblemFault}
 use Rattle.problem_file.specs.declared.fault.ProblemFault.TheVariants.{OutOfMemory, BadToml, BadField, BadElement, NoSuchVariable, SameVariable, ValueRange, ConstantRange, TooManyTerms}
 use Rattle.gco_cli.specs.Faults.{IsFaultOf, StandsFor, fault_of_problem}

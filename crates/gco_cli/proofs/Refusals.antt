@@ -1,9 +1,9 @@
 -- How the parts of a run join.
-use Rattle.std.proofs.Common.{◌≡◌, ℕ, Bool, true, List, ◌⊎◌, inl, inr, Option, None, Some, refl}
-use Rattle.std.specs.Io.KnownBytes.{Appends, Keeps}
+use Rattle.std.proofs.Common.{ℕ, Bool, true, List, inl, inr, Option, None, Some, refl}
+use Rattle.std.specs.Io.KnownBytes.{Keeps}
 use Rattle.fault_lines.specs.FaultLine.{fault_line}
 use Rattle.fault_lines.specs.declared.Fault.{Fault}
-use Rattle.fault_lines.specs.declared.Fault.TheVariants.{OutOfMemory, WriteFailed, NoSuchVariable, SameVariable, ValueRange, ConstantRange, TooManyTerms, NotRegular, BadToml, BadField, BadElement, ReadFailed, InputTooLong}
+use Rattle.fault_lines.specs.declared.Fault.TheVariants.{OutOfMemory, WriteFailed, ReadFailed}
 use Rattle.gco_cli.specs.Faults.{StandsFor}
 use Rattle.clap.specs.Words.{Text, kind_of}
 use Rattle.command_line.specs.Task.{Asks, IsNoTaskFor}
@@ -11,17 +11,13 @@ use Rattle.command_line.specs.declared.Task.{Task}
 use Rattle.command_line.specs.declared.Task.TheVariants.{Energy}
 use Rattle.command_line.specs.declared.NoTask.{NoTask}
 use Rattle.command_line.specs.declared.NoTask.TheVariants.{OutOfMemory as NoMemory, Command, NoWork}
-use Rattle.gco_cli.specs.Run.{IsCommandFault, IsRefusedLine, Prints, Refuses, Says, Stands, Stops, Took}
+use Rattle.gco_cli.specs.Run.{IsCommandFault, IsRefusedLine, Refuses, Says, Stands, Stops, Took}
 
 pub kept : (held : Option (List ℕ)) → Keeps held held
 kept None = tt
 kept (Some bytes) = refl
 
 -- what is due, and what stands, may be replaced by what follows
-pub Prints-weaker : (Due Due' : List ℕ → Type 0) (old new : Option (List ℕ)) → ((text : List ℕ) → Due text → Due' text)
-    → Prints Due old new → Prints Due' old new
-Prints-weaker Due Due' old new due p = (p.0, due p.0 p.1, p.2)
-
 pub Refuses-weaker : (Due Due' : List ℕ → Type 0) (Is Is' : Fault → Type 0) (old new : Option (List ℕ)) (failed : Bool) (fault : Fault)
     → ((text : List ℕ) → Due text → Due' text) → ((f : Fault) → Is f → Is' f)
     → Refuses Due Is old new failed fault → Refuses Due' Is' old new failed fault

@@ -1,5 +1,5 @@
 -- The faults that stand for an input.
-use Rattle.std.specs.Prelude.{◌≡◌, ◌≤◌, ◌<◌, ⊤, ℕ, Bool, true, List, Option, Some, None, Err, IfSome, IsUtf8, length, option_map}
+use Rattle.std.specs.Prelude.{◌≡◌, ◌≤◌, ◌<◌, ⊤, ℕ, Bool, true, List, Option, Err, IfSome, IsUtf8, length, option_map}
 use Rattle.byte_streams.specs.declared.input.TheConstants.{INPUT_LIMIT}
 use Rattle.pseudo_bool.specs.Formula.{Formula}
 use Rattle.regular.specs.Regularity.{IsFirstFailing}

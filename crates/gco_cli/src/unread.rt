@@ -1,29 +1,28 @@
 //! Where the words of the command line could not be had.
-ghost use Rattle.std.specs.Prelude.{◌≡◌, codes, true};
+ghost use Rattle.std.specs.Prelude.{◌≡◌, codes};
 ghost use Rattle.fault_lines.specs.FaultLine.{fault_line};
 ghost use Rattle.gco_cli.specs.Run.{Took};
 
-use byte_streams::write_text;
+use byte_streams::{Sink, put_text};
 use fault_lines::{Fault, line_of};
-use std::io::Write;
 
 /// Says that memory was refused, and answers the exit status.
-pub fn refuse_memory<E: Write>(faults: &mut E) -> u8
-    ensures said { Took (E.contents faults.old) (E.contents faults.new) true
+pub fn refuse_memory<E: Sink>(faults: &mut E) -> u8
+    ensures said { Took (E.held faults.old) (E.held faults.new) (E.has_failed faults.new)
         (fault_line Fault.OutOfMemory) }
     ensures status { result ≡ 1 }
 {
     let line = line_of(Fault::OutOfMemory);
-    let _ = write_text(faults, line.as_str().as_bytes());
+    let _ = put_text(faults, line.as_str().as_bytes());
     1
 }
 
 /// Says that an argument is not text, and answers the exit status.
-pub fn refuse_argument<E: Write>(faults: &mut E) -> u8
-    ensures said { Took (E.contents faults.old) (E.contents faults.new) true
+pub fn refuse_argument<E: Sink>(faults: &mut E) -> u8
+    ensures said { Took (E.held faults.old) (E.held faults.new) (E.has_failed faults.new)
         (codes "error: an argument is not text\n") }
     ensures status { result ≡ 2 }
 {
-    let _ = write_text(faults, b"error: an argument is not text\n");
+    let _ = put_text(faults, b"error: an argument is not text\n");
     2
 }

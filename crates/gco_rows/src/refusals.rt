@@ -1,5 +1,6 @@
 //! Inputs and words that are refused.
 use crate::streams::{CutWriter, expect_energy};
+use byte_streams::Watched;
 use gco_cli::{refuse_argument, refuse_memory, run};
 use std::process::Abort;
 
@@ -148,10 +149,13 @@ fn words(rt: HostRuntime) {
 
 #[test]
 fn words_that_were_not_read(rt: HostRuntime) {
-    let mut faults = CutWriter::ample();
+    let mut writer = CutWriter::ample();
+    let mut faults = Watched {
+        writer: &mut writer,
+        has_failed: false,
+    };
     assert_eq!(rt; refuse_memory(&mut faults), 1);
-    assert!(rt; faults.held.as_slice() == b"refused 0\n".as_slice());
-    let mut faults = CutWriter::ample();
     assert_eq!(rt; refuse_argument(&mut faults), 2);
-    assert!(rt; faults.held.as_slice() == b"error: an argument is not text\n".as_slice());
+    let said = b"refused 0\nerror: an argument is not text\n";
+    assert!(rt; writer.held.as_slice() == said.as_slice());
 }

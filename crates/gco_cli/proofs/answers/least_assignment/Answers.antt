@@ -1,4 +1,4 @@
-use Rattle.std.proofs.Common.{◌≡◌, ◌∙◌, ap, arith}
+use Rattle.std.proofs.Common.{◌∙◌, ap, arith}
 use Rattle.flow_network.specs.Answer.{side_of}
 use Rattle.pseudo_bool.specs.Formula.{Formula, assignment}
 use Rattle.gco_cli.proofs.Best.{best_of_cut, front_shows}

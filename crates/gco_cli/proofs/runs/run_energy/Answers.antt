@@ -1,4 +1,3 @@
-use Rattle.std.proofs.Common.{◌≡◌}
 use Rattle.gco_cli.specs.Faults.{StandsFor}
 use Rattle.gco_cli.specs.Run.{AnswersKnown}
 use Rattle.gco_cli.proofs.Refusals.{stopped}

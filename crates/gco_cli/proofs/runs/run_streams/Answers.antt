@@ -1,4 +1,4 @@
-use Rattle.std.proofs.Common.{◌≡◌, inr, map}
+use Rattle.std.proofs.Common.{inr, map}
 use Rattle.gco_cli.specs.Faults.{StandsFor}
 use Rattle.gco_cli.specs.Run.{AnswersKnown, IsDue, Stands}
 use Rattle.gco_cli.proofs.Refusals.{Refuses-weaker, asked, energy_asked, refused_line}

@@ -1,4 +1,3 @@
-use Rattle.std.proofs.Common.{◌≡◌}
 use Rattle.gco_cli.proofs.Refusals.{may_fail}
 use Rattle.gco_cli.proofs.runs.run_watched.Goals as goal
 
