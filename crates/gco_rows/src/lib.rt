@@ -1,4 +1,4 @@
-//! Tests of whole runs of `gco`, in memory: worked rows, writers that stop, readers that fail.
+//! Tests of whole runs of `gco`, in memory: answers worked by hand, writers that stop, readers that fail.
 #![tactic(auto)]
 
 #[cfg(test)]
