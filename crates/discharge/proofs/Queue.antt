@@ -43,5 +43,5 @@ all_done net w none h v lv low = elim (cases_lt 0 (slice_index w.excess.items v)
       let inside = h v lv (λ e. absurd (omega arith)) some low in
       let empty = rw none at inside in
       absurd (omega (arith, empty.1))
-  | inr zeroed ↦ omega arith
+  | inr spent ↦ omega arith
 ]

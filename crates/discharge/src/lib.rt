@@ -1,4 +1,4 @@
-// A least cut of a net by the preflow method, proved to be the smallest one.
+//! A least cut of a net by the preflow method, proved to be the smallest one.
 #![tactic(auto)]
 
 mod pushes;

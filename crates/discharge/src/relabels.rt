@@ -7,7 +7,7 @@ ghost use Rattle.discharge.specs.State.{IsWork, IsStep, IsStuck, IsLowest};
 
 use crate::work::Work;
 use flow_network::Net;
-use sink_distances::Adjacency;
+use sink_distances::{Adjacency, top_label};
 
 /// The lesser of a label and one more than that to which the arc leads, where it has room.
 fn lower_forward(net: &Net, work: &Work, k: usize, least: u32) -> u32
@@ -52,7 +52,7 @@ fn highest_label(net: &Net, adjacency: &Adjacency, work: &Work, v: usize) -> u32
     ensures lowest { IsLowest net.now work.now v result }
     ensures limits { IsNet net.now }
 {
-    let mut least = net.nodes() as u32 + 2;
+    let mut least = top_label(net);
     'out: for p in adjacency.out.starts[v]..adjacency.out.starts[v + 1] {
         least = lower_forward(net, work, adjacency.out.places[p], least);
     }

@@ -8,7 +8,7 @@ use crate::pushes::push_all;
 use crate::relabels::relabel;
 use crate::work::{Work, raise_all};
 use flow_network::Net;
-use sink_distances::Adjacency;
+use sink_distances::{Adjacency, top_label};
 use std::alloc::{AllocError, Global};
 
 /// Pushes and new labels until the node has no excess, or its label says that it has no path to the sink.
@@ -24,7 +24,7 @@ pub fn discharge(
     ensures steps { OnOk result (IsSteps net.now v work.old work.new) }
     ensures done { OnOk result (slice_index work.new.labels.items v < top net.now → slice_index work.new.excess.items v ≡ 0) }
 {
-    let top = net.nodes() as u32 + 2;
+    let top = top_label(net);
     push_all(net, adjacency, work, v)?;
     'steps: while work.excess[v] > 0 && work.labels[v] < top {
         relabel(net, adjacency, work, v);

@@ -18,7 +18,7 @@ pub struct Work {
     pub sink_flow: Vec<u64>,
     /// What each node has got and not passed on.
     pub excess: Vec<u64>,
-    /// Of each node at most the number of residual directions that lead to the sink, or the number of nodes and 2.
+    /// Of each node at most the number of residual directions that lead to the sink, or `top_label`.
     pub labels: Vec<u32>,
     /// Nodes that had excess when they came, in the order of their turns.
     pub queue: VecDeque<u32>,

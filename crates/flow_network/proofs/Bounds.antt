@@ -1,9 +1,9 @@
 -- Sums that the code makes stay below the capacities together.
 use Rattle.std.proofs.Common.{◌≡◌, ◌≢◌, ◌↔◌, IsTrue, eqb, Result, Ok, Err, IfOk, ℕ, zero, suc, ◌+◌, ◌<◌, ◌≤◌, Bool, true, false, not, List, length, get_or, slice_index, sum, sum_by, take, sym, ◌∙◌, ap, arith}
-use Rattle.std.proofs.lemmas.List.Sums.{sum_by_more_le_part}
+use Rattle.std.proofs.lemmas.List.Sums.{sum_by_more_le_part, sum_by-le-sum_by}
 use Rattle.sums.specs.Sums.{sum_below, counted}
 use Rattle.flow_network.specs.declared.arc.Arc.{Arc}
-use Rattle.flow_network.specs.Cut.{Network, nodes, capacity_of}
+use Rattle.flow_network.specs.Cut.{Network, nodes, enters, capacity_of, total_capacity, IsNet}
 use Rattle.flow_network.specs.declared.solved.Solved.{Solved}
 use Rattle.flow_network.specs.Answer.{flow_of, side_of, IsRightCut}
 use Rattle.std.proofs.lemmas.Bool.{eqb-true, eq-eqb}
@@ -75,6 +75,15 @@ pub arcs-more-le : (arcs : List Arc) (b : Arc → Bool) (k : ℕ) → k < length
 arcs-more-le arcs b k l =
     sum_by_more_le_part (λ (arc : Arc). counted (b arc) arc.capacity) (λ arc. arc.capacity) arcs k (record { from = 0; to = 0; capacity = 0 }) l
     (λ arc. counted-le (b arc) arc.capacity)
+
+-- no cut can do more than all capacities together
+pub capacity-le-total : (net : Network) (side : ℕ → Bool) → IsNet net → capacity_of net side ≤ total_capacity net
+capacity-le-total net side h =
+    omega (
+      arith,
+      sides-all-le net.sources net.sinks side h.same,
+      sum_by-le-sum_by (λ arc. counted (enters side arc) arc.capacity) (λ arc. arc.capacity) net.arcs (λ arc. counted-le (enters side arc) arc.capacity),
+    )
 
 -- a preflow whose value is told: what is left to test
 pub certified_test : (net : Network) (flow : Flow) (side : ℕ → Bool) (value : ℕ) → IsPreflow net flow → sum flow.sinks ≡ value

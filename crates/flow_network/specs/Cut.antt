@@ -1,8 +1,8 @@
--- Nets and cuts (Ford, Fulkerson 1962, chapter I; Boykov, Veksler, Zabih 2001, section 4).
+-- Nets and cuts (Ford, Fulkerson 1956; Boykov, Veksler, Zabih 2001, section 3).
 use Rattle.std.specs.Prelude.{◌≡◌, ℕ, ◌+◌, ◌<◌, ◌≤◌, Bool, true, false, not, ◌&&◌, List, length, slice_index, slice_index_or, sum, sum_by, All}
 use Rattle.sums.specs.Sums.{sum_below, counted}
 use Rattle.flow_network.specs.declared.arc.Arc.{Arc}
-use Rattle.flow_network.specs.declared.limits.TheConstants.{MOST_NODES, CAPACITY_LIMIT}
+use Rattle.flow_network.specs.Limits.{node_limit, capacity_limit}
 
 -- a net: of each node what the source can send it and what it can send the sink, and the arcs
 pub record Network : Type 0 where
@@ -59,6 +59,6 @@ total_capacity net = sum net.sources + sum net.sinks + sum_by (λ arc. arc.capac
 -- what is true of every net: a number for each node in both lists, arcs between nodes, and the limits
 pub record IsNet (net : Network) : Type 0 where
   pub same : length net.sinks ≡ length net.sources
-  pub count : length net.sources ≤ MOST_NODES
+  pub count : length net.sources ≤ node_limit
   pub arcs : All (IsArc (length net.sources)) net.arcs
-  pub total : total_capacity net < CAPACITY_LIMIT
+  pub total : total_capacity net ≤ capacity_limit

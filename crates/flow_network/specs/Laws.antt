@@ -3,7 +3,7 @@ use Rattle.std.specs.Prelude.{◌≡◌, ℕ, ◌≤◌, ◌<◌, Bool, true}
 use Rattle.flow_network.specs.Cut.{Network, nodes, capacity_of, IsNet, IsLeastCut, IsSmallestLeastCut}
 use Rattle.flow_network.specs.Preflow.{Flow, IsPreflow, IsCertified, IsReach, excess, sink_gets}
 
--- what the sink gets by a preflow is at most the capacity of each cut (Ford, Fulkerson 1962, chapter I)
+-- what the sink gets by a preflow is at most the capacity of each cut (Ford, Fulkerson 1956)
 abbrev pub SinkGetsAtMostEachCut : Type 0
 SinkGetsAtMostEachCut =
     (net : Network) (flow : Flow) (side : ℕ → Bool) → IsNet net → IsPreflow net flow
@@ -14,7 +14,7 @@ pub record IsLeastCutOf (net : Network) (side : ℕ → Bool) (value : ℕ) : Ty
   pub least : IsLeastCut net side
   pub capacity : value ≡ capacity_of net side
 
--- a certified cut is a least cut, and the value its capacity (Ford, Fulkerson 1962, chapter I)
+-- a certified cut is a least cut, and the value its capacity (Ford, Fulkerson 1956)
 abbrev pub CertifiedIsLeast : Type 0
 CertifiedIsLeast =
     (net : Network) (flow : Flow) (side : ℕ → Bool) (value : ℕ) → IsNet net

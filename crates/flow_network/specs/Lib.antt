@@ -1,3 +1,4 @@
+pub mod Limits
 pub mod Cut
 pub mod Preflow
 pub mod Labels

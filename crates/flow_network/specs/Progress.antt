@@ -5,9 +5,14 @@ use Rattle.flow_network.specs.Cut.{Network, nodes, total_capacity}
 use Rattle.flow_network.specs.Preflow.{Flow, excess, IsPreflow}
 use Rattle.flow_network.specs.Labels.{IsLabelling}
 
--- the label of a node that is given up: above each path's length
+-- the label of a node that is cut off from the sink, where there are so many nodes: two more than they are, above the
+-- length of every path
+abbrev pub top_label : ℕ → ℕ
+top_label count = count + 2
+
+-- that label in a net
 abbrev pub top : Network → ℕ
-top net = nodes net + 2
+top net = top_label (nodes net)
 
 -- a preflow, its excess in a list, and labels that fit it
 pub record IsSound (net : Network) (flow : Flow) (kept labels : List ℕ) : Type 0 where

@@ -1,5 +1,6 @@
-ghost use Rattle.std.specs.Prelude.{◌≡◌, ◌+◌, ◌<◌, ◌≤◌, ◌^◌, ◌↔◌, ℕ, IfOk, IsTrue, length, sum, slice_index, not};
+ghost use Rattle.std.specs.Prelude.{◌≡◌, ◌+◌, ◌<◌, ◌≤◌, ◌↔◌, ℕ, IfOk, IsTrue, length, sum, slice_index, not};
 ghost use Rattle.sums.specs.Sums.{sum_below, counted};
+ghost use Rattle.flow_network.specs.Limits.{capacity_limit};
 ghost use Rattle.flow_network.specs.Cut.{nodes, set_of, capacity_of, IsNet};
 ghost use Rattle.flow_network.specs.Preflow.{flow_by, gets, gives, IsWithinArcs, IsWithinSinks, IsPreflow, IsCertified};
 ghost use Rattle.flow_network.specs.Answer.{IsRightCut, side_of};
@@ -102,7 +103,7 @@ fn is_preflow(
 fn nodes_capacity(sources: &[u64], sinks: &[u64], side: &[bool]) -> u64
     requires len { length side.now ≡ length sources.now }
     requires sinks_len { length sinks.now ≡ length sources.now }
-    requires small { sum sources.now + sum sinks.now < 2 ^ 62 }
+    requires small { sum sources.now + sum sinks.now ≤ capacity_limit }
     ensures { result ≡
         sum_below (length sources.now) (λ v. counted (set_of side.now v) (slice_index sources.now v)) +
         sum_below (length sources.now) (λ v. counted (not (set_of side.now v)) (slice_index sinks.now v)) }
@@ -116,7 +117,7 @@ fn nodes_capacity(sources: &[u64], sinks: &[u64], side: &[bool]) -> u64
 
 /// The capacity of the cut that the bits tell, one for each node, `true` on the sink's side: what
 /// the source can send the nodes there, what the others can send the sink, and the capacities of
-/// the arcs from the others to the nodes there (Boykov, Veksler, Zabih 2001, section 4).
+/// the arcs from the others to the nodes there (Boykov, Veksler, Zabih 2001, section 3).
 pub fn cut_capacity(net: &Net, side: &[bool]) -> u64
     requires { length side.now ≡ nodes net.now }
     ensures { result ≡ capacity_of net.now (set_of side.now) }
@@ -132,7 +133,7 @@ pub fn cut_capacity(net: &Net, side: &[bool]) -> u64
 
 /// The sum of the numbers.
 fn total_of(numbers: &[u64]) -> u64
-    requires { sum numbers.now < 2 ^ 62 }
+    requires { sum numbers.now ≤ capacity_limit }
     ensures { result ≡ sum numbers.now }
 {
     numbers.iter().sum()
@@ -163,7 +164,7 @@ fn is_certified(
 
 /// Whether the numbers certify the cut: what arcs carry and nodes give the sink is a preflow, and
 /// what the sink gets by it is the capacity of the cut and the value. Then no cut of the net has a
-/// lower capacity (Ford, Fulkerson 1962; Goldberg, Tarjan 1988).
+/// lower capacity (Ford, Fulkerson 1956; Goldberg, Tarjan 1988).
 ///
 /// It may be asked of any numbers. Lists of the wrong length are answered no. The only error is
 /// want of memory, for two numbers a node.

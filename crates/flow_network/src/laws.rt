@@ -2,12 +2,12 @@
 
 ghost use Rattle.flow_network.specs.Laws.{SinkGetsAtMostEachCut, CertifiedIsLeast, ReachIsSmallest};
 
-/// What the sink gets by a preflow is at most the capacity of each cut (Ford, Fulkerson 1962).
+/// What the sink gets by a preflow is at most the capacity of each cut (Ford, Fulkerson 1956).
 pub fn sink_gets_at_most_each_cut()
     ensures { SinkGetsAtMostEachCut }
 {}
 
-/// A certified cut is a least cut, and the value is its capacity (Ford, Fulkerson 1962).
+/// A certified cut is a least cut, and the value is its capacity (Ford, Fulkerson 1956).
 pub fn certified_is_least()
     ensures { CertifiedIsLeast }
 {}

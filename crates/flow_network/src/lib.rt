@@ -3,7 +3,7 @@
 //! A cut is told by its set of nodes on the sink's side. Its capacity is what the source can send
 //! the nodes in the set, what the nodes outside can send the sink, and what can enter the set by
 //! arcs. `check_cut` tests a cut that was found elsewhere: where it says yes, no cut has a lower
-//! capacity. `laws` has the reasons (Ford, Fulkerson 1962; Goldberg, Tarjan 1988).
+//! capacity. `laws` has the reasons (Ford, Fulkerson 1956; Goldberg, Tarjan 1988).
 #![tactic(auto)]
 
 mod arc;
@@ -17,6 +17,6 @@ mod tests;
 
 pub use arc::Arc;
 pub use check::{check_cut, cut_capacity};
-pub use limits::{CAPACITY_LIMIT, MOST_NODES};
+pub use limits::{CAPACITY_LIMIT, NODE_LIMIT};
 pub use net::Net;
 pub use solved::Solved;

@@ -1,14 +1,14 @@
 ghost use Rattle.std.specs.Prelude.{◌≡◌, ◌↔◌, ◌+◌, ◌<◌, IsTrue, length, sum, sum_by, All, MatchOption};
 ghost use Rattle.flow_network.specs.Cut.{network_of, nodes, IsArc, IsNet};
 
-use crate::{Arc, CAPACITY_LIMIT, MOST_NODES};
+use crate::{Arc, CAPACITY_LIMIT, NODE_LIMIT};
 use std::marker::Model;
 
 /// A net with a source and a sink: what the source can send each node, what each node can send
 /// the sink, and the arcs between nodes.
 ///
-/// It keeps that there are as many numbers for sinks as for sources, at most `MOST_NODES` nodes,
-/// arcs between nodes that are there, and capacities below `CAPACITY_LIMIT` together. The source
+/// It keeps that there are as many numbers for sinks as for sources, at most `NODE_LIMIT` nodes,
+/// arcs between nodes that are there, and capacities of at most `CAPACITY_LIMIT` together. The source
 /// and the sink are no nodes (Boykov, Veksler, Zabih 2001, section 4: their t-links are the
 /// numbers for sources and sinks, their n-links the arcs).
 #[derive(Drop)]
@@ -71,18 +71,18 @@ fn room_after_arcs(room: u64, arcs: &[Arc]) -> Option<u64>
 
 impl Net {
     /// Whether the lists make a net, the condition of `new`: as many sinks as sources, at most
-    /// `MOST_NODES` nodes, arcs between nodes that are there, and all capacities together below
+    /// `NODE_LIMIT` nodes, arcs between nodes that are there, and all capacities together at most
     /// `CAPACITY_LIMIT`. It may be asked of any lists.
     pub fn fits(sources: &[u64], sinks: &[u64], arcs: &[Arc]) -> bool
         ensures { IsTrue result ↔ IsNet (network_of sources.now sinks.now arcs.now) }
     {
         if sinks.len() != sources.len()
-            || sources.len() > MOST_NODES
+            || sources.len() > NODE_LIMIT
             || !arcs_fit(sources.len(), arcs)
         {
             return false;
         }
-        let Some(after_sources) = room_after(CAPACITY_LIMIT - 1, sources) else {
+        let Some(after_sources) = room_after(CAPACITY_LIMIT, sources) else {
             return false;
         };
         let Some(after_sinks) = room_after(after_sources, sinks) else {

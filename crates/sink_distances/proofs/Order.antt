@@ -5,7 +5,8 @@ use Rattle.std.proofs.lemmas.List.{length-set, get_or_past}
 use Rattle.std.proofs.lemmas.List.Sums.{sum_by-set}
 use Rattle.sums.specs.Sums.{counted}
 use Rattle.sums.proofs.SumLemmas.{counted-same, counted-other}
-use Rattle.sink_distances.specs.Search.{Found, found_of, label_of, node_at, no_label, unlabelled, IsOrder, IsAtMost, Grows}
+use Rattle.flow_network.specs.Progress.{top_label}
+use Rattle.sink_distances.specs.Search.{Found, found_of, label_of, node_at, unlabelled, IsOrder, IsAtMost, Grows}
 
 -- no more nodes are labelled than there are
 pub count-le-length : (s : Found) → IsOrder s → s.count ≤ length s.labels
@@ -16,7 +17,7 @@ pub label-le-count : (s : Found) → IsOrder s → (i : ℕ) → i < s.count →
 label-le-count s o i l = omega (arith, o.short i l)
 
 -- a node in the order has a label
-pub listed_labelled : (s : Found) → IsOrder s → (i : ℕ) → i < s.count → label_of s (node_at s i) ≢ no_label s
+pub listed_labelled : (s : Found) → IsOrder s → (i : ℕ) → i < s.count → label_of s (node_at s i) ≢ top_label (length s.labels)
 listed_labelled s o i l e = omega (arith, label-le-count s o i l, count-le-length s o, e)
 
 -- ---- one more label
@@ -39,15 +40,15 @@ pub record IsMark (s : Found) (v label : ℕ) : Type 0 where
   pub order : IsOrder s
   pub below : IsAtMost label s
   pub node : v < length s.labels
-  pub none : label_of s v ≡ no_label s
+  pub none : label_of s v ≡ top_label (length s.labels)
   pub fits : label ≤ s.count + 1
 
 mark_fewer : (s : Found) (v label : ℕ) → IsMark s v label → unlabelled (after_mark s v label) + 1 ≡ unlabelled s
 mark_fewer s v label m =
     let low = count-le-length s m.order in
-    let has : label ≢ no_label s = λ e. omega (arith, low, m.fits, e) in
-    let top = ap (λ n. sum_by (λ other. counted (other == n + 2) 1) (set s.labels v label)) (length-set s.labels v label) in
-    omega (arith, top, fewer_unlabelled s.labels v label (no_label s) m.node m.none has)
+    let has : label ≢ top_label (length s.labels) = λ e. omega (arith, low, m.fits, e) in
+    let top = ap (λ n. sum_by (λ other. counted (other == top_label n) 1) (set s.labels v label)) (length-set s.labels v label) in
+    omega (arith, top, fewer_unlabelled s.labels v label (top_label (length s.labels)) m.node m.none has)
 
 mark_room : (s : Found) (v label : ℕ) → IsMark s v label → s.count < length s.order
 mark_room s v label m = omega (arith, mark_fewer s v label m, m.order.room, m.order.order_len)
@@ -114,7 +115,7 @@ mark_rising s v label m i j le l = elim (mark_at s v label m j l) [
 ]
 
 mark_listed : (s : Found) (v label : ℕ) → IsMark s v label → (u : ℕ) → u < length (set s.labels v label)
-    → (label_of (after_mark s v label) u ≡ no_label (after_mark s v label))
+    → (label_of (after_mark s v label) u ≡ top_label (length (after_mark s v label).labels))
     ⊎ ((i : ℕ) × (i < s.count + 1) × (node_at (after_mark s v label) i ≡ u))
 mark_listed s v label m u l =
     let len = length-set s.labels v label in
@@ -170,7 +171,7 @@ grows_more label IsNext s t u first then = record {
 }
 
 -- labels never rise
-pub grows_falls : (label : ℕ) (IsNext : ℕ → Type 0) (s t : Found) → Grows label IsNext s t → label ≤ no_label s
+pub grows_falls : (label : ℕ) (IsNext : ℕ → Type 0) (s t : Found) → Grows label IsNext s t → label ≤ top_label (length s.labels)
     → (v : ℕ) → label_of t v ≤ label_of s v
 grows_falls label IsNext s t g fits v = elim (cases_lt v (length s.labels)) [
   | inl l ↦ elim (g.labels v l) [

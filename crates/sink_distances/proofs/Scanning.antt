@@ -6,7 +6,8 @@ use Rattle.flow_network.specs.Cut.{Network, nodes}
 use Rattle.flow_network.specs.Preflow.{arc_at}
 use Rattle.sink_distances.specs.declared.adjacency.Adjacency.{Adjacency}
 use Rattle.sink_distances.specs.Adjacency.{IsAdjacency}
-use Rattle.sink_distances.specs.Search.{Found, label_of, no_label, Grows, IsBefore}
+use Rattle.flow_network.specs.Progress.{top_label}
+use Rattle.sink_distances.specs.Search.{Found, label_of, Grows, IsBefore}
 use Rattle.sink_distances.proofs.Ends.{into_place, into_found, out_place, out_found}
 use Rattle.sink_distances.proofs.Order.{grows_more, grows_falls}
 
@@ -18,7 +19,7 @@ pub record IsScanned (g : Groups) (end : ℕ → ℕ) (IsFree IsNext : ℕ → T
 
 -- one more place is seen
 pub scanned_more : (g : Groups) (end : ℕ → ℕ) (IsFree IsNext : ℕ → Type 0) (w label p k : ℕ) (s t u : Found)
-    → IsScanned g end IsFree IsNext w label p s t → label ≤ no_label t → k ≡ slice_index g.places.items p
+    → IsScanned g end IsFree IsNext w label p s t → label ≤ top_label (length t.labels) → k ≡ slice_index g.places.items p
     → Grows label IsNext t u → (IsFree k → label_of u (end k) ≤ label) → IsScanned g end IsFree IsNext w label (p + 1) s u
 scanned_more g end IsFree IsNext w label p k s t u before fits at g' marked = record {
   grows = grows_more label IsNext s t u before.grows g';
@@ -42,7 +43,7 @@ AreTailsScanned net a carried w label p =
 
 pub tails_more : (net : Network) (a : Adjacency) (carried : List ℕ) (w label p k : ℕ) (s t u : Found) → IsAdjacency net a
     → w < nodes net → slice_index a.into.starts.items w ≤ p → p < slice_index a.into.starts.items (w + 1)
-    → AreTailsScanned net a carried w label p s t → label ≤ no_label t → k ≡ slice_index a.into.places.items p
+    → AreTailsScanned net a carried w label p s t → label ≤ top_label (length t.labels) → k ≡ slice_index a.into.places.items p
     → Grows label (IsBefore net carried (arc_at net k).to) t u
     → (slice_index carried k < (arc_at net k).capacity → label_of u (arc_at net k).from ≤ label)
     → AreTailsScanned net a carried w label (p + 1) s u
@@ -68,7 +69,7 @@ AreHeadsScanned net a carried w label p =
 
 pub heads_more : (net : Network) (a : Adjacency) (carried : List ℕ) (w label p k : ℕ) (s t u : Found) → IsAdjacency net a
     → w < nodes net → slice_index a.out.starts.items w ≤ p → p < slice_index a.out.starts.items (w + 1)
-    → AreHeadsScanned net a carried w label p s t → label ≤ no_label t → k ≡ slice_index a.out.places.items p
+    → AreHeadsScanned net a carried w label p s t → label ≤ top_label (length t.labels) → k ≡ slice_index a.out.places.items p
     → Grows label (IsBefore net carried (arc_at net k).from) t u
     → (0 < slice_index carried k → label_of u (arc_at net k).to ≤ label)
     → AreHeadsScanned net a carried w label (p + 1) s u

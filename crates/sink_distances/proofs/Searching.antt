@@ -3,9 +3,9 @@ use Rattle.std.proofs.Common.{◌≡◌, ℕ, zero, suc, ◌+◌, ◌<◌, ◌�
 use Rattle.std.proofs.lemmas.Bool.{cases_lt}
 use Rattle.flow_network.specs.Cut.{Network, nodes, IsNet}
 use Rattle.flow_network.specs.Preflow.{Flow, IsResidual, ReachesIn}
-use Rattle.flow_network.specs.Progress.{top}
+use Rattle.flow_network.specs.Progress.{top_label, top}
 use Rattle.sink_distances.specs.Distances.{AreDistances}
-use Rattle.sink_distances.specs.Search.{Found, label_of, node_at, no_label, IsOrder, IsAtMost, Grows}
+use Rattle.sink_distances.specs.Search.{Found, label_of, node_at, IsOrder, IsAtMost, Grows}
 use Rattle.sink_distances.proofs.Laws.{residual_nodes, reaches_one_more}
 use Rattle.sink_distances.proofs.Order.{count-le-length, label-le-count, listed_labelled, grows_falls, grows_stays}
 
@@ -37,7 +37,7 @@ pub searched_more : (net : Network) (flow : Flow) (next : ℕ) (s t : Found) →
 searched_more net flow next s t h l g marked net_is =
     let w = node_at s next in
     let IsNext : ℕ → Type 0 = λ v. IsResidual net flow v w in
-    let fits : label_of s w + 1 ≤ no_label s = omega (arith, label-le-count s h.order next l, count-le-length s h.order) in
+    let fits : label_of s w + 1 ≤ top_label (length s.labels) = omega (arith, label-le-count s h.order next l, count-le-length s h.order) in
     let falls = grows_falls (label_of s w + 1) IsNext s t g fits in
     let at : (i : ℕ) → i < s.count → label_of t (node_at t i) ≡ label_of s (node_at s i) =
     λ i li. ap (label_of t) (g.kept i li) ∙ grows_stays (label_of s w + 1) IsNext s t h.order g i li in

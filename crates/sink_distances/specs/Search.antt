@@ -2,7 +2,7 @@ use Rattle.std.specs.Prelude.{◌≡◌, ℕ, ◌+◌, ◌<◌, ◌≤◌, ◌�
 use Rattle.sums.specs.Sums.{counted}
 use Rattle.flow_network.specs.Cut.{Network, nodes}
 use Rattle.flow_network.specs.Preflow.{IsResidual}
-use Rattle.flow_network.specs.Progress.{top}
+use Rattle.flow_network.specs.Progress.{top_label, top}
 
 -- labels, and the labelled nodes in the order in which they were found: the first `count` of a list
 pub record Found : Type 0 where
@@ -19,13 +19,9 @@ label_of found v = slice_index found.labels v
 abbrev pub node_at : Found → ℕ → ℕ
 node_at found i = slice_index found.order i
 
--- the label of a node that has none: two more than there are nodes
-abbrev pub no_label : Found → ℕ
-no_label found = length found.labels + 2
-
 -- how many nodes have no label
 abbrev pub unlabelled : Found → ℕ
-unlabelled found = sum_by (λ label. counted (label == no_label found) 1) found.labels
+unlabelled found = sum_by (λ label. counted (label == top_label (length found.labels)) 1) found.labels
 
 -- the order lists each labelled node once, by rising labels
 pub record IsOrder (found : Found) : Type 0 where
@@ -33,7 +29,7 @@ pub record IsOrder (found : Found) : Type 0 where
   pub room : found.count + unlabelled found ≡ length found.labels
   pub places : (i : ℕ) → i < found.count → node_at found i < length found.labels
   pub short : (i : ℕ) → i < found.count → label_of found (node_at found i) ≤ i + 1
-  pub listed : (v : ℕ) → v < length found.labels → (label_of found v ≡ no_label found) ⊎ ((i : ℕ) × (i < found.count) × (node_at found i ≡ v))
+  pub listed : (v : ℕ) → v < length found.labels → (label_of found v ≡ top_label (length found.labels)) ⊎ ((i : ℕ) × (i < found.count) × (node_at found i ≡ v))
   pub rising : (i j : ℕ) → i ≤ j → j < found.count → label_of found (node_at found i) ≤ label_of found (node_at found j)
 
 -- no label in the order is above this one
@@ -54,7 +50,7 @@ pub record Grows (label : ℕ) (IsNext : ℕ → Type 0) (old new : Found) : Typ
   pub more : old.count ≤ new.count
   pub kept : (i : ℕ) → i < old.count → node_at new i ≡ node_at old i
   pub labels : (v : ℕ) → v < length old.labels
-      → (label_of new v ≡ label_of old v) ⊎ ((label_of old v ≡ no_label old) × (label_of new v ≡ label) × IsNext v)
+      → (label_of new v ≡ label_of old v) ⊎ ((label_of old v ≡ top_label (length old.labels)) × (label_of new v ≡ label) × IsNext v)
 
 -- the nodes that have a residual direction to w, where the arcs carry these amounts
 abbrev pub IsBefore : Network → List ℕ → ℕ → ℕ → Type 0

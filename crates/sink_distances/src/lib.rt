@@ -1,4 +1,7 @@
-// Exact distances to the sink over residual directions.
+//! The exact distance of each node to the sink over residual directions, and the nodes that reach the sink.
+//!
+//! A distance is the least number of residual directions that lead from the node to the sink, and `top_label` where none
+//! leads there (Goldberg, Tarjan 1988, section 3: the greatest valid labelling).
 #![tactic(auto)]
 
 ghost use Rattle.std.specs.Prelude.{◌≡◌, ◌<◌, ◌≤◌, ℕ, List, slice_index};
@@ -9,12 +12,14 @@ ghost use Rattle.flow_network.specs.Progress.{top};
 ghost use Rattle.sink_distances.specs.Distances.{AreDistances, is_below_top};
 
 mod adjacency;
+mod labels;
 mod search;
 mod side;
 #[cfg(test)]
 mod tests;
 
 pub use adjacency::{Adjacency, arcs_by_node};
+pub use labels::top_label;
 pub use search::write_distances;
 pub use side::{distances, sink_side};
 

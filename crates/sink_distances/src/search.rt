@@ -5,7 +5,7 @@ ghost use Rattle.sink_distances.specs.Adjacency.{IsAdjacency};
 ghost use Rattle.sink_distances.specs.Distances.{AreDistances};
 ghost use Rattle.sink_distances.specs.Search.{found_of, AreStarts, IsBefore, IsReady, Grows};
 
-use crate::Adjacency;
+use crate::{Adjacency, top_label};
 use flow_network::Net;
 
 /// A net, its arcs by node, and what each arc carries.
@@ -40,7 +40,7 @@ fn mark_starts(net: &Net, sink_flow: &[u64], labels: &mut [u32], order: &mut [u3
     ensures limits { IsNet net.now }
     ensures starts { AreStarts net.now sink_flow.now (nodes net.now) (found_of labels.new order.new result) }
 {
-    labels.fill(net.nodes() as u32 + 2);
+    labels.fill(top_label(net));
     let sinks = net.sinks();
     let mut count = 0;
     for v in 0..net.nodes() {
@@ -176,8 +176,8 @@ fn mark_before(
     mark_heads(carried, labels, order, count, w, label)
 }
 
-/// Writes the exact distance of each node to the sink over residual directions, or the number of nodes and 2 where
-/// no path leads there: a breadth-first search backwards from the sink (Goldberg and Tarjan 1988, section 3).
+/// Writes the exact distance of each node to the sink over residual directions, or `top_label` where no path leads
+/// there: a breadth-first search backwards from the sink (Goldberg, Tarjan 1988, section 3).
 ///
 /// `arc_flow` is what each arc carries and `sink_flow` what each node gives the sink; they need be no preflow.
 /// `order` is room for the search: one place for each node, whose values before and after mean nothing.

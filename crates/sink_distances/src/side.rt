@@ -4,7 +4,7 @@ ghost use Rattle.flow_network.specs.Preflow.{Flow, IsReach};
 ghost use Rattle.flow_network.specs.Progress.{top};
 ghost use Rattle.sink_distances.specs.Distances.{AreDistances};
 
-use crate::{arcs_by_node, write_distances};
+use crate::{arcs_by_node, top_label, write_distances};
 use flow_network::Net;
 use std::alloc::{AllocError, Global};
 
@@ -35,13 +35,14 @@ pub fn distances(
     Ok(labels)
 }
 
-/// The nodes that reach the sink over residual directions: those whose exact distance is below the number of nodes and 2.
+/// The nodes that reach the sink over residual directions: those whose exact distance is below `top_label`. The answer
+/// has one bit for each number of `labels`.
 ///
 /// Refuses only where memory runs out.
 pub fn sink_side(alloc: Global, net: &Net, labels: &[u32]) -> Result<Vec<bool>, AllocError>
     ensures bits { IfOk result (λ side. side.items ≡ map (λ label. nat_lt label (top net.now)) labels.now) }
     ensures reach { IfOk result (λ side. (flow : Flow) → AreDistances net.now flow labels.now → IsReach net.now flow (λ v. slice_index_or side.items v false)) }
 {
-    let top = net.nodes() as u32 + 2;
+    let top = top_label(net);
     labels.iter().map(|label| *label < top).collect(alloc)
 }

@@ -108,5 +108,5 @@ returns c =
               rw back.1 at (told back.2)
         ];
       };
-      limits = c.nodes.ensures.limits;
+      limits = c.top_label-least.ensures.limits;
     }

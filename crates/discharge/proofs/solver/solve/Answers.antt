@@ -1,26 +1,6 @@
-use Rattle.std.proofs.Common.{ℕ, Bool, false, slice_index_or, nat_lt, ap, ◌∙◌, length}
-use Rattle.flow_network.specs.Progress.{top}
-use Rattle.std.proofs.lemmas.List.{length-map}
-use Rattle.discharge.specs.State.{work_flow}
 use Rattle.discharge.proofs.Raising.{raise_finished}
-use Rattle.discharge.proofs.Solving.{solved_certified, solved_smallest}
 use Rattle.discharge.proofs.solver.solve.Goals as goal
 
-pub returns : goal.returns
-returns c =
-    let net = c.args.net.now in
-    let w = c.raise_all-2.new.work in
-    let side = λ (v : ℕ). slice_index_or c.in_ok-side.side.items v false in
-    let h = c.in_ok-work.ensures.limits in
-    let s = c.raise_all-2.ensures.raised.work in
-    let done = raise_finished net c.run.new.work w c.raise_all-2.ensures.raised c.in_ok-run.ensures.done in
-    let exact = c.raise_all-2.ensures.exact in
-    let reach = c.in_ok-side.ensures.reach (work_flow w) (rw c.as_slice.ensures.value exact) in
-    let told = rw c.as_slice-2.ensures.value at c.cut_capacity-value.ensures in
-    record {
-      certified = record {
-        bits = ap (length {A = Bool}) c.in_ok-side.ensures.bits ∙ (length-map c.as_slice.result.now (λ label. nat_lt label (top net)) ∙ (ap (length {A = ℕ}) c.as_slice.ensures.value ∙ exact.len));
-        certified = solved_certified net w side c.cut_capacity-value.result h s done exact reach told;
-      };
-      smallest = solved_smallest net w side h s done exact reach;
-    }
+pub answer_of-requires-clause-finished : goal.answer_of-requires-clause-finished
+answer_of-requires-clause-finished c =
+    raise_finished c.args.net.now c.run.new.work c.raise_all-2.new.work c.raise_all-2.ensures.raised c.in_ok-run.ensures.done

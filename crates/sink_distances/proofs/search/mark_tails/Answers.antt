@@ -1,6 +1,7 @@
-use Rattle.std.proofs.Common.{◌≡◌, ◌+◌, ◌<◌, ◌≤◌, slice_index, arith}
+use Rattle.std.proofs.Common.{length, ◌≡◌, ◌+◌, ◌<◌, ◌≤◌, slice_index, arith}
 use Rattle.std.proofs.lemmas.List.{get_or_read}
-use Rattle.sink_distances.specs.Search.{found_of, no_label}
+use Rattle.flow_network.specs.Progress.{top_label}
+use Rattle.sink_distances.specs.Search.{found_of}
 use Rattle.sink_distances.proofs.Order.{count-le-length}
 use Rattle.sink_distances.proofs.Scanning.{tails_more, tails_all}
 use Rattle.sink_distances.proofs.search.mark_tails.Goals as goal
@@ -23,7 +24,7 @@ loop-p-preserved c =
     let bound = is.within (w + 1) (omega (arith, c.requires.node)) in
     let here : c.index.result.now ≡ slice_index g.places.items p =
     get_or_read g.places.items p c.index.result.now (omega (arith, is.places_len, high, bound)) c.index.ensures 0 in
-    let fits : c.args.label ≤ no_label (found_of c.loop-p.labels c.loop-p.order c.loop-p.count) =
+    let fits : c.args.label ≤ top_label (length c.loop-p.labels) =
     omega (arith, c.requires.ready.next, count-le-length old c.requires.ready.order, c.loop-p.invariant.grows.len) in
     tails_more net a c.args.carried.now.arc_flow.now w c.args.label p c.index.result.now old
     (found_of c.loop-p.labels c.loop-p.order c.loop-p.count)

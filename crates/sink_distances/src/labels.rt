@@ -1,0 +1,14 @@
+ghost use Rattle.std.specs.Prelude.{◌≡◌};
+ghost use Rattle.flow_network.specs.Cut.{IsNet};
+ghost use Rattle.flow_network.specs.Progress.{top};
+
+use flow_network::Net;
+
+/// The label of a node that is cut off from the sink: two more than there are nodes, which is above the length of
+/// every path to the sink.
+pub fn top_label(net: &Net) -> u32
+    ensures value { result ≡ top net.now }
+    ensures limits { IsNet net.now }
+{
+    net.nodes() as u32 + 2
+}
