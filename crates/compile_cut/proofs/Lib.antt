@@ -4,3 +4,4 @@ pub mod WeightLemmas
 pub mod CapacityLemmas
 pub mod TermLemmas
 pub mod Composes
+pub mod Best

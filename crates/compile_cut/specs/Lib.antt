@@ -6,3 +6,4 @@ pub mod Shown
 pub mod Weights
 pub mod Three
 pub mod Form
+pub mod Laws

@@ -2,7 +2,7 @@ ghost use Rattle.std.specs.Prelude.{◌≡◌, ◌≢◌, ◌+◌, ◌<◌, ◌�
 ghost use Rattle.pseudo_bool.specs.Formula.{IsEnergy, IsTerm, IsWithin, value_at, assignment};
 ghost use Rattle.pseudo_bool.specs.Rows.{term_of, triple_term, IsKept};
 
-use crate::row::{Row, Triple};
+use crate::row::{Row, Triple, narrow};
 use crate::{CONSTANT_LIMIT, EnergyError, TERM_LIMIT, Term, VALUE_LIMIT, VARIABLE_LIMIT};
 use std::alloc::Global;
 use std::marker::Model;
@@ -40,6 +40,25 @@ impl Energy {
             rows: Vec::new(alloc),
             triples: Vec::new(alloc),
         }
+    }
+
+    /// Whether an energy may have this many variables: at most `VARIABLE_LIMIT`.
+    pub fn fits(variables: u32) -> bool
+        ensures { IsTrue result ↔ (variables ≤ VARIABLE_LIMIT) }
+    {
+        variables <= VARIABLE_LIMIT
+    }
+
+    /// Makes it the energy 0 of this many variables, with no terms. It keeps the room of its lists for the terms to come,
+    /// so that an energy that is cleared and filled again seldom grows. It takes no memory.
+    pub fn clear(&mut self, variables: u32)
+        requires { variables ≤ VARIABLE_LIMIT }
+        ensures { self.new ≡ record { constant = pos 0; variables = variables; terms = [] } }
+    {
+        self.constant = 0;
+        self.variables = variables;
+        self.rows.clear();
+        self.triples.clear();
     }
 
     /// The sum of the constants.
@@ -127,7 +146,7 @@ impl Energy {
         if !are_values(&table) {
             return Err(EnergyError::ValueRange);
         }
-        self.add_row(Row::One(first, table))
+        self.add_row(Row::One(first, narrow(&table)))
     }
 
     /// Adds a term of two variables: the table has its numbers at 00, 01, 10 and 11.
@@ -151,7 +170,7 @@ impl Energy {
         if !are_values(&table) {
             return Err(EnergyError::ValueRange);
         }
-        self.add_row(Row::Two(first, second, table))
+        self.add_row(Row::Two(first, second, narrow(&table)))
     }
 
     /// Adds a term of three variables: the table has its numbers at 000, 001, 010, 011, 100, 101, 110 and 111.
@@ -187,7 +206,7 @@ impl Energy {
             first,
             second,
             third,
-            table,
+            table: narrow(&table),
         })
     }
 

@@ -1,15 +1,15 @@
-ghost use Rattle.std.specs.Prelude.{◌≡◌, ◌≤◌, length, unsigned_abs};
-ghost use Rattle.pseudo_bool.specs.Formula.{term_value, assignment, IsTerm};
+ghost use Rattle.std.specs.Prelude.{◌≡◌, ◌≤◌, All, length, unsigned_abs};
+ghost use Rattle.pseudo_bool.specs.Formula.{term_value, assignment, IsTerm, IsWithin};
 ghost use Rattle.pseudo_bool.specs.Rows.{term_of, triple_term, IsKept};
 
 use crate::{Term, VALUE_LIMIT};
 
 /// A term of one or two variables as the energy keeps it, or the place of one of three in a list of its own,
-/// so that the rows of shorter terms stay small.
+/// so that the rows of shorter terms stay small. A number of a table fits 32 bits.
 #[derive(Clone, Copy)]
 pub enum Row {
-    One(u32, [i64; 2]),
-    Two(u32, u32, [i64; 4]),
+    One(u32, [i32; 2]),
+    Two(u32, u32, [i32; 4]),
     Three(u32),
 }
 
@@ -19,7 +19,30 @@ pub struct Triple {
     pub first: u32,
     pub second: u32,
     pub third: u32,
-    pub table: [i64; 8],
+    pub table: [i32; 8],
+}
+
+/// The numbers of a table, each in 32 bits.
+pub fn narrow<const N: usize>(table: &[i64; N]) -> [i32; N]
+    requires { All (IsWithin VALUE_LIMIT) table.now }
+    ensures { result ≡ table.now }
+{
+    let mut kept = [0; N];
+    for (place, value) in table.iter().enumerate() {
+        kept[place] = *value as i32;
+    }
+    kept
+}
+
+/// The numbers of a table, each in 64 bits.
+fn widen<const N: usize>(table: &[i32; N]) -> [i64; N]
+    ensures { result ≡ table.now }
+{
+    let mut read = [0; N];
+    for (place, value) in table.iter().enumerate() {
+        read[place] = i64::from(*value);
+    }
+    read
 }
 
 impl Triple {
@@ -32,7 +55,7 @@ impl Triple {
         let first = usize::from(bits[self.first as usize]);
         let second = usize::from(bits[self.second as usize]);
         let third = usize::from(bits[self.third as usize]);
-        self.table[4 * first + 2 * second + third]
+        i64::from(self.table[4 * first + 2 * second + third])
     }
 }
 
@@ -43,11 +66,11 @@ impl Row {
         ensures { result ≡ term_of triples.now self.now }
     {
         match self {
-            Row::One(first, table) => Term::One(*first, *table),
-            Row::Two(first, second, table) => Term::Two(*first, *second, *table),
+            Row::One(first, table) => Term::One(*first, widen(table)),
+            Row::Two(first, second, table) => Term::Two(*first, *second, widen(table)),
             Row::Three(place) => {
                 let it = &triples[*place as usize];
-                Term::Three(it.first, it.second, it.third, it.table)
+                Term::Three(it.first, it.second, it.third, widen(&it.table))
             }
         }
     }
@@ -60,9 +83,11 @@ impl Row {
         ensures within { unsigned_abs result ≤ VALUE_LIMIT }
     {
         match self {
-            Row::One(first, table) => table[usize::from(bits[*first as usize])],
+            Row::One(first, table) => i64::from(table[usize::from(bits[*first as usize])]),
             Row::Two(first, second, table) => {
-                table[2 * usize::from(bits[*first as usize]) + usize::from(bits[*second as usize])]
+                let place = 2 * usize::from(bits[*first as usize])
+                    + usize::from(bits[*second as usize]);
+                i64::from(table[place])
             }
             Row::Three(place) => triples[*place as usize].value(bits),
         }

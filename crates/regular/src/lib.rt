@@ -7,11 +7,13 @@ ghost use Rattle.regular.specs.Regularity.{IsRegular, IsFirstFailing};
 
 mod fixed;
 mod regular;
+mod table;
 mod term;
 
 pub use fixed::{Fixed, NotRegular};
 use pseudo_bool::Energy;
 pub use regular::Regular;
+pub use table::{ENTRY_LIMIT, is_regular_table};
 use term::test_term;
 
 /// Whether each term is regular by itself: if not, the first that is not.

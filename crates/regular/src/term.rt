@@ -4,6 +4,7 @@ ghost use Rattle.regular.specs.declared.fixed.Fixed.{Fixed};
 ghost use Rattle.regular.specs.Regularity.{IsRegularTerm, IsRegularTable, FailsFirst, IsFirstProjection, HasValues, projection};
 
 use crate::Fixed;
+use crate::table::is_regular_table;
 use pseudo_bool::{Term, VALUE_LIMIT};
 
 /// Whether a term is regular: if not, what was fixed where it fails.
@@ -78,12 +79,4 @@ fn projection_of(table: &[i64; 8], fixed: Fixed) -> [i64; 4]
             table[digit + 6],
         ],
     }
-}
-
-/// Whether a table of two variables is regular.
-fn is_regular_table(table: &[i64; 4]) -> bool
-    requires { All (IsWithin VALUE_LIMIT) table.now }
-    ensures { IsTrue result ↔ IsRegularTable table.now }
-{
-    table[0] + table[3] <= table[1] + table[2]
 }

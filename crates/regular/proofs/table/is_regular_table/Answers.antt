@@ -2,7 +2,7 @@ use Rattle.std.proofs.Common.{arith, ◌≤◌, pos, ℤ, ◌≤ℤ◌, ◌+ℤ�
 use Rattle.std.proofs.lemmas.Int.{to_z-of_z}
 use Rattle.sums.proofs.IntegerSumLemmas.{within_fits, abs-add}
 use Rattle.pseudo_bool.specs.Formula.{entry}
-use Rattle.regular.proofs.term.is_regular_table.Goals as goal
+use Rattle.regular.proofs.table.is_regular_table.Goals as goal
 use lib.Signed.{le_z}
 
 compares : (a b c d : ℤ) → FitsSigned w64 a → FitsSigned w64 b → FitsSigned w64 c → FitsSigned w64 d
@@ -12,11 +12,11 @@ compares : (a b c d : ℤ) → FitsSigned w64 a → FitsSigned w64 b → FitsSig
     ↔ ((a +ℤ d) ≤ℤ (b +ℤ c))
 compares a b c d fa fb fc fd fad fbc = simp to_z-of_z (search rules)
 
-one_fits : (z : ℤ) → unsigned_abs z ≤ 1000000000 → FitsSigned w64 z
-one_fits z h = within_fits 1000000000 z h (omega arith)
+one_fits : (z : ℤ) → unsigned_abs z ≤ 1000000000000000000 → FitsSigned w64 z
+one_fits z h = within_fits 1000000000000000000 z h (omega arith)
 
-two_fit : (y z : ℤ) → unsigned_abs y ≤ 1000000000 → unsigned_abs z ≤ 1000000000 → FitsSigned w64 (y +ℤ z)
-two_fit y z h i = within_fits 2000000000 (y +ℤ z) (omega (arith, abs-add y z)) (omega arith)
+two_fit : (y z : ℤ) → unsigned_abs y ≤ 1000000000000000000 → unsigned_abs z ≤ 1000000000000000000 → FitsSigned w64 (y +ℤ z)
+two_fit y z h i = within_fits 2000000000000000000 (y +ℤ z) (omega (arith, abs-add y z)) (omega arith)
 
 pub returns : goal.returns
 returns x =

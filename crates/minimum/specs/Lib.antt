@@ -1,0 +1,2 @@
+pub use Rattle.pseudo_bool.specs.Formula
+pub use Rattle.compile_cut.specs.Shown
