@@ -4,8 +4,6 @@
 mod pushes;
 mod relabels;
 mod solver;
-#[cfg(test)]
-mod tests;
 mod turns;
 mod work;
 

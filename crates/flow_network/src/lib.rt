@@ -12,8 +12,6 @@ pub mod laws;
 mod limits;
 mod net;
 mod solved;
-#[cfg(test)]
-mod tests;
 
 pub use arc::Arc;
 pub use check::{check_cut, cut_capacity};

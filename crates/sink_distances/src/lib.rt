@@ -15,8 +15,6 @@ mod adjacency;
 mod labels;
 mod search;
 mod side;
-#[cfg(test)]
-mod tests;
 
 pub use adjacency::{Adjacency, arcs_by_node};
 pub use labels::top_label;

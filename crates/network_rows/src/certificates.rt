@@ -1,0 +1,148 @@
+//! What `check_cut` says of cuts and of the numbers that are to certify them.
+use crate::building::{Row, net_of};
+use flow_network::{Net, Solved, check_cut};
+use std::process::Abort;
+use std::test::Fail;
+
+/// What is claimed, what each arc carries and each node gives the sink, the side, the value, and whether it is right.
+type Claim = (
+    &'static str,
+    &'static [u64],
+    &'static [u64],
+    &'static [bool],
+    u64,
+    bool,
+);
+
+/// What the source can send, what the nodes can send the sink, the arcs, and claims of cuts.
+type Case = (
+    &'static [u64],
+    &'static [u64],
+    &'static [Row],
+    &'static [Claim],
+);
+
+const ONE_NODE: &[Claim] = &[
+    ("the least cut", &[], &[3], &[false], 3, true),
+    ("another cut", &[], &[3], &[true], 3, false),
+    ("its capacity", &[], &[3], &[true], 5, false),
+    ("too little flow", &[], &[2], &[false], 2, false),
+    ("too much flow", &[], &[4], &[false], 3, false),
+    ("another value", &[], &[3], &[false], 4, false),
+    ("an arc", &[0], &[3], &[false], 3, false),
+    ("two nodes", &[], &[3, 0], &[false], 3, false),
+    ("no node", &[], &[], &[false], 3, false),
+    ("no bit", &[], &[3], &[], 3, false),
+    ("two bits", &[], &[3], &[false, false], 3, false),
+];
+
+const CHAIN: &[Claim] = &[
+    ("a flow", &[1, 1], &[0, 0, 1, 0], &[false; 4], 1, true),
+    ("excess stays", &[4, 4], &[0, 0, 1, 0], &[false; 4], 1, true),
+    (
+        "a larger least cut",
+        &[1, 1],
+        &[0, 0, 1, 0],
+        &[false, false, false, true],
+        1,
+        true,
+    ),
+    (
+        "more than came",
+        &[0, 1],
+        &[0, 0, 1, 0],
+        &[false; 4],
+        1,
+        false,
+    ),
+    (
+        "more than an arc can carry",
+        &[5, 1],
+        &[0, 0, 1, 0],
+        &[false; 4],
+        1,
+        false,
+    ),
+    ("one arc", &[1], &[0, 0, 1, 0], &[false; 4], 1, false),
+    (
+        "a greater cut",
+        &[4, 4],
+        &[0, 0, 1, 0],
+        &[false, false, true, false],
+        4,
+        false,
+    ),
+];
+
+const WIDE: u64 = 1 << 60;
+
+const GREAT_NUMBERS: &[Claim] = &[
+    (
+        "full arcs",
+        &[WIDE, WIDE - 1],
+        &[0, 0],
+        &[false; 2],
+        0,
+        true,
+    ),
+    (
+        "arcs that wrap",
+        &[u64::MAX, 1],
+        &[0, 0],
+        &[false; 2],
+        0,
+        false,
+    ),
+    (
+        "sinks that wrap",
+        &[0, 0],
+        &[u64::MAX, 1],
+        &[false; 2],
+        0,
+        false,
+    ),
+    (
+        "both",
+        &[u64::MAX; 2],
+        &[u64::MAX; 2],
+        &[true; 2],
+        u64::MAX,
+        false,
+    ),
+    ("a value", &[0, 0], &[0, 0], &[false; 2], u64::MAX, false),
+];
+
+const CASES: &[Case] = &[
+    (&[5], &[3], &[], ONE_NODE),
+    (&[4, 0, 0, 0], &[0, 0, 1, 0], &[(0, 1, 4), (1, 2, 4)], CHAIN),
+    (
+        &[2 * WIDE, 0],
+        &[0, 0],
+        &[(0, 1, WIDE), (0, 1, WIDE - 1)],
+        GREAT_NUMBERS,
+    ),
+];
+
+fn expect_answer(rt: &(impl Abort + AllocGlobal), net: &Net, claim: &Claim) -> Result<(), Fail> {
+    let alloc = rt.alloc();
+    let (what, arc_flow, sink_flow, sink_side, value, is_right) = *claim;
+    let solved = Solved {
+        arc_flow: Vec::from_slice(alloc, arc_flow)?,
+        sink_flow: Vec::from_slice(alloc, sink_flow)?,
+        sink_side: Vec::from_slice(alloc, sink_side)?,
+        value,
+    };
+    assert_eq!(rt; check_cut(alloc, net, &solved)?, is_right, "{what}");
+    Ok(())
+}
+
+#[test]
+fn checks_cuts(rt: HostRuntime) -> Result<(), Fail> {
+    for (sources, sinks, rows, claims) in CASES {
+        let net = net_of(&rt, sources, sinks, rows)?;
+        for claim in *claims {
+            expect_answer(&rt, &net, claim)?;
+        }
+    }
+    Ok(())
+}

@@ -1,0 +1,18 @@
+//! Tests of networks, their cuts and the solver: lists, groups, distances and cuts worked out by hand or by a script
+//! that tries every cut.
+#![tactic(auto)]
+
+#[cfg(test)]
+mod building;
+#[cfg(test)]
+mod certificates;
+#[cfg(test)]
+mod distances;
+#[cfg(test)]
+mod groups;
+#[cfg(test)]
+mod nets;
+#[cfg(test)]
+mod small_nets;
+#[cfg(test)]
+mod solutions;

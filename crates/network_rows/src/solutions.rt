@@ -1,0 +1,123 @@
+//! Least cuts, by hand and from a script that tries every cut.
+use crate::building::{Row, net_of};
+use crate::small_nets::{COUNT, NUMBERS};
+use discharge::solve;
+use flow_network::{Net, check_cut};
+use std::process::Abort;
+use std::slice::Iter;
+use std::test::Fail;
+
+/// What the source can send, what the nodes can send the sink, the arcs, the value of the least cut, and the smallest
+/// such cut as a number whose bit v is the node v.
+type Case = (&'static [u64], &'static [u64], &'static [Row], u64, u32);
+
+const CASES: &[Case] = &[
+    (&[], &[], &[], 0, 0),
+    (&[5], &[3], &[], 3, 0),
+    (&[2, 3, 4], &[3, 2, 4], &[], 8, 0b001),
+    (&[4, 0, 0, 0], &[0, 0, 1, 0], &[(0, 1, 4), (1, 2, 4)], 1, 0),
+    // Parallel and opposite arcs, and arcs from a node to itself.
+    (
+        &[6, 0],
+        &[0, 9],
+        &[(0, 1, 2), (0, 1, 3), (1, 0, 9), (1, 1, 7), (0, 0, 7)],
+        5,
+        0b10,
+    ),
+    // All excess is cut off.
+    (
+        &[7, 0, 0],
+        &[0, 0, 8],
+        &[(0, 1, 5), (1, 0, 5), (2, 1, 5)],
+        0,
+        0b100,
+    ),
+    // Of three equal cuts the smallest.
+    (&[2, 0, 0], &[0, 0, 3], &[(0, 1, 2), (1, 2, 2)], 2, 0b100),
+    // Capacities near the limit.
+    (
+        &[(1 << 61) - 1, 0, 0],
+        &[0, 0, 1 << 60],
+        &[(0, 1, 1 << 59), (0, 2, 1 << 58), (1, 2, 1 << 58)],
+        1 << 59,
+        0b100,
+    ),
+    // Excess has to go back along an arc that carries it.
+    (
+        &[5, 3, 0, 0, 0, 0],
+        &[0, 0, 4, 0, 0, 100],
+        &[(0, 2, 5), (0, 5, 100), (1, 3, 10), (3, 4, 10), (4, 2, 10)],
+        8,
+        0b111111,
+    ),
+];
+
+fn bits_of(side: &[bool]) -> u32 {
+    side.iter().rev().fold(
+        0u32,
+        |bits, inside| bits.wrapping_mul(2) | u32::from(*inside),
+    )
+}
+
+/// Solves the net, and compares the value and the smallest least cut.
+fn expect_cut(
+    rt: &(impl AllocGlobal + Abort),
+    net: &Net,
+    value: u64,
+    side: u32,
+) -> Result<(), Fail> {
+    let alloc = rt.alloc();
+    let solved = solve(alloc, net)?;
+    assert!(rt; check_cut(alloc, net, &solved)?);
+    assert_eq!(rt; solved.value, value);
+    assert_eq!(rt; bits_of(solved.sink_side.as_slice()), side);
+    Ok(())
+}
+
+#[test]
+fn solves_nets_worked_by_hand(rt: HostRuntime) -> Result<(), Fail> {
+    for (sources, sinks, rows, value, side) in CASES {
+        let net = net_of(&rt, sources, sinks, rows)?;
+        expect_cut(&rt, &net, *value, *side)?;
+    }
+    Ok(())
+}
+
+fn next_number(numbers: &mut Iter<'_, u32>) -> u32 {
+    numbers.next().copied().unwrap_or(0)
+}
+
+/// The next net of the table.
+fn next_net(rt: &(impl AllocGlobal + Abort), numbers: &mut Iter<'_, u32>) -> Result<Net, Fail> {
+    let alloc = rt.alloc();
+    let nodes = next_number(numbers);
+    let count = next_number(numbers);
+    let mut sources = Vec::new(alloc);
+    let mut sinks = Vec::new(alloc);
+    let mut rows = Vec::new(alloc);
+    for _ in 0..nodes {
+        sources.push(u64::from(next_number(numbers)))?;
+        sinks.push(u64::from(next_number(numbers)))?;
+    }
+    for _ in 0..count {
+        rows.push((
+            next_number(numbers),
+            next_number(numbers),
+            u64::from(next_number(numbers)),
+        ))?;
+    }
+    net_of(rt, sources.as_slice(), sinks.as_slice(), rows.as_slice())
+}
+
+#[test]
+fn solves_nets_with_cuts_from_brute_force(rt: HostRuntime) -> Result<(), Fail> {
+    let mut numbers = NUMBERS.iter();
+    for _ in 0..COUNT {
+        let net = next_net(&rt, &mut numbers)?;
+        let value = next_number(&mut numbers);
+        let side = next_number(&mut numbers);
+        expect_cut(&rt, &net, u64::from(value), side)?;
+    }
+    assert!(rt; numbers.next().is_none());
+    Ok(())
+}
