@@ -68,8 +68,8 @@ def main():
     print("/// How many nets the table has.")
     print("pub const COUNT: usize = %d;" % COUNT)
     print()
-    print("/// Of each net: nodes, arcs, the source's and the sink's arc of each node, each arc, the value, the side as bits.")
-    print("/// Made by tools/small_nets.py, over all cuts.")
+    print("/// Of each net: nodes, arcs, the source's and the sink's arc of each node, each arc, the value, the side as")
+    print("/// bits. Made by tools/small_nets.py, over all cuts.")
     print("pub const NUMBERS: &[u32] = &[")
     numbers = [n for number in range(COUNT) for n in numbers_of(random_net(draw, number))]
     text = ", ".join(map(str, numbers)) + ","

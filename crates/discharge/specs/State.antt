@@ -24,7 +24,8 @@ IsQueuedBut net but w = (v : ℕ) → v < nodes net → v ≢ but → 0 < slice_
 
 -- no node whose label is below the top has excess
 abbrev pub IsFinished : Network → Work → Type 0
-IsFinished net w = (v : ℕ) → v < nodes net → slice_index w.labels.items v < top net → slice_index w.excess.items v ≡ 0
+IsFinished net w =
+    (v : ℕ) → v < nodes net → slice_index w.labels.items v < top net → slice_index w.excess.items v ≡ 0
 
 -- a push or a new label at a node: less is left, at most one more node is queued, and none is forgotten
 pub record IsStep (net : Network) (but : ℕ) (old new : Work) : Type 0 where
@@ -49,7 +50,8 @@ pub record IsLowest (net : Network) (w : Work) (v least : ℕ) : Type 0 where
 -- no residual direction of the node leads down
 pub record IsStuck (net : Network) (w : Work) (v : ℕ) : Type 0 where
   pub sinks : slice_index net.sinks v ≤ slice_index w.sink_flow.items v
-  pub arcs : (b : ℕ) → IsResidual net (work_flow w) v b → slice_index w.labels.items v ≤ slice_index w.labels.items b
+  pub arcs : (b : ℕ) → IsResidual net (work_flow w) v b
+      → slice_index w.labels.items v ≤ slice_index w.labels.items b
 
 -- pushes of a node along arcs: the labels and the gifts to the sink stay, and its excess does not grow
 pub record IsPush (v : ℕ) (old new : Work) : Type 0 where
@@ -63,12 +65,14 @@ ChangesOnly k old new = (j : ℕ) → j ≢ k → slice_index new.arc_flow.items
 
 -- where its first node has excess left, the arc is full or does not lead down
 abbrev pub IsSpent : Network → Work → ℕ → Type 0
-IsSpent net w k = 0 < slice_index w.excess.items (arc_at net k).from → slice_index w.arc_flow.items k < (arc_at net k).capacity
+IsSpent net w k =
+    0 < slice_index w.excess.items (arc_at net k).from → slice_index w.arc_flow.items k < (arc_at net k).capacity
     → slice_index w.labels.items (arc_at net k).from ≤ slice_index w.labels.items (arc_at net k).to
 
 -- where its last node has excess left, the arc is empty or does not lead down on the way back
 abbrev pub IsSpentBack : Network → Work → ℕ → Type 0
-IsSpentBack net w k = 0 < slice_index w.excess.items (arc_at net k).to → 0 < slice_index w.arc_flow.items k
+IsSpentBack net w k =
+    0 < slice_index w.excess.items (arc_at net k).to → 0 < slice_index w.arc_flow.items k
     → slice_index w.labels.items (arc_at net k).to ≤ slice_index w.labels.items (arc_at net k).from
 
 -- labels that did not fall, and all else as it was

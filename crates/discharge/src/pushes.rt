@@ -1,8 +1,10 @@
-ghost use Rattle.std.specs.Prelude.{◌≡◌, ◌≢◌, ◌+◌, ◌-◌, ◌<◌, ◌≤◌, ◌^◌, ◌==◌, ◌++◌, ◌∷◌, [], ℕ, OnOk, length, slice_index, slice_set, if◌then◌else◌};
+ghost use Rattle.std.specs.Prelude.{◌≡◌, ◌≢◌, ◌+◌, ◌-◌, ◌<◌, ◌≤◌, ◌^◌, ◌==◌, ◌++◌, ◌∷◌, [], ℕ, OnOk};
+ghost use Rattle.std.specs.Prelude.{length, slice_index, slice_set, if◌then◌else◌};
 ghost use Rattle.flow_network.specs.Cut.{nodes};
 ghost use Rattle.flow_network.specs.Preflow.{arc_at};
 ghost use Rattle.sink_distances.specs.Adjacency.{IsAdjacency};
-ghost use Rattle.discharge.specs.State.{IsWork, IsStep, IsSteps, IsPush, ChangesOnly, IsSpent, IsSpentBack, IsStuck};
+ghost use Rattle.discharge.specs.State.{IsWork, IsStep, IsSteps, IsPush, ChangesOnly};
+ghost use Rattle.discharge.specs.State.{IsSpent, IsSpentBack, IsStuck};
 
 use crate::work::Work;
 use flow_network::Net;
@@ -23,8 +25,11 @@ fn shift(
     requires other { from ≢ to }
     requires enough { amount ≤ slice_index excess.old from }
     requires small { slice_index excess.old to + amount < 2 ^ 64 }
-    ensures excess { OnOk result (excess.new ≡ slice_set (slice_set excess.old from (slice_index excess.old from - amount)) to (slice_index excess.old to + amount)) }
-    ensures queue { OnOk result (queue.new.items ≡ (if slice_index excess.old to == 0 then queue.old.items ++ to ∷ [] else queue.old.items)) }
+    ensures excess { OnOk result (excess.new ≡
+        slice_set (slice_set excess.old from (slice_index excess.old from - amount))
+        to (slice_index excess.old to + amount)) }
+    ensures queue { OnOk result (queue.new.items ≡
+        (if slice_index excess.old to == 0 then queue.old.items ++ to ∷ [] else queue.old.items)) }
 {
     if excess[to as usize] == 0 {
         queue.push_back(to)?;
@@ -39,7 +44,8 @@ fn push_forward(net: &Net, work: &mut Work, k: usize) -> Result<(), AllocError>
     requires work { IsWork net.now work.old }
     requires arc { k < length net.now.arcs }
     requires residual { slice_index work.old.arc_flow.items k < (arc_at net.now k).capacity }
-    requires down { slice_index work.old.labels.items (arc_at net.now k).from ≡ slice_index work.old.labels.items (arc_at net.now k).to + 1 }
+    requires down { slice_index work.old.labels.items (arc_at net.now k).from ≡
+        slice_index work.old.labels.items (arc_at net.now k).to + 1 }
     requires some { 0 < slice_index work.old.excess.items (arc_at net.now k).from }
     ensures step { OnOk result (IsStep net.now (arc_at net.now k).from work.old work.new) }
     ensures push { OnOk result (IsPush (arc_at net.now k).from work.old work.new) }
@@ -65,7 +71,8 @@ fn push_back(net: &Net, work: &mut Work, k: usize) -> Result<(), AllocError>
     requires work { IsWork net.now work.old }
     requires arc { k < length net.now.arcs }
     requires residual { 0 < slice_index work.old.arc_flow.items k }
-    requires down { slice_index work.old.labels.items (arc_at net.now k).to ≡ slice_index work.old.labels.items (arc_at net.now k).from + 1 }
+    requires down { slice_index work.old.labels.items (arc_at net.now k).to ≡
+        slice_index work.old.labels.items (arc_at net.now k).from + 1 }
     requires some { 0 < slice_index work.old.excess.items (arc_at net.now k).to }
     ensures step { OnOk result (IsStep net.now (arc_at net.now k).to work.old work.new) }
     ensures push { OnOk result (IsPush (arc_at net.now k).to work.old work.new) }
@@ -93,7 +100,8 @@ fn push_sink(net: &Net, work: &mut Work, v: usize)
     requires residual { slice_index work.old.sink_flow.items v < slice_index net.now.sinks v }
     requires some { 0 < slice_index work.old.excess.items v }
     ensures step { IsStep net.now v work.old work.new }
-    ensures spent { 0 < slice_index work.new.excess.items v → slice_index net.now.sinks v ≤ slice_index work.new.sink_flow.items v }
+    ensures spent { 0 < slice_index work.new.excess.items v →
+        slice_index net.now.sinks v ≤ slice_index work.new.sink_flow.items v }
 {
     let given = work.sink_flow[v];
     let amount = u64::min(work.excess[v], net.sinks()[v] - given);
@@ -106,7 +114,8 @@ fn try_push_sink(net: &Net, work: &mut Work, v: usize)
     requires work { IsWork net.now work.old }
     requires node { v < nodes net.now }
     ensures steps { IsSteps net.now v work.old work.new }
-    ensures spent { 0 < slice_index work.new.excess.items v → slice_index net.now.sinks v ≤ slice_index work.new.sink_flow.items v }
+    ensures spent { 0 < slice_index work.new.excess.items v →
+        slice_index net.now.sinks v ≤ slice_index work.new.sink_flow.items v }
 {
     if work.sink_flow[v] < net.sinks()[v] && work.excess[v] > 0 {
         push_sink(net, work, v);
@@ -160,7 +169,8 @@ fn push_out(net: &Net, adjacency: &Adjacency, work: &mut Work, v: usize) -> Resu
     requires node { v < nodes net.now }
     ensures steps { OnOk result (IsSteps net.now v work.old work.new) }
     ensures push { OnOk result (IsPush v work.old work.new) }
-    ensures spent { OnOk result ((k : ℕ) → k < length net.now.arcs → (arc_at net.now k).from ≡ v → IsSpent net.now work.new k) }
+    ensures spent { OnOk result ((k : ℕ) → k < length net.now.arcs → (arc_at net.now k).from ≡ v →
+        IsSpent net.now work.new k) }
 {
     'out: for p in adjacency.out.starts[v]..adjacency.out.starts[v + 1] {
         if work.excess[v] == 0 {
@@ -178,8 +188,10 @@ fn push_into(net: &Net, adjacency: &Adjacency, work: &mut Work, v: usize) -> Res
     requires node { v < nodes net.now }
     ensures steps { OnOk result (IsSteps net.now v work.old work.new) }
     ensures push { OnOk result (IsPush v work.old work.new) }
-    ensures arcs { OnOk result ((j : ℕ) → (arc_at net.now j).to ≢ v → slice_index work.new.arc_flow.items j ≡ slice_index work.old.arc_flow.items j) }
-    ensures spent { OnOk result ((k : ℕ) → k < length net.now.arcs → (arc_at net.now k).to ≡ v → IsSpentBack net.now work.new k) }
+    ensures arcs { OnOk result ((j : ℕ) → (arc_at net.now j).to ≢ v →
+        slice_index work.new.arc_flow.items j ≡ slice_index work.old.arc_flow.items j) }
+    ensures spent { OnOk result ((k : ℕ) → k < length net.now.arcs → (arc_at net.now k).to ≡ v →
+        IsSpentBack net.now work.new k) }
 {
     'into: for p in adjacency.into.starts[v]..adjacency.into.starts[v + 1] {
         if work.excess[v] == 0 {

@@ -14,8 +14,11 @@ fn lower_forward(net: &Net, work: &Work, k: usize, least: u32) -> u32
     requires work { IsWork net.now work.now }
     requires arc { k < length net.now.arcs }
     ensures lower { result ≤ least }
-    ensures lowest { slice_index work.now.arc_flow.items k < (arc_at net.now k).capacity → result ≤ slice_index work.now.labels.items (arc_at net.now k).to + 1 }
-    ensures one { (result ≡ least) ⊎ ((slice_index work.now.arc_flow.items k < (arc_at net.now k).capacity) × (result ≡ slice_index work.now.labels.items (arc_at net.now k).to + 1)) }
+    ensures lowest { slice_index work.now.arc_flow.items k < (arc_at net.now k).capacity →
+        result ≤ slice_index work.now.labels.items (arc_at net.now k).to + 1 }
+    ensures one { (result ≡ least) ⊎
+        ((slice_index work.now.arc_flow.items k < (arc_at net.now k).capacity) ×
+        (result ≡ slice_index work.now.labels.items (arc_at net.now k).to + 1)) }
 {
     let arc = net.arcs()[k];
     if work.arc_flow[k] < arc.capacity && work.labels[arc.to as usize] < least {
@@ -30,8 +33,11 @@ fn lower_back(net: &Net, work: &Work, k: usize, least: u32) -> u32
     requires work { IsWork net.now work.now }
     requires arc { k < length net.now.arcs }
     ensures lower { result ≤ least }
-    ensures lowest { 0 < slice_index work.now.arc_flow.items k → result ≤ slice_index work.now.labels.items (arc_at net.now k).from + 1 }
-    ensures one { (result ≡ least) ⊎ ((0 < slice_index work.now.arc_flow.items k) × (result ≡ slice_index work.now.labels.items (arc_at net.now k).from + 1)) }
+    ensures lowest { 0 < slice_index work.now.arc_flow.items k →
+        result ≤ slice_index work.now.labels.items (arc_at net.now k).from + 1 }
+    ensures one { (result ≡ least) ⊎
+        ((0 < slice_index work.now.arc_flow.items k) ×
+        (result ≡ slice_index work.now.labels.items (arc_at net.now k).from + 1)) }
 {
     let arc = net.arcs()[k];
     if work.arc_flow[k] > 0 && work.labels[arc.from as usize] < least {

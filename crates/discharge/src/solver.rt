@@ -11,17 +11,17 @@ use flow_network::{Net, Solved, cut_capacity};
 use sink_distances::{arcs_by_node, sink_side};
 use std::alloc::{AllocError, Global};
 
-/// A least cut of the net, with the flow that certifies it. Of all least cuts it is the smallest: its sink side lies
-/// within that of every other. Its capacity, `value`, is at most `CAPACITY_LIMIT`.
+/// A least cut of the net, with the preflow that certifies it. Of all least cuts it is the smallest: its sink side
+/// lies within that of every other. Its capacity, `value`, is at most `CAPACITY_LIMIT`.
 ///
-/// The preflow method with one queue, first in and first out (Goldberg, Tarjan 1988, "A new approach to the maximum-flow
-/// problem", sections 2 to 4), whose labels are raised to the exact distances at the start and after each n new labels,
-/// where n is the number of nodes (Cherkassky, Goldberg 1997, "On implementing the push-relabel method for the maximum
-/// flow problem"). It stops where no node that reaches the sink has excess: a preflow certifies the cut as well as a
-/// flow. The sink side is the nodes that reach the sink over residual directions.
+/// The preflow method with one queue, first in and first out (Goldberg, Tarjan 1988, "A new approach to the
+/// maximum-flow problem", sections 2 to 4), whose labels are raised to the exact distances at the start and after
+/// each n new labels, where n is the number of nodes (Cherkassky, Goldberg 1997, "On implementing the push-relabel
+/// method for the maximum flow problem"). It stops where no node that reaches the sink has excess: a preflow
+/// certifies the cut as well as a flow. The sink side is the nodes that reach the sink over residual directions.
 ///
-/// Takes every net, also of no nodes, with parallel and opposite arcs, and with arcs from a node to itself. Refuses
-/// only where memory runs out.
+/// Takes every net, also of no nodes, with parallel and opposite arcs, and with arcs from a node to itself.
+/// Refuses only where memory runs out.
 pub fn solve(alloc: Global, net: &Net) -> Result<Solved, AllocError>
     ensures certified { IfOk result (λ s. IsRightCut net.now s) }
     ensures smallest { IfOk result (λ s. IsSmallestLeastCut net.now (side_of s)) }
@@ -36,8 +36,8 @@ pub fn solve(alloc: Global, net: &Net) -> Result<Solved, AllocError>
     answer_of(alloc, net, work)
 }
 
-/// The answer of work that is finished, whose labels are the exact distances: the nodes that reach the sink, and the
-/// preflow.
+/// The answer of work that is finished, whose labels are the exact distances: the nodes that reach the sink, and
+/// the preflow.
 fn answer_of(alloc: Global, net: &Net, work: Work) -> Result<Solved, AllocError>
     requires limits { IsNet net.now }
     requires work { IsWork net.now work }

@@ -22,7 +22,8 @@ pub fn discharge(
     requires work { IsWork net.now work.old }
     requires node { v < nodes net.now }
     ensures steps { OnOk result (IsSteps net.now v work.old work.new) }
-    ensures done { OnOk result (slice_index work.new.labels.items v < top net.now → slice_index work.new.excess.items v ≡ 0) }
+    ensures done { OnOk result (slice_index work.new.labels.items v < top net.now →
+        slice_index work.new.excess.items v ≡ 0) }
 {
     let top = top_label(net);
     push_all(net, adjacency, work, v)?;
@@ -33,8 +34,8 @@ pub fn discharge(
     Ok(())
 }
 
-/// Discharges the nodes in the order of the queue, until no node below the top label has excess. The labels are raised
-/// to the exact distances after each n new labels, where n is the number of nodes.
+/// Discharges the nodes in the order of the queue, until no node below the top label has excess. The labels are
+/// raised to the exact distances after each n new labels, where n is the number of nodes.
 pub fn run(
     net: &Net,
     adjacency: &Adjacency,

@@ -1,4 +1,5 @@
-ghost use Rattle.std.specs.Prelude.{◌≡◌, ◌<◌, ◌≤◌, ℕ, IfOk, length, slice_index};
+ghost use Rattle.std.specs.Prelude.{◌≡◌, ◌<◌, ◌≤◌, ℕ, IfOk, All, Contains, length, slice_index};
+ghost use Rattle.flow_network.specs.Limits.{node_limit};
 ghost use Rattle.flow_network.specs.Cut.{nodes, IsNet};
 ghost use Rattle.sink_distances.specs.Adjacency.{IsAdjacency};
 ghost use Rattle.sink_distances.specs.Distances.{AreDistances};
@@ -26,6 +27,22 @@ pub struct Work {
     pub relabels: usize,
 }
 
+/// The nodes that have excess, in rising order.
+fn nodes_with_excess(alloc: Global, excess: &[u64]) -> Result<VecDeque<u32>, AllocError>
+    requires { length excess.now ≤ node_limit }
+    ensures nodes { IfOk result (λ queue. All (λ v. v < length excess.now) queue.items) }
+    ensures all { IfOk result (λ queue. (v : ℕ) → v < length excess.now → 0 < slice_index excess.now v →
+        Contains queue.items v) }
+{
+    let mut queue = VecDeque::with_capacity(alloc, excess.len())?;
+    'nodes: for v in 0..excess.len() {
+        if excess[v] > 0 {
+            queue.push_back(v as u32)?;
+        }
+    }
+    Ok(queue)
+}
+
 /// The work at the start: no flow but that of the source, all labels 0.
 pub fn start(alloc: Global, net: &Net) -> Result<Work, AllocError>
     ensures work { IfOk result (λ w. IsWork net.now w) }
@@ -34,12 +51,7 @@ pub fn start(alloc: Global, net: &Net) -> Result<Work, AllocError>
 {
     let nodes = net.nodes();
     let excess = Vec::from_slice(alloc, net.sources())?;
-    let mut queue = VecDeque::with_capacity(alloc, nodes)?;
-    'queued: for v in 0..nodes {
-        if excess[v] > 0 {
-            queue.push_back(v as u32)?;
-        }
-    }
+    let queue = nodes_with_excess(alloc, net.sources())?;
     Ok(Work {
         arc_flow: vec![in alloc; 0; net.arcs().len()]?,
         sink_flow: vec![in alloc; 0; nodes]?,

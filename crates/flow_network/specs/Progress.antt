@@ -5,8 +5,8 @@ use Rattle.flow_network.specs.Cut.{Network, nodes, total_capacity}
 use Rattle.flow_network.specs.Preflow.{Flow, excess, IsPreflow}
 use Rattle.flow_network.specs.Labels.{IsLabelling}
 
--- the label of a node that is cut off from the sink, where there are so many nodes: two more than they are, above the
--- length of every path
+-- the label of a node that is cut off from the sink, where there are so many nodes: two more than they are,
+-- above the length of every path
 abbrev pub top_label : ℕ → ℕ
 top_label count = count + 2
 

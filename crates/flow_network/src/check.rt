@@ -2,7 +2,8 @@ ghost use Rattle.std.specs.Prelude.{◌≡◌, ◌+◌, ◌<◌, ◌≤◌, ◌�
 ghost use Rattle.sums.specs.Sums.{sum_below, counted};
 ghost use Rattle.flow_network.specs.Limits.{capacity_limit};
 ghost use Rattle.flow_network.specs.Cut.{nodes, set_of, capacity_of, IsNet};
-ghost use Rattle.flow_network.specs.Preflow.{flow_by, gets, gives, IsWithinArcs, IsWithinSinks, IsPreflow, IsCertified};
+ghost use Rattle.flow_network.specs.Preflow.{flow_by, gets, gives, IsWithinArcs, IsWithinSinks, IsPreflow};
+ghost use Rattle.flow_network.specs.Preflow.{IsCertified};
 ghost use Rattle.flow_network.specs.Answer.{IsRightCut, side_of};
 ghost use Rattle.flow_network.specs.Laws.{IsLeastCutOf};
 

@@ -4,7 +4,8 @@ use flow_network::{Net, Solved, check_cut};
 use std::process::Abort;
 use std::test::Fail;
 
-/// What is claimed, what each arc carries and each node gives the sink, the side, the value, and whether it is right.
+/// What is claimed, what each arc carries and each node gives the sink, the side, the value, and whether it is
+/// right.
 type Claim = (
     &'static str,
     &'static [u64],

@@ -1,5 +1,5 @@
-//! Tests of networks, their cuts and the solver: lists, groups, distances and cuts worked out by hand or by a script
-//! that tries every cut.
+//! Tests of networks, their cuts and the solver: lists, groups, distances and cuts worked out by hand, or by a
+//! script that tries every cut.
 #![tactic(auto)]
 
 #[cfg(test)]

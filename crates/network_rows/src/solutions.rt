@@ -7,8 +7,8 @@ use std::process::Abort;
 use std::slice::Iter;
 use std::test::Fail;
 
-/// What the source can send, what the nodes can send the sink, the arcs, the value of the least cut, and the smallest
-/// such cut as a number whose bit v is the node v.
+/// What the source can send, what the nodes can send the sink, the arcs, the value of the least cut, and the
+/// smallest such cut as a number whose bit v is the node v.
 type Case = (&'static [u64], &'static [u64], &'static [Row], u64, u32);
 
 const CASES: &[Case] = &[

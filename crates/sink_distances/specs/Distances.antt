@@ -10,7 +10,8 @@ pub record IsDistance (net : Network) (flow : Flow) (v distance : ℕ) : Type 0 
 
 -- the distance, which is at most the number of nodes; or the top label, where no path leads to the sink
 abbrev pub IsExactLabel : Network → Flow → ℕ → ℕ → Type 0
-IsExactLabel net flow v label = ((label ≤ nodes net) × IsDistance net flow v label) ⊎ ((label ≡ top net) × (¬ Reaches net flow v))
+IsExactLabel net flow v label =
+    ((label ≤ nodes net) × IsDistance net flow v label) ⊎ ((label ≡ top net) × (¬ Reaches net flow v))
 
 -- an exact label for each node
 pub record AreDistances (net : Network) (flow : Flow) (labels : List ℕ) : Type 0 where

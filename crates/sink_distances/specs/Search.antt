@@ -29,8 +29,10 @@ pub record IsOrder (found : Found) : Type 0 where
   pub room : found.count + unlabelled found ≡ length found.labels
   pub places : (i : ℕ) → i < found.count → node_at found i < length found.labels
   pub short : (i : ℕ) → i < found.count → label_of found (node_at found i) ≤ i + 1
-  pub listed : (v : ℕ) → v < length found.labels → (label_of found v ≡ top_label (length found.labels)) ⊎ ((i : ℕ) × (i < found.count) × (node_at found i ≡ v))
-  pub rising : (i j : ℕ) → i ≤ j → j < found.count → label_of found (node_at found i) ≤ label_of found (node_at found j)
+  pub listed : (v : ℕ) → v < length found.labels
+      → (label_of found v ≡ top_label (length found.labels)) ⊎ ((i : ℕ) × (i < found.count) × (node_at found i ≡ v))
+  pub rising : (i j : ℕ) → i ≤ j → j < found.count
+      → label_of found (node_at found i) ≤ label_of found (node_at found j)
 
 -- no label in the order is above this one
 abbrev pub IsAtMost : ℕ → Found → Type 0
@@ -50,7 +52,8 @@ pub record Grows (label : ℕ) (IsNext : ℕ → Type 0) (old new : Found) : Typ
   pub more : old.count ≤ new.count
   pub kept : (i : ℕ) → i < old.count → node_at new i ≡ node_at old i
   pub labels : (v : ℕ) → v < length old.labels
-      → (label_of new v ≡ label_of old v) ⊎ ((label_of old v ≡ top_label (length old.labels)) × (label_of new v ≡ label) × IsNext v)
+      → (label_of new v ≡ label_of old v)
+      ⊎ ((label_of old v ≡ top_label (length old.labels)) × (label_of new v ≡ label) × IsNext v)
 
 -- the nodes that have a residual direction to w, where the arcs carry these amounts
 abbrev pub IsBefore : Network → List ℕ → ℕ → ℕ → Type 0
@@ -61,5 +64,7 @@ pub record AreStarts (net : Network) (given : List ℕ) (v : ℕ) (found : Found
   pub len : length found.labels ≡ nodes net
   pub order : IsOrder found
   pub below : IsAtMost 1 found
-  pub leads : (u : ℕ) → u < nodes net → (label_of found u ≡ top net) ⊎ ((label_of found u ≡ 1) × (slice_index given u < slice_index net.sinks u))
-  pub sinks : (u : ℕ) → u < v → u < nodes net → slice_index given u < slice_index net.sinks u → label_of found u ≤ 1
+  pub leads : (u : ℕ) → u < nodes net
+      → (label_of found u ≡ top net) ⊎ ((label_of found u ≡ 1) × (slice_index given u < slice_index net.sinks u))
+  pub sinks : (u : ℕ) → u < v → u < nodes net → slice_index given u < slice_index net.sinks u
+      → label_of found u ≤ 1

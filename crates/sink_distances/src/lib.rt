@@ -1,7 +1,7 @@
 //! The exact distance of each node to the sink over residual directions, and the nodes that reach the sink.
 //!
-//! A distance is the least number of residual directions that lead from the node to the sink, and `top_label` where none
-//! leads there (Goldberg, Tarjan 1988, section 3: the greatest valid labelling).
+//! A distance is the least number of residual directions that lead from the node to the sink, and `top_label`
+//! where none leads there (Goldberg, Tarjan 1988, section 3: the greatest valid labelling).
 #![tactic(auto)]
 
 ghost use Rattle.std.specs.Prelude.{◌≡◌, ◌<◌, ◌≤◌, ℕ, List, slice_index};
@@ -23,16 +23,19 @@ pub use side::{distances, sink_side};
 
 /// A law: distances are labels that fall by at most 1 along each residual direction.
 pub fn distances_label()
-    ensures { (net : Network) (flow : Flow) (labels : List ℕ) → IsNet net → AreDistances net flow labels → IsLabelling net flow labels }
+    ensures { (net : Network) (flow : Flow) (labels : List ℕ) → IsNet net → AreDistances net flow labels →
+        IsLabelling net flow labels }
 {}
 
 /// A law: no labels that fall by at most 1 along each residual direction are above the distances.
 pub fn distances_rise()
-    ensures { (net : Network) (flow : Flow) (old new : List ℕ) → IsLabelling net flow old → ((v : ℕ) → v < nodes net → slice_index old v ≤ top net)
-        → AreDistances net flow new → (v : ℕ) → v < nodes net → slice_index old v ≤ slice_index new v }
+    ensures { (net : Network) (flow : Flow) (old new : List ℕ) → IsLabelling net flow old →
+        ((v : ℕ) → v < nodes net → slice_index old v ≤ top net) → AreDistances net flow new →
+        (v : ℕ) → v < nodes net → slice_index old v ≤ slice_index new v }
 {}
 
 /// A law: the nodes whose distance is below the top label are those that reach the sink.
 pub fn distances_reach()
-    ensures { (net : Network) (flow : Flow) (labels : List ℕ) → AreDistances net flow labels → IsReach net flow (is_below_top net labels) }
+    ensures { (net : Network) (flow : Flow) (labels : List ℕ) → AreDistances net flow labels →
+        IsReach net flow (is_below_top net labels) }
 {}

@@ -64,9 +64,11 @@ fn mark_tail(
     requires len { length labels.old ≡ nodes carried.now.net.now }
     requires arc { k < length carried.now.net.now.arcs }
     requires ready { IsReady label (found_of labels.old order.old count) }
-    ensures grows { Grows label (IsBefore carried.now.net.now carried.now.arc_flow.now (arc_at carried.now.net.now k).to)
+    ensures grows { Grows label
+        (IsBefore carried.now.net.now carried.now.arc_flow.now (arc_at carried.now.net.now k).to)
         (found_of labels.old order.old count) (found_of labels.new order.new result) }
-    ensures marked { slice_index carried.now.arc_flow.now k < (arc_at carried.now.net.now k).capacity → slice_index labels.new (arc_at carried.now.net.now k).from ≤ label }
+    ensures marked { slice_index carried.now.arc_flow.now k < (arc_at carried.now.net.now k).capacity →
+        slice_index labels.new (arc_at carried.now.net.now k).from ≤ label }
 {
     let arc = carried.net.arcs()[k];
     if carried.arc_flow[k] < arc.capacity {
@@ -92,8 +94,9 @@ fn mark_tails(
     requires ready { IsReady label (found_of labels.old order.old count) }
     ensures grows { Grows label (IsBefore carried.now.net.now carried.now.arc_flow.now w)
         (found_of labels.old order.old count) (found_of labels.new order.new result) }
-    ensures marked { (k : ℕ) → k < length carried.now.net.now.arcs → (arc_at carried.now.net.now k).to ≡ w → slice_index carried.now.arc_flow.now k < (arc_at carried.now.net.now k).capacity
-        → slice_index labels.new (arc_at carried.now.net.now k).from ≤ label }
+    ensures marked { (k : ℕ) → k < length carried.now.net.now.arcs → (arc_at carried.now.net.now k).to ≡ w →
+        slice_index carried.now.arc_flow.now k < (arc_at carried.now.net.now k).capacity →
+        slice_index labels.new (arc_at carried.now.net.now k).from ≤ label }
 {
     let into = &carried.adjacency.into;
     for p in into.starts[w]..into.starts[w + 1] {
@@ -115,9 +118,11 @@ fn mark_head(
     requires len { length labels.old ≡ nodes carried.now.net.now }
     requires arc { k < length carried.now.net.now.arcs }
     requires ready { IsReady label (found_of labels.old order.old count) }
-    ensures grows { Grows label (IsBefore carried.now.net.now carried.now.arc_flow.now (arc_at carried.now.net.now k).from)
+    ensures grows { Grows label
+        (IsBefore carried.now.net.now carried.now.arc_flow.now (arc_at carried.now.net.now k).from)
         (found_of labels.old order.old count) (found_of labels.new order.new result) }
-    ensures marked { 0 < slice_index carried.now.arc_flow.now k → slice_index labels.new (arc_at carried.now.net.now k).to ≤ label }
+    ensures marked { 0 < slice_index carried.now.arc_flow.now k →
+        slice_index labels.new (arc_at carried.now.net.now k).to ≤ label }
 {
     let arc = carried.net.arcs()[k];
     if carried.arc_flow[k] > 0 {
@@ -143,8 +148,9 @@ fn mark_heads(
     requires ready { IsReady label (found_of labels.old order.old count) }
     ensures grows { Grows label (IsBefore carried.now.net.now carried.now.arc_flow.now w)
         (found_of labels.old order.old count) (found_of labels.new order.new result) }
-    ensures marked { (k : ℕ) → k < length carried.now.net.now.arcs → (arc_at carried.now.net.now k).from ≡ w → 0 < slice_index carried.now.arc_flow.now k
-        → slice_index labels.new (arc_at carried.now.net.now k).to ≤ label }
+    ensures marked { (k : ℕ) → k < length carried.now.net.now.arcs → (arc_at carried.now.net.now k).from ≡ w →
+        0 < slice_index carried.now.arc_flow.now k →
+        slice_index labels.new (arc_at carried.now.net.now k).to ≤ label }
 {
     let out = &carried.adjacency.out;
     for p in out.starts[w]..out.starts[w + 1] {
@@ -167,21 +173,23 @@ fn mark_before(
     requires len { length labels.old ≡ nodes carried.now.net.now }
     requires node { w < nodes carried.now.net.now }
     requires ready { IsReady (slice_index labels.old w + 1) (found_of labels.old order.old count) }
-    ensures grows { Grows (slice_index labels.old w + 1) (IsBefore carried.now.net.now carried.now.arc_flow.now w)
+    ensures grows { Grows (slice_index labels.old w + 1)
+        (IsBefore carried.now.net.now carried.now.arc_flow.now w)
         (found_of labels.old order.old count) (found_of labels.new order.new result) }
-    ensures marked { (v : ℕ) → IsBefore carried.now.net.now carried.now.arc_flow.now w v → slice_index labels.new v ≤ slice_index labels.old w + 1 }
+    ensures marked { (v : ℕ) → IsBefore carried.now.net.now carried.now.arc_flow.now w v →
+        slice_index labels.new v ≤ slice_index labels.old w + 1 }
 {
     let label = labels[w] + 1;
     let count = mark_tails(carried, labels, order, count, w, label);
     mark_heads(carried, labels, order, count, w, label)
 }
 
-/// Writes the exact distance of each node to the sink over residual directions, or `top_label` where no path leads
-/// there: a breadth-first search backwards from the sink (Goldberg, Tarjan 1988, section 3).
+/// Writes the exact distance of each node to the sink over residual directions, or `top_label` where no path
+/// leads there: a breadth-first search backwards from the sink (Goldberg, Tarjan 1988, section 3).
 ///
 /// `arc_flow` is what each arc carries and `sink_flow` what each node gives the sink; they need be no preflow.
-/// `order` is room for the search: one place for each node, whose values before and after mean nothing.
-/// Takes no memory.
+/// `labels` takes the answer, one number for each node. `order` is room for the search: one place for each node,
+/// whose values before and after mean nothing. Takes no memory.
 pub fn write_distances(
     net: &Net,
     adjacency: &Adjacency,

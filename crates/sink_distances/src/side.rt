@@ -19,7 +19,8 @@ pub fn distances(
 ) -> Result<Vec<u32>, AllocError>
     requires arcs_len { length arc_flow.now ≡ length net.now.arcs }
     requires sinks_len { length sink_flow.now ≡ nodes net.now }
-    ensures { IfOk result (λ labels. AreDistances net.now (record { arcs = arc_flow.now; sinks = sink_flow.now }) labels.items) }
+    ensures { IfOk result (λ labels.
+        AreDistances net.now (record { arcs = arc_flow.now; sinks = sink_flow.now }) labels.items) }
 {
     let adjacency = arcs_by_node(alloc, net)?;
     let mut labels = vec![in alloc; 0u32; net.nodes()]?;
@@ -35,13 +36,14 @@ pub fn distances(
     Ok(labels)
 }
 
-/// The nodes that reach the sink over residual directions: those whose exact distance is below `top_label`. The answer
-/// has one bit for each number of `labels`.
+/// The nodes that reach the sink over residual directions: those whose exact distance is below `top_label`. The
+/// answer has one bit for each number of `labels`.
 ///
 /// Refuses only where memory runs out.
 pub fn sink_side(alloc: Global, net: &Net, labels: &[u32]) -> Result<Vec<bool>, AllocError>
     ensures bits { IfOk result (λ side. side.items ≡ map (λ label. nat_lt label (top net.now)) labels.now) }
-    ensures reach { IfOk result (λ side. (flow : Flow) → AreDistances net.now flow labels.now → IsReach net.now flow (λ v. slice_index_or side.items v false)) }
+    ensures reach { IfOk result (λ side. (flow : Flow) → AreDistances net.now flow labels.now →
+        IsReach net.now flow (λ v. slice_index_or side.items v false)) }
 {
     let top = top_label(net);
     labels.iter().map(|label| *label < top).collect(alloc)
