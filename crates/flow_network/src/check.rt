@@ -167,8 +167,8 @@ fn is_certified(
 /// what the sink gets by it is the capacity of the cut and the value. Then no cut of the net has a
 /// lower capacity (Ford, Fulkerson 1956; Goldberg, Tarjan 1988).
 ///
-/// It may be asked of any numbers. Lists of the wrong length are answered no. The only error is
-/// want of memory, for two numbers a node.
+/// It may be asked of any numbers. Lists of the wrong length are answered no. It takes two numbers
+/// a node, and refuses only where memory runs out.
 pub fn check_cut(alloc: Global, net: &Net, solved: &Solved) -> Result<bool, AllocError>
     ensures right { IfOk result (λ yes. IsTrue yes ↔ IsRightCut net.now solved.now) }
     ensures least { IfOk result (λ yes. IsTrue yes →

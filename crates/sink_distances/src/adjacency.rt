@@ -8,9 +8,9 @@ use std::alloc::{AllocError, Global};
 /// The arcs of a net by their nodes, as places of its list of arcs ("forward and reverse star").
 #[derive(Drop)]
 pub struct Adjacency {
-    /// The arcs that leave each node.
+    /// The places of the arcs that leave each node.
     pub out: Groups,
-    /// The arcs that enter each node.
+    /// The places of the arcs that enter each node.
     pub into: Groups,
 }
 
