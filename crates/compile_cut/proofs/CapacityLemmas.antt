@@ -52,7 +52,7 @@ capacities_size (w ∷ ws) =
       sum_by-cons unsigned_abs w ws,
     )
 
-pub is_net : (ws : List ℤ) (arcs : List Arc) → length ws ≤ 16777216 → All (IsArc (length ws)) arcs
+pub is_net : (ws : List ℤ) (arcs : List Arc) → length ws ≤ 10485760 → All (IsArc (length ws)) arcs
     → weights_size ws + arcs_size arcs ≤ 1000000000000000000
     → IsNet (record { sources = map source_part ws; sinks = map sink_part ws; arcs = arcs })
 is_net ws arcs l each size =

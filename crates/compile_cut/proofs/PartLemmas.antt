@@ -1,5 +1,5 @@
 -- Tables as constants, weights and arcs, and what the machine's numbers give.
-use Rattle.std.proofs.Common.{◌≡◌, ℕ, ◌+◌, ◌*◌, ◌≤◌, Bool, true, false, not, ◌&&◌, List, ℤ, pos, ◌+ℤ◌, ◌-ℤ◌, unsigned_abs, w64, FitsSigned, to_z, of_z, arith, ◌∙◌}
+use Rattle.std.proofs.Common.{◌≡◌, ℕ, ◌+◌, ◌*◌, ◌≤◌, Bool, true, false, not, ◌&&◌, List, ℤ, pos, ◌+ℤ◌, ◌-ℤ◌, neg_ℤ, unsigned_abs, w64, FitsSigned, to_z, of_z, arith, ◌∙◌}
 use Rattle.std.proofs.lemmas.Int.{ints, to_z-of_z}
 use Rattle.sums.specs.Sums.{counted}
 use Rattle.sums.specs.IntegerSums.{int_counted}
@@ -28,6 +28,13 @@ arc_is table g r e = omega (arith, ints, r, e)
 -- a number of the machine as it is passed on
 pub passed_is : (z : ℤ) → unsigned_abs z ≤ 1000000000000000000 → to_z w64 (of_z w64 z) ≡ z
 passed_is z h = to_z-of_z w64 z (within_fits 1000000000000000000 z h (omega arith))
+
+-- a number of the machine with its sign turned
+pub minus_is : (z : ℤ) → unsigned_abs z ≤ 1000000000000000000 → to_z w64 (of_z w64 (pos 0 -ℤ to_z w64 (of_z w64 z))) ≡ neg_ℤ z
+minus_is z h =
+    let turned : unsigned_abs (pos 0 -ℤ z) ≤ 1000000000000000000 = omega (arith, abs-sub (pos 0) z) in
+    let is : to_z w64 (of_z w64 z) ≡ z = passed_is z h in
+    rw is (passed_is (pos 0 -ℤ z) turned ∙ omega (arith, ints))
 
 -- the numbers added up so far
 pub constant_is : (y z : ℤ) → unsigned_abs y ≤ 1000000000000000000 → unsigned_abs z ≤ 1000000000000000000

@@ -91,7 +91,7 @@ arcs_value-same n (arc ∷ arcs) x y s h =
 
 pub three_more : (q v v1 v2 : ℤ) (a a1 a2 : ℕ) (p : ThreePart) (w x y z : Bool)
     → v1 ≡ v +ℤ int_counted w p.hidden → v2 ≡ v1 +ℤ int_counted x p.first +ℤ int_counted y p.second +ℤ int_counted z p.third
-    → a1 ≡ a + counted (y && not x) p.first_second + counted (z && not x) p.first_third + counted (z && not y) p.second_third
+    → a1 ≡ a + counted (y && not x) p.arcs.first_second + counted (z && not x) p.arcs.first_third + counted (z && not y) p.arcs.second_third
     → a2 ≡ a1 + hidden_value p.hidden w x y z
     → q +ℤ p.constant +ℤ v2 +ℤ pos a2 ≡ q +ℤ v +ℤ pos a +ℤ part_value p w x y z
 three_more q v v1 v2 a a1 a2 p w x y z hv hv2 ha ha2 = omega (arith, ints, hv, hv2, ha, ha2)

@@ -1,8 +1,10 @@
 use Rattle.std.specs.Prelude.{◌≡◌, ℕ, ◌+◌, ◌*◌, ◌≤◌, Bool, All, ℤ, pos, ◌+ℤ◌, ◌≤ℤ◌, unsigned_abs, vec_len}
 use Rattle.pseudo_bool.specs.declared.term.Term.{Term}
 use Rattle.pseudo_bool.specs.Formula.{Formula, term_value, value_at}
+use Rattle.pseudo_bool.specs.Limits.{value_limit, constant_limit}
 use Rattle.flow_network.specs.Cut.{IsArc}
 use Rattle.compile_cut.specs.declared.quadratic.Quadratic.{Quadratic}
+use Rattle.compile_cut.specs.Limits.{term_size}
 use Rattle.compile_cut.specs.Shown.{Shows}
 use Rattle.compile_cut.specs.Weights.{weights_value, weights_size, arcs_value, arcs_size, IsAbove}
 
@@ -12,8 +14,8 @@ quadratic_value q x = q.constant +ℤ weights_value q.weights.items x +ℤ pos (
 
 -- what is true after this many terms
 pub record IsBounded (terms : ℕ) (q : Quadratic) : Type 0 where
-  pub constant : unsigned_abs q.constant ≤ 1000000000000000 + 1000000000 * terms
-  pub size : weights_size q.weights.items + arcs_size q.arcs.items ≤ 60000000000 * terms
+  pub constant : unsigned_abs q.constant ≤ constant_limit + value_limit * terms
+  pub size : weights_size q.weights.items + arcs_size q.arcs.items ≤ term_size * terms
   pub arcs : All (IsArc (vec_len q.weights)) q.arcs.items
   pub above : All IsAbove q.arcs.items
 

@@ -1,20 +1,21 @@
 ghost use Rattle.std.specs.Prelude.{◌≡◌, ℕ, ◌+◌, ◌*◌, ◌<◌, ◌≤◌, Bool, not, ◌&&◌, All, ◌+ℤ◌, unsigned_abs, vec_len, OnOk};
 ghost use Rattle.sums.specs.Sums.{counted};
 ghost use Rattle.sums.specs.IntegerSums.{int_counted};
+ghost use Rattle.pseudo_bool.specs.Limits.{value_limit};
 ghost use Rattle.flow_network.specs.Cut.{IsArc};
+ghost use Rattle.compile_cut.specs.Limits.{term_size, form_size};
 ghost use Rattle.compile_cut.specs.Weights.{weights_value, weights_size, arcs_value, arcs_size, IsAbove};
 ghost use Rattle.compile_cut.specs.Three.{hidden_value, IsSmall};
 
-use crate::three::ThreePart;
+use crate::three::{ThreeArcs, ThreePart};
 use flow_network::Arc;
-use pseudo_bool::VALUE_LIMIT;
 use std::alloc::AllocError;
 
 /// Adds to one of the weights.
 pub fn add_weight(weights: &mut Vec<i64>, at: u32, by: i64)
     requires at { at < vec_len weights.old }
-    requires small { weights_size weights.old.items ≤ 1000000000000000000 }
-    requires step { unsigned_abs by ≤ 8 * VALUE_LIMIT }
+    requires room { weights_size weights.old.items ≤ form_size + term_size }
+    requires step { unsigned_abs by ≤ 8 * value_limit }
     ensures len { vec_len weights.new ≡ vec_len weights.old }
     ensures value { (x : ℕ → Bool) → weights_value weights.new.items x ≡ weights_value weights.old.items x +ℤ int_counted (x at) by }
     ensures size { weights_size weights.new.items ≤ weights_size weights.old.items + unsigned_abs by }
@@ -48,12 +49,12 @@ pub fn add_three_weights(weights: &mut Vec<i64>, nodes: Nodes, part: &ThreePart)
     requires first { nodes.first < vec_len weights.old }
     requires second { nodes.second < vec_len weights.old }
     requires third { nodes.third < vec_len weights.old }
-    requires room { weights_size weights.old.items ≤ 900000000000000000 }
+    requires room { weights_size weights.old.items + 12 * value_limit ≤ form_size + term_size }
     requires small { IsSmall part.now }
     ensures len { vec_len weights.new ≡ vec_len weights.old }
     ensures value { (x : ℕ → Bool) → weights_value weights.new.items x ≡ weights_value weights.old.items x +ℤ int_counted (x nodes.first) part.now.first
         +ℤ int_counted (x nodes.second) part.now.second +ℤ int_counted (x nodes.third) part.now.third }
-    ensures size { weights_size weights.new.items ≤ weights_size weights.old.items + 12000000000 }
+    ensures size { weights_size weights.new.items ≤ weights_size weights.old.items + 12 * value_limit }
 {
     add_weight(weights, nodes.first, part.first);
     add_weight(weights, nodes.second, part.second);
@@ -61,7 +62,7 @@ pub fn add_three_weights(weights: &mut Vec<i64>, nodes: Nodes, part: &ThreePart)
 }
 
 /// Adds the arcs among three variables, each from an earlier to a later.
-pub fn add_three_arcs(arcs: &mut Vec<Arc>, nodes: Nodes, part: &ThreePart) -> Result<(), AllocError>
+pub fn add_three_arcs(arcs: &mut Vec<Arc>, nodes: Nodes, part: &ThreeArcs) -> Result<(), AllocError>
     ensures value { OnOk result ((x : ℕ → Bool) → arcs_value arcs.new.items x ≡ arcs_value arcs.old.items x
         + counted (x nodes.second && not (x nodes.first)) part.now.first_second
         + counted (x nodes.third && not (x nodes.first)) part.now.first_third

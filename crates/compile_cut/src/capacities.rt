@@ -1,12 +1,13 @@
 ghost use Rattle.std.specs.Prelude.{◌≡◌, ℕ, ◌+◌, ◌<◌, ◌≤◌, ◌⊎◌, Bool, All, map, sum, length, pos, ◌+ℤ◌, ◌-ℤ◌, unsigned_abs, vec_len, slice_index, IfOk};
+ghost use Rattle.pseudo_bool.specs.Limits.{term_limit};
 ghost use Rattle.flow_network.specs.Cut.{nodes, capacity_of};
+ghost use Rattle.compile_cut.specs.Limits.{form_nodes, form_size, form_constant, compiled_constant};
 ghost use Rattle.compile_cut.specs.Weights.{weights_size, source_part, sink_part, IsAbove};
 ghost use Rattle.compile_cut.specs.Form.{quadratic_value, IsBounded};
 
 use crate::Compiled;
 use crate::quadratic::Quadratic;
 use flow_network::Net;
-use pseudo_bool::TERM_LIMIT;
 use std::alloc::{AllocError, Global};
 
 /// What the source sends a node of this weight.
@@ -45,9 +46,10 @@ fn sink_capacities(alloc: Global, weights: &[i64]) -> Result<Vec<u64>, AllocErro
 
 /// A number less the numbers of a list.
 fn less_all(constant: i64, numbers: &[u64]) -> i64
-    requires constant { unsigned_abs constant ≤ 1000000000000000000 }
-    requires numbers { sum numbers.now ≤ 1000000000000000000 }
-    ensures { result ≡ constant -ℤ pos (sum numbers.now) }
+    requires constant { unsigned_abs constant ≤ form_constant }
+    requires numbers { sum numbers.now ≤ form_size }
+    ensures value { result ≡ constant -ℤ pos (sum numbers.now) }
+    ensures bounded { unsigned_abs result ≤ compiled_constant }
 {
     let total: u64 = numbers.iter().sum();
     constant - total as i64
@@ -55,9 +57,10 @@ fn less_all(constant: i64, numbers: &[u64]) -> i64
 
 /// The net of a sum of terms: a weight above 0 is a capacity of the source, one below 0 a capacity of the sink and a constant.
 pub fn net_of(alloc: Global, form: Quadratic) -> Result<Compiled, AllocError>
-    requires bounded { IsBounded TERM_LIMIT form }
-    requires len { vec_len form.weights ≤ 16777216 }
+    requires bounded { IsBounded term_limit form }
+    requires len { vec_len form.weights ≤ form_nodes }
     ensures value { IfOk result (λ c. (x : ℕ → Bool) → pos (capacity_of c.net x) +ℤ c.constant ≡ quadratic_value form x) }
+    ensures constant { IfOk result (λ c. unsigned_abs c.constant ≤ compiled_constant) }
     ensures nodes { IfOk result (λ c. nodes c.net ≡ vec_len form.weights) }
     ensures one_sided { IfOk result (λ c. (v : ℕ) → (slice_index c.net.sources v ≡ 0) ⊎ (slice_index c.net.sinks v ≡ 0)) }
     ensures arcs { IfOk result (λ c. All IsAbove c.net.arcs) }

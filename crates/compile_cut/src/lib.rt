@@ -13,6 +13,3 @@ mod three;
 pub use compiled::{Compiled, compile};
 pub use flow_network::{Arc, Net, Solved, check_cut};
 pub use laws::smallest_cut_is_smallest_assignment;
-
-#[cfg(test)]
-mod tests;

@@ -1,10 +1,12 @@
 ghost use Rattle.std.specs.Prelude.{◌≡◌, ℕ, ◌+◌, ◌*◌, ◌<◌, ◌≤◌, Bool, not, ◌&&◌, All, length, ◌+ℤ◌, ◌≤ℤ◌, unsigned_abs, sum_by, slice_index_or, pos, vec_len, OnOk, IfOk};
 ghost use Rattle.sums.specs.Sums.{counted};
 ghost use Rattle.sums.specs.IntegerSums.{int_counted};
-ghost use Rattle.pseudo_bool.specs.Formula.{entry, digit, IsWithin, IsTerm, IsEnergy, value_at};
+ghost use Rattle.pseudo_bool.specs.Limits.{term_limit};
+ghost use Rattle.pseudo_bool.specs.Formula.{entry, digit, IsValue, IsTerm, IsEnergy, value_at};
 ghost use Rattle.regular.specs.Regularity.{IsRegular, IsRegularTerm, IsRegularTable, projection};
 ghost use Rattle.regular.specs.declared.fixed.Fixed.{Fixed};
 ghost use Rattle.flow_network.specs.Cut.{IsArc};
+ghost use Rattle.compile_cut.specs.Limits.{form_nodes};
 ghost use Rattle.compile_cut.specs.Weights.{weights_value, weights_size, arcs_value, arcs_size, IsAbove};
 ghost use Rattle.compile_cut.specs.Form.{quadratic_value, IsBounded, AddsTerm, SaysValues};
 ghost use Rattle.compile_cut.specs.Shown.{three_count, three_digit};
@@ -15,7 +17,7 @@ use crate::adding::{
 use crate::parts::{split_one, split_pair};
 use crate::three::split_three;
 use flow_network::Arc;
-use pseudo_bool::{Energy, TERM_LIMIT, Term, VALUE_LIMIT};
+use pseudo_bool::{Energy, Term};
 use std::alloc::{AllocError, Global};
 
 /// A number, a weight for each node, and arcs: what the terms of an energy add up to.
@@ -29,9 +31,9 @@ pub struct Quadratic {
 impl Quadratic {
     /// Adds a table over one variable.
     fn add_one(&mut self, first: u32, table: &[i64; 2])
-        requires bounded { IsBounded 8388607 self.old }
+        requires bounded { IsBounded term_limit self.old }
         requires first { first < vec_len self.old.weights }
-        requires values { All (IsWithin VALUE_LIMIT) table.now }
+        requires values { All IsValue table.now }
         ensures len { vec_len self.new.weights ≡ vec_len self.old.weights }
         ensures bounded { (k : ℕ) → IsBounded k self.old → IsBounded (k + 1) self.new }
         ensures value { (x : ℕ → Bool) → quadratic_value self.new x ≡ quadratic_value self.old x +ℤ entry table.now (digit (x first)) }
@@ -43,10 +45,10 @@ impl Quadratic {
 
     /// Adds a regular table over two variables.
     fn add_pair(&mut self, first: u32, second: u32, table: &[i64; 4]) -> Result<(), AllocError>
-        requires bounded { IsBounded 8388607 self.old }
+        requires bounded { IsBounded term_limit self.old }
         requires first { first < vec_len self.old.weights }
         requires second { second < vec_len self.old.weights }
-        requires values { All (IsWithin VALUE_LIMIT) table.now }
+        requires values { All IsValue table.now }
         requires regular { IsRegularTable table.now }
         ensures len { vec_len self.new.weights ≡ vec_len self.old.weights }
         ensures bounded { OnOk result ((k : ℕ) → IsBounded k self.old → IsBounded (k + 1) self.new) }
@@ -62,12 +64,12 @@ impl Quadratic {
 
     /// Adds a regular table over three variables, with a hidden node.
     fn add_three(&mut self, nodes: Nodes, table: &[i64; 8]) -> Result<(), AllocError>
-        requires bounded { IsBounded 8388607 self.old }
-        requires room { vec_len self.old.weights < 16777216 }
+        requires bounded { IsBounded term_limit self.old }
+        requires room { vec_len self.old.weights < form_nodes }
         requires first { nodes.first < vec_len self.old.weights }
         requires second { nodes.second < vec_len self.old.weights }
         requires third { nodes.third < vec_len self.old.weights }
-        requires values { All (IsWithin VALUE_LIMIT) table.now }
+        requires values { All IsValue table.now }
         requires regular { (fixed : Fixed) → fixed.position < 3 → IsRegularTable (projection table.now fixed) }
         ensures len { OnOk result (vec_len self.new.weights ≡ vec_len self.old.weights + 1) }
         ensures bounded { OnOk result ((k : ℕ) → IsBounded k self.old → IsBounded (k + 1) self.new) }
@@ -77,7 +79,7 @@ impl Quadratic {
         let hidden = self.weights.len() as u32;
         self.weights.push(part.hidden)?;
         add_three_weights(&mut self.weights, nodes, &part);
-        add_three_arcs(&mut self.arcs, nodes, &part)?;
+        add_three_arcs(&mut self.arcs, nodes, &part.arcs)?;
         add_hidden_arcs(&mut self.arcs, hidden, nodes, part.hidden)?;
         self.constant += part.constant;
         Ok(())
@@ -85,10 +87,10 @@ impl Quadratic {
 
     /// Adds a regular term over variables that have their nodes.
     fn add_term(&mut self, term: &Term) -> Result<(), AllocError>
-        requires bounded { IsBounded 8388607 self.old }
+        requires bounded { IsBounded term_limit self.old }
         requires term { IsTerm (vec_len self.old.weights) term.now }
         requires regular { IsRegularTerm term.now }
-        requires room { vec_len self.old.weights < 16777216 }
+        requires room { vec_len self.old.weights < form_nodes }
         ensures len { OnOk result (vec_len self.new.weights ≡ vec_len self.old.weights + three_digit term.now) }
         ensures bounded { OnOk result ((k : ℕ) → IsBounded k self.old → IsBounded (k + 1) self.new) }
         ensures value { OnOk result (AddsTerm self.old self.new term.now) }
@@ -115,7 +117,7 @@ impl Quadratic {
 pub fn quadratic_of(alloc: Global, energy: &Energy) -> Result<Quadratic, AllocError>
     requires { IsRegular energy.now }
     ensures values { IfOk result (λ form. SaysValues energy.now form) }
-    ensures bounded { IfOk result (λ form. IsBounded TERM_LIMIT form) }
+    ensures bounded { IfOk result (λ form. IsBounded term_limit form) }
     ensures variables { IfOk result (λ form. energy.now.variables ≤ vec_len form.weights) }
     ensures hidden { IfOk result (λ form. vec_len form.weights ≤ energy.now.variables + three_count energy.now) }
     ensures limits { IfOk result (λ form. IsEnergy energy.now) }

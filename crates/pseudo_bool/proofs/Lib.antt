@@ -1,2 +1,3 @@
 mod RowLemmas
 mod TableLemmas
+pub mod RefusalLemmas

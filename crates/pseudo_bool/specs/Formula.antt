@@ -1,8 +1,8 @@
 use Rattle.std.specs.Prelude.{◌≢◌, ℕ, ◌+◌, ◌*◌, ◌<◌, ◌≤◌, Bool, false, cond, List, All, length, ℤ, pos, ◌+ℤ◌, unsigned_abs, slice_index_or}
 use Rattle.sums.specs.IntegerSums.{int_sum_by}
-use Rattle.pseudo_bool.specs.declared.limits.TheConstants.{VARIABLE_LIMIT, TERM_LIMIT, VALUE_LIMIT, CONSTANT_LIMIT}
 use Rattle.pseudo_bool.specs.declared.term.Term.{Term}
 use Rattle.pseudo_bool.specs.declared.term.Term.TheVariants.{One, Two, Three}
+use Rattle.pseudo_bool.specs.Limits.{variable_limit, term_limit, value_limit, constant_limit}
 
 -- the number at a place of a table
 abbrev pub entry : List ℤ → ℕ → ℤ
@@ -36,16 +36,20 @@ assignment bits i = slice_index_or bits i false
 abbrev pub IsWithin : ℕ → ℤ → Type 0
 IsWithin limit z = unsigned_abs z ≤ limit
 
+-- a number of a table, and a constant that is added in one call, in their range
+abbrev pub IsValue : ℤ → Type 0
+IsValue z = IsWithin value_limit z
+
 -- the term is over variables below n, no two of them equal, and its numbers are in their range
 abbrev pub IsTerm : ℕ → Term → Type 0
-IsTerm n (One first table) = (first < n) × All (IsWithin VALUE_LIMIT) table
-IsTerm n (Two first second table) = (first < n) × (second < n) × (first ≢ second) × All (IsWithin VALUE_LIMIT) table
+IsTerm n (One first table) = (first < n) × All IsValue table
+IsTerm n (Two first second table) = (first < n) × (second < n) × (first ≢ second) × All IsValue table
 IsTerm n (Three first second third table) =
-    (first < n) × (second < n) × (third < n) × (first ≢ second) × (first ≢ third) × (second ≢ third) × All (IsWithin VALUE_LIMIT) table
+    (first < n) × (second < n) × (third < n) × (first ≢ second) × (first ≢ third) × (second ≢ third) × All IsValue table
 
 -- what is true of every energy
 pub record IsEnergy (e : Formula) : Type 0 where
-  pub constant : IsWithin CONSTANT_LIMIT e.constant
-  pub variables : e.variables ≤ VARIABLE_LIMIT
-  pub count : length e.terms ≤ TERM_LIMIT
+  pub constant : IsWithin constant_limit e.constant
+  pub variables : e.variables ≤ variable_limit
+  pub count : length e.terms ≤ term_limit
   pub terms : All (IsTerm e.variables) e.terms

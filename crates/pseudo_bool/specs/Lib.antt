@@ -1,2 +1,4 @@
+pub mod Limits
 pub mod Formula
+pub mod Refusals
 pub mod Rows

@@ -1,5 +1,7 @@
-ghost use Rattle.std.specs.Prelude.{◌≡◌, ◌≢◌, ◌+◌, ◌<◌, ◌≤◌, ◌↔◌, ◌⊎◌, [], ◌∷◌, ◌++◌, All, length, pos, ◌+ℤ◌, unsigned_abs, slice_get, IsTrue, IsOk, IfOk, IfErr, OnOk, OnErr, IsOkUnless};
-ghost use Rattle.pseudo_bool.specs.Formula.{IsEnergy, IsTerm, IsWithin, value_at, assignment};
+ghost use Rattle.std.specs.Prelude.{◌≡◌, ◌+◌, ◌<◌, ◌≤◌, ◌↔◌, [], All, length, pos, ◌+ℤ◌, slice_get, IsTrue, IsOk, IfOk, IfErr, OnOk, OnErr};
+ghost use Rattle.pseudo_bool.specs.Limits.{variable_limit, constant_limit};
+ghost use Rattle.pseudo_bool.specs.Formula.{IsEnergy, IsTerm, IsWithin, IsValue, value_at, assignment};
+ghost use Rattle.pseudo_bool.specs.Refusals.{IsAccepted, IsAdded, IsRefusal};
 ghost use Rattle.pseudo_bool.specs.Rows.{term_of, triple_term, IsKept};
 
 use crate::row::{Row, Triple, narrow};
@@ -44,7 +46,7 @@ impl Energy {
 
     /// Whether an energy may have this many variables: at most `VARIABLE_LIMIT`.
     pub fn fits(variables: u32) -> bool
-        ensures { IsTrue result ↔ (variables ≤ VARIABLE_LIMIT) }
+        ensures { IsTrue result ↔ (variables ≤ variable_limit) }
     {
         variables <= VARIABLE_LIMIT
     }
@@ -52,7 +54,7 @@ impl Energy {
     /// Makes it the energy 0 of this many variables, with no terms. It keeps the room of its lists for the terms to come,
     /// so that an energy that is cleared and filled again seldom grows. It takes no memory.
     pub fn clear(&mut self, variables: u32)
-        requires { variables ≤ VARIABLE_LIMIT }
+        requires { variables ≤ variable_limit }
         ensures { self.new ≡ record { constant = pos 0; variables = variables; terms = [] } }
     {
         self.constant = 0;
@@ -61,7 +63,7 @@ impl Energy {
         self.triples.clear();
     }
 
-    /// The sum of the constants.
+    /// The sum of the constants that were added, from `-CONSTANT_LIMIT` to `CONSTANT_LIMIT`.
     pub fn constant(&self) -> i64
         ensures value { result ≡ self.now.constant }
         ensures limits { IsEnergy self.now }
@@ -69,7 +71,7 @@ impl Energy {
         self.constant
     }
 
-    /// How many variables there are. They are numbered from 0.
+    /// How many variables there are, at most `VARIABLE_LIMIT`. They are numbered from 0.
     pub fn variables(&self) -> u32
         ensures value { result ≡ self.now.variables }
         ensures limits { IsEnergy self.now }
@@ -77,7 +79,7 @@ impl Energy {
         self.variables
     }
 
-    /// How many terms there are.
+    /// How many terms there are, at most `TERM_LIMIT`.
     pub fn term_count(&self) -> usize
         ensures value { result ≡ length self.now.terms }
         ensures limits { IsEnergy self.now }
@@ -85,7 +87,7 @@ impl Energy {
         self.rows.len()
     }
 
-    /// The term at a place of the list.
+    /// The term at a place of the list, counted from 0.
     pub fn term(&self, index: usize) -> Term
         requires { index < length self.now.terms }
         ensures value { slice_get self.now.terms index ≡ Some result }
@@ -95,13 +97,14 @@ impl Energy {
         self.rows[index].term(self.triples.as_slice())
     }
 
-    /// A further variable, which answers its number: 0 for the first.
+    /// A further variable, which answers its number: 0 for the first. `NoSuchVariable` where there are
+    /// `VARIABLE_LIMIT` variables already. It takes no memory.
     pub fn add_variable(&mut self) -> Result<u32, EnergyError>
+        ensures accepted { IsOk result ↔ (self.old.variables < variable_limit) }
         ensures number { IfOk result (λ number. number ≡ self.old.variables) }
-        ensures ok { OnOk result (self.new ≡ record self.old { variables = self.old.variables + 1 }) }
-        ensures accepted { IsOk result ↔ (self.old.variables < VARIABLE_LIMIT) }
+        ensures added { OnOk result (self.new ≡ record self.old { variables = self.old.variables + 1 }) }
         ensures refused { IfErr result (λ e. e ≡ EnergyError.NoSuchVariable) }
-        ensures err { OnErr result (self.new ≡ self.old) }
+        ensures unchanged { OnErr result (self.new ≡ self.old) }
     {
         if self.variables >= VARIABLE_LIMIT {
             return Err(EnergyError::NoSuchVariable);
@@ -111,12 +114,13 @@ impl Energy {
         Ok(number)
     }
 
-    /// Adds a number to the constant. Both the number and the sum have a limit.
+    /// Adds a number to the constant: both the number, from `-VALUE_LIMIT` to `VALUE_LIMIT`, and the sum of all of them,
+    /// from `-CONSTANT_LIMIT` to `CONSTANT_LIMIT`. Refused is `ValueRange` alone.
     pub fn add_constant(&mut self, constant: i64) -> Result<(), EnergyError>
-        ensures ok { OnOk result (self.new ≡ record self.old { constant = self.old.constant +ℤ constant }) }
-        ensures accepted { IsOk result ↔ (IsWithin VALUE_LIMIT constant × IsWithin CONSTANT_LIMIT (self.old.constant +ℤ constant)) }
+        ensures accepted { IsOk result ↔ (IsValue constant × IsWithin constant_limit (self.old.constant +ℤ constant)) }
+        ensures added { OnOk result (self.new ≡ record self.old { constant = self.old.constant +ℤ constant }) }
         ensures refused { IfErr result (λ e. e ≡ EnergyError.ValueRange) }
-        ensures err { OnErr result (self.new ≡ self.old) }
+        ensures unchanged { OnErr result (self.new ≡ self.old) }
     {
         if !is_within(constant, VALUE_LIMIT) {
             return Err(EnergyError::ValueRange);
@@ -129,16 +133,15 @@ impl Energy {
         Ok(())
     }
 
-    /// Adds a term of one variable: the table has its numbers at 0 and at 1.
+    /// Adds a term of one variable at the end of the list: its numbers where the variable is 0 and where it is 1
+    /// (Kolmogorov and Zabih, PAMI 2004, section 2). Refused, the first that holds: `NoSuchVariable` where the variable
+    /// is not one of the energy's, `ValueRange` where a number is not from `-VALUE_LIMIT` to `VALUE_LIMIT`,
+    /// `TooManyTerms` where the list is full, `OutOfMemory` where a growth was refused.
     pub fn add_term1(&mut self, first: u32, table: [i64; 2]) -> Result<(), EnergyError>
-        ensures ok { OnOk result (self.new ≡ record self.old { terms = self.old.terms ++ Term.One first table ∷ [] }) }
-        ensures err { OnErr result (self.new ≡ self.old) }
-
-        // The refusals, each where none before it applies.
-        ensures variable { self.old.variables ≤ first → result ≡ Err EnergyError.NoSuchVariable }
-        ensures range { first < self.old.variables → ¬ All (IsWithin VALUE_LIMIT) table → result ≡ Err EnergyError.ValueRange }
-        ensures full { IsTerm self.old.variables (Term.One first table) → TERM_LIMIT ≤ length self.old.terms → result ≡ Err EnergyError.TooManyTerms }
-        ensures accepted { IsTerm self.old.variables (Term.One first table) → length self.old.terms < TERM_LIMIT → IsOkUnless result EnergyError.OutOfMemory }
+        ensures accepted { OnOk result (IsAccepted self.old (Term.One first table)) }
+        ensures added { OnOk result (IsAdded self.old self.new (Term.One first table)) }
+        ensures refused { IfErr result (IsRefusal self.old (Term.One first table)) }
+        ensures unchanged { OnErr result (self.new ≡ self.old) }
     {
         if first >= self.variables {
             return Err(EnergyError::NoSuchVariable);
@@ -149,17 +152,14 @@ impl Energy {
         self.add_row(Row::One(first, narrow(&table)))
     }
 
-    /// Adds a term of two variables: the table has its numbers at 00, 01, 10 and 11.
+    /// Adds a term of two variables at the end of the list: its numbers at 00, 01, 10 and 11, where the first variable
+    /// is the first digit. Refused, the first that holds: `NoSuchVariable`, `SameVariable` where the two are one,
+    /// `ValueRange`, `TooManyTerms`, `OutOfMemory`, as by `add_term1`.
     pub fn add_term2(&mut self, first: u32, second: u32, table: [i64; 4]) -> Result<(), EnergyError>
-        ensures ok { OnOk result (self.new ≡ record self.old { terms = self.old.terms ++ Term.Two first second table ∷ [] }) }
-        ensures err { OnErr result (self.new ≡ self.old) }
-
-        // The refusals, each where none before it applies.
-        ensures variable { (self.old.variables ≤ first) ⊎ (self.old.variables ≤ second) → result ≡ Err EnergyError.NoSuchVariable }
-        ensures same { first < self.old.variables → first ≡ second → result ≡ Err EnergyError.SameVariable }
-        ensures range { first < self.old.variables → second < self.old.variables → first ≢ second → ¬ All (IsWithin VALUE_LIMIT) table → result ≡ Err EnergyError.ValueRange }
-        ensures full { IsTerm self.old.variables (Term.Two first second table) → TERM_LIMIT ≤ length self.old.terms → result ≡ Err EnergyError.TooManyTerms }
-        ensures accepted { IsTerm self.old.variables (Term.Two first second table) → length self.old.terms < TERM_LIMIT → IsOkUnless result EnergyError.OutOfMemory }
+        ensures accepted { OnOk result (IsAccepted self.old (Term.Two first second table)) }
+        ensures added { OnOk result (IsAdded self.old self.new (Term.Two first second table)) }
+        ensures refused { IfErr result (IsRefusal self.old (Term.Two first second table)) }
+        ensures unchanged { OnErr result (self.new ≡ self.old) }
     {
         if first >= self.variables || second >= self.variables {
             return Err(EnergyError::NoSuchVariable);
@@ -173,7 +173,9 @@ impl Energy {
         self.add_row(Row::Two(first, second, narrow(&table)))
     }
 
-    /// Adds a term of three variables: the table has its numbers at 000, 001, 010, 011, 100, 101, 110 and 111.
+    /// Adds a term of three variables at the end of the list: its numbers at 000, 001, 010, 011, 100, 101, 110 and 111,
+    /// where the first variable is the first digit. Refused, the first that holds: `NoSuchVariable`, `SameVariable`
+    /// where two of the three are one, `ValueRange`, `TooManyTerms`, `OutOfMemory`, as by `add_term1`.
     pub fn add_term3(
         &mut self,
         first: u32,
@@ -181,17 +183,10 @@ impl Energy {
         third: u32,
         table: [i64; 8],
     ) -> Result<(), EnergyError>
-        ensures ok { OnOk result (self.new ≡ record self.old { terms = self.old.terms ++ Term.Three first second third table ∷ [] }) }
-        ensures err { OnErr result (self.new ≡ self.old) }
-
-        // The refusals, each where none before it applies.
-        ensures variable { (self.old.variables ≤ first) ⊎ (self.old.variables ≤ second) ⊎ (self.old.variables ≤ third) → result ≡ Err EnergyError.NoSuchVariable }
-        ensures same { first < self.old.variables → second < self.old.variables → third < self.old.variables →
-            (first ≡ second) ⊎ (first ≡ third) ⊎ (second ≡ third) → result ≡ Err EnergyError.SameVariable }
-        ensures range { first < self.old.variables → second < self.old.variables → third < self.old.variables →
-            first ≢ second → first ≢ third → second ≢ third → ¬ All (IsWithin VALUE_LIMIT) table → result ≡ Err EnergyError.ValueRange }
-        ensures full { IsTerm self.old.variables (Term.Three first second third table) → TERM_LIMIT ≤ length self.old.terms → result ≡ Err EnergyError.TooManyTerms }
-        ensures accepted { IsTerm self.old.variables (Term.Three first second third table) → length self.old.terms < TERM_LIMIT → IsOkUnless result EnergyError.OutOfMemory }
+        ensures accepted { OnOk result (IsAccepted self.old (Term.Three first second third table)) }
+        ensures added { OnOk result (IsAdded self.old self.new (Term.Three first second third table)) }
+        ensures refused { IfErr result (IsRefusal self.old (Term.Three first second third table)) }
+        ensures unchanged { OnErr result (self.new ≡ self.old) }
     {
         if first >= self.variables || second >= self.variables || third >= self.variables {
             return Err(EnergyError::NoSuchVariable);
@@ -214,10 +209,10 @@ impl Energy {
     fn add_row(&mut self, row: Row) -> Result<(), EnergyError>
         requires term { IsTerm self.old.variables (term_of [] row) }
         requires kept { IsKept 0 row }
-        ensures ok { OnOk result (self.new ≡ record self.old { terms = self.old.terms ++ term_of [] row ∷ [] }) }
-        ensures err { OnErr result (self.new ≡ self.old) }
-        ensures full { TERM_LIMIT ≤ length self.old.terms → result ≡ Err EnergyError.TooManyTerms }
-        ensures accepted { length self.old.terms < TERM_LIMIT → IsOkUnless result EnergyError.OutOfMemory }
+        ensures accepted { OnOk result (IsAccepted self.old (term_of [] row)) }
+        ensures added { OnOk result (IsAdded self.old self.new (term_of [] row)) }
+        ensures refused { IfErr result (IsRefusal self.old (term_of [] row)) }
+        ensures unchanged { OnErr result (self.new ≡ self.old) }
     {
         if self.rows.len() >= TERM_LIMIT {
             return Err(EnergyError::TooManyTerms);
@@ -229,10 +224,10 @@ impl Energy {
     /// Adds a triple, if there is room for one more term.
     fn add_triple(&mut self, triple: Triple) -> Result<(), EnergyError>
         requires { IsTerm self.old.variables (triple_term triple) }
-        ensures ok { OnOk result (self.new ≡ record self.old { terms = self.old.terms ++ triple_term triple ∷ [] }) }
-        ensures err { OnErr result (self.new ≡ self.old) }
-        ensures full { TERM_LIMIT ≤ length self.old.terms → result ≡ Err EnergyError.TooManyTerms }
-        ensures accepted { length self.old.terms < TERM_LIMIT → IsOkUnless result EnergyError.OutOfMemory }
+        ensures accepted { OnOk result (IsAccepted self.old (triple_term triple)) }
+        ensures added { OnOk result (IsAdded self.old self.new (triple_term triple)) }
+        ensures refused { IfErr result (IsRefusal self.old (triple_term triple)) }
+        ensures unchanged { OnErr result (self.new ≡ self.old) }
     {
         if TERM_LIMIT <= self.rows.len() {
             return Err(EnergyError::TooManyTerms);
@@ -244,7 +239,9 @@ impl Energy {
         Ok(())
     }
 
-    /// The value at an assignment, one bit for each variable.
+    /// The value at an assignment, one bit for each variable in their order: the constant plus what each term's table
+    /// has there (Kolmogorov and Zabih, PAMI 2004, section 2). Its size is at most
+    /// `CONSTANT_LIMIT + TERM_LIMIT * VALUE_LIMIT`. It takes no memory.
     pub fn value(&self, bits: &[bool]) -> i64
         requires { length bits.now ≡ self.now.variables }
         ensures { result ≡ value_at self.now (assignment bits.now) }
@@ -267,7 +264,7 @@ fn is_within(value: i64, limit: u64) -> bool
 
 /// Whether each number of a table is in its range.
 fn are_values(table: &[i64]) -> bool
-    ensures { IsTrue result ↔ All (IsWithin VALUE_LIMIT) table.now }
+    ensures { IsTrue result ↔ All IsValue table.now }
 {
     table.iter().all(|value| is_within(*value, VALUE_LIMIT))
 }

@@ -13,6 +13,3 @@ pub use energy::Energy;
 pub use error::EnergyError;
 pub use limits::{CONSTANT_LIMIT, TERM_LIMIT, VALUE_LIMIT, VARIABLE_LIMIT};
 pub use term::Term;
-
-#[cfg(test)]
-mod tests;

@@ -1,8 +1,8 @@
-ghost use Rattle.std.specs.Prelude.{◌≡◌, ◌≤◌, All, length, unsigned_abs};
-ghost use Rattle.pseudo_bool.specs.Formula.{term_value, assignment, IsTerm, IsWithin};
+ghost use Rattle.std.specs.Prelude.{◌≡◌, All, length};
+ghost use Rattle.pseudo_bool.specs.Formula.{term_value, assignment, IsTerm, IsValue};
 ghost use Rattle.pseudo_bool.specs.Rows.{term_of, triple_term, IsKept};
 
-use crate::{Term, VALUE_LIMIT};
+use crate::Term;
 
 /// A term of one or two variables as the energy keeps it, or the place of one of three in a list of its own,
 /// so that the rows of shorter terms stay small. A number of a table fits 32 bits.
@@ -24,7 +24,7 @@ pub struct Triple {
 
 /// The numbers of a table, each in 32 bits.
 pub fn narrow<const N: usize>(table: &[i64; N]) -> [i32; N]
-    requires { All (IsWithin VALUE_LIMIT) table.now }
+    requires { All IsValue table.now }
     ensures { result ≡ table.now }
 {
     let mut kept = [0; N];
@@ -50,7 +50,7 @@ impl Triple {
     fn value(&self, bits: &[bool]) -> i64
         requires { IsTerm (length bits.now) (triple_term self.now) }
         ensures value { result ≡ term_value (assignment bits.now) (triple_term self.now) }
-        ensures within { unsigned_abs result ≤ VALUE_LIMIT }
+        ensures within { IsValue result }
     {
         let first = usize::from(bits[self.first as usize]);
         let second = usize::from(bits[self.second as usize]);
@@ -80,7 +80,7 @@ impl Row {
         requires kept { IsKept (length triples.now) self.now }
         requires term { IsTerm (length bits.now) (term_of triples.now self.now) }
         ensures value { result ≡ term_value (assignment bits.now) (term_of triples.now self.now) }
-        ensures within { unsigned_abs result ≤ VALUE_LIMIT }
+        ensures within { IsValue result }
     {
         match self {
             Row::One(first, table) => i64::from(table[usize::from(bits[*first as usize])]),

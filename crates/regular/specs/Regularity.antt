@@ -1,8 +1,7 @@
 use Rattle.std.specs.Prelude.{◌≡◌, ℕ, zero, suc, ◌+◌, ◌*◌, ◌<◌, List, [], ◌∷◌, All, Option, None, Some, ℤ, ◌+ℤ◌, ◌≤ℤ◌, slice_get, take}
-use Rattle.pseudo_bool.specs.declared.limits.TheConstants.{VALUE_LIMIT}
 use Rattle.pseudo_bool.specs.declared.term.Term.{Term}
 use Rattle.pseudo_bool.specs.declared.term.Term.TheVariants.{One, Two, Three}
-use Rattle.pseudo_bool.specs.Formula.{Formula, entry, digit, IsWithin}
+use Rattle.pseudo_bool.specs.Formula.{Formula, entry, digit}
 use Rattle.regular.specs.declared.fixed.Fixed.{Fixed}
 
 -- a table of two variables: what it has at 00 and 11 is at most what it has at 01 and 10 (Kolmogorov and Zabih 2004, section 4.1)
@@ -55,9 +54,3 @@ pub record IsFirstFailing (e : Formula) (place : ℕ) (fixed : Option Fixed) : T
   pub here : slice_get e.terms place ≡ Some failing
   pub fails : FailsFirst failing fixed
   pub before : All IsRegularTerm (take place e.terms)
-
--- its table's numbers are in their range
-abbrev pub HasValues : Term → Type 0
-HasValues (One first table) = All (IsWithin VALUE_LIMIT) table
-HasValues (Two first second table) = All (IsWithin VALUE_LIMIT) table
-HasValues (Three first second third table) = All (IsWithin VALUE_LIMIT) table

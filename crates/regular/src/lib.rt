@@ -13,7 +13,7 @@ mod term;
 pub use fixed::{Fixed, NotRegular};
 use pseudo_bool::Energy;
 pub use regular::Regular;
-pub use table::{ENTRY_LIMIT, is_regular_table};
+pub use table::is_regular_table;
 use term::test_term;
 
 /// Whether each term is regular by itself: if not, the first that is not.
@@ -30,6 +30,3 @@ pub fn check(energy: &Energy) -> Result<Regular<'_>, NotRegular>
     }
     Ok(Regular::new(energy))
 }
-
-#[cfg(test)]
-mod tests;

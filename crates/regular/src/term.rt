@@ -1,11 +1,12 @@
 ghost use Rattle.std.specs.Prelude.{◌≡◌, ◌↔◌, ◌<◌, ◌≤◌, ◌+ℤ◌, ◌≤ℤ◌, ℕ, All, IsTrue, IsOk, IfErr, IsNone, IfSome, unsigned_abs};
-ghost use Rattle.pseudo_bool.specs.Formula.{IsWithin};
+ghost use Rattle.pseudo_bool.specs.Formula.{IsValue};
+ghost use Rattle.pseudo_bool.specs.Refusals.{HasValues};
 ghost use Rattle.regular.specs.declared.fixed.Fixed.{Fixed};
-ghost use Rattle.regular.specs.Regularity.{IsRegularTerm, IsRegularTable, FailsFirst, IsFirstProjection, HasValues, projection};
+ghost use Rattle.regular.specs.Regularity.{IsRegularTerm, IsRegularTable, FailsFirst, IsFirstProjection, projection};
 
 use crate::Fixed;
 use crate::table::is_regular_table;
-use pseudo_bool::{Term, VALUE_LIMIT};
+use pseudo_bool::Term;
 
 /// Whether a term is regular: if not, what was fixed where it fails.
 pub fn test_term(term: &Term) -> Result<(), Option<Fixed>>
@@ -31,7 +32,7 @@ pub fn test_term(term: &Term) -> Result<(), Option<Fixed>>
 
 /// The first projection of a table of three variables that is not regular.
 fn first_failure(table: &[i64; 8]) -> Option<Fixed>
-    requires { All (IsWithin VALUE_LIMIT) table.now }
+    requires { All IsValue table.now }
     ensures none { IsNone result → (fixed : Fixed) → fixed.position < 3 → IsRegularTable (projection table.now fixed) }
     ensures first { IfSome result (IsFirstProjection table.now) }
 {

@@ -10,5 +10,5 @@ returns-clause-value c x =
     let ws = c.args.weights.now.items in
     let inside : c.args.at < length ws = omega (arith, c.args.weights.now.ok.0, c.requires.at) in
     let here : c.index_mut.result.now ≡ entry ws c.args.at = get_or_read ws c.args.at c.index_mut.result.now inside c.index_mut.ensures.value (pos 0) in
-    rw (here, constant_is (entry ws c.args.at) c.args.by (weight_small ws c.args.at inside c.requires.small) (omega (arith, c.requires.step)))
+    rw (here, constant_is (entry ws c.args.at) c.args.by (weight_small ws c.args.at inside (omega (arith, c.requires.room))) (omega (arith, c.requires.step)))
     (weights_value-add ws c.args.at c.args.by x inside)

@@ -14,7 +14,7 @@ less_all-constant-requires-clause-numbers c =
 pub new-requires : goal.new-requires
 new-requires c =
     let ws = c.args.form.weights.items in
-    let len : length ws ≤ 16777216 = omega (arith, c.args.form.weights.ok.0, c.requires.len) in
+    let len : length ws ≤ 10485760 = omega (arith, c.args.form.weights.ok.0, c.requires.len) in
     rw (c.in_ok-sources.ensures, c.as_slice.ensures.value, c.in_ok-sinks.ensures, c.as_slice-2.ensures.value)
     (is_net ws c.args.form.arcs.items len (rw c.args.form.weights.ok.0 at c.requires.bounded.arcs) (omega (arith, c.requires.bounded.size)))
 
@@ -24,7 +24,7 @@ returns-clause-value c x =
     let k = c.args.form.constant in
     let sinks = c.as_slice-3.ensures.value ∙ c.in_ok-sinks.ensures ∙ ap (map sink_part) c.as_slice-2.ensures.value in
     let small : unsigned_abs k ≤ 1000000000000000000 = omega (arith, c.requires.bounded.constant) in
-    let constant = rw (sinks, passed_is k small) at c.less_all-constant.ensures in
+    let constant = rw (sinks, passed_is k small) at c.less_all-constant.ensures.value in
     let size : unsigned_abs (k -ℤ pos (sum (map sink_part ws))) ≤ 1000000000000000000 =
     omega (arith, abs-sub k (pos (sum (map sink_part ws))), capacities_size ws, c.requires.bounded.size, c.requires.bounded.constant) in
     rw (constant, passed_is (k -ℤ pos (sum (map sink_part ws))) size, c.new.ensures, c.in_ok-sources.ensures, c.as_slice.ensures.value, c.in_ok-sinks.ensures, c.as_slice-2.ensures.value)

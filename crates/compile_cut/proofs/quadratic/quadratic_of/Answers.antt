@@ -15,7 +15,7 @@ loop-index-init c =
 
 pub add_term-requires-clause-bounded : goal.add_term-requires-clause-bounded
 add_term-requires-clause-bounded c =
-    bounded-weaker c.loop-index.index 8388607 c.loop-index.form
+    bounded-weaker c.loop-index.index 8388608 c.loop-index.form
     (omega (arith, c.loop-index-test.true, c.term_count-index-end.ensures.value, c.term.ensures.limits.count)) c.loop-index.invariant.bounded
 
 pub add_term-requires-clause-term : goal.add_term-requires-clause-term

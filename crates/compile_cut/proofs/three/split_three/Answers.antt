@@ -1,44 +1,18 @@
-use Rattle.std.proofs.Common.{arith, ◌≡◌, ◌<◌, ◌≤◌, ◌*◌, ◌≤ℤ◌, ◌<ℤ◌, ◌+ℤ◌, ◌-ℤ◌, ℕ, ℤ, List, All, pos, unsigned_abs, length, w64, to_z, of_z, ◌∙◌}
+use Rattle.std.proofs.Common.{arith, ◌≡◌, ◌≤◌, ◌≤ℤ◌, ◌<ℤ◌, pos, neg_ℤ, unsigned_abs, ap, sym, ◌∙◌}
 use Rattle.std.proofs.lemmas.Int.{ints}
-use Rattle.pseudo_bool.specs.Formula.{entry, IsWithin}
+use Rattle.pseudo_bool.specs.Formula.{entry}
 use Rattle.compile_cut.specs.Three.{cubic_weight}
-use Rattle.compile_cut.proofs.PartLemmas.{passed_is}
-use Rattle.compile_cut.proofs.ThreeLemmas.{least_at_zeros, least_at_ones, below_is, above_is}
+use Rattle.compile_cut.proofs.PartLemmas.{passed_is, minus_is}
+use Rattle.compile_cut.proofs.ThreeLemmas.{AtZeros, least_at_zeros, below_is, above_is, cubic-turned, regular-turned, least_turned, constant_turned}
 use Rattle.compile_cut.proofs.three.split_three.Goals as goal
 
-cubic_is : (t : List ℤ) (h b c : ℤ) → length t ≡ 8 → All (IsWithin 1000000000) t
-    → b ≡ to_z w64 (of_z w64 (entry t 1)) +ℤ to_z w64 (of_z w64 (entry t 2)) -ℤ to_z w64 (of_z w64 (entry t 0)) -ℤ to_z w64 (of_z w64 (entry t 3))
-    → c ≡ to_z w64 (of_z w64 (entry t 4)) +ℤ to_z w64 (of_z w64 (entry t 7)) -ℤ to_z w64 (of_z w64 (entry t 5)) -ℤ to_z w64 (of_z w64 (entry t 6))
-    → h ≡ to_z w64 (of_z w64 b) +ℤ to_z w64 (of_z w64 c) → unsigned_abs b ≤ 4 * 1000000000 → unsigned_abs c ≤ 4 * 1000000000
-    → h ≡ cubic_weight t
-cubic_is t h b c len values hb hc hh sb sc =
-    let small = λ (k : ℕ) (l : k < 8). (let s : unsigned_abs (entry t k) ≤ 1000000000 = values k (pos 0) (omega arith) in s) in
-    let plain = λ (k : ℕ) (l : k < 8). passed_is (entry t k) (omega (arith, small k l)) in
-    omega (
-      arith,
-      ints,
-      hb,
-      hc,
-      hh,
-      passed_is b (omega arith),
-      passed_is c (omega arith),
-      plain 0 (omega arith),
-      plain 1 (omega arith),
-      plain 2 (omega arith),
-      plain 3 (omega arith),
-      plain 4 (omega arith),
-      plain 5 (omega arith),
-      plain 6 (omega arith),
-      plain 7 (omega arith),
-    )
-
-pub returns-then-hidden-le0-clause-value : goal.returns-then-hidden-le0-clause-value
-returns-then-hidden-le0-clause-value c =
+pub returns-then-product-le0-clause-value : goal.returns-then-product-le0-clause-value
+returns-then-product-le0-clause-value c =
     let t = c.args.table.now in
-    let h = c.sum-hidden.result in
+    let h = c.product_weight-product.result in
     let part = c.split_at_zeros in
-    let same = passed_is h (omega (arith, c.sum-hidden.ensures.small)) in
-    let sign : h ≤ℤ pos 0 = omega (arith, ints, same, c.if-hidden-le0.true) in
+    let same = passed_is h (omega (arith, c.product_weight-product.ensures.small)) in
+    let sign : h ≤ℤ pos 0 = omega (arith, ints, same, c.if-product-le0.true) in
     let hidden = rw same at part.ensures.hidden in
     least_at_zeros t part.result (unsigned_abs h) (record {
       constant = part.ensures.constant;
@@ -49,18 +23,25 @@ returns-then-hidden-le0-clause-value c =
       first_third = part.ensures.first_third;
       second_third = part.ensures.second_third;
       hidden = hidden ∙ below_is h sign;
-      cubic = hidden ∙ cubic_is t h c.balance.result c.balance-2.result c.told-table c.requires.values c.balance.ensures.value c.balance-2.ensures.value c.sum-hidden.ensures.value c.balance.ensures.small c.balance-2.ensures.small;
+      cubic = hidden ∙ c.product_weight-product.ensures.value;
     })
 
-pub returns-else-hidden-le0-clause-value : goal.returns-else-hidden-le0-clause-value
-returns-else-hidden-le0-clause-value c =
+pub split_at_zeros-turned-requires-clause-regular : goal.split_at_zeros-turned-requires-clause-regular
+split_at_zeros-turned-requires-clause-regular c =
+    rw c.turned_table.ensures.value (regular-turned c.args.table.now c.requires.regular)
+
+pub turned_part-requires-clause-constant : goal.turned_part-requires-clause-constant
+turned_part-requires-clause-constant c =
     let t = c.args.table.now in
-    let h = c.sum-hidden.result in
-    let part = c.split_at_ones in
-    let same = passed_is h (omega (arith, c.sum-hidden.ensures.small)) in
-    let sign : pos 0 <ℤ h = omega (arith, ints, same, c.if-hidden-le0.false) in
-    let hidden = rw same at part.ensures.hidden in
-    least_at_ones t part.result (unsigned_abs h) (record {
+    let h = c.product_weight-product.result in
+    let part = c.split_at_zeros-turned in
+    let bound : unsigned_abs h ≤ 1000000000000000000 = omega (arith, c.product_weight-product.ensures.small) in
+    let same = passed_is h bound in
+    let sign : pos 0 <ℤ h = omega (arith, ints, same, c.if-product-le0.false) in
+    let hidden : part.result.hidden ≡ neg_ℤ h = part.ensures.hidden ∙ minus_is h bound in
+    let cubic : neg_ℤ h ≡ cubic_weight c.turned_table.result =
+    ap neg_ℤ c.product_weight-product.ensures.value ∙ sym (cubic-turned t) ∙ ap cubic_weight (sym c.turned_table.ensures.value) in
+    let zeros : AtZeros c.turned_table.result part.result (unsigned_abs h) = record {
       constant = part.ensures.constant;
       first = part.ensures.first;
       second = part.ensures.second;
@@ -69,5 +50,38 @@ returns-else-hidden-le0-clause-value c =
       first_third = part.ensures.first_third;
       second_third = part.ensures.second_third;
       hidden = hidden ∙ above_is h sign;
-      cubic = hidden ∙ cubic_is t h c.balance.result c.balance-2.result c.told-table c.requires.values c.balance.ensures.value c.balance-2.ensures.value c.sum-hidden.ensures.value c.balance.ensures.small c.balance-2.ensures.small;
-    })
+      cubic = hidden ∙ cubic;
+    } in
+    let small : unsigned_abs (entry t 0) ≤ 1000000000 = c.requires.values 0 (pos 0) (omega (arith, c.told-table)) in
+    passed_is (entry t 0) (omega (arith, small)) ∙ constant_turned t c.turned_table.result part.result (unsigned_abs h) c.turned_table.ensures.value zeros
+
+pub turned_part-requires-clause-range : goal.turned_part-requires-clause-range
+turned_part-requires-clause-range c =
+    let t = c.args.table.now in
+    let small : unsigned_abs (entry t 0) ≤ 1000000000 = c.requires.values 0 (pos 0) (omega (arith, c.told-table)) in
+    rw (passed_is (entry t 0) (omega (arith, small))) small
+
+pub returns-else-product-le0-clause-value : goal.returns-else-product-le0-clause-value
+returns-else-product-le0-clause-value c =
+    let t = c.args.table.now in
+    let h = c.product_weight-product.result in
+    let part = c.split_at_zeros-turned in
+    let bound : unsigned_abs h ≤ 1000000000000000000 = omega (arith, c.product_weight-product.ensures.small) in
+    let same = passed_is h bound in
+    let sign : pos 0 <ℤ h = omega (arith, ints, same, c.if-product-le0.false) in
+    let hidden : part.result.hidden ≡ neg_ℤ h = part.ensures.hidden ∙ minus_is h bound in
+    let cubic : neg_ℤ h ≡ cubic_weight c.turned_table.result =
+    ap neg_ℤ c.product_weight-product.ensures.value ∙ sym (cubic-turned t) ∙ ap cubic_weight (sym c.turned_table.ensures.value) in
+    let zeros : AtZeros c.turned_table.result part.result (unsigned_abs h) = record {
+      constant = part.ensures.constant;
+      first = part.ensures.first;
+      second = part.ensures.second;
+      third = part.ensures.third;
+      first_second = part.ensures.first_second;
+      first_third = part.ensures.first_third;
+      second_third = part.ensures.second_third;
+      hidden = hidden ∙ above_is h sign;
+      cubic = hidden ∙ cubic;
+    } in
+    least_turned t c.turned_table.result c.turned_part.result part.result c.turned_table.ensures.value
+    (least_at_zeros c.turned_table.result part.result (unsigned_abs h) zeros) c.turned_part.ensures.value

@@ -18,8 +18,8 @@ invariant_of-self-2 c =
       triple_kept ts c.args.triple rows c.self.invariant.1,
     )
 
-pub returns-clause-ok : goal.returns-clause-ok
-returns-clause-ok c =
+pub returns-clause-added : goal.returns-clause-added
+returns-clause-added c =
     let ts = c.self.inside.triples.items in
     let rows = c.self.inside.rows.items in
     let place : c.len-place.result ≡ length ts = c.len-place.ensures ∙ c.self.inside.triples.ok.0 in
