@@ -1,23 +1,35 @@
 -- What reading a whole input answers.
-use Rattle.std.specs.Prelude.{◌≡◌, ◌<◌, ◌≤◌, ◌||◌, ℕ, Bool, true, List, length, Result, Ok, Err, is_err, Vec, ⊤}
+use Rattle.std.specs.Prelude.{◌≡◌, ◌<◌, ◌≤◌, ◌||◌, ℕ, Bool, true, false, List, length, Result, Ok, Err, is_err, Vec, ⊤}
 use Rattle.std.specs.declared.alloc.Global.{Global}
 use Rattle.byte_streams.specs.declared.input.ReadError.{ReadError}
 use Rattle.byte_streams.specs.declared.input.ReadError.TheVariants.{OutOfMemory, ReadFailed, InputTooLong}
 
--- the whole input, which is within the limit; or it is too long; or memory or the source failed
-abbrev pub IsReadOr : ℕ → List ℕ → Result (Vec ℕ Global) ReadError → Type 0
-IsReadOr limit input (Ok v) = (v.items ≡ input) × (length input ≤ limit)
-IsReadOr limit input (Err InputTooLong) = limit < length input
-IsReadOr limit input (Err ReadFailed) = ⊤
-IsReadOr limit input (Err OutOfMemory) = ⊤
+-- the most bytes that an input may have: 256 MiB
+abbrev pub input_limit : ℕ
+input_limit = 268435456
+
+-- why this input was not read: it is too long; or memory or the source failed
+abbrev pub IsReadRefusal : List ℕ → ReadError → Type 0
+IsReadRefusal input InputTooLong = input_limit < length input
+IsReadRefusal input ReadFailed = ⊤
+IsReadRefusal input OutOfMemory = ⊤
+
+-- the whole input, which is within the limit; or why it was not read
+abbrev pub IsReadOr : List ℕ → Result (Vec ℕ Global) ReadError → Type 0
+IsReadOr input (Ok v) = (v.items ≡ input) × (length input ≤ input_limit)
+IsReadOr input (Err error) = IsReadRefusal input error
 
 -- a call failed exactly where it answered a fault
 abbrev pub NotesFault : {T E : Type 0} → Bool → Bool → Result T E → Type 0
 NotesFault old new r = new ≡ (is_err r || old)
 
--- `ReadFailed` stands where the source failed on the way, and nothing else does
+-- the error says that the source failed
+abbrev pub is_fault : ReadError → Bool
+is_fault ReadFailed = true
+is_fault InputTooLong = false
+is_fault OutOfMemory = false
+
+-- the source failed on the way exactly where the answer says so
 abbrev pub TellsFault : {T : Type 0} → Bool → Bool → Result T ReadError → Type 0
 TellsFault old new (Ok x) = new ≡ old
-TellsFault old new (Err ReadFailed) = new ≡ true
-TellsFault old new (Err InputTooLong) = new ≡ old
-TellsFault old new (Err OutOfMemory) = new ≡ old
+TellsFault old new (Err error) = new ≡ (is_fault error || old)

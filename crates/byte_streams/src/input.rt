@@ -8,13 +8,13 @@ use std::alloc::Global;
 use std::io;
 use std::io::Read;
 
-/// The most bytes that an input may have.
+/// The most bytes that an input may have: 256 MiB.
 pub const INPUT_LIMIT: usize = 268_435_456;
 
 // The bytes that one call of `take` asks for.
 const CHUNK: usize = 4096;
 
-/// Why an input was not read.
+/// Why an input was not read. What was read before is dropped.
 #[derive(Clone, Copy, Debug, PartialEq, Eq, Drop)]
 pub enum ReadError {
     /// Memory was refused.
@@ -67,7 +67,7 @@ impl<R: Read> Source for WatchedReader<'_, R> {
 /// `INPUT_LIMIT` + 1 calls of `take`. A fault is told exactly where a call answered one; a call that
 /// answers `Interrupted` is a fault like any other and is not made again.
 pub fn read_input<S: Source>(alloc: Global, source: &mut S) -> Result<Vec<u8>, ReadError>
-    ensures input { IfSome (S.remaining source.old) (λ input. IsReadOr INPUT_LIMIT input result) }
+    ensures input { IfSome (S.remaining source.old) (λ input. IsReadOr input result) }
     ensures fault { TellsFault (S.has_failed source.old) (S.has_failed source.new) result }
 {
     let mut input = Vec::new(alloc);

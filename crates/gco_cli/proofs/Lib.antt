@@ -1,3 +1,1 @@
-mod Best
-mod Reading
-mod Refusals
+mod RefusalLemmas

@@ -1,10 +1,8 @@
 -- The answer to an energy.
-use Rattle.std.specs.Prelude.{◌≡◌, ◌≤◌, ◌==◌, ℕ, Bool, true, false, ℤ, List, [], ◌++◌, Ok, codes, length, map, IsUtf8, if◌then◌else◌}
+use Rattle.std.specs.Prelude.{◌≡◌, ◌==◌, ℕ, Bool, true, false, ℤ, List, [], ◌++◌, codes, length, map, if◌then◌else◌}
 use Rattle.std.specs.Fmt.{signed_decimal}
-use Rattle.byte_streams.specs.declared.input.TheConstants.{INPUT_LIMIT}
 use Rattle.pseudo_bool.specs.Formula.{Formula, assignment, value_at}
 use Rattle.compile_cut.specs.Shown.{IsSmallestLeastAssignment}
-use Rattle.problem_file.specs.Text.{energy_in}
 
 -- a yes-no value as a character
 abbrev pub digit_code : Bool → ℕ
@@ -17,7 +15,8 @@ digits_text bits = (if length bits == 0 then [] else codes " ") ++ map digit_cod
 
 -- the two lines of an answer
 abbrev pub answer_text : ℤ → List Bool → List ℕ
-answer_text minimum bits = codes "minimum " ++ signed_decimal minimum ++ codes "\nassignment" ++ digits_text bits ++ codes "\n"
+answer_text minimum bits =
+    codes "minimum " ++ signed_decimal minimum ++ codes "\nassignment" ++ digits_text bits ++ codes "\n"
 
 -- the text tells the least value of the energy, and of the least assignments the one with the fewest ones
 pub record AnswersEnergy (e : Formula) (text : List ℕ) : Type 0 where
@@ -25,11 +24,3 @@ pub record AnswersEnergy (e : Formula) (text : List ℕ) : Type 0 where
   pub count : length bits ≡ e.variables
   pub best : IsSmallestLeastAssignment e (assignment bits)
   pub is : text ≡ answer_text (value_at e (assignment bits)) bits
-
--- the input is a problem file, and names this energy
-abbrev pub NamesEnergy : List ℕ → Formula → Type 0
-NamesEnergy input e = (length input ≤ INPUT_LIMIT) × IsUtf8 input × (energy_in input ≡ Ok e)
-
--- the text is the answer to the energy that the input names
-abbrev pub AnswersInput : List ℕ → List ℕ → Type 0
-AnswersInput input text = (e : Formula) × NamesEnergy input e × AnswersEnergy e text

@@ -1,3 +1,6 @@
 pub mod Answer
-pub mod Faults
+pub mod Commands
+pub mod Energy
+pub mod Refusals
 pub mod Run
+pub mod Streams

@@ -1,74 +1,94 @@
 -- What a run answers and leaves.
-use Rattle.std.specs.Prelude.{◌≡◌, ◌⊎◌, ◌<◌, ⊤, ℕ, Bool, true, List, length, Option, IfSome, take}
-use Rattle.std.specs.Io.KnownBytes.{Appends, Keeps}
-use Rattle.clap.specs.Words.{IsAmong, Text, fault_of, kind_of}
-use Rattle.clap.specs.declared.error.ErrorKind.{ErrorKind}
-use Rattle.clap.specs.declared.error.ErrorKind.TheVariants as kind
-use Rattle.command_line.specs.App.{gco_app}
-use Rattle.command_line.specs.Task.{Asks}
-use Rattle.command_line.specs.declared.NoTask.{NoTask}
-use Rattle.command_line.specs.declared.NoTask.TheVariants.{Command, NoWork}
-use Rattle.command_line.specs.declared.Task.{Task}
-use Rattle.command_line.specs.declared.Task.TheVariants.{Energy}
+use Rattle.std.specs.Prelude.{◌≡◌, ◌⊎◌, ◌≤◌, ◌||◌, ℕ, Bool, true, false, List, [], Option, Result, Ok, Err}
+use Rattle.byte_streams.specs.Input.{is_fault}
+use Rattle.byte_streams.specs.declared.sink.WriteFailed.{WriteFailed}
+use Rattle.command_line.specs.Task.{AreRefused, Asks, AsksForHelp}
+use Rattle.command_line.specs.declared.task.Task.{Task}
 use Rattle.fault_lines.specs.FaultLine.{fault_line}
-use Rattle.fault_lines.specs.declared.Fault.{Fault}
-use Rattle.fault_lines.specs.declared.Fault.TheVariants.{OutOfMemory, WriteFailed}
-use Rattle.gco_cli.specs.Answer.{AnswersInput}
-use Rattle.gco_cli.specs.Faults.{StandsFor}
+use Rattle.fault_lines.specs.declared.fault.Fault.{Fault}
+use Rattle.fault_lines.specs.declared.fault.Fault.TheVariants.{OutOfMemory, Write, Read}
+use Rattle.gco_cli.specs.Commands.{IsDueFor, StandsFor}
+use Rattle.gco_cli.specs.Streams.{Stream, Stops, Takes, Took, stream}
 
--- the error is help that was asked for
-abbrev pub IsHelp : ErrorKind → Type 0
-IsHelp k = (k ≡ kind.DisplayHelp) ⊎ (k ≡ kind.DisplayVersion)
+-- what a run of these words writes, and says beside it: help that was asked for, or the answer of a command
+abbrev pub IsDue : List (List ℕ) → Option (List ℕ) → List ℕ → List ℕ → Type 0
+IsDue words known text said = (AsksForHelp words × (said ≡ []))
+    ⊎ ((task : Task) × Asks words task × IsDueFor task known text said)
 
--- the words ask for help
-abbrev pub AsksForHelp : List Text → Type 0
-AsksForHelp words = (k : ErrorKind) × IsHelp k × IsAmong k (fault_of gco_app words)
+-- the fault is one of a run of these words: memory may always be refused, and a command has its faults
+abbrev pub Stands : List (List ℕ) → Option (List ℕ) → Fault → Type 0
+Stands words known fault = (fault ≡ OutOfMemory) ⊎ ((task : Task) × Asks words task × StandsFor task known fault)
 
--- the words are no command line, or none that has a task
-abbrev pub IsRefusedLine : List Text → Type 0
-IsRefusedLine words = ((k : ErrorKind) × (¬ IsHelp k) × IsAmong k (fault_of gco_app words)) ⊎ ((task : Task) → ¬ Asks words task)
+-- the fault says that a sink failed
+abbrev pub is_write : Fault → Bool
+is_write (Write failed) = true
+is_write fault = false
 
--- a sink failed within a text, of which it took the first `count` bytes
-abbrev pub Stops : Option (List ℕ) → Option (List ℕ) → Bool → List ℕ → ℕ → Type 0
-Stops old new failed text count = (count < length text) × Appends old new (take count text) × (failed ≡ true)
+-- the fault says that the source failed
+abbrev pub is_failed_read : Fault → Bool
+is_failed_read (Read error) = is_fault error
+is_failed_read fault = false
 
--- a sink took a whole text, or failed within it
-abbrev pub Took : Option (List ℕ) → Option (List ℕ) → Bool → List ℕ → Type 0
-Took old new failed text = Appends old new text ⊎ ((count : ℕ) × Stops old new failed text count)
+-- the due text was written whole, and this is to be said beside it
+abbrev pub Writes : (List ℕ → List ℕ → Type 0) → Stream → Stream → List ℕ → Type 0
+Writes Due old new said = (text : List ℕ) × Due text said × Takes old new text
 
--- the whole of a due text was written
-abbrev pub Prints : (List ℕ → Type 0) → Option (List ℕ) → Option (List ℕ) → Type 0
-Prints Due old new = (text : List ℕ) × Due text × Appends old new text
+-- the sink failed within the due text, as the fault says
+abbrev pub IsCut : (List ℕ → List ℕ → Type 0) → Stream → Stream → Fault → Type 0
+IsCut Due old new fault = (failed : WriteFailed) × (fault ≡ Write failed)
+    × (text : List ℕ) × (said : List ℕ) × Due text said × Stops old new text failed.count
 
--- the writer failed within a due text; or nothing was written, and the fault stands
-abbrev pub Refuses : (List ℕ → Type 0) → (Fault → Type 0) → Option (List ℕ) → Option (List ℕ) → Bool → Fault → Type 0
-Refuses Due Stands old new failed (WriteFailed count) = (text : List ℕ) × Due text × Stops old new failed text count
-Refuses Due Stands old new failed fault = Stands fault × Keeps old new
+-- nothing was written, and the fault stands; or the sink failed within the due text
+abbrev pub Refuses : (List ℕ → List ℕ → Type 0) → (Fault → Type 0) → Stream → Stream → Fault → Type 0
+Refuses Due Is old new fault = (Is fault × (is_write fault ≡ false) × (new ≡ old)) ⊎ IsCut Due old new fault
 
--- the line of a fault was said, whole but for a fault of its own, and the fault is one of these
-abbrev pub Says : (Fault → Type 0) → Option (List ℕ) → Option (List ℕ) → Bool → Type 0
-Says Is old new failed = (fault : Fault) × Is fault × Took old new failed (fault_line fault)
+-- the source failed on the way exactly where the answer says so
+abbrev pub TellsRead : {T : Type 0} → Bool → Bool → Result T Fault → Type 0
+TellsRead old new (Ok x) = new ≡ old
+TellsRead old new (Err fault) = new ≡ (is_failed_read fault || old)
 
--- the answer to the input, where it is known
-abbrev pub AnswersKnown : Option (List ℕ) → List ℕ → Type 0
-AnswersKnown known text = IfSome known (λ input. AnswersInput input text)
+-- the streams of a run
+pub record Streams : Type 0 where
+  pub source : Stream
+  pub sink : Stream
+  pub faults : Stream
 
--- what a run on these words and this input is to write: help that was asked for, or the answer
-abbrev pub IsDue : List Text → Option (List ℕ) → List ℕ → Type 0
-IsDue words known text = AsksForHelp words ⊎ (Asks words Energy × AnswersKnown known text)
+abbrev pub streams : Stream → Stream → Stream → Streams
+streams source sink faults = record { source = source; sink = sink; faults = faults }
 
--- the fault stands for a run on these words and this input
-abbrev pub Stands : List Text → Option (List ℕ) → Bool → Bool → Fault → Type 0
-Stands words known before after OutOfMemory = after ≡ before
-Stands words known before after fault = Asks words Energy × StandsFor known before after fault
+-- status 0: what is due was written whole, and what is due beside it said
+pub record IsDone (words : List (List ℕ)) (old new : Streams) : Type 0 where
+  pub said : List ℕ
+  pub written : Writes (IsDue words old.source.bytes) old.sink new.sink said
+  pub told : Took old.faults new.faults said
+  pub read : new.source.has_failed ≡ old.source.has_failed
 
--- the words ask for help, as clap says
-abbrev pub ShowsHelp : NoTask → Type 0
-ShowsHelp (Command e) = IsHelp (kind_of e)
-ShowsHelp _ = ⊥
+-- status 1: the run was refused, and the line of its fault said
+pub record IsRefused (words : List (List ℕ)) (old new : Streams) : Type 0 where
+  pub fault : Fault
+  pub stands : Refuses (IsDue words old.source.bytes) (Stands words old.source.bytes) old.sink new.sink fault
+  pub told : Took old.faults new.faults (fault_line fault)
+  pub read : new.source.has_failed ≡ (is_failed_read fault || old.source.has_failed)
 
--- the words were refused
-abbrev pub IsCommandFault : NoTask → Type 0
-IsCommandFault (Command e) = ¬ IsHelp (kind_of e)
-IsCommandFault NoWork = ⊤
-IsCommandFault _ = ⊥
+-- status 2: the words were refused, some text was said, and nothing was read or written
+pub record IsRejected (words : List (List ℕ)) (old new : Streams) : Type 0 where
+  pub refused : AreRefused words
+  pub text : List ℕ
+  pub told : Took old.faults new.faults text
+  pub read : new.source ≡ old.source
+  pub written : new.sink ≡ old.sink
+
+-- one whole run of these words: what its exit status says
+pub record IsRun (words : List (List ℕ)) (old new : Streams) (status : ℕ) : Type 0 where
+  pub done : status ≡ 0 → IsDone words old new
+  pub refused : status ≡ 1 → IsRefused words old new
+  pub rejected : status ≡ 2 → IsRejected words old new
+  pub range : status ≤ 2
+
+-- the same over streams of which only the bytes are seen: some such run was made
+abbrev pub IsSomeRun : List (List ℕ) → Option (List ℕ) → Option (List ℕ) → Option (List ℕ) → Option (List ℕ) → Option (List ℕ)
+    → ℕ → Type 0
+IsSomeRun words input old new said_old said_new status =
+    (source : Stream) × (failed : Bool) × (failed_too : Bool)
+    × IsRun words (streams (stream input false) (stream old false) (stream said_old false))
+    (streams source (stream new failed) (stream said_new failed_too)) status

@@ -1,8 +1,9 @@
-//! The program `gco`, over its words, a reader, a writer and a writer for faults.
+//! The program `gco`, over its words, a source of input, a sink for the answer and a sink for faults.
 #![tactic(auto)]
 
 mod answers;
-mod input;
+mod energy;
+mod refusal;
 mod runs;
 mod unread;
 

@@ -1,5 +1,5 @@
 //! Writers that stop and readers that fail.
-use crate::streams::{CutWriter, SlowReader};
+use crate::streams::{CutWriter, SlowReader, expect_energy};
 use byte_streams::{Watched, WatchedReader};
 use gco_cli::{run, run_streams};
 
@@ -11,7 +11,7 @@ terms = [
 ]
 ";
 
-const ANSWER: &[u8] = b"minimum 6\nassignment 00\n";
+const ANSWER: &str = "minimum 6\nassignment 00\n";
 
 // Each cut of the answer's 24 bytes, at once and by one byte a call; the last cut is none.
 #[test]
@@ -29,7 +29,7 @@ fn writers_that_stop(rt: HostRuntime) {
                 &mut writer,
                 &mut faults,
             );
-            assert!(rt; writer.held.as_slice() == &ANSWER[..room]);
+            assert!(rt; writer.held.as_slice() == &ANSWER.as_bytes()[..room]);
             if room < ANSWER.len() {
                 assert_eq!(rt; ended, 1);
                 assert!(rt; faults.held.as_slice() == line.as_bytes());
@@ -62,46 +62,36 @@ fn writers_that_take_nothing(rt: HostRuntime) {
     }
 }
 
-// By one byte a call, and with a fault before the first byte, after some, and after the last.
+// A fault before each byte of the input and behind the last, at once and by one byte a call; and none.
 #[test]
-fn readers(rt: HostRuntime) {
-    for (count, is_broken) in [
-        (FILE.len(), false),
-        (0, true),
-        (1, true),
-        (40, true),
-        (FILE.len(), true),
-    ] {
-        let mut reader = SlowReader {
-            bytes: &FILE[..count],
-            step: 1,
-            is_broken,
-        };
-        let mut writer = CutWriter::ample();
-        let mut faults = CutWriter::ample();
-        let ended = run(
-            &rt,
-            &["gco", "energy"],
-            &mut reader,
-            &mut writer,
-            &mut faults,
-        );
-        if is_broken {
-            assert_eq!(rt; ended, 1);
-            assert!(rt; writer.held.is_empty());
-            assert!(rt; faults.held.as_slice() == b"refused 31\n".as_slice());
-        } else {
-            assert_eq!(rt; ended, 0);
-            assert!(rt; writer.held.as_slice() == ANSWER);
-            assert!(rt; faults.held.is_empty());
+fn readers_that_fail(rt: HostRuntime) {
+    for count in 0..=FILE.len() {
+        for step in [1usize, 512] {
+            let mut reader = SlowReader {
+                bytes: &FILE[..count],
+                step,
+                is_broken: true,
+            };
+            expect_energy(&rt, &mut reader, 1, "", "refused 31\n");
         }
     }
+    let mut reader = SlowReader {
+        bytes: FILE,
+        step: 1,
+        is_broken: false,
+    };
+    expect_energy(&rt, &mut reader, 0, ANSWER, "");
 }
 
+// What the run remembers of each stream: whether it failed.
 #[test]
 fn streams_that_remember(rt: HostRuntime) {
-    for room in [7usize, 24] {
-        let mut reader = FILE;
+    for (room, is_broken, status) in [(24usize, false, 0), (7, false, 1), (24, true, 1)] {
+        let mut reader = SlowReader {
+            bytes: FILE,
+            step: 5,
+            is_broken,
+        };
         let mut writer = CutWriter::new(room, 5);
         let mut faults = CutWriter::ample();
         let mut source = WatchedReader {
@@ -118,32 +108,11 @@ fn streams_that_remember(rt: HostRuntime) {
         };
         let words = ["gco", "energy"];
         let ended = run_streams(&rt, &words, &mut source, &mut sink, &mut fault_sink);
-        assert_eq!(rt; ended == 1, sink.has_failed);
+        assert_eq!(rt; ended, status);
+        assert_eq!(rt; source.has_failed, is_broken);
         assert_eq!(rt; sink.has_failed, room < 24);
-        assert!(rt; !source.has_failed && !fault_sink.has_failed);
-        assert!(rt; writer.held.as_slice() == &ANSWER[..room]);
-    }
-}
-
-// The bytes are not text in UTF-8, or nested too deep.
-#[test]
-fn bytes_that_are_no_document(rt: HostRuntime) {
-    let mut deep = vec![in rt.alloc(); b'['; 10_004].expect(&rt, "memory");
-    deep[0] = b'a';
-    deep[1] = b'=';
-    for input in [b"\xff".as_slice(), b"variables = 1 # \xc3", deep.as_slice()] {
-        let mut reader = input;
-        let mut writer = CutWriter::ample();
-        let mut faults = CutWriter::ample();
-        let ended = run(
-            &rt,
-            &["gco", "energy"],
-            &mut reader,
-            &mut writer,
-            &mut faults,
-        );
-        assert_eq!(rt; ended, 1);
-        assert!(rt; writer.held.is_empty());
-        assert!(rt; faults.held.as_slice() == b"refused 28\n".as_slice());
+        assert!(rt; !fault_sink.has_failed);
+        let written = if is_broken { 0 } else { room };
+        assert!(rt; writer.held.as_slice() == &ANSWER.as_bytes()[..written]);
     }
 }

@@ -1,4 +1,5 @@
-//! Tests of whole runs of `gco`, in memory: answers worked by hand, writers that stop, readers that fail.
+//! Tests of whole runs of `gco`, in memory: answers worked by hand or known from an independent program, inputs and
+//! words that are refused, writers that stop and readers that fail at each byte.
 #![tactic(auto)]
 
 #[cfg(test)]
@@ -6,6 +7,10 @@ mod answers;
 #[cfg(test)]
 mod faults;
 #[cfg(test)]
+mod picture;
+#[cfg(test)]
 mod refusals;
 #[cfg(test)]
 mod streams;
+#[cfg(test)]
+mod words;

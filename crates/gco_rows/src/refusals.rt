@@ -1,10 +1,11 @@
-//! Inputs and words that are refused.
-use crate::streams::{CutWriter, expect_energy};
-use byte_streams::Watched;
-use gco_cli::{refuse_argument, refuse_memory, run};
-use std::process::Abort;
+//! Inputs that are refused, and the lines of faults.
+use crate::streams::{Zeros, expect_energy};
+use byte_streams::{INPUT_LIMIT, ReadError, WatchedReader, WriteFailed, read_input};
+use fault_lines::{Fault, line_of};
+use problem_file::{Field, ProblemFault};
+use regular::{Fixed, NotRegular};
 
-// The input is refused with this line.
+// The energy of two variables and these terms is refused with this line.
 #[test]
 fn terms(rt: HostRuntime) {
     for (terms, said) in [
@@ -23,10 +24,38 @@ fn terms(rt: HostRuntime) {
             "{ on = [4294967296], values = [0,0] }",
             "refused 16 term 0\n",
         ),
-        ("{ on = [0,0], values = [0,0,0,0] }", "refused 17 term 0\n"),
+        (
+            "{ on = [0,4294967296], values = [0,0,0,0] }",
+            "refused 16 term 0\n",
+        ),
+        (
+            "{ on = [-1,-1], values = [0,0,0,0] }",
+            "refused 16 term 0\n",
+        ),
         ("{ on = [5,5], values = [0,0,0,0] }", "refused 16 term 0\n"),
         (
+            "{ on = [5], values = [1000000001,0] }",
+            "refused 16 term 0\n",
+        ),
+        (
+            "{ on = [0,1,2], values = [0,0,0,0,0,0,0,0] }",
+            "refused 16 term 0\n",
+        ),
+        (
+            "{ on = [0,0,2], values = [0,0,0,0,0,0,0,0] }",
+            "refused 16 term 0\n",
+        ),
+        ("{ on = [0,0], values = [0,0,0,0] }", "refused 17 term 0\n"),
+        (
             "{ on = [1,1], values = [0,0,0,2000000000] }",
+            "refused 17 term 0\n",
+        ),
+        (
+            "{ on = [0,1,0], values = [0,0,0,0,0,0,0,1000000001] }",
+            "refused 17 term 0\n",
+        ),
+        (
+            "{ on = [0,1,1], values = [0,0,0,0,0,0,0,0] }",
             "refused 17 term 0\n",
         ),
         (
@@ -38,24 +67,39 @@ fn terms(rt: HostRuntime) {
             "refused 18 term 0\n",
         ),
         (
-            "{ on = [0,1,1], values = [0,0,0,0,0,0,0,0] }",
-            "refused 17 term 0\n",
+            "{ on = [1,0], values = [0,0,0,-1000000001] }",
+            "refused 18 term 0\n",
         ),
         (
-            "{ on = [0,1,2], values = [0,0,0,0,0,0,0,0] }",
-            "refused 16 term 0\n",
+            "{ on = [1,0], values = [0,0,0,9223372036854775807] }",
+            "refused 18 term 0\n",
+        ),
+        ("7", "refused 29 terms 0\n"),
+        ("{ values = [1,2] }", "refused 29 terms 0\n"),
+        ("{ on = 0, values = [1,2] }", "refused 29 terms 0\n"),
+        ("{ on = [], values = [1] }", "refused 29 terms 0\n"),
+        ("{ on = [true], values = [1,2] }", "refused 29 terms 0\n"),
+        ("{ on = [0.0], values = [0,0] }", "refused 29 terms 0\n"),
+        ("{ on = [0], values = [1] }", "refused 29 terms 0\n"),
+        ("{ on = [0], values = [1,2.0] }", "refused 29 terms 0\n"),
+        ("{ on = [5], values = [0,0,0] }", "refused 29 terms 0\n"),
+        ("{ on = [9], values = [1,2,3,4] }", "refused 29 terms 0\n"),
+        (
+            "{ on = [0,1], values = [0,0,0,1e9] }",
+            "refused 29 terms 0\n",
         ),
         (
             "{ on = [0,1,0], values = [0,0,0,0] }",
             "refused 29 terms 0\n",
         ),
-        ("{ on = [0], values = [1] }", "refused 29 terms 0\n"),
-        ("{ on = [9], values = [1,2,3,4] }", "refused 29 terms 0\n"),
-        ("{ on = [], values = [1] }", "refused 29 terms 0\n"),
-        ("{ on = [0], values = [1,2.0] }", "refused 29 terms 0\n"),
-        ("{ on = [true], values = [1,2] }", "refused 29 terms 0\n"),
-        ("{ on = 0, values = [1,2] }", "refused 29 terms 0\n"),
-        ("{ values = [1,2] }", "refused 29 terms 0\n"),
+        (
+            "{ on = [0,1,2,3], values = [0,0,0,0,0,0,0,0] }",
+            "refused 29 terms 0\n",
+        ),
+        (
+            "{ on = [0,1,2], values = [0,0,0,0,0,0,0,0,0] }",
+            "refused 29 terms 0\n",
+        ),
         // Each term is taken whole before the next, and the test of regularity comes last.
         (
             "{ on = [0,1], values = [1,0,0,1] }, { on = [2], values = [0,0] }, 7",
@@ -66,96 +110,152 @@ fn terms(rt: HostRuntime) {
             "refused 29 terms 2\n",
         ),
     ] {
-        expect_terms(&rt, terms, said);
+        let file = format!(in rt.alloc(); "variables = 2\nterms = [{terms}]").expect(&rt, "memory");
+        expect_energy(&rt, &mut file.as_bytes(), 1, "", said);
     }
 }
 
-// The energy of two variables and these terms is refused.
-fn expect_terms(rt: &(impl AllocGlobal + Abort), terms: &str, said: &str) {
-    let file = format!(in rt.alloc(); "variables = 2\nterms = [{terms}]").expect(rt, "memory");
-    expect_energy(rt, file.as_str(), 1, "", said);
-}
-
-// Of a term of three the first projection that is not regular is told.
+// The input is refused with this line.
 #[test]
-fn projections(rt: HostRuntime) {
-    for (values, said) in [
-        ("0,0,0,-1,0,-1,0,-1", "refused 20 term 0 fixed 2 at 1\n"),
-        ("1,0,0,1,0,0,0,0", "refused 20 term 0 fixed 0 at 0\n"),
-        ("0,0,0,0,1,0,0,1", "refused 20 term 0 fixed 0 at 1\n"),
-    ] {
-        let file = format!(in rt.alloc();
-            "variables = 3\nterms = [{{ on = [0,1,2], values = [{values}] }}]"
-        ).expect(&rt, "memory");
-        expect_energy(&rt, file.as_str(), 1, "", said);
-    }
-}
-
-#[test]
-fn fields(rt: HostRuntime) {
+fn inputs(rt: HostRuntime) {
+    let mut deep = vec![in rt.alloc(); b'['; 10_004].expect(&rt, "memory");
+    deep[0] = b'a';
+    deep[1] = b'=';
     for (input, said) in [
-        ("", "refused 29 variables\n"),
-        ("variables = -1", "refused 29 variables\n"),
-        ("variables = 2097153", "refused 29 variables\n"),
-        ("variables = 1.5", "refused 29 variables\n"),
-        ("variables = \"2\"", "refused 29 variables\n"),
+        (b"".as_slice(), "refused 29 variables\n"),
+        (b"variables = -1", "refused 29 variables\n"),
+        (b"variables = 2097153", "refused 29 variables\n"),
+        (b"variables = 4294967296", "refused 29 variables\n"),
+        (b"variables = 1.5", "refused 29 variables\n"),
+        (b"variables = \"2\"", "refused 29 variables\n"),
         (
-            "constant = 1000000001\nterms = 3\nvariables = true",
+            b"constant = 1000000001\nterms = 3\nvariables = true",
             "refused 29 variables\n",
         ),
         (
-            "variables = 2097152\nconstant = 1e9",
+            b"variables = 2097152\nconstant = 1e9",
             "refused 29 constant\n",
         ),
         (
-            "variables = 1\nterms = 3\nconstant = 1000000001",
+            b"variables = 1\nterms = 3\nconstant = '7'",
+            "refused 29 constant\n",
+        ),
+        (
+            b"variables = 1\nterms = 3\nconstant = 1000000001",
             "refused 18 constant\n",
         ),
         (
-            "variables = 1\nconstant = -1000000001",
+            b"variables = 1\nconstant = -1000000001",
             "refused 18 constant\n",
         ),
-        ("variables = 1\nterms = 3", "refused 29 terms\n"),
-        ("variables = 1\nterms = [7]", "refused 29 terms 0\n"),
-        ("variables = 1\nvariables = 1", "refused 28\n"),
-        ("variables = 9223372036854775808", "refused 28\n"),
-        ("variables = ", "refused 28\n"),
+        (b"variables = 1\nterms = 3", "refused 29 terms\n"),
+        (
+            b"variables = 1\n[terms]\non = [0]\nvalues = [0,0]",
+            "refused 29 terms\n",
+        ),
+        // Of a term of three the first projection that is not regular is told.
+        (
+            b"variables = 3\nterms = [{ on = [0,1,2], values = [0,0,0,-1,0,-1,0,-1] }]",
+            "refused 20 term 0 fixed 2 at 1\n",
+        ),
+        (
+            b"variables = 3\nterms = [{ on = [0,1,2], values = [1,0,0,1,0,0,0,0] }]",
+            "refused 20 term 0 fixed 0 at 0\n",
+        ),
+        (
+            b"variables = 3\nterms = [{ on = [0,1,2], values = [0,0,0,0,1,0,0,1] }]",
+            "refused 20 term 0 fixed 0 at 1\n",
+        ),
+        (b"variables = 1\nvariables = 1", "refused 28\n"),
+        (b"variables = 9223372036854775808", "refused 28\n"),
+        (b"variables = ", "refused 28\n"),
+        // The bytes are no text in UTF-8, or nested too deep.
+        (b"\xff", "refused 28\n"),
+        (b"variables = 1 # \xc3", "refused 28\n"),
+        (deep.as_slice(), "refused 28\n"),
     ] {
-        expect_energy(&rt, input, 1, "", said);
+        let mut reader = input;
+        expect_energy(&rt, &mut reader, 1, "", said);
     }
 }
 
+// An input of the greatest length is read whole, and one byte more is refused before a fault behind it is met.
 #[test]
-fn words(rt: HostRuntime) {
-    for (words, status, prints) in [
-        (["gco"].as_slice(), 2, false),
-        (&["gco", "paint"], 2, false),
-        (&["gco", "restore", "--weight", "1001"], 2, false),
-        (&["gco", "energy", "--threads", "1"], 2, false),
-        (&["gco", "energy", "file"], 2, false),
-        (&["gco", "--help"], 0, true),
-        (&["gco", "help", "energy"], 0, true),
+fn inputs_end_at_the_limit(rt: HostRuntime) {
+    for (left, said) in [
+        (0, "refused 31\n"),
+        (5000, "refused 31\n"),
+        (INPUT_LIMIT + 1, "refused 32\n"),
     ] {
-        let mut reader = b"variables = 1".as_slice();
-        let mut writer = CutWriter::ample();
-        let mut faults = CutWriter::ample();
-        let ended = run(&rt, words, &mut reader, &mut writer, &mut faults);
-        assert_eq!(rt; ended, status, "{words:?}");
-        assert_eq!(rt; writer.held.is_empty(), !prints);
-        assert_eq!(rt; faults.held.is_empty(), prints);
-        assert!(rt; prints || reader.len() == 13);
+        let is_broken = true;
+        expect_energy(&rt, &mut Zeros { left, is_broken }, 1, "", said);
     }
-}
-
-#[test]
-fn words_that_were_not_read(rt: HostRuntime) {
-    let mut writer = CutWriter::ample();
-    let mut faults = Watched {
-        writer: &mut writer,
+    let mut source = WatchedReader {
+        reader: &mut Zeros {
+            left: INPUT_LIMIT,
+            is_broken: false,
+        },
         has_failed: false,
     };
-    assert_eq!(rt; refuse_memory(&mut faults), 1);
-    assert_eq!(rt; refuse_argument(&mut faults), 2);
-    let said = b"refused 0\nerror: an argument is not text\n";
-    assert!(rt; writer.held.as_slice() == said.as_slice());
+    let length = read_input(rt.alloc(), &mut source).map(|input| input.len());
+    assert_eq!(rt; length, Ok(INPUT_LIMIT));
+    assert!(rt; !source.has_failed);
+}
+
+#[test]
+fn lines(rt: HostRuntime) {
+    let fixed = Some(Fixed {
+        position: 2,
+        value: true,
+    });
+    for (fault, line) in [
+        (Fault::OutOfMemory, "refused 0\n"),
+        (Fault::Read(ReadError::OutOfMemory), "refused 0\n"),
+        (Fault::Problem(ProblemFault::OutOfMemory), "refused 0\n"),
+        (
+            Fault::Write(WriteFailed { count: 4 }),
+            "refused 9 after 4\n",
+        ),
+        (
+            Fault::Problem(ProblemFault::NoSuchVariable(0)),
+            "refused 16 term 0\n",
+        ),
+        (
+            Fault::Problem(ProblemFault::SameVariable(7)),
+            "refused 17 term 7\n",
+        ),
+        (
+            Fault::Problem(ProblemFault::ValueRange(8_388_607)),
+            "refused 18 term 8388607\n",
+        ),
+        (
+            Fault::Problem(ProblemFault::ConstantRange),
+            "refused 18 constant\n",
+        ),
+        (Fault::Problem(ProblemFault::TooManyTerms), "refused 19\n"),
+        (
+            Fault::Regularity(NotRegular {
+                term: 0,
+                fixed: None,
+            }),
+            "refused 20 term 0\n",
+        ),
+        (
+            Fault::Regularity(NotRegular { term: 10, fixed }),
+            "refused 20 term 10 fixed 2 at 1\n",
+        ),
+        (Fault::Problem(ProblemFault::BadToml), "refused 28\n"),
+        (
+            Fault::Problem(ProblemFault::BadField(Field::Variables)),
+            "refused 29 variables\n",
+        ),
+        (
+            Fault::Problem(ProblemFault::BadElement(Field::Terms, 3)),
+            "refused 29 terms 3\n",
+        ),
+        (Fault::Read(ReadError::ReadFailed), "refused 31\n"),
+        (Fault::Read(ReadError::InputTooLong), "refused 32\n"),
+    ] {
+        assert_eq!(rt; line_of(fault).as_str(), line);
+    }
 }

@@ -8,7 +8,7 @@ use std::io::{Error, ErrorKind, Read, Write};
 use std::process::Abort;
 
 /// The most bytes that a writer holds.
-pub const ROOM: usize = 512;
+pub const ROOM: usize = 1024;
 
 /// A writer that takes `room` bytes, at most `step` a call, and then fails.
 #[derive(Drop)]
@@ -69,25 +69,36 @@ impl Read for SlowReader<'_> {
     }
 }
 
-/// A run of `gco energy` on this input ends with this status, and writes and says this.
-pub fn expect_energy(
+/// A reader of so many bytes, whatever they are, which then ends or fails.
+#[derive(Drop)]
+pub struct Zeros {
+    pub left: usize,
+    pub is_broken: bool,
+}
+
+impl Read for Zeros {
+    fn read(&mut self, buf: &mut [u8]) -> io::Result<usize> {
+        if self.left == 0 && self.is_broken {
+            return Err(Error::from(ErrorKind::Other));
+        }
+        let count = buf.len().min(self.left);
+        self.left = self.left.saturating_sub(count);
+        Ok(count)
+    }
+}
+
+/// A run of `gco energy` over this reader ends with this status, and writes and says this.
+pub fn expect_energy<R: Read>(
     rt: &(impl AllocGlobal + Abort),
-    input: &str,
+    reader: &mut R,
     status: u8,
     written: &str,
     said: &str,
 ) {
-    let mut reader = input.as_bytes();
     let mut writer = CutWriter::ample();
     let mut faults = CutWriter::ample();
-    let ended = run(
-        rt,
-        &["gco", "energy"],
-        &mut reader,
-        &mut writer,
-        &mut faults,
-    );
-    assert_eq!(rt; ended, status, "{input}");
-    assert!(rt; writer.held.as_slice() == written.as_bytes(), "{input}");
-    assert!(rt; faults.held.as_slice() == said.as_bytes(), "{input}");
+    let ended = run(rt, &["gco", "energy"], reader, &mut writer, &mut faults);
+    assert_eq!(rt; ended, status);
+    assert!(rt; writer.held.as_slice() == written.as_bytes(), "{written}");
+    assert!(rt; faults.held.as_slice() == said.as_bytes(), "{said}");
 }

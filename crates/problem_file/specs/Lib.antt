@@ -1,4 +1,5 @@
 pub mod Added
+pub mod FieldName
 pub mod Problem
 pub mod Refusal
 pub mod Stated

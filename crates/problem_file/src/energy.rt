@@ -1,12 +1,13 @@
-ghost use Rattle.std.specs.Prelude.{◌≡◌, ◌≢◌, ◌≤◌, [], Ok, Err, pos, IfOk, IfErr, OnOk, IsUtf8, vec_len};
+//! The energy that a text or a table names.
+ghost use Rattle.std.specs.Prelude.{◌≡◌, ◌≢◌, ◌≤◌, [], Ok, Err, IfOk, IfErr, OnOk, vec_len};
 ghost use Rattle.toml.specs.View.{array_view, table_view, view};
 ghost use Rattle.pseudo_bool.specs.declared.limits.TheConstants.{TERM_LIMIT, VALUE_LIMIT, VARIABLE_LIMIT};
 ghost use Rattle.pseudo_bool.specs.Formula.{IsWithin};
-ghost use Rattle.problem_file.specs.declared.fault.ProblemFault.TheVariants.{BadToml, OutOfMemory};
+ghost use Rattle.problem_file.specs.declared.fault.ProblemFault.TheVariants.{OutOfMemory};
 ghost use Rattle.problem_file.specs.Added.{GainsAll};
 ghost use Rattle.problem_file.specs.Problem.{names, terms_from, terms_in};
 ghost use Rattle.problem_file.specs.Stated.{States};
-ghost use Rattle.problem_file.specs.Text.{energy_in};
+ghost use Rattle.problem_file.specs.Text.{HasFault, NamesEnergy};
 
 use crate::fields::{constant_of, member, variables_of};
 use crate::table::read_table;
@@ -18,14 +19,10 @@ use toml::{Table, Value};
 
 /// The energy that the bytes of a TOML text name, or its first fault.
 pub fn read_energy(alloc: Global, bytes: &[u8]) -> Result<Energy, ProblemFault>
-    ensures ok { IfOk result (λ energy. IsUtf8 bytes.now × (energy_in bytes.now ≡ Ok energy)) }
-    ensures refused { IfErr result (λ fault. fault ≢ OutOfMemory → IsUtf8 bytes.now → energy_in bytes.now ≡ Err fault) }
-    ensures text { IfErr result (λ fault. fault ≢ OutOfMemory → fault ≢ BadToml → IsUtf8 bytes.now) }
+    ensures ok { IfOk result (NamesEnergy bytes.now) }
+    ensures refused { IfErr result (HasFault bytes.now) }
 {
-    let table = match read_table(alloc, bytes) {
-        Ok(table) => table,
-        Err(fault) => return Err(fault),
-    };
+    let table = read_table(alloc, bytes)?;
     energy_of(alloc, &table)
 }
 
@@ -37,19 +34,11 @@ pub fn energy_of(alloc: Global, table: &Table) -> Result<Energy, ProblemFault>
     ensures stated { IfOk result (States (table_view table.now)) }
     ensures refused { IfErr result (λ fault. fault ≢ OutOfMemory → names (table_view table.now) ≡ Err fault) }
 {
-    let variables = match variables_of(table) {
-        Ok(variables) => variables,
-        Err(fault) => return Err(fault),
-    };
-    let constant = match constant_of(table) {
-        Ok(constant) => constant,
-        Err(fault) => return Err(fault),
-    };
+    let variables = variables_of(table)?;
+    let constant = constant_of(table)?;
     let mut energy = without_terms(alloc, variables, constant);
-    match add_terms(&mut energy, table) {
-        Ok(()) => Ok(energy),
-        Err(fault) => Err(fault),
-    }
+    add_terms(&mut energy, table)?;
+    Ok(energy)
 }
 
 /// The energy of so many variables that is the constant everywhere.
@@ -73,7 +62,7 @@ fn add_terms(energy: &mut Energy, table: &Table) -> Result<(), ProblemFault>
     ensures ok { OnOk result (GainsAll energy.old energy.new (terms_in energy.old.variables (table_view table.now))) }
     ensures refused { IfErr result (λ fault. fault ≢ OutOfMemory → terms_in energy.old.variables (table_view table.now) ≡ Err fault) }
 {
-    let Some(value) = member(table, "terms") else {
+    let Some(value) = member(table, Field::Terms.name()) else {
         return Ok(());
     };
     let Some(items) = value.as_array() else {

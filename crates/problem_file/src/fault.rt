@@ -1,11 +1,32 @@
+//! The faults of a problem file.
+ghost use Rattle.std.specs.Prelude.{◌≡◌, ◌≤◌, length};
+ghost use Rattle.problem_file.specs.FieldName.{field_name};
+
 use thiserror::Error;
 
 /// A field of the table.
 #[derive(Clone, Copy, Debug, PartialEq, Eq)]
 pub enum Field {
+    /// `variables`
     Variables,
+    /// `constant`
     Constant,
+    /// `terms`
     Terms,
+}
+
+impl Field {
+    /// The field's key.
+    pub fn name(self) -> &'static str
+        ensures text { result.now ≡ field_name self }
+        ensures short { length result.now ≤ 20 }
+    {
+        match self {
+            Field::Variables => "variables",
+            Field::Constant => "constant",
+            Field::Terms => "terms",
+        }
+    }
 }
 
 /// The first fault of a problem file. A term goes by its place in the list of terms, from 0.

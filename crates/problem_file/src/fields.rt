@@ -1,3 +1,4 @@
+//! The fields of a table.
 ghost use Rattle.std.specs.Prelude.{◌≡◌, ◌≤◌, IfOk, IfErr, OnOk, [], option_map, option_and_then};
 ghost use Rattle.toml.specs.View.{array_view, table_view, view};
 ghost use Rattle.toml.specs.Data.{get, get_member, as_array};
@@ -21,7 +22,7 @@ pub fn variables_of(table: &Table) -> Result<u32, ProblemFault>
     ensures { result ≡ variables_in (table_view table.now) }
 {
     let fault = ProblemFault::BadField(Field::Variables);
-    let number = member(table, "variables").ok_or(fault)?;
+    let number = member(table, Field::Variables.name()).ok_or(fault)?;
     let number = number.as_integer().ok_or(fault)?;
     match u32::try_from(number) {
         Ok(count) if count <= VARIABLE_LIMIT => Ok(count),
@@ -33,7 +34,7 @@ pub fn variables_of(table: &Table) -> Result<u32, ProblemFault>
 pub fn constant_of(table: &Table) -> Result<i64, ProblemFault>
     ensures { result ≡ constant_in (table_view table.now) }
 {
-    let Some(value) = member(table, "constant") else {
+    let Some(value) = member(table, Field::Constant.name()) else {
         return Ok(0);
     };
     let constant = value

@@ -10,6 +10,3 @@ mod term;
 pub use energy::{energy_of, read_energy};
 pub use fault::{Field, ProblemFault};
 pub use table::read_table;
-
-#[cfg(test)]
-mod tests;

@@ -1,3 +1,4 @@
+//! The terms of a table.
 ghost use Rattle.std.specs.Prelude.{◌≡◌, ◌≢◌, ◌<◌, ◌≤◌, ℕ, [], ◌∷◌, false, length, unsigned_abs, pos, IfOk, IfErr, OnOk};
 ghost use Rattle.toml.specs.View.{view};
 ghost use Rattle.pseudo_bool.specs.declared.limits.TheConstants.{TERM_LIMIT, VARIABLE_LIMIT};

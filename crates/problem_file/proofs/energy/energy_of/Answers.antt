@@ -4,7 +4,7 @@ use Rattle.problem_file.specs.Problem.{names}
 use Rattle.problem_file.proofs.StatedLemmas.{stated}
 use Rattle.problem_file.proofs.energy.energy_of.Goals as goal
 
-pub returns-in-Ok-add_terms-clause-stated : goal.returns-in-Ok-add_terms-clause-stated
-returns-in-Ok-add_terms-clause-stated c =
+pub returns-clause-stated : goal.returns-clause-stated
+returns-clause-stated c =
     let named : names (table_view c.args.table.now) ≡ Ok c.add_terms.new.energy = search rules in
     stated (table_view c.args.table.now) c.add_terms.new.energy named

@@ -1,0 +1,87 @@
+//! From the words to the task.
+ghost use Rattle.std.specs.Prelude.{◌≡◌, Some, None, OnOk, IfOk, IfErr, IfSome, IfNone, IsSomeAnd, MatchOption, map};
+ghost use Rattle.clap.specs.Words.{found_of, rows_of, subcommand_of, subcommand_rows_of};
+ghost use Rattle.command_line.specs.App.{gco_app};
+ghost use Rattle.command_line.specs.declared.task.Task.{Task};
+ghost use Rattle.command_line.specs.Task.{Asks, IsAccepted, IsNoTaskFor, IsNoTaskOf, IsTaskOf};
+
+use crate::app::gco_command;
+use crate::{NoTask, Task};
+use clap::ArgMatches;
+use clap::error::ErrorKind;
+use std::alloc::Global;
+use std::convert::AsStr;
+use std::string::ToString;
+
+/// The task that the words ask for. The first word is the program's name.
+///
+/// The words are read by `clap`: a subcommand is required, and each command takes `--help`.
+pub fn parse<S: AsStr>(alloc: Global, words: &[S]) -> Result<Task, NoTask>
+    ensures asked { IfOk result (Asks (map S.text words.now)) }
+    ensures refused { IfErr result (IsNoTaskFor (map S.text words.now)) }
+{
+    let matches = matches_of(alloc, words)?;
+    match entered_task(&matches) {
+        Some(task) => Ok(task),
+        None => Err(NoTask::Refused(String::from_str(alloc, "error: no such command\n")?)),
+    }
+}
+
+fn matches_of<'a, S: AsStr>(alloc: Global, words: &'a [S]) -> Result<ArgMatches<'a>, NoTask>
+    ensures accepted { OnOk result (IsAccepted (map S.text words.entry.now)) }
+    ensures matches { IfOk result (λ m. subcommand_rows_of m
+        ≡ subcommand_of gco_app (map S.text words.entry.now)) }
+    ensures refused { IfErr result (IsNoTaskFor (map S.text words.entry.now)) }
+{
+    let command = gco_command(alloc)?;
+    match command.try_get_matches_from(words) {
+        Ok(matches) => Ok(matches),
+        Err(error) => Err(no_task(alloc, &error)),
+    }
+}
+
+fn no_task(alloc: Global, error: &clap::Error) -> NoTask
+    ensures { IsNoTaskOf error.now result }
+{
+    if error.kind() == ErrorKind::OutOfMemory {
+        return NoTask::OutOfMemory;
+    }
+    let Ok(text) = error.to_string(alloc) else {
+        return NoTask::OutOfMemory;
+    };
+    if error.use_stderr() {
+        NoTask::Refused(text)
+    } else {
+        NoTask::Help(text)
+    }
+}
+
+// The task of the subcommand that was used.
+fn entered_task(matches: &ArgMatches<'_>) -> Option<Task>
+    ensures task { IfSome result (λ task. IsSomeAnd (subcommand_rows_of matches.now)
+        (λ p. IsTaskOf p.0 p.1 task)) }
+    ensures none { IfNone result ((task : Task) → ¬ IsSomeAnd (subcommand_rows_of matches.now)
+        (λ p. IsTaskOf p.0 p.1 task)) }
+{
+    let (name, inner) = entered(matches)?;
+    task_of(name, inner)
+}
+
+// The subcommand that was used, with its name.
+fn entered<'m, 'a>(matches: &'m ArgMatches<'a>) -> Option<(&'a str, &'m ArgMatches<'a>)>
+    ensures { MatchOption result (subcommand_rows_of matches.now ≡ None)
+        (λ p. subcommand_rows_of matches.now ≡ Some (p.0.now, rows_of (found_of p.1.now))) }
+{
+    matches.subcommand()
+}
+
+// The task of a subcommand of this name.
+fn task_of(name: &str, matches: &ArgMatches<'_>) -> Option<Task>
+    ensures task { IfSome result (IsTaskOf name.now (rows_of (found_of matches.now))) }
+    ensures none { IfNone result ((task : Task) → ¬ IsTaskOf name.now (rows_of (found_of matches.now)) task) }
+{
+    match name {
+        "energy" => Some(Task::Energy),
+        _ => None,
+    }
+}

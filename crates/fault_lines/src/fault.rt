@@ -1,0 +1,63 @@
+//! The faults of the program, over those of the libraries.
+ghost use Rattle.std.specs.Prelude.{◌≡◌};
+ghost use Rattle.fault_lines.specs.declared.fault.Fault.TheVariants.{OutOfMemory, Problem, Read, Regularity, Write};
+
+use byte_streams::{ReadError, WriteFailed};
+use problem_file::ProblemFault;
+use regular::NotRegular;
+use std::alloc::AllocError;
+
+/// Why a run was refused: what refused it, with that library's own fault.
+#[derive(Clone, Copy, Debug, PartialEq, Eq, Drop)]
+pub enum Fault {
+    /// Memory was refused.
+    OutOfMemory,
+    /// The writer stopped within the answer, or within help.
+    Write(WriteFailed),
+    /// The input was not read to its end.
+    Read(ReadError),
+    /// The input names no energy.
+    Problem(ProblemFault),
+    /// The energy is not regular.
+    Regularity(NotRegular),
+}
+
+impl From<AllocError> for Fault {
+    ghost from_gives = { λ _ fault. fault ≡ OutOfMemory };
+
+    fn from(_error: AllocError) -> Fault {
+        Fault::OutOfMemory
+    }
+}
+
+impl From<WriteFailed> for Fault {
+    ghost from_gives = { λ failed fault. fault ≡ Write failed };
+
+    fn from(failed: WriteFailed) -> Fault {
+        Fault::Write(failed)
+    }
+}
+
+impl From<ReadError> for Fault {
+    ghost from_gives = { λ error fault. fault ≡ Read error };
+
+    fn from(error: ReadError) -> Fault {
+        Fault::Read(error)
+    }
+}
+
+impl From<ProblemFault> for Fault {
+    ghost from_gives = { λ problem fault. fault ≡ Problem problem };
+
+    fn from(problem: ProblemFault) -> Fault {
+        Fault::Problem(problem)
+    }
+}
+
+impl From<NotRegular> for Fault {
+    ghost from_gives = { λ failing fault. fault ≡ Regularity failing };
+
+    fn from(failing: NotRegular) -> Fault {
+        Fault::Regularity(failing)
+    }
+}
