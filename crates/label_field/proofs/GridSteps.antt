@@ -7,7 +7,7 @@ use Rattle.std.proofs.lemmas.Nat.{mul-le, mul-add-lt, mod_below, div-add-mod'}
 use Rattle.std.proofs.lemmas.Bool.Decides.{nat_tests}
 use Rattle.label_field.specs.declared.pair.Pair.{Pair}
 use Rattle.label_field.specs.declared.grid.Step.{Step}
-use Rattle.label_field.specs.declared.pairs.TheConstants.{WEIGHT_LIMIT}
+use Rattle.label_field.specs.Limits.{weight_limit}
 use Rattle.label_field.specs.PairLists.{IsPair}
 use Rattle.label_field.specs.Grids.{IsImage, IsForward, site_at, column, row, stays, landing, pairs_at}
 
@@ -70,7 +70,7 @@ pub site_at-column : (width site : ℕ) → site_at width (column width site) (r
 site_at-column width site = omega (arith, div-add-mod' site width)
 
 -- the pairs at a site are pairs of two sites of the image
-pub pairs_at_are : (width height weight : ℕ) (steps : List Step) (site : ℕ) → IsImage width height → All IsForward steps → weight ≤ WEIGHT_LIMIT
+pub pairs_at_are : (width height weight : ℕ) (steps : List Step) (site : ℕ) → IsImage width height → All IsForward steps → weight ≤ weight_limit
     → site < width * height → All (IsPair (width * height)) (pairs_at width height weight steps site)
 pairs_at_are width height weight steps site image forward light within =
     let x : ℕ = column width site in
@@ -86,7 +86,7 @@ pairs_at_are width height weight steps site image forward light within =
     record { first = within; second = inside; unequal = omega (arith, later, back); weight = light })
 
 -- and so for several sites
-pub front_are : (width height weight : ℕ) (steps : List Step) (a n : ℕ) → IsImage width height → All IsForward steps → weight ≤ WEIGHT_LIMIT
+pub front_are : (width height weight : ℕ) (steps : List Step) (a n : ℕ) → IsImage width height → All IsForward steps → weight ≤ weight_limit
     → a + n ≤ width * height → All (IsPair (width * height)) (flat_map (pairs_at width height weight steps) (range_with_len a n))
 front_are width height weight steps a zero image forward light within = All-nil (IsPair (width * height))
 front_are width height weight steps a (suc n) image forward light within =

@@ -1,17 +1,16 @@
 use Rattle.std.specs.Prelude.{◌≡◌, ◌≢◌, ◌↔◌, ℕ, ◌+◌, ◌-◌, ◌*◌, ◌/◌, ◌%◌, ◌<◌, ◌≤◌, Bool, ◌&&◌, nat_lt, nat_le, List, [], ◌∷◌, map, length, ◌⊎◌}
 use Rattle.std.specs.List.{filter, flat_map, range_with_len, Contains, All, AllPairs}
-use Rattle.label_field.specs.declared.labelling.TheConstants.{SITE_LIMIT}
-use Rattle.label_field.specs.declared.grid.TheConstants.{SIDE_LIMIT}
+use Rattle.label_field.specs.Limits.{site_limit, side_limit}
 use Rattle.label_field.specs.declared.pair.Pair.{Pair}
 use Rattle.label_field.specs.declared.grid.Step.{Step}
 
 -- the width and the height of an image, in their limits
 pub record IsImage (width height : ℕ) : Type 0 where
   pub some_column : 1 ≤ width
-  pub columns : width ≤ SIDE_LIMIT
+  pub columns : width ≤ side_limit
   pub some_row : 1 ≤ height
-  pub rows : height ≤ SIDE_LIMIT
-  pub places : width * height ≤ SITE_LIMIT
+  pub rows : height ≤ side_limit
+  pub places : width * height ≤ site_limit
 
 -- the site in a column x and a row y, and back
 abbrev pub site_at : ℕ → ℕ → ℕ → ℕ
@@ -69,16 +68,22 @@ pub record IsSteps (steps : List Step) : Type 0 where
   pub small : All IsSmall steps
   pub forward : All IsForward steps
 
+-- the pair of a site with the site where a step from it ends
+abbrev pub pair_to : ℕ → ℕ → ℕ → Step → Pair
+pair_to width weight site step =
+    record { first = site; second = landing width (column width site) (row width site) step; weight = weight }
+
 -- the pairs of a site with the places of the image where the steps from it end, in the order of the steps
 abbrev pub pairs_at : ℕ → ℕ → ℕ → List Step → ℕ → List Pair
 pairs_at width height weight steps site =
     map
-    (λ step. record { first = site; second = landing width (column width site) (row width site) step; weight = weight })
+    (λ step. pair_to width weight site step)
     (filter (stays width height (column width site) (row width site)) steps)
 
 -- those of each site of an image, site by site
 abbrev pub grid : ℕ → ℕ → ℕ → List Step → List Pair
-grid width height weight steps = flat_map (pairs_at width height weight steps) (range_with_len 0 (width * height))
+grid width height weight steps =
+    flat_map (pairs_at width height weight steps) (range_with_len 0 (width * height))
 
 -- how far two numbers are apart
 abbrev pub distance : ℕ → ℕ → ℕ
@@ -86,14 +91,19 @@ distance a b = (a - b) + (b - a)
 
 -- two sites share an edge: one column or one row apart, and not both
 abbrev pub ShareEdge : ℕ → ℕ → ℕ → Type 0
-ShareEdge width p q = distance (column width p) (column width q) + distance (row width p) (row width q) ≡ 1
+ShareEdge width p q =
+    distance (column width p) (column width q) + distance (row width p) (row width q) ≡ 1
 
 -- two sites touch, at an edge or a corner
 abbrev pub Touch : ℕ → ℕ → ℕ → Type 0
-Touch width p q = (distance (column width p) (column width q) ≤ 1) × (distance (row width p) (row width q) ≤ 1)
+Touch width p q =
+    (distance (column width p) (column width q) ≤ 1) × (distance (row width p) (row width q) ≤ 1)
 
--- the list has exactly the related pairs of sites, the lower one first, each once, in rising order of the first
+-- the list has exactly the related pairs of sites, the lower one first, each once, in rising order of the
+-- first
 pub record ListsOnce (sites weight : ℕ) (AreRelated : ℕ → ℕ → Type 0) (list : List Pair) : Type 0 where
-  pub members : (pair : Pair) → Contains list pair ↔ ((pair.first < pair.second) × (pair.second < sites) × AreRelated pair.first pair.second × (pair.weight ≡ weight))
+  pub members : (pair : Pair) → Contains list pair
+      ↔ ((pair.first < pair.second) × (pair.second < sites) × AreRelated pair.first pair.second
+      × (pair.weight ≡ weight))
   pub rising : AllPairs (λ (a b : Pair). a.first ≤ b.first) list
   pub once : AllPairs (λ (a b : Pair). a ≢ b) list

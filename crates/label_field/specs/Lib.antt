@@ -1,3 +1,4 @@
+pub mod Limits
 pub mod LabelFields
 pub mod PairLists
 pub mod Grids

@@ -1,7 +1,6 @@
 use Rattle.std.specs.Prelude.{◌≡◌, ◌≢◌, ℕ, ℤ, pos, ◌<◌, ◌≤◌, ◌≤ℤ◌, ◌⊎◌, List, length}
 use Rattle.std.specs.List.{All}
-use Rattle.label_field.specs.declared.labelling.TheConstants.{SITE_LIMIT}
-use Rattle.label_field.specs.declared.pairs.TheConstants.{PAIR_LIMIT, WEIGHT_LIMIT}
+use Rattle.label_field.specs.Limits.{site_limit, pair_limit, weight_limit}
 use Rattle.label_field.specs.declared.pair.Pair.{Pair}
 use Rattle.label_field.specs.declared.error.LabelFieldError.{LabelFieldError}
 use Rattle.label_field.specs.declared.error.LabelFieldError.TheVariants.{NoSuchSite, NoSuchLabel, SamePair, TooManyPairs, WeightRange, OutOfMemory}
@@ -16,31 +15,34 @@ pub record IsPair (sites : ℕ) (pair : Pair) : Type 0 where
   pub first : pair.first < sites
   pub second : pair.second < sites
   pub unequal : pair.first ≢ pair.second
-  pub weight : pair.weight ≤ WEIGHT_LIMIT
+  pub weight : pair.weight ≤ weight_limit
 
 -- numbers in their limits, and a list of pairs
 pub record IsPairList (pairs : PairList) : Type 0 where
-  pub sites : pairs.sites ≤ SITE_LIMIT
-  pub count : length pairs.list ≤ PAIR_LIMIT
+  pub sites : pairs.sites ≤ site_limit
+  pub count : length pairs.list ≤ pair_limit
   pub each : All (IsPair pairs.sites) pairs.list
 
 -- a weight in its range
 abbrev pub IsWeight : ℤ → Type 0
-IsWeight weight = (pos 0 ≤ℤ weight) × (weight ≤ℤ pos WEIGHT_LIMIT)
+IsWeight weight = (pos 0 ≤ℤ weight) × (weight ≤ℤ pos weight_limit)
 
 -- a pair that may be added: two unequal sites, room in the list, a weight in its range
 pub record IsAccepted (pairs : PairList) (first second : ℕ) (weight : ℤ) : Type 0 where
   pub first_site : first < pairs.sites
   pub second_site : second < pairs.sites
   pub unequal : first ≢ second
-  pub room : length pairs.list < PAIR_LIMIT
+  pub room : length pairs.list < pair_limit
   pub in_range : IsWeight weight
 
--- why a pair is refused: the first cause that stands, and want of memory only where none does
+-- why a pair is refused: the first cause that holds, and out of memory only where none does
 abbrev pub IsRefusal : PairList → ℕ → ℕ → ℤ → LabelFieldError → Type 0
 IsRefusal pairs first second weight NoSuchSite = (pairs.sites ≤ first) ⊎ (pairs.sites ≤ second)
 IsRefusal pairs first second weight SamePair = (first < pairs.sites) × (first ≡ second)
-IsRefusal pairs first second weight TooManyPairs = (first < pairs.sites) × (second < pairs.sites) × (first ≢ second) × (PAIR_LIMIT ≤ length pairs.list)
-IsRefusal pairs first second weight WeightRange = (first < pairs.sites) × (second < pairs.sites) × (first ≢ second) × (length pairs.list < PAIR_LIMIT) × (¬ IsWeight weight)
+IsRefusal pairs first second weight TooManyPairs =
+    (first < pairs.sites) × (second < pairs.sites) × (first ≢ second) × (pair_limit ≤ length pairs.list)
+IsRefusal pairs first second weight WeightRange =
+    (first < pairs.sites) × (second < pairs.sites) × (first ≢ second) × (length pairs.list < pair_limit)
+    × (¬ IsWeight weight)
 IsRefusal pairs first second weight (OutOfMemory _) = IsAccepted pairs first second weight
 IsRefusal pairs first second weight NoSuchLabel = ⊥

@@ -5,7 +5,7 @@ ghost use Rattle.label_field.specs.declared.error.LabelFieldError.TheVariants.{O
 use std::alloc::{AllocError, AllocFailed};
 use thiserror::Error;
 
-/// Why a call was refused. A refused call changes nothing.
+/// Why a call was refused. A refused call changes nothing. Sites and labels are numbered from 0.
 #[derive(Debug, Drop, Error)]
 pub enum LabelFieldError {
     /// A site is not below the number of sites.
@@ -20,10 +20,10 @@ pub enum LabelFieldError {
     /// The list has `PAIR_LIMIT` pairs already.
     #[error("there are too many pairs")]
     TooManyPairs,
-    /// A weight is not from 0 to `WEIGHT_LIMIT`.
+    /// The weight of a pair is not from 0 to `WEIGHT_LIMIT`.
     #[error("the weight of a pair is out of range")]
     WeightRange,
-    /// A growth was refused.
+    /// Out of memory: a growth was refused.
     #[error(transparent)]
     OutOfMemory(AllocError),
 }

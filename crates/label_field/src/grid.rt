@@ -1,12 +1,15 @@
 //! The pairs of neighbours of an image.
 ghost use Rattle.std.specs.Prelude.{◌≡◌, ℕ, ◌+◌, ◌-◌, ◌*◌, ◌<◌, ◌≤◌, ◌++◌, ◌↔◌, IsTrue, IfOk, OnOk, if◌then◌else◌, Some, None, length};
 ghost use Rattle.std.specs.List.{All};
-ghost use Rattle.label_field.specs.Grids.{IsImage, IsSmall, IsSteps, edge_count, corner_count, stays, landing, pairs_at, grid as grid_list, steps4, steps8};
+ghost use Rattle.label_field.specs.Limits.{site_limit, weight_limit};
+ghost use Rattle.label_field.specs.Grids.{IsImage, IsSmall, IsSteps, edge_count, corner_count};
+ghost use Rattle.label_field.specs.Grids.{column, row, stays, landing, pair_to, pairs_at};
+ghost use Rattle.label_field.specs.Grids.{grid as grid_list, steps4, steps8};
 
-use crate::{Pair, Pairs, SITE_LIMIT, WEIGHT_LIMIT};
+use crate::{Pair, Pairs, SITE_LIMIT};
 use std::alloc::{AllocError, Global};
 
-/// The most columns, and the most rows, of an image.
+/// The greatest width and the greatest height of an image, in pixels; the least is 1.
 pub const SIDE_LIMIT: u32 = 4096;
 
 /// A step from a place of an image to a neighbour that comes after it: so many columns to the right,
@@ -53,7 +56,7 @@ impl Image {
     // How many pairs of its sites share an edge.
     fn edges(&self) -> usize
         ensures value { result ≡ edge_count self.now.width self.now.height }
-        ensures bound { result ≤ 2 * SITE_LIMIT }
+        ensures bound { result ≤ 2 * site_limit }
     {
         let (width, height) = (self.width as usize, self.height as usize);
         (width - 1) * height + width * (height - 1)
@@ -62,7 +65,7 @@ impl Image {
     // How many pairs of its sites share a corner alone.
     fn corners(&self) -> usize
         ensures value { result ≡ corner_count self.now.width self.now.height }
-        ensures bound { result ≤ 2 * SITE_LIMIT }
+        ensures bound { result ≤ 2 * site_limit }
     {
         2 * ((self.width as usize - 1) * (self.height as usize - 1))
     }
@@ -74,7 +77,8 @@ impl Step {
         requires small { IsSmall self.now }
         requires column { x < image.width }
         requires row { y < image.height }
-        ensures { result ≡ (if stays image.width image.height x y self.now then Some (landing image.width x y self.now) else None) }
+        ensures { result ≡ (if stays image.width image.height x y self.now
+            then Some (landing image.width x y self.now) else None) }
     {
         let in_image = self.left <= x
             && x + self.right < image.width + self.left
@@ -87,6 +91,21 @@ impl Step {
     }
 }
 
+// The pair of a site with the place of the image where a step from it ends, if there is one.
+fn pair_at(image: Image, site: u32, step: &Step, weight: u32) -> Option<Pair>
+    requires site { site < image.width * image.height }
+    requires small { IsSmall step.now }
+    ensures { result ≡ (if stays image.width image.height (column image.width site)
+        (row image.width site) step.now then Some (pair_to image.width weight site step.now) else None) }
+{
+    let second = step.end(image, site % image.width, site / image.width)?;
+    Some(Pair {
+        first: site,
+        second,
+        weight,
+    })
+}
+
 // Adds the pairs of a site with its neighbours, in the order of the steps.
 fn push_pairs(
     list: &mut Vec<Pair>,
@@ -97,17 +116,12 @@ fn push_pairs(
 ) -> Result<(), AllocError>
     requires site { site < image.width * image.height }
     requires small { All IsSmall steps.now }
-    ensures { OnOk result (list.new.items ≡ list.old.items ++ pairs_at image.width image.height weight steps.now site) }
+    ensures { OnOk result (list.new.items
+        ≡ list.old.items ++ pairs_at image.width image.height weight steps.now site) }
 {
-    let x = site % image.width;
-    let y = site / image.width;
     for step in steps {
-        if let Some(second) = step.end(image, x, y) {
-            list.push(Pair {
-                first: site,
-                second,
-                weight,
-            })?;
+        if let Some(pair) = pair_at(image, site, step, weight) {
+            list.push(pair)?;
         }
     }
     Ok(())
@@ -122,8 +136,11 @@ fn grid(
     count: usize,
 ) -> Result<Pairs, AllocError>
     requires steps { IsSteps steps.now }
-    requires weight { weight ≤ WEIGHT_LIMIT }
-    ensures { IfOk result (λ pairs. pairs ≡ record { sites = image.width * image.height; list = grid_list image.width image.height weight steps.now }) }
+    requires weight { weight ≤ weight_limit }
+    ensures { IfOk result (λ pairs. pairs ≡ record {
+      sites = image.width * image.height;
+      list = grid_list image.width image.height weight steps.now;
+    }) }
 {
     let sites = image.width * image.height;
     let mut list = Vec::with_capacity(alloc, count)?;
@@ -146,13 +163,15 @@ impl Pairs {
             && width * height <= SITE_LIMIT
     }
 
-    /// The pairs of the sites of an image that share an edge, all of one weight. The site in column x and
-    /// row y is x + y * width. For each site in rising order comes its pair with the one on its right,
-    /// and then with the one below, where there is one.
+    /// The pairs of the sites of an image that share an edge, all of one weight, from 0 to `WEIGHT_LIMIT`.
+    /// The site in column x and row y is x + y * width. For each site in rising order comes its pair with the
+    /// one on its right, and then with the one below, where there is one. `Pairs::fits_image` tells whether
+    /// an image may have these sides. Refused for memory alone.
     pub fn grid4(alloc: Global, width: u32, height: u32, weight: u32) -> Result<Pairs, AllocError>
         requires image { IsImage width height }
-        requires weight { weight ≤ WEIGHT_LIMIT }
-        ensures { IfOk result (λ pairs. pairs ≡ record { sites = width * height; list = grid_list width height weight steps4 }) }
+        requires weight { weight ≤ weight_limit }
+        ensures { IfOk result (λ pairs. pairs
+            ≡ record { sites = width * height; list = grid_list width height weight steps4 }) }
     {
         let image = Image { width, height };
         grid(alloc, image, weight, &[RIGHT, DOWN], image.edges())
@@ -160,11 +179,12 @@ impl Pairs {
 
     /// The pairs of the sites of an image that share an edge or a corner, all of one weight. As
     /// `Pairs::grid4`, and after these two come the pairs of the site with the ones down on the right and
-    /// down on the left.
+    /// down on the left, where there is one.
     pub fn grid8(alloc: Global, width: u32, height: u32, weight: u32) -> Result<Pairs, AllocError>
         requires image { IsImage width height }
-        requires weight { weight ≤ WEIGHT_LIMIT }
-        ensures { IfOk result (λ pairs. pairs ≡ record { sites = width * height; list = grid_list width height weight steps8 }) }
+        requires weight { weight ≤ weight_limit }
+        ensures { IfOk result (λ pairs. pairs
+            ≡ record { sites = width * height; list = grid_list width height weight steps8 }) }
     {
         let image = Image { width, height };
         let count = image.edges() + image.corners();

@@ -1,12 +1,13 @@
 //! A weighted pair of sites.
 
-/// Two sites, and the weight of their term in the energy. It takes 12 bytes.
+/// Two sites, and the weight of their term in the energy (Boykov, Veksler, Zabih 2001, section 1). It takes
+/// 12 bytes.
 #[derive(Clone, Copy, Debug, PartialEq, Eq)]
 pub struct Pair {
-    /// The first site, as it was given.
+    /// The number of the first site, as it was given: it may be above the second.
     pub first: u32,
-    /// The second site, which is another one.
+    /// The number of the second site. In a list it is never that of the first.
     pub second: u32,
-    /// From 0 to `WEIGHT_LIMIT`.
+    /// The factor of the term: in a list from 0 to `WEIGHT_LIMIT`.
     pub weight: u32,
 }

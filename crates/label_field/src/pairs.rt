@@ -1,20 +1,23 @@
 //! A list of weighted pairs of sites.
 ghost use Rattle.std.specs.Prelude.{◌≡◌, ◌<◌, ◌≤◌, ◌++◌, [], ◌∷◌, ◌↔◌, IsTrue, IfOk, IfErr, IfSome, OnOk, OnErr, SomeIff, Some, length, unsigned_abs, slice_set};
 ghost use Rattle.std.specs.List.{All, slice_get};
+ghost use Rattle.label_field.specs.Limits.{site_limit, pair_limit, weight_limit};
 ghost use Rattle.label_field.specs.PairLists.{IsPair, IsWeight, IsAccepted, IsRefusal};
 
 use crate::{LabelFieldError, Pair, SITE_LIMIT};
 use std::alloc::Global;
 use std::marker::Model;
 
-/// The most pairs that a list may have.
+/// The greatest number of pairs of a list; the least is 0. It is four for each of `SITE_LIMIT` sites.
 pub const PAIR_LIMIT: usize = 4_194_304;
 
-/// The greatest weight of a pair. The least is 0.
+/// The greatest weight of a pair; the least is 0. A weight is the factor of the pair's term in the energy, in
+/// no unit of its own.
 pub const WEIGHT_LIMIT: u32 = 1000;
 
-/// A list of weighted pairs of two unequal sites, in the order in which they were added. A pair may
-/// stand in it more than once, and then counts as often.
+/// A list of weighted pairs of two unequal sites, in the order in which they were added: the neighbours of an
+/// energy of labels (Boykov, Veksler, Zabih 2001, section 1). A pair may stand in it more than once, and then
+/// counts as often. There are 0 to `SITE_LIMIT` sites, numbered from 0, and 0 to `PAIR_LIMIT` pairs.
 #[derive(Drop)]
 pub struct Pairs {
     sites: u32,
@@ -32,16 +35,17 @@ impl Model for Pairs {
 }
 
 impl Pairs {
-    /// Whether a list may be of this many sites: at most `SITE_LIMIT`.
+    /// Whether a list may be of this many sites: 0 to `SITE_LIMIT`.
     pub fn fits(sites: u32) -> bool
-        ensures { IsTrue result ↔ (sites ≤ SITE_LIMIT) }
+        ensures { IsTrue result ↔ (sites ≤ site_limit) }
     {
         sites <= SITE_LIMIT
     }
 
-    /// No pairs yet, of this many sites. It takes no memory.
+    /// No pairs yet, of this many sites. `Pairs::fits` tells whether there may be so many. It takes no
+    /// memory.
     pub fn new(alloc: Global, sites: u32) -> Pairs
-        requires { sites ≤ SITE_LIMIT }
+        requires { sites ≤ site_limit }
         ensures { result ≡ record { sites = sites; list = [] } }
     {
         Pairs::of_list(sites, Vec::new(alloc))
@@ -49,20 +53,24 @@ impl Pairs {
 
     /// The list of these pairs.
     pub(crate) fn of_list(sites: u32, list: Vec<Pair>) -> Pairs
-        requires sites { sites ≤ SITE_LIMIT }
-        requires count { length list.items ≤ PAIR_LIMIT }
+        requires sites { sites ≤ site_limit }
+        requires count { length list.items ≤ pair_limit }
         requires pairs { All (IsPair sites) list.items }
         ensures { result ≡ record { sites = sites; list = list.items } }
     {
         Pairs { sites, list }
     }
 
-    /// Adds a pair at the end of the list. Refused, the first that holds: `NoSuchSite` where one of the
-    /// two is not a site, `SamePair` where they are one, `TooManyPairs` where the list is full, and
-    /// `WeightRange` where the weight is not from 0 to `WEIGHT_LIMIT`.
+    /// Adds a pair at the end of the list. Refused, the first that holds, and nothing is changed:
+    /// `NoSuchSite` where one of the two is not below the number of sites, `SamePair` where they are one,
+    /// `TooManyPairs` where there are `PAIR_LIMIT` pairs already, `WeightRange` where the weight is not from
+    /// 0 to `WEIGHT_LIMIT`, and `OutOfMemory` where the list has to grow and cannot.
     pub fn add(&mut self, first: u32, second: u32, weight: i64) -> Result<(), LabelFieldError>
         ensures accepted { OnOk result (IsAccepted self.old first second weight) }
-        ensures added { OnOk result (self.new ≡ record self.old { list = self.old.list ++ record { first = first; second = second; weight = unsigned_abs weight } ∷ [] }) }
+        ensures added { OnOk result (self.new ≡ record self.old {
+          list = self.old.list
+              ++ record { first = first; second = second; weight = unsigned_abs weight } ∷ [];
+        }) }
 
         ensures refused { IfErr result (IsRefusal self.old first second weight) }
         ensures unchanged { OnErr result (self.new ≡ self.old) }
@@ -88,18 +96,18 @@ impl Pairs {
         Ok(())
     }
 
-    /// How many sites there are to pair.
+    /// How many sites there are to pair, from 0 to `SITE_LIMIT`.
     pub fn sites(&self) -> u32
         ensures value { result ≡ self.now.sites }
-        ensures limit { result ≤ SITE_LIMIT }
+        ensures limit { result ≤ site_limit }
     {
         self.sites
     }
 
-    /// How many pairs are in the list.
+    /// How many pairs are in the list, from 0 to `PAIR_LIMIT`, each as often as it stands there.
     pub fn len(&self) -> usize
         ensures value { result ≡ length self.now.list }
-        ensures limit { result ≤ PAIR_LIMIT }
+        ensures limit { result ≤ pair_limit }
     {
         self.list.len()
     }
@@ -115,7 +123,7 @@ impl Pairs {
     pub fn as_slice(&self) -> &[Pair]
         ensures value { result.now ≡ self.now.list }
         ensures pairs { All (IsPair self.now.sites) result.now }
-        ensures limit { length result.now ≤ PAIR_LIMIT }
+        ensures limit { length result.now ≤ pair_limit }
     {
         &self.list
     }
@@ -133,8 +141,9 @@ impl Pairs {
     /// are. It takes no memory.
     pub fn set_weight(&mut self, index: usize, weight: u32)
         requires in_list { index < length self.old.list }
-        requires in_limit { weight ≤ WEIGHT_LIMIT }
-        ensures { IfSome (slice_get self.old.list index) (λ pair. self.new ≡ record self.old { list = slice_set self.old.list index (record pair { weight = weight }) }) }
+        requires in_limit { weight ≤ weight_limit }
+        ensures { IfSome (slice_get self.old.list index) (λ pair. self.new
+            ≡ record self.old { list = slice_set self.old.list index (record pair { weight = weight }) }) }
     {
         let pair = &mut self.list[index];
         pair.weight = weight;
