@@ -1,6 +1,6 @@
 -- What stands at the front of some bytes: an image, or what refuses one.
 use Rattle.std.specs.Prelude.{ℕ, List, [], ◌∷◌, ◌++◌, length, All, ◌≡◌, ◌≤◌, ◌<◌, ◌+◌, ◌-◌, ◌*◌, ◌⊎◌, true, Result, Ok, Err}
-use Rattle.pgm_image.specs.Picture.{Picture, IsPicture, SizeFits}
+use Rattle.pgm_image.specs.Picture.{Picture, IsPicture, SizeFits, side_limit, sample_limit, maxval_limit}
 use Rattle.pgm_image.specs.Raster.{raster, raster_size, IsFirstAbove}
 use Rattle.pgm_image.specs.Grammar.{is_gap, magic, AreNumbers, IsHeader, IsAnyHeader, IsEndedNumber, EndsNumber, StopsAt}
 use Rattle.pgm_image.specs.declared.error.PgmError.{PgmError}
@@ -40,10 +40,11 @@ pub record AfterHeader (Says : Form → ℕ → ℕ → ℕ → ℕ → List ℕ
 
 -- the three numbers are within their limits
 abbrev pub Fits : ℕ → ℕ → ℕ → Type 0
-Fits w h m = SizeFits w h × (1 ≤ m) × (m ≤ 65535)
+Fits w h m = SizeFits w h × (1 ≤ m) × (m ≤ maxval_limit)
 
+-- a width and a height, one of which or whose product is above its limit
 abbrev pub IsTooLarge : ℕ → ℕ → Type 0
-IsTooLarge w h = (1 ≤ w) × (1 ≤ h) × ((4096 < w) ⊎ ((4096 < h) ⊎ (1048576 < w * h)))
+IsTooLarge w h = (1 ≤ w) × (1 ≤ h) × ((side_limit < w) ⊎ ((side_limit < h) ⊎ (sample_limit < w * h)))
 
 -- some plain samples, fewer than the count and none above m, stand at the front, and this follows
 pub record FewerSamples (count m : ℕ) (bytes xs tail : List ℕ) : Type 0 where
@@ -64,7 +65,8 @@ IsCut Plain count m last rest = (xs : List ℕ) × (tail : List ℕ) × (more : 
 abbrev pub HasAbove : Form → ℕ → ℕ → ℕ → List ℕ → ℕ → Type 0
 HasAbove Raw count m last rest i = (xs : List ℕ) × (more : List ℕ)
     × (length xs ≡ count) × (rest ≡ raster m xs ++ more) × IsFirstAbove m xs i
-HasAbove Plain count m last rest i = (xs : List ℕ) × (tail : List ℕ) × (x : ℕ) × (sample : List ℕ) × (more : List ℕ)
+HasAbove Plain count m last rest i =
+    (xs : List ℕ) × (tail : List ℕ) × (x : ℕ) × (sample : List ℕ) × (more : List ℕ)
     × FewerSamples count m (last ∷ rest) xs tail × AreNumbers (x ∷ []) sample × EndsNumber more
     × (tail ≡ sample ++ more) × (m < x) × (length xs ≡ i)
 
@@ -76,17 +78,22 @@ HasBad Plain count m last rest end at = (xs : List ℕ) × (tail : List ℕ) × 
     × FewerSamples count m (last ∷ rest) xs tail × StopsAt IsEndedNumber tail k × (k < length tail)
     × (at ≡ (end - length tail) + k)
 
--- Why no image stands at the front. Want of memory comes only behind a header within the limits.
+-- Why no image is at the front. Out of memory comes only behind a header within the limits.
 abbrev pub Refuses : List ℕ → PgmError → Type 0
 Refuses bytes OutOfMemory = AfterHeader (λ form w h m last rest. Fits w h m) bytes
 Refuses bytes NotPgm = (form : Form) (rest : List ℕ) → bytes ≡ magic form ++ rest → ⊥
-Refuses bytes (BadHeader at) = ((form : Form) × (rest : List ℕ) × (bytes ≡ magic form ++ rest)) × StopsAt IsAnyHeader bytes at
+Refuses bytes (BadHeader at) =
+    ((form : Form) × (rest : List ℕ) × (bytes ≡ magic form ++ rest)) × StopsAt IsAnyHeader bytes at
 Refuses bytes ZeroSize = AfterHeader (λ form w h m last rest. (w ≡ 0) ⊎ (h ≡ 0)) bytes
 Refuses bytes TooLarge = AfterHeader (λ form w h m last rest. IsTooLarge w h) bytes
-Refuses bytes BadMaxval = AfterHeader (λ form w h m last rest. SizeFits w h × ((m ≡ 0) ⊎ (65535 < m))) bytes
-Refuses bytes Truncated = AfterHeader (λ form w h m last rest. Fits w h m × IsCut form (w * h) m last rest) bytes
-Refuses bytes (SampleAboveMax i) = AfterHeader (λ form w h m last rest. Fits w h m × HasAbove form (w * h) m last rest i) bytes
-Refuses bytes (BadSample at) = AfterHeader (λ form w h m last rest. Fits w h m × HasBad form (w * h) m last rest (length bytes) at) bytes
+Refuses bytes BadMaxval =
+    AfterHeader (λ form w h m last rest. SizeFits w h × ((m ≡ 0) ⊎ (maxval_limit < m))) bytes
+Refuses bytes Truncated =
+    AfterHeader (λ form w h m last rest. Fits w h m × IsCut form (w * h) m last rest) bytes
+Refuses bytes (SampleAboveMax i) =
+    AfterHeader (λ form w h m last rest. Fits w h m × HasAbove form (w * h) m last rest i) bytes
+Refuses bytes (BadSample at) =
+    AfterHeader (λ form w h m last rest. Fits w h m × HasBad form (w * h) m last rest (length bytes) at) bytes
 
 -- what the format says of some bytes: their image, or its refusal
 abbrev pub Answers : List ℕ → Result (Picture × ℕ) PgmError → Type 0

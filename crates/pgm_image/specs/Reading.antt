@@ -1,6 +1,6 @@
 -- What is read, as functions on lists. The laws say that it is what the grammar says.
 use Rattle.std.specs.Prelude.{ℕ, suc, zero, List, [], ◌∷◌, ◌++◌, length, take, drop, ◌≡◌, ◌≤◌, ◌+◌, ◌-◌, ◌*◌, ◌==◌, ◌||◌, nat_lt, Option, Some, None, Result, Ok, Err, IsOk, ⊤, if◌then◌else◌}
-use Rattle.pgm_image.specs.Picture.{Picture, picture}
+use Rattle.pgm_image.specs.Picture.{Picture, picture, side_limit, sample_limit, maxval_limit}
 use Rattle.pgm_image.specs.Raster.{raster_size, samples_in}
 use Rattle.pgm_image.specs.Words.{number_at, numbers_at}
 use Rattle.pgm_image.specs.declared.words.Place.TheVariants.{Start, Number}
@@ -18,20 +18,26 @@ use Rattle.pgm_image.specs.declared.error.PgmError.TheVariants.{OutOfMemory, Not
 abbrev pub form_at : List ℕ → Option (Form × List ℕ)
 form_at [] = None
 form_at (a ∷ []) = None
-form_at (a ∷ b ∷ rest) = if a == 80 then (if b == 53 then Some (Raw, rest) else if b == 50 then Some (Plain, rest) else None) else None
+form_at (a ∷ b ∷ rest) =
+    if a == 80 then (if b == 53 then Some (Raw, rest) else if b == 50 then Some (Plain, rest) else None)
+    else None
 
+-- the first of the limits that a header breaks
 abbrev pub check_limits : Header → Result (Unit {0}) PgmError
 check_limits h =
     if (h.width == 0) || (h.height == 0) then Err ZeroSize
-    else if nat_lt 4096 h.width || nat_lt 4096 h.height || nat_lt 1048576 (h.width * h.height) then Err TooLarge
-    else if (h.maxval == 0) || nat_lt 65535 h.maxval then Err BadMaxval
+    else if nat_lt side_limit h.width || nat_lt side_limit h.height
+    || nat_lt sample_limit (h.width * h.height)
+    then Err TooLarge
+    else if (h.maxval == 0) || nat_lt maxval_limit h.maxval then Err BadMaxval
     else Ok tt
 
 abbrev pub header_of : List ℕ → Header
 header_of (w ∷ h ∷ m ∷ _) = record { width = w; height = h; maxval = m }
 header_of _ = record { width = 0; height = 0; maxval = 0 }
 
-abbrev pub within : Result (Unit {0}) PgmError → Form → Header → List ℕ → Result (Form × Header × List ℕ) PgmError
+abbrev pub within : Result (Unit {0}) PgmError → Form → Header → List ℕ
+    → Result (Form × Header × List ℕ) PgmError
 within (Ok u) form h rest = Ok (form, h, rest)
 within (Err e) form h rest = Err e
 
@@ -77,7 +83,8 @@ with_front xs (Err e) = Err e
 unfoldable pub plain_at : ℕ → ℕ → ℕ → ℕ → List ℕ → Result (List ℕ × List ℕ) PgmError
 plain_at zero m end i bytes = Ok ([], bytes)
 plain_at (suc k) m end i bytes = elim (sample_at bytes) [
-  | Ok x ↦ if nat_lt m x.0 then Err (SampleAboveMax i) else with_front (x.0 ∷ []) (plain_at k m end (i + 1) x.1)
+  | Ok x ↦ if nat_lt m x.0 then Err (SampleAboveMax i)
+      else with_front (x.0 ∷ []) (plain_at k m end (i + 1) x.1)
   | Err f ↦ Err (told end f)
 ]
 
@@ -116,12 +123,12 @@ after_header (Err e) end = Err e
 unfoldable pub image_at : List ℕ → Result (Picture × ℕ) PgmError
 image_at bytes = after_header (header_at bytes) (length bytes)
 
--- the fault stands among so many last bytes
+-- the fault lies among so many last bytes
 abbrev pub IsWithin : Fault → ℕ → Type 0
 IsWithin Ended n = ⊤
 IsWithin (Bad left) n = left ≤ n
 
--- the refusal is this one, or want of memory
+-- the refusal is this one, or out of memory
 abbrev pub RefusesAs : {A : Type 0} → PgmError → Result A PgmError → Type 0
 RefusesAs OutOfMemory r = ⊤
 RefusesAs e r = r ≡ Err e

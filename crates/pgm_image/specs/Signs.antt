@@ -17,4 +17,7 @@ cap n = if nat_lt n 10000000 then n else 10000000
 
 -- one more digit, and no more than the cap
 abbrev pub with_digit : ℕ → ℕ → ℕ
-with_digit n b = if nat_lt n 10000000 then (if nat_lt (10 * n + (b - 48)) 10000000 then 10 * n + (b - 48) else 10000000) else 10000000
+with_digit n b =
+    if nat_lt n 10000000
+    then (if nat_lt (10 * n + (b - 48)) 10000000 then 10 * n + (b - 48) else 10000000)
+    else 10000000

@@ -56,7 +56,8 @@ abbrev pub with_number : ℕ → Result (List ℕ × List ℕ) ℕ → Result (L
 with_number n (Ok x) = Ok (n ∷ x.0, x.1)
 with_number n (Err left) = Err left
 
-abbrev pub after_number : Result (ℕ × List ℕ) ℕ → (List ℕ → Result (List ℕ × List ℕ) ℕ) → Result (List ℕ × List ℕ) ℕ
+abbrev pub after_number : Result (ℕ × List ℕ) ℕ → (List ℕ → Result (List ℕ × List ℕ) ℕ)
+    → Result (List ℕ × List ℕ) ℕ
 after_number (Ok x) f = with_number x.0 (f x.1)
 after_number (Err left) f = Err left
 

@@ -4,7 +4,7 @@ ghost use Rattle.pgm_image.specs.Words.{whole_number, numbers_at};
 ghost use Rattle.pgm_image.specs.Reading.{form_at, check_limits, header_at, IsOfHeader};
 
 use crate::error::PgmError;
-use crate::image::{MOST_MAXVAL, MOST_SAMPLES, MOST_SIDE};
+use crate::image::{MAXVAL_LIMIT, SAMPLE_LIMIT, SIDE_LIMIT};
 use crate::words::{Reading, number_at};
 
 /// How the samples are spelled.
@@ -85,10 +85,10 @@ fn check_limits(header: Header) -> Result<(), PgmError>
     if width == 0 || height == 0 {
         return Err(PgmError::ZeroSize);
     }
-    if width > MOST_SIDE || height > MOST_SIDE || width * height > MOST_SAMPLES {
+    if width > SIDE_LIMIT || height > SIDE_LIMIT || width * height > SAMPLE_LIMIT {
         return Err(PgmError::TooLarge);
     }
-    if maxval == 0 || maxval > MOST_MAXVAL {
+    if maxval == 0 || maxval > MAXVAL_LIMIT {
         return Err(PgmError::BadMaxval);
     }
     Ok(())

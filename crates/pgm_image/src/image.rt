@@ -4,16 +4,17 @@ ghost use Rattle.pgm_image.specs.Picture.{Picture, picture, IsPicture, SizeFits}
 
 use std::marker::Model;
 
-/// The most samples of a row, and the most rows.
-pub const MOST_SIDE: u32 = 4096;
+/// The greatest width and the greatest height of an image, in samples; the least is 1.
+pub const SIDE_LIMIT: u32 = 4096;
 
-/// The most samples of an image.
-pub const MOST_SAMPLES: u32 = 1_048_576;
+/// The greatest number of samples of an image, which is its width times its height; the least is 1.
+pub const SAMPLE_LIMIT: u32 = 1_048_576;
 
-/// The most that a greatest sample can be.
-pub const MOST_MAXVAL: u32 = 65_535;
+/// The greatest maxval; the least is 1. It is the PGM format's own.
+pub const MAXVAL_LIMIT: u32 = 65_535;
 
-/// A grey image: its rows from the top, each from the left, and no sample above `maxval`.
+/// A grey image: its samples by rows from the top, each row from the left, and none above `maxval`. 0 is
+/// black, `maxval` is white (the Netpbm project's PGM page).
 #[derive(Debug, Drop)]
 pub struct Image {
     width: u32,
@@ -34,10 +35,10 @@ pub(crate) fn size_fits(width: u32, height: u32) -> bool
     ensures { IsTrue result ↔ SizeFits width height }
 {
     1 <= width
-        && width <= MOST_SIDE
+        && width <= SIDE_LIMIT
         && 1 <= height
-        && height <= MOST_SIDE
-        && width * height <= MOST_SAMPLES
+        && height <= SIDE_LIMIT
+        && width * height <= SAMPLE_LIMIT
 }
 
 fn none_above(maxval: u32, samples: &[u16]) -> bool
@@ -61,40 +62,42 @@ impl Image {
         }
     }
 
-    /// Whether these four make an image: the sizes from 1 up to their limits, `maxval` from 1 to
-    /// `MOST_MAXVAL`, as many samples as `width` times `height`, and none above `maxval`.
+    /// Whether these four make an image: the width and the height from 1 to `SIDE_LIMIT`, their product at
+    /// most `SAMPLE_LIMIT`, `maxval` from 1 to `MAXVAL_LIMIT`, as many samples as that product, and none
+    /// above `maxval`.
     pub fn fits(width: u32, height: u32, maxval: u32, samples: &[u16]) -> bool
         ensures { IsTrue result ↔ IsPicture (picture width height maxval samples.now) }
     {
         size_fits(width, height)
             && 1 <= maxval
-            && maxval <= MOST_MAXVAL
+            && maxval <= MAXVAL_LIMIT
             && samples.len() == (width * height) as usize
             && none_above(maxval, samples)
     }
 
-    /// The samples of a row, from 1 to `MOST_SIDE`.
+    /// The width, in samples, from 1 to `SIDE_LIMIT`.
     pub fn width(&self) -> u32
         ensures { result ≡ self.now.width }
     {
         self.width
     }
 
-    /// The rows, from 1 to `MOST_SIDE`.
+    /// The height, in samples, from 1 to `SIDE_LIMIT`.
     pub fn height(&self) -> u32
         ensures { result ≡ self.now.height }
     {
         self.height
     }
 
-    /// The greatest value that a sample may have, from 1 to `MOST_MAXVAL`.
+    /// The greatest value that a sample may have, from 1 to `MAXVAL_LIMIT`.
     pub fn maxval(&self) -> u32
         ensures { result ≡ self.now.maxval }
     {
         self.maxval
     }
 
-    /// The samples, by rows from the top and each row from the left.
+    /// The samples, by rows from the top and each row from the left: `width` times `height` of them, each
+    /// from 0 to `maxval`.
     pub fn samples(&self) -> &[u16]
         ensures value { result.now ≡ self.now.samples }
         ensures valid { IsPicture self.now }
@@ -102,7 +105,7 @@ impl Image {
         &self.samples
     }
 
-    /// The samples, without taking memory.
+    /// The samples, as `Image::samples` tells them. It takes no memory.
     pub fn into_samples(self) -> Vec<u16>
         ensures { result.items ≡ self.samples }
     {

@@ -1,4 +1,5 @@
-//! Grey images in the Netpbm project's PGM format, `P5` and `P2`. docs/PGM.md has the rules.
+//! Grey images in the Netpbm project's PGM format (<https://netpbm.sourceforge.net/doc/pgm.html>), `P5` and
+//! `P2`. docs/PGM.md has the rules.
 #![tactic(auto)]
 
 mod error;
@@ -13,9 +14,6 @@ mod words;
 mod writing;
 
 pub use error::{PgmError, WriteError};
-pub use image::{Image, MOST_MAXVAL, MOST_SAMPLES, MOST_SIDE};
+pub use image::{Image, MAXVAL_LIMIT, SAMPLE_LIMIT, SIDE_LIMIT};
 pub use reading::read_image;
 pub use writing::{put_image, write_image};
-
-#[cfg(test)]
-mod tests;

@@ -1,5 +1,5 @@
 //! An image from bytes.
-ghost use Rattle.std.specs.Prelude.{◌≡◌, ◌≤◌, ◌<◌, ◌*◌, ◌⊎◌, ℕ, All, Result, Ok, Err, MatchResult, IfOk, IfErr, length};
+ghost use Rattle.std.specs.Prelude.{◌≡◌, ◌≤◌, ◌<◌, ◌*◌, ◌⊎◌, ℕ, All, Result, Ok, Err, MatchResult, IfOk, IfErr, length, drop};
 ghost use Rattle.pgm_image.specs.Picture.{Picture};
 ghost use Rattle.pgm_image.specs.Front.{Front, Refuses, Answers};
 ghost use Rattle.pgm_image.specs.Reading.{check_limits, samples_at, image_at, RefusesAs, RefusesImage};
@@ -10,6 +10,14 @@ use crate::image::Image;
 use crate::plain::plain_samples;
 use crate::raster::raster_samples;
 use std::alloc::Global;
+
+/// The bytes after the header's last one, which is one white-space byte, also where it is the CR of a CR LF.
+fn past_header(bytes: &[u8]) -> &[u8]
+    requires { 0 < length bytes.now }
+    ensures { result.now ≡ drop 1 bytes.now }
+{
+    &bytes[1..]
+}
 
 /// The samples after a header, and the bytes after them. `bytes` begin with the header's last one.
 #[tactic(auto, using(crate::proofs::Limits::limits_hold))]
@@ -32,7 +40,7 @@ fn samples_at(
 {
     let count = (header.width * header.height) as usize;
     match form {
-        Form::Raw => raster_samples(alloc, count, header.maxval, &bytes[1..]),
+        Form::Raw => raster_samples(alloc, count, header.maxval, past_header(bytes)),
         Form::Plain => plain_samples(alloc, count, header.maxval, end, bytes),
     }
 }

@@ -13,17 +13,17 @@ use byte_streams::{Sink, Watched, put_text};
 use itoa::Buffer;
 use std::io::Write;
 
-/// The most bytes of a header.
-const HEADER: usize = 256;
+/// Room for the bytes of a header, which are fewer than 200.
+const HEADER_ROOM: usize = 256;
 
-/// The samples that are spelled before they are written.
-const PART: usize = 2048;
+/// The greatest number of samples that are spelled before they are written.
+const PART_LIMIT: usize = 2048;
 
-/// The most bytes of those samples.
-const PIECE: usize = 4096;
+/// Room for the bytes of those samples, two of each.
+const PART_ROOM: usize = 4096;
 
-fn push_number(text: &mut ArrayString<HEADER>, number: u32)
-    requires { array_string_len text.old + 40 ≤ HEADER }
+fn push_number(text: &mut ArrayString<HEADER_ROOM>, number: u32)
+    requires { array_string_len text.old + 40 ≤ 256 }
     ensures bytes { text.new.bytes ≡ text.old.bytes ++ decimal number }
     ensures len { array_string_len text.new ≤ array_string_len text.old + 40 }
 {
@@ -33,7 +33,7 @@ fn push_number(text: &mut ArrayString<HEADER>, number: u32)
 
 /// The header of the written form.
 #[tactic(auto, unfolding(crate::specs::Written::header_text))]
-fn header_of(image: &Image) -> ArrayString<HEADER>
+fn header_of(image: &Image) -> ArrayString<HEADER_ROOM>
     ensures bytes { result.bytes ≡ header_text image.now }
     ensures len { array_string_len result ≤ 200 }
 {
@@ -50,7 +50,7 @@ fn header_of(image: &Image) -> ArrayString<HEADER>
 
 /// One sample's bytes, at the end.
 #[tactic(auto, unfolding(crate::specs::Raster::doubled))]
-fn push_sample(bytes: &mut ArrayVec<u8, PIECE>, maxval: u32, sample: u16)
+fn push_sample(bytes: &mut ArrayVec<u8, PART_ROOM>, maxval: u32, sample: u16)
     requires room { array_vec_len bytes.old + 2 ≤ 4096 }
     requires small { sample ≤ maxval }
     ensures bytes { bytes.new.items ≡ bytes.old.items ++ raster maxval (sample ∷ []) }
@@ -65,8 +65,8 @@ fn push_sample(bytes: &mut ArrayVec<u8, PIECE>, maxval: u32, sample: u16)
 }
 
 /// The raster of some samples.
-fn raster_of(maxval: u32, samples: &[u16]) -> ArrayVec<u8, PIECE>
-    requires room { length samples.now ≤ PART }
+fn raster_of(maxval: u32, samples: &[u16]) -> ArrayVec<u8, PART_ROOM>
+    requires room { length samples.now ≤ 2048 }
     requires small { All (λ x. x ≤ maxval) samples.now }
     ensures { result.items ≡ raster maxval samples.now }
 {
@@ -114,7 +114,7 @@ fn put_raster<S: Sink>(
     let mut taken = taken;
     let mut rest = samples;
     while !rest.is_empty() {
-        let (part, after) = rest.split_at(rest.len().min(PART));
+        let (part, after) = rest.split_at(rest.len().min(PART_LIMIT));
         let piece = raster_of(maxval, part);
         taken = match put_piece(sink, taken, piece.as_slice()) {
             Ok(taken) => taken,
