@@ -3,9 +3,10 @@
 
     tools/pgm_against_netpbm.py [--count N] [--seed S] READER [ARGUMENT ..]
 
-READER reads an image on standard input. It writes the image as `P5` to standard output, or a line
-`refused N ..` to standard error, as `gco restore --weight 0` does, which leaves an image as it is.
-(It refuses images above 256 grey levels by 30, once it has read them: they count as read.)
+READER is a command to call. It reads an image on standard input, and writes it as `P5` to standard output,
+or a line `refused N`, `refused N at A` or `refused N sample I` to standard error, by the numbers of
+docs/PGM.md.
+(Where it reads an image and does not write it, it says `refused 30`: such an image counts as read.)
 
 Netpbm's own reader is asked through `pnmtopnm -plain` (Debian's package `netpbm`). Where both read an
 image, it has to be the same one. Where one refuses, the difference has to be one that docs/PGM.md
@@ -20,8 +21,6 @@ import sys
 
 SPACES = [b" ", b"\t", b"\r", b"\n"]
 COMMENTS = [b"#\n", b"# a comment\n", b"#x\r", b"# 12 34\n", b"#\r\n"]
-MOST_SIDE = 4096
-MOST_SAMPLES = 1048576
 
 
 def gap(draw):

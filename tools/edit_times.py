@@ -1,0 +1,103 @@
+#!/usr/bin/env python3
+"""Makes a table of the must-fail edits, by crate, with the processor seconds that each takes.
+
+    python3 tools/edit_times.py [CRATE ..]
+
+To be run at the top of the repository, where the crates below those that are asked for are proved; with no
+name it takes each crate that has edits. It runs `rt must-fail CRATE`, which tries the edits of a crate one
+after the other, by name, each over the work of those before it, and at the end the crate without an edit. So
+the first edit's seconds hold a proof of the whole crate.
+
+The seconds of one check are those by which the finished children of that command grew. They are read from
+/proc while it runs, so this works on Linux alone. The status is 1 where an edit is not refused, or where a
+refusal says little (a proof file names what the edit took away).
+"""
+
+import os
+import re
+import subprocess
+import sys
+import tempfile
+import time
+
+PAUSE = 0.05
+LEAST = 1.0
+BUDGET_EDITS = 330
+BUDGET_SECONDS = 18
+
+
+def edits_of(crate):
+    """The names of a crate's edits, in the order in which they are tried."""
+    folder = os.path.join("crates", crate, "must-fail")
+    found = os.listdir(folder) if os.path.isdir(folder) else []
+    return sorted(name for name in found if name.endswith(".edit"))
+
+
+def seconds_of_children(process):
+    """The processor seconds of all children of a process that have ended."""
+    try:
+        with open(f"/proc/{process}/stat", encoding="ascii", errors="replace") as stat:
+            fields = stat.read().rpartition(")")[2].split()
+    except OSError:
+        return None
+    return (int(fields[13]) + int(fields[14])) / os.sysconf("SC_CLK_TCK")
+
+
+def watched(command):
+    """Runs a command. Gives what it wrote, and the processor seconds of each child that took a while."""
+    spent, before = [], 0.0
+    with tempfile.TemporaryFile("w+", encoding="utf-8", errors="replace") as out:
+        with subprocess.Popen(command, stdout=out, stderr=subprocess.STDOUT, stdin=subprocess.DEVNULL) as run:
+            while run.poll() is None:
+                now = seconds_of_children(run.pid)
+                if now is not None and now - before >= LEAST:
+                    spent.append(now - before)
+                    before = now
+                time.sleep(PAUSE)
+        out.seek(0)
+        return out.read(), spent
+
+
+def outcome(text, crate, edit):
+    """What the command says of an edit, in a few words."""
+    label = f"must-fail {crate}/{edit}: "
+    said = next((line.partition(label)[2] for line in text.splitlines() if label in line), "")
+    if not said.startswith("refused"):
+        return said[:60] or "nothing is said of it"
+    return "says little" if "says little" in said else "refused"
+
+
+def table(crate, edits):
+    """Prints the rows of a crate. Gives its processor seconds, and whether all is well."""
+    text, spent = watched(["rt", "must-fail", crate])
+    said = [outcome(text, crate, edit) for edit in edits]
+    checks = len(edits) + (len(edits) > 1)
+    if len(spent) < checks or any(it != "refused" for it in said):
+        print(text)
+    # what is built below the crate comes before its checks; a second try of an edit comes after them
+    mine = spent[-checks:] if all(it == "refused" for it in said) else spent[:checks]
+    for edit, seconds, words in zip(edits, mine, said):
+        print(f"{seconds:8.1f}  {crate}/{edit}: {words}", flush=True)
+    later = mine[1:len(edits)]
+    mean = sum(later) / len(later) if later else 0.0
+    most = max(later, default=0.0)
+    words = f"{len(edits)} edits; after the first, mean {mean:.1f}, most {most:.1f}"
+    print(f"{sum(mine):8.1f}  {crate}: {words}\n", flush=True)
+    return sum(mine), len(spent) == checks and all(it == "refused" for it in said)
+
+
+def main():
+    asked = sys.argv[1:] or sorted(os.listdir("crates"))
+    if any(re.match("-", name) for name in asked):
+        sys.exit(__doc__)
+    found = [(crate, edits_of(crate)) for crate in asked]
+    found = [(crate, edits) for crate, edits in found if edits]
+    ends = [table(crate, edits) for crate, edits in found]
+    number, total = sum(len(edits) for _, edits in found), sum(seconds for seconds, _ in ends)
+    budget = f"the budget is {BUDGET_EDITS} edits of {BUDGET_SECONDS} seconds"
+    print(f"{total:8.1f}  {number} edits of {len(found)} crates; {budget}")
+    sys.exit(0 if all(well for _, well in ends) else 1)
+
+
+if __name__ == "__main__":
+    main()
