@@ -1,0 +1,21 @@
+use Rattle.std.proofs.Common.{◌≡◌, ◌*◌, ◌∙◌, ap, pos, Bool, w64, FitsSigned, to_z, of_z}
+use Rattle.std.proofs.lemmas.Int.{to_z-of_z}
+use Rattle.std.proofs.lemmas.Result.{on_ok_weaker}
+use Rattle.labellings.specs.Moves.{label_in}
+use Rattle.move_energy.proofs.Values.{one_adds}
+use Rattle.move_energy.proofs.Steps.{longer_is}
+use Rattle.move_energy.proofs.ends.add_second.Goals as goal
+
+pub returns-clause-longer : goal.returns-clause-longer
+returns-clause-longer g c = on_ok_weaker c.add_one.result (λ is. longer_is _ _ _ is tt) c.add_one.ensures
+
+pub returns-clause-adds : goal.returns-clause-adds
+returns-clause-adds g c =
+    let a = c.args in
+    let stays : FitsSigned w64 c.pair_cost-stays.result = record { sfits = c.pair_cost-stays.type_inv } in
+    let turns : FitsSigned w64 c.pair_cost-turns.result = record { sfits = c.pair_cost-turns.type_inv } in
+    on_ok_weaker c.add_one.result (λ is cost answers.
+    one_adds a.energy.now c.add_one.new.energy a.end.variable (λ (b : Bool). a.weight * cost a.other (label_in a.change a.end.label b)) _ _
+    (to_z-of_z w64 c.pair_cost-stays.result stays ∙ c.pair_cost-stays.ensures.cost cost answers ∙ ap (λ l. pos (a.weight * cost a.other l)) c.label.ensures)
+    (to_z-of_z w64 c.pair_cost-turns.result turns ∙ c.pair_cost-turns.ensures.cost cost answers ∙ ap (λ l. pos (a.weight * cost a.other l)) c.label-2.ensures)
+    is) c.add_one.ensures

@@ -1,0 +1,48 @@
+-- What is known of a move's variables before its energy is built, and how the open ones are numbered.
+use Rattle.std.specs.Prelude.{◌≡◌, ◌≢◌, ◌↔◌, ℕ, ◌<◌, ◌≤◌, Bool, true, false, List, length, slice_index_or, ℤ, pos, ◌+ℤ◌}
+use Rattle.labellings.specs.declared.change.Move.{Move}
+use Rattle.labellings.specs.Energies.{Instance, labelling, energy}
+use Rattle.labellings.specs.Moves.{label_in, made}
+use Rattle.pseudo_bool.specs.Formula.{Formula, value_at}
+use Rattle.move_energy.specs.declared.choice.Choice.{Choice}
+use Rattle.move_energy.specs.declared.choice.Choice.TheVariants.{Open, Zero, One}
+
+-- the value of a variable: that of an assignment where it is open, else what was decided
+abbrev pub bit_of : Choice → Bool → Bool
+bit_of Open bit = bit
+bit_of Zero bit = false
+bit_of One bit = true
+
+-- what is known of the variable of each site
+abbrev pub choice_at : List Choice → ℕ → Choice
+choice_at choices p = slice_index_or choices p Zero
+
+-- can the move change this label?
+abbrev pub Changes : Move → ℕ → Type 0
+Changes move old = label_in move old true ≢ label_in move old false
+
+-- nothing is decided: exactly the sites that the move can change are open
+pub record AreAllOpen (move : Move) (f : List ℕ) (choices : List Choice) : Type 0 where
+  pub count : length choices ≡ length f
+  pub opened : (p : ℕ) → p < length f → choice_at choices p ≡ Open ↔ Changes move (labelling f p)
+
+-- each open site has a variable of its own, and each variable an open site: `variables` has the number of each
+-- site's variable, which means something at open sites alone, and `sites` the site of each variable
+pub record IsNumbering (choices : List Choice) (variables sites : List ℕ) : Type 0 where
+  pub count : length variables ≡ length choices
+  pub most : length sites ≤ length choices
+  pub covers : (p : ℕ) → p < length choices → choice_at choices p ≡ Open
+      → (labelling variables p < length sites) × (labelling sites (labelling variables p) ≡ p)
+  pub opened : (i : ℕ) → i < length sites → (labelling sites i < length choices) × (choice_at choices (labelling sites i) ≡ Open)
+
+-- the labelling that an assignment and what was decided make
+abbrev pub made_by : Move → (ℕ → ℕ) → (ℕ → Choice) → (ℕ → ℕ) → (ℕ → Bool) → ℕ → ℕ
+made_by move f choice variable x = made move f (λ p. bit_of (choice p) (x (variable p)))
+
+-- the yes-no energy stands for the partly decided move from f: but for a fixed number, its value at each assignment is
+-- the energy of the labelling that the assignment and what was decided make. `variable` is each site's variable, and
+-- `site` each variable's site (Boykov, Veksler, Zabih 2001, section 4)
+pub record StandsFor (m : Instance) (move : Move) (f : ℕ → ℕ) (choice : ℕ → Choice) (e : Formula) (variable site : ℕ → ℕ) : Type 0 where
+  pub rest : ℤ
+  pub value : (x : ℕ → Bool) → value_at e x +ℤ rest ≡ pos (energy m (made_by move f choice variable x))
+  pub covers : (p : ℕ) → p < m.sites → choice p ≡ Open → (variable p < e.variables) × (site (variable p) ≡ p)
