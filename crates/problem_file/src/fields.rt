@@ -53,7 +53,8 @@ pub fn integers_at<const N: usize>(value: &Value, key: &str) -> Option<ArrayVec<
     integers_of(member(value.as_table()?, key)?.as_array()?)
 }
 
-fn integers_of<const N: usize>(items: &Vec<Value>) -> Option<ArrayVec<i64, N>>
+/// The integers of an array, if it has at most N items, and nothing else.
+pub fn integers_of<const N: usize>(items: &Vec<Value>) -> Option<ArrayVec<i64, N>>
     ensures { option_map (λ v. v.items) result ≡ option_and_then (within N) (integers_of (array_view items.now)) }
 {
     if items.len() > N {

@@ -9,4 +9,5 @@ mod term;
 
 pub use energy::{energy_of, read_energy};
 pub use fault::{Field, ProblemFault};
+pub use fields::{integers_of, member};
 pub use table::read_table;

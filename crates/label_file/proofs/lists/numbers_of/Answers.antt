@@ -1,0 +1,8 @@
+use Rattle.std.proofs.Common.{arith}
+use Rattle.std.proofs.lemmas.Grind.{common_steps}
+use Rattle.label_file.specs.ListFields.{number_of}
+use Rattle.label_file.proofs.Listed.{map_viewed}
+use Rattle.label_file.proofs.lists.numbers_of.Goals as goal
+
+pub returns : goal.returns
+returns c = grind (arith, common_steps, map_viewed number_of c.args.items.now.items)

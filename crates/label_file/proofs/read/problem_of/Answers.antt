@@ -1,0 +1,22 @@
+use Rattle.std.proofs.Common.{◌*◌, arith}
+use Rattle.toml.specs.View.{table_view}
+use Rattle.label_file.specs.Smooths.{table_by}
+use Rattle.label_file.proofs.LimitLemmas.{data_kept, smooth_kept}
+use Rattle.label_file.proofs.read.problem_of.Goals as goal
+
+pub returns-clause-limits : goal.returns-clause-limits
+returns-clause-limits c =
+    let costs = data_kept (table_view c.args.table.now) (c.in_ok-sites.sites * c.in_ok-labels.labels) c.in_ok-data.data.items c.in_ok-data.ensures.ok in
+    let table = smooth_kept (table_view c.args.table.now) c.in_ok-labels.labels c.in_ok-most.most (table_by c.in_ok-labels.labels c.in_ok-smooth.smooth)
+    (c.in_ok-most.ensures.range (omega arith, omega arith)).1 c.in_ok-smooth.ensures.ok in
+    record {
+      sizes = (c.in_ok-sites.ensures.range.1, c.in_ok-labels.ensures.range.0, c.in_ok-labels.ensures.range.1);
+      data_count = costs.0;
+      data_limit = costs.1;
+      smooth_count = rw c.in-Ok.ensures table.0;
+      smooth_limit = rw c.in-Ok.ensures table.1;
+      pair_sites = c.in_ok-pairs.ensures.sites;
+      start_sites = c.in_ok-start.ensures.sizes.0;
+      start_labels = c.in_ok-start.ensures.sizes.1;
+      cycle_limit = (c.in_ok-cycles.ensures.range (omega arith, omega arith)).1;
+    }

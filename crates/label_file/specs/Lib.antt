@@ -1,0 +1,11 @@
+pub mod FieldNames
+pub mod Gains
+pub mod Limits
+pub mod ListFields
+pub mod MoveFields
+pub mod Names
+pub mod NumberFields
+pub mod PairFields
+pub mod SmoothFields
+pub mod Smooths
+pub mod StartFields

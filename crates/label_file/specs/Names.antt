@@ -1,0 +1,75 @@
+-- The problem that a table names, or its first fault.
+use Rattle.std.specs.Prelude.{ℕ, ◌*◌, ℤ, List, Option, Some, None, Result, Ok, Err}
+use Rattle.toml.specs.Data.{Members}
+use Rattle.toml.specs.Parse.{parse_document}
+use Rattle.label_field.specs.LabelFields.{LabelField}
+use Rattle.label_field.specs.PairLists.{PairList}
+use Rattle.label_field.specs.declared.labelling.TheConstants.{SITE_LIMIT, LABEL_LIMIT}
+use Rattle.label_file.specs.FieldNames.{and_then}
+use Rattle.label_file.specs.ListFields.{data_in}
+use Rattle.label_file.specs.MoveFields.{moves_in}
+use Rattle.label_file.specs.NumberFields.{number_in, number_or}
+use Rattle.label_file.specs.PairFields.{pairs_in}
+use Rattle.label_file.specs.SmoothFields.{smooth_in}
+use Rattle.label_file.specs.StartFields.{start_in}
+use Rattle.label_file.specs.declared.fault.Field.TheVariants.{Sites, Labels, Trunc, Cycles}
+use Rattle.label_file.specs.declared.fault.LabelFault.{LabelFault}
+use Rattle.label_file.specs.declared.fault.LabelFault.TheVariants.{BadToml}
+use Rattle.label_file.specs.declared.problem.Moves.{Moves}
+use Rattle.label_file.specs.declared.problem.LabelProblem.{LabelProblem}
+use Rattle.label_file.specs.declared.problem.TheConstants.{TRUNC_LIMIT, CYCLE_LIMIT}
+
+-- what a problem says
+pub record Problem : Type 0 where
+  pub sites : ℕ
+  pub labels : ℕ
+  pub data_costs : List ℕ
+  pub smooth_costs : List ℤ
+  pub pairs : PairList
+  pub start : LabelField
+  pub moves : Moves
+  pub cycles : ℕ
+
+-- what the problem that was read says
+abbrev pub told : LabelProblem → Problem
+told p = record {
+  sites = p.sites;
+  labels = p.labels;
+  data_costs = p.«data».items;
+  smooth_costs = p.smooth.items;
+  pairs = p.pairs;
+  start = p.start;
+  moves = p.moves;
+  cycles = p.cycles;
+}
+
+-- the problem that a table names: the fields in this order, and the first fault of the first that has one
+abbrev pub names : Members → Result Problem LabelFault
+names ms =
+    and_then (number_in ms Sites 0 SITE_LIMIT) (λ sites.
+    and_then (number_in ms Labels 1 LABEL_LIMIT) (λ labels.
+    and_then (data_in ms (sites * labels)) (λ data_costs.
+    and_then (smooth_in ms labels) (λ table.
+    and_then (number_or ms Trunc 1 TRUNC_LIMIT 1) (λ most.
+    and_then (pairs_in ms sites) (λ list.
+    and_then (start_in ms sites labels) (λ start.
+    and_then (moves_in ms) (λ moves.
+    and_then (number_or ms Cycles 0 CYCLE_LIMIT 100) (λ cycles.
+    Ok (record {
+      sites = sites;
+      labels = labels;
+      data_costs = data_costs;
+      smooth_costs = table most;
+      pairs = record { sites = sites; list = list };
+      start = start;
+      moves = moves;
+      cycles = cycles;
+    }))))))))))
+
+abbrev pub named_by : Option Members → Result Problem LabelFault
+named_by None = Err BadToml
+named_by (Some ms) = names ms
+
+-- the problem that the bytes of a text name
+abbrev pub problem_in : List ℕ → Result Problem LabelFault
+problem_in bytes = named_by (parse_document bytes)

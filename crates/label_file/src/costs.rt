@@ -1,0 +1,34 @@
+ghost use Rattle.std.specs.Prelude.{◌≡◌, ◌≢◌, ◌≤◌, IfOk, IfErr, All, length};
+ghost use Rattle.toml.specs.View.{table_view, view};
+ghost use Rattle.label_file.specs.declared.fault.LabelFault.TheVariants.{OutOfMemory};
+ghost use Rattle.label_file.specs.ListFields.{data_from, data_in};
+
+use crate::lists::{list_from, numbers_of};
+use crate::numbers::value_of;
+use crate::{DATA_COST_LIMIT, Field, LabelFault};
+use std::alloc::Global;
+use toml::{Table, Value};
+
+/// The cost of each label at each site that a table names, so many.
+#[tactic(auto, unfolding(crate::specs::ListFields::data_in))]
+pub(crate) fn data_in(alloc: Global, table: &Table, count: usize) -> Result<Vec<u32>, LabelFault>
+    ensures ok { IfOk result (λ costs. data_in (table_view table.now) count ≡ Ok costs.items) }
+    ensures refused { IfErr result (λ fault. fault ≢ OutOfMemory → data_in (table_view table.now) count ≡ Err fault) }
+{
+    match value_of(table, Field::Data) {
+        Some(value) => data_from(alloc, value, count),
+        None => Err(LabelFault::BadField(Field::Data)),
+    }
+}
+
+#[tactic(auto, unfolding(crate::specs::ListFields::data_from))]
+fn data_from(alloc: Global, value: &Value, count: usize) -> Result<Vec<u32>, LabelFault>
+    ensures ok { IfOk result (λ costs. data_from count (view value.now) ≡ Ok costs.items) }
+    ensures refused { IfErr result (λ fault. fault ≢ OutOfMemory → data_from count (view value.now) ≡ Err fault) }
+{
+    let items = list_from(value, Field::Data, count, DATA_COST_LIMIT)?;
+    match numbers_of(alloc, items) {
+        Ok(costs) => Ok(costs),
+        Err(_) => Err(LabelFault::OutOfMemory),
+    }
+}

@@ -1,0 +1,44 @@
+use label_field::{Labelling, Pairs};
+
+/// The greatest cost of a label at a site. The least is 0.
+pub const DATA_COST_LIMIT: u32 = 10_000_000;
+
+/// The greatest cost of two labels at the sites of a pair. The least is 0.
+pub const SMOOTH_COST_LIMIT: u32 = 10_000;
+
+/// The greatest cost at which a cost by distance may be cut off. The least is 1.
+pub const TRUNC_LIMIT: u32 = 10_000;
+
+/// The most cycles of a run.
+pub const CYCLE_LIMIT: u32 = 1000;
+
+/// The moves of a run (Boykov, Veksler, Zabih, PAMI 2001, section 3).
+#[derive(Clone, Copy, Debug, PartialEq, Eq)]
+pub enum Moves {
+    /// To each label in turn: any set of sites may take it.
+    Expansion,
+    /// Between each two labels in turn: any set of the sites that have one of them may take the other.
+    Swap,
+}
+
+/// A problem of labels, and the run that is to better its labelling.
+#[derive(Drop)]
+pub struct LabelProblem {
+    /// How many sites there are.
+    pub sites: u32,
+    /// How many labels there are, at least 1.
+    pub labels: u32,
+    /// The cost of each label at each site, site by site, each from 0 to `DATA_COST_LIMIT`.
+    pub data: Vec<u32>,
+    /// The cost of each label beside each, row after row by the label of a pair's first site, each from 0 to
+    /// `SMOOTH_COST_LIMIT`.
+    pub smooth: Vec<i64>,
+    /// The pairs of sites that pay the smooth cost, times their weight.
+    pub pairs: Pairs,
+    /// The labelling from which the run starts.
+    pub start: Labelling,
+    /// The moves of the run.
+    pub moves: Moves,
+    /// The most cycles of the run, at most `CYCLE_LIMIT`.
+    pub cycles: u32,
+}

@@ -1,0 +1,63 @@
+ghost use Rattle.std.specs.Prelude.{◌≡◌, ◌≢◌, IfOk, IfErr, IsUtf8};
+ghost use Rattle.toml.specs.View.{table_view};
+ghost use Rattle.label_file.specs.declared.fault.LabelFault.TheVariants.{BadToml, OutOfMemory};
+ghost use Rattle.label_file.specs.Limits.{IsInLimits};
+ghost use Rattle.label_file.specs.Names.{names, problem_in, told};
+
+use crate::costs::data_in;
+use crate::move_names::moves_in;
+use crate::numbers::{number_in, number_or};
+use crate::pairs::pairs_in;
+use crate::smooth::smooth_in;
+use crate::start::start_in;
+use crate::{CYCLE_LIMIT, Field, LabelFault, LabelProblem, TRUNC_LIMIT};
+use label_field::{LABEL_LIMIT, SITE_LIMIT};
+use problem_file::{ProblemFault, read_table};
+use std::alloc::Global;
+use toml::Table;
+
+/// The problem of labels that the bytes of a TOML text name, or its first fault.
+pub fn read_label(alloc: Global, bytes: &[u8]) -> Result<LabelProblem, LabelFault>
+    ensures ok { IfOk result (λ problem. IsUtf8 bytes.now × (problem_in bytes.now ≡ Ok (told problem))) }
+    ensures limits { IfOk result (λ problem. IsInLimits (told problem)) }
+    ensures refused { IfErr result (λ fault. fault ≢ OutOfMemory → IsUtf8 bytes.now → problem_in bytes.now ≡ Err fault) }
+    ensures text { IfErr result (λ fault. fault ≢ OutOfMemory → fault ≢ BadToml → IsUtf8 bytes.now) }
+{
+    let table = match read_table(alloc, bytes) {
+        Ok(table) => table,
+        Err(ProblemFault::OutOfMemory) => return Err(LabelFault::OutOfMemory),
+        Err(_) => return Err(LabelFault::BadToml),
+    };
+    problem_of(alloc, &table)
+}
+
+/// The problem of labels that a table names, or its first fault. The fields are read in the order `sites`,
+/// `labels`, `data`, `smooth`, `trunc`, `pairs`, `start`, `moves`, `cycles`; other fields are ignored.
+pub fn problem_of(alloc: Global, table: &Table) -> Result<LabelProblem, LabelFault>
+    ensures ok { IfOk result (λ problem. names (table_view table.now) ≡ Ok (told problem)) }
+    ensures limits { IfOk result (λ problem. IsInLimits (told problem)) }
+    ensures refused { IfErr result (λ fault. fault ≢ OutOfMemory → names (table_view table.now) ≡ Err fault) }
+{
+    let sites = number_in(table, Field::Sites, 0, SITE_LIMIT)?;
+    let labels = number_in(table, Field::Labels, 1, LABEL_LIMIT)?;
+    let data = data_in(alloc, table, sites as usize * labels as usize)?;
+    let smooth = smooth_in(alloc, table, labels)?;
+    let most = number_or(table, Field::Trunc, 1, TRUNC_LIMIT, 1)?;
+    let pairs = pairs_in(alloc, table, sites)?;
+    let start = start_in(alloc, table, sites, labels)?;
+    let moves = moves_in(table)?;
+    let cycles = number_or(table, Field::Cycles, 0, CYCLE_LIMIT, 100)?;
+    let Ok(smooth) = smooth.into_table(alloc, labels, most) else {
+        return Err(LabelFault::OutOfMemory);
+    };
+    Ok(LabelProblem {
+        sites,
+        labels,
+        data,
+        smooth,
+        pairs,
+        start,
+        moves,
+        cycles,
+    })
+}
