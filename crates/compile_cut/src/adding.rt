@@ -17,7 +17,8 @@ pub fn add_weight(weights: &mut Vec<i64>, at: u32, by: i64)
     requires room { weights_size weights.old.items ≤ form_size + term_size }
     requires step { unsigned_abs by ≤ 8 * value_limit }
     ensures len { vec_len weights.new ≡ vec_len weights.old }
-    ensures value { (x : ℕ → Bool) → weights_value weights.new.items x ≡ weights_value weights.old.items x +ℤ int_counted (x at) by }
+    ensures value { (x : ℕ → Bool) → weights_value weights.new.items x ≡ weights_value weights.old.items x
+        +ℤ int_counted (x at) by }
     ensures size { weights_size weights.new.items ≤ weights_size weights.old.items + unsigned_abs by }
 {
     weights[at as usize] += by;
@@ -25,9 +26,11 @@ pub fn add_weight(weights: &mut Vec<i64>, at: u32, by: i64)
 
 /// Adds an arc, if it carries anything.
 pub fn add_arc(arcs: &mut Vec<Arc>, from: u32, to: u32, capacity: u64) -> Result<(), AllocError>
-    ensures value { OnOk result ((x : ℕ → Bool) → arcs_value arcs.new.items x ≡ arcs_value arcs.old.items x + counted (x to && not (x from)) capacity) }
+    ensures value { OnOk result ((x : ℕ → Bool) → arcs_value arcs.new.items x ≡ arcs_value arcs.old.items x
+        + counted (x to && not (x from)) capacity) }
     ensures size { OnOk result (arcs_size arcs.new.items ≡ arcs_size arcs.old.items + capacity) }
-    ensures nodes { OnOk result ((n : ℕ) → from < n → to < n → All (IsArc n) arcs.old.items → All (IsArc n) arcs.new.items) }
+    ensures nodes { OnOk result ((n : ℕ) → from < n → to < n → All (IsArc n) arcs.old.items
+        → All (IsArc n) arcs.new.items) }
     ensures above { OnOk result (All IsAbove arcs.old.items → All IsAbove arcs.new.items) }
 {
     if capacity > 0 {
@@ -52,7 +55,8 @@ pub fn add_three_weights(weights: &mut Vec<i64>, nodes: Nodes, part: &ThreePart)
     requires room { weights_size weights.old.items + 12 * value_limit ≤ form_size + term_size }
     requires small { IsSmall part.now }
     ensures len { vec_len weights.new ≡ vec_len weights.old }
-    ensures value { (x : ℕ → Bool) → weights_value weights.new.items x ≡ weights_value weights.old.items x +ℤ int_counted (x nodes.first) part.now.first
+    ensures value { (x : ℕ → Bool) → weights_value weights.new.items x ≡ weights_value weights.old.items x
+        +ℤ int_counted (x nodes.first) part.now.first
         +ℤ int_counted (x nodes.second) part.now.second +ℤ int_counted (x nodes.third) part.now.third }
     ensures size { weights_size weights.new.items ≤ weights_size weights.old.items + 12 * value_limit }
 {
@@ -67,8 +71,10 @@ pub fn add_three_arcs(arcs: &mut Vec<Arc>, nodes: Nodes, part: &ThreeArcs) -> Re
         + counted (x nodes.second && not (x nodes.first)) part.now.first_second
         + counted (x nodes.third && not (x nodes.first)) part.now.first_third
         + counted (x nodes.third && not (x nodes.second)) part.now.second_third) }
-    ensures size { OnOk result (arcs_size arcs.new.items ≡ arcs_size arcs.old.items + part.now.first_second + part.now.first_third + part.now.second_third) }
-    ensures nodes { OnOk result ((n : ℕ) → nodes.first < n → nodes.second < n → nodes.third < n → All (IsArc n) arcs.old.items → All (IsArc n) arcs.new.items) }
+    ensures size { OnOk result (arcs_size arcs.new.items ≡ arcs_size arcs.old.items + part.now.first_second
+        + part.now.first_third + part.now.second_third) }
+    ensures nodes { OnOk result ((n : ℕ) → nodes.first < n → nodes.second < n → nodes.third < n
+        → All (IsArc n) arcs.old.items → All (IsArc n) arcs.new.items) }
     ensures above { OnOk result (All IsAbove arcs.old.items → All IsAbove arcs.new.items) }
 {
     add_arc(arcs, nodes.first, nodes.second, part.first_second)?;
@@ -87,8 +93,10 @@ pub fn add_hidden_arcs(
 ) -> Result<(), AllocError>
     ensures value { OnOk result ((x : ℕ → Bool) → arcs_value arcs.new.items x ≡ arcs_value arcs.old.items x
         + hidden_value weight (x hidden) (x nodes.first) (x nodes.second) (x nodes.third)) }
-    ensures size { OnOk result (arcs_size arcs.new.items ≡ arcs_size arcs.old.items + 3 * unsigned_abs weight) }
-    ensures nodes { OnOk result ((n : ℕ) → hidden < n → nodes.first < n → nodes.second < n → nodes.third < n → All (IsArc n) arcs.old.items → All (IsArc n) arcs.new.items) }
+    ensures size { OnOk result (arcs_size arcs.new.items ≡ arcs_size arcs.old.items
+        + 3 * unsigned_abs weight) }
+    ensures nodes { OnOk result ((n : ℕ) → hidden < n → nodes.first < n → nodes.second < n
+        → nodes.third < n → All (IsArc n) arcs.old.items → All (IsArc n) arcs.new.items) }
     ensures above { OnOk result (All IsAbove arcs.old.items → All IsAbove arcs.new.items) }
 {
     let capacity = weight.unsigned_abs();

@@ -55,14 +55,17 @@ fn less_all(constant: i64, numbers: &[u64]) -> i64
     constant - total as i64
 }
 
-/// The net of a sum of terms: a weight above 0 is a capacity of the source, one below 0 a capacity of the sink and a constant.
+/// The net of a sum of terms: a weight above 0 is a capacity of the source, one below 0 a capacity of the
+/// sink and a constant.
 pub fn net_of(alloc: Global, form: Quadratic) -> Result<Compiled, AllocError>
     requires bounded { IsBounded term_limit form }
     requires len { vec_len form.weights ≤ form_nodes }
-    ensures value { IfOk result (λ c. (x : ℕ → Bool) → pos (capacity_of c.net x) +ℤ c.constant ≡ quadratic_value form x) }
+    ensures value { IfOk result (λ c. (x : ℕ → Bool) → pos (capacity_of c.net x) +ℤ c.constant
+        ≡ quadratic_value form x) }
     ensures constant { IfOk result (λ c. unsigned_abs c.constant ≤ compiled_constant) }
     ensures nodes { IfOk result (λ c. nodes c.net ≡ vec_len form.weights) }
-    ensures one_sided { IfOk result (λ c. (v : ℕ) → (slice_index c.net.sources v ≡ 0) ⊎ (slice_index c.net.sinks v ≡ 0)) }
+    ensures one_sided { IfOk result (λ c. (v : ℕ) → (slice_index c.net.sources v ≡ 0)
+        ⊎ (slice_index c.net.sinks v ≡ 0)) }
     ensures arcs { IfOk result (λ c. All IsAbove c.net.arcs) }
 {
     let sources = source_capacities(alloc, form.weights.as_slice())?;

@@ -86,7 +86,8 @@ pub fn split_pair(table: &[i64; 4]) -> PairPart
     ensures constant { result.constant ≡ entry table.now 0 }
     ensures first { result.first ≡ entry table.now 2 -ℤ entry table.now 0 }
     ensures second { result.second ≡ entry table.now 3 -ℤ entry table.now 2 }
-    ensures arc { pos result.arc ≡ entry table.now 1 +ℤ entry table.now 2 -ℤ entry table.now 0 -ℤ entry table.now 3 }
+    ensures arc { pos result.arc ≡ entry table.now 1
+        +ℤ entry table.now 2 -ℤ entry table.now 0 -ℤ entry table.now 3 }
     ensures small_constant { IsValue result.constant }
     ensures small_first { unsigned_abs result.first ≤ 2 * value_limit }
     ensures small_second { unsigned_abs result.second ≤ 2 * value_limit }

@@ -36,7 +36,8 @@ impl Quadratic {
         requires values { All IsValue table.now }
         ensures len { vec_len self.new.weights ≡ vec_len self.old.weights }
         ensures bounded { (k : ℕ) → IsBounded k self.old → IsBounded (k + 1) self.new }
-        ensures value { (x : ℕ → Bool) → quadratic_value self.new x ≡ quadratic_value self.old x +ℤ entry table.now (digit (x first)) }
+        ensures value { (x : ℕ → Bool) → quadratic_value self.new x ≡ quadratic_value self.old x
+            +ℤ entry table.now (digit (x first)) }
     {
         let part = split_one(table);
         add_weight(&mut self.weights, first, part.weight);
@@ -52,7 +53,8 @@ impl Quadratic {
         requires regular { IsRegularTable table.now }
         ensures len { vec_len self.new.weights ≡ vec_len self.old.weights }
         ensures bounded { OnOk result ((k : ℕ) → IsBounded k self.old → IsBounded (k + 1) self.new) }
-        ensures value { OnOk result ((x : ℕ → Bool) → quadratic_value self.new x ≡ quadratic_value self.old x +ℤ entry table.now (2 * digit (x first) + digit (x second))) }
+        ensures value { OnOk result ((x : ℕ → Bool) → quadratic_value self.new x
+            ≡ quadratic_value self.old x +ℤ entry table.now (2 * digit (x first) + digit (x second))) }
     {
         let part = split_pair(table);
         add_arc(&mut self.arcs, first, second, part.arc)?;
@@ -70,7 +72,8 @@ impl Quadratic {
         requires second { nodes.second < vec_len self.old.weights }
         requires third { nodes.third < vec_len self.old.weights }
         requires values { All IsValue table.now }
-        requires regular { (fixed : Fixed) → fixed.position < 3 → IsRegularTable (projection table.now fixed) }
+        requires regular { (fixed : Fixed) → fixed.position < 3
+            → IsRegularTable (projection table.now fixed) }
         ensures len { OnOk result (vec_len self.new.weights ≡ vec_len self.old.weights + 1) }
         ensures bounded { OnOk result ((k : ℕ) → IsBounded k self.old → IsBounded (k + 1) self.new) }
         ensures value { OnOk result (AddsTerm self.old self.new (Term.Three nodes.first nodes.second nodes.third table.now)) }
@@ -91,7 +94,8 @@ impl Quadratic {
         requires term { IsTerm (vec_len self.old.weights) term.now }
         requires regular { IsRegularTerm term.now }
         requires room { vec_len self.old.weights < form_nodes }
-        ensures len { OnOk result (vec_len self.new.weights ≡ vec_len self.old.weights + three_digit term.now) }
+        ensures len { OnOk result (vec_len self.new.weights ≡ vec_len self.old.weights
+            + three_digit term.now) }
         ensures bounded { OnOk result ((k : ℕ) → IsBounded k self.old → IsBounded (k + 1) self.new) }
         ensures value { OnOk result (AddsTerm self.old self.new term.now) }
     {
@@ -119,7 +123,8 @@ pub fn quadratic_of(alloc: Global, energy: &Energy) -> Result<Quadratic, AllocEr
     ensures values { IfOk result (λ form. SaysValues energy.now form) }
     ensures bounded { IfOk result (λ form. IsBounded term_limit form) }
     ensures variables { IfOk result (λ form. energy.now.variables ≤ vec_len form.weights) }
-    ensures hidden { IfOk result (λ form. vec_len form.weights ≤ energy.now.variables + three_count energy.now) }
+    ensures hidden { IfOk result (λ form. vec_len form.weights ≤ energy.now.variables
+        + three_count energy.now) }
     ensures limits { IfOk result (λ form. IsEnergy energy.now) }
 {
     let mut form = Quadratic {

@@ -20,8 +20,8 @@ pub struct Minimum {
     pub assignment: Vec<bool>,
 }
 
-/// The least value over all assignments of the variables, and of the assignments that have it the one with the fewest
-/// ones: its ones are among the ones of each of them. Refuses only where memory runs out.
+/// The least value over all assignments of the variables, and of the assignments that have it the one with
+/// the fewest ones: its ones are among the ones of each of them. Refuses only where memory runs out.
 pub fn minimise(alloc: Global, energy: Regular<'_>) -> Result<Minimum, AllocError>
     ensures count { IfOk result (λ m. length m.assignment.items ≡ energy.entry.variables) }
     ensures best { IfOk result (λ m. IsSmallestLeastAssignment energy.entry (assignment m.assignment.items)) }

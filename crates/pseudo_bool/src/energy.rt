@@ -51,8 +51,8 @@ impl Energy {
         variables <= VARIABLE_LIMIT
     }
 
-    /// Makes it the energy 0 of this many variables, with no terms. It keeps the room of its lists for the terms to come,
-    /// so that an energy that is cleared and filled again seldom grows. It takes no memory.
+    /// Makes it the energy 0 of this many variables, with no terms. It keeps the room of its lists for the
+    /// terms to come, so that an energy that is cleared and filled again seldom grows. It takes no memory.
     pub fn clear(&mut self, variables: u32)
         requires { variables ≤ variable_limit }
         ensures { self.new ≡ record { constant = pos 0; variables = variables; terms = [] } }
@@ -114,11 +114,13 @@ impl Energy {
         Ok(number)
     }
 
-    /// Adds a number to the constant: both the number, from `-VALUE_LIMIT` to `VALUE_LIMIT`, and the sum of all of them,
-    /// from `-CONSTANT_LIMIT` to `CONSTANT_LIMIT`. Refused is `ValueRange` alone.
+    /// Adds a number to the constant: both the number, from `-VALUE_LIMIT` to `VALUE_LIMIT`, and the sum of
+    /// all of them, from `-CONSTANT_LIMIT` to `CONSTANT_LIMIT`. Refused is `ValueRange` alone.
     pub fn add_constant(&mut self, constant: i64) -> Result<(), EnergyError>
-        ensures accepted { IsOk result ↔ (IsValue constant × IsWithin constant_limit (self.old.constant +ℤ constant)) }
-        ensures added { OnOk result (self.new ≡ record self.old { constant = self.old.constant +ℤ constant }) }
+        ensures accepted { IsOk result
+            ↔ (IsValue constant × IsWithin constant_limit (self.old.constant +ℤ constant)) }
+        ensures added { OnOk result (self.new
+            ≡ record self.old { constant = self.old.constant +ℤ constant }) }
         ensures refused { IfErr result (λ e. e ≡ EnergyError.ValueRange) }
         ensures unchanged { OnErr result (self.new ≡ self.old) }
     {
@@ -133,10 +135,11 @@ impl Energy {
         Ok(())
     }
 
-    /// Adds a term of one variable at the end of the list: its numbers where the variable is 0 and where it is 1
-    /// (Kolmogorov and Zabih, PAMI 2004, section 2). Refused, the first that holds: `NoSuchVariable` where the variable
-    /// is not one of the energy's, `ValueRange` where a number is not from `-VALUE_LIMIT` to `VALUE_LIMIT`,
-    /// `TooManyTerms` where the list is full, `OutOfMemory` where a growth was refused.
+    /// Adds a term of one variable at the end of the list: its numbers where the variable is 0 and where it
+    /// is 1 (Kolmogorov and Zabih, PAMI 2004, section 2). Refused, the first that holds: `NoSuchVariable`
+    /// where the variable is not one of the energy's, `ValueRange` where a number is not from
+    /// `-VALUE_LIMIT` to `VALUE_LIMIT`, `TooManyTerms` where the list is full, `OutOfMemory` where a growth
+    /// was refused.
     pub fn add_term1(&mut self, first: u32, table: [i64; 2]) -> Result<(), EnergyError>
         ensures accepted { OnOk result (IsAccepted self.old (Term.One first table)) }
         ensures added { OnOk result (IsAdded self.old self.new (Term.One first table)) }
@@ -152,9 +155,9 @@ impl Energy {
         self.add_row(Row::One(first, narrow(&table)))
     }
 
-    /// Adds a term of two variables at the end of the list: its numbers at 00, 01, 10 and 11, where the first variable
-    /// is the first digit. Refused, the first that holds: `NoSuchVariable`, `SameVariable` where the two are one,
-    /// `ValueRange`, `TooManyTerms`, `OutOfMemory`, as by `add_term1`.
+    /// Adds a term of two variables at the end of the list: its numbers at 00, 01, 10 and 11, where the
+    /// first variable is the first digit. Refused, the first that holds: `NoSuchVariable`, `SameVariable`
+    /// where the two are one, `ValueRange`, `TooManyTerms`, `OutOfMemory`, as by `add_term1`.
     pub fn add_term2(&mut self, first: u32, second: u32, table: [i64; 4]) -> Result<(), EnergyError>
         ensures accepted { OnOk result (IsAccepted self.old (Term.Two first second table)) }
         ensures added { OnOk result (IsAdded self.old self.new (Term.Two first second table)) }
@@ -173,9 +176,10 @@ impl Energy {
         self.add_row(Row::Two(first, second, narrow(&table)))
     }
 
-    /// Adds a term of three variables at the end of the list: its numbers at 000, 001, 010, 011, 100, 101, 110 and 111,
-    /// where the first variable is the first digit. Refused, the first that holds: `NoSuchVariable`, `SameVariable`
-    /// where two of the three are one, `ValueRange`, `TooManyTerms`, `OutOfMemory`, as by `add_term1`.
+    /// Adds a term of three variables at the end of the list: its numbers at 000, 001, 010, 011, 100, 101,
+    /// 110 and 111, where the first variable is the first digit. Refused, the first that holds:
+    /// `NoSuchVariable`, `SameVariable` where two of the three are one, `ValueRange`, `TooManyTerms`,
+    /// `OutOfMemory`, as by `add_term1`.
     pub fn add_term3(
         &mut self,
         first: u32,
@@ -239,8 +243,8 @@ impl Energy {
         Ok(())
     }
 
-    /// The value at an assignment, one bit for each variable in their order: the constant plus what each term's table
-    /// has there (Kolmogorov and Zabih, PAMI 2004, section 2). Its size is at most
+    /// The value at an assignment, one bit for each variable in their order: the constant plus what each
+    /// term's table has there (Kolmogorov and Zabih, PAMI 2004, section 2). Its size is at most
     /// `CONSTANT_LIMIT + TERM_LIMIT * VALUE_LIMIT`. It takes no memory.
     pub fn value(&self, bits: &[bool]) -> i64
         requires { length bits.now ≡ self.now.variables }

@@ -33,7 +33,8 @@ pub fn test_term(term: &Term) -> Result<(), Option<Fixed>>
 /// The first projection of a table of three variables that is not regular.
 fn first_failure(table: &[i64; 8]) -> Option<Fixed>
     requires { All IsValue table.now }
-    ensures none { IsNone result → (fixed : Fixed) → fixed.position < 3 → IsRegularTable (projection table.now fixed) }
+    ensures none { IsNone result → (fixed : Fixed) → fixed.position < 3
+        → IsRegularTable (projection table.now fixed) }
     ensures first { IfSome result (IsFirstProjection table.now) }
 {
     for order in 0..6 {
