@@ -1,0 +1,22 @@
+//! Push-relabel on a net in blocks that exchange parcels of flow: states, events, and their laws.
+//!
+//! The nodes lie in blocks, node i of n in block i * blocks / n. Within a block excess moves as in the
+//! push-relabel method (Goldberg, Tarjan 1988, section 2). To another block it goes in a parcel, which is
+//! taken or sent back; until its answer comes nothing else goes out on that direction, and a direction
+//! knows of its far end's label what messages told. `specs/` has the state, the eight events and what
+//! every reachable state keeps. `laws` has the reasons: every order of enabled events keeps a state sound,
+//! a number falls with each event, and a sound state in which nothing is left to do has the smallest
+//! least cut. `rows` has two runs, event by event.
+#![tactic(auto)]
+
+mod direction;
+mod event;
+mod flight;
+pub mod laws;
+mod message;
+pub mod rows;
+
+pub use direction::Direction;
+pub use event::Event;
+pub use flight::Flight;
+pub use message::Message;
