@@ -1,0 +1,146 @@
+-- What a whole of blocks shows: a state.
+use Rattle.std.specs.Prelude.{◌≡◌, ℕ, ◌+◌, ◌-◌, ◌<◌, ◌≤◌, Bool, false, true, cond, List, [], length, map, slice_index, slice_index_or, slice_set, None}
+use Rattle.std.specs.List.{range_with_len}
+use Rattle.flow_network.specs.Cut.{Network, nodes}
+use Rattle.flow_network.specs.Preflow.{arc_at}
+use Rattle.flow_network.specs.Progress.{top}
+use Rattle.parcel.specs.declared.direction.Direction.{Direction}
+use Rattle.parcel.specs.declared.message.Message.{Message}
+use Rattle.parcel.specs.Directions.{IsDirection, forward, backward, near, far, opposite}
+use Rattle.parcel.specs.States as core
+use Rattle.block_net.specs.declared.rows.Lane.{Lane}
+use Rattle.block_net.specs.declared.rows.Border.{Border}
+use Rattle.block_net.specs.Views.{BlockView, count, excess_in, label_in, room_in, lane_in, border_in, first_lane, first_border}
+
+-- a net in blocks: the net, the first node of each block, the place of each direction in its block
+-- ("slot"), the blocks, the messages on the way, and what the sink got
+pub record Whole : Type 0 where
+  pub net : Network
+  pub firsts : List ℕ
+  pub slots : List ℕ
+  pub blocks : List BlockView
+  pub ways : List (List (List Message))
+  pub got : ℕ
+
+abbrev pub whole_of : Network → List ℕ → List ℕ → List BlockView → List (List (List Message)) → ℕ → Whole
+whole_of net firsts slots blocks ways got = record { net = net; firsts = firsts; slots = slots; blocks = blocks; ways = ways; got = got }
+
+-- f 0, f 1, .., f (n - 1)
+abbrev pub table : {A : Type 0} → ℕ → (ℕ → A) → List A
+table n f = map f (range_with_len 0 n)
+
+abbrev pub no_block : BlockView
+no_block = record { top = 0; excess = []; labels = []; rooms = []; starts = []; lanes = []; border_starts = []; borders = [] }
+
+abbrev pub block_at : Whole → ℕ → BlockView
+block_at w b = slice_index_or w.blocks b no_block
+
+-- the block of a node
+abbrev pub home : Whole → ℕ → ℕ
+home w v = core.block_of w.net (length w.blocks) v
+
+-- the block that a node lies in
+abbrev pub block_with : Whole → ℕ → BlockView
+block_with w v = block_at w (home w v)
+
+-- the place of a node in its block
+abbrev pub place : Whole → ℕ → ℕ
+place w v = v - slice_index w.firsts (home w v)
+
+abbrev pub near_home : Whole → Direction → ℕ
+near_home w x = home w (near w.net x)
+
+-- where a direction stands in the table of slots: first all that lead from an arc's tail to its head
+abbrev pub index_of : Network → Direction → ℕ
+index_of net x = cond x.back (length net.arcs + x.arc) x.arc
+
+-- the place of a direction in the block of its near end: among the directions within the block, or
+-- among those to other blocks
+abbrev pub slot : Whole → Direction → ℕ
+slot w x = slice_index w.slots (index_of w.net x)
+
+-- is it a direction to another block?
+abbrev pub is_outer : Whole → Direction → Bool
+is_outer w x = core.is_border w.net (length w.blocks) x
+
+abbrev pub lane_of : Whole → Direction → Lane
+lane_of w x = lane_in (block_at w (near_home w x)) (slot w x)
+
+abbrev pub border_of : Whole → Direction → Border
+border_of w x = border_in (block_at w (near_home w x)) (slot w x)
+
+abbrev pub shown_lane : Lane → core.Lane
+shown_lane lane = record { residual = lane.residual; known = 0; flight = None }
+
+abbrev pub shown_border : Border → core.Lane
+shown_border border = record { residual = border.residual; known = border.known; flight = border.flight }
+
+-- what the block of its near end holds of a direction; within a block no label is known and no parcel is out
+abbrev pub shown_of : Whole → Direction → core.Lane
+shown_of w x = cond (is_outer w x) (shown_border (border_of w x)) (shown_lane (lane_of w x))
+
+-- the state that the blocks show
+abbrev pub shown : Whole → core.State
+shown w = record {
+  net = w.net;
+  blocks = length w.blocks;
+  excess = table (nodes w.net) (λ v. excess_in (block_with w v) (place w v));
+  labels = table (nodes w.net) (λ v. label_in (block_with w v) (place w v));
+  rooms = table (nodes w.net) (λ v. room_in (block_with w v) (place w v));
+  lanes = record {
+    forth = table (length w.net.arcs) (λ k. shown_of w (forward k));
+    back = table (length w.net.arcs) (λ k. shown_of w (backward k));
+  };
+  ways = w.ways;
+  got = w.got;
+}
+
+-- ---- where everything stands
+
+-- the block holds a direction within it in the range of its near node, with its far node and the slot
+-- of the opposite direction
+pub record IsInnerAt (w : Whole) (x : Direction) : Type 0 where
+  pub from : first_lane (block_with w (near w.net x)) (place w (near w.net x)) ≤ slot w x
+  pub below : slot w x < first_lane (block_with w (near w.net x)) (place w (near w.net x) + 1)
+  pub within : slot w x < length (block_with w (near w.net x)).lanes
+  pub far : (lane_of w x).far ≡ place w (far w.net x)
+  pub opposite : (lane_of w x).opposite ≡ slot w (opposite x)
+
+-- the block holds a direction to another block in the range of its near node, with its number, its near
+-- node, the other block, the slot of the opposite direction there and the arc's capacity
+pub record IsBorderAt (w : Whole) (x : Direction) : Type 0 where
+  pub from : first_border (block_with w (near w.net x)) (place w (near w.net x)) ≤ slot w x
+  pub below : slot w x < first_border (block_with w (near w.net x)) (place w (near w.net x) + 1)
+  pub within : slot w x < length (block_with w (near w.net x)).borders
+  pub direction : (border_of w x).direction ≡ x
+  pub near : (border_of w x).near ≡ place w (near w.net x)
+  pub to : (border_of w x).to ≡ home w (far w.net x)
+  pub opposite : (border_of w x).opposite ≡ slot w (opposite x)
+  pub capacity : (border_of w x).capacity ≡ (arc_at w.net x.arc).capacity
+
+-- x is the direction of node v at a slot, within the block or to another as asked
+pub record StandsAt (w : Whole) (leaves : Bool) (v j : ℕ) (x : Direction) : Type 0 where
+  pub direction : IsDirection w.net x
+  pub near : near w.net x ≡ v
+  pub outer : is_outer w x ≡ leaves
+  pub slot : slot w x ≡ j
+
+-- each node and each direction has its place, and no two directions have one place
+pub record IsPlaced (w : Whole) : Type 0 where
+  pub homes : (v : ℕ) → v < nodes w.net → home w v < length w.blocks
+  pub firsts : (v : ℕ) → v < nodes w.net → slice_index w.firsts (home w v) ≤ v
+  pub places : (v : ℕ) → v < nodes w.net → place w v < count (block_with w v)
+  pub tops : (b : ℕ) → b < length w.blocks → (block_at w b).top ≡ top w.net
+  pub inner : (x : Direction) → IsDirection w.net x → is_outer w x ≡ false → IsInnerAt w x
+  pub borders : (x : Direction) → IsDirection w.net x → is_outer w x ≡ true → IsBorderAt w x
+  pub apart : (x y : Direction) → IsDirection w.net x → IsDirection w.net y → is_outer w x ≡ is_outer w y
+      → near_home w x ≡ near_home w y → slot w x ≡ slot w y → x ≡ y
+  -- the ranges of a node hold nothing else
+  pub lanes : (v j : ℕ) → v < nodes w.net → first_lane (block_with w v) (place w v) ≤ j → j < first_lane (block_with w v) (place w v + 1)
+      → (x : Direction) × StandsAt w false v j x
+  pub outers : (v j : ℕ) → v < nodes w.net → first_border (block_with w v) (place w v) ≤ j → j < first_border (block_with w v) (place w v + 1)
+      → (x : Direction) × StandsAt w true v j x
+
+-- another block in a block's stead
+abbrev pub put_block : Whole → ℕ → BlockView → Whole
+put_block w b block = record w { blocks = slice_set w.blocks b block }

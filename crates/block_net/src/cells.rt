@@ -1,0 +1,223 @@
+ghost use Rattle.std.specs.Prelude.{◌≡◌, ◌≢◌, ◌+◌, ◌<◌, ◌≤◌, None, length};
+ghost use Rattle.block_net.specs.Views.{BlockView, count, excess_in, label_in, room_in, lane_in, border_in, first_lane, first_border, out_of, pushed, given, labelled, sent, accepted, settled, returned};
+
+use crate::{Border, Lane};
+use parcel::Flight;
+use std::marker::Model;
+
+/// What a block holds of its nodes and of the directions that leave them.
+#[derive(Drop)]
+pub struct Cells {
+    top: u32,
+    excess: Vec<u64>,
+    labels: Vec<u32>,
+    rooms: Vec<u64>,
+    starts: Vec<usize>,
+    lanes: Vec<Lane>,
+    border_starts: Vec<usize>,
+    borders: Vec<Border>,
+}
+
+impl Model for Cells {
+    ghost use Rattle.block_net.specs.Views.{BlockView, IsBlock};
+
+    ghost Value = { BlockView };
+
+    ghost view = { λ c. record { top = c.top; excess = c.excess.items; labels = c.labels.items; rooms = c.rooms.items; starts = c.starts.items; lanes = c.lanes.items; border_starts = c.border_starts.items; borders = c.borders.items } };
+
+    ghost invariant = { λ c. IsBlock (record { top = c.top; excess = c.excess.items; labels = c.labels.items; rooms = c.rooms.items; starts = c.starts.items; lanes = c.lanes.items; border_starts = c.border_starts.items; borders = c.borders.items }) };
+}
+
+impl Cells {
+    /// How many nodes it has.
+    pub fn len(&self) -> usize
+        ensures { result ≡ count self.now }
+    {
+        self.excess.len()
+    }
+
+    /// The label of a node that is cut off.
+    pub fn top(&self) -> u32
+        ensures value { result ≡ self.now.top }
+        ensures limit { result ≤ 16777218 }
+        ensures above { 1 ≤ result }
+    {
+        self.top
+    }
+
+    /// What a node got and did not pass on.
+    pub fn excess(&self, v: usize) -> u64
+        requires { v < count self.now }
+        ensures { result ≡ excess_in self.now v }
+    {
+        self.excess[v]
+    }
+
+    /// A node's label.
+    pub fn label(&self, v: usize) -> u32
+        requires { v < count self.now }
+        ensures value { result ≡ label_in self.now v }
+        ensures limit { result ≤ self.now.top }
+        ensures small { result ≤ 16777218 }
+    {
+        self.labels[v]
+    }
+
+    /// What a node can still give the sink.
+    pub fn room(&self, v: usize) -> u64
+        requires { v < count self.now }
+        ensures { result ≡ room_in self.now v }
+    {
+        self.rooms[v]
+    }
+
+    /// The place of a node's first direction within the block, and that after its last.
+    pub fn range(&self, v: usize) -> (usize, usize)
+        requires { v < count self.now }
+        ensures first { result.0 ≡ first_lane self.now v }
+        ensures end { result.1 ≡ first_lane self.now (v + 1) }
+        ensures limit { result.1 ≤ length self.now.lanes }
+    {
+        (self.starts[v], self.starts[v + 1])
+    }
+
+    /// The place of a node's first direction to another block, and that after its last.
+    pub fn border_range(&self, v: usize) -> (usize, usize)
+        requires { v < count self.now }
+        ensures first { result.0 ≡ first_border self.now v }
+        ensures end { result.1 ≡ first_border self.now (v + 1) }
+        ensures limit { result.1 ≤ length self.now.borders }
+    {
+        (self.border_starts[v], self.border_starts[v + 1])
+    }
+
+    /// The direction within the block at a place.
+    pub fn lane(&self, j: usize) -> Lane
+        requires { j < length self.now.lanes }
+        ensures value { result ≡ lane_in self.now j }
+        ensures far { result.far < count self.now }
+    {
+        self.lanes[j]
+    }
+
+    /// The direction to another block at a place.
+    pub fn border(&self, j: usize) -> Border
+        requires { j < length self.now.borders }
+        ensures value { result ≡ border_in self.now j }
+        ensures near { result.near < count self.now }
+        ensures fits { result.residual + out_of result.flight ≤ result.capacity }
+        ensures known { result.known ≤ self.now.top }
+        ensures small { result.known ≤ 16777218 }
+    {
+        self.borders[j]
+    }
+
+    /// An amount of a node's excess goes along a direction within the block.
+    pub fn push(&mut self, v: usize, j: usize, amount: u64)
+        requires node { v < count self.old }
+        requires place { j < length self.old.lanes }
+        requires other { (lane_in self.old j).far ≢ v }
+        requires excess { amount ≤ excess_in self.old v }
+        requires residual { amount ≤ (lane_in self.old j).residual }
+        ensures { self.new ≡ pushed self.old v j amount }
+    {
+        let lane = self.lanes[j];
+        self.excess[v] -= amount;
+        self.excess[lane.far as usize] += amount;
+        self.lanes[j].residual -= amount;
+        self.lanes[lane.opposite as usize].residual += amount;
+    }
+
+    /// An amount of a node's excess goes to the sink.
+    pub fn give(&mut self, v: usize, amount: u64)
+        requires node { v < count self.old }
+        requires excess { amount ≤ excess_in self.old v }
+        requires room { amount ≤ room_in self.old v }
+        ensures { self.new ≡ given self.old v amount }
+    {
+        self.excess[v] -= amount;
+        self.rooms[v] -= amount;
+    }
+
+    /// A node gets a label.
+    pub fn relabel(&mut self, v: usize, label: u32)
+        requires node { v < count self.old }
+        requires limit { label ≤ self.old.top }
+        ensures { self.new ≡ labelled self.old v label }
+    {
+        self.labels[v] = label;
+    }
+
+    /// An amount of a node's excess leaves for another block.
+    pub fn send(&mut self, v: usize, j: usize, amount: u64)
+        requires node { v < count self.old }
+        requires place { j < length self.old.borders }
+        requires excess { amount ≤ excess_in self.old v }
+        requires residual { amount ≤ (border_in self.old j).residual }
+        requires idle { (border_in self.old j).flight ≡ None }
+        ensures { self.new ≡ sent self.old v j amount }
+    {
+        let label = self.labels[v];
+        self.excess[v] -= amount;
+        let border = &mut self.borders[j];
+        border.residual -= amount;
+        border.flight = Some(Flight { amount, label });
+    }
+
+    /// How many directions lead to other blocks.
+    pub fn borders(&self) -> usize
+        ensures { result ≡ length self.now.borders }
+    {
+        self.borders.len()
+    }
+
+    /// An amount comes along the opposite of a direction to another block.
+    pub fn accept(&mut self, j: usize, amount: u64, label: u32)
+        requires place { j < length self.old.borders }
+        requires fits { (border_in self.old j).residual + out_of (border_in self.old j).flight + amount ≤ (border_in self.old j).capacity }
+        requires label { label ≤ self.old.top }
+        ensures { self.new ≡ accepted self.old j amount label }
+    {
+        let border = self.borders[j];
+        self.excess[border.near as usize] += amount;
+        let known = if border.flight.is_some() {
+            border.known
+        } else {
+            u32::max(border.known, label)
+        };
+        self.borders[j] = Border {
+            residual: border.residual + amount,
+            known,
+            ..border
+        };
+    }
+
+    /// The parcel of a direction was taken.
+    pub fn settle(&mut self, j: usize)
+        requires { j < length self.old.borders }
+        ensures { self.new ≡ settled self.old j }
+    {
+        let border = self.borders[j];
+        self.borders[j] = Border {
+            flight: None,
+            ..border
+        };
+    }
+
+    /// The parcel of a direction comes back.
+    pub fn take_back(&mut self, j: usize, amount: u64, told: u32)
+        requires place { j < length self.old.borders }
+        requires fits { amount ≤ out_of (border_in self.old j).flight }
+        requires told { told ≤ self.old.top }
+        ensures { self.new ≡ returned self.old j amount told }
+    {
+        let border = self.borders[j];
+        self.excess[border.near as usize] += amount;
+        self.borders[j] = Border {
+            residual: border.residual + amount,
+            known: told,
+            flight: None,
+            ..border
+        };
+    }
+}

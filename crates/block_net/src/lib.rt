@@ -1,0 +1,14 @@
+//! A net in blocks, each held in compact lists.
+//!
+//! A block (`Cells`) has of each of its nodes the excess, the label and what it can still give the sink,
+//! and the directions that leave the node one after another: those within the block in 16 bytes each,
+//! and in a list of their own those to other blocks, which also keep the label known of the far end and
+//! the parcel that is out. Its calls are the steps of the push-relabel method on one block (Goldberg,
+//! Tarjan 1988, section 2). `Parts::split` makes the blocks of a net.
+#![tactic(auto)]
+
+mod cells;
+mod rows;
+
+pub use cells::Cells;
+pub use rows::{Border, Lane};
