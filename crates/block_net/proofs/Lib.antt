@@ -1,1 +1,9 @@
 mod Keeping
+mod Tables
+mod Numbers
+mod Grouped
+mod Spots
+mod Spans
+mod Once
+mod Made
+mod Splitting

@@ -1,8 +1,13 @@
-ghost use Rattle.std.specs.Prelude.{◌≡◌, ◌≢◌, ◌+◌, ◌<◌, ◌≤◌, None, length};
+ghost use Rattle.std.specs.Prelude.{◌≡◌, ◌≢◌, ◌+◌, ◌<◌, ◌≤◌, IfOk, None, length};
+ghost use Rattle.block_net.specs.Split.{CanSplit, AreGrouped, block_made};
 ghost use Rattle.block_net.specs.Views.{BlockView, count, excess_in, label_in, room_in, lane_in, border_in, first_lane, first_border, out_of, pushed, given, labelled, sent, accepted, settled, returned};
 
-use crate::{Border, Lane};
+use crate::ends::bounds;
+use crate::make::{borders_of, lanes_of, span, starts_from};
+use crate::{Border, ByNode, Lane};
+use flow_network::Net;
 use parcel::Flight;
+use std::alloc::{AllocError, Global};
 use std::marker::Model;
 
 /// What a block holds of its nodes and of the directions that leave them.
@@ -29,6 +34,35 @@ impl Model for Cells {
 }
 
 impl Cells {
+    /// A block of a net as it is at the opening: each node has what its source sends it.
+    pub(crate) fn at_opening(
+        alloc: Global,
+        net: &Net,
+        blocks: usize,
+        rows: &ByNode,
+        block: usize,
+    ) -> Result<Cells, AllocError>
+        requires split { CanSplit net.now blocks }
+        requires rows { AreGrouped net.now blocks rows.now }
+        requires block { block < blocks }
+        ensures { IfOk result (λ cells. cells ≡ block_made net.now blocks rows.now block) }
+    {
+        let (first, next) = bounds(net, blocks, block);
+        let inner = span(&rows.inner, first, next);
+        let outer = span(&rows.outer, first, next);
+        let slots = rows.slots.as_slice();
+        Ok(Cells {
+            top: net.nodes() as u32 + 2,
+            excess: net.sources()[first..next].to_vec(alloc)?,
+            labels: vec![in alloc; 0; next - first]?,
+            rooms: net.sinks()[first..next].to_vec(alloc)?,
+            starts: starts_from(alloc, rows.inner.starts.as_slice(), first, next)?,
+            lanes: lanes_of(alloc, net, slots, first, inner)?,
+            border_starts: starts_from(alloc, rows.outer.starts.as_slice(), first, next)?,
+            borders: borders_of(alloc, net, blocks, slots, first, outer)?,
+        })
+    }
+
     /// How many nodes it has.
     pub fn len(&self) -> usize
         ensures { result ≡ count self.now }

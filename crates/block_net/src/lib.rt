@@ -7,8 +7,17 @@
 //! Tarjan 1988, section 2). `Parts::split` makes the blocks of a net.
 #![tactic(auto)]
 
+mod by_node;
 mod cells;
+mod ends;
+mod limits;
+mod make;
+mod parts;
 mod rows;
+mod slots;
 
+pub use by_node::ByNode;
 pub use cells::Cells;
+pub use limits::{MOST_ARCS, MOST_BLOCKS};
+pub use parts::Parts;
 pub use rows::{Border, Lane};

@@ -1,0 +1,20 @@
+use Rattle.std.proofs.Common.{◌≡◌, ◌∙◌, ap, sym, length, slice_index, arith}
+use Rattle.std.proofs.lemmas.List.{map_more}
+use Rattle.block_net.specs.Split.{direction_in, direction_of, border_made}
+use Rattle.block_net.proofs.make.borders_of.Goals as goal
+
+pub loop-index-preserved : goal.loop-index-preserved
+loop-index-preserved c =
+    let net = c.args.net.now in
+    let indices = c.args.indices.now in
+    let k = c.loop-index.index-index in
+    let made = border_made net c.args.blocks c.args.slots.now c.args.first in
+    let arcs : length c.arcs-arcs.result.now ≡ length net.arcs = ap length c.arcs-arcs.ensures.value in
+    let border : c.border_at.result ≡ made (direction_in net (slice_index indices k)) =
+    c.border_at.ensures ∙ ap made (c.direction_at.ensures ∙ ap (λ m. direction_of m (slice_index indices k)) arcs) in
+    let more = map_more (λ i. made (direction_in net i)) indices k 0 c.loop-index-test.true in
+    record {
+      made = c.push_reserved.ensures.items ∙ rw (c.loop-index.invariant.made, border) (sym more);
+      len = omega arith;
+      room = c.push_reserved.ensures.capacity ∙ c.loop-index.invariant.room;
+    }

@@ -1,0 +1,158 @@
+-- How a net is split into blocks.
+use Rattle.std.specs.Prelude.{◌≡◌, ◌≢◌, ℕ, ◌+◌, ◌-◌, ◌*◌, ◌/◌, ◌<◌, ◌≤◌, Bool, true, false, not, cond, nat_lt, List, [], length, map, replicate, slice_index, slice_range, None}
+use Rattle.flow_network.specs.Cut.{Network, nodes}
+use Rattle.flow_network.specs.Preflow.{arc_at}
+use Rattle.flow_network.specs.Progress.{top}
+use Rattle.grouping.specs.declared.Groups.{Groups}
+use Rattle.parcel.specs.declared.direction.Direction.{Direction}
+use Rattle.parcel.specs.Directions.{IsDirection, near, far, opposite, alike}
+use Rattle.parcel.specs.States.{block_of, is_border}
+use Rattle.parcel.specs.Soundness.{first_residual, opened}
+use Rattle.block_net.specs.declared.rows.Lane.{Lane}
+use Rattle.block_net.specs.declared.rows.Border.{Border}
+use Rattle.block_net.specs.declared.by_node.ByNode.{ByNode}
+use Rattle.block_net.specs.declared.limits.TheConstants.{MOST_ARCS, MOST_BLOCKS}
+use Rattle.block_net.specs.Views.{BlockView}
+use Rattle.block_net.specs.Whole.{Whole, whole_of, table, index_of, shown, IsPlaced}
+
+-- the net can be split into so many blocks
+pub record CanSplit (net : Network) (blocks : ℕ) : Type 0 where
+  pub arcs : length net.arcs ≤ MOST_ARCS
+  pub some : 1 ≤ blocks
+  pub few : blocks ≤ MOST_BLOCKS
+
+-- how many directions
+abbrev pub directions : Network → ℕ
+directions net = 2 * length net.arcs
+
+-- the direction at an index of the table of slots
+abbrev pub direction_of : ℕ → ℕ → Direction
+direction_of arcs i = record { arc = cond (nat_lt i arcs) i (i - arcs); back = not (nat_lt i arcs) }
+
+abbrev pub direction_in : Network → ℕ → Direction
+direction_in net i = direction_of (length net.arcs) i
+
+-- the first of n nodes in a block: the least v with v * blocks / n at least b
+abbrev pub first_of : ℕ → ℕ → ℕ → ℕ
+first_of n blocks b = (b * n + (blocks - 1)) / blocks
+
+-- the node that a direction leaves, if it leads to another block exactly as asked; else one past all nodes
+abbrev pub key : Network → ℕ → Bool → Direction → ℕ
+key net blocks outer x = cond (alike (is_border net blocks x) outer) (near net x) (nodes net)
+
+-- the indices of the directions that lead to another block exactly as asked, grouped by their near nodes:
+-- those of node v at the places starts v to starts (v + 1)
+pub record AreRows (net : Network) (blocks : ℕ) (leaves : Bool) (rows : Groups) : Type 0 where
+  pub starts_len : length rows.starts.items ≡ nodes net + 2
+  pub places_len : length rows.places.items ≡ directions net
+  pub ordered : (v : ℕ) → v ≤ nodes net → slice_index rows.starts.items v ≤ slice_index rows.starts.items (v + 1)
+  pub within : (v : ℕ) → v ≤ nodes net → slice_index rows.starts.items v ≤ directions net
+  pub small : (v p : ℕ) → v < nodes net → slice_index rows.starts.items v ≤ p → p < slice_index rows.starts.items (v + 1)
+      → slice_index rows.places.items p < directions net
+  pub node : (v p : ℕ) → v < nodes net → slice_index rows.starts.items v ≤ p → p < slice_index rows.starts.items (v + 1)
+      → near net (direction_in net (slice_index rows.places.items p)) ≡ v
+  pub outer : (v p : ℕ) → v < nodes net → slice_index rows.starts.items v ≤ p → p < slice_index rows.starts.items (v + 1)
+      → is_border net blocks (direction_in net (slice_index rows.places.items p)) ≡ leaves
+  pub found : (x : Direction) → IsDirection net x → is_border net blocks x ≡ leaves
+      → (p : ℕ) × (slice_index rows.starts.items (near net x) ≤ p) × (p < slice_index rows.starts.items (near net x + 1))
+      × (slice_index rows.places.items p ≡ index_of net x)
+  pub apart : (p q : ℕ) → slice_index rows.starts.items 0 ≤ p → p < slice_index rows.starts.items (nodes net)
+      → slice_index rows.starts.items 0 ≤ q → q < slice_index rows.starts.items (nodes net)
+      → slice_index rows.places.items p ≡ slice_index rows.places.items q → p ≡ q
+
+-- the rows do not have the index
+abbrev pub IsNoPlace : Network → Groups → ℕ → Type 0
+IsNoPlace net rows i =
+    (p : ℕ) → slice_index rows.starts.items 0 ≤ p → p < slice_index rows.starts.items (nodes net) → slice_index rows.places.items p ≢ i
+
+-- where the rows of a block begin
+abbrev pub base_of : Network → ℕ → Groups → ℕ → ℕ
+base_of net blocks rows b = slice_index rows.starts.items (first_of (nodes net) blocks b)
+
+-- the slot of the direction that stands at a place of the rows: its place among those of its block
+abbrev pub slot_at : Network → ℕ → Groups → ℕ → ℕ
+slot_at net blocks rows p =
+    p - base_of net blocks rows (block_of net blocks (near net (direction_in net (slice_index rows.places.items p))))
+
+-- the table has the slot of each direction of the rows
+abbrev pub HasSlots : Network → ℕ → Groups → List ℕ → Type 0
+HasSlots net blocks rows slots =
+    (p : ℕ) → slice_index rows.starts.items 0 ≤ p → p < slice_index rows.starts.items (nodes net)
+    → slice_index slots (slice_index rows.places.items p) ≡ slot_at net blocks rows p
+
+-- the directions within blocks and those between blocks, each grouped by its near node, and all slots
+pub record AreGrouped (net : Network) (blocks : ℕ) (rows : ByNode) : Type 0 where
+  pub inner : AreRows net blocks false rows.inner
+  pub outer : AreRows net blocks true rows.outer
+  pub slots_len : length rows.slots.items ≡ directions net
+  pub inner_slots : HasSlots net blocks rows.inner rows.slots.items
+  pub outer_slots : HasSlots net blocks rows.outer rows.slots.items
+
+-- ---- a block
+
+-- the starts of the nodes from one on to another, counted from the first
+abbrev pub starts_from : List ℕ → ℕ → ℕ → List ℕ
+starts_from starts first next = table (next - first + 1) (λ i. slice_index starts (first + i) - slice_index starts first)
+
+abbrev pub lane_made : Network → List ℕ → ℕ → Direction → Lane
+lane_made net slots first x = record {
+  residual = first_residual net x;
+  far = far net x - first;
+  opposite = slice_index slots (index_of net (opposite x));
+}
+
+abbrev pub border_made : Network → ℕ → List ℕ → ℕ → Direction → Border
+border_made net blocks slots first x = record {
+  direction = x;
+  near = near net x - first;
+  to = block_of net blocks (far net x);
+  opposite = slice_index slots (index_of net (opposite x));
+  capacity = (arc_at net x.arc).capacity;
+  residual = first_residual net x;
+  known = 0;
+  flight = None;
+}
+
+abbrev pub lanes_made : Network → List ℕ → ℕ → List ℕ → List Lane
+lanes_made net slots first indices = map (λ i. lane_made net slots first (direction_in net i)) indices
+
+abbrev pub borders_made : Network → ℕ → List ℕ → ℕ → List ℕ → List Border
+borders_made net blocks slots first indices = map (λ i. border_made net blocks slots first (direction_in net i)) indices
+
+-- the places of the rows that belong to the nodes from one on to another
+abbrev pub span : Groups → ℕ → ℕ → List ℕ
+span rows first next = slice_range rows.places.items (slice_index rows.starts.items first) (slice_index rows.starts.items next)
+
+-- the nodes from one on to another as a block
+abbrev pub block_from : Network → ℕ → ByNode → ℕ → ℕ → BlockView
+block_from net blocks rows first next = record {
+  top = top net;
+  excess = slice_range net.sources first next;
+  labels = replicate (next - first) 0;
+  rooms = slice_range net.sinks first next;
+  starts = starts_from rows.inner.starts.items first next;
+  lanes = lanes_made net rows.slots.items first (span rows.inner first next);
+  border_starts = starts_from rows.outer.starts.items first next;
+  borders = borders_made net blocks rows.slots.items first (span rows.outer first next);
+}
+
+abbrev pub block_made : Network → ℕ → ByNode → ℕ → BlockView
+block_made net blocks rows b = block_from net blocks rows (first_of (nodes net) blocks b) (first_of (nodes net) blocks (b + 1))
+
+abbrev pub blocks_made : Network → ℕ → ByNode → List BlockView
+blocks_made net blocks rows = table blocks (block_made net blocks rows)
+
+abbrev pub firsts_made : Network → ℕ → List ℕ
+firsts_made net blocks = table blocks (first_of (nodes net) blocks)
+
+-- ---- the whole
+
+-- the parts with no message on the way
+abbrev pub whole_at_opening : Network → ℕ → List ℕ → List ℕ → List BlockView → Whole
+whole_at_opening net blocks firsts slots parts = whole_of net firsts slots parts (replicate blocks (replicate blocks [])) 0
+
+-- the parts are a net in so many blocks, as it is at the opening
+pub record IsSplit (net : Network) (blocks : ℕ) (firsts slots : List ℕ) (parts : List BlockView) : Type 0 where
+  pub number : length parts ≡ blocks
+  pub placed : IsPlaced (whole_at_opening net blocks firsts slots parts)
+  pub opening : shown (whole_at_opening net blocks firsts slots parts) ≡ opened net blocks

@@ -1,0 +1,96 @@
+ghost use Rattle.std.specs.Prelude.{◌≡◌, ◌+◌, ◌*◌, ◌<◌, ◌≤◌, length};
+ghost use Rattle.flow_network.specs.Cut.{nodes};
+ghost use Rattle.parcel.specs.Directions.{IsDirection, near, far};
+ghost use Rattle.parcel.specs.States.{block_of, is_border};
+ghost use Rattle.block_net.specs.Split.{CanSplit, direction_of, first_of};
+
+use flow_network::Net;
+use parcel::Direction;
+
+/// The direction at an index of the table of slots, for so many arcs.
+pub(crate) fn direction_at(arcs: usize, index: usize) -> Direction
+    ensures { result ≡ direction_of arcs index }
+{
+    if index < arcs {
+        Direction {
+            arc: index,
+            back: false,
+        }
+    } else {
+        Direction {
+            arc: index - arcs,
+            back: true,
+        }
+    }
+}
+
+/// The node that a direction leaves.
+pub(crate) fn near(net: &Net, direction: Direction) -> u32
+    requires { IsDirection net.now direction }
+    ensures value { result ≡ near net.now direction }
+    ensures below { result < nodes net.now }
+{
+    let arc = net.arcs()[direction.arc];
+    if direction.back { arc.to } else { arc.from }
+}
+
+/// The node that a direction leads to.
+pub(crate) fn far(net: &Net, direction: Direction) -> u32
+    requires { IsDirection net.now direction }
+    ensures value { result ≡ far net.now direction }
+    ensures below { result < nodes net.now }
+{
+    let arc = net.arcs()[direction.arc];
+    if direction.back { arc.from } else { arc.to }
+}
+
+/// The block of a node.
+pub(crate) fn block_of(net: &Net, blocks: usize, node: u32) -> usize
+    requires node { node < nodes net.now }
+    requires split { CanSplit net.now blocks }
+    ensures value { result ≡ block_of net.now blocks node }
+    ensures below { result < blocks }
+{
+    node as usize * blocks / net.nodes()
+}
+
+/// The first node of a block; for the number of blocks, the number of nodes.
+pub(crate) fn first_of(nodes: usize, blocks: usize, block: usize) -> usize
+    requires nodes { nodes ≤ 16777216 }
+    requires few { blocks ≤ 256 }
+    requires some { 1 ≤ blocks }
+    requires block { block ≤ blocks }
+    ensures value { result ≡ first_of nodes blocks block }
+    ensures below { result ≤ nodes }
+{
+    (block * nodes + (blocks - 1)) / blocks
+}
+
+/// The first node of a block, and one past its last.
+pub(crate) fn bounds(net: &Net, blocks: usize, block: usize) -> (usize, usize)
+    requires split { CanSplit net.now blocks }
+    requires block { block < blocks }
+    ensures first { result.0 ≡ first_of (nodes net.now) blocks block }
+    ensures next { result.1 ≡ first_of (nodes net.now) blocks (block + 1) }
+    ensures order { result.0 ≤ result.1 }
+    ensures within { result.1 ≤ nodes net.now }
+    ensures few { nodes net.now ≤ 16777216 }
+    ensures same { length net.now.sinks ≡ nodes net.now }
+{
+    let nodes = net.nodes();
+    (
+        first_of(nodes, blocks, block),
+        first_of(nodes, blocks, block + 1),
+    )
+}
+
+/// Whether a direction leads to another block.
+pub(crate) fn leads_out(net: &Net, blocks: usize, direction: Direction) -> bool
+    requires direction { IsDirection net.now direction }
+    requires split { CanSplit net.now blocks }
+    ensures { result ≡ is_border net.now blocks direction }
+{
+    let from = block_of(net, blocks, near(net, direction));
+    let to = block_of(net, blocks, far(net, direction));
+    from != to
+}

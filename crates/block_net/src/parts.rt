@@ -1,0 +1,73 @@
+ghost use Rattle.std.specs.Prelude.{◌≡◌, ◌≤◌, IfOk};
+ghost use Rattle.flow_network.specs.Cut.{IsNet};
+ghost use Rattle.block_net.specs.Split.{CanSplit, AreGrouped, IsSplit, blocks_made, firsts_made};
+
+use crate::by_node::{ByNode, grouped};
+use crate::cells::Cells;
+use crate::ends::first_of;
+use flow_network::Net;
+use std::alloc::{AllocError, Global};
+
+/// A net in blocks, as it is at the opening.
+#[derive(Drop)]
+pub struct Parts {
+    /// The blocks.
+    pub blocks: Vec<Cells>,
+    /// The first node of each block.
+    pub firsts: Vec<usize>,
+    /// The place of each direction in the block of the node that it leaves, among the directions within
+    /// the block or among those to other blocks: first of all arcs from tail to head, then of all arcs back.
+    pub slots: Vec<u32>,
+}
+
+/// The blocks of a net.
+fn blocks_of(
+    alloc: Global,
+    net: &Net,
+    blocks: usize,
+    rows: &ByNode,
+) -> Result<Vec<Cells>, AllocError>
+    requires split { CanSplit net.now blocks }
+    requires rows { AreGrouped net.now blocks rows.now }
+    ensures { IfOk result (λ list. list.items ≡ blocks_made net.now blocks rows.now) }
+{
+    let mut list = Vec::with_capacity(alloc, blocks)?;
+    for block in 0..blocks {
+        list.push_reserved(Cells::at_opening(alloc, net, blocks, rows, block)?);
+    }
+    Ok(list)
+}
+
+/// The first node of each block.
+fn firsts_of(alloc: Global, net: &Net, blocks: usize) -> Result<Vec<usize>, AllocError>
+    requires { CanSplit net.now blocks }
+    ensures firsts { IfOk result (λ firsts. firsts.items ≡ firsts_made net.now blocks) }
+    ensures limits { IsNet net.now }
+{
+    let nodes = net.nodes();
+    let mut firsts = Vec::with_capacity(alloc, blocks)?;
+    for block in 0..blocks {
+        firsts.push_reserved(first_of(nodes, blocks, block));
+    }
+    Ok(firsts)
+}
+
+impl Parts {
+    /// The net in this many blocks, 1 to `MOST_BLOCKS`, where it has at most `MOST_ARCS` arcs: node i of n in
+    /// block i * blocks / n. There may be more blocks than nodes; then some have no node.
+    ///
+    /// Takes time linear in the number of nodes, arcs and blocks. Refuses only where memory runs out.
+    pub fn split(alloc: Global, net: &Net, blocks: usize) -> Result<Parts, AllocError>
+        requires { CanSplit net.now blocks }
+        ensures { IfOk result (λ parts. IsSplit net.now blocks parts.firsts.items parts.slots.items parts.blocks.items) }
+    {
+        let rows = grouped(alloc, net, blocks)?;
+        let firsts = firsts_of(alloc, net, blocks)?;
+        let blocks = blocks_of(alloc, net, blocks, &rows)?;
+        Ok(Parts {
+            blocks,
+            firsts,
+            slots: rows.slots,
+        })
+    }
+}
