@@ -231,11 +231,7 @@ impl Cells {
         requires { j < length self.old.borders }
         ensures { self.new ≡ settled self.old j }
     {
-        let border = self.borders[j];
-        self.borders[j] = Border {
-            flight: None,
-            ..border
-        };
+        self.borders[j].flight = None;
     }
 
     /// The parcel of a direction comes back.
@@ -245,13 +241,13 @@ impl Cells {
         requires told { told ≤ self.old.top }
         ensures { self.new ≡ returned self.old j amount told }
     {
-        let border = self.borders[j];
-        self.excess[border.near as usize] += amount;
+        let sent = self.borders[j];
+        self.excess[sent.near as usize] += amount;
         self.borders[j] = Border {
-            residual: border.residual + amount,
+            residual: sent.residual + amount,
             known: told,
             flight: None,
-            ..border
+            ..sent
         };
     }
 }
