@@ -59,12 +59,15 @@ def watched(command):
 
 
 def outcome(text, crate, edit):
-    """What the command says of an edit, in a few words."""
+    """What the command says of an edit, in a few words: of a refusal the goal that stays open."""
     label = f"must-fail {crate}/{edit}: "
     said = next((line.partition(label)[2] for line in text.splitlines() if label in line), "")
     if not said.startswith("refused"):
         return said[:60] or "nothing is said of it"
-    return "says little" if "says little" in said else "refused"
+    if "says little" in said:
+        return "says little"
+    goal = re.search(r"\(`([^`]*)`\)", said)
+    return f"refused at {goal.group(1)}" if goal else "refused"
 
 
 def table(crate, edits):
@@ -72,10 +75,11 @@ def table(crate, edits):
     text, spent = watched(["rt", "must-fail", crate])
     said = [outcome(text, crate, edit) for edit in edits]
     checks = len(edits) + (len(edits) > 1)
-    if len(spent) < checks or any(it != "refused" for it in said):
+    are_refused = all(it.startswith("refused") for it in said)
+    if len(spent) < checks or not are_refused:
         print(text)
     # what is built below the crate comes before its checks; a second try of an edit comes after them
-    mine = spent[-checks:] if all(it == "refused" for it in said) else spent[:checks]
+    mine = spent[-checks:] if are_refused else spent[:checks]
     for edit, seconds, words in zip(edits, mine, said):
         print(f"{seconds:8.1f}  {crate}/{edit}: {words}", flush=True)
     later = mine[1:len(edits)]
@@ -83,7 +87,7 @@ def table(crate, edits):
     most = max(later, default=0.0)
     words = f"{len(edits)} edits; after the first, mean {mean:.1f}, most {most:.1f}"
     print(f"{sum(mine):8.1f}  {crate}: {words}\n", flush=True)
-    return sum(mine), len(spent) == checks and all(it == "refused" for it in said)
+    return sum(mine), are_refused
 
 
 def main():
