@@ -1,4 +1,4 @@
-use Rattle.std.proofs.Common.{arith, ap, inl, inr, [], ◌∷◌, ◌≡◌, ◌<◌, ℕ, length, slice_index}
+use Rattle.std.proofs.Common.{arith, ap, inl, inr, [], ◌∷◌, ◌≡◌, ◌<◌, length, slice_index}
 use Rattle.std.proofs.lemmas.Bool.{cases_lt}
 use Rattle.std.proofs.lemmas.List.Elements.{All-push, Contains-append_left, Contains-push}
 use Rattle.discharge.proofs.work.nodes_with_excess.Goals as goal
