@@ -1,0 +1,13 @@
+//! Tests of energies: what is put in, what is refused, which terms are regular, and minima.
+#![tactic(auto)]
+
+#[cfg(test)]
+mod energies;
+#[cfg(test)]
+mod minima;
+#[cfg(test)]
+mod refusals;
+#[cfg(test)]
+mod small_answers;
+#[cfg(test)]
+mod small_tables;
