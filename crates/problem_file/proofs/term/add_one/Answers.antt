@@ -8,6 +8,8 @@ use Rattle.problem_file.proofs.term.add_one.Goals as goal
 pub returns-in-Ok-clause-ok : goal.returns-in-Ok-clause-ok
 returns-in-Ok-clause-ok c =
     let due = one_is_due c.args.energy.now.variables c.args.place c.in_ok-first.first c.args.table c.add_term1.result
-    (unknown_refused c.args.energy.now (One c.in_ok-first.first c.args.table) c.add_term1.result c.add_term1.ensures.accepted c.add_term1.ensures.refused) (λ here. range_refused c.args.energy.now (One c.in_ok-first.first c.args.table) c.add_term1.result c.add_term1.ensures.accepted c.add_term1.ensures.refused here tt) (λ term. term_taken c.args.energy.now (One c.in_ok-first.first c.args.table) c.add_term1.result c.add_term1.ensures.accepted c.add_term1.ensures.refused term c.requires.room) in
+    (unknown_refused c.args.energy.now (One c.in_ok-first.first c.args.table) c.add_term1.result c.add_term1.ensures.accepted c.add_term1.ensures.refused)
+    (λ here. range_refused c.args.energy.now (One c.in_ok-first.first c.args.table) c.add_term1.result c.add_term1.ensures.accepted c.add_term1.ensures.refused here tt)
+    (λ term. term_taken c.args.energy.now (One c.in_ok-first.first c.args.table) c.add_term1.result c.add_term1.ensures.accepted c.add_term1.ensures.refused term c.requires.room) in
     let on_is : c.args.on ≡ pos c.in_ok-first.first = sym (to_z-of_z w64 c.args.on c.ranges.on) ∙ c.in_ok-first.ensures.ok in
     rw on_is (gained _ _ _ _ (due_at_ok _ _ _ _ _ due c.in-Ok.is) c.in-Ok.ensures.added)

@@ -8,7 +8,10 @@ use Rattle.problem_file.proofs.term.add_three.Goals as goal
 pub returns-in-Ok-clause-ok : goal.returns-in-Ok-clause-ok
 returns-in-Ok-clause-ok c =
     let due = three_is_due c.args.energy.now.variables c.args.place c.in_ok-x.x c.in_ok-y.y c.in_ok-z.z c.args.table c.add_term3.result
-    (unknown_refused c.args.energy.now (Three c.in_ok-x.x c.in_ok-y.y c.in_ok-z.z c.args.table) c.add_term3.result c.add_term3.ensures.accepted c.add_term3.ensures.refused) (λ x y z. twice_refused c.args.energy.now (Three c.in_ok-x.x c.in_ok-y.y c.in_ok-z.z c.args.table) c.add_term3.result c.add_term3.ensures.accepted c.add_term3.ensures.refused (x, y, z)) (λ x y z x_y x_z y_z. range_refused c.args.energy.now (Three c.in_ok-x.x c.in_ok-y.y c.in_ok-z.z c.args.table) c.add_term3.result c.add_term3.ensures.accepted c.add_term3.ensures.refused (x, y, z) (x_y, x_z, y_z)) (λ term. term_taken c.args.energy.now (Three c.in_ok-x.x c.in_ok-y.y c.in_ok-z.z c.args.table) c.add_term3.result c.add_term3.ensures.accepted c.add_term3.ensures.refused term c.requires.room) in
+    (unknown_refused c.args.energy.now (Three c.in_ok-x.x c.in_ok-y.y c.in_ok-z.z c.args.table) c.add_term3.result c.add_term3.ensures.accepted c.add_term3.ensures.refused)
+    (λ x y z. twice_refused c.args.energy.now (Three c.in_ok-x.x c.in_ok-y.y c.in_ok-z.z c.args.table) c.add_term3.result c.add_term3.ensures.accepted c.add_term3.ensures.refused (x, y, z))
+    (λ x y z x_y x_z y_z. range_refused c.args.energy.now (Three c.in_ok-x.x c.in_ok-y.y c.in_ok-z.z c.args.table) c.add_term3.result c.add_term3.ensures.accepted c.add_term3.ensures.refused (x, y, z) (x_y, x_z, y_z))
+    (λ term. term_taken c.args.energy.now (Three c.in_ok-x.x c.in_ok-y.y c.in_ok-z.z c.args.table) c.add_term3.result c.add_term3.ensures.accepted c.add_term3.ensures.refused term c.requires.room) in
     let on_is : c.args.on ≡ pos c.in_ok-x.x = sym (to_z-of_z w64 c.args.on c.ranges.on) ∙ c.in_ok-x.ensures.ok in
     let and_is : c.args.and ≡ pos c.in_ok-y.y = sym (to_z-of_z w64 c.args.and c.ranges.and) ∙ c.in_ok-y.ensures.ok in
     let also_is : c.args.also ≡ pos c.in_ok-z.z = sym (to_z-of_z w64 c.args.also c.ranges.also) ∙ c.in_ok-z.ensures.ok in
@@ -17,7 +20,10 @@ returns-in-Ok-clause-ok c =
 pub returns-in-Err-clause-refused : goal.returns-in-Err-clause-refused
 returns-in-Err-clause-refused c =
     let due = three_is_due c.args.energy.now.variables c.args.place c.in_ok-x.x c.in_ok-y.y c.in_ok-z.z c.args.table c.add_term3.result
-    (unknown_refused c.args.energy.now (Three c.in_ok-x.x c.in_ok-y.y c.in_ok-z.z c.args.table) c.add_term3.result c.add_term3.ensures.accepted c.add_term3.ensures.refused) (λ x y z. twice_refused c.args.energy.now (Three c.in_ok-x.x c.in_ok-y.y c.in_ok-z.z c.args.table) c.add_term3.result c.add_term3.ensures.accepted c.add_term3.ensures.refused (x, y, z)) (λ x y z x_y x_z y_z. range_refused c.args.energy.now (Three c.in_ok-x.x c.in_ok-y.y c.in_ok-z.z c.args.table) c.add_term3.result c.add_term3.ensures.accepted c.add_term3.ensures.refused (x, y, z) (x_y, x_z, y_z)) (λ term. term_taken c.args.energy.now (Three c.in_ok-x.x c.in_ok-y.y c.in_ok-z.z c.args.table) c.add_term3.result c.add_term3.ensures.accepted c.add_term3.ensures.refused term c.requires.room) in
+    (unknown_refused c.args.energy.now (Three c.in_ok-x.x c.in_ok-y.y c.in_ok-z.z c.args.table) c.add_term3.result c.add_term3.ensures.accepted c.add_term3.ensures.refused)
+    (λ x y z. twice_refused c.args.energy.now (Three c.in_ok-x.x c.in_ok-y.y c.in_ok-z.z c.args.table) c.add_term3.result c.add_term3.ensures.accepted c.add_term3.ensures.refused (x, y, z))
+    (λ x y z x_y x_z y_z. range_refused c.args.energy.now (Three c.in_ok-x.x c.in_ok-y.y c.in_ok-z.z c.args.table) c.add_term3.result c.add_term3.ensures.accepted c.add_term3.ensures.refused (x, y, z) (x_y, x_z, y_z))
+    (λ term. term_taken c.args.energy.now (Three c.in_ok-x.x c.in_ok-y.y c.in_ok-z.z c.args.table) c.add_term3.result c.add_term3.ensures.accepted c.add_term3.ensures.refused term c.requires.room) in
     let on_is : c.args.on ≡ pos c.in_ok-x.x = sym (to_z-of_z w64 c.args.on c.ranges.on) ∙ c.in_ok-x.ensures.ok in
     let and_is : c.args.and ≡ pos c.in_ok-y.y = sym (to_z-of_z w64 c.args.and c.ranges.and) ∙ c.in_ok-y.ensures.ok in
     let also_is : c.args.also ≡ pos c.in_ok-z.z = sym (to_z-of_z w64 c.args.also c.ranges.also) ∙ c.in_ok-z.ensures.ok in
