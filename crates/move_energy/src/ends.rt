@@ -1,8 +1,8 @@
 //! What a pair of two sites costs.
 ghost use Rattle.std.specs.Prelude.{◌≡◌, ◌≢◌, ◌<◌, ◌≤◌, ◌+◌, ◌*◌, ◌∷◌, [], ℕ, ℤ, pos, ◌≤ℤ◌, Bool, true, false, All, length, IfOk, OnOk, IsTrue, IsFalse, ◌↔◌};
-ghost use Rattle.label_field.specs.declared.pairs.TheConstants.{WEIGHT_LIMIT};
+ghost use Rattle.label_field.specs.Limits.{weight_limit};
 ghost use Rattle.labellings.specs.Moves.{label_in, IsMoveOf};
-ghost use Rattle.pseudo_bool.specs.declared.limits.TheConstants.{TERM_LIMIT};
+ghost use Rattle.pseudo_bool.specs.Limits.{term_limit};
 ghost use Rattle.pseudo_bool.specs.Formula.{IsWithin};
 ghost use Rattle.cost_store.specs.Promises.{KeepsSmooth, Answers};
 ghost use Rattle.move_energy.specs.declared.choice.Choice.TheVariants.{Open};
@@ -23,10 +23,12 @@ fn pair_cost<V: Fn(u32, u32) -> i64>(
     first: u32,
     second: u32,
 ) -> i64
-    requires smooth { KeepsSmooth (V.pre smooth_cost.now.v) (V.post smooth_cost.now.v) smooth_cost.now.labels smooth_cost.now.by_metric }
-    requires weight { weight ≤ WEIGHT_LIMIT }
+    requires smooth { KeepsSmooth (V.pre smooth_cost.now.v) (V.post smooth_cost.now.v)
+        smooth_cost.now.labels smooth_cost.now.by_metric }
+    requires weight { weight ≤ weight_limit }
     requires inside { (first < smooth_cost.now.labels) × (second < smooth_cost.now.labels) }
-    ensures cost { (cost : ℕ → ℕ → ℕ) → Answers (V.post smooth_cost.now.v) cost smooth_cost.now.labels smooth_cost.now.labels →
+    ensures cost { (cost : ℕ → ℕ → ℕ) →
+        Answers (V.post smooth_cost.now.v) cost smooth_cost.now.labels smooth_cost.now.labels →
         result ≡ pos (weight * cost first second) }
     ensures range { (pos 0 ≤ℤ result) × (result ≤ℤ pos 10000000) }
 {
@@ -41,11 +43,13 @@ fn pair_table<V: Fn(u32, u32) -> i64>(
     first: u32,
     second: u32,
 ) -> [i64; 4]
-    requires smooth { KeepsSmooth (V.pre smooth_cost.now.v) (V.post smooth_cost.now.v) smooth_cost.now.labels smooth_cost.now.by_metric }
-    requires weight { weight ≤ WEIGHT_LIMIT }
+    requires smooth { KeepsSmooth (V.pre smooth_cost.now.v) (V.post smooth_cost.now.v)
+        smooth_cost.now.labels smooth_cost.now.by_metric }
+    requires weight { weight ≤ weight_limit }
     requires inside { (first < smooth_cost.now.labels) × (second < smooth_cost.now.labels) }
     requires change { IsMoveOf smooth_cost.now.labels change }
-    ensures table { (cost : ℕ → ℕ → ℕ) → Answers (V.post smooth_cost.now.v) cost smooth_cost.now.labels smooth_cost.now.labels →
+    ensures table { (cost : ℕ → ℕ → ℕ) →
+        Answers (V.post smooth_cost.now.v) cost smooth_cost.now.labels smooth_cost.now.labels →
         result ≡ pos (weight * cost (label_in change first false) (label_in change second false))
         ∷ pos (weight * cost (label_in change first false) (label_in change second true))
         ∷ pos (weight * cost (label_in change first true) (label_in change second false))
@@ -73,13 +77,15 @@ fn add_both<V: Fn(u32, u32) -> i64>(
     first: End,
     second: End,
 ) -> Result<bool, AllocError>
-    requires smooth { KeepsSmooth (V.pre smooth_cost.now.v) (V.post smooth_cost.now.v) smooth_cost.now.labels smooth_cost.now.by_metric }
-    requires weight { weight ≤ WEIGHT_LIMIT }
+    requires smooth { KeepsSmooth (V.pre smooth_cost.now.v) (V.post smooth_cost.now.v)
+        smooth_cost.now.labels smooth_cost.now.by_metric }
+    requires weight { weight ≤ weight_limit }
     requires inside { (first.label < smooth_cost.now.labels) × (second.label < smooth_cost.now.labels) }
     requires change { IsMoveOf smooth_cost.now.labels change }
     requires opened { (first.choice ≡ Open) × (second.choice ≡ Open) }
-    requires variables { (first.variable < energy.old.variables) × (second.variable < energy.old.variables) × (first.variable ≢ second.variable) }
-    requires room { length energy.old.terms < TERM_LIMIT }
+    requires variables { (first.variable < energy.old.variables) × (second.variable < energy.old.variables)
+        × (first.variable ≢ second.variable) }
+    requires room { length energy.old.terms < term_limit }
     ensures longer { OnOk result (IsLonger 1 energy.old energy.new) }
     ensures adds { IfOk result (λ fits. (cost : ℕ → ℕ → ℕ) →
         Answers (V.post smooth_cost.now.v) cost smooth_cost.now.labels smooth_cost.now.labels →
@@ -102,16 +108,18 @@ fn add_first<V: Fn(u32, u32) -> i64>(
     end: End,
     other: u32,
 ) -> Result<(), AllocError>
-    requires smooth { KeepsSmooth (V.pre smooth_cost.now.v) (V.post smooth_cost.now.v) smooth_cost.now.labels smooth_cost.now.by_metric }
-    requires weight { weight ≤ WEIGHT_LIMIT }
+    requires smooth { KeepsSmooth (V.pre smooth_cost.now.v) (V.post smooth_cost.now.v)
+        smooth_cost.now.labels smooth_cost.now.by_metric }
+    requires weight { weight ≤ weight_limit }
     requires inside { (end.label < smooth_cost.now.labels) × (other < smooth_cost.now.labels) }
     requires change { IsMoveOf smooth_cost.now.labels change }
     requires variable { end.variable < energy.old.variables }
-    requires room { length energy.old.terms < TERM_LIMIT }
+    requires room { length energy.old.terms < term_limit }
     ensures longer { OnOk result (IsLonger 1 energy.old energy.new) }
     ensures adds { OnOk result ((cost : ℕ → ℕ → ℕ) →
         Answers (V.post smooth_cost.now.v) cost smooth_cost.now.labels smooth_cost.now.labels →
-        AddsCost energy.old energy.new (λ x. weight * cost (label_in change end.label (x end.variable)) other)) }
+        AddsCost energy.old energy.new (λ x. weight * cost (label_in change end.label (x end.variable))
+        other)) }
 {
     let stays = pair_cost(smooth_cost, weight, change.label(end.label, false), other);
     let turns = pair_cost(smooth_cost, weight, change.label(end.label, true), other);
@@ -127,16 +135,18 @@ fn add_second<V: Fn(u32, u32) -> i64>(
     other: u32,
     end: End,
 ) -> Result<(), AllocError>
-    requires smooth { KeepsSmooth (V.pre smooth_cost.now.v) (V.post smooth_cost.now.v) smooth_cost.now.labels smooth_cost.now.by_metric }
-    requires weight { weight ≤ WEIGHT_LIMIT }
+    requires smooth { KeepsSmooth (V.pre smooth_cost.now.v) (V.post smooth_cost.now.v)
+        smooth_cost.now.labels smooth_cost.now.by_metric }
+    requires weight { weight ≤ weight_limit }
     requires inside { (end.label < smooth_cost.now.labels) × (other < smooth_cost.now.labels) }
     requires change { IsMoveOf smooth_cost.now.labels change }
     requires variable { end.variable < energy.old.variables }
-    requires room { length energy.old.terms < TERM_LIMIT }
+    requires room { length energy.old.terms < term_limit }
     ensures longer { OnOk result (IsLonger 1 energy.old energy.new) }
     ensures adds { OnOk result ((cost : ℕ → ℕ → ℕ) →
         Answers (V.post smooth_cost.now.v) cost smooth_cost.now.labels smooth_cost.now.labels →
-        AddsCost energy.old energy.new (λ x. weight * cost other (label_in change end.label (x end.variable)))) }
+        AddsCost energy.old energy.new (λ x. weight * cost other (label_in change end.label (x
+        end.variable)))) }
 {
     let stays = pair_cost(smooth_cost, weight, other, change.label(end.label, false));
     let turns = pair_cost(smooth_cost, weight, other, change.label(end.label, true));
@@ -152,14 +162,15 @@ pub fn add_ends<V: Fn(u32, u32) -> i64>(
     first: End,
     second: End,
 ) -> Result<bool, AllocError>
-    requires smooth { KeepsSmooth (V.pre smooth_cost.now.v) (V.post smooth_cost.now.v) smooth_cost.now.labels smooth_cost.now.by_metric }
-    requires weight { weight ≤ WEIGHT_LIMIT }
+    requires smooth { KeepsSmooth (V.pre smooth_cost.now.v) (V.post smooth_cost.now.v)
+        smooth_cost.now.labels smooth_cost.now.by_metric }
+    requires weight { weight ≤ weight_limit }
     requires inside { (first.label < smooth_cost.now.labels) × (second.label < smooth_cost.now.labels) }
     requires change { IsMoveOf smooth_cost.now.labels change }
     requires first { first.choice ≡ Open → first.variable < energy.old.variables }
     requires second { second.choice ≡ Open → second.variable < energy.old.variables }
     requires apart { first.choice ≡ Open → second.choice ≡ Open → first.variable ≢ second.variable }
-    requires room { length energy.old.terms < TERM_LIMIT }
+    requires room { length energy.old.terms < term_limit }
     ensures longer { OnOk result (IsLonger 1 energy.old energy.new) }
     ensures adds { IfOk result (λ fits. (cost : ℕ → ℕ → ℕ) →
         Answers (V.post smooth_cost.now.v) cost smooth_cost.now.labels smooth_cost.now.labels →

@@ -25,13 +25,17 @@ pub fn take_best(
 ) -> Result<bool, MoveError>
     requires below { IsMoveOf field.old.labels change }
     requires opened { AreAllOpen change field.old.at made.now.variables.choices.items }
-    requires numbering { IsNumbering made.now.variables.choices.items made.now.variables.of_sites.items made.now.variables.sites.items }
-    requires lengths { (length made.now.variables.sites.items ≡ made.now.energy.variables) × (length bits.now ≡ made.now.energy.variables) }
+    requires numbering { IsNumbering made.now.variables.choices.items made.now.variables.of_sites.items
+        made.now.variables.sites.items }
+    requires lengths { (length made.now.variables.sites.items ≡ made.now.energy.variables)
+        × (length bits.now ≡ made.now.energy.variables) }
     ensures sizes { (field.new.labels ≡ field.old.labels) × (length field.new.at ≡ length field.old.at) }
     ensures refused { IfErr result (λ e. (e ≡ MoveError.OutOfMemory) × (field.new ≡ field.old)) }
     ensures best { IfOk result (λ changed. (m : Instance) → IsInstance m → length field.old.at ≡ m.sites →
-        Stands m change field.old.at made.now → IsSmallestLeastAssignment made.now.energy (assignment bits.now) →
-        (IsBest m change field.old.at field.new.at × ((IsTrue changed → field.new.at ≢ field.old.at) × (IsFalse changed → field.new.at ≡ field.old.at)))) }
+        Stands m change field.old.at made.now →
+        IsSmallestLeastAssignment made.now.energy (assignment bits.now) →
+        (IsBest m change field.old.at field.new.at × ((IsTrue changed → field.new.at ≢ field.old.at)
+        × (IsFalse changed → field.new.at ≡ field.old.at)))) }
 {
     match change {
         Move::Expand(_) => Ok(relabel(field, &made.variables, bits, change)),
@@ -49,13 +53,17 @@ fn take_lower(
 ) -> Result<bool, MoveError>
     requires below { IsMoveOf field.old.labels change }
     requires opened { AreAllOpen change field.old.at made.now.variables.choices.items }
-    requires numbering { IsNumbering made.now.variables.choices.items made.now.variables.of_sites.items made.now.variables.sites.items }
-    requires lengths { (length made.now.variables.sites.items ≡ made.now.energy.variables) × (length bits.now ≡ made.now.energy.variables) }
+    requires numbering { IsNumbering made.now.variables.choices.items made.now.variables.of_sites.items
+        made.now.variables.sites.items }
+    requires lengths { (length made.now.variables.sites.items ≡ made.now.energy.variables)
+        × (length bits.now ≡ made.now.energy.variables) }
     ensures sizes { (field.new.labels ≡ field.old.labels) × (length field.new.at ≡ length field.old.at) }
     ensures refused { IfErr result (λ e. (e ≡ MoveError.OutOfMemory) × (field.new ≡ field.old)) }
     ensures best { IfOk result (λ changed. (m : Instance) → IsInstance m → length field.old.at ≡ m.sites →
-        Stands m change field.old.at made.now → IsSmallestLeastAssignment made.now.energy (assignment bits.now) →
-        (IsBest m change field.old.at field.new.at × ((IsTrue changed → field.new.at ≢ field.old.at) × (IsFalse changed → field.new.at ≡ field.old.at)))) }
+        Stands m change field.old.at made.now →
+        IsSmallestLeastAssignment made.now.energy (assignment bits.now) →
+        (IsBest m change field.old.at field.new.at × ((IsTrue changed → field.new.at ≢ field.old.at)
+        × (IsFalse changed → field.new.at ≡ field.old.at)))) }
 {
     let favoured = change.favoured_label();
     let Ok(now) = values_now(alloc, field.as_slice(), &made.variables.sites, favoured) else {
@@ -82,7 +90,8 @@ fn values_now(alloc: Global, at: &[u8], sites: &[u32], label: u32) -> Result<Vec
 /// Whether an assignment has a lower value than another.
 fn is_lower(energy: &Energy, bits: &[bool], than: &[bool]) -> bool
     requires lengths { (length bits.now ≡ energy.now.variables) × (length than.now ≡ energy.now.variables) }
-    ensures { IsTrue result ↔ (value_at energy.now (assignment bits.now) <ℤ value_at energy.now (assignment than.now)) }
+    ensures { IsTrue result ↔ (value_at energy.now (assignment bits.now) <ℤ value_at energy.now (assignment
+        than.now)) }
 {
     energy.value(bits) < energy.value(than)
 }
@@ -92,10 +101,14 @@ fn relabel(labelling: &mut Labelling, variables: &Variables, bits: &[bool], chan
     requires below { IsMoveOf labelling.old.labels change }
     requires choices { length variables.now.choices.items ≡ length labelling.old.at }
     requires count { length variables.now.of_sites.items ≡ length labelling.old.at }
-    ensures sizes { (labelling.new.labels ≡ labelling.old.labels) × (length labelling.new.at ≡ length labelling.old.at) }
-    ensures each { (p : ℕ) → p < length labelling.old.at → slice_index labelling.new.at p ≡ label_in change (slice_index labelling.old.at p)
-        (bit_of (choice_at variables.now.choices.items p) (assignment bits.now (slice_index variables.now.of_sites.items p))) }
-    ensures changed { (IsTrue result → labelling.new.at ≢ labelling.old.at) × (IsFalse result → labelling.new.at ≡ labelling.old.at) }
+    ensures sizes { (labelling.new.labels ≡ labelling.old.labels)
+        × (length labelling.new.at ≡ length labelling.old.at) }
+    ensures each { (p : ℕ) → p < length labelling.old.at →
+        slice_index labelling.new.at p ≡ label_in change (slice_index labelling.old.at p)
+        (bit_of (choice_at variables.now.choices.items p) (assignment bits.now (slice_index
+        variables.now.of_sites.items p))) }
+    ensures changed { (IsTrue result → labelling.new.at ≢ labelling.old.at) × (IsFalse result →
+        labelling.new.at ≡ labelling.old.at) }
 {
     let mut changed = false;
     for site in 0..labelling.sites() {
@@ -111,7 +124,8 @@ fn relabel(labelling: &mut Labelling, variables: &Variables, bits: &[bool], chan
 fn value_of(variables: &Variables, bits: &[bool], site: u32) -> bool
     requires choices { site < length variables.now.choices.items }
     requires variables { site < length variables.now.of_sites.items }
-    ensures { result ≡ bit_of (choice_at variables.now.choices.items site) (assignment bits.now (slice_index variables.now.of_sites.items site)) }
+    ensures { result ≡ bit_of (choice_at variables.now.choices.items site) (assignment bits.now (slice_index
+        variables.now.of_sites.items site)) }
 {
     let variable = variables.of_sites[site as usize] as usize;
     variables.choices[site as usize].bit(bit_at(bits, variable))
@@ -128,8 +142,12 @@ fn bit_at(bits: &[bool], variable: usize) -> bool
 fn relabel_site(labelling: &mut Labelling, site: u32, bit: bool, change: Move) -> bool
     requires below { IsMoveOf labelling.old.labels change }
     requires site { site < length labelling.old.at }
-    ensures written { labelling.new ≡ record labelling.old { at = slice_set labelling.old.at site (label_in change (slice_index labelling.old.at site) bit) } }
-    ensures changed { IsTrue result ↔ (label_in change (slice_index labelling.old.at site) bit ≢ slice_index labelling.old.at site) }
+    ensures written { labelling.new ≡ record labelling.old {
+      at = slice_set labelling.old.at site (label_in
+          change (slice_index labelling.old.at site) bit);
+    } }
+    ensures changed { IsTrue result ↔ (label_in change (slice_index labelling.old.at site) bit ≢ slice_index
+        labelling.old.at site) }
 {
     let Ok(old) = labelling.label(site) else {
         unreachable!()
