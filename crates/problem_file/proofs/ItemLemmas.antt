@@ -5,7 +5,7 @@ use Rattle.toml.specs.Data.{Data, Members, as_array, get_member}
 use Rattle.toml.specs.View.{items_view, view}
 use Rattle.toml.specs.declared.value.Value.{Value}
 use Rattle.toml.proofs.Views.{items_view-drop}
-use Rattle.pseudo_bool.specs.declared.limits.TheConstants.{TERM_LIMIT}
+use Rattle.pseudo_bool.specs.Limits.{term_limit}
 use Rattle.pseudo_bool.specs.declared.term.Term.{Term}
 use Rattle.pseudo_bool.specs.Formula.{Formula}
 use Rattle.problem_file.specs.declared.fault.ProblemFault.{ProblemFault}
@@ -55,13 +55,13 @@ item_count-items_view (v ∷ vs) = ap (λ n. suc n) (item_count-items_view vs)
 
 -- the terms of a table are those of the array that it has
 pub terms_found : (n : ℕ) (ms : Members) (d : Data) (vs : List Value) → Some d ≡ get_member (codes "terms") ms → Some (items_view vs) ≡ as_array d
-    → length vs ≤ TERM_LIMIT → terms_in n ms ≡ terms_from n 0 (items_view vs)
+    → length vs ≤ term_limit → terms_in n ms ≡ terms_from n 0 (items_view vs)
 terms_found n ms d vs at is few =
-    let test : nat_le (item_count (items_view vs)) TERM_LIMIT ≡ true = rw (item_count-items_view vs) (grind (arith, nat_tests)) in
+    let test : nat_le (item_count (items_view vs)) term_limit ≡ true = rw (item_count-items_view vs) (grind (arith, nat_tests)) in
     rw (← at, ← is, test) refl
 
 pub too_many_terms : (n : ℕ) (ms : Members) (d : Data) (vs : List Value) → Some d ≡ get_member (codes "terms") ms → Some (items_view vs) ≡ as_array d
-    → TERM_LIMIT < length vs → terms_in n ms ≡ Err TooManyTerms
+    → term_limit < length vs → terms_in n ms ≡ Err TooManyTerms
 too_many_terms n ms d vs at is many =
-    let test : nat_le (item_count (items_view vs)) TERM_LIMIT ≡ false = rw (item_count-items_view vs) (grind (arith, nat_tests)) in
+    let test : nat_le (item_count (items_view vs)) term_limit ≡ false = rw (item_count-items_view vs) (grind (arith, nat_tests)) in
     rw (← at, ← is, test) refl

@@ -3,7 +3,7 @@ use Rattle.std.proofs.Common.{◌≡◌, ℕ, ◌+◌, Bool, true, false, not, �
 use Rattle.std.specs.List.{list_all}
 use Rattle.std.proofs.lemmas.Bool.{and_parts}
 use Rattle.toml.specs.Data.{Data, integer, array, Items, no_items, item, Members, as_array, as_integer, get, get_member}
-use Rattle.pseudo_bool.specs.declared.limits.TheConstants.{VARIABLE_LIMIT, TERM_LIMIT}
+use Rattle.pseudo_bool.specs.Limits.{variable_limit, term_limit}
 use Rattle.pseudo_bool.specs.declared.term.Term.{Term}
 use Rattle.pseudo_bool.specs.declared.term.Term.TheVariants.{One, Two, Three}
 use Rattle.pseudo_bool.specs.Formula.{Formula}
@@ -145,7 +145,7 @@ chosen false r fault x e = absurd (let no = e in cc)
 
 list_back : (n : ℕ) (o : Option Data) (terms : List Term) → terms_at n o ≡ Ok terms → StatesList o terms
 list_back n None terms e = cc
-list_back n (Some (array ds)) terms e = (ds, refl, terms_back n 0 ds terms (chosen (nat_le (item_count ds) TERM_LIMIT) (terms_from n 0 ds) _ terms e))
+list_back n (Some (array ds)) terms e = (ds, refl, terms_back n 0 ds terms (chosen (nat_le (item_count ds) term_limit) (terms_from n 0 ds) _ terms e))
 list_back n (Some _) terms e = absurd (let no = e in cc)
 
 constant_back : (o : Option Data) (constant : ℤ) → constant_at o ≡ Ok constant → StatesConstant o constant
@@ -155,7 +155,7 @@ constant_back (Some _) constant e = absurd (let no = e in cc)
 
 variables_back : (o : Option Data) (n : ℕ) → variables_from (option_and_then as_integer o) ≡ Ok n → o ≡ Some (integer (pos n))
 variables_back None n e = absurd (let no = e in cc)
-variables_back (Some (integer (pos m))) n e = ap (λ k. Some (integer (pos k))) (if_kept (nat_le m VARIABLE_LIMIT) m n _ e)
+variables_back (Some (integer (pos m))) n e = ap (λ k. Some (integer (pos k))) (if_kept (nat_le m variable_limit) m n _ e)
 variables_back (Some (integer (negsuc m))) n e = absurd (let no = e in cc)
 variables_back (Some _) n e = absurd (let no = e in cc)
 

@@ -8,7 +8,7 @@ use Rattle.std.proofs.lemmas.Bool.{cases_Bool}
 use Rattle.std.proofs.lemmas.Bool.Decides.{nat_tests, Decides-by_and, Decides-int_eq, not_from_Decides}
 use Rattle.pseudo_bool.specs.declared.error.EnergyError.{EnergyError}
 use Rattle.pseudo_bool.specs.declared.error.EnergyError.TheVariants as energy
-use Rattle.pseudo_bool.specs.declared.limits.TheConstants.{VALUE_LIMIT}
+use Rattle.pseudo_bool.specs.Limits.{value_limit}
 use Rattle.pseudo_bool.specs.declared.term.Term.{Term}
 use Rattle.pseudo_bool.specs.declared.term.Term.TheVariants.{One, Two, Three}
 use Rattle.pseudo_bool.specs.Formula.{Formula, IsTerm, IsWithin}
@@ -36,15 +36,15 @@ due_at_err i due term r e (inr h) err memory = absurd (memory (let only = rw err
 pub gained : (old new : Formula) (due : Result Term ProblemFault) (term : Term) → due ≡ Ok term → new ≡ record old { terms = old.terms ++ term ∷ [] } → Gains old new due
 gained old new due term is more = rw is more
 
-in_range : (z : ℤ) → Decides (is_value z) (IsWithin VALUE_LIMIT z)
+in_range : (z : ℤ) → Decides (is_value z) (IsWithin value_limit z)
 in_range z = (λ test. grind (arith, nat_tests), λ within. grind (arith, nat_tests))
 
-are_values : (table : List ℤ) → Decides (list_all is_value table) (All (IsWithin VALUE_LIMIT) table)
-are_values table = Decides-by_and is_value (IsWithin VALUE_LIMIT) (list_all is_value) in_range refl (λ _ _. refl) table
+are_values : (table : List ℤ) → Decides (list_all is_value table) (All (IsWithin value_limit) table)
+are_values table = Decides-by_and is_value (IsWithin value_limit) (list_all is_value) in_range refl (λ _ _. refl) table
 
 pub one_is_due : {T : Type 0} (n i x : ℕ) (table : List ℤ) (r : Result T EnergyError)
     → (n ≤ x → r ≡ Err energy.NoSuchVariable)
-    → (x < n → ¬ All (IsWithin VALUE_LIMIT) table → r ≡ Err energy.ValueRange)
+    → (x < n → ¬ All (IsWithin value_limit) table → r ≡ Err energy.ValueRange)
     → (IsTerm n (One x table) → IsOkUnless r energy.OutOfMemory)
     → IsDue i (checked n i (pos x ∷ []) table (One x table)) (One x table) r
 one_is_due n i x table r variable range accepted =
@@ -61,7 +61,7 @@ one_is_due n i x table r variable range accepted =
 pub two_is_due : {T : Type 0} (n i x y : ℕ) (table : List ℤ) (r : Result T EnergyError)
     → ((n ≤ x) ⊎ (n ≤ y) → r ≡ Err energy.NoSuchVariable)
     → (x < n → x ≡ y → r ≡ Err energy.SameVariable)
-    → (x < n → y < n → x ≢ y → ¬ All (IsWithin VALUE_LIMIT) table → r ≡ Err energy.ValueRange)
+    → (x < n → y < n → x ≢ y → ¬ All (IsWithin value_limit) table → r ≡ Err energy.ValueRange)
     → (IsTerm n (Two x y table) → IsOkUnless r energy.OutOfMemory)
     → IsDue i (checked n i (pos x ∷ pos y ∷ []) table (Two x y table)) (Two x y table) r
 two_is_due n i x y table r variable same range accepted =
@@ -96,8 +96,8 @@ unequal_here x y test equal = not_from_Decides _ (Decides-int_eq (pos x) (pos y)
 three_known : {T : Type 0} (n i x y z : ℕ) (table : List ℤ) (r : Result T EnergyError)
     → nat_lt x n ≡ true → nat_lt y n ≡ true → nat_lt z n ≡ true
     → ((x ≡ y) ⊎ (x ≡ z) ⊎ (y ≡ z) → r ≡ Err energy.SameVariable)
-    → (x ≢ y → x ≢ z → y ≢ z → ¬ All (IsWithin VALUE_LIMIT) table → r ≡ Err energy.ValueRange)
-    → (x ≢ y → x ≢ z → y ≢ z → All (IsWithin VALUE_LIMIT) table → IsOkUnless r energy.OutOfMemory)
+    → (x ≢ y → x ≢ z → y ≢ z → ¬ All (IsWithin value_limit) table → r ≡ Err energy.ValueRange)
+    → (x ≢ y → x ≢ z → y ≢ z → All (IsWithin value_limit) table → IsOkUnless r energy.OutOfMemory)
     → IsDue i (checked n i (pos x ∷ pos y ∷ pos z ∷ []) table (Three x y z table)) (Three x y z table) r
 three_known n i x y z table r first second third same range accepted =
     elim (cases_Bool (int_eq (pos x) (pos y))) [
@@ -127,7 +127,7 @@ three_known n i x y z table r first second third same range accepted =
 pub three_is_due : {T : Type 0} (n i x y z : ℕ) (table : List ℤ) (r : Result T EnergyError)
     → ((n ≤ x) ⊎ (n ≤ y) ⊎ (n ≤ z) → r ≡ Err energy.NoSuchVariable)
     → (x < n → y < n → z < n → (x ≡ y) ⊎ (x ≡ z) ⊎ (y ≡ z) → r ≡ Err energy.SameVariable)
-    → (x < n → y < n → z < n → x ≢ y → x ≢ z → y ≢ z → ¬ All (IsWithin VALUE_LIMIT) table → r ≡ Err energy.ValueRange)
+    → (x < n → y < n → z < n → x ≢ y → x ≢ z → y ≢ z → ¬ All (IsWithin value_limit) table → r ≡ Err energy.ValueRange)
     → (IsTerm n (Three x y z table) → IsOkUnless r energy.OutOfMemory)
     → IsDue i (checked n i (pos x ∷ pos y ∷ pos z ∷ []) table (Three x y z table)) (Three x y z table) r
 three_is_due n i x y z table r variable same range accepted =

@@ -1,8 +1,9 @@
 -- What adding terms to an energy does.
-use Rattle.std.specs.Prelude.{◌≡◌, [], ◌∷◌, ◌++◌, List, Result, Ok, Err}
+use Rattle.std.specs.Prelude.{◌≡◌, ◌≢◌, [], ◌∷◌, ◌++◌, List, Result, Ok, Err}
 use Rattle.pseudo_bool.specs.declared.term.Term.{Term}
 use Rattle.pseudo_bool.specs.Formula.{Formula}
 use Rattle.problem_file.specs.declared.fault.ProblemFault.{ProblemFault}
+use Rattle.problem_file.specs.declared.fault.ProblemFault.TheVariants.{OutOfMemory}
 
 -- there is a term, and the energy has it at the end of its list
 abbrev pub Gains : Formula → Formula → Result Term ProblemFault → Type 0
@@ -13,3 +14,7 @@ Gains old new (Err fault) = ⊥
 abbrev pub GainsAll : Formula → Formula → Result (List Term) ProblemFault → Type 0
 GainsAll old new (Ok terms) = new ≡ record old { terms = old.terms ++ terms }
 GainsAll old new (Err fault) = ⊥
+
+-- the fault is the one that was found first, unless memory was refused
+abbrev pub IsFirstOf : {A : Type 0} → Result A ProblemFault → ProblemFault → Type 0
+IsFirstOf found fault = fault ≢ OutOfMemory → found ≡ Err fault

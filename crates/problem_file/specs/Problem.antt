@@ -3,7 +3,7 @@ use Rattle.std.specs.Prelude.{ℕ, ◌+◌, ℤ, pos, negsuc, unsigned_abs, Bool
 use Rattle.std.specs.List.{list_all, list_any}
 use Rattle.std.specs.Ordering.{int_eq}
 use Rattle.toml.specs.Data.{Data, Items, no_items, item, Members, get, get_member, as_array, as_integer}
-use Rattle.pseudo_bool.specs.declared.limits.TheConstants.{VARIABLE_LIMIT, TERM_LIMIT, VALUE_LIMIT}
+use Rattle.pseudo_bool.specs.Limits.{variable_limit, term_limit, value_limit}
 use Rattle.pseudo_bool.specs.declared.term.Term.{Term}
 use Rattle.pseudo_bool.specs.declared.term.Term.TheVariants.{One, Two, Three}
 use Rattle.pseudo_bool.specs.Formula.{Formula}
@@ -23,7 +23,7 @@ is_variable n (negsuc x) = false
 
 -- the integer is in the range of a table's numbers
 abbrev pub is_value : ℤ → Bool
-is_value z = nat_le (unsigned_abs z) VALUE_LIMIT
+is_value z = nat_le (unsigned_abs z) value_limit
 
 -- no integer stands twice
 abbrev pub is_distinct : List ℤ → Bool
@@ -32,7 +32,7 @@ is_distinct (z ∷ zs) = not (list_any (int_eq z) zs) && is_distinct zs
 
 -- how many variables an integer says there are
 abbrev pub variables_from : Option ℤ → Result ℕ ProblemFault
-variables_from (Some (pos n)) = if nat_le n VARIABLE_LIMIT then Ok n else Err (BadField Variables)
+variables_from (Some (pos n)) = if nat_le n variable_limit then Ok n else Err (BadField Variables)
 variables_from _ = Err (BadField Variables)
 
 abbrev pub variables_in : Members → Result ℕ ProblemFault
@@ -94,7 +94,7 @@ item_count (item d ds) = suc (item_count ds)
 
 abbrev pub terms_of : ℕ → Option Items → Result (List Term) ProblemFault
 terms_of n None = Err (BadField Terms)
-terms_of n (Some ds) = if nat_le (item_count ds) TERM_LIMIT then terms_from n 0 ds else Err TooManyTerms
+terms_of n (Some ds) = if nat_le (item_count ds) term_limit then terms_from n 0 ds else Err TooManyTerms
 
 abbrev pub terms_at : ℕ → Option Data → Result (List Term) ProblemFault
 terms_at n None = Ok []

@@ -1,10 +1,10 @@
 //! The energy that a text or a table names.
 ghost use Rattle.std.specs.Prelude.{◌≡◌, ◌≢◌, ◌≤◌, [], Ok, Err, IfOk, IfErr, OnOk, vec_len};
 ghost use Rattle.toml.specs.View.{array_view, table_view, view};
-ghost use Rattle.pseudo_bool.specs.declared.limits.TheConstants.{TERM_LIMIT, VALUE_LIMIT, VARIABLE_LIMIT};
+ghost use Rattle.pseudo_bool.specs.Limits.{term_limit, value_limit, variable_limit};
 ghost use Rattle.pseudo_bool.specs.Formula.{IsWithin};
 ghost use Rattle.problem_file.specs.declared.fault.ProblemFault.TheVariants.{OutOfMemory};
-ghost use Rattle.problem_file.specs.Added.{GainsAll};
+ghost use Rattle.problem_file.specs.Added.{GainsAll, IsFirstOf};
 ghost use Rattle.problem_file.specs.Problem.{names, terms_from, terms_in};
 ghost use Rattle.problem_file.specs.Stated.{States};
 ghost use Rattle.problem_file.specs.Text.{HasFault, NamesEnergy};
@@ -32,7 +32,7 @@ pub fn read_energy(alloc: Global, bytes: &[u8]) -> Result<Energy, ProblemFault>
 pub fn energy_of(alloc: Global, table: &Table) -> Result<Energy, ProblemFault>
     ensures ok { IfOk result (λ energy. names (table_view table.now) ≡ Ok energy) }
     ensures stated { IfOk result (States (table_view table.now)) }
-    ensures refused { IfErr result (λ fault. fault ≢ OutOfMemory → names (table_view table.now) ≡ Err fault) }
+    ensures refused { IfErr result (IsFirstOf (names (table_view table.now))) }
 {
     let variables = variables_of(table)?;
     let constant = constant_of(table)?;
@@ -43,8 +43,8 @@ pub fn energy_of(alloc: Global, table: &Table) -> Result<Energy, ProblemFault>
 
 /// The energy of so many variables that is the constant everywhere.
 fn without_terms(alloc: Global, variables: u32, constant: i64) -> Energy
-    requires variables { variables ≤ VARIABLE_LIMIT }
-    requires constant { IsWithin VALUE_LIMIT constant }
+    requires variables { variables ≤ variable_limit }
+    requires constant { IsWithin value_limit constant }
     ensures { result ≡ record { constant = constant; variables = variables; terms = [] } }
 {
     let mut energy = Energy::new(alloc);
@@ -57,10 +57,11 @@ fn without_terms(alloc: Global, variables: u32, constant: i64) -> Energy
 
 /// Adds the terms that a table names to an energy that has none.
 fn add_terms(energy: &mut Energy, table: &Table) -> Result<(), ProblemFault>
-    requires variables { energy.old.variables ≤ VARIABLE_LIMIT }
+    requires variables { energy.old.variables ≤ variable_limit }
     requires empty { energy.old.terms ≡ [] }
-    ensures ok { OnOk result (GainsAll energy.old energy.new (terms_in energy.old.variables (table_view table.now))) }
-    ensures refused { IfErr result (λ fault. fault ≢ OutOfMemory → terms_in energy.old.variables (table_view table.now) ≡ Err fault) }
+    ensures ok { OnOk result (GainsAll energy.old energy.new (terms_in energy.old.variables (table_view
+        table.now))) }
+    ensures refused { IfErr result (IsFirstOf (terms_in energy.old.variables (table_view table.now))) }
 {
     let Some(value) = member(table, Field::Terms.name()) else {
         return Ok(());
@@ -76,11 +77,12 @@ fn add_terms(energy: &mut Energy, table: &Table) -> Result<(), ProblemFault>
 
 /// Adds the terms that the items name to an energy that has none.
 fn add_items(energy: &mut Energy, items: &Vec<Value>) -> Result<(), ProblemFault>
-    requires variables { energy.old.variables ≤ VARIABLE_LIMIT }
+    requires variables { energy.old.variables ≤ variable_limit }
     requires empty { energy.old.terms ≡ [] }
-    requires room { vec_len items.now ≤ TERM_LIMIT }
-    ensures ok { OnOk result (GainsAll energy.old energy.new (terms_from energy.old.variables 0 (array_view items.now))) }
-    ensures refused { IfErr result (λ fault. fault ≢ OutOfMemory → terms_from energy.old.variables 0 (array_view items.now) ≡ Err fault) }
+    requires room { vec_len items.now ≤ term_limit }
+    ensures ok { OnOk result (GainsAll energy.old energy.new (terms_from energy.old.variables 0
+        (array_view items.now))) }
+    ensures refused { IfErr result (IsFirstOf (terms_from energy.old.variables 0 (array_view items.now))) }
 {
     for (place, item) in items.iter().enumerate() {
         add_term(energy, place, item)?;

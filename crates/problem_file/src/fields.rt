@@ -48,14 +48,16 @@ pub fn constant_of(table: &Table) -> Result<i64, ProblemFault>
 
 /// The integers of the array at a key, if it has at most N items, and nothing else.
 pub fn integers_at<const N: usize>(value: &Value, key: &str) -> Option<ArrayVec<i64, N>>
-    ensures { option_map (λ v. v.items) result ≡ option_and_then (within N) (integers_at key.now (view value.now)) }
+    ensures { option_map (λ v. v.items) result ≡ option_and_then (within N) (integers_at key.now (view
+        value.now)) }
 {
     integers_of(member(value.as_table()?, key)?.as_array()?)
 }
 
 /// The integers of an array, if it has at most N items, and nothing else.
 pub fn integers_of<const N: usize>(items: &Vec<Value>) -> Option<ArrayVec<i64, N>>
-    ensures { option_map (λ v. v.items) result ≡ option_and_then (within N) (integers_of (array_view items.now)) }
+    ensures { option_map (λ v. v.items) result ≡ option_and_then (within N) (integers_of (array_view
+        items.now)) }
 {
     if items.len() > N {
         return None;

@@ -10,8 +10,10 @@ use toml::Table;
 
 /// The table that the bytes of a TOML text are. It is `BadToml` where they are none, and else `OutOfMemory`.
 pub fn read_table(alloc: Global, bytes: &[u8]) -> Result<Table, ProblemFault>
-    ensures ok { IfOk result (λ table. IsUtf8 bytes.now × (parse_document bytes.now ≡ Some (table_view table))) }
-    ensures refused { IfErr result (λ fault. fault ≢ OutOfMemory → (fault ≡ BadToml) × (IsUtf8 bytes.now → parse_document bytes.now ≡ None)) }
+    ensures ok { IfOk result (λ table. IsUtf8 bytes.now × (parse_document bytes.now ≡ Some (table_view
+        table))) }
+    ensures refused { IfErr result (λ fault. fault ≢ OutOfMemory → (fault ≡ BadToml) × (IsUtf8 bytes.now
+        → parse_document bytes.now ≡ None)) }
 {
     match toml::table_from_slice(alloc, bytes) {
         Ok(table) => Ok(table),

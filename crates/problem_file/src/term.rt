@@ -1,10 +1,10 @@
 //! The terms of a table.
 ghost use Rattle.std.specs.Prelude.{◌≡◌, ◌≢◌, ◌<◌, ◌≤◌, ℕ, [], ◌∷◌, false, length, unsigned_abs, pos, IfOk, IfErr, OnOk};
 ghost use Rattle.toml.specs.View.{view};
-ghost use Rattle.pseudo_bool.specs.declared.limits.TheConstants.{TERM_LIMIT, VARIABLE_LIMIT};
+ghost use Rattle.pseudo_bool.specs.Limits.{term_limit, variable_limit};
 ghost use Rattle.pseudo_bool.specs.declared.term.Term.TheVariants.{One, Two, Three};
 ghost use Rattle.problem_file.specs.declared.fault.ProblemFault.TheVariants.{NoSuchVariable, OutOfMemory};
-ghost use Rattle.problem_file.specs.Added.{Gains};
+ghost use Rattle.problem_file.specs.Added.{Gains, IsFirstOf};
 ghost use Rattle.problem_file.specs.Problem.{checked, is_variable, term_at, term_from};
 ghost use Rattle.problem_file.specs.Refusal.{refusal_of};
 
@@ -15,10 +15,11 @@ use toml::Value;
 
 /// Adds the term that the item at a place of the list names.
 pub fn add_term(energy: &mut Energy, place: usize, item: &Value) -> Result<(), ProblemFault>
-    requires variables { energy.old.variables ≤ VARIABLE_LIMIT }
-    requires room { length energy.old.terms < TERM_LIMIT }
-    ensures ok { OnOk result (Gains energy.old energy.new (term_at energy.old.variables place (view item.now))) }
-    ensures refused { IfErr result (λ fault. fault ≢ OutOfMemory → term_at energy.old.variables place (view item.now) ≡ Err fault) }
+    requires variables { energy.old.variables ≤ variable_limit }
+    requires room { length energy.old.terms < term_limit }
+    ensures ok { OnOk result (Gains energy.old energy.new (term_at energy.old.variables place (view
+        item.now))) }
+    ensures refused { IfErr result (IsFirstOf (term_at energy.old.variables place (view item.now))) }
 {
     let shape = ProblemFault::BadElement(Field::Terms, place);
     let Some(on) = integers_at::<3>(item, "on") else {
@@ -37,10 +38,11 @@ fn add_listed(
     on: &[i64],
     values: &[i64],
 ) -> Result<(), ProblemFault>
-    requires variables { energy.old.variables ≤ VARIABLE_LIMIT }
-    requires room { length energy.old.terms < TERM_LIMIT }
-    ensures ok { OnOk result (Gains energy.old energy.new (term_from energy.old.variables place on.now values.now)) }
-    ensures refused { IfErr result (λ fault. fault ≢ OutOfMemory → term_from energy.old.variables place on.now values.now ≡ Err fault) }
+    requires variables { energy.old.variables ≤ variable_limit }
+    requires room { length energy.old.terms < term_limit }
+    ensures ok { OnOk result (Gains energy.old energy.new (term_from energy.old.variables place on.now
+        values.now)) }
+    ensures refused { IfErr result (IsFirstOf (term_from energy.old.variables place on.now values.now)) }
 {
     let shape = ProblemFault::BadElement(Field::Terms, place);
     match on {
@@ -62,10 +64,12 @@ fn add_listed(
 
 /// Adds a term of one variable, whose number may be any integer.
 fn add_one(energy: &mut Energy, place: usize, on: i64, table: [i64; 2]) -> Result<(), ProblemFault>
-    requires variables { energy.old.variables ≤ VARIABLE_LIMIT }
-    requires room { length energy.old.terms < TERM_LIMIT }
-    ensures ok { OnOk result (Gains energy.old energy.new (checked energy.old.variables place (on ∷ []) table (One (unsigned_abs on) table))) }
-    ensures refused { IfErr result (λ fault. fault ≢ OutOfMemory → checked energy.old.variables place (on ∷ []) table (One (unsigned_abs on) table) ≡ Err fault) }
+    requires variables { energy.old.variables ≤ variable_limit }
+    requires room { length energy.old.terms < term_limit }
+    ensures ok { OnOk result (Gains energy.old energy.new (checked energy.old.variables place (on ∷ [])
+        table (One (unsigned_abs on) table))) }
+    ensures refused { IfErr result (IsFirstOf (checked energy.old.variables place (on ∷ []) table (One
+        (unsigned_abs on) table))) }
 {
     let first = variable_of(place, on)?;
     match energy.add_term1(first, table) {
@@ -82,10 +86,12 @@ fn add_two(
     and: i64,
     table: [i64; 4],
 ) -> Result<(), ProblemFault>
-    requires variables { energy.old.variables ≤ VARIABLE_LIMIT }
-    requires room { length energy.old.terms < TERM_LIMIT }
-    ensures ok { OnOk result (Gains energy.old energy.new (checked energy.old.variables place (on ∷ and ∷ []) table (Two (unsigned_abs on) (unsigned_abs and) table))) }
-    ensures refused { IfErr result (λ fault. fault ≢ OutOfMemory → checked energy.old.variables place (on ∷ and ∷ []) table (Two (unsigned_abs on) (unsigned_abs and) table) ≡ Err fault) }
+    requires variables { energy.old.variables ≤ variable_limit }
+    requires room { length energy.old.terms < term_limit }
+    ensures ok { OnOk result (Gains energy.old energy.new (checked energy.old.variables place (on ∷ and ∷
+        []) table (Two (unsigned_abs on) (unsigned_abs and) table))) }
+    ensures refused { IfErr result (IsFirstOf (checked energy.old.variables place (on ∷ and ∷ []) table
+        (Two (unsigned_abs on) (unsigned_abs and) table))) }
 {
     let first = variable_of(place, on)?;
     let second = variable_of(place, and)?;
@@ -104,10 +110,12 @@ fn add_three(
     also: i64,
     table: [i64; 8],
 ) -> Result<(), ProblemFault>
-    requires variables { energy.old.variables ≤ VARIABLE_LIMIT }
-    requires room { length energy.old.terms < TERM_LIMIT }
-    ensures ok { OnOk result (Gains energy.old energy.new (checked energy.old.variables place (on ∷ and ∷ also ∷ []) table (Three (unsigned_abs on) (unsigned_abs and) (unsigned_abs also) table))) }
-    ensures refused { IfErr result (λ fault. fault ≢ OutOfMemory → checked energy.old.variables place (on ∷ and ∷ also ∷ []) table (Three (unsigned_abs on) (unsigned_abs and) (unsigned_abs also) table) ≡ Err fault) }
+    requires variables { energy.old.variables ≤ variable_limit }
+    requires room { length energy.old.terms < term_limit }
+    ensures ok { OnOk result (Gains energy.old energy.new (checked energy.old.variables place (on ∷ and ∷
+        also ∷ []) table (Three (unsigned_abs on) (unsigned_abs and) (unsigned_abs also) table))) }
+    ensures refused { IfErr result (IsFirstOf (checked energy.old.variables place (on ∷ and ∷ also ∷ [])
+        table (Three (unsigned_abs on) (unsigned_abs and) (unsigned_abs also) table))) }
 {
     let x = variable_of(place, on)?;
     let y = variable_of(place, and)?;
@@ -121,7 +129,8 @@ fn add_three(
 /// The number of a variable.
 fn variable_of(place: usize, number: i64) -> Result<u32, ProblemFault>
     ensures ok { IfOk result (λ variable. number ≡ pos variable) }
-    ensures refused { IfErr result (λ fault. (fault ≡ NoSuchVariable place) × ((n : ℕ) → n ≤ VARIABLE_LIMIT → is_variable n number ≡ false)) }
+    ensures refused { IfErr result (λ fault. (fault ≡ NoSuchVariable place) × ((n : ℕ) → n ≤
+        variable_limit → is_variable n number ≡ false)) }
 {
     match u32::try_from(number) {
         Ok(variable) => Ok(variable),
