@@ -1,0 +1,4 @@
+pub mod Nested
+pub mod Lanes
+pub mod Keeping
+pub mod Effects

@@ -1,0 +1,14 @@
+use Rattle.std.proofs.Common.{◌≡◌, ◌+◌, refl, sym, subst}
+use Rattle.parcel.specs.States as core
+use Rattle.parcel.specs.declared.event.Event.TheVariants.{PushSink}
+use Rattle.parcel.specs.Events.{Enabled, effect}
+use Rattle.block_core.specs.Views.{state_of}
+use Rattle.block_core.proofs.Keeping.{held_next}
+use Rattle.block_core.proofs.state.State.push_sink.Goals as goal
+
+pub invariant_of-self : goal.invariant_of-self
+invariant_of-self c =
+    let s : core.State = state_of c.self.inside.blocks c.self.inside.ways.messages c.self.inside.got in
+    let on : Enabled s (PushSink c.args.v) = subst (λ (t : core.State). Enabled t (PushSink c.args.v)) (sym c.self.view_is) (c.may_push_sink.ensures.0 c.if-not-may_push_sink.false) in
+    let is : state_of c.give.new.self c.self.inside.ways.messages (c.self.inside.got + c.min-amount.result) ≡ effect s (PushSink c.args.v) = rw (c.give.ensures, c.min-amount.ensures, c.excess-excess.ensures, c.room-room.ensures) refl in
+    held_next (PushSink c.args.v) _ c.self.invariant on is

@@ -1,0 +1,28 @@
+use Rattle.std.proofs.Common.{◌≡◌, sym, ◌∙◌, ap, subst}
+use Rattle.parcel.specs.States as core
+use Rattle.parcel.specs.declared.event.Event.TheVariants.{Send}
+use Rattle.parcel.specs.Events.{Enabled}
+use Rattle.block_core.specs.Views.{state_of}
+use Rattle.block_core.proofs.Keeping.{held_next}
+use Rattle.block_core.proofs.Effects.{send_room, sent_is}
+use Rattle.block_core.proofs.state.State.send.Goals as goal
+
+pub put-requires-clause-room : goal.put-requires-clause-room
+put-requires-clause-room c =
+    let x = c.args.direction in
+    let s : core.State = state_of c.self.inside.blocks c.self.inside.ways.messages c.self.inside.got in
+    let on : Enabled s (Send x) = subst (λ (t : core.State). Enabled t (Send x)) (sym c.self.view_is) (c.may_send.ensures.0 c.if-not-may_send.false) in
+    let from : c.home-from.result ≡ core.near_block s.net s.blocks x = c.home-from.ensures.value ∙ ap (core.block_of s.net s.blocks) c.near-near.ensures.value in
+    let to : c.home-to.result ≡ core.far_block s.net s.blocks x = c.home-to.ensures.value ∙ ap (core.block_of s.net s.blocks) c.far-far.ensures.value in
+    rw (from, to) (send_room x c.self.invariant on)
+
+pub invariant_of-self : goal.invariant_of-self
+invariant_of-self c =
+    let x = c.args.direction in
+    let s : core.State = state_of c.self.inside.blocks c.self.inside.ways.messages c.self.inside.got in
+    let on : Enabled s (Send x) = subst (λ (t : core.State). Enabled t (Send x)) (sym c.self.view_is) (c.may_send.ensures.0 c.if-not-may_send.false) in
+    let made = sent_is c.self.inside.blocks c.send.new.self c.self.inside.ways.messages c.put.new.self.messages c.self.inside.got x
+    c.near-near.result c.far-far.result c.label-label.result c.excess-excess.result c.min-amount.result c.home-from.result c.home-to.result c.lane-lane.result
+    c.near-near.ensures.value c.far-far.ensures.value c.label-label.ensures c.excess-excess.ensures c.lane-lane.ensures c.min-amount.ensures
+    c.home-from.ensures.value c.home-to.ensures.value c.send.ensures c.put.ensures.messages in
+    rw c.put.ensures.rooms (held_next (Send x) _ c.self.invariant on made)

@@ -1,0 +1,26 @@
+-- The ways between blocks, and for how many messages each has room.
+use Rattle.std.specs.Prelude.{ℕ, ◌≡◌, ◌<◌, ◌≤◌, List, [], slice_index, slice_index_or}
+use Rattle.flow_network.specs.Cut.{Network}
+use Rattle.parcel.specs.declared.message.Message.{Message}
+use Rattle.parcel.specs.States.{State}
+use Rattle.parcel.specs.Soundness.{IsSound, room_between}
+
+pub record MailView : Type 0 where
+  pub messages : List (List (List Message))
+  pub rooms : List (List ℕ)
+
+abbrev pub mail_view : List (List (List Message)) → List (List ℕ) → MailView
+mail_view messages rooms = record { messages = messages; rooms = rooms }
+
+abbrev pub room_at : List (List ℕ) → ℕ → ℕ → ℕ
+room_at rooms b c = slice_index (slice_index_or rooms b []) c
+
+-- each way between two blocks has room for a message of each direction between them
+abbrev pub HasRooms : Network → ℕ → List (List ℕ) → Type 0
+HasRooms net blocks rooms = (b c : ℕ) → b < blocks → c < blocks → (b ≡ c → ⊥) → room_between net blocks b c ≤ room_at rooms b c
+
+-- a sound state, and ways that have room
+pub record IsHeld (rooms : List (List ℕ)) (s : State) : Type 0 where
+  pub sound : IsSound s
+  pub few : s.blocks ≤ 256
+  pub room : HasRooms s.net s.blocks rooms

@@ -1,0 +1,104 @@
+-- What the blocks of a net hold of nodes and directions, and the state that they make with the ways.
+use Rattle.std.specs.Prelude.{ℕ, ◌+◌, ◌-◌, ◌≡◌, ◌≤◌, List, length, map, slice_index, slice_set, Some, None}
+use Rattle.flow_network.specs.Cut.{Network, nodes}
+use Rattle.parcel.specs.declared.direction.Direction.{Direction}
+use Rattle.parcel.specs.declared.message.Message.{Message}
+use Rattle.parcel.specs.Directions.{near, far, opposite}
+use Rattle.parcel.specs.States as core
+use Rattle.parcel.specs.Events.{learned}
+use Rattle.block_core.specs.declared.lane.Lane.{Lane}
+
+pub record BlocksView : Type 0 where
+  pub net : Network
+  pub blocks : ℕ
+  pub excess : List ℕ
+  pub labels : List ℕ
+  pub rooms : List ℕ
+  pub lanes : core.Lanes
+
+abbrev pub shown_lane : Lane → core.Lane
+shown_lane lane = record { residual = lane.residual; known = lane.known; flight = lane.flight }
+
+abbrev pub blocks_of : Network → ℕ → List ℕ → List ℕ → List ℕ → List Lane → List Lane → BlocksView
+blocks_of net blocks excess labels rooms forth back = record {
+  net = net;
+  blocks = blocks;
+  excess = excess;
+  labels = labels;
+  rooms = rooms;
+  lanes = record { forth = map shown_lane forth; back = map shown_lane back };
+}
+
+-- the lists are as long as the net says
+pub record IsLong (b : BlocksView) : Type 0 where
+  pub some : 1 ≤ b.blocks
+  pub few : b.blocks ≤ 256
+  pub excess : length b.excess ≡ nodes b.net
+  pub labels : length b.labels ≡ nodes b.net
+  pub rooms : length b.rooms ≡ nodes b.net
+  pub forth : length b.lanes.forth ≡ length b.net.arcs
+  pub back : length b.lanes.back ≡ length b.net.arcs
+
+-- with the messages on the way and what the sink got
+abbrev pub state_of : BlocksView → List (List (List Message)) → ℕ → core.State
+state_of b ways got = record {
+  net = b.net;
+  blocks = b.blocks;
+  excess = b.excess;
+  labels = b.labels;
+  rooms = b.rooms;
+  lanes = b.lanes;
+  ways = ways;
+  got = got;
+}
+
+-- ---- what each event does to the blocks
+
+-- an amount goes to the sink
+abbrev pub gave : BlocksView → ℕ → ℕ → BlocksView
+gave b v a = record b {
+  excess = slice_set b.excess v (slice_index b.excess v - a);
+  rooms = slice_set b.rooms v (slice_index b.rooms v - a);
+}
+
+-- a label rises
+abbrev pub labelled : BlocksView → ℕ → ℕ → BlocksView
+labelled b v d = record b { labels = slice_set b.labels v d }
+
+-- an amount goes along a direction to the far end
+abbrev pub pushed : BlocksView → Direction → ℕ → BlocksView
+pushed b x a =
+    let less = slice_set b.excess (near b.net x) (slice_index b.excess (near b.net x) - a) in
+    let taken = core.put_lane b.lanes x (record (core.lane_at b.lanes x) { residual = (core.lane_at b.lanes x).residual - a }) in
+    record b {
+      excess = slice_set less (far b.net x) (slice_index less (far b.net x) + a);
+      lanes = core.put_lane taken (opposite x) (record (core.lane_at taken (opposite x)) { residual = (core.lane_at taken (opposite x)).residual + a });
+    }
+
+-- an amount leaves along a direction
+abbrev pub sent : BlocksView → Direction → ℕ → BlocksView
+sent b x a = record b {
+  excess = slice_set b.excess (near b.net x) (slice_index b.excess (near b.net x) - a);
+  lanes = core.put_lane b.lanes x (record (core.lane_at b.lanes x) {
+    residual = (core.lane_at b.lanes x).residual - a;
+    flight = Some (record { amount = a; label = slice_index b.labels (near b.net x) });
+  });
+}
+
+-- an amount comes along a direction: its opposite learns the label
+abbrev pub accepted : BlocksView → Direction → ℕ → ℕ → BlocksView
+accepted b x a d = record b {
+  excess = slice_set b.excess (far b.net x) (slice_index b.excess (far b.net x) + a);
+  lanes = core.put_lane b.lanes (opposite x) (learned (core.lane_at b.lanes (opposite x)) a d);
+}
+
+-- the parcel that was out was taken
+abbrev pub settled : BlocksView → Direction → BlocksView
+settled b x = record b { lanes = core.put_lane b.lanes x (record (core.lane_at b.lanes x) { flight = None }) }
+
+-- the parcel that was out comes back
+abbrev pub returned : BlocksView → Direction → ℕ → ℕ → BlocksView
+returned b x a told = record b {
+  excess = slice_set b.excess (near b.net x) (slice_index b.excess (near b.net x) + a);
+  lanes = core.put_lane b.lanes x (record { residual = (core.lane_at b.lanes x).residual + a; known = told; flight = None });
+}

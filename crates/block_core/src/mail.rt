@@ -1,0 +1,84 @@
+ghost use Rattle.std.specs.Prelude.{◌≡◌, ◌↔◌, ◌<◌, ◌≤◌, ℕ, IsTrue, MatchOption, length, slice_index, slice_index_or, [], ◌∷◌, drop};
+ghost use Rattle.parcel.specs.States.{way_at, put_way, put_message};
+ghost use Rattle.parcel.specs.Soundness.{IsSquare};
+ghost use Rattle.block_core.specs.Mails.{MailView, room_at};
+
+use parcel::Message;
+use std::collections::VecDeque;
+use std::marker::Model;
+
+/// The messages on the way from each block to each other, in room that was made once.
+#[derive(Drop)]
+pub struct Mail {
+    rows: Vec<Vec<VecDeque<Message>>>,
+}
+
+impl Model for Mail {
+    ghost use Rattle.std.specs.Prelude.{map};
+    ghost use Rattle.std.specs.VecDeque.{deque_capacity};
+    ghost use Rattle.block_core.specs.Mails.{MailView, mail_view};
+
+    ghost Value = { MailView };
+
+    ghost view = { λ m. mail_view (map (λ row. map (λ way. way.items) row.items) m.rows.items) (map (λ row. map (λ way. deque_capacity way) row.items) m.rows.items) };
+}
+
+impl Mail {
+    /// The message that is next to be taken from a way.
+    pub fn front(&self, from: usize, to: usize) -> Option<Message>
+        requires from { from < length self.now.messages }
+        requires to { to < length (slice_index_or self.now.messages from []) }
+        ensures { MatchOption result (way_at self.now.messages from to ≡ [])
+            (λ message. way_at self.now.messages from to ≡ message ∷ drop 1 (way_at self.now.messages from to)) }
+    {
+        self.rows[from][to].front().copied()
+    }
+
+    /// The message in front leaves its way, if there is one.
+    pub fn take(&mut self, from: usize, to: usize)
+        requires from { from < length self.old.messages }
+        requires to { to < length (slice_index_or self.old.messages from []) }
+        ensures messages { self.new.messages ≡ put_way self.old.messages from to (drop 1 (way_at self.old.messages from to)) }
+        ensures rooms { self.new.rooms ≡ self.old.rooms }
+    {
+        self.rows[from][to].pop_front();
+    }
+
+    /// A message goes to the end of a way that has room.
+    pub fn put(&mut self, from: usize, to: usize, message: Message)
+        requires from { from < length self.old.messages }
+        requires to { to < length (slice_index_or self.old.messages from []) }
+        requires room { length (way_at self.old.messages from to) < room_at self.old.rooms from to }
+        ensures messages { self.new.messages ≡ put_message self.old.messages from to message }
+        ensures rooms { self.new.rooms ≡ self.old.rooms }
+    {
+        self.rows[from][to].push_back_reserved(message);
+    }
+
+    /// Whether no message is on the way from a block to the first so many.
+    fn is_row_quiet(&self, from: usize, count: usize) -> bool
+        requires from { from < length self.now.messages }
+        requires to { count ≤ length (slice_index_or self.now.messages from []) }
+        ensures { IsTrue result ↔ ((c : ℕ) → c < count → way_at self.now.messages from c ≡ []) }
+    {
+        for to in 0..count {
+            if self.front(from, to).is_some() {
+                return false;
+            }
+        }
+        true
+    }
+
+    /// Whether no message is on the way between so many blocks.
+    pub fn is_quiet(&self, count: usize) -> bool
+        requires { IsSquare count self.now.messages }
+        ensures { IsTrue result ↔ ((b c : ℕ) → b < count → c < count → way_at self.now.messages b c ≡ []) }
+    {
+        for from in 0..count {
+            if !self.is_row_quiet(from, count) {
+                return false;
+            }
+        }
+        true
+    }
+}

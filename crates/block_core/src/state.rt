@@ -1,0 +1,197 @@
+ghost use Rattle.std.specs.Prelude.{◌≡◌, ◌↔◌, ◌<◌, ◌≤◌, ◌+◌, ℕ, IsTrue, MatchBool};
+ghost use Rattle.flow_network.specs.Cut.{nodes, IsNet};
+ghost use Rattle.parcel.specs.Directions.{IsDirection};
+ghost use Rattle.parcel.specs.States.{excess_of, label_of, room_of};
+ghost use Rattle.parcel.specs.Events.{IsActive, IsQuiet, Enabled, effect, allowed, highest_label};
+
+use crate::blocks::Blocks;
+use crate::mail::Mail;
+use parcel::{Direction, Message};
+use std::marker::Model;
+
+/// A net in blocks with the messages between them: a sound state of the core.
+#[derive(Drop)]
+pub struct State {
+    blocks: Blocks,
+    ways: Mail,
+    got: u64,
+}
+
+impl Model for State {
+    ghost use Rattle.parcel.specs.States as core;
+    ghost use Rattle.block_core.specs.Views.{state_of};
+    ghost use Rattle.block_core.specs.Mails.{IsHeld};
+
+    ghost Value = { core.State };
+
+    ghost view = { λ s. state_of s.blocks s.ways.messages s.got };
+
+    ghost invariant = { λ s. IsHeld s.ways.rooms (state_of s.blocks s.ways.messages s.got) };
+}
+
+impl State {
+    ghost use Rattle.parcel.specs.declared.event.Event.TheVariants.{PushInner, PushSink, Relabel, Send, Accept, Refuse, Settle, RaiseAll};
+
+    /// Whether a node has excess and is not cut off.
+    fn is_active(&self, v: usize) -> bool
+        ensures { IsTrue result ↔ IsActive self.now v }
+    {
+        v < self.blocks.nodes()
+            && self.blocks.excess(v) > 0
+            && (self.blocks.label(v) as usize) < self.blocks.nodes() + 2
+    }
+
+    /// Whether excess of a node can go to the sink.
+    fn may_push_sink(&self, v: usize) -> bool
+        ensures { IsTrue result ↔ Enabled self.now (PushSink v) }
+    {
+        self.is_active(v) && self.blocks.room(v) > 0 && self.blocks.label(v) == 1
+    }
+
+    /// Excess of a node goes to the sink; no where that is not enabled, and nothing changes.
+    pub fn push_sink(&mut self, v: usize) -> bool
+        ensures { MatchBool result
+            (Enabled self.old (PushSink v) × (self.new ≡ effect self.old (PushSink v)))
+            ((¬ Enabled self.old (PushSink v)) × (self.new ≡ self.old)) }
+    {
+        if !self.may_push_sink(v) {
+            return false;
+        }
+        let excess = self.blocks.excess(v);
+        let room = self.blocks.room(v);
+        let amount = u64::min(excess, room);
+        self.blocks.give(v, amount);
+        self.got += amount;
+        true
+    }
+
+    /// Whether excess can go along a direction within a block.
+    fn may_push_inner(&self, direction: Direction) -> bool
+        ensures { IsTrue result ↔ Enabled self.now (PushInner direction) }
+    {
+        if self.blocks.arcs() <= direction.arc || self.blocks.is_border(direction) {
+            return false;
+        }
+        let near = self.blocks.near(direction);
+        let far = self.blocks.far(direction);
+        self.is_active(near)
+            && self.blocks.lane(direction).residual > 0
+            && self.blocks.label(near) as u64 == self.blocks.label(far) as u64 + 1
+    }
+
+    /// Whether excess can leave along a direction to another block.
+    fn may_send(&self, direction: Direction) -> bool
+        ensures { IsTrue result ↔ Enabled self.now (Send direction) }
+    {
+        if self.blocks.arcs() <= direction.arc || !self.blocks.is_border(direction) {
+            return false;
+        }
+        let near = self.blocks.near(direction);
+        let lane = self.blocks.lane(direction);
+        self.is_active(near)
+            && lane.residual > 0
+            && self.blocks.label(near) as u64 == lane.known as u64 + 1
+            && lane.flight.is_none()
+    }
+
+    /// Excess goes along a direction within a block; no where that is not enabled, and nothing changes.
+    pub fn push_inner(&mut self, direction: Direction) -> bool
+        ensures { MatchBool result
+            (Enabled self.old (PushInner direction) × (self.new ≡ effect self.old (PushInner direction)))
+            ((¬ Enabled self.old (PushInner direction)) × (self.new ≡ self.old)) }
+    {
+        if !self.may_push_inner(direction) {
+            return false;
+        }
+        let near = self.blocks.near(direction);
+        let excess = self.blocks.excess(near);
+        let lane = self.blocks.lane(direction);
+        let amount = u64::min(excess, lane.residual);
+        self.blocks.push(direction, amount);
+        true
+    }
+
+    /// Excess leaves along a direction to another block; no where that is not enabled, and nothing changes.
+    pub fn send(&mut self, direction: Direction) -> bool
+        ensures { MatchBool result
+            (Enabled self.old (Send direction) × (self.new ≡ effect self.old (Send direction)))
+            ((¬ Enabled self.old (Send direction)) × (self.new ≡ self.old)) }
+    {
+        if !self.may_send(direction) {
+            return false;
+        }
+        let near = self.blocks.near(direction);
+        let label = self.blocks.label(near);
+        let excess = self.blocks.excess(near);
+        let lane = self.blocks.lane(direction);
+        let amount = u64::min(excess, lane.residual);
+        let from = self.blocks.home(near);
+        let far = self.blocks.far(direction);
+        let to = self.blocks.home(far);
+        self.blocks.send(direction, amount);
+        self.ways.put(
+            from,
+            to,
+            Message::Parcel {
+                direction,
+                amount,
+                label,
+            },
+        );
+        true
+    }
+
+    /// The label that a direction allows a node to have.
+    fn allowed(&self, v: usize, direction: Direction) -> u64
+        requires { IsDirection self.now.net direction }
+        ensures { result ≡ allowed self.now v direction }
+    {
+        let lane = self.blocks.lane(direction);
+        let border = self.blocks.is_border(direction);
+        let open = lane.residual > 0 || (border && lane.flight.is_some());
+        if self.blocks.near(direction) != v || !open {
+            return self.blocks.nodes() as u64 + 2;
+        }
+        let seen = if border {
+            lane.known
+        } else {
+            self.blocks.label(self.blocks.far(direction))
+        };
+        seen as u64 + 1
+    }
+
+    /// The highest label that a node may have.
+    fn highest_label(&self, v: usize) -> u64
+        requires { v < nodes self.now.net }
+        ensures { result ≡ highest_label self.now v }
+    {
+        let mut least = if self.blocks.room(v) > 0 {
+            1
+        } else {
+            self.blocks.nodes() as u64 + 2
+        };
+        'arcs: for arc in 0..self.blocks.arcs() {
+            let forward = self.allowed(v, Direction { arc, back: false });
+            let backward = self.allowed(v, Direction { arc, back: true });
+            least = u64::min(least, u64::min(forward, backward));
+        }
+        least
+    }
+
+    /// A node gets the highest label that it may have; no where that is not enabled, and nothing changes.
+    pub fn relabel(&mut self, v: usize) -> bool
+        ensures { MatchBool result
+            (Enabled self.old (Relabel v) × (self.new ≡ effect self.old (Relabel v)))
+            ((¬ Enabled self.old (Relabel v)) × (self.new ≡ self.old)) }
+    {
+        if !self.is_active(v) {
+            return false;
+        }
+        let highest = self.highest_label(v);
+        if highest <= self.blocks.label(v) as u64 {
+            return false;
+        }
+        self.blocks.relabel(v, highest as u32);
+        true
+    }
+}
