@@ -2,3 +2,4 @@ pub mod Nested
 pub mod Lanes
 pub mod Keeping
 pub mod Effects
+pub mod Fronts

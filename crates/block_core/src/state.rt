@@ -1,7 +1,8 @@
-ghost use Rattle.std.specs.Prelude.{◌≡◌, ◌↔◌, ◌<◌, ◌≤◌, ◌+◌, ℕ, IsTrue, MatchBool};
+ghost use Rattle.std.specs.Prelude.{IfSome, IfNone, [], ◌∷◌, drop, ◌≡◌, ◌↔◌, ◌<◌, ◌≤◌, ◌+◌, ℕ, IsTrue, MatchBool};
 ghost use Rattle.flow_network.specs.Cut.{nodes, IsNet};
-ghost use Rattle.parcel.specs.Directions.{IsDirection};
-ghost use Rattle.parcel.specs.States.{excess_of, label_of, room_of};
+ghost use Rattle.parcel.specs.declared.message.Message.TheVariants.{Parcel, Accepted, Refused};
+ghost use Rattle.parcel.specs.Directions.{IsDirection, far};
+ghost use Rattle.parcel.specs.States.{IsWay, way_at, excess_of, label_of, room_of};
 ghost use Rattle.parcel.specs.Events.{IsActive, IsQuiet, Enabled, effect, allowed, highest_label};
 
 use crate::blocks::Blocks;
@@ -193,5 +194,82 @@ impl State {
         }
         self.blocks.relabel(v, highest as u32);
         true
+    }
+
+    /// The message in front of a way; none where there is no such way, or no message on it.
+    fn front(&self, from: usize, to: usize) -> Option<Message>
+        ensures some { IfSome result (λ m. IsWay self.now from to × (way_at self.now.ways from to ≡ m ∷ drop 1 (way_at self.now.ways from to))) }
+        ensures none { IfNone result (IsWay self.now from to → way_at self.now.ways from to ≡ []) }
+    {
+        if self.blocks.count() <= from || self.blocks.count() <= to {
+            return None;
+        }
+        self.ways.front(from, to)
+    }
+
+    /// The parcel in front of a way is taken.
+    fn take_parcel(&mut self, from: usize, to: usize, direction: Direction, amount: u64, label: u32)
+        requires way { IsWay self.old from to }
+        requires front { way_at self.old.ways from to ≡ Parcel direction amount label ∷ drop 1 (way_at self.old.ways from to) }
+        requires label { label_of self.old (far self.old.net direction) + 1 ≡ label }
+        ensures { self.new ≡ effect self.old (Accept from to) }
+    {
+        self.blocks.accept(direction, amount, label);
+        self.ways.take(from, to);
+        self.ways
+            .put(to, from, Message::Accepted { direction, amount });
+    }
+
+    /// The parcel in front of a way is sent back.
+    fn return_parcel(
+        &mut self,
+        from: usize,
+        to: usize,
+        direction: Direction,
+        amount: u64,
+        label: u32,
+    )
+        requires way { IsWay self.old from to }
+        requires front { way_at self.old.ways from to ≡ Parcel direction amount label ∷ drop 1 (way_at self.old.ways from to) }
+        requires label { label ≤ label_of self.old (far self.old.net direction) }
+        ensures { self.new ≡ effect self.old (Refuse from to) }
+    {
+        let told = self.blocks.label(self.blocks.far(direction));
+        self.ways.take(from, to);
+        let refused = Message::Refused {
+            direction,
+            amount,
+            label,
+            told,
+        };
+        self.ways.put(to, from, refused);
+    }
+
+    /// The answer in front of a way says that a parcel was taken.
+    fn end_flight(&mut self, from: usize, to: usize, direction: Direction, amount: u64)
+        requires way { IsWay self.old from to }
+        requires front { way_at self.old.ways from to ≡ Accepted direction amount ∷ drop 1 (way_at self.old.ways from to) }
+        ensures { self.new ≡ effect self.old (Settle from to) }
+    {
+        self.blocks.settle(direction);
+        self.ways.take(from, to);
+    }
+
+    /// The answer in front of a way says that a parcel was not taken.
+    fn take_back(
+        &mut self,
+        from: usize,
+        to: usize,
+        direction: Direction,
+        amount: u64,
+        label: u32,
+        told: u32,
+    )
+        requires way { IsWay self.old from to }
+        requires front { way_at self.old.ways from to ≡ Refused direction amount label told ∷ drop 1 (way_at self.old.ways from to) }
+        ensures { self.new ≡ effect self.old (Settle from to) }
+    {
+        self.blocks.take_back(direction, amount, told);
+        self.ways.take(from, to);
     }
 }

@@ -1,0 +1,104 @@
+-- What the code knows of the message in front of a way, and what it leaves.
+use Rattle.std.proofs.Common.{◌≡◌, ℕ, ◌+◌, ◌<◌, ◌≤◌, ◌^◌, List, ◌∷◌, length, slice_index, sym, ◌∙◌, ap, subst, arith}
+use Rattle.std.proofs.lemmas.List.Sums.{get_or-le-sum_by}
+use Rattle.flow_network.specs.Cut.{Network, IsNet}
+use Rattle.flow_network.specs.Preflow.{arc_at}
+use Rattle.flow_network.specs.declared.arc.Arc.{Arc}
+use Rattle.parcel.specs.declared.direction.Direction.{Direction}
+use Rattle.parcel.specs.declared.message.Message.{Message}
+use Rattle.parcel.specs.declared.message.Message.TheVariants.{Parcel, Accepted, Refused}
+use Rattle.parcel.specs.declared.event.Event.TheVariants.{Accept, Refuse, Settle}
+use Rattle.parcel.specs.Directions.{IsDirection, far, opposite}
+use Rattle.parcel.specs.States as core
+use Rattle.parcel.specs.Events as events
+use Rattle.parcel.specs.Soundness.{IsOut}
+use Rattle.parcel.proofs.Owning.{accept_fits}
+use Rattle.parcel.proofs.Replies.{front_out}
+use Rattle.parcel.proofs.Ways.{square_put}
+use Rattle.block_core.specs.Views.{BlocksView, state_of, accepted, settled, returned}
+use Rattle.block_core.specs.Mails.{IsHeld, room_at}
+use Rattle.block_core.proofs.Effects.{room_after, border_apart}
+
+pub capacity_small : (net : Network) (k : ℕ) → IsNet net → k < length net.arcs → (arc_at net k).capacity < 2 ^ 62
+capacity_small net k is l =
+    let part = get_or-le-sum_by (λ (a : Arc). a.capacity) net.arcs k (record { from = 0; to = 0; capacity = 0 }) l in
+    omega (arith, part, is.total)
+
+-- the parcel in front of a way is out
+pub parcel_out : {rooms : List (List ℕ)} {s : core.State} (b c : ℕ) (x : Direction) (a d : ℕ) (rest : List Message) → IsHeld rooms s
+    → core.way_at s.ways b c ≡ Parcel x a d ∷ rest → IsOut s.net s.blocks s.lanes x a d b c
+parcel_out {rooms} {s} b c x a d rest held front = front_out s b c (Parcel x a d) rest held.sound front
+
+pub accepted_direction : {rooms : List (List ℕ)} {s : core.State} (b c : ℕ) (x : Direction) (a : ℕ) (rest : List Message) → IsHeld rooms s
+    → core.way_at s.ways b c ≡ Accepted x a ∷ rest → IsDirection s.net x
+accepted_direction {rooms} {s} b c x a rest held front = (front_out s b c (Accepted x a) rest held.sound front).1.direction
+
+pub refused_direction : {rooms : List (List ℕ)} {s : core.State} (b c : ℕ) (x : Direction) (a d told : ℕ) (rest : List Message) → IsHeld rooms s
+    → core.way_at s.ways b c ≡ Refused x a d told ∷ rest → IsDirection s.net x
+refused_direction {rooms} {s} b c x a d told rest held front = (front_out s b c (Refused x a d told) rest held.sound front).0.direction
+
+-- the two blocks of a way with a parcel differ
+pub out_apart : (s : core.State) (x : Direction) (a d b c : ℕ) → IsOut s.net s.blocks s.lanes x a d b c → c ≡ b → ⊥
+out_apart s x a d b c out same = border_apart s x out.border (out.near ∙ (sym same ∙ sym out.far))
+
+-- ---- the parcel in front is taken
+
+pub may_accept : (s : core.State) (b c : ℕ) (x : Direction) (a d : ℕ) (rest : List Message) → core.IsWay s b c → core.way_at s.ways b c ≡ Parcel x a d ∷ rest
+    → core.label_of s (far s.net x) + 1 ≡ d → events.Enabled s (Accept b c)
+may_accept s b c x a d rest way front level = (way, subst (events.MayAccept s) (sym front) level)
+
+pub accept_room : {rooms : List (List ℕ)} {s : core.State} (b c : ℕ) (x : Direction) (a d : ℕ) (rest : List Message) → IsHeld rooms s → core.IsWay s b c
+    → core.way_at s.ways b c ≡ Parcel x a d ∷ rest → core.label_of s (far s.net x) + 1 ≡ d
+    → length (core.way_at (core.put_way s.ways b c rest) c b) < room_at rooms c b
+accept_room {rooms} {s} b c x a d rest held way front level =
+    let is = ap (λ (w : List Message). (events.accepted s b c w).ways) front in
+    room_after (Accept b c) (core.put_way s.ways b c rest) c b (Accepted x a) held (may_accept s b c x a d rest way front level) is
+    (square_put s.blocks s.ways b c rest held.sound.sized.ways) way.1 way.0 (out_apart s x a d b c (parcel_out b c x a d rest held front))
+
+pub accept_small : {rooms : List (List ℕ)} {s : core.State} (b c : ℕ) (x : Direction) (a d : ℕ) (rest : List Message) → IsHeld rooms s
+    → core.way_at s.ways b c ≡ Parcel x a d ∷ rest → core.label_of s (far s.net x) + 1 ≡ d → core.residual_of s (opposite x) + a < 2 ^ 62
+accept_small {rooms} {s} b c x a d rest held front level =
+    let out = parcel_out b c x a d rest held front in
+    omega (arith, (accept_fits s b c x a d rest held.sound front level).1, capacity_small s.net x.arc held.sound.sized.net out.direction)
+
+pub accept_is : (v v' : BlocksView) (ways ways1 ways2 : List (List (List Message))) (got b c : ℕ) (x : Direction) (a d : ℕ) (rest : List Message)
+    → core.way_at ways b c ≡ Parcel x a d ∷ rest → v' ≡ accepted v x a d → ways1 ≡ core.put_way ways b c rest → ways2 ≡ core.put_message ways1 c b (Accepted x a)
+    → state_of v' ways2 got ≡ events.effect (state_of v ways got) (Accept b c)
+accept_is v v' ways ways1 ways2 got b c x a d rest front made took put =
+    rw (made, put, took) (sym (ap (events.accepted (state_of v ways got) b c) front))
+
+-- ---- the parcel in front is sent back
+
+pub may_refuse : (s : core.State) (b c : ℕ) (x : Direction) (a d : ℕ) (rest : List Message) → core.IsWay s b c → core.way_at s.ways b c ≡ Parcel x a d ∷ rest
+    → d ≤ core.label_of s (far s.net x) → events.Enabled s (Refuse b c)
+may_refuse s b c x a d rest way front above = (way, subst (events.MayRefuse s) (sym front) above)
+
+pub refuse_room : {rooms : List (List ℕ)} {s : core.State} (b c : ℕ) (x : Direction) (a d : ℕ) (rest : List Message) → IsHeld rooms s → core.IsWay s b c
+    → core.way_at s.ways b c ≡ Parcel x a d ∷ rest → d ≤ core.label_of s (far s.net x)
+    → length (core.way_at (core.put_way s.ways b c rest) c b) < room_at rooms c b
+refuse_room {rooms} {s} b c x a d rest held way front above =
+    let is = ap (λ (w : List Message). (events.refused s b c w).ways) front in
+    room_after (Refuse b c) (core.put_way s.ways b c rest) c b (Refused x a d (core.label_of s (far s.net x))) held (may_refuse s b c x a d rest way front above) is
+    (square_put s.blocks s.ways b c rest held.sound.sized.ways) way.1 way.0 (out_apart s x a d b c (parcel_out b c x a d rest held front))
+
+pub refuse_is : (v : BlocksView) (ways ways1 ways2 : List (List (List Message))) (got b c : ℕ) (x : Direction) (a d w told : ℕ) (rest : List Message)
+    → core.way_at ways b c ≡ Parcel x a d ∷ rest → w ≡ far v.net x → told ≡ slice_index v.labels w → ways1 ≡ core.put_way ways b c rest
+    → ways2 ≡ core.put_message ways1 c b (Refused x a d told) → state_of v ways2 got ≡ events.effect (state_of v ways got) (Refuse b c)
+refuse_is v ways ways1 ways2 got b c x a d w told rest front at_w label took put =
+    rw (put, took, label, at_w) (sym (ap (events.refused (state_of v ways got) b c) front))
+
+-- ---- the answer in front ends its flight
+
+pub may_settle : (s : core.State) (b c : ℕ) (m : Message) (rest : List Message) → core.IsWay s b c → core.way_at s.ways b c ≡ m ∷ rest
+    → events.MaySettle (m ∷ rest) → events.Enabled s (Settle b c)
+may_settle s b c m rest way front may = (way, subst events.MaySettle (sym front) may)
+
+pub settle_is : (v v' : BlocksView) (ways ways1 : List (List (List Message))) (got b c : ℕ) (x : Direction) (a : ℕ) (rest : List Message)
+    → core.way_at ways b c ≡ Accepted x a ∷ rest → v' ≡ settled v x → ways1 ≡ core.put_way ways b c rest
+    → state_of v' ways1 got ≡ events.effect (state_of v ways got) (Settle b c)
+settle_is v v' ways ways1 got b c x a rest front made took = rw (made, took) (sym (ap (events.settled (state_of v ways got) b c) front))
+
+pub return_is : (v v' : BlocksView) (ways ways1 : List (List (List Message))) (got b c : ℕ) (x : Direction) (a d told : ℕ) (rest : List Message)
+    → core.way_at ways b c ≡ Refused x a d told ∷ rest → v' ≡ returned v x a told → ways1 ≡ core.put_way ways b c rest
+    → state_of v' ways1 got ≡ events.effect (state_of v ways got) (Settle b c)
+return_is v v' ways ways1 got b c x a d told rest front made took = rw (made, took) (sym (ap (events.settled (state_of v ways got) b c) front))

@@ -1,0 +1,28 @@
+use Rattle.std.proofs.Common.{◌≡◌, ◌∷◌, drop, sym, subst}
+use Rattle.parcel.specs.declared.message.Message.TheVariants.{Refused}
+use Rattle.parcel.specs.declared.event.Event.TheVariants.{Settle}
+use Rattle.parcel.specs.States as core
+use Rattle.block_core.specs.Views.{state_of}
+use Rattle.block_core.proofs.Keeping.{held_next}
+use Rattle.block_core.proofs.Fronts.{refused_direction, may_settle, return_is}
+use Rattle.block_core.proofs.state.State.take_back.Goals as goal
+
+pub take_back-requires-clause-direction : goal.take_back-requires-clause-direction
+take_back-requires-clause-direction c =
+    let b = c.args.from in
+    let e = c.args.to in
+    let x = c.args.direction in
+    let s : core.State = state_of c.self.inside.blocks c.self.inside.ways.messages c.self.inside.got in
+    let front : core.way_at s.ways b e ≡ Refused x c.args.amount c.args.label c.args.told ∷ drop 1 (core.way_at s.ways b e) = subst (λ (t : core.State). core.way_at t.ways b e ≡ Refused x c.args.amount c.args.label c.args.told ∷ drop 1 (core.way_at t.ways b e)) (sym c.self.view_is) c.requires.front in
+    refused_direction b e x c.args.amount c.args.label c.args.told _ c.self.invariant front
+
+pub invariant_of-self : goal.invariant_of-self
+invariant_of-self c =
+    let b = c.args.from in
+    let e = c.args.to in
+    let x = c.args.direction in
+    let s : core.State = state_of c.self.inside.blocks c.self.inside.ways.messages c.self.inside.got in
+    let front : core.way_at s.ways b e ≡ Refused x c.args.amount c.args.label c.args.told ∷ drop 1 (core.way_at s.ways b e) = subst (λ (t : core.State). core.way_at t.ways b e ≡ Refused x c.args.amount c.args.label c.args.told ∷ drop 1 (core.way_at t.ways b e)) (sym c.self.view_is) c.requires.front in
+    let way = subst (λ (t : core.State). core.IsWay t b e) (sym c.self.view_is) c.requires.way in
+    rw c.take.ensures.rooms (held_next (Settle b e) _ c.self.invariant (may_settle s b e (Refused x c.args.amount c.args.label c.args.told) _ way front tt)
+    (return_is c.self.inside.blocks _ _ _ _ b e x c.args.amount c.args.label c.args.told _ front c.take_back.ensures c.take.ensures.messages))

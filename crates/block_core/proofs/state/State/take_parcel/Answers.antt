@@ -1,0 +1,51 @@
+use Rattle.std.proofs.Common.{◌≡◌, ◌+◌, ◌∷◌, drop, sym, subst}
+use Rattle.parcel.specs.declared.message.Message.TheVariants.{Parcel}
+use Rattle.parcel.specs.declared.event.Event.TheVariants.{Accept}
+use Rattle.parcel.specs.Directions.{far}
+use Rattle.parcel.specs.States as core
+use Rattle.block_core.specs.Views.{state_of}
+use Rattle.block_core.proofs.Keeping.{held_next}
+use Rattle.block_core.proofs.Fronts.{parcel_out, may_accept, accept_room, accept_small, accept_is}
+use Rattle.block_core.proofs.state.State.take_parcel.Goals as goal
+
+pub accept-requires-clause-direction : goal.accept-requires-clause-direction
+accept-requires-clause-direction c =
+    let b = c.args.from in
+    let e = c.args.to in
+    let x = c.args.direction in
+    let s : core.State = state_of c.self.inside.blocks c.self.inside.ways.messages c.self.inside.got in
+    let front : core.way_at s.ways b e ≡ Parcel x c.args.amount c.args.label ∷ drop 1 (core.way_at s.ways b e) = subst (λ (t : core.State). core.way_at t.ways b e ≡ Parcel x c.args.amount c.args.label ∷ drop 1 (core.way_at t.ways b e)) (sym c.self.view_is) c.requires.front in
+    (parcel_out b e x c.args.amount c.args.label _ c.self.invariant front).direction
+
+pub accept-requires-clause-residual_fits : goal.accept-requires-clause-residual_fits
+accept-requires-clause-residual_fits c =
+    let b = c.args.from in
+    let e = c.args.to in
+    let x = c.args.direction in
+    let s : core.State = state_of c.self.inside.blocks c.self.inside.ways.messages c.self.inside.got in
+    let front : core.way_at s.ways b e ≡ Parcel x c.args.amount c.args.label ∷ drop 1 (core.way_at s.ways b e) = subst (λ (t : core.State). core.way_at t.ways b e ≡ Parcel x c.args.amount c.args.label ∷ drop 1 (core.way_at t.ways b e)) (sym c.self.view_is) c.requires.front in
+    let level = subst (λ (t : core.State). core.label_of t (far t.net x) + 1 ≡ c.args.label) (sym c.self.view_is) c.requires.label in
+    accept_small b e x c.args.amount c.args.label _ c.self.invariant front level
+
+pub put-requires-clause-room : goal.put-requires-clause-room
+put-requires-clause-room c =
+    let b = c.args.from in
+    let e = c.args.to in
+    let x = c.args.direction in
+    let s : core.State = state_of c.self.inside.blocks c.self.inside.ways.messages c.self.inside.got in
+    let front : core.way_at s.ways b e ≡ Parcel x c.args.amount c.args.label ∷ drop 1 (core.way_at s.ways b e) = subst (λ (t : core.State). core.way_at t.ways b e ≡ Parcel x c.args.amount c.args.label ∷ drop 1 (core.way_at t.ways b e)) (sym c.self.view_is) c.requires.front in
+    let way = subst (λ (t : core.State). core.IsWay t b e) (sym c.self.view_is) c.requires.way in
+    let level = subst (λ (t : core.State). core.label_of t (far t.net x) + 1 ≡ c.args.label) (sym c.self.view_is) c.requires.label in
+    rw (c.take.ensures.messages, c.take.ensures.rooms) (accept_room b e x c.args.amount c.args.label _ c.self.invariant way front level)
+
+pub invariant_of-self : goal.invariant_of-self
+invariant_of-self c =
+    let b = c.args.from in
+    let e = c.args.to in
+    let x = c.args.direction in
+    let s : core.State = state_of c.self.inside.blocks c.self.inside.ways.messages c.self.inside.got in
+    let front : core.way_at s.ways b e ≡ Parcel x c.args.amount c.args.label ∷ drop 1 (core.way_at s.ways b e) = subst (λ (t : core.State). core.way_at t.ways b e ≡ Parcel x c.args.amount c.args.label ∷ drop 1 (core.way_at t.ways b e)) (sym c.self.view_is) c.requires.front in
+    let way = subst (λ (t : core.State). core.IsWay t b e) (sym c.self.view_is) c.requires.way in
+    let level = subst (λ (t : core.State). core.label_of t (far t.net x) + 1 ≡ c.args.label) (sym c.self.view_is) c.requires.label in
+    rw (c.put.ensures.rooms, c.take.ensures.rooms) (held_next (Accept b e) _ c.self.invariant (may_accept s b e x c.args.amount c.args.label _ way front level)
+    (accept_is c.self.inside.blocks _ _ _ _ _ b e x c.args.amount c.args.label _ front c.accept.ensures c.take.ensures.messages c.put.ensures.messages))
