@@ -3,3 +3,5 @@ pub mod Lanes
 pub mod Keeping
 pub mod Effects
 pub mod Fronts
+pub mod Lowering
+pub mod Raised

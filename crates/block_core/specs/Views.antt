@@ -1,6 +1,6 @@
 -- What the blocks of a net hold of nodes and directions, and the state that they make with the ways.
 use Rattle.std.specs.Prelude.{ℕ, ◌+◌, ◌-◌, ◌≡◌, ◌≤◌, List, length, map, slice_index, slice_set, Some, None}
-use Rattle.flow_network.specs.Cut.{Network, nodes}
+use Rattle.flow_network.specs.Cut.{Network, nodes, IsNet}
 use Rattle.parcel.specs.declared.direction.Direction.{Direction}
 use Rattle.parcel.specs.declared.message.Message.{Message}
 use Rattle.parcel.specs.Directions.{near, far, opposite}
@@ -31,6 +31,7 @@ blocks_of net blocks excess labels rooms forth back = record {
 
 -- the lists are as long as the net says
 pub record IsLong (b : BlocksView) : Type 0 where
+  pub net : IsNet b.net
   pub some : 1 ≤ b.blocks
   pub few : b.blocks ≤ 256
   pub excess : length b.excess ≡ nodes b.net

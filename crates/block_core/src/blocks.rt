@@ -1,9 +1,9 @@
 ghost use Rattle.std.specs.Prelude.{◌≡◌, ◌≢◌, ◌↔◌, ◌+◌, ◌*◌, ◌/◌, ◌<◌, ◌≤◌, ◌^◌, IsTrue, true, length, slice_index, slice_set};
-ghost use Rattle.flow_network.specs.Cut.{nodes, IsNet};
+ghost use Rattle.flow_network.specs.Cut.{nodes};
 ghost use Rattle.flow_network.specs.Progress.{top};
 ghost use Rattle.parcel.specs.Directions.{IsDirection, near, far, opposite};
 ghost use Rattle.parcel.specs.States.{lane_at, put_lane, block_of, is_border};
-ghost use Rattle.block_core.specs.Views.{BlocksView, shown_lane, gave, labelled, pushed, sent, accepted, settled, returned};
+ghost use Rattle.block_core.specs.Views.{BlocksView, IsLong, shown_lane, gave, labelled, pushed, sent, accepted, settled, returned};
 
 use crate::lane::Lane;
 use flow_network::{MOST_NODES, Net};
@@ -56,14 +56,15 @@ impl Blocks {
     /// How many nodes the net has.
     pub fn nodes(&self) -> usize
         ensures value { result ≡ nodes self.now.net }
-        ensures limits { IsNet self.now.net }
+        ensures long { IsLong self.now }
     {
         self.net.nodes()
     }
 
     /// How many arcs the net has.
     pub fn arcs(&self) -> usize
-        ensures { result ≡ length self.now.net.arcs }
+        ensures value { result ≡ length self.now.net.arcs }
+        ensures long { IsLong self.now }
     {
         self.net.arcs().len()
     }
@@ -128,7 +129,8 @@ impl Blocks {
     /// A node's label.
     pub fn label(&self, v: usize) -> u32
         requires { v < nodes self.now.net }
-        ensures { result ≡ slice_index self.now.labels v }
+        ensures value { result ≡ slice_index self.now.labels v }
+        ensures long { IsLong self.now }
     {
         self.labels[v]
     }
@@ -163,6 +165,15 @@ impl Blocks {
         } else {
             self.forth[direction.arc] = lane;
         }
+    }
+
+    /// The label that a direction knows of its far end from now on.
+    pub fn set_known(&mut self, direction: Direction, known: u32)
+        requires { IsDirection self.old.net direction }
+        ensures { self.new ≡ record self.old { lanes = put_lane self.old.lanes direction (record (lane_at self.old.lanes direction) { known = known }) } }
+    {
+        let lane = self.lane(direction);
+        self.set_lane(direction, Lane { known, ..lane });
     }
 
     /// What a node holds from now on.

@@ -4,6 +4,7 @@
 mod blocks;
 mod lane;
 mod mail;
+mod raise;
 mod state;
 
 pub use blocks::Blocks;

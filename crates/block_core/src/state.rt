@@ -3,7 +3,7 @@ ghost use Rattle.flow_network.specs.Cut.{nodes, IsNet};
 ghost use Rattle.parcel.specs.declared.message.Message.TheVariants.{Parcel, Accepted, Refused};
 ghost use Rattle.parcel.specs.Directions.{IsDirection, far};
 ghost use Rattle.parcel.specs.States.{IsWay, way_at, excess_of, label_of, room_of};
-ghost use Rattle.parcel.specs.Events.{IsActive, IsQuiet, Enabled, effect, allowed, highest_label};
+ghost use Rattle.parcel.specs.Events.{Happens, IsActive, IsQuiet, Enabled, effect, allowed, highest_label};
 
 use crate::blocks::Blocks;
 use crate::mail::Mail;
@@ -271,5 +271,101 @@ impl State {
     {
         self.blocks.take_back(direction, amount, told);
         self.ways.take(from, to);
+    }
+
+    /// Whether no message is on the way.
+    pub fn is_quiet(&self) -> bool
+        ensures { IsTrue result ↔ IsQuiet self.now }
+    {
+        self.ways.is_quiet(self.blocks.count())
+    }
+
+    /// Each label becomes the exact one; no where that is not enabled, and nothing changes.
+    pub fn raise_all(&mut self) -> bool
+        ensures { MatchBool result
+            (Happens self.old RaiseAll self.new)
+            ((¬ Enabled self.old RaiseAll) × (self.new ≡ self.old)) }
+    {
+        if !self.is_quiet() {
+            return false;
+        }
+        self.blocks.raise();
+        true
+    }
+
+    /// The parcel in front of a way is taken; no where that is not enabled, and nothing changes.
+    pub fn accept(&mut self, from: usize, to: usize) -> bool
+        ensures { MatchBool result
+            (Enabled self.old (Accept from to) × (self.new ≡ effect self.old (Accept from to)))
+            ((¬ Enabled self.old (Accept from to)) × (self.new ≡ self.old)) }
+    {
+        match self.front(from, to) {
+            Some(
+                Message::Parcel {
+                    direction,
+                    amount,
+                    label,
+                },
+            ) => {
+                let far = self.blocks.far(direction);
+                if self.blocks.label(far) as u64 + 1 != label as u64 {
+                    return false;
+                }
+                self.take_parcel(from, to, direction, amount, label);
+                true
+            }
+            _ => false,
+        }
+    }
+
+    /// The parcel in front of a way is sent back; no where that is not enabled, and nothing changes.
+    pub fn refuse(&mut self, from: usize, to: usize) -> bool
+        ensures { MatchBool result
+            (Enabled self.old (Refuse from to) × (self.new ≡ effect self.old (Refuse from to)))
+            ((¬ Enabled self.old (Refuse from to)) × (self.new ≡ self.old)) }
+    {
+        match self.front(from, to) {
+            Some(
+                Message::Parcel {
+                    direction,
+                    amount,
+                    label,
+                },
+            ) => {
+                let far = self.blocks.far(direction);
+                if self.blocks.label(far) < label {
+                    return false;
+                }
+                self.return_parcel(from, to, direction, amount, label);
+                true
+            }
+            _ => false,
+        }
+    }
+
+    /// The answer in front of a way ends its flight; no where that is not enabled, and nothing changes.
+    pub fn settle(&mut self, from: usize, to: usize) -> bool
+        ensures { MatchBool result
+            (Enabled self.old (Settle from to) × (self.new ≡ effect self.old (Settle from to)))
+            ((¬ Enabled self.old (Settle from to)) × (self.new ≡ self.old)) }
+    {
+        match self.front(from, to) {
+            Some(Message::Accepted { direction, amount }) => {
+                self.end_flight(from, to, direction, amount);
+                true
+            }
+            Some(
+                Message::Refused {
+                    direction,
+                    amount,
+                    label,
+                    told,
+                },
+            ) => {
+                self.take_back(from, to, direction, amount, label, told);
+                true
+            }
+            _ => false,
+        }
     }
 }

@@ -18,6 +18,6 @@ invariant_of-self c =
     let s : core.State = state_of c.self.inside.blocks c.self.inside.ways.messages c.self.inside.got in
     let is : c.highest_label-highest.result ≡ highest_label s v = c.highest_label-highest.ensures ∙ ap (λ (t : core.State). highest_label t v) (sym c.self.view_is) in
     let active = subst (λ (t : core.State). IsActive t v) (sym c.self.view_is) (c.is_active.ensures.0 c.if-not-is_active.false) in
-    let on : Enabled s (Relabel v) = (active, omega (arith, is, c.label.ensures, c.if-highest-label.false)) in
+    let on : Enabled s (Relabel v) = (active, omega (arith, is, c.label.ensures.value, c.if-highest-label.false)) in
     let made : state_of c.relabel.new.self c.self.inside.ways.messages c.self.inside.got ≡ effect s (Relabel v) = rw (c.relabel.ensures, is) refl in
     held_next (Relabel v) _ c.self.invariant on made

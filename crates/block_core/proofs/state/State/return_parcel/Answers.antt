@@ -38,4 +38,4 @@ invariant_of-self c =
     let way = subst (λ (t : core.State). core.IsWay t b e) (sym c.self.view_is) c.requires.way in
     let above = subst (λ (t : core.State). c.args.label ≤ core.label_of t (far t.net x)) (sym c.self.view_is) c.requires.label in
     rw (c.put.ensures.rooms, c.take.ensures.rooms) (held_next (Refuse b e) _ c.self.invariant (may_refuse s b e x c.args.amount c.args.label _ way front above)
-    (refuse_is c.self.inside.blocks _ _ _ _ b e x c.args.amount c.args.label _ _ _ front c.far.ensures.value c.label-told.ensures c.take.ensures.messages c.put.ensures.messages))
+    (refuse_is c.self.inside.blocks _ _ _ _ b e x c.args.amount c.args.label _ _ _ front c.far.ensures.value c.label-told.ensures.value c.take.ensures.messages c.put.ensures.messages))

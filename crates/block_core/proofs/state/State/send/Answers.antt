@@ -23,6 +23,6 @@ invariant_of-self c =
     let on : Enabled s (Send x) = subst (λ (t : core.State). Enabled t (Send x)) (sym c.self.view_is) (c.may_send.ensures.0 c.if-not-may_send.false) in
     let made = sent_is c.self.inside.blocks c.send.new.self c.self.inside.ways.messages c.put.new.self.messages c.self.inside.got x
     c.near-near.result c.far-far.result c.label-label.result c.excess-excess.result c.min-amount.result c.home-from.result c.home-to.result c.lane-lane.result
-    c.near-near.ensures.value c.far-far.ensures.value c.label-label.ensures c.excess-excess.ensures c.lane-lane.ensures c.min-amount.ensures
+    c.near-near.ensures.value c.far-far.ensures.value c.label-label.ensures.value c.excess-excess.ensures c.lane-lane.ensures c.min-amount.ensures
     c.home-from.ensures.value c.home-to.ensures.value c.send.ensures c.put.ensures.messages in
     rw c.put.ensures.rooms (held_next (Send x) _ c.self.invariant on made)

@@ -1,0 +1,41 @@
+-- What raising the labels of the blocks leaves is the effect of raising all labels.
+use Rattle.std.proofs.Common.{◌≡◌, ℕ, zero, suc, List, inl, inr, refl, sym, ap, subst}
+use Rattle.parcel.specs.declared.message.Message.{Message}
+use Rattle.parcel.specs.declared.event.Event.TheVariants.{RaiseAll}
+use Rattle.parcel.specs.Reach.{LeadsIn, IsExact, AreExact}
+use Rattle.parcel.specs.States as core
+use Rattle.parcel.specs.Events.{IsQuiet, Happens, raised}
+use Rattle.parcel.proofs.Kept.{kept}
+use Rattle.block_core.specs.Views.{BlocksView, state_of}
+use Rattle.block_core.specs.Mails.{IsHeld}
+use Rattle.block_core.specs.Raising.{bare, told}
+
+module _ (b : BlocksView) (ways : List (List (List Message))) (got : ℕ) where
+  to_state : (d v : ℕ) → LeadsIn (bare b) d v → LeadsIn (state_of b ways got) d v
+  to_state zero v path = absurd path
+  to_state (suc zero) v path = path
+  to_state (suc (suc d)) v path = (path.0, path.1, path.2, path.3, to_state (suc d) _ path.4)
+
+  from_state : (d v : ℕ) → LeadsIn (state_of b ways got) d v → LeadsIn (bare b) d v
+  from_state zero v path = absurd path
+  from_state (suc zero) v path = path
+  from_state (suc (suc d)) v path = (path.0, path.1, path.2, path.3, from_state (suc d) _ path.4)
+
+  exact_state : (v label : ℕ) → IsExact (bare b) v label → IsExact (state_of b ways got) v label
+  exact_state v label (inl near) = inl (near.0, to_state label v near.1, λ d path. near.2 d (from_state d v path))
+  exact_state v label (inr far) = inr (far.0, λ leads. far.1 (leads.0, from_state leads.0 v leads.1))
+
+  pub raise_happens : (b' : BlocksView) → IsQuiet (state_of b ways got) → (labels : List ℕ) × AreExact (bare b) labels × (b' ≡ told (record b { labels = labels }))
+      → Happens (state_of b ways got) RaiseAll (state_of b' ways got)
+  raise_happens b' quiet made = record {
+    enabled = quiet;
+    effect = (made.0, record { len = made.1.len; exact = λ v l. exact_state v _ (made.1.exact v l) }, ap (λ (v : BlocksView). state_of v ways got) made.2);
+  }
+
+pub held_raised : {rooms : List (List ℕ)} {s : core.State} (t : core.State) → IsHeld rooms s → Happens s RaiseAll t → IsHeld rooms t
+held_raised {rooms} {s} t held happens =
+    let effect = happens.effect in
+    let u = raised s effect.0 in
+    let done : Happens s RaiseAll u = record { enabled = happens.enabled; effect = (effect.0, effect.1, refl) } in
+    let all : IsHeld rooms u = record { sound = kept s u RaiseAll held.sound done; few = held.few; room = held.room } in
+    subst (IsHeld rooms) (sym effect.2) all
