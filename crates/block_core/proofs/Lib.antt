@@ -5,3 +5,4 @@ pub mod Effects
 pub mod Fronts
 pub mod Lowering
 pub mod Raised
+pub mod Counts

@@ -1,5 +1,6 @@
 -- What the blocks of a net hold of nodes and directions, and the state that they make with the ways.
-use Rattle.std.specs.Prelude.{ℕ, ◌+◌, ◌-◌, ◌≡◌, ◌≤◌, List, length, map, slice_index, slice_set, Some, None}
+use Rattle.std.specs.Prelude.{Bool, true, false, cond, replicate, ℕ, ◌+◌, ◌-◌, ◌≡◌, ◌≤◌, List, length, map, slice_index, slice_set, Some, None}
+use Rattle.flow_network.specs.declared.arc.Arc.{Arc}
 use Rattle.flow_network.specs.Cut.{Network, nodes, IsNet}
 use Rattle.parcel.specs.declared.direction.Direction.{Direction}
 use Rattle.parcel.specs.declared.message.Message.{Message}
@@ -102,4 +103,20 @@ abbrev pub returned : BlocksView → Direction → ℕ → ℕ → BlocksView
 returned b x a told = record b {
   excess = slice_set b.excess (near b.net x) (slice_index b.excess (near b.net x) + a);
   lanes = core.put_lane b.lanes x (record { residual = (core.lane_at b.lanes x).residual + a; known = told; flight = None });
+}
+
+-- ---- the opening
+
+-- the lanes of the arcs in one sense
+abbrev pub first_lanes : Bool → List Arc → List core.Lane
+first_lanes back arcs = map (λ arc. record { residual = cond back 0 arc.capacity; known = 0; flight = None }) arcs
+
+abbrev pub first_of : Network → ℕ → BlocksView
+first_of net blocks = record {
+  net = net;
+  blocks = blocks;
+  excess = net.sources;
+  labels = replicate (nodes net) 0;
+  rooms = net.sinks;
+  lanes = record { forth = first_lanes false net.arcs; back = first_lanes true net.arcs };
 }

@@ -1,13 +1,14 @@
-ghost use Rattle.std.specs.Prelude.{◌≡◌, ◌≢◌, ◌↔◌, ◌+◌, ◌*◌, ◌/◌, ◌<◌, ◌≤◌, ◌^◌, IsTrue, true, length, slice_index, slice_set};
-ghost use Rattle.flow_network.specs.Cut.{nodes};
+ghost use Rattle.std.specs.Prelude.{IfOk, map, ◌≡◌, ◌≢◌, ◌↔◌, ◌+◌, ◌*◌, ◌/◌, ◌<◌, ◌≤◌, ◌^◌, IsTrue, true, length, slice_index, slice_set};
+ghost use Rattle.flow_network.specs.Cut.{nodes, IsNet};
 ghost use Rattle.flow_network.specs.Progress.{top};
 ghost use Rattle.parcel.specs.Directions.{IsDirection, near, far, opposite};
 ghost use Rattle.parcel.specs.States.{lane_at, put_lane, block_of, is_border};
-ghost use Rattle.block_core.specs.Views.{BlocksView, IsLong, shown_lane, gave, labelled, pushed, sent, accepted, settled, returned};
+ghost use Rattle.block_core.specs.Views.{BlocksView, IsLong, first_lanes, first_of, shown_lane, gave, labelled, pushed, sent, accepted, settled, returned};
 
 use crate::lane::Lane;
-use flow_network::{MOST_NODES, Net};
+use flow_network::{Arc, MOST_NODES, Net};
 use parcel::{Direction, Flight};
+use std::alloc::{AllocError, Global};
 use std::marker::Model;
 
 /// What the blocks of a net hold of its nodes and of its directions.
@@ -52,7 +53,58 @@ fn home_of(v: usize, nodes: usize, blocks: usize) -> usize
     v * blocks / nodes
 }
 
+/// The same net once more.
+fn copy_of(alloc: Global, net: &Net) -> Result<Net, AllocError>
+    ensures { IfOk result (λ copy. copy ≡ net.now) }
+{
+    let sources = Vec::from_slice(alloc, net.sources())?;
+    let sinks = Vec::from_slice(alloc, net.sinks())?;
+    let arcs = Vec::from_slice(alloc, net.arcs())?;
+    Ok(Net::new(sources, sinks, arcs))
+}
+
+/// What is held of the arcs in one sense before any flow.
+fn first_lanes(alloc: Global, arcs: &[Arc], back: bool) -> Result<Vec<Lane>, AllocError>
+    ensures { IfOk result (λ lanes. map shown_lane lanes.items ≡ first_lanes back arcs.now) }
+{
+    let mut lanes = Vec::with_capacity(alloc, arcs.len())?;
+    for arc in arcs {
+        let residual = if back { 0 } else { arc.capacity };
+        let lane = Lane {
+            residual,
+            known: 0,
+            flight: None,
+        };
+        lanes.push(lane)?;
+    }
+    Ok(lanes)
+}
+
 impl Blocks {
+    /// A net in so many blocks before any flow: what the source can send is excess, and all labels are 0.
+    pub fn open(alloc: Global, net: &Net, blocks: usize) -> Result<Blocks, AllocError>
+        requires some { 1 ≤ blocks }
+        requires few { blocks ≤ 256 }
+        ensures first { IfOk result (λ b. b ≡ first_of net.now blocks) }
+        ensures limits { IfOk result (λ b. IsNet net.now) }
+    {
+        let forth = first_lanes(alloc, net.arcs(), false)?;
+        let back = first_lanes(alloc, net.arcs(), true)?;
+        let labels = vec![in alloc; 0; net.nodes()]?;
+        let excess = Vec::from_slice(alloc, net.sources())?;
+        let rooms = Vec::from_slice(alloc, net.sinks())?;
+        let net = copy_of(alloc, net)?;
+        Ok(Blocks {
+            net,
+            blocks,
+            excess,
+            labels,
+            rooms,
+            forth,
+            back,
+        })
+    }
+
     /// How many nodes the net has.
     pub fn nodes(&self) -> usize
         ensures value { result ≡ nodes self.now.net }

@@ -1,9 +1,12 @@
-ghost use Rattle.std.specs.Prelude.{◌≡◌, ◌↔◌, ◌<◌, ◌≤◌, ℕ, IsTrue, MatchOption, length, slice_index, slice_index_or, [], ◌∷◌, drop};
+ghost use Rattle.std.specs.Prelude.{IfOk, map, ◌≡◌, ◌↔◌, ◌<◌, ◌≤◌, ℕ, IsTrue, MatchOption, length, slice_index, slice_index_or, [], ◌∷◌, drop};
+ghost use Rattle.std.specs.VecDeque.{deque_capacity};
 ghost use Rattle.parcel.specs.States.{way_at, put_way, put_message};
 ghost use Rattle.parcel.specs.Soundness.{IsSquare};
 ghost use Rattle.block_core.specs.Mails.{MailView, room_at};
 
+use crate::rooms::Rooms;
 use parcel::Message;
+use std::alloc::{AllocError, Global};
 use std::collections::VecDeque;
 use std::marker::Model;
 
@@ -23,7 +26,31 @@ impl Model for Mail {
     ghost view = { λ m. mail_view (map (λ row. map (λ way. way.items) row.items) m.rows.items) (map (λ row. map (λ way. deque_capacity way) row.items) m.rows.items) };
 }
 
+/// Empty ways of one block, each with the room that is told.
+fn empty_ways(alloc: Global, rooms: &[usize]) -> Result<Vec<VecDeque<Message>>, AllocError>
+    ensures messages { IfOk result (λ ways. map (λ way. way.items) ways.items ≡ map (λ n. []) rooms.now) }
+    ensures rooms { IfOk result (λ ways. map (λ way. deque_capacity way) ways.items ≡ rooms.now) }
+{
+    let mut ways = Vec::with_capacity(alloc, rooms.len())?;
+    for room in rooms {
+        ways.push(VecDeque::with_capacity(alloc, *room)?)?;
+    }
+    Ok(ways)
+}
+
 impl Mail {
+    /// Empty ways, with the rooms that are told: of each block those of its ways to each other.
+    pub fn open(alloc: Global, rooms: &Rooms) -> Result<Mail, AllocError>
+        ensures messages { IfOk result (λ mail. mail.messages ≡ map (λ row. map (λ n. []) row) rooms.now) }
+        ensures rooms { IfOk result (λ mail. mail.rooms ≡ rooms.now) }
+    {
+        let mut rows = Vec::with_capacity(alloc, rooms.len())?;
+        'rows: for from in 0..rooms.len() {
+            rows.push(empty_ways(alloc, rooms.row(from))?)?;
+        }
+        Ok(Mail { rows })
+    }
+
     /// The message that is next to be taken from a way.
     pub fn front(&self, from: usize, to: usize) -> Option<Message>
         requires from { from < length self.now.messages }

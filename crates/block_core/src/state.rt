@@ -1,13 +1,17 @@
-ghost use Rattle.std.specs.Prelude.{IfSome, IfNone, [], ◌∷◌, drop, ◌≡◌, ◌↔◌, ◌<◌, ◌≤◌, ◌+◌, ℕ, IsTrue, MatchBool};
+ghost use Rattle.std.specs.Prelude.{IfOk, IfSome, IfNone, [], ◌∷◌, drop, ◌≡◌, ◌↔◌, ◌<◌, ◌≤◌, ◌+◌, ℕ, IsTrue, MatchBool};
 ghost use Rattle.flow_network.specs.Cut.{nodes, IsNet};
 ghost use Rattle.parcel.specs.declared.message.Message.TheVariants.{Parcel, Accepted, Refused};
 ghost use Rattle.parcel.specs.Directions.{IsDirection, far};
 ghost use Rattle.parcel.specs.States.{IsWay, way_at, excess_of, label_of, room_of};
+ghost use Rattle.parcel.specs.Soundness.{opened};
 ghost use Rattle.parcel.specs.Events.{Happens, IsActive, IsQuiet, Enabled, effect, allowed, highest_label};
 
 use crate::blocks::Blocks;
 use crate::mail::Mail;
-use parcel::{Direction, Message};
+use crate::rooms::Rooms;
+use flow_network::Net;
+use parcel::{Direction, Event, Message};
+use std::alloc::{AllocError, Global};
 use std::marker::Model;
 
 /// A net in blocks with the messages between them: a sound state of the core.
@@ -31,6 +35,23 @@ impl Model for State {
 }
 
 impl State {
+    /// The opening of a net in so many blocks, at least one and at most 256. All room for messages is made
+    /// here; the only error is that memory runs out.
+    pub fn open(alloc: Global, net: &Net, blocks: usize) -> Result<State, AllocError>
+        requires some { 1 ≤ blocks }
+        requires few { blocks ≤ 256 }
+        ensures { IfOk result (λ state. state ≡ opened net.now blocks) }
+    {
+        let blocks = Blocks::open(alloc, net, blocks)?;
+        let rooms = Rooms::count(alloc, &blocks)?;
+        let ways = Mail::open(alloc, &rooms)?;
+        Ok(State {
+            blocks,
+            ways,
+            got: 0,
+        })
+    }
+
     ghost use Rattle.parcel.specs.declared.event.Event.TheVariants.{PushInner, PushSink, Relabel, Send, Accept, Refuse, Settle, RaiseAll};
 
     /// Whether a node has excess and is not cut off.
@@ -366,6 +387,22 @@ impl State {
                 true
             }
             _ => false,
+        }
+    }
+
+    /// The event happens; no where it is not enabled, and nothing changes.
+    pub fn perform(&mut self, event: Event) -> bool
+        ensures { MatchBool result (Happens self.old event self.new) ((¬ Enabled self.old event) × (self.new ≡ self.old)) }
+    {
+        match event {
+            Event::PushInner { direction } => self.push_inner(direction),
+            Event::PushSink { node } => self.push_sink(node as usize),
+            Event::Relabel { node } => self.relabel(node as usize),
+            Event::Send { direction } => self.send(direction),
+            Event::Accept { from, to } => self.accept(from as usize, to as usize),
+            Event::Refuse { from, to } => self.refuse(from as usize, to as usize),
+            Event::Settle { from, to } => self.settle(from as usize, to as usize),
+            Event::RaiseAll => self.raise_all(),
         }
     }
 }
