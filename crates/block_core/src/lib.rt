@@ -1,4 +1,8 @@
 //! The core: a net in blocks that exchange parcels of flow, one event at a time.
+//!
+//! `Core::open` makes the opening of a net in so many blocks, and `Core::apply` does one event, exactly
+//! where it is enabled. Every `State` is sound, so what `parcel::laws` says of sound states holds of each
+//! that a core comes to, whatever the order of its events.
 #![tactic(auto)]
 
 mod apply;
@@ -10,8 +14,4 @@ mod rooms;
 mod state;
 
 pub use apply::{Core, NotEnabled};
-pub use blocks::Blocks;
-pub use lane::Lane;
-pub use mail::Mail;
-pub use rooms::Rooms;
 pub use state::State;

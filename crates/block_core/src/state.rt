@@ -1,16 +1,16 @@
-ghost use Rattle.std.specs.Prelude.{IfOk, IfSome, IfNone, [], ◌∷◌, drop, ◌≡◌, ◌↔◌, ◌<◌, ◌≤◌, ◌+◌, ℕ, IsTrue, MatchBool};
+ghost use Rattle.std.specs.Prelude.{IfOk, length, IfSome, IfNone, [], ◌∷◌, drop, ◌≡◌, ◌↔◌, ◌<◌, ◌≤◌, ◌+◌, ℕ, IsTrue, MatchBool};
 ghost use Rattle.flow_network.specs.Cut.{nodes, IsNet};
 ghost use Rattle.parcel.specs.declared.message.Message.TheVariants.{Parcel, Accepted, Refused};
 ghost use Rattle.parcel.specs.Directions.{IsDirection, far};
-ghost use Rattle.parcel.specs.States.{IsWay, way_at, excess_of, label_of, room_of};
-ghost use Rattle.parcel.specs.Soundness.{opened};
+ghost use Rattle.parcel.specs.States.{IsWay, way_at, excess_of, label_of, room_of, residual_of, known_of, flight_of};
+ghost use Rattle.parcel.specs.Soundness.{IsSound, opened};
 ghost use Rattle.parcel.specs.Events.{Happens, IsActive, IsQuiet, Enabled, effect, allowed, highest_label};
 
 use crate::blocks::Blocks;
 use crate::mail::Mail;
 use crate::rooms::Rooms;
 use flow_network::Net;
-use parcel::{Direction, Event, Message};
+use parcel::{Direction, Event, Flight, Message};
 use std::alloc::{AllocError, Global};
 use std::marker::Model;
 
@@ -52,6 +52,83 @@ impl State {
         })
     }
 
+    /// How many nodes the net has.
+    pub fn nodes(&self) -> usize
+        ensures value { result ≡ nodes self.now.net }
+        ensures sound { IsSound self.now }
+    {
+        self.blocks.nodes()
+    }
+
+    /// How many arcs the net has.
+    pub fn arcs(&self) -> usize
+        ensures { result ≡ length self.now.net.arcs }
+    {
+        self.blocks.arcs()
+    }
+
+    /// How many blocks the net is in.
+    pub fn blocks(&self) -> usize
+        ensures { result ≡ self.now.blocks }
+    {
+        self.blocks.count()
+    }
+
+    /// What a node got and did not pass on.
+    pub fn excess(&self, v: usize) -> u64
+        requires { v < nodes self.now.net }
+        ensures { result ≡ excess_of self.now v }
+    {
+        self.blocks.excess(v)
+    }
+
+    /// The label of a node.
+    pub fn label(&self, v: usize) -> u32
+        requires { v < nodes self.now.net }
+        ensures { result ≡ label_of self.now v }
+    {
+        self.blocks.label(v)
+    }
+
+    /// What a node can still give the sink.
+    pub fn room(&self, v: usize) -> u64
+        requires { v < nodes self.now.net }
+        ensures { result ≡ room_of self.now v }
+    {
+        self.blocks.room(v)
+    }
+
+    /// What a direction can still carry.
+    pub fn residual(&self, direction: Direction) -> u64
+        requires { IsDirection self.now.net direction }
+        ensures { result ≡ residual_of self.now direction }
+    {
+        self.blocks.lane(direction).residual
+    }
+
+    /// The label that is known of the far end of a direction to another block.
+    pub fn known(&self, direction: Direction) -> u32
+        requires { IsDirection self.now.net direction }
+        ensures { result ≡ known_of self.now direction }
+    {
+        self.blocks.lane(direction).known
+    }
+
+    /// The parcel that is out on a direction to another block.
+    pub fn flight(&self, direction: Direction) -> Option<Flight>
+        requires { IsDirection self.now.net direction }
+        ensures { result ≡ flight_of self.now direction }
+    {
+        self.blocks.lane(direction).flight
+    }
+
+    /// What the sink got.
+    pub fn got(&self) -> u64
+        ensures { result ≡ self.now.got }
+    {
+        self.got
+    }
+
     ghost use Rattle.parcel.specs.declared.event.Event.TheVariants.{PushInner, PushSink, Relabel, Send, Accept, Refuse, Settle, RaiseAll};
 
     /// Whether a node has excess and is not cut off.
@@ -71,7 +148,7 @@ impl State {
     }
 
     /// Excess of a node goes to the sink; no where that is not enabled, and nothing changes.
-    pub fn push_sink(&mut self, v: usize) -> bool
+    fn push_sink(&mut self, v: usize) -> bool
         ensures { MatchBool result
             (Enabled self.old (PushSink v) × (self.new ≡ effect self.old (PushSink v)))
             ((¬ Enabled self.old (PushSink v)) × (self.new ≡ self.old)) }
@@ -117,7 +194,7 @@ impl State {
     }
 
     /// Excess goes along a direction within a block; no where that is not enabled, and nothing changes.
-    pub fn push_inner(&mut self, direction: Direction) -> bool
+    fn push_inner(&mut self, direction: Direction) -> bool
         ensures { MatchBool result
             (Enabled self.old (PushInner direction) × (self.new ≡ effect self.old (PushInner direction)))
             ((¬ Enabled self.old (PushInner direction)) × (self.new ≡ self.old)) }
@@ -134,7 +211,7 @@ impl State {
     }
 
     /// Excess leaves along a direction to another block; no where that is not enabled, and nothing changes.
-    pub fn send(&mut self, direction: Direction) -> bool
+    fn send(&mut self, direction: Direction) -> bool
         ensures { MatchBool result
             (Enabled self.old (Send direction) × (self.new ≡ effect self.old (Send direction)))
             ((¬ Enabled self.old (Send direction)) × (self.new ≡ self.old)) }
@@ -201,7 +278,7 @@ impl State {
     }
 
     /// A node gets the highest label that it may have; no where that is not enabled, and nothing changes.
-    pub fn relabel(&mut self, v: usize) -> bool
+    fn relabel(&mut self, v: usize) -> bool
         ensures { MatchBool result
             (Enabled self.old (Relabel v) × (self.new ≡ effect self.old (Relabel v)))
             ((¬ Enabled self.old (Relabel v)) × (self.new ≡ self.old)) }
@@ -218,7 +295,7 @@ impl State {
     }
 
     /// The message in front of a way; none where there is no such way, or no message on it.
-    fn front(&self, from: usize, to: usize) -> Option<Message>
+    pub fn front(&self, from: usize, to: usize) -> Option<Message>
         ensures some { IfSome result (λ m. IsWay self.now from to × (way_at self.now.ways from to ≡ m ∷ drop 1 (way_at self.now.ways from to))) }
         ensures none { IfNone result (IsWay self.now from to → way_at self.now.ways from to ≡ []) }
     {
@@ -302,7 +379,7 @@ impl State {
     }
 
     /// Each label becomes the exact one; no where that is not enabled, and nothing changes.
-    pub fn raise_all(&mut self) -> bool
+    fn raise_all(&mut self) -> bool
         ensures { MatchBool result
             (Happens self.old RaiseAll self.new)
             ((¬ Enabled self.old RaiseAll) × (self.new ≡ self.old)) }
@@ -315,7 +392,7 @@ impl State {
     }
 
     /// The parcel in front of a way is taken; no where that is not enabled, and nothing changes.
-    pub fn accept(&mut self, from: usize, to: usize) -> bool
+    fn accept(&mut self, from: usize, to: usize) -> bool
         ensures { MatchBool result
             (Enabled self.old (Accept from to) × (self.new ≡ effect self.old (Accept from to)))
             ((¬ Enabled self.old (Accept from to)) × (self.new ≡ self.old)) }
@@ -340,7 +417,7 @@ impl State {
     }
 
     /// The parcel in front of a way is sent back; no where that is not enabled, and nothing changes.
-    pub fn refuse(&mut self, from: usize, to: usize) -> bool
+    fn refuse(&mut self, from: usize, to: usize) -> bool
         ensures { MatchBool result
             (Enabled self.old (Refuse from to) × (self.new ≡ effect self.old (Refuse from to)))
             ((¬ Enabled self.old (Refuse from to)) × (self.new ≡ self.old)) }
@@ -365,7 +442,7 @@ impl State {
     }
 
     /// The answer in front of a way ends its flight; no where that is not enabled, and nothing changes.
-    pub fn settle(&mut self, from: usize, to: usize) -> bool
+    fn settle(&mut self, from: usize, to: usize) -> bool
         ensures { MatchBool result
             (Enabled self.old (Settle from to) × (self.new ≡ effect self.old (Settle from to)))
             ((¬ Enabled self.old (Settle from to)) × (self.new ≡ self.old)) }
@@ -391,7 +468,7 @@ impl State {
     }
 
     /// The event happens; no where it is not enabled, and nothing changes.
-    pub fn perform(&mut self, event: Event) -> bool
+    pub(crate) fn perform(&mut self, event: Event) -> bool
         ensures { MatchBool result (Happens self.old event self.new) ((¬ Enabled self.old event) × (self.new ≡ self.old)) }
     {
         match event {
