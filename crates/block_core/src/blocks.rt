@@ -1,4 +1,5 @@
 ghost use Rattle.std.specs.Prelude.{IfOk, map, ◌≡◌, ◌≢◌, ◌↔◌, ◌+◌, ◌*◌, ◌/◌, ◌<◌, ◌≤◌, ◌^◌, IsTrue, true, length, slice_index, slice_set};
+ghost use Rattle.flow_network.specs.Limits.{node_limit};
 ghost use Rattle.flow_network.specs.Cut.{nodes, IsNet};
 ghost use Rattle.flow_network.specs.Progress.{top};
 ghost use Rattle.parcel.specs.Directions.{IsDirection, near, far, opposite};
@@ -6,7 +7,7 @@ ghost use Rattle.parcel.specs.States.{lane_at, put_lane, block_of, is_border};
 ghost use Rattle.block_core.specs.Views.{BlocksView, IsLong, first_lanes, first_of, shown_lane, gave, labelled, pushed, sent, accepted, settled, returned};
 
 use crate::lane::Lane;
-use flow_network::{Arc, MOST_NODES, Net};
+use flow_network::{Arc, Net};
 use parcel::{Direction, Flight};
 use std::alloc::{AllocError, Global};
 use std::marker::Model;
@@ -46,7 +47,7 @@ pub fn opposite_of(direction: Direction) -> Direction
 /// The block of a node of so many nodes.
 fn home_of(v: usize, nodes: usize, blocks: usize) -> usize
     requires node { v < nodes }
-    requires nodes { nodes ≤ MOST_NODES }
+    requires nodes { nodes ≤ node_limit }
     requires blocks { blocks ≤ 256 }
     ensures { result ≡ (v * blocks) / nodes }
 {
