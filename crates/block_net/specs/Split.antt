@@ -11,15 +11,15 @@ use Rattle.parcel.specs.Soundness.{first_residual, opened}
 use Rattle.block_net.specs.declared.rows.Lane.{Lane}
 use Rattle.block_net.specs.declared.rows.Border.{Border}
 use Rattle.block_net.specs.declared.by_node.ByNode.{ByNode}
-use Rattle.block_net.specs.declared.limits.TheConstants.{MOST_ARCS, MOST_BLOCKS}
+use Rattle.block_net.specs.Limits.{arc_limit, block_limit}
 use Rattle.block_net.specs.Views.{BlockView}
 use Rattle.block_net.specs.Whole.{Whole, whole_of, table, index_of, shown, IsPlaced}
 
 -- the net can be split into so many blocks
 pub record CanSplit (net : Network) (blocks : ℕ) : Type 0 where
-  pub arcs : length net.arcs ≤ MOST_ARCS
+  pub arcs : length net.arcs ≤ arc_limit
   pub some : 1 ≤ blocks
-  pub few : blocks ≤ MOST_BLOCKS
+  pub few : blocks ≤ block_limit
 
 -- how many directions
 abbrev pub directions : Network → ℕ

@@ -18,6 +18,6 @@ mod slots;
 
 pub use by_node::ByNode;
 pub use cells::Cells;
-pub use limits::{MOST_ARCS, MOST_BLOCKS};
+pub use limits::{ARC_LIMIT, BLOCK_LIMIT};
 pub use parts::Parts;
 pub use rows::{Border, Lane};

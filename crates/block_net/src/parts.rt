@@ -53,7 +53,7 @@ fn firsts_of(alloc: Global, net: &Net, blocks: usize) -> Result<Vec<usize>, Allo
 }
 
 impl Parts {
-    /// The net in this many blocks, 1 to `MOST_BLOCKS`, where it has at most `MOST_ARCS` arcs: node i of n in
+    /// The net in this many blocks, 1 to `BLOCK_LIMIT`, where it has at most `ARC_LIMIT` arcs: node i of n in
     /// block i * blocks / n. There may be more blocks than nodes; then some have no node.
     ///
     /// Takes time linear in the number of nodes, arcs and blocks. Refuses only where memory runs out.

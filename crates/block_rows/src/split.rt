@@ -1,4 +1,4 @@
-use block_net::{MOST_ARCS, MOST_BLOCKS, Parts};
+use block_net::{ARC_LIMIT, BLOCK_LIMIT, Parts};
 use flow_network::{Arc, Net};
 use std::process::Abort;
 use std::test::Fail;
@@ -32,8 +32,8 @@ fn chain(rt: &(impl Abort + AllocGlobal)) -> Result<Net, Fail> {
 fn chain_in(rt: &(impl Abort + AllocGlobal), blocks: usize) -> Result<Parts, Fail> {
     let net = chain(rt)?;
     assert!(rt; 1 <= blocks);
-    assert!(rt; blocks <= MOST_BLOCKS);
-    assert!(rt; net.arcs().len() <= MOST_ARCS);
+    assert!(rt; blocks <= BLOCK_LIMIT);
+    assert!(rt; net.arcs().len() <= ARC_LIMIT);
     Ok(Parts::split(rt.alloc(), &net, blocks)?)
 }
 
