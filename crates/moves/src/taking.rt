@@ -14,6 +14,13 @@ use move_energy::{MoveEnergy, Variables};
 use pseudo_bool::Energy;
 use std::alloc::{AllocError, Global};
 
+/// The least assignment of an energy with the fewest ones, a bit for each variable, and its value.
+#[derive(Drop)]
+pub struct Least {
+    pub bits: Vec<bool>,
+    pub value: i64,
+}
+
 /// Takes the labels that the least assignment with the fewest ones makes. Where no labels are better, an expansion
 /// makes the labels as they are; a swap need not, so it takes them only where their energy is lower.
 pub fn take_best(
@@ -21,47 +28,49 @@ pub fn take_best(
     field: &mut Labelling,
     change: Move,
     made: &MoveEnergy,
-    bits: &[bool],
+    least: &Least,
 ) -> Result<bool, MoveError>
     requires below { IsMoveOf field.old.labels change }
     requires opened { AreAllOpen change field.old.at made.now.variables.choices.items }
     requires numbering { IsNumbering made.now.variables.choices.items made.now.variables.of_sites.items
         made.now.variables.sites.items }
     requires lengths { (length made.now.variables.sites.items ≡ made.now.energy.variables)
-        × (length bits.now ≡ made.now.energy.variables) }
+        × (length least.now.bits.items ≡ made.now.energy.variables) }
+    requires value { least.now.value ≡ value_at made.now.energy (assignment least.now.bits.items) }
     ensures sizes { (field.new.labels ≡ field.old.labels) × (length field.new.at ≡ length field.old.at) }
     ensures refused { IfErr result (λ e. (e ≡ MoveError.OutOfMemory) × (field.new ≡ field.old)) }
     ensures best { IfOk result (λ changed. (m : Instance) → IsInstance m → length field.old.at ≡ m.sites →
         Stands m change field.old.at made.now →
-        IsSmallestLeastAssignment made.now.energy (assignment bits.now) →
+        IsSmallestLeastAssignment made.now.energy (assignment least.now.bits.items) →
         (IsBest m change field.old.at field.new.at × ((IsTrue changed → field.new.at ≢ field.old.at)
         × (IsFalse changed → field.new.at ≡ field.old.at)))) }
 {
     match change {
-        Move::Expand(_) => Ok(relabel(field, &made.variables, bits, change)),
-        Move::Swap(_, _) => take_lower(alloc, field, change, made, bits),
+        Move::Expand(_) => Ok(relabel(field, &made.variables, &least.bits, change)),
+        Move::Swap(_, _) => take_lower(alloc, field, change, made, least),
     }
 }
 
-/// Takes the labels that an assignment makes, where its value is lower than that of the labels as they are.
+/// Takes the labels that the least assignment makes, where its value is lower than that of the labels as they are.
 fn take_lower(
     alloc: Global,
     field: &mut Labelling,
     change: Move,
     made: &MoveEnergy,
-    bits: &[bool],
+    least: &Least,
 ) -> Result<bool, MoveError>
     requires below { IsMoveOf field.old.labels change }
     requires opened { AreAllOpen change field.old.at made.now.variables.choices.items }
     requires numbering { IsNumbering made.now.variables.choices.items made.now.variables.of_sites.items
         made.now.variables.sites.items }
     requires lengths { (length made.now.variables.sites.items ≡ made.now.energy.variables)
-        × (length bits.now ≡ made.now.energy.variables) }
+        × (length least.now.bits.items ≡ made.now.energy.variables) }
+    requires value { least.now.value ≡ value_at made.now.energy (assignment least.now.bits.items) }
     ensures sizes { (field.new.labels ≡ field.old.labels) × (length field.new.at ≡ length field.old.at) }
     ensures refused { IfErr result (λ e. (e ≡ MoveError.OutOfMemory) × (field.new ≡ field.old)) }
     ensures best { IfOk result (λ changed. (m : Instance) → IsInstance m → length field.old.at ≡ m.sites →
         Stands m change field.old.at made.now →
-        IsSmallestLeastAssignment made.now.energy (assignment bits.now) →
+        IsSmallestLeastAssignment made.now.energy (assignment least.now.bits.items) →
         (IsBest m change field.old.at field.new.at × ((IsTrue changed → field.new.at ≢ field.old.at)
         × (IsFalse changed → field.new.at ≡ field.old.at)))) }
 {
@@ -69,10 +78,10 @@ fn take_lower(
     let Ok(now) = values_now(alloc, field.as_slice(), &made.variables.sites, favoured) else {
         return Err(MoveError::OutOfMemory);
     };
-    if !is_lower(&made.energy, bits, &now) {
+    if !is_lower(least.value, &made.energy, &now) {
         return Ok(false);
     }
-    Ok(relabel(field, &made.variables, bits, change))
+    Ok(relabel(field, &made.variables, &least.bits, change))
 }
 
 /// Of each of these sites, whether it has the label now.
@@ -87,13 +96,12 @@ fn values_now(alloc: Global, at: &[u8], sites: &[u32], label: u32) -> Result<Vec
     Ok(values)
 }
 
-/// Whether an assignment has a lower value than another.
-fn is_lower(energy: &Energy, bits: &[bool], than: &[bool]) -> bool
-    requires lengths { (length bits.now ≡ energy.now.variables) × (length than.now ≡ energy.now.variables) }
-    ensures { IsTrue result ↔ (value_at energy.now (assignment bits.now) <ℤ value_at energy.now (assignment
-        than.now)) }
+/// Whether a value is lower than that of an assignment.
+fn is_lower(value: i64, energy: &Energy, than: &[bool]) -> bool
+    requires { length than.now ≡ energy.now.variables }
+    ensures { IsTrue result ↔ (value <ℤ value_at energy.now (assignment than.now)) }
 {
-    energy.value(bits) < energy.value(than)
+    value < energy.value(than)
 }
 
 /// Gives each site the label that its variable makes. It answers whether a label changed.

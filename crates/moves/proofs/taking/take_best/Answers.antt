@@ -1,4 +1,4 @@
-use Rattle.std.proofs.Common.{◌≡◌, ◌<◌, ◌≤◌, ◌∙◌, ℕ, length, refl}
+use Rattle.std.proofs.Common.{◌≡◌, ◌<◌, ◌∙◌, ℕ, length}
 use Rattle.pseudo_bool.specs.Formula.{assignment}
 use Rattle.labellings.specs.Energies.{labelling}
 use Rattle.labellings.specs.Moves.{label_in}
@@ -12,9 +12,9 @@ returns-in-Expand-clause-best c = λ m pairs size stands least.
     let made = a.made.now in
     let vs = made.variables in
     let whole = whole_stands m a.change a.field.now.at vs.choices.items made.energy (labelling vs.of_sites.items) (labelling vs.sites.items) pairs size c.requires.opened stands in
-    let each : (p : ℕ) → p < length a.field.now.at → labelling c.relabel.new.labelling.at p ≡ label_in a.change (labelling a.field.now.at p) (assignment a.bits.now (labelling vs.of_sites.items p)) =
-    λ p l. c.relabel.ensures.each p l ∙ whole_made a.change a.field.now.at vs.choices.items (labelling vs.of_sites.items) (assignment a.bits.now) p c.requires.opened l in (
-      expanded m a.change _ a.field.now.at c.relabel.new.labelling.at made.energy vs.of_sites.items vs.sites.items a.bits.now c.in-Expand.is pairs size whole least
+    let each : (p : ℕ) → p < length a.field.now.at → labelling c.relabel.new.labelling.at p ≡ label_in a.change (labelling a.field.now.at p) (assignment a.least.now.bits.items (labelling vs.of_sites.items p)) =
+    λ p l. rw c.deref.ensures.value at (c.relabel.ensures.each p l) ∙ whole_made a.change a.field.now.at vs.choices.items (labelling vs.of_sites.items) (assignment a.least.now.bits.items) p c.requires.opened l in (
+      expanded m a.change _ a.field.now.at c.relabel.new.labelling.at made.energy vs.of_sites.items vs.sites.items a.least.now.bits.items c.in-Expand.is pairs size whole least
           c.relabel.ensures.sizes.1 each,
       c.relabel.ensures.changed,
     )
