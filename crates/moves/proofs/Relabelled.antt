@@ -3,7 +3,6 @@ use Rattle.std.proofs.Common.{◌≡◌, ◌≢◌, ℕ, ◌+◌, ◌<◌, ◌�
 use Rattle.std.specs.Prelude.{slice_index, slice_set, IsFalse}
 use Rattle.std.proofs.lemmas.Bool.{cases_lt, cases_eq, cases_Bool}
 use Rattle.std.proofs.lemmas.List.{length-set, get_or-set_same, get_or-set_other}
-use Rattle.labellings.specs.Energies.{labelling, Agrees}
 use Rattle.labellings.proofs.Best.{lists_agree}
 
 -- the labels below n are as they are to be, the others as they were, and whether one is another than it was

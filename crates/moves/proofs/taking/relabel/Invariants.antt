@@ -1,4 +1,4 @@
-use Rattle.std.proofs.Common.{◌≡◌, length}
+use Rattle.std.proofs.Common.{◌≡◌}
 use Rattle.std.specs.Prelude.{slice_index}
 use Rattle.labellings.specs.Moves.{label_in}
 use Rattle.pseudo_bool.specs.Formula.{assignment}
