@@ -5,17 +5,17 @@ use Rattle.clap.specs.declared.error.Error.{Error}
 use Rattle.clap.specs.declared.error.ErrorKind.{ErrorKind}
 use Rattle.clap.specs.declared.error.ErrorKind.TheVariants as kind
 use Rattle.clap.proofs.OnLiterals.{clap_on_literals}
-use Rattle.command_line.specs.App.{energy_app, gco_app}
+use Rattle.command_line.specs.App.{energy_app, gco_app, label_app}
 use Rattle.command_line.specs.Task.{IsHelp, IsNoTaskFor, IsNoTaskOf}
 use Rattle.command_line.specs.declared.task.NoTask.{NoTask}
 use Rattle.command_line.specs.declared.task.NoTask.TheVariants.{OutOfMemory, Help, Refused}
 
 pub gco_is_simple : is_simple gco_app ≡ true
-unfolding clap_on_literals gco_app energy_app
+unfolding clap_on_literals gco_app energy_app label_app
 gco_is_simple = refl
 
 pub gco_is_free : is_simple_and_free gco_app ≡ true
-unfolding clap_on_literals gco_app energy_app
+unfolding clap_on_literals gco_app energy_app label_app
 gco_is_free = refl
 
 no_memory : (k : ErrorKind) → IsHelp k → k ≡ kind.OutOfMemory → ⊥

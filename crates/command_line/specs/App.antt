@@ -8,13 +8,18 @@ use Rattle.clap.specs.declared.builder.command.Command.TheViews.{out-Command}
 unfoldable pub energy_app : App
 energy_app = new_app (codes "energy")
 
+-- nor has `label`
+unfoldable pub label_app : App
+label_app = new_app (codes "label")
+
 -- the words have to name a subcommand
 abbrev pub requiring_subcommand : App → App
 requiring_subcommand a = record a { top = record a.top { subcommand_required = true } }
 
 -- the whole command line
 unfoldable pub gco_app : App
-gco_app = with_subcommand (requiring_subcommand (new_app (codes "gco"))) energy_app.top
+gco_app =
+    with_subcommand (with_subcommand (requiring_subcommand (new_app (codes "gco"))) energy_app.top) label_app.top
 
 -- the command reads the words as the app says, and has no global argument
 abbrev pub Makes : App → Command → Type 0

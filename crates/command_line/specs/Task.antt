@@ -8,7 +8,7 @@ use Rattle.command_line.specs.App.{gco_app}
 use Rattle.command_line.specs.declared.task.NoTask.{NoTask}
 use Rattle.command_line.specs.declared.task.NoTask.TheVariants.{OutOfMemory, Help, Refused}
 use Rattle.command_line.specs.declared.task.Task.{Task}
-use Rattle.command_line.specs.declared.task.Task.TheVariants.{Energy}
+use Rattle.command_line.specs.declared.task.Task.TheVariants.{Energy, Label}
 
 -- the words are a command line, by the rules of clap
 abbrev pub IsAccepted : List Text → Type 0
@@ -17,6 +17,7 @@ IsAccepted words = fault_of gco_app words ≡ []
 -- the task of a subcommand, by its name and its matches
 abbrev pub IsTaskOf : Text → List Row → Task → Type 0
 IsTaskOf name rows Energy = name ≡ codes "energy"
+IsTaskOf name rows Label = name ≡ codes "label"
 
 -- the words are a command line that names a subcommand, and it has this task
 abbrev pub Asks : List Text → Task → Type 0

@@ -1,13 +1,13 @@
 //! The commands, as `clap` knows them.
 ghost use Rattle.std.specs.Prelude.{◌≡◌, IfOk};
-ghost use Rattle.command_line.specs.App.{Makes, energy_app, gco_app};
+ghost use Rattle.command_line.specs.App.{Makes, energy_app, gco_app, label_app};
 
 use crate::help;
 use clap::Command;
 use std::alloc::{AllocError, Global};
 
 /// The whole command line: a subcommand is required, and each command takes `--help`.
-#[tactic(auto, unfolding(crate::specs::App::energy_app, crate::specs::App::gco_app))]
+#[tactic(auto, unfolding(crate::specs::App::energy_app, crate::specs::App::label_app, crate::specs::App::gco_app))]
 pub fn gco_command<'a>(alloc: Global) -> Result<Command<'a>, AllocError>
     ensures { IfOk result (Makes gco_app) }
 {
@@ -15,7 +15,8 @@ pub fn gco_command<'a>(alloc: Global) -> Result<Command<'a>, AllocError>
         .about(help::GCO)
         .after_help(help::GCO_AFTER)
         .subcommand_required(true)
-        .subcommand(energy_command(alloc))
+        .subcommand(energy_command(alloc))?
+        .subcommand(label_command(alloc))
 }
 
 #[tactic(auto, unfolding(crate::specs::App::energy_app))]
@@ -25,4 +26,13 @@ fn energy_command<'a>(alloc: Global) -> Command<'a>
     Command::new(alloc, "energy")
         .about(help::ENERGY)
         .after_help(help::ENERGY_AFTER)
+}
+
+#[tactic(auto, unfolding(crate::specs::App::label_app))]
+fn label_command<'a>(alloc: Global) -> Command<'a>
+    ensures { Makes label_app result }
+{
+    Command::new(alloc, "label")
+        .about(help::LABEL)
+        .after_help(help::LABEL_AFTER)
 }

@@ -9,6 +9,8 @@ use std::alloc::AllocError;
 pub enum Task {
     /// `gco energy`: the minimum of a yes-no energy.
     Energy,
+    /// `gco label`: moves to labellings of lower energy.
+    Label,
 }
 
 /// Why there is no task.

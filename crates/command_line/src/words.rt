@@ -82,6 +82,7 @@ fn task_of(name: &str, matches: &ArgMatches<'_>) -> Option<Task>
 {
     match name {
         "energy" => Some(Task::Energy),
+        "label" => Some(Task::Label),
         _ => None,
     }
 }

@@ -6,8 +6,14 @@ use Rattle.regular.specs.declared.fixed.Fixed.{Fixed}
 use Rattle.problem_file.specs.FieldName.{field_name}
 use Rattle.problem_file.specs.declared.fault.ProblemFault.{ProblemFault}
 use Rattle.problem_file.specs.declared.fault.ProblemFault.TheVariants as problem
+use Rattle.label_file.specs.FieldNames.{field_name as label_field_name}
+use Rattle.label_file.specs.declared.fault.Field.{Field}
+use Rattle.label_file.specs.declared.fault.LabelFault.{LabelFault}
+use Rattle.label_file.specs.declared.fault.LabelFault.TheVariants as label
+use Rattle.moves.specs.declared.error.MoveError.{MoveError}
+use Rattle.moves.specs.declared.error.MoveError.TheVariants as move
 use Rattle.fault_lines.specs.declared.fault.Fault.{Fault}
-use Rattle.fault_lines.specs.declared.fault.Fault.TheVariants.{OutOfMemory, Write, Read, Problem, Regularity}
+use Rattle.fault_lines.specs.declared.fault.Fault.TheVariants.{OutOfMemory, Write, Read, Problem, Regularity, Label, Move}
 
 -- a yes-no value as a digit
 abbrev pub bit_text : Bool → List ℕ
@@ -37,6 +43,37 @@ problem_words problem.BadToml = codes "28"
 problem_words (problem.BadField field) = codes "29 " ++ field_name field
 problem_words (problem.BadElement field index) = codes "29 " ++ field_name field ++ codes " " ++ decimal index
 
+-- a field, and the place of an element of its list
+abbrev pub element_words : Field → ℕ → List ℕ
+element_words field place = label_field_name field ++ codes " " ++ decimal place
+
+-- why a problem file names no problem of labels
+abbrev pub label_words : LabelFault → List ℕ
+label_words label.OutOfMemory = codes "0"
+label_words (label.NoSuchSite pair) = codes "10 pair " ++ decimal pair
+label_words (label.NoSuchLabel site) = codes "11 site " ++ decimal site
+label_words (label.SamePair pair) = codes "12 pair " ++ decimal pair
+label_words label.TooManyPairs = codes "13"
+label_words (label.WeightRange pair) = codes "14 pair " ++ decimal pair
+label_words (label.CostRange field place) = codes "15 " ++ element_words field place
+label_words label.BadToml = codes "28"
+label_words (label.BadField field) = codes "29 " ++ label_field_name field
+label_words (label.BadElement field place) = codes "29 " ++ element_words field place
+
+-- the second label of a move, where it has one
+abbrev pub beta_words : Option ℕ → List ℕ
+beta_words None = []
+beta_words (Some beta) = codes " beta " ++ decimal beta
+
+-- why a move was refused
+abbrev pub move_words : MoveError → List ℕ
+move_words move.OutOfMemory = codes "0"
+move_words move.NoSuchLabel = codes "11"
+move_words move.Workers = codes "22"
+move_words move.BadOptions = codes "23"
+move_words (move.PairNotRegular pair alpha beta) =
+    codes "24 pair " ++ decimal pair ++ codes " alpha " ++ decimal alpha ++ beta_words beta
+
 -- what stands between `refused ` and the end of the line
 abbrev pub fault_words : Fault → List ℕ
 fault_words OutOfMemory = codes "0"
@@ -44,6 +81,8 @@ fault_words (Write failed) = codes "9 after " ++ decimal failed.count
 fault_words (Read error) = read_words error
 fault_words (Problem fault) = problem_words fault
 fault_words (Regularity failing) = codes "20 term " ++ decimal failing.term ++ fixed_words failing.fixed
+fault_words (Label fault) = label_words fault
+fault_words (Move error) = move_words error
 
 abbrev pub fault_line : Fault → List ℕ
 fault_line fault = codes "refused " ++ fault_words fault ++ codes "\n"

@@ -1,8 +1,10 @@
 //! The faults of the program, over those of the libraries.
 ghost use Rattle.std.specs.Prelude.{◌≡◌};
-ghost use Rattle.fault_lines.specs.declared.fault.Fault.TheVariants.{OutOfMemory, Problem, Read, Regularity, Write};
+ghost use Rattle.fault_lines.specs.declared.fault.Fault.TheVariants.{Label, Move, OutOfMemory, Problem, Read, Regularity, Write};
 
 use byte_streams::{ReadError, WriteFailed};
+use label_file::LabelFault;
+use moves::MoveError;
 use problem_file::ProblemFault;
 use regular::NotRegular;
 use std::alloc::AllocError;
@@ -20,6 +22,10 @@ pub enum Fault {
     Problem(ProblemFault),
     /// The energy is not regular.
     Regularity(NotRegular),
+    /// The input names no problem of labels.
+    Label(LabelFault),
+    /// A move between labellings was refused.
+    Move(MoveError),
 }
 
 impl From<AllocError> for Fault {
@@ -59,5 +65,21 @@ impl From<NotRegular> for Fault {
 
     fn from(failing: NotRegular) -> Fault {
         Fault::Regularity(failing)
+    }
+}
+
+impl From<LabelFault> for Fault {
+    ghost from_gives = { λ label fault. fault ≡ Label label };
+
+    fn from(label: LabelFault) -> Fault {
+        Fault::Label(label)
+    }
+}
+
+impl From<MoveError> for Fault {
+    ghost from_gives = { λ error fault. fault ≡ Move error };
+
+    fn from(error: MoveError) -> Fault {
+        Fault::Move(error)
     }
 }

@@ -2,6 +2,7 @@
 #![tactic(auto)]
 
 mod fault;
+mod labels;
 mod line;
 
 pub use fault::Fault;

@@ -5,6 +5,7 @@ ghost use Rattle.problem_file.specs.FieldName.{field_name};
 ghost use Rattle.fault_lines.specs.FaultLine.{fault_line, fixed_words, problem_words, read_words};
 
 use crate::Fault;
+use crate::labels::{push_label, push_move};
 use arrayvec::ArrayString;
 use byte_streams::ReadError;
 use itoa::Buffer;
@@ -32,6 +33,8 @@ pub fn line_of(fault: Fault) -> Line
             push_numbered(&mut line, "20 term ", failing.term);
             push_fixed(&mut line, failing.fixed);
         }
+        Fault::Label(label) => push_label(&mut line, label),
+        Fault::Move(error) => push_move(&mut line, error),
     }
     line.push_str("\n");
     line
@@ -71,7 +74,7 @@ fn push_problem(line: &mut Line, problem: ProblemFault)
 }
 
 // Words of at most 20 bytes, and a number after them.
-fn push_numbered(line: &mut Line, words: &str, number: usize)
+pub(crate) fn push_numbered(line: &mut Line, words: &str, number: usize)
     requires room { array_string_len line.old + 60 ≤ LINE_LIMIT }
     requires short { length words.now ≤ 20 }
     ensures bytes { line.new.bytes ≡ line.old.bytes ++ words.now ++ decimal number }

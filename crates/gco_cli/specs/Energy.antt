@@ -5,7 +5,7 @@ use Rattle.pseudo_bool.specs.Formula.{Formula}
 use Rattle.regular.specs.Regularity.{IsFirstFailing}
 use Rattle.problem_file.specs.Text.{HasFault, NamesEnergy}
 use Rattle.fault_lines.specs.declared.fault.Fault.{Fault}
-use Rattle.fault_lines.specs.declared.fault.Fault.TheVariants.{OutOfMemory, Write, Read, Problem, Regularity}
+use Rattle.fault_lines.specs.declared.fault.Fault.TheVariants.{OutOfMemory, Write, Read, Problem, Regularity, Label, Move}
 use Rattle.gco_cli.specs.Answer.{AnswersEnergy}
 
 -- the input is not too long, and names this energy
@@ -24,3 +24,5 @@ HasEnergyFault input (Read error) = IsReadRefusal input error
 HasEnergyFault input (Problem problem) = (length input ≤ input_limit) × HasFault input problem
 HasEnergyFault input (Regularity failing) =
     (e : Formula) × HoldsEnergy input e × IsFirstFailing e failing.term failing.fixed
+HasEnergyFault input (Label fault) = ⊥
+HasEnergyFault input (Move error) = ⊥

@@ -3,6 +3,7 @@
 
 mod answers;
 mod energy;
+mod label;
 mod refusal;
 mod runs;
 mod unread;

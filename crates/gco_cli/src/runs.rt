@@ -6,6 +6,7 @@ ghost use Rattle.gco_cli.specs.Run.{IsCut, IsDue, IsRun, IsSomeRun, Refuses, Tel
 ghost use Rattle.gco_cli.specs.Streams.{Takes, Took, stream};
 
 use crate::energy::run_energy;
+use crate::label::run_label;
 use crate::refusal::Refusal;
 use byte_streams::{Sink, Source, Watched, WatchedReader, put_text};
 use command_line::{NoTask, Task, parse};
@@ -135,6 +136,7 @@ fn run_task<R: Source, W: Sink>(
 {
     match task {
         Task::Energy => run_energy(alloc, source, sink),
+        Task::Label => run_label(alloc, source, sink),
     }
 }
 
