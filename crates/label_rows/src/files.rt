@@ -3,6 +3,7 @@ use label_field::Pair;
 use label_file::{Moves, read_label};
 use std::test::Fail;
 
+#[derive(Drop)]
 struct Row {
     file: &'static str,
     data: &'static [u32],
@@ -69,21 +70,29 @@ const ROWS: [Row; 5] = [
 
 #[test]
 fn reads_files(rt: HostRuntime) -> Result<(), Fail> {
-    for row in ROWS {
-        let problem = read_label(rt.alloc(), row.file.as_bytes())?;
-        assert_eq!(rt; problem.data.as_slice(), row.data, "{}", row.file);
-        assert_eq!(rt; problem.smooth.as_slice(), row.smooth, "{}", row.file);
-        assert_eq!(rt; problem.start.as_slice(), row.start, "{}", row.file);
-        assert_eq!(rt; problem.moves, row.moves, "{}", row.file);
-        assert_eq!(rt; problem.cycles, row.cycles, "{}", row.file);
-        assert_eq!(rt; problem.pairs.len(), row.pairs.len(), "{}", row.file);
-        for (place, (first, second, weight)) in row.pairs.iter().enumerate() {
+    for Row {
+        file,
+        data,
+        smooth,
+        pairs,
+        start,
+        moves,
+        cycles,
+    } in ROWS {
+        let problem = read_label(rt.alloc(), file.as_bytes())?;
+        assert!(rt; problem.data.as_slice() == data, "{}", file);
+        assert!(rt; problem.smooth.as_slice() == smooth, "{}", file);
+        assert!(rt; problem.start.as_slice() == start, "{}", file);
+        assert_eq!(rt; problem.moves, moves, "{}", file);
+        assert_eq!(rt; problem.cycles, cycles, "{}", file);
+        assert_eq!(rt; problem.pairs.len(), pairs.len(), "{}", file);
+        for (place, (first, second, weight)) in pairs.iter().enumerate() {
             let pair = Pair {
                 first: *first,
                 second: *second,
                 weight: *weight,
             };
-            assert_eq!(rt; problem.pairs.get(place), pair, "{}", row.file);
+            assert_eq!(rt; problem.pairs.get(place), pair, "{}", file);
         }
     }
     Ok(())

@@ -1,7 +1,9 @@
-//! Tests of problem files of labellings: files that are read, and the first fault of others.
+//! Tests of problems of labels: files that are read, the first fault of others, and whole runs.
 #![tactic(auto)]
 
 #[cfg(test)]
 mod files;
 #[cfg(test)]
 mod refusals;
+#[cfg(test)]
+mod runs;

@@ -1,0 +1,129 @@
+//! Whole runs of `gco label`. What each writes was worked by hand.
+use gco_cli::run;
+
+// Two sites at labels 0 and 2, which cost 4 beside each other. Label 1 costs 1 beside each.
+const APART: &str =
+    "sites = 2\nlabels = 3\nsmooth = [0,1,4,1,0,1,4,1,0]\npairs = [[0,1]]\nstart = [0,2]\n";
+
+// Two sites that each want their own of two labels.
+const UNLIKE: &str = "sites = 2\nlabels = 2\ndata = [0,3,3,0]\n";
+
+const DISTRICTS: &str = "sites = 5\nlabels = 3\ndata = [4,6,9,7,5,6,8,4,7,9,7,3,6,8,5]\n\
+                         pairs = [[0,1,3],[1,2,2],[2,3,2],[3,4,4],[1,3],[0,4]]\n";
+
+// A file in two parts, the exit status, what is written, and what is said.
+const ROWS: [(&str, &str, u8, &str, &str); 17] = [
+    (
+        DISTRICTS,
+        "",
+        0,
+        "energy 27 data 23 smooth 4\nlabels 1 1 1 2 2\n",
+        "",
+    ),
+    // To expand label 1 makes the term 4, 1, 1, 0: 4 + 0 is above 1 + 1.
+    (
+        APART,
+        "data = [0,9,9,9,9,0]",
+        1,
+        "",
+        "refused 24 pair 0 alpha 1\n",
+    ),
+    (
+        APART,
+        "data = [0,9,9,9,9,0]\nmoves = 'swap'",
+        0,
+        "energy 4 data 0 smooth 4\nlabels 0 2\n",
+        "",
+    ),
+    (
+        APART,
+        "data = [0,9,3,3,9,0]\nmoves = 'swap'",
+        0,
+        "energy 3 data 3 smooth 0\nlabels 0 0\n",
+        "",
+    ),
+    (
+        APART,
+        "data = [0,9,3,3,9,0]\nmoves = 'swap'\ncycles = 0",
+        0,
+        "energy 4 data 0 smooth 4\nlabels 0 2\n",
+        "",
+    ),
+    // The cost of two unlike labels is 0, and of label 1 twice is 1: 0 + 1 is above 0 + 0.
+    (
+        "sites = 2\nlabels = 2\ndata = [0,0,0,0]\nsmooth = [0,0,0,1]\npairs = [[0,1]]\n",
+        "moves = 'swap'",
+        1,
+        "",
+        "refused 24 pair 0 alpha 0 beta 1\n",
+    ),
+    // A pair that is listed twice counts twice.
+    (
+        UNLIKE,
+        "pairs = [[0,1],[0,1]]",
+        0,
+        "energy 2 data 0 smooth 2\nlabels 0 1\n",
+        "",
+    ),
+    (
+        UNLIKE,
+        "pairs = [[0,1],[0,1],[0,1]]",
+        0,
+        "energy 3 data 3 smooth 0\nlabels 0 0\n",
+        "",
+    ),
+    // Labels 1 and 2 are equally good: the first expansion leads to 1, and the next keeps it.
+    (
+        "sites = 1\nlabels = 3\n",
+        "data = [1,0,0]",
+        0,
+        "energy 0 data 0 smooth 0\nlabels 1\n",
+        "",
+    ),
+    (
+        "sites = 0\nlabels = 2\n",
+        "data = []",
+        0,
+        "energy 0 data 0 smooth 0\nlabels\n",
+        "",
+    ),
+    ("sites = ", "", 1, "", "refused 28\n"),
+    (
+        "sites = 1\nlabels = 2\n",
+        "data = [0]",
+        1,
+        "",
+        "refused 29 data\n",
+    ),
+    (UNLIKE, "pairs = [[0]]", 1, "", "refused 29 pairs 0\n"),
+    (UNLIKE, "pairs = [[0,2]]", 1, "", "refused 10 pair 0\n"),
+    (UNLIKE, "pairs = [[1,1]]", 1, "", "refused 12 pair 0\n"),
+    (UNLIKE, "pairs = [[0,1,1001]]", 1, "", "refused 14 pair 0\n"),
+    (
+        UNLIKE,
+        "smooth = [0,10001,1,0]",
+        1,
+        "",
+        "refused 15 smooth 1\n",
+    ),
+];
+
+#[test]
+fn runs(rt: HostRuntime) {
+    for (first, second, status, written, said) in ROWS {
+        let file = format!(in rt.alloc(); "{first}{second}").expect(&rt, "memory");
+        let mut reader = file.as_bytes();
+        let mut writer = Vec::new(rt.alloc());
+        let mut faults = Vec::new(rt.alloc());
+        let ended = run(
+            &rt,
+            &["gco", "label"],
+            &mut reader,
+            &mut writer,
+            &mut faults,
+        );
+        assert_eq!(rt; ended, status, "{file}");
+        assert!(rt; writer.as_slice() == written.as_bytes(), "{file}");
+        assert!(rt; faults.as_slice() == said.as_bytes(), "{file}");
+    }
+}
