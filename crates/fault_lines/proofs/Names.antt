@@ -1,5 +1,5 @@
 -- The keys of problem files of labels are short.
-use Rattle.std.proofs.Common.{ℕ, ◌≤◌, length, arith}
+use Rattle.std.proofs.Common.{◌≤◌, length, arith}
 use Rattle.label_file.specs.FieldNames.{field_name}
 use Rattle.label_file.specs.declared.fault.Field.{Field}
 use Rattle.label_file.specs.declared.fault.Field.TheVariants.{Sites, Labels, Data, Smooth, Trunc, Pairs, Start, Moves, Cycles}
