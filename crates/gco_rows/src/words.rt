@@ -42,6 +42,7 @@ fn words(rt: HostRuntime) {
         (&["gco", "help"], 0, GCO_HELP),
         (&["gco", "energy", "-h"], 0, ENERGY_HELP),
         (&["gco", "help", "energy"], 0, ENERGY_HELP),
+        (&["gco", "label", "--help"], 0, LABEL_HELP),
     ] {
         let mut reader = b"variables = 1".as_slice();
         let mut writer = CutWriter::ample();
@@ -70,6 +71,7 @@ Usage: gco <COMMAND>
 
 Commands:
   energy  The least value of an energy of yes-no variables, and where it stands
+  label   A labelling of low energy, by expansions of labels or swaps of two
   help    Print this message or the help of the given subcommand(s)
 
 Options:
@@ -109,6 +111,32 @@ Example:
 prints
   minimum 2
   assignment 1
+";
+
+const LABEL_HELP: &str = "\
+A labelling of low energy, by expansions of labels or swaps of two
+
+Usage: gco label
+
+Options:
+  -h, --help  Print help
+
+Reads a TOML file: the numbers of sites and labels, the cost of each label at each site (data), the cost
+of two labels at the sites of a pair (smooth, trunc), the pairs with their weights (pairs), the
+labelling to start from (start), and the moves to make (moves, cycles). What is left out has a default,
+but for sites, labels and data.
+
+Makes cycles of moves, each to the best labelling that it reaches, until one changes nothing or as many
+as are allowed are done. Writes two lines: `energy E data D smooth S`, the energy and its two parts, and
+`labels` with the label of each site.
+
+Exit status: 0 answered, 1 refused (standard error has one line `refused N ..`), 2 not understood.
+
+Example:
+  printf 'sites = 2\\nlabels = 2\\ndata = [0, 3, 3, 0]\\npairs = [[0, 1, 3]]' | gco label
+prints
+  energy 3 data 3 smooth 0
+  labels 0 0
 ";
 
 #[test]
