@@ -11,13 +11,47 @@ const UNLIKE: &str = "sites = 2\nlabels = 2\ndata = [0,3,3,0]\n";
 const DISTRICTS: &str = "sites = 5\nlabels = 3\ndata = [4,6,9,7,5,6,8,4,7,9,7,3,6,8,5]\n\
                          pairs = [[0,1,3],[1,2,2],[2,3,2],[3,4,4],[1,3],[0,4]]\n";
 
+const THREE_PIXELS: &str = "sites = 3\nlabels = 4\ndata = [0,1,2,3,3,2,1,0,0,1,2,3]\n";
+
 // A file in two parts, the exit status, what is written, and what is said.
-const ROWS: [(&str, &str, u8, &str, &str); 17] = [
+const ROWS: [(&str, &str, u8, &str, &str); 21] = [
     (
         DISTRICTS,
         "",
         0,
         "energy 27 data 23 smooth 4\nlabels 1 1 1 2 2\n",
+        "",
+    ),
+    // A row of three pixels 0 3 0, restored with weight 1: expanding 3 is worth its two borders.
+    (
+        THREE_PIXELS,
+        "pairs = [[0,1],[1,2]]",
+        0,
+        "energy 2 data 0 smooth 2\nlabels 0 3 0\n",
+        "",
+    ),
+    // With weight 2 it is not.
+    (
+        THREE_PIXELS,
+        "pairs = [[0,1,2],[1,2,2]]",
+        0,
+        "energy 3 data 3 smooth 0\nlabels 0 0 0\n",
+        "",
+    ),
+    // The rows 0 9 0 0 and 9 0 0 0 of a stereo pair: each pixel is found one to the left.
+    (
+        "sites = 4\nlabels = 2\ndata = [9,9,9,0,0,0,0,0]\n",
+        "pairs = [[0,1],[1,2],[2,3]]",
+        0,
+        "energy 9 data 9 smooth 0\nlabels 1 1 1 1\n",
+        "",
+    ),
+    // Pixels 10 12 200 in two segments, of which the first and the last are given.
+    (
+        "sites = 3\nlabels = 2\ndata = [0,10000000,1,188,10000000,0]\n",
+        "pairs = [[0,1,20],[1,2,5]]",
+        0,
+        "energy 6 data 1 smooth 5\nlabels 0 0 1\n",
         "",
     ),
     // To expand label 1 makes the term 4, 1, 1, 0: 4 + 0 is above 1 + 1.
