@@ -6,7 +6,7 @@ use Rattle.toml.specs.Data.{Data, Members, as_array, get_member}
 use Rattle.toml.specs.View.{items_view, view}
 use Rattle.toml.specs.declared.value.Value.{Value}
 use Rattle.label_field.specs.declared.pair.Pair.{Pair}
-use Rattle.label_field.specs.declared.pairs.TheConstants.{PAIR_LIMIT}
+use Rattle.label_field.specs.Limits.{pair_limit}
 use Rattle.label_field.specs.PairLists.{PairList}
 use Rattle.label_file.specs.FieldNames.{and_then, field_name}
 use Rattle.label_file.specs.Gains.{Gains}
@@ -56,15 +56,15 @@ read_step start now new vs i v within at read gain =
 
 -- the pairs of a table are those of the array that it has
 pub pairs_found : (n : ℕ) (ms : Members) (d : Data) (vs : List Value) → Some d ≡ get_member (field_name Pairs) ms → Some (items_view vs) ≡ as_array d
-    → length vs ≤ PAIR_LIMIT → pairs_in ms n ≡ pairs_from n 0 (map view vs)
+    → length vs ≤ pair_limit → pairs_in ms n ≡ pairs_from n 0 (map view vs)
 unfolding pairs_in
 pairs_found n ms d vs at is few =
-    let test : nat_le (length (map view vs)) PAIR_LIMIT ≡ true = rw (length_viewed vs) (grind (arith, nat_tests)) in
+    let test : nat_le (length (map view vs)) pair_limit ≡ true = rw (length_viewed vs) (grind (arith, nat_tests)) in
     rw (← at, ← is, listed vs, test) refl
 
 pub too_many_pairs : (n : ℕ) (ms : Members) (d : Data) (vs : List Value) → Some d ≡ get_member (field_name Pairs) ms → Some (items_view vs) ≡ as_array d
-    → PAIR_LIMIT < length vs → pairs_in ms n ≡ Err TooManyPairs
+    → pair_limit < length vs → pairs_in ms n ≡ Err TooManyPairs
 unfolding pairs_in
 too_many_pairs n ms d vs at is many =
-    let test : nat_le (length (map view vs)) PAIR_LIMIT ≡ false = rw (length_viewed vs) (grind (arith, nat_tests)) in
+    let test : nat_le (length (map view vs)) pair_limit ≡ false = rw (length_viewed vs) (grind (arith, nat_tests)) in
     rw (← at, ← is, listed vs, test) refl

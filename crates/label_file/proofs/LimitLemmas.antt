@@ -1,24 +1,26 @@
 -- The costs that a table names are as many as they must be, and in their limits.
-use Rattle.std.proofs.Common.{◌≡◌, ℕ, zero, suc, ◌+◌, ◌*◌, ◌≤◌, ◌==◌, Bool, true, false, not, ◌&&◌, List, length, get_or, map, ℤ, pos, negsuc, unsigned_abs, int_le, All, Option, Some, None, Result, Ok, Err, if◌then◌else◌, refl, subst, arith, length-append}
-use Rattle.std.specs.List.{flat_map, range_with_len, position}
+use Rattle.std.proofs.Common.{◌≡◌, ℕ, ◌*◌, ◌≤◌, ◌==◌, Bool, true, false, not, ◌&&◌, List, length, get_or, map, ℤ, pos, negsuc, unsigned_abs, int_le, ◌≤ℤ◌, All, Option, Some, None, Result, Ok, Err, if◌then◌else◌, refl, subst, arith}
+use Rattle.std.specs.List.{position}
 use Rattle.std.proofs.lemmas.Bool.Decides.{nat_tests}
 use Rattle.std.proofs.lemmas.Int.{ints}
 use Rattle.std.proofs.lemmas.List.{length-map}
-use Rattle.std.proofs.lemmas.List.Elements.{All-append, All-map, All-nil}
-use Rattle.std.proofs.lemmas.List.FromFn.{length-map-range_with_len}
+use Rattle.std.proofs.lemmas.List.Elements.{All-map}
 use Rattle.toml.specs.Data.{Data, string, integer, float, boolean, datetime, array, table, Items, Members, as_array, get_member}
 use Rattle.label_file.specs.FieldNames.{and_then, field_name, out_of_range, unless}
-use Rattle.label_file.specs.Limits.{IsCost}
+use Rattle.label_file.specs.Costs.{data_cost_limit}
 use Rattle.label_file.specs.ListFields.{checked, checked_items, data_at, data_from, data_in, integer_of, is_beyond, is_other, list_from, list_of, number_of}
-use Rattle.label_file.specs.SmoothFields.{listed_from, shape_cost, shape_named, shape_row, shape_table, smooth_at, smooth_from, smooth_in, table_named}
+use Rattle.label_file.specs.SmoothFields.{listed_from, smooth_at, smooth_from, smooth_in, table_named}
 use Rattle.label_file.specs.declared.fault.Field.{Field}
 use Rattle.label_file.specs.declared.fault.Field.TheVariants as field
 use Rattle.label_file.specs.declared.fault.LabelFault.{LabelFault}
 use Rattle.label_file.specs.declared.fault.LabelFault.TheVariants.{BadElement, BadField}
-use Rattle.label_file.specs.declared.problem.TheConstants.{DATA_COST_LIMIT, SMOOTH_COST_LIMIT, TRUNC_LIMIT}
-use Rattle.label_file.specs.declared.smooth.Shape.{Shape}
-use Rattle.label_file.specs.declared.smooth.Shape.TheVariants.{Potts, Linear, Quadratic}
 use Rattle.label_file.proofs.Listed.{none_passes}
+use Rattle.run_options.proofs.Tables.{rows_kept, table_long}
+use Rattle.run_options.specs.Limits.{IsSmoothCost, smooth_cost_limit, trunc_limit}
+use Rattle.run_options.specs.Names.{shape_named}
+use Rattle.run_options.specs.Shapes.{shape_table}
+use Rattle.run_options.specs.declared.shape.Shape.{Shape}
+use Rattle.run_options.specs.declared.shape.Shape.TheVariants.{Potts}
 
 unless_ok : {A : Type 0} (o : Option ℕ) (fault : ℕ → LabelFault) (r : Result A LabelFault) (x : A) → unless o fault r ≡ Ok x → (o ≡ None) × (r ≡ Ok x)
 unless_ok None fault r x e = (refl, e)
@@ -31,6 +33,10 @@ if_ok false r f x e = absurd (let never = e in cc)
 then_ok : {A B : Type 0} (r : Result A LabelFault) (next : A → Result B LabelFault) (y : B) → and_then r next ≡ Ok y → (x : A) × (r ≡ Ok x) × (next x ≡ Ok y)
 then_ok (Ok x) next y e = (x, refl, e)
 then_ok (Err f) next y e = absurd (let never = e in cc)
+
+-- a cost from 0 to the most
+abbrev IsCost : ℕ → ℤ → Type 0
+IsCost most z = (pos 0 ≤ℤ z) × (z ≤ℤ pos most)
 
 in_limit : (most : ℕ) (z : ℤ) → not (int_le (pos 0) z && int_le z (pos most)) ≡ false → IsCost most z
 in_limit most (pos n) e = (omega (arith, ints), grind (arith, ints, nat_tests))
@@ -66,66 +72,45 @@ small : (most : ℕ) (z : ℤ) → IsCost most z → unsigned_abs z ≤ most
 small most (pos n) h = omega (arith, ints, h.1)
 small most (negsuc n) h = absurd (omega (arith, ints, h.0))
 
-data_from_kept : (count : ℕ) (d : Data) (zs : List ℕ) → data_from count d ≡ Ok zs → (length zs ≡ count) × All (λ n. n ≤ DATA_COST_LIMIT) zs
+data_from_kept : (count : ℕ) (d : Data) (zs : List ℕ) → data_from count d ≡ Ok zs → (length zs ≡ count) × All (λ n. n ≤ data_cost_limit) zs
 unfolding data_from
 data_from_kept count d zs e =
-    let (ds, read, made) = then_ok (list_from field.Data count DATA_COST_LIMIT d) (λ ds. Ok (map number_of ds)) zs e in
-    let kept = list_kept field.Data count DATA_COST_LIMIT d ds read in
+    let (ds, read, made) = then_ok (list_from field.Data count data_cost_limit d) (λ ds. Ok (map number_of ds)) zs e in
+    let kept = list_kept field.Data count data_cost_limit d ds read in
     let same : map number_of ds ≡ zs = let is = made in cc in
-    let P : List ℕ → Type 0 = λ xs. (length xs ≡ count) × All (λ n. n ≤ DATA_COST_LIMIT) xs in
-    subst P same (simp length-map kept.long, All-map (λ n. n ≤ DATA_COST_LIMIT) number_of ds (λ k d below. small DATA_COST_LIMIT (integer_of (get_or ds k d)) (kept.limit k d below)))
+    let P : List ℕ → Type 0 = λ xs. (length xs ≡ count) × All (λ n. n ≤ data_cost_limit) xs in
+    subst P same (simp length-map kept.long, All-map (λ n. n ≤ data_cost_limit) number_of ds (λ k d below. small data_cost_limit (integer_of (get_or ds k d)) (kept.limit k d below)))
 
-data_at_kept : (count : ℕ) (o : Option Data) (zs : List ℕ) → data_at count o ≡ Ok zs → (length zs ≡ count) × All (λ n. n ≤ DATA_COST_LIMIT) zs
+data_at_kept : (count : ℕ) (o : Option Data) (zs : List ℕ) → data_at count o ≡ Ok zs → (length zs ≡ count) × All (λ n. n ≤ data_cost_limit) zs
 data_at_kept count None zs e = absurd (let never = e in cc)
 data_at_kept count (Some d) zs e = data_from_kept count d zs e
 
-pub data_kept : (ms : Members) (count : ℕ) (zs : List ℕ) → data_in ms count ≡ Ok zs → (length zs ≡ count) × All (λ n. n ≤ DATA_COST_LIMIT) zs
+pub data_kept : (ms : Members) (count : ℕ) (zs : List ℕ) → data_in ms count ≡ Ok zs → (length zs ≡ count) × All (λ n. n ≤ data_cost_limit) zs
 unfolding data_in
 data_kept ms count zs e = data_at_kept count (get_member (field_name field.Data) ms) zs e
 
 -- a table of k labels, with its costs in their limits
 abbrev IsTable : ℕ → List ℤ → Type 0
-IsTable k costs = (length costs ≡ k * k) × All (IsCost SMOOTH_COST_LIMIT) costs
+IsTable k costs = (length costs ≡ k * k) × All IsSmoothCost costs
 
-cost_kept : (shape : Shape) (most a b : ℕ) → most ≤ TRUNC_LIMIT → shape_cost shape most a b ≤ SMOOTH_COST_LIMIT
-cost_kept Potts most a b few = elim (a == b) as (λ t. (if t then 0 else 1) ≤ 10000) [ true ↦ omega arith | false ↦ omega arith ]
-cost_kept Linear most a b few = omega arith
-cost_kept Quadratic most a b few = omega arith
-
-to_cost : (n most : ℕ) → n ≤ most → IsCost most (pos n)
-to_cost n most h = (omega (arith, ints), omega (arith, ints))
-
-row_kept : (shape : Shape) (k most a : ℕ) → most ≤ TRUNC_LIMIT → All (IsCost SMOOTH_COST_LIMIT) (shape_row shape k most a)
-row_kept shape k most a few =
-    All-map (IsCost SMOOTH_COST_LIMIT) (λ b. pos (shape_cost shape most a b)) (range_with_len 0 k)
-    (λ i d below. to_cost (shape_cost shape most a (get_or (range_with_len 0 k) i d)) SMOOTH_COST_LIMIT (cost_kept shape most a (get_or (range_with_len 0 k) i d) few))
-
-rows_kept : (shape : Shape) (k most a n : ℕ) → most ≤ TRUNC_LIMIT
-    → (length (flat_map (shape_row shape k most) (range_with_len a n)) ≡ n * k) × All (IsCost SMOOTH_COST_LIMIT) (flat_map (shape_row shape k most) (range_with_len a n))
-rows_kept shape k most a zero few = (omega arith, All-nil (IsCost SMOOTH_COST_LIMIT))
-rows_kept shape k most a (suc n) few =
-    let rest = rows_kept shape k most (a + 1) n few in
-    let row : length (shape_row shape k most a) ≡ k = length-map-range_with_len (λ b. pos (shape_cost shape most a b)) 0 k in
-    (rw length-append (grind (arith, row, rest.0)), All-append (IsCost SMOOTH_COST_LIMIT) (shape_row shape k most a) (flat_map (shape_row shape k most) (range_with_len (a + 1) n)) (row_kept shape k most a few) rest.1)
-
-named_kept : (k most : ℕ) (o : Option Shape) (f : ℕ → List ℤ) → most ≤ TRUNC_LIMIT → table_named k o ≡ Ok f → IsTable k (f most)
+named_kept : (k most : ℕ) (o : Option Shape) (f : ℕ → List ℤ) → most ≤ trunc_limit → table_named k o ≡ Ok f → IsTable k (f most)
 named_kept k most None f few e = absurd (let never = e in cc)
 named_kept k most (Some shape) f few e =
     let same : shape_table shape k ≡ f = let is = e in cc in
     let P : (ℕ → List ℤ) → Type 0 = λ g. IsTable k (g most) in
-    subst P same (rows_kept shape k most 0 k few)
+    subst P same (table_long shape k most, rows_kept shape k most few)
 
 listed_kept : (k most : ℕ) (d : Data) (f : ℕ → List ℤ) → listed_from k d ≡ Ok f → IsTable k (f most)
 unfolding listed_from
 listed_kept k most d f e =
-    let (ds, read, made) = then_ok (list_from field.Smooth (k * k) SMOOTH_COST_LIMIT d) (λ ds. Ok (λ most. map integer_of ds)) f e in
-    let kept = list_kept field.Smooth (k * k) SMOOTH_COST_LIMIT d ds read in
+    let (ds, read, made) = then_ok (list_from field.Smooth (k * k) smooth_cost_limit d) (λ ds. Ok (λ most. map integer_of ds)) f e in
+    let kept = list_kept field.Smooth (k * k) smooth_cost_limit d ds read in
     let g : ℕ → List ℤ = λ most. map integer_of ds in
     let same : g ≡ f = let is = made in cc in
     let P : (ℕ → List ℤ) → Type 0 = λ h. IsTable k (h most) in
-    subst P same (simp length-map kept.long, All-map (IsCost SMOOTH_COST_LIMIT) integer_of ds kept.limit)
+    subst P same (simp length-map kept.long, All-map IsSmoothCost integer_of ds kept.limit)
 
-from_kept : (k most : ℕ) (d : Data) (f : ℕ → List ℤ) → most ≤ TRUNC_LIMIT → smooth_from k d ≡ Ok f → IsTable k (f most)
+from_kept : (k most : ℕ) (d : Data) (f : ℕ → List ℤ) → most ≤ trunc_limit → smooth_from k d ≡ Ok f → IsTable k (f most)
 unfolding smooth_from
 from_kept k most (string name) f few e = named_kept k most (shape_named name) f few e
 from_kept k most (integer z) f few e = listed_kept k most (integer z) f e
@@ -135,11 +120,11 @@ from_kept k most (datetime t) f few e = listed_kept k most (datetime t) f e
 from_kept k most (array ds) f few e = listed_kept k most (array ds) f e
 from_kept k most (table ms) f few e = listed_kept k most (table ms) f e
 
-at_kept : (k most : ℕ) (o : Option Data) (f : ℕ → List ℤ) → most ≤ TRUNC_LIMIT → smooth_at k o ≡ Ok f → IsTable k (f most)
+at_kept : (k most : ℕ) (o : Option Data) (f : ℕ → List ℤ) → most ≤ trunc_limit → smooth_at k o ≡ Ok f → IsTable k (f most)
 at_kept k most None f few e = named_kept k most (Some Potts) f few e
 at_kept k most (Some d) f few e = from_kept k most d f few e
 
-pub smooth_kept : (ms : Members) (k most : ℕ) (f : ℕ → List ℤ) → most ≤ TRUNC_LIMIT → smooth_in ms k ≡ Ok f
-    → (length (f most) ≡ k * k) × All (IsCost SMOOTH_COST_LIMIT) (f most)
+pub smooth_kept : (ms : Members) (k most : ℕ) (f : ℕ → List ℤ) → most ≤ trunc_limit → smooth_in ms k ≡ Ok f
+    → (length (f most) ≡ k * k) × All IsSmoothCost (f most)
 unfolding smooth_in
 smooth_kept ms k most f few e = at_kept k most (get_member (field_name field.Smooth) ms) f few e

@@ -1,8 +1,6 @@
 -- The list of an array, beside the values that it holds.
-use Rattle.std.proofs.Common.{◌≡◌, ℕ, ◌+◌, ◌<◌, ◌≤◌, nat_lt, true, false, Bool, not, ◌&&◌, cond, List, [], ◌∷◌, ◌++◌, length, get_or, map, ℤ, pos, negsuc, unsigned_abs, int_le, All, Some, None, refl, sym, ap, suc, ◌∙◌, arith}
-use Rattle.std.proofs.lemmas.List.{map-id, flat_map_more}
-use Rattle.std.proofs.lemmas.List.FromFn.{map-range_with_len_more}
-use Rattle.std.specs.List.{flat_map, range_with_len, position, position_or_len, prefix_len}
+use Rattle.std.proofs.Common.{◌≡◌, ℕ, ◌+◌, ◌<◌, ◌≤◌, nat_lt, true, false, Bool, not, ◌&&◌, cond, List, [], ◌∷◌, length, get_or, map, ℤ, pos, negsuc, unsigned_abs, int_le, All, Some, None, refl, sym, ap, suc, ◌∙◌, arith}
+use Rattle.std.specs.List.{position, position_or_len, prefix_len}
 use Rattle.std.proofs.lemmas.Bool.Decides.{nat_tests}
 use Rattle.std.proofs.lemmas.List.Sums.{prefix_len_passes}
 use Rattle.toml.specs.Data.{Data}
@@ -55,10 +53,3 @@ all_in_range most vs e k d below =
 pub map_viewed : {A : Type 0} (f : Data → A) (vs : List Value) → map f (map view vs) ≡ map (λ v. f (view v)) vs
 map_viewed f [] = refl
 map_viewed f (v ∷ vs) = ap (λ xs. f (view v) ∷ xs) (map_viewed f vs)
-
--- one more row
-pub front_more : (f : ℕ → List ℤ) (n : ℕ) → flat_map f (range_with_len 0 (n + 1)) ≡ flat_map f (range_with_len 0 n) ++ f n
-front_more f n =
-    let numbers : range_with_len 0 (n + 1) ≡ range_with_len 0 n ++ n ∷ [] =
-    sym (map-id (range_with_len 0 (n + 1))) ∙ map-range_with_len_more (λ x. x) 0 n n (omega arith) ∙ ap (λ xs. xs ++ n ∷ []) (map-id (range_with_len 0 n)) in
-    ap (flat_map f) numbers ∙ sym (flat_map_more f [] (range_with_len 0 n) n)

@@ -1,3 +1,4 @@
+pub mod Costs
 pub mod FieldNames
 pub mod Gains
 pub mod Limits

@@ -2,10 +2,10 @@
 use Rattle.std.specs.Prelude.{ℕ, ℤ, pos, unsigned_abs, int_le, Bool, not, ◌&&◌, ◌==◌, List, [], ◌∷◌, length, map, position, Option, Some, None, unwrap_or, Result, Ok, Err, if◌then◌else◌}
 use Rattle.std.specs.Option.{is_none}
 use Rattle.toml.specs.Data.{Data, Items, no_items, item, Members, as_array, as_integer, get_member}
+use Rattle.label_file.specs.Costs.{data_cost_limit}
 use Rattle.label_file.specs.FieldNames.{and_then, field_name, out_of_range, unless}
 use Rattle.label_file.specs.declared.fault.Field.{Field}
 use Rattle.label_file.specs.declared.fault.Field.TheVariants as field
-use Rattle.label_file.specs.declared.problem.TheConstants.{DATA_COST_LIMIT}
 use Rattle.label_file.specs.declared.fault.LabelFault.{LabelFault}
 use Rattle.label_file.specs.declared.fault.LabelFault.TheVariants.{BadField, BadElement}
 
@@ -47,7 +47,7 @@ list_from field count most d = checked_items field count most (as_array d)
 
 -- the costs of each of so many labels at sites
 unfoldable pub data_from : ℕ → Data → Result (List ℕ) LabelFault
-data_from count d = and_then (list_from field.Data count DATA_COST_LIMIT d) (λ ds. Ok (map number_of ds))
+data_from count d = and_then (list_from field.Data count data_cost_limit d) (λ ds. Ok (map number_of ds))
 
 abbrev pub data_at : ℕ → Option Data → Result (List ℕ) LabelFault
 data_at count None = Err (BadField field.Data)

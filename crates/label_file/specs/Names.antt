@@ -4,7 +4,7 @@ use Rattle.toml.specs.Data.{Members}
 use Rattle.toml.specs.Parse.{parse_document}
 use Rattle.label_field.specs.LabelFields.{LabelField}
 use Rattle.label_field.specs.PairLists.{PairList}
-use Rattle.label_field.specs.declared.labelling.TheConstants.{SITE_LIMIT, LABEL_LIMIT}
+use Rattle.label_field.specs.Limits.{site_limit, label_limit}
 use Rattle.label_file.specs.FieldNames.{and_then}
 use Rattle.label_file.specs.ListFields.{data_in}
 use Rattle.label_file.specs.MoveFields.{moves_in}
@@ -15,9 +15,9 @@ use Rattle.label_file.specs.StartFields.{start_in}
 use Rattle.label_file.specs.declared.fault.Field.TheVariants.{Sites, Labels, Trunc, Cycles}
 use Rattle.label_file.specs.declared.fault.LabelFault.{LabelFault}
 use Rattle.label_file.specs.declared.fault.LabelFault.TheVariants.{BadToml}
-use Rattle.label_file.specs.declared.problem.Moves.{Moves}
 use Rattle.label_file.specs.declared.problem.LabelProblem.{LabelProblem}
-use Rattle.label_file.specs.declared.problem.TheConstants.{TRUNC_LIMIT, CYCLE_LIMIT}
+use Rattle.run_options.specs.Limits.{trunc_limit, cycle_limit}
+use Rattle.run_options.specs.declared.moves.Moves.{Moves}
 
 -- what a problem says
 pub record Problem : Type 0 where
@@ -46,15 +46,15 @@ told p = record {
 -- the problem that a table names: the fields in this order, and the first fault of the first that has one
 abbrev pub names : Members → Result Problem LabelFault
 names ms =
-    and_then (number_in ms Sites 0 SITE_LIMIT) (λ sites.
-    and_then (number_in ms Labels 1 LABEL_LIMIT) (λ labels.
+    and_then (number_in ms Sites 0 site_limit) (λ sites.
+    and_then (number_in ms Labels 1 label_limit) (λ labels.
     and_then (data_in ms (sites * labels)) (λ data_costs.
     and_then (smooth_in ms labels) (λ table.
-    and_then (number_or ms Trunc 1 TRUNC_LIMIT 1) (λ most.
+    and_then (number_or ms Trunc 1 trunc_limit 1) (λ most.
     and_then (pairs_in ms sites) (λ list.
     and_then (start_in ms sites labels) (λ start.
     and_then (moves_in ms) (λ moves.
-    and_then (number_or ms Cycles 0 CYCLE_LIMIT 100) (λ cycles.
+    and_then (number_or ms Cycles 0 cycle_limit 100) (λ cycles.
     Ok (record {
       sites = sites;
       labels = labels;

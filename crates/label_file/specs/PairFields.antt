@@ -4,7 +4,7 @@ use Rattle.std.specs.Ordering.{int_eq}
 use Rattle.toml.specs.Data.{Data, Members, as_array, get_member}
 use Rattle.problem_file.specs.Problem.{integers_of}
 use Rattle.label_field.specs.declared.pair.Pair.{Pair}
-use Rattle.label_field.specs.declared.pairs.TheConstants.{PAIR_LIMIT, WEIGHT_LIMIT}
+use Rattle.label_field.specs.Limits.{pair_limit, weight_limit}
 use Rattle.label_file.specs.FieldNames.{and_then, field_name}
 use Rattle.label_file.specs.ListFields.{list_of}
 use Rattle.label_file.specs.declared.fault.Field.TheVariants.{Pairs}
@@ -17,7 +17,7 @@ is_site n (pos p) = nat_lt p n
 is_site n (negsuc p) = false
 
 abbrev pub is_weight : ℤ → Bool
-is_weight w = int_le (pos 0) w && int_le w (pos WEIGHT_LIMIT)
+is_weight w = int_le (pos 0) w && int_le w (pos weight_limit)
 
 -- the pair at place i, over n sites, of two integers and a weight
 unfoldable pub pair_with : ℕ → ℕ → ℤ → ℤ → ℤ → Result Pair LabelFault
@@ -43,7 +43,7 @@ pairs_from n i [] = Ok []
 pairs_from n i (d ∷ ds) = and_then (pair_at n i d) (λ pair. and_then (pairs_from n (i + 1) ds) (λ pairs. Ok (pair ∷ pairs)))
 
 abbrev pub pairs_of : ℕ → List Data → Result (List Pair) LabelFault
-pairs_of n ds = if nat_le (length ds) PAIR_LIMIT then pairs_from n 0 ds else Err TooManyPairs
+pairs_of n ds = if nat_le (length ds) pair_limit then pairs_from n 0 ds else Err TooManyPairs
 
 abbrev pub pairs_listed : ℕ → Option (List Data) → Result (List Pair) LabelFault
 pairs_listed n None = Err (BadField Pairs)

@@ -2,7 +2,7 @@
 use Rattle.std.specs.Prelude.{ℕ, ℤ, List}
 use Rattle.label_file.specs.declared.smooth.Smooth.{Smooth}
 use Rattle.label_file.specs.declared.smooth.Smooth.TheVariants.{Named, Listed}
-use Rattle.label_file.specs.SmoothFields.{shape_table}
+use Rattle.run_options.specs.Shapes.{shape_table}
 
 -- the table of k labels, where costs by distance are cut off at the most
 abbrev pub table_by : ℕ → Smooth → ℕ → List ℤ

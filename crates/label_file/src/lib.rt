@@ -14,8 +14,5 @@ mod smooth;
 mod start;
 
 pub use fault::{Field, LabelFault};
-pub use problem::{
-    CYCLE_LIMIT, DATA_COST_LIMIT, LabelProblem, Moves, SMOOTH_COST_LIMIT, TRUNC_LIMIT,
-};
+pub use problem::{DATA_COST_LIMIT, LabelProblem};
 pub use read::{problem_of, read_label};
-pub use smooth::Shape;

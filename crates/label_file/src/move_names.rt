@@ -1,22 +1,11 @@
 ghost use Rattle.std.specs.Prelude.{◌≡◌};
 ghost use Rattle.toml.specs.View.{table_view};
-ghost use Rattle.label_file.specs.MoveFields.{moves_in, moves_named};
+ghost use Rattle.label_file.specs.MoveFields.{moves_from, moves_in};
 
 use crate::numbers::value_of;
-use crate::{Field, LabelFault, Moves};
+use crate::{Field, LabelFault};
+use run_options::Moves;
 use toml::Table;
-
-impl Moves {
-    fn named(name: &str) -> Result<Moves, LabelFault>
-        ensures { result ≡ moves_named name.now }
-    {
-        match name {
-            "expansion" => Ok(Moves::Expansion),
-            "swap" => Ok(Moves::Swap),
-            _ => Err(LabelFault::BadField(Field::Moves)),
-        }
-    }
-}
 
 /// The moves that a table names.
 #[tactic(auto, unfolding(crate::specs::MoveFields::moves_in))]
@@ -27,7 +16,16 @@ pub(crate) fn moves_in(table: &Table) -> Result<Moves, LabelFault>
         return Ok(Moves::Expansion);
     };
     match value.as_str() {
-        Some(name) => Moves::named(name),
+        Some(name) => moves_from(name),
+        None => Err(LabelFault::BadField(Field::Moves)),
+    }
+}
+
+fn moves_from(name: &str) -> Result<Moves, LabelFault>
+    ensures { result ≡ moves_from name.now }
+{
+    match Moves::named(name) {
+        Some(moves) => Ok(moves),
         None => Err(LabelFault::BadField(Field::Moves)),
     }
 }

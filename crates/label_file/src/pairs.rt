@@ -1,7 +1,6 @@
 ghost use Rattle.std.specs.Prelude.{◌≡◌, ◌≢◌, ◌<◌, ◌≤◌, ℕ, ℤ, pos, false, [], length, vec_len, map, IfOk, IfErr, IfSome, OnOk, Ok, None};
 ghost use Rattle.toml.specs.View.{table_view, view};
-ghost use Rattle.label_field.specs.declared.labelling.TheConstants.{SITE_LIMIT};
-ghost use Rattle.label_field.specs.declared.pairs.TheConstants.{PAIR_LIMIT};
+ghost use Rattle.label_field.specs.Limits.{pair_limit, site_limit};
 ghost use Rattle.label_file.specs.declared.fault.LabelFault.TheVariants.{OutOfMemory};
 ghost use Rattle.label_file.specs.Gains.{Gains, refusal_of};
 ghost use Rattle.label_file.specs.PairFields.{is_site, pair_at, pair_with, pairs_from, pairs_in};
@@ -16,7 +15,7 @@ use toml::{Table, Value};
 /// The pairs of so many sites that a table names.
 #[tactic(auto, unfolding(crate::specs::PairFields::pairs_in))]
 pub(crate) fn pairs_in(alloc: Global, table: &Table, sites: u32) -> Result<Pairs, LabelFault>
-    requires { sites ≤ SITE_LIMIT }
+    requires { sites ≤ site_limit }
     ensures ok { IfOk result (λ pairs. pairs_in (table_view table.now) sites ≡ Ok pairs.list) }
     ensures refused { IfErr result (λ fault. fault ≢ OutOfMemory → pairs_in (table_view table.now) sites ≡ Err fault) }
     ensures sites { IfOk result (λ pairs. pairs.sites ≡ sites) }
@@ -39,9 +38,9 @@ pub(crate) fn pairs_in(alloc: Global, table: &Table, sites: u32) -> Result<Pairs
 
 /// Adds the pairs that the items name to a list that has none.
 fn add_items(pairs: &mut Pairs, items: &Vec<Value>) -> Result<(), LabelFault>
-    requires sites { pairs.old.sites ≤ SITE_LIMIT }
+    requires sites { pairs.old.sites ≤ site_limit }
     requires empty { pairs.old.list ≡ [] }
-    requires room { vec_len items.now ≤ PAIR_LIMIT }
+    requires room { vec_len items.now ≤ pair_limit }
     ensures ok { OnOk result (pairs_from pairs.old.sites 0 (map view items.now.items) ≡ Ok pairs.new.list) }
     ensures refused { IfErr result (λ fault. fault ≢ OutOfMemory → pairs_from pairs.old.sites 0 (map view items.now.items) ≡ Err fault) }
     ensures sites { pairs.new.sites ≡ pairs.old.sites }
@@ -55,8 +54,8 @@ fn add_items(pairs: &mut Pairs, items: &Vec<Value>) -> Result<(), LabelFault>
 /// Adds the pair that the item at a place of the list names.
 #[tactic(auto, unfolding(crate::specs::PairFields::pair_at))]
 fn add_item(pairs: &mut Pairs, place: usize, item: &Value) -> Result<(), LabelFault>
-    requires sites { pairs.old.sites ≤ SITE_LIMIT }
-    requires room { length pairs.old.list < PAIR_LIMIT }
+    requires sites { pairs.old.sites ≤ site_limit }
+    requires room { length pairs.old.list < pair_limit }
     ensures ok { OnOk result (Gains pairs.old pairs.new (pair_at pairs.old.sites place (view item.now))) }
     ensures refused { IfErr result (λ fault. fault ≢ OutOfMemory → pair_at pairs.old.sites place (view item.now) ≡ Err fault) }
     ensures sites { pairs.new.sites ≡ pairs.old.sites }
@@ -83,8 +82,8 @@ fn add(
     second: i64,
     weight: i64,
 ) -> Result<(), LabelFault>
-    requires sites { pairs.old.sites ≤ SITE_LIMIT }
-    requires room { length pairs.old.list < PAIR_LIMIT }
+    requires sites { pairs.old.sites ≤ site_limit }
+    requires room { length pairs.old.list < pair_limit }
     ensures ok { OnOk result (Gains pairs.old pairs.new (pair_with pairs.old.sites place first second weight)) }
     ensures refused { IfErr result (λ fault. fault ≢ OutOfMemory → pair_with pairs.old.sites place first second weight ≡ Err fault) }
     ensures sites { pairs.new.sites ≡ pairs.old.sites }
@@ -104,7 +103,7 @@ fn add(
 /// The number of a site, which no integer outside 32 bits is.
 fn site_of(number: i64) -> Option<u32>
     ensures some { IfSome result (λ site. number ≡ pos site) }
-    ensures none { result ≡ None → (n : ℕ) → n ≤ SITE_LIMIT → is_site n number ≡ false }
+    ensures none { result ≡ None → (n : ℕ) → n ≤ site_limit → is_site n number ≡ false }
 {
     match u32::try_from(number) {
         Ok(site) => Some(site),

@@ -1,25 +1,8 @@
 use label_field::{Labelling, Pairs};
+use run_options::Moves;
 
 /// The greatest cost of a label at a site. The least is 0.
 pub const DATA_COST_LIMIT: u32 = 10_000_000;
-
-/// The greatest cost of two labels at the sites of a pair. The least is 0.
-pub const SMOOTH_COST_LIMIT: u32 = 10_000;
-
-/// The greatest cost at which a cost by distance may be cut off. The least is 1.
-pub const TRUNC_LIMIT: u32 = 10_000;
-
-/// The most cycles of a run.
-pub const CYCLE_LIMIT: u32 = 1000;
-
-/// The moves of a run (Boykov, Veksler, Zabih, PAMI 2001, section 3).
-#[derive(Clone, Copy, Debug, PartialEq, Eq)]
-pub enum Moves {
-    /// To each label in turn: any set of sites may take it.
-    Expansion,
-    /// Between each two labels in turn: any set of the sites that have one of them may take the other.
-    Swap,
-}
 
 /// A problem of labels, and the run that is to better its labelling.
 #[derive(Drop)]

@@ -10,9 +10,10 @@ use crate::numbers::{number_in, number_or};
 use crate::pairs::pairs_in;
 use crate::smooth::smooth_in;
 use crate::start::start_in;
-use crate::{CYCLE_LIMIT, Field, LabelFault, LabelProblem, TRUNC_LIMIT};
+use crate::{Field, LabelFault, LabelProblem};
 use label_field::{LABEL_LIMIT, SITE_LIMIT};
 use problem_file::{ProblemFault, read_table};
+use run_options::{CYCLE_LIMIT, TRUNC_LIMIT};
 use std::alloc::Global;
 use toml::Table;
 

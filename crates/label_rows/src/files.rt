@@ -1,6 +1,7 @@
 //! Files that are read. What each names was worked by hand.
 use label_field::Pair;
-use label_file::{Moves, read_label};
+use label_file::read_label;
+use run_options::Moves;
 use std::test::Fail;
 
 #[derive(Drop)]

@@ -1,7 +1,7 @@
 -- What a run over tables answers.
 use Rattle.std.specs.Prelude.{◌≡◌, ℕ, ℤ, pos, List, Result, Ok, Err}
-use Rattle.label_file.specs.declared.problem.Moves.{Moves}
-use Rattle.label_file.specs.declared.problem.Moves.TheVariants.{Expansion, Swap}
+use Rattle.run_options.specs.declared.moves.Moves.{Moves}
+use Rattle.run_options.specs.declared.moves.Moves.TheVariants.{Expansion, Swap}
 use Rattle.labellings.specs.declared.change.Move.{Move}
 use Rattle.labellings.specs.Chains.{expansions, swaps}
 use Rattle.labellings.specs.Energies.{Instance, labelling, data_energy, smooth_energy}

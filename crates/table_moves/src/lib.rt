@@ -15,8 +15,9 @@ ghost use Rattle.table_moves.specs.Runs.{Answers, cycle_of};
 
 use cost_store::{DataCost, SmoothCost, is_metric};
 use label_field::{Labelling, Pairs};
-use label_file::{LabelProblem, Moves};
+use label_file::LabelProblem;
 use moves::{Ended, How, MoveError, Problem};
+use run_options::Moves;
 use std::alloc::Global;
 
 /// Where a run ended.

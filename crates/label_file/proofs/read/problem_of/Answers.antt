@@ -18,5 +18,5 @@ returns-clause-limits c =
       pair_sites = c.in_ok-pairs.ensures.sites;
       start_sites = c.in_ok-start.ensures.sizes.0;
       start_labels = c.in_ok-start.ensures.sizes.1;
-      cycle_limit = (c.in_ok-cycles.ensures.range (omega arith, omega arith)).1;
+      cycles_limit = (c.in_ok-cycles.ensures.range (omega arith, omega arith)).1;
     }

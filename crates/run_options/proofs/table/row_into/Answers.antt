@@ -1,8 +1,8 @@
 use Rattle.std.proofs.Common.{pos, arith}
 use Rattle.std.proofs.lemmas.Grind.{common_steps}
 use Rattle.std.proofs.lemmas.List.FromFn.{map-range_with_len_more}
-use Rattle.label_file.specs.SmoothFields.{shape_cost}
-use Rattle.label_file.proofs.smooth.row_into.Goals as goal
+use Rattle.run_options.specs.Shapes.{shape_cost}
+use Rattle.run_options.proofs.table.row_into.Goals as goal
 
 pub loop-second-preserved : goal.loop-second-preserved
 loop-second-preserved c =
