@@ -6,8 +6,8 @@ use Rattle.label_file.specs.Names.{Problem, problem_in}
 use Rattle.label_file.specs.declared.fault.LabelFault.{LabelFault}
 use Rattle.label_file.specs.declared.fault.LabelFault.TheVariants as label
 use Rattle.table_moves.specs.Instances.{instance_named}
-use Rattle.table_moves.specs.Runs.{Answers}
-use Rattle.table_moves.specs.declared.Run.{Run}
+use Rattle.labelling_runs.specs.Runs.{Answers}
+use Rattle.labelling_runs.specs.declared.Run.{Run}
 use Rattle.fault_lines.specs.declared.fault.Fault.{Fault}
 use Rattle.fault_lines.specs.declared.fault.Fault.TheVariants.{OutOfMemory, Write, Read, Problem as EnergyFile, Regularity, Label, Move}
 

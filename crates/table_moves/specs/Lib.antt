@@ -1,2 +1,1 @@
 pub mod Instances
-pub mod Runs

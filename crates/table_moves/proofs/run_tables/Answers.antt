@@ -1,7 +1,7 @@
-use Rattle.std.proofs.Common.{◌≡◌, ◌∙◌, ◌*◌, ℕ, sym, ap, subst}
-use Rattle.label_file.specs.Names.{told}
-use Rattle.table_moves.specs.Instances.{instance_of}
-use Rattle.table_moves.specs.Runs.{Answers}
+use Rattle.std.proofs.Common.{◌∙◌, ◌*◌, ℕ, sym, subst}
+use Rattle.labelling_runs.specs.Instances.{instance_of}
+use Rattle.labelling_runs.specs.Runs.{Answers}
+use Rattle.table_moves.specs.Instances.{data_entry}
 use Rattle.table_moves.proofs.run_tables.Goals as goal
 
 pub run_over-requires-clause-sites : goal.run_over-requires-clause-sites
@@ -19,6 +19,6 @@ run_over-requires-clause-smooth g c =
 
 pub returns : goal.returns
 returns g c =
-    let P : ℕ → Type 0 = λ labels. Answers (instance_of c.args.problem.pairs labels c.args.problem.data.items c.args.problem.smooth.items)
+    let P : ℕ → Type 0 = λ labels. Answers (instance_of c.args.problem.pairs labels (data_entry labels c.args.problem.data.items) c.args.problem.smooth.items)
     c.args.problem.moves c.args.problem.cycles c.args.problem.start.at c.run_over.result in
     subst P c.requires.limits.start_labels (rw (c.as_slice.ensures.value, c.as_slice-2.ensures.value) at c.run_over.ensures)

@@ -1,5 +1,6 @@
--- What a run over tables answers.
-use Rattle.std.specs.Prelude.{◌≡◌, ℕ, ℤ, pos, List, Result, Ok, Err}
+-- What a run answers.
+use Rattle.std.specs.Prelude.{◌≡◌, ℕ, ℤ, pos, ◌≤ℤ◌, List, length, Result, Ok, Err}
+use Rattle.label_field.specs.LabelFields.{LabelField}
 use Rattle.run_options.specs.declared.moves.Moves.{Moves}
 use Rattle.run_options.specs.declared.moves.Moves.TheVariants.{Expansion, Swap}
 use Rattle.labellings.specs.declared.change.Move.{Move}
@@ -7,7 +8,7 @@ use Rattle.labellings.specs.Chains.{expansions, swaps}
 use Rattle.labellings.specs.Energies.{Instance, labelling, data_energy, smooth_energy}
 use Rattle.moves.specs.Problems.{IsRun}
 use Rattle.moves.specs.declared.error.MoveError.{MoveError}
-use Rattle.table_moves.specs.declared.Run.{Run}
+use Rattle.labelling_runs.specs.declared.Run.{Run}
 
 -- the moves of a cycle
 abbrev pub cycle_of : Moves → ℕ → List Move
@@ -22,3 +23,13 @@ Answers m moves cycles start (Ok run) =
     × (run.«data» ≡ pos (data_energy m (labelling run.labelling.at)))
     × (run.smooth ≡ pos (smooth_energy m (labelling run.labelling.at)))
 Answers m moves cycles start (Err e) = (reached : List ℕ) × IsRun m (cycle_of moves m.labels) cycles start reached (Err e)
+
+-- the last labelling has the sizes of the first, and the parts of its energy are in their ranges: 2^20 sites, and 2^22 pairs, each
+-- of which costs at most 10^7
+pub record IsSized (start : LabelField) (run : Run) : Type 0 where
+  pub labels_are : run.labelling.labels ≡ start.labels
+  pub sites_are : length run.labelling.at ≡ length start.at
+  pub data_least : pos 0 ≤ℤ run.«data»
+  pub data_most : run.«data» ≤ℤ pos 10485760000000
+  pub smooth_least : pos 0 ≤ℤ run.smooth
+  pub smooth_most : run.smooth ≤ℤ pos 41943040000000

@@ -1,4 +1,4 @@
-use Rattle.table_moves.proofs.make_moves.Goals as goal
+use Rattle.labelling_runs.proofs.make_moves.Goals as goal
 
 pub returns-in-Expansion-clause-run : goal.returns-in-Expansion-clause-run
 returns-in-Expansion-clause-run g c = λ m meant. rw c.in-Expansion.is (c.run_expansion.ensures.run m meant)

@@ -1,0 +1,53 @@
+use Rattle.std.proofs.Common.{◌∙◌, ◌*◌, ℕ, refl, sym, subst, pos}
+use Rattle.cost_store.specs.Promises.{IsMetricTable}
+use Rattle.labelling_runs.specs.Instances.{instance_of}
+use Rattle.labelling_runs.proofs.Entries.{smooth_keeps, below_along, smooth_along, metric_kept}
+use Rattle.labelling_runs.proofs.run_with_table.Goals as goal
+
+pub stored-requires-clause-keeps : goal.stored-requires-clause-keeps
+stored-requires-clause-keeps g c =
+    smooth_keeps (pos 10000) c.args.smooth.now c.labels-labels.result c.labels-labels.result
+    (c.requires.smooth.0 ∙ (λ i. sym c.labels-labels.ensures.value i * sym c.labels-labels.ensures.value i))
+    c.labels-labels.ensures.sizes.2 c.requires.smooth.1
+
+pub stored-requires-clause-metric : goal.stored-requires-clause-metric
+stored-requires-clause-metric g c =
+    λ met cost entries. metric_kept c.labels-labels.result c.args.smooth.now (c.is_metric.ensures.0 met) cost entries
+
+pub run_problem-requires-clause-sizes : goal.run_problem-requires-clause-sizes
+run_problem-requires-clause-sizes g c =
+    rw c.stored.ensures.stored
+    (record { field_sites = c.requires.sites.0; data_sites = c.requires.sites.1; field_labels = sym c.requires.labels; smooth_labels_are = c.labels-labels.ensures.value ∙ sym c.requires.labels })
+
+pub run_problem-requires-clause-costs : goal.run_problem-requires-clause-costs
+run_problem-requires-clause-costs g c = c.requires.costs
+
+pub run_problem-requires-clause-smooth : goal.run_problem-requires-clause-smooth
+run_problem-requires-clause-smooth g c = c.stored.ensures.keeps
+
+pub returns-clause-run : goal.returns-clause-run
+returns-clause-run g c = λ m is.
+    let labels = c.labels-labels.ensures.value in
+    c.run_problem.ensures.run m
+    (rw c.stored.ensures.stored (record {
+      sites_are = is.sites_are;
+      labels_are = is.labels_are ∙ sym c.requires.labels;
+      pairs_are = is.pairs_are;
+      data_are = λ a b z la lb ans. is.data_are a b z la (below_along b _ _ lb c.requires.labels) ans;
+      smooth_are = λ a b z la lb ans. smooth_along c.args.smooth.now a b z _ _ labels ans
+          ∙ is.smooth_are.each a b (below_along a _ _ la c.requires.labels) (below_along b _ _ lb c.requires.labels);
+    }))
+
+pub returns-clause-metric : goal.returns-clause-metric
+returns-clause-metric g c = λ metric m is.
+    let labels = c.labels-labels.ensures.value in
+    let P : ℕ → Type 0 = λ k. IsMetricTable k c.args.smooth.now in
+    c.run_problem.ensures.metric (rw c.stored.ensures.stored (c.is_metric.ensures.1 (subst P (sym labels) metric))) m
+    (rw c.stored.ensures.stored (record {
+      sites_are = is.sites_are;
+      labels_are = is.labels_are ∙ sym c.requires.labels;
+      pairs_are = is.pairs_are;
+      data_are = λ a b z la lb ans. is.data_are a b z la (below_along b _ _ lb c.requires.labels) ans;
+      smooth_are = λ a b z la lb ans. smooth_along c.args.smooth.now a b z _ _ labels ans
+          ∙ is.smooth_are.each a b (below_along a _ _ la c.requires.labels) (below_along b _ _ lb c.requires.labels);
+    }))
