@@ -1,15 +1,17 @@
--- How the refusal of a command becomes that of a run.
-use Rattle.std.proofs.Common.{◌≡◌, ◌||◌, ℕ, Bool, false, List, [], inl, inr, Result, Ok, Err, IfErr, refl, sym, subst}
+-- How the refusal of a command becomes that of a run, and a run's end the run.
+use Rattle.std.proofs.Common.{◌≡◌, ◌||◌, ◌≤◌, ℕ, Bool, false, List, [], inl, inr, Result, Ok, Err, IfOk, IfErr, MatchResult, refl, sym, subst, arith}
 use Rattle.std.specs.Result.{IsErrAnd}
-use Rattle.command_line.specs.Task.{Asks, AsksForHelp}
+use Rattle.command_line.specs.Task.{Asks, AsksForHelp, IsNoTaskFor}
+use Rattle.command_line.specs.declared.task.NoTask.{NoTask}
+use Rattle.command_line.specs.declared.task.NoTask.TheVariants.{OutOfMemory, Help, Refused}
 use Rattle.command_line.specs.declared.task.Task.{Task}
 use Rattle.fault_lines.specs.declared.fault.Fault.{Fault}
 use Rattle.gco_cli.specs.Commands.{IsDueFor, StandsFor}
-use Rattle.gco_cli.specs.Refusals.{IsRefusalFor}
-use Rattle.gco_cli.specs.Run.{IsCut, IsDue, Refuses, is_failed_read}
-use Rattle.gco_cli.specs.Streams.{Stream}
+use Rattle.gco_cli.specs.Refusals.{IsHelp, IsRefusalFor, IsRefusalOf, SaysRefusal, status_of}
+use Rattle.gco_cli.specs.Run.{IsCut, IsDue, IsRun, Refuses, Streams, Writes, is_failed_read}
+use Rattle.gco_cli.specs.Streams.{Stream, Took}
 use Rattle.gco_cli.specs.declared.refusal.Refusal.{Refusal}
-use Rattle.gco_cli.specs.declared.refusal.Refusal.TheVariants.{Fault as Faulty}
+use Rattle.gco_cli.specs.declared.refusal.Refusal.TheVariants.{Fault as Faulty, Words}
 
 -- an error that was made of a fault is what is said of that fault
 pub as_fault : {L : Type 0} (P : Refusal → Type 0) (fault : Fault) (r : Result L Refusal) → IsErrAnd r (λ e. e ≡ Faulty fault)
@@ -19,7 +21,7 @@ as_fault P fault (Err e) is p = subst P (sym is) p
 
 cut_weaker : (Due Due' : List ℕ → List ℕ → Type 0) (old new : Stream) (fault : Fault)
     → ((text said : List ℕ) → Due text said → Due' text said) → IsCut Due old new fault → IsCut Due' old new fault
-cut_weaker Due Due' old new fault due k = (k.0, k.1, k.2, k.3, due k.2 k.3 k.4, k.5)
+cut_weaker Due Due' old new fault due k = (k.0, k.1, due k.0 k.1 k.2, k.3)
 
 -- a refusal of a command that was asked for is one of the run
 pub of_command : (words : List (List ℕ)) (task : Task) (source source_new old new : Stream) (fault : Fault) → Asks words task
@@ -39,9 +41,49 @@ unread : (fault : Fault) (b : Bool) → is_failed_read fault ≡ false → b ≡
 unread fault b is = rw is refl
 
 -- help that was cut is a refusal of a run that was asked for help
-pub of_help : (words : List (List ℕ)) (source old new : Stream) (fault : Fault) → AsksForHelp words
-    → IsCut (λ text said. said ≡ []) old new fault → IsRefusalFor words source source old new (Faulty fault)
+of_help : (words : List (List ℕ)) (source old new : Stream) (fault : Fault) → AsksForHelp words
+    → IsCut IsHelp old new fault → IsRefusalFor words source source old new (Faulty fault)
 of_help words source old new fault asks stops = (
-  inr (cut_weaker (λ text said. said ≡ []) (IsDue words source.bytes) old new fault (λ text said none. inl (asks, none)) stops),
-  unread fault source.has_failed (rw stops.1 refl),
+  inr (cut_weaker IsHelp (IsDue words source.bytes) old new fault (λ text said none. inl (asks, none)) stops),
+  unread fault source.has_failed (rw stops.3.1 refl),
 )
+
+-- words without a task: a refusal is one of the run
+refused : (words : List (List ℕ)) (no_task : NoTask) (source old new : Stream) (e : Refusal) → IsNoTaskFor words no_task
+    → IsRefusalOf no_task old new e → IsRefusalFor words source source old new e
+refused words OutOfMemory source old new e is of =
+    rw of.0 (inl (inl refl, refl, of.1), refl)
+refused words (Help text) source old new (Faulty fault) is of = of_help words source old new fault is of
+refused words (Help text) source old new (Words said) is of = absurd of
+refused words (Refused text) source old new e is of = rw of.0 (is, refl, of.1)
+
+pub all_refused : {T : Type 0} (words : List (List ℕ)) (no_task : NoTask) (source old new : Stream) (r : Result T Refusal)
+    → IsNoTaskFor words no_task → IfErr r (IsRefusalOf no_task old new) → IfErr r (IsRefusalFor words source source old new)
+all_refused words no_task source old new (Ok said) is of = tt
+all_refused words no_task source old new (Err e) is of = refused words no_task source old new e is of
+
+-- the end of a run, and what was said of it, is the run
+pub run_of : {T : Type 0} (bytes : T → List ℕ) (words : List (List ℕ)) (old new : Streams) (end : Result T Refusal)
+    → MatchResult end (λ said. Took old.faults new.faults (bytes said)) (SaysRefusal old.faults new.faults)
+    → IfOk end (λ said. Writes (IsDue words old.source.bytes) old.sink new.sink (bytes said)
+    × (new.source.has_failed ≡ old.source.has_failed))
+    → IfErr end (IsRefusalFor words old.source new.source old.sink new.sink)
+    → IsRun words old new (status_of end)
+run_of bytes words old new (Ok said) told done refused = record {
+  done = λ is. record { said = bytes said; written = done.0; told = told; read = done.1 };
+  refused = λ is. absurd (omega (arith, is));
+  rejected = λ is. absurd (omega (arith, is));
+  range = omega arith;
+}
+run_of bytes words old new (Err (Faulty fault)) told done refused = record {
+  done = λ is. absurd (omega (arith, is));
+  refused = λ is. record { fault = fault; stands = refused.0; told = told; read = refused.1 };
+  rejected = λ is. absurd (omega (arith, is));
+  range = omega arith;
+}
+run_of bytes words old new (Err (Words text)) told done refused = record {
+  done = λ is. absurd (omega (arith, is));
+  refused = λ is. absurd (omega (arith, is));
+  rejected = λ is. record { refused = refused.0; text = told.0; told = told.1; read = refused.1; written = refused.2 };
+  range = omega arith;
+}

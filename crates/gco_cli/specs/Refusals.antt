@@ -1,8 +1,12 @@
--- How a run comes to be refused.
-use Rattle.std.specs.Prelude.{◌≡◌, ◌||◌, ℕ, List}
+-- How a run comes to be refused, and what its end says.
+use Rattle.std.specs.Prelude.{◌≡◌, ◌||◌, ℕ, List, [], Result, Ok, Err}
 use Rattle.command_line.specs.Task.{AreRefused}
-use Rattle.gco_cli.specs.Run.{IsDue, Refuses, Stands, is_failed_read}
-use Rattle.gco_cli.specs.Streams.{Stream}
+use Rattle.command_line.specs.declared.task.NoTask.{NoTask}
+use Rattle.command_line.specs.declared.task.NoTask.TheVariants.{OutOfMemory, Help, Refused}
+use Rattle.fault_lines.specs.FaultLine.{fault_line}
+use Rattle.fault_lines.specs.declared.fault.Fault.TheVariants as fault
+use Rattle.gco_cli.specs.Run.{IsCut, IsDue, Refuses, Stands, Writes, is_failed_read}
+use Rattle.gco_cli.specs.Streams.{Stream, Took}
 use Rattle.gco_cli.specs.declared.refusal.Refusal.{Refusal}
 use Rattle.gco_cli.specs.declared.refusal.Refusal.TheVariants.{Fault, Words}
 
@@ -13,3 +17,31 @@ IsRefusalFor words source source_new sink sink_new (Fault fault) =
     × (source_new.has_failed ≡ (is_failed_read fault || source.has_failed))
 IsRefusalFor words source source_new sink sink_new (Words text) =
     AreRefused words × (source_new ≡ source) × (sink_new ≡ sink)
+
+-- help, of which nothing is said beside it
+abbrev pub IsHelp : List ℕ → List ℕ → Type 0
+IsHelp text said = said ≡ []
+
+-- help was asked for, and written
+abbrev pub ShowsHelp : NoTask → Stream → Stream → List ℕ → Type 0
+ShowsHelp (Help text) old new said = Writes IsHelp old new said
+ShowsHelp OutOfMemory old new said = ⊥
+ShowsHelp (Refused text) old new said = ⊥
+
+-- words without a task are refused for this: help was cut, or nothing was written
+abbrev pub IsRefusalOf : NoTask → Stream → Stream → Refusal → Type 0
+IsRefusalOf OutOfMemory old new refusal = (refusal ≡ Fault fault.OutOfMemory) × (new ≡ old)
+IsRefusalOf (Help text) old new (Fault fault) = IsCut IsHelp old new fault
+IsRefusalOf (Help text) old new (Words said) = ⊥
+IsRefusalOf (Refused text) old new refusal = (refusal ≡ Words text) × (new ≡ old)
+
+-- what is said of a refusal: the line of its fault, or some words
+abbrev pub SaysRefusal : Stream → Stream → Refusal → Type 0
+SaysRefusal old new (Fault fault) = Took old new (fault_line fault)
+SaysRefusal old new (Words text) = (said : List ℕ) × Took old new said
+
+-- the exit status
+abbrev pub status_of : {T : Type 0} → Result T Refusal → ℕ
+status_of (Ok said) = 0
+status_of (Err (Fault fault)) = 1
+status_of (Err (Words text)) = 2

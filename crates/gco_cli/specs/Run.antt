@@ -33,10 +33,13 @@ is_failed_read fault = false
 abbrev pub Writes : (List ℕ → List ℕ → Type 0) → Stream → Stream → List ℕ → Type 0
 Writes Due old new said = (text : List ℕ) × Due text said × Takes old new text
 
+-- the sink failed within the text, as the fault says
+abbrev pub IsCutIn : List ℕ → Stream → Stream → Fault → Type 0
+IsCutIn text old new fault = (failed : WriteFailed) × (fault ≡ Write failed) × Stops old new text failed.count
+
 -- the sink failed within the due text, as the fault says
 abbrev pub IsCut : (List ℕ → List ℕ → Type 0) → Stream → Stream → Fault → Type 0
-IsCut Due old new fault = (failed : WriteFailed) × (fault ≡ Write failed)
-    × (text : List ℕ) × (said : List ℕ) × Due text said × Stops old new text failed.count
+IsCut Due old new fault = (text : List ℕ) × (said : List ℕ) × Due text said × IsCutIn text old new fault
 
 -- nothing was written, and the fault stands; or the sink failed within the due text
 abbrev pub Refuses : (List ℕ → List ℕ → Type 0) → (Fault → Type 0) → Stream → Stream → Fault → Type 0

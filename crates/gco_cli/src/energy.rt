@@ -1,51 +1,32 @@
 //! `gco energy`.
-ghost use Rattle.std.specs.Prelude.{◌≡◌, [], false, IfOk, IfErr, IfSome};
+ghost use Rattle.std.specs.Prelude.{◌≡◌, false, IfOk, IfErr, IfSome};
 ghost use Rattle.command_line.specs.declared.task.Task.TheVariants.{Energy as EnergyTask};
 ghost use Rattle.gco_cli.specs.Commands.{IsDueFor, StandsFor};
 ghost use Rattle.gco_cli.specs.Energy.{HasEnergyFault, HoldsEnergy};
-ghost use Rattle.gco_cli.specs.Run.{Refuses, TellsRead, Writes, is_write};
-ghost use Rattle.gco_cli.specs.Streams.{stream};
+ghost use Rattle.gco_cli.specs.Run.{TellsRead, is_write};
 
 use crate::answers::answer;
-use byte_streams::{Sink, Source, put_text, read_input};
+use crate::written::Answer;
+use byte_streams::{Source, read_input};
 use fault_lines::{Fault, Line};
 use problem_file::read_energy;
 use pseudo_bool::Energy;
 use regular::check;
 use std::alloc::Global;
 
-/// Reads a problem file and writes the answer to its energy, which is made whole before any of it is
-/// written. Nothing is said beside it.
-pub fn run_energy<R: Source, W: Sink>(
-    alloc: Global,
-    source: &mut R,
-    sink: &mut W,
-) -> Result<Line, Fault>
-    ensures done { IfOk result (λ said. Writes (IsDueFor EnergyTask (R.remaining source.old))
-        (stream (W.held sink.old) (W.has_failed sink.old))
-        (stream (W.held sink.new) (W.has_failed sink.new)) said.bytes) }
-    ensures refused { IfErr result (Refuses (IsDueFor EnergyTask (R.remaining source.old))
-        (StandsFor EnergyTask (R.remaining source.old))
-        (stream (W.held sink.old) (W.has_failed sink.old))
-        (stream (W.held sink.new) (W.has_failed sink.new))) }
-    ensures read { TellsRead (R.has_failed source.old) (R.has_failed source.new) result }
-    ensures kept { W.loan sink.new ≡ W.loan sink.old }
-{
-    let text = energy_text(alloc, source)?;
-    put_text(sink, text.as_slice())?;
-    Ok(Line::new())
-}
-
-// The answer to the input.
-fn energy_text<R: Source>(alloc: Global, source: &mut R) -> Result<Vec<u8>, Fault>
-    ensures due { IfOk result (λ text. IsDueFor EnergyTask (R.remaining source.old) text.items []) }
+/// The answer to the problem file that the input is. Nothing is said beside it.
+pub fn answer_energy<R: Source>(alloc: Global, source: &mut R) -> Result<Answer, Fault>
+    ensures due { IfOk result (λ a. IsDueFor EnergyTask (R.remaining source.old) a.text.items a.said.bytes) }
     ensures stands { IfErr result (StandsFor EnergyTask (R.remaining source.old)) }
     ensures unwritten { IfErr result (λ fault. is_write fault ≡ false) }
     ensures read { TellsRead (R.has_failed source.old) (R.has_failed source.new) result }
 {
     let energy = read_problem(alloc, source)?;
     let regular = check(&energy)?;
-    Ok(answer(alloc, regular)?)
+    Ok(Answer {
+        text: answer(alloc, regular)?,
+        said: Line::new(),
+    })
 }
 
 // The energy that the input names.

@@ -1,14 +1,14 @@
 //! `gco label`.
-ghost use Rattle.std.specs.Prelude.{◌≡◌, ◌++◌, [], false, decimal, pos, ◌≤ℤ◌, unsigned_abs, OnOk, IfOk, IfErr, IfSome};
+ghost use Rattle.std.specs.Prelude.{◌≡◌, ◌++◌, false, decimal, pos, ◌≤ℤ◌, unsigned_abs, OnOk, IfOk, IfErr, IfSome};
 ghost use Rattle.command_line.specs.declared.task.Task.TheVariants.{Label as LabelTask};
 ghost use Rattle.label_file.specs.Limits.{IsInLimits};
 ghost use Rattle.label_file.specs.Names.{told};
 ghost use Rattle.gco_cli.specs.Commands.{IsDueFor, StandsFor};
 ghost use Rattle.gco_cli.specs.Label.{AnswersProblem, HasLabelFault, HoldsProblem, IsRunFault, labels_text, numbers_text};
-ghost use Rattle.gco_cli.specs.Run.{Refuses, TellsRead, Writes, is_write};
-ghost use Rattle.gco_cli.specs.Streams.{stream};
+ghost use Rattle.gco_cli.specs.Run.{TellsRead, is_write};
 
-use byte_streams::{Sink, Source, put_text, read_input};
+use crate::written::Answer;
+use byte_streams::{Source, read_input};
 use fault_lines::{Fault, Line};
 use itoa::Buffer;
 use label_file::{LabelProblem, read_label};
@@ -16,37 +16,18 @@ use moves::Alone;
 use std::alloc::{AllocError, Global};
 use table_moves::run_tables;
 
-/// Reads a problem of labels, makes its moves and writes where they end, in a text that is made whole
-/// before any of it is written. Nothing is said beside it.
-pub fn run_label<R: Source, W: Sink>(
-    alloc: Global,
-    source: &mut R,
-    sink: &mut W,
-) -> Result<Line, Fault>
-    ensures done { IfOk result (λ said. Writes (IsDueFor LabelTask (R.remaining source.old))
-        (stream (W.held sink.old) (W.has_failed sink.old))
-        (stream (W.held sink.new) (W.has_failed sink.new)) said.bytes) }
-    ensures refused { IfErr result (Refuses (IsDueFor LabelTask (R.remaining source.old))
-        (StandsFor LabelTask (R.remaining source.old))
-        (stream (W.held sink.old) (W.has_failed sink.old))
-        (stream (W.held sink.new) (W.has_failed sink.new))) }
-    ensures read { TellsRead (R.has_failed source.old) (R.has_failed source.new) result }
-    ensures kept { W.loan sink.new ≡ W.loan sink.old }
-{
-    let text = labels_of(alloc, source)?;
-    put_text(sink, text.as_slice())?;
-    Ok(Line::new())
-}
-
-// The answer to the input.
-fn labels_of<R: Source>(alloc: Global, source: &mut R) -> Result<Vec<u8>, Fault>
-    ensures due { IfOk result (λ text. IsDueFor LabelTask (R.remaining source.old) text.items []) }
+/// Where the moves of the problem that the input is end. Nothing is said beside it.
+pub fn answer_label<R: Source>(alloc: Global, source: &mut R) -> Result<Answer, Fault>
+    ensures due { IfOk result (λ a. IsDueFor LabelTask (R.remaining source.old) a.text.items a.said.bytes) }
     ensures stands { IfErr result (StandsFor LabelTask (R.remaining source.old)) }
     ensures unwritten { IfErr result (λ fault. is_write fault ≡ false) }
     ensures read { TellsRead (R.has_failed source.old) (R.has_failed source.new) result }
 {
     let problem = read_problem(alloc, source)?;
-    answer_problem(alloc, problem)
+    Ok(Answer {
+        text: answer_problem(alloc, problem)?,
+        said: Line::new(),
+    })
 }
 
 // The problem that the input names.

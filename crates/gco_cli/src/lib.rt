@@ -2,11 +2,14 @@
 #![tactic(auto)]
 
 mod answers;
+mod ends;
 mod energy;
 mod label;
 mod refusal;
 mod runs;
+mod tasks;
 mod unread;
+mod written;
 
 pub use runs::{run, run_streams};
 pub use unread::{refuse_argument, refuse_memory};

@@ -1,16 +1,15 @@
 //! One whole run.
-ghost use Rattle.std.specs.Prelude.{◌≡◌, [], IfOk, IfErr, map};
-ghost use Rattle.gco_cli.specs.Commands.{IsDueFor, StandsFor};
+ghost use Rattle.std.specs.Prelude.{◌≡◌, IfOk, IfErr, map};
 ghost use Rattle.gco_cli.specs.Refusals.{IsRefusalFor};
-ghost use Rattle.gco_cli.specs.Run.{IsCut, IsDue, IsRun, IsSomeRun, Refuses, TellsRead, Writes, streams};
-ghost use Rattle.gco_cli.specs.Streams.{Takes, Took, stream};
+ghost use Rattle.gco_cli.specs.Run.{IsDue, IsRun, IsSomeRun, Writes, streams};
+ghost use Rattle.gco_cli.specs.Streams.{stream};
 
-use crate::energy::run_energy;
-use crate::label::run_label;
+use crate::ends::say_end;
 use crate::refusal::Refusal;
-use byte_streams::{Sink, Source, Watched, WatchedReader, put_text};
-use command_line::{NoTask, Task, parse};
-use fault_lines::{Fault, Line, line_of};
+use crate::tasks::{end_without_task, run_task};
+use byte_streams::{Sink, Source, Watched, WatchedReader};
+use command_line::parse;
+use fault_lines::Line;
 use std::alloc::Global;
 use std::convert::AsStr;
 use std::io::{Read, Write};
@@ -84,11 +83,8 @@ pub fn run_streams<A: AllocGlobal, S: AsStr, R: Source, W: Sink, E: Sink>(
         (stream (E.held faults.new) (E.has_failed faults.new))) result }
     ensures kept { (W.loan sink.new ≡ W.loan sink.old) × (E.loan faults.new ≡ E.loan faults.old) }
 {
-    match perform(rt.alloc(), words, source, sink) {
-        Ok(said) => say(faults, said.as_str(), 0),
-        Err(Refusal::Fault(fault)) => say(faults, line_of(fault).as_str(), 1),
-        Err(Refusal::Words(text)) => say(faults, text.as_str(), 2),
-    }
+    let end = perform(rt.alloc(), words, source, sink);
+    say_end(faults, end)
 }
 
 // Does what the words ask for, and answers what is to be said beside it.
@@ -111,56 +107,6 @@ fn perform<S: AsStr, R: Source, W: Sink>(
 {
     match parse(alloc, words) {
         Ok(task) => Ok(run_task(alloc, task, source, sink)?),
-        Err(NoTask::Help(text)) => Ok(show_help(sink, text.as_str())?),
-        Err(NoTask::Refused(text)) => Err(Refusal::Words(text)),
-        Err(NoTask::OutOfMemory) => Err(Refusal::Fault(Fault::OutOfMemory)),
+        Err(no_task) => end_without_task(no_task, sink),
     }
-}
-
-// One command over its input.
-fn run_task<R: Source, W: Sink>(
-    alloc: Global,
-    task: Task,
-    source: &mut R,
-    sink: &mut W,
-) -> Result<Line, Fault>
-    ensures done { IfOk result (λ said. Writes (IsDueFor task (R.remaining source.old))
-        (stream (W.held sink.old) (W.has_failed sink.old))
-        (stream (W.held sink.new) (W.has_failed sink.new)) said.bytes) }
-    ensures refused { IfErr result (Refuses (IsDueFor task (R.remaining source.old))
-        (StandsFor task (R.remaining source.old))
-        (stream (W.held sink.old) (W.has_failed sink.old))
-        (stream (W.held sink.new) (W.has_failed sink.new))) }
-    ensures read { TellsRead (R.has_failed source.old) (R.has_failed source.new) result }
-    ensures kept { W.loan sink.new ≡ W.loan sink.old }
-{
-    match task {
-        Task::Energy => run_energy(alloc, source, sink),
-        Task::Label => run_label(alloc, source, sink),
-    }
-}
-
-// Writes the text of help. Nothing is said beside it.
-fn show_help<W: Sink>(sink: &mut W, text: &str) -> Result<Line, Fault>
-    ensures done { IfOk result (λ said. Writes (λ due said. said ≡ [])
-        (stream (W.held sink.old) (W.has_failed sink.old))
-        (stream (W.held sink.new) (W.has_failed sink.new)) said.bytes) }
-    ensures cut { IfErr result (IsCut (λ due said. said ≡ [])
-        (stream (W.held sink.old) (W.has_failed sink.old))
-        (stream (W.held sink.new) (W.has_failed sink.new))) }
-    ensures kept { W.loan sink.new ≡ W.loan sink.old }
-{
-    put_text(sink, text.as_bytes())?;
-    Ok(Line::new())
-}
-
-// Says a text, and answers the exit status. A fault of the sink is passed over.
-fn say<E: Sink>(faults: &mut E, text: &str, status: u8) -> u8
-    ensures told { Took (stream (E.held faults.old) (E.has_failed faults.old))
-        (stream (E.held faults.new) (E.has_failed faults.new)) text.now }
-    ensures status { result ≡ status }
-    ensures kept { E.loan faults.new ≡ E.loan faults.old }
-{
-    let _ = put_text(faults, text.as_bytes());
-    status
 }

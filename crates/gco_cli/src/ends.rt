@@ -1,0 +1,35 @@
+//! What is said at the end of a run, and its exit status.
+ghost use Rattle.std.specs.Prelude.{◌≡◌, MatchResult};
+ghost use Rattle.gco_cli.specs.Refusals.{SaysRefusal, status_of};
+ghost use Rattle.gco_cli.specs.Streams.{Took, stream};
+
+use crate::refusal::Refusal;
+use byte_streams::{Sink, put_text};
+use fault_lines::{Line, line_of};
+
+/// Says what is due at the end of a run, and answers the exit status.
+pub fn say_end<E: Sink>(faults: &mut E, end: Result<Line, Refusal>) -> u8
+    ensures told { MatchResult end (λ said. Took (stream (E.held faults.old) (E.has_failed faults.old))
+        (stream (E.held faults.new) (E.has_failed faults.new)) said.bytes)
+        (SaysRefusal (stream (E.held faults.old) (E.has_failed faults.old))
+        (stream (E.held faults.new) (E.has_failed faults.new))) }
+    ensures status { result ≡ status_of end }
+    ensures kept { E.loan faults.new ≡ E.loan faults.old }
+{
+    match end {
+        Ok(said) => say(faults, said.as_str(), 0),
+        Err(Refusal::Fault(fault)) => say(faults, line_of(fault).as_str(), 1),
+        Err(Refusal::Words(text)) => say(faults, text.as_str(), 2),
+    }
+}
+
+// Says a text, and answers the exit status. A fault of the sink is passed over.
+fn say<E: Sink>(faults: &mut E, text: &str, status: u8) -> u8
+    ensures told { Took (stream (E.held faults.old) (E.has_failed faults.old))
+        (stream (E.held faults.new) (E.has_failed faults.new)) text.now }
+    ensures status { result ≡ status }
+    ensures kept { E.loan faults.new ≡ E.loan faults.old }
+{
+    let _ = put_text(faults, text.as_bytes());
+    status
+}

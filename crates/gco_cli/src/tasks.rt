@@ -1,0 +1,64 @@
+//! What the words ask for, done.
+ghost use Rattle.std.specs.Prelude.{◌≡◌, false, IfOk, IfErr};
+ghost use Rattle.gco_cli.specs.Commands.{IsDueFor, StandsFor};
+ghost use Rattle.gco_cli.specs.Refusals.{IsRefusalOf, ShowsHelp};
+ghost use Rattle.gco_cli.specs.Run.{Refuses, TellsRead, Writes, is_write};
+ghost use Rattle.gco_cli.specs.Streams.{stream};
+
+use crate::energy::answer_energy;
+use crate::label::answer_label;
+use crate::refusal::Refusal;
+use crate::written::{Answer, write_text};
+use byte_streams::{Sink, Source};
+use command_line::{NoTask, Task};
+use fault_lines::{Fault, Line};
+use std::alloc::Global;
+
+/// One command over its input. What it answers is made whole before any of it is written.
+pub fn run_task<R: Source, W: Sink>(
+    alloc: Global,
+    task: Task,
+    source: &mut R,
+    sink: &mut W,
+) -> Result<Line, Fault>
+    ensures done { IfOk result (λ said. Writes (IsDueFor task (R.remaining source.old))
+        (stream (W.held sink.old) (W.has_failed sink.old))
+        (stream (W.held sink.new) (W.has_failed sink.new)) said.bytes) }
+    ensures refused { IfErr result (Refuses (IsDueFor task (R.remaining source.old))
+        (StandsFor task (R.remaining source.old))
+        (stream (W.held sink.old) (W.has_failed sink.old))
+        (stream (W.held sink.new) (W.has_failed sink.new))) }
+    ensures read { TellsRead (R.has_failed source.old) (R.has_failed source.new) result }
+    ensures kept { W.loan sink.new ≡ W.loan sink.old }
+{
+    let answer = answer_task(alloc, task, source)?;
+    write_text(sink, answer.text.as_slice(), answer.said)
+}
+
+// What a command answers to its input.
+fn answer_task<R: Source>(alloc: Global, task: Task, source: &mut R) -> Result<Answer, Fault>
+    ensures due { IfOk result (λ a. IsDueFor task (R.remaining source.old) a.text.items a.said.bytes) }
+    ensures stands { IfErr result (StandsFor task (R.remaining source.old)) }
+    ensures unwritten { IfErr result (λ fault. is_write fault ≡ false) }
+    ensures read { TellsRead (R.has_failed source.old) (R.has_failed source.new) result }
+{
+    match task {
+        Task::Energy => answer_energy(alloc, source),
+        Task::Label => answer_label(alloc, source),
+    }
+}
+
+/// Where the words have no task: writes help that was asked for.
+pub fn end_without_task<W: Sink>(no_task: NoTask, sink: &mut W) -> Result<Line, Refusal>
+    ensures done { IfOk result (λ said. ShowsHelp no_task (stream (W.held sink.old) (W.has_failed sink.old))
+        (stream (W.held sink.new) (W.has_failed sink.new)) said.bytes) }
+    ensures refused { IfErr result (IsRefusalOf no_task (stream (W.held sink.old) (W.has_failed sink.old))
+        (stream (W.held sink.new) (W.has_failed sink.new))) }
+    ensures kept { W.loan sink.new ≡ W.loan sink.old }
+{
+    match no_task {
+        NoTask::OutOfMemory => Err(Refusal::Fault(Fault::OutOfMemory)),
+        NoTask::Help(text) => Ok(write_text(sink, text.as_bytes(), Line::new())?),
+        NoTask::Refused(text) => Err(Refusal::Words(text)),
+    }
+}
