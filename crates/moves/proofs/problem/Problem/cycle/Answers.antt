@@ -1,0 +1,63 @@
+use Rattle.std.proofs.Common.{◌≡◌, ◌∙◌, ◌+◌, ◌++◌, ◌∷◌, ◌<◌, List, ℕ, length, Some, arith, sym, subst, take, drop, true, false, refl, ap}
+use Rattle.std.specs.Prelude.{slice_get}
+use Rattle.std.proofs.lemmas.Result.{err_from_is_err_and}
+use Rattle.labellings.specs.declared.change.Move.{Move}
+use Rattle.labellings.specs.Chains.{Leads}
+use Rattle.labellings.specs.Moves.{IsMoveOf}
+use Rattle.moves.specs.Problems.{IsRefusal, IsRunRefusal}
+use Rattle.moves.specs.Cycles.{moves_of}
+use Rattle.moves.proofs.Answers.{run_may_come}
+use Rattle.moves.proofs.Running.{so_far_more, moves_split, stopped_leads, stopped_known, ended_leads, ended_known}
+use Rattle.moves.proofs.problem.Problem.cycle.Goals.{then-branch, else-branch}
+use Rattle.moves.proofs.problem.Problem.cycle.Goals as goal
+
+pub returns-then-place-last-clause-cycled : goal.returns-then-place-last-clause-cycled
+returns-then-place-last-clause-cycled g c = λ m meant.
+    let stopped = stopped_leads m (moves_of c.args.kind c.args.self.now.data_cost.labels) c.loop-place.place c.args.labelling.now.at c.loop-place.labelling.at c.loop-place.changed c.loop-place.last
+    (c.loop-place.invariant.so_far m meant) c.if-place-last.true in
+    (stopped.0, ((λ turned. absurd (cc turned)), λ still. stopped.1))
+
+pub returns-in_err-make_move-clause-cycled : goal.returns-in_err-make_move-clause-cycled
+returns-in_err-make_move-clause-cycled g c = λ m meant.
+    let moves = moves_of c.args.kind c.args.self.now.data_cost.labels in
+    let place = c.loop-place.place in
+    let next = c.move_at.result in
+    let so_far = c.loop-place.invariant.so_far m meant in
+    let refused = c.in_err-make_move.ensures.moved m meant in
+    let S : ℕ → Type 0 = λ k. slice_get (moves_of c.args.kind k) place ≡ Some next in
+    let here = subst S (c.labels-labels.ensures.value ∙ c.requires.sizes.field_labels) c.move_at.ensures.at in
+    let P : List ℕ → Type 0 = λ x. Leads m (take place moves) c.args.labelling.now.at x in
+    let Q : List ℕ → Type 0 = λ x. IsRefusal m next x c.in_err-make_move.field-0.0 in
+    let p = err_from_is_err_and c.from_residual.result c.from_residual.ensures.1 in
+    rw (p.1, p.2) (take place moves, drop (place + 1) moves, next, moves_split moves place next here, subst P (sym refused.0) so_far.leads, subst Q (sym refused.0) refused.1)
+
+pub loop-place-preserved : goal.loop-place-preserved
+loop-place-preserved g c = record {
+  labels = c.in_ok-make_move.ensures.sizes.0 ∙ c.loop-place.invariant.labels;
+  sites = c.in_ok-make_move.ensures.sizes.1 ∙ c.loop-place.invariant.sites;
+  so_far = λ m meant.
+      let moved = c.in_ok-make_move.ensures.moved m meant in
+      let S : ℕ → Type 0 = λ k. slice_get (moves_of c.args.kind k) c.loop-place.place ≡ Some c.move_at.result in
+      let here = subst S (c.labels-labels.ensures.value ∙ c.requires.sizes.field_labels) c.move_at.ensures.at in
+      let told : (c.in_ok-make_move.field-0 ≡ true → (c.if-branch.changed ≡ true) × (c.if-branch.last ≡ c.loop-place.place))
+      × (c.in_ok-make_move.field-0 ≡ false → (c.if-branch.changed ≡ c.loop-place.changed) × (c.if-branch.last ≡ c.loop-place.last)) =
+      elim c.if-branch.branch [
+        | then-branch w ↦ ((λ so. (w.changed-is, w.last-is)), λ still. (let is = w.if-branch.true in absurd (cc (is, still))))
+        | else-branch w ↦ ((λ so. (let is = w.if-branch.false in absurd (cc (is, so)))), λ still. (w.changed-is, w.last-is))
+      ] in
+      so_far_more m (moves_of c.args.kind c.args.self.now.data_cost.labels) c.loop-place.place c.move_at.result c.args.labelling.now.at c.loop-place.labelling.at c.make_move.new.labelling.at
+      c.loop-place.changed c.if-branch.changed c.in_ok-make_move.field-0 c.loop-place.last c.if-branch.last
+      (c.loop-place.invariant.so_far m meant) here moved.2 moved.3 told.0 told.1;
+}
+
+pub returns-clause-cycled : goal.returns-clause-cycled
+returns-clause-cycled g c = λ m meant.
+    let all = c.count-place-end.ensures ∙ ap (λ k. length (moves_of c.args.kind k)) (c.labels-labels.ensures.value ∙ c.requires.sizes.field_labels) in
+    ended_leads m (moves_of c.args.kind c.args.self.now.data_cost.labels) c.loop-place.place c.args.labelling.now.at c.loop-place.labelling.at c.loop-place.changed c.loop-place.last
+    (c.loop-place.invariant.so_far m meant) (omega (arith, all))
+
+pub returns-clause-known : goal.returns-clause-known
+returns-clause-known g c = λ m meant.
+    let all = c.count-place-end.ensures ∙ ap (λ k. length (moves_of c.args.kind k)) (c.labels-labels.ensures.value ∙ c.requires.sizes.field_labels) in
+    ended_known m (moves_of c.args.kind c.args.self.now.data_cost.labels) c.loop-place.place c.args.labelling.now.at c.loop-place.labelling.at c.loop-place.changed c.loop-place.last
+    (c.loop-place.invariant.so_far m meant) (omega (arith, all))
