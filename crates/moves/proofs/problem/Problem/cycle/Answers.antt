@@ -6,7 +6,6 @@ use Rattle.labellings.specs.Chains.{Leads}
 use Rattle.labellings.specs.Moves.{IsMoveOf}
 use Rattle.moves.specs.Problems.{IsRefusal, IsRunRefusal}
 use Rattle.moves.specs.Cycles.{moves_of}
-use Rattle.moves.proofs.Answers.{run_may_come}
 use Rattle.moves.proofs.Running.{so_far_more, moves_split, stopped_leads, stopped_known, ended_leads, ended_known}
 use Rattle.moves.proofs.problem.Problem.cycle.Goals.{then-branch, else-branch}
 use Rattle.moves.proofs.problem.Problem.cycle.Goals as goal
@@ -61,3 +60,8 @@ returns-clause-known g c = λ m meant.
     let all = c.count-place-end.ensures ∙ ap (λ k. length (moves_of c.args.kind k)) (c.labels-labels.ensures.value ∙ c.requires.sizes.field_labels) in
     ended_known m (moves_of c.args.kind c.args.self.now.data_cost.labels) c.loop-place.place c.args.labelling.now.at c.loop-place.labelling.at c.loop-place.changed c.loop-place.last
     (c.loop-place.invariant.so_far m meant) (omega (arith, all))
+
+pub returns-in_err-make_move-clause-metric : goal.returns-in_err-make_move-clause-metric
+returns-in_err-make_move-clause-metric g c = λ stored m meant.
+    let p = err_from_is_err_and c.from_residual.result c.from_residual.ensures.1 in
+    rw (p.1, p.2) (c.in_err-make_move.ensures.metric stored m meant)

@@ -42,7 +42,7 @@ loop-done-preserved g c = record {
       let P : ℕ → Type 0 = λ n. Cycles m moves n c.args.labelling.now.at c.cycle.new.labelling.at in
       let next : suc c.loop-done.done ≡ c.loop-done.done + 1 = omega arith in (
         subst P next (cycles_more m moves c.loop-done.done c.args.labelling.now.at c.loop-done.labelling.at c.cycle.new.labelling.at so_far cycle.0
-        (cycle.1.0 c.if-not-branch.false)),
+            (cycle.1.0 c.if-not-branch.false)),
         c.in_ok-cycle.ensures.known m meant,
       );
 }
@@ -54,3 +54,8 @@ returns-clause-run g c = λ m meant.
     let P : ℕ → Type 0 = λ n. Cycles m moves n c.args.labelling.now.at c.loop-done.labelling.at in
     let end : c.loop-done.done ≡ c.args.cycles = omega arith in
     chain_runs_out m moves c.args.cycles c.args.labelling.now.at c.loop-done.labelling.at (subst P end so_far)
+
+pub returns-in_err-cycle-clause-metric : goal.returns-in_err-cycle-clause-metric
+returns-in_err-cycle-clause-metric g c = λ stored m meant.
+    let p = err_from_is_err_and c.from_residual.result c.from_residual.ensures.1 in
+    rw (p.1, p.2) (c.in_err-cycle.ensures.metric stored m meant)
