@@ -1,0 +1,11 @@
+use Rattle.deciding.proofs.Putting.{passed_forced}
+use Rattle.deciding.proofs.Rises.{move_falls, move_over}
+use Rattle.deciding.specs.MoveValues.{move_value}
+use Rattle.deciding.proofs.laws.move_is_submodular.Goals as goal
+
+pub returns : goal.returns
+returns c = record {
+  falls = move_falls;
+  sites = move_over;
+  passed = λ m move f ds pairs allowed passed. passed_forced (move_value m move f) ds (move_falls m move f pairs allowed) passed;
+}

@@ -1,0 +1,71 @@
+-- Variables of a function of yes-no variables whose value in its least assignment with the fewest ones is known before
+-- the rest is looked at (Iyer, Jegelka, Bilmes, ICML 2013, section 4; Boros and Hammer 2002).
+use Rattle.std.specs.Prelude.{◌≡◌, ℕ, ◌<◌, ◌==◌, Bool, true, false, cond, List, [], ◌∷◌, ℤ, pos, ◌+ℤ◌, ◌-ℤ◌, ◌≤ℤ◌, ◌<ℤ◌}
+
+-- a variable and its value
+pub record Decision : Type 0 where
+  pub variable : ℕ
+  pub value : Bool
+
+-- the assignment with one variable set
+abbrev pub set_bit : (ℕ → Bool) → ℕ → Bool → ℕ → Bool
+set_bit x i b k = cond (k == i) b (x k)
+
+-- the assignment with all decided variables set; the latest decision stands first
+abbrev pub put : List Decision → (ℕ → Bool) → ℕ → Bool
+put [] x = x
+put (d ∷ ds) x = set_bit (put ds x) d.variable d.value
+
+-- whatever the other variables are: a variable may be 0 where its 1 never has a lower value, and is to be 1 where
+-- its 1 always has a lower value
+abbrev pub IsForced : ((ℕ → Bool) → ℤ) → List Decision → ℕ → Bool → Type 0
+IsForced E ds i false = (x : ℕ → Bool) → E (set_bit (put ds x) i false) ≤ℤ E (set_bit (put ds x) i true)
+IsForced E ds i true = (x : ℕ → Bool) → E (set_bit (put ds x) i true) <ℤ E (set_bit (put ds x) i false)
+
+-- each decision is forced, given those before it
+abbrev pub AreForced : ((ℕ → Bool) → ℤ) → List Decision → Type 0
+AreForced E [] = Unit {0}
+AreForced E (d ∷ ds) = AreForced E ds × IsForced E ds d.variable d.value
+
+-- by how much the value rises where one variable turns from 0 to 1
+abbrev pub rise : ((ℕ → Bool) → ℤ) → ℕ → (ℕ → Bool) → ℤ
+rise E i x = E (set_bit x i true) -ℤ E (set_bit x i false)
+
+-- the ones of the one assignment are ones of the other
+abbrev pub OnesWithin : (ℕ → Bool) → (ℕ → Bool) → Type 0
+OnesWithin x y = (k : ℕ) → x k ≡ true → y k ≡ true
+
+-- the more of the others are 1, the less a variable's turning to 1 raises the value
+abbrev pub IsSubmodular : ((ℕ → Bool) → ℤ) → Type 0
+IsSubmodular E = (x y : ℕ → Bool) (i : ℕ) → OnesWithin x y → rise E i y ≤ℤ rise E i x
+
+-- the test: a variable may be 0 where its turning to 1 does not lower the value even if every undecided one is 1, and
+-- is to be 1 where it lowers the value even if every undecided one is 0
+abbrev pub Passes : ((ℕ → Bool) → ℤ) → List Decision → ℕ → Bool → Type 0
+Passes E ds i false = pos 0 ≤ℤ rise E i (put ds (λ k. true))
+Passes E ds i true = rise E i (put ds (λ k. false)) <ℤ pos 0
+
+-- each decision passed the test, given those before it
+abbrev pub HavePassed : ((ℕ → Bool) → ℤ) → List Decision → Type 0
+HavePassed E [] = Unit {0}
+HavePassed E (d ∷ ds) = HavePassed E ds × Passes E ds d.variable d.value
+
+-- the value depends on the first n variables alone
+abbrev pub IsOver : ℕ → ((ℕ → Bool) → ℤ) → Type 0
+IsOver n E = (x y : ℕ → Bool) → ((k : ℕ) → k < n → x k ≡ y k) → E x ≡ E y
+
+-- an assignment of least value, whose ones are ones of every assignment of that value
+pub record IsSmallestLeast (n : ℕ) (E : (ℕ → Bool) → ℤ) (x : ℕ → Bool) : Type 0 where
+  pub least : (y : ℕ → Bool) → E x ≤ℤ E y
+  pub smallest : (y : ℕ → Bool) → E y ≡ E x → (k : ℕ) → k < n → x k ≡ true → y k ≡ true
+
+-- the decisions leave this variable as it is
+abbrev pub IsFree : List Decision → ℕ → Type 0
+IsFree ds i = (x : ℕ → Bool) → put ds x i ≡ x i
+
+-- a function of the variables that are left, `number` being each one's number in it and `variable` the way back: but
+-- for a fixed number, its value is that of the whole with the decisions put in
+pub record IsRest (n : ℕ) (E : (ℕ → Bool) → ℤ) (ds : List Decision) (r : ℕ) (R : (ℕ → Bool) → ℤ) (number variable : ℕ → ℕ) : Type 0 where
+  pub offset : ℤ
+  pub value : (z : ℕ → Bool) → R z +ℤ offset ≡ E (put ds (λ i. z (number i)))
+  pub covers : (i : ℕ) → i < n → IsFree ds i → (number i < r) × (variable (number i) ≡ i)

@@ -1,0 +1,41 @@
+//! Laws of deciding variables one after another: each function does nothing, and its contract is the law. The first
+//! three are of any function of an assignment, the last of the labellings that a move makes.
+
+ghost use Rattle.std.specs.Prelude.{◌≡◌, ℕ, ◌<◌, Bool, List, ℤ};
+ghost use Rattle.labellings.specs.declared.change.Move.{Move};
+ghost use Rattle.labellings.specs.Energies.{Instance, IsInstance};
+ghost use Rattle.labellings.specs.Moves.{IsAllowed};
+ghost use Rattle.deciding.specs.Decisions.{Decision, put, Passes, HavePassed, IsForced, AreForced, IsSubmodular, IsOver, IsSmallestLeast, IsRest};
+ghost use Rattle.deciding.specs.MoveValues.{move_value};
+
+/// What passes the test is forced, in a function whose rises fall.
+pub fn passed_is_forced()
+    ensures one { (E : (ℕ → Bool) → ℤ) (ds : List Decision) (i : ℕ) (b : Bool) → IsSubmodular E →
+        Passes E ds i b → IsForced E ds i b }
+    ensures all { (E : (ℕ → Bool) → ℤ) (ds : List Decision) → IsSubmodular E → HavePassed E ds →
+        AreForced E ds }
+{}
+
+/// Each forced variable has its value in the least assignment with the fewest ones.
+pub fn forced_is_least()
+    ensures { (n : ℕ) (E : (ℕ → Bool) → ℤ) (ds : List Decision) (x : ℕ → Bool) (i : ℕ) → AreForced E ds →
+        IsSmallestLeast n E x → i < n → put ds x i ≡ x i }
+{}
+
+/// The least assignment with the fewest ones of what is left, put together with the forced values, is that of the whole.
+pub fn rest_and_forced_is_least()
+    ensures { (n : ℕ) (E : (ℕ → Bool) → ℤ) (ds : List Decision) (r : ℕ) (R : (ℕ → Bool) → ℤ) (number
+        variable : ℕ → ℕ) (z : ℕ → Bool) → IsOver n E → AreForced E ds → IsRest n E ds r R number variable →
+        IsSmallestLeast r R z → IsSmallestLeast n E (put ds (λ i. z (number i))) }
+{}
+
+/// Of a move whose terms are regular, the energies of the labellings that it makes have rises that fall, and depend on
+/// the sites alone. So a site that passes the test is forced.
+pub fn move_is_submodular()
+    ensures falls { (m : Instance) (move : Move) (f : ℕ → ℕ) → IsInstance m → IsAllowed m move f →
+        IsSubmodular (move_value m move f) }
+    ensures sites { (m : Instance) (move : Move) (f : ℕ → ℕ) → IsInstance m →
+        IsOver m.sites (move_value m move f) }
+    ensures passed { (m : Instance) (move : Move) (f : ℕ → ℕ) (ds : List Decision) → IsInstance m →
+        IsAllowed m move f → HavePassed (move_value m move f) ds → AreForced (move_value m move f) ds }
+{}
