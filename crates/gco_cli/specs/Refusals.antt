@@ -28,11 +28,15 @@ ShowsHelp (Help text) old new said = Writes IsHelp old new said
 ShowsHelp OutOfMemory old new said = ⊥
 ShowsHelp (Refused text) old new said = ⊥
 
+-- the sink failed within help
+abbrev pub IsCutHelp : Stream → Stream → Refusal → Type 0
+IsCutHelp old new (Fault fault) = IsCut IsHelp old new fault
+IsCutHelp old new (Words text) = ⊥
+
 -- words without a task are refused for this: help was cut, or nothing was written
 abbrev pub IsRefusalOf : NoTask → Stream → Stream → Refusal → Type 0
 IsRefusalOf OutOfMemory old new refusal = (refusal ≡ Fault fault.OutOfMemory) × (new ≡ old)
-IsRefusalOf (Help text) old new (Fault fault) = IsCut IsHelp old new fault
-IsRefusalOf (Help text) old new (Words said) = ⊥
+IsRefusalOf (Help text) old new refusal = IsCutHelp old new refusal
 IsRefusalOf (Refused text) old new refusal = (refusal ≡ Words text) × (new ≡ old)
 
 -- what is said of a refusal: the line of its fault, or some words

@@ -1,7 +1,7 @@
 //! What the words ask for, done.
 ghost use Rattle.std.specs.Prelude.{◌≡◌, false, IfOk, IfErr};
 ghost use Rattle.gco_cli.specs.Commands.{IsDueFor, StandsFor};
-ghost use Rattle.gco_cli.specs.Refusals.{IsRefusalOf, ShowsHelp};
+ghost use Rattle.gco_cli.specs.Refusals.{IsCutHelp, IsHelp, IsRefusalOf, ShowsHelp};
 ghost use Rattle.gco_cli.specs.Run.{Refuses, TellsRead, Writes, is_write};
 ghost use Rattle.gco_cli.specs.Streams.{stream};
 
@@ -58,7 +58,21 @@ pub fn end_without_task<W: Sink>(no_task: NoTask, sink: &mut W) -> Result<Line, 
 {
     match no_task {
         NoTask::OutOfMemory => Err(Refusal::Fault(Fault::OutOfMemory)),
-        NoTask::Help(text) => Ok(write_text(sink, text.as_bytes(), Line::new())?),
+        NoTask::Help(text) => show_help(sink, text.as_str()),
         NoTask::Refused(text) => Err(Refusal::Words(text)),
+    }
+}
+
+// Writes help. Nothing is said beside it.
+fn show_help<W: Sink>(sink: &mut W, text: &str) -> Result<Line, Refusal>
+    ensures done { IfOk result (λ said. Writes IsHelp (stream (W.held sink.old) (W.has_failed sink.old))
+        (stream (W.held sink.new) (W.has_failed sink.new)) said.bytes) }
+    ensures cut { IfErr result (IsCutHelp (stream (W.held sink.old) (W.has_failed sink.old))
+        (stream (W.held sink.new) (W.has_failed sink.new))) }
+    ensures kept { W.loan sink.new ≡ W.loan sink.old }
+{
+    match write_text(sink, text.as_bytes(), Line::new()) {
+        Ok(said) => Ok(said),
+        Err(fault) => Err(Refusal::Fault(fault)),
     }
 }

@@ -23,6 +23,8 @@ pub fn write_text<W: Sink>(sink: &mut W, text: &[u8], said: Line) -> Result<Line
         (stream (W.held sink.new) (W.has_failed sink.new))) }
     ensures kept { W.loan sink.new ≡ W.loan sink.old }
 {
-    put_text(sink, text)?;
-    Ok(said)
+    match put_text(sink, text) {
+        Ok(()) => Ok(said),
+        Err(failed) => Err(Fault::Write(failed)),
+    }
 }

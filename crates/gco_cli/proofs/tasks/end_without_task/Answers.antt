@@ -1,0 +1,8 @@
+use Rattle.std.proofs.Common.{rules}
+use Rattle.gco_cli.proofs.tasks.end_without_task.Goals as goal
+
+pub returns-in-Help-clause-refused : goal.returns-in-Help-clause-refused
+returns-in-Help-clause-refused g c = search rules
+
+pub returns-in-Refused-clause-done : goal.returns-in-Refused-clause-done
+returns-in-Refused-clause-done g c = search rules
