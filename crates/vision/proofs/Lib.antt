@@ -1,0 +1,5 @@
+pub mod Tables
+pub mod Places
+pub mod Images
+pub mod Finishing
+pub mod Refusing

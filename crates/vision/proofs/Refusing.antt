@@ -1,0 +1,41 @@
+-- The fault of a job as a fault of the input that names it.
+use Rattle.std.proofs.Common.{ℕ, ◌≤◌, List, Result, Ok, Err, MatchResult, IfErr, refl}
+use Rattle.pgm_image.specs.Picture.{Picture}
+use Rattle.image_options.specs.declared.options.RestoreOptions.{RestoreOptions}
+use Rattle.image_options.specs.declared.options.StereoOptions.{StereoOptions}
+use Rattle.vision.specs.Faults.{HasRunFault, HasRestoreFault, HasStereoFault}
+use Rattle.vision.specs.Inputs.{HoldsPicture, HoldsTwo, SameSizes}
+use Rattle.vision.specs.Jobs.{IsFinished, restore_job, stereo_job}
+use Rattle.vision.specs.declared.error.VisionError.{VisionError}
+use Rattle.vision.specs.declared.error.VisionError.TheVariants.{OutOfMemory, Image, SizesDiffer, BadSeed, TooManyLevels, Move, Write}
+use Rattle.vision.specs.declared.job.Finished.{Finished}
+
+restore_fault : (o : RestoreOptions) (input : List ℕ) (p : Picture) (e : VisionError) → HoldsPicture input p → p.maxval ≤ 255
+    → HasRunFault (restore_job o p) e → HasRestoreFault o input e
+restore_fault o input p OutOfMemory held levels h = tt
+restore_fault o input p (Image x) held levels h = absurd h
+restore_fault o input p SizesDiffer held levels h = absurd h
+restore_fault o input p (BadSeed i) held levels h = absurd h
+restore_fault o input p TooManyLevels held levels h = absurd h
+restore_fault o input p (Move x) held levels h = (restore_job o p, (p, held, levels, refl), h)
+restore_fault o input p (Write w) held levels h = absurd h
+
+pub restore_refused : (o : RestoreOptions) (input : List ℕ) (p : Picture) (r : Result Finished VisionError) → HoldsPicture input p → p.maxval ≤ 255
+    → MatchResult r (IsFinished (restore_job o p)) (HasRunFault (restore_job o p)) → IfErr r (HasRestoreFault o input)
+restore_refused o input p (Ok f) held levels h = tt
+restore_refused o input p (Err e) held levels h = restore_fault o input p e held levels h
+
+stereo_fault : (o : StereoOptions) (input : List ℕ) (a b : Picture) (e : VisionError) → HoldsTwo input a b → SameSizes a b
+    → HasRunFault (stereo_job o a b) e → HasStereoFault o input e
+stereo_fault o input a b OutOfMemory held sizes h = tt
+stereo_fault o input a b (Image x) held sizes h = absurd h
+stereo_fault o input a b SizesDiffer held sizes h = absurd h
+stereo_fault o input a b (BadSeed i) held sizes h = absurd h
+stereo_fault o input a b TooManyLevels held sizes h = absurd h
+stereo_fault o input a b (Move x) held sizes h = (stereo_job o a b, (a, b, held, sizes, refl), h)
+stereo_fault o input a b (Write w) held sizes h = absurd h
+
+pub stereo_refused : (o : StereoOptions) (input : List ℕ) (a b : Picture) (r : Result Finished VisionError) → HoldsTwo input a b → SameSizes a b
+    → MatchResult r (IsFinished (stereo_job o a b)) (HasRunFault (stereo_job o a b)) → IfErr r (HasStereoFault o input)
+stereo_refused o input a b (Ok f) held sizes h = tt
+stereo_refused o input a b (Err e) held sizes h = stereo_fault o input a b e held sizes h

@@ -1,0 +1,4 @@
+pub mod Problems
+pub mod Jobs
+pub mod Inputs
+pub mod Faults

@@ -1,0 +1,151 @@
+//! The run of a problem of labels over the pixels of a picture, and the picture that it makes.
+ghost use Rattle.std.specs.Prelude.{◌≡◌, ◌+◌, ◌*◌, ◌≤◌, pos, ◌≤ℤ◌, ◌+ℤ◌, All, IfOk, IfErr, MatchResult, OnOk, OnErr, length, true};
+ghost use Rattle.std.specs.Io.KnownBytes.{Appends};
+ghost use Rattle.label_field.specs.LabelFields.{AreSizes};
+ghost use Rattle.labellings.specs.Energies.{Instance};
+ghost use Rattle.cost_store.specs.Limits.{data_limit, smooth_limit};
+ghost use Rattle.cost_store.specs.Promises.{IsCost, IsTable, Keeps};
+ghost use Rattle.labelling_runs.specs.Instances.{IsInstanceOf};
+ghost use Rattle.labelling_runs.specs.Runs.{IsSized};
+ghost use Rattle.pgm_image.specs.Picture.{IsPicture, picture};
+ghost use Rattle.pgm_image.specs.Written.{written, Stops};
+ghost use Rattle.run_options.specs.Limits.{trunc_limit};
+ghost use Rattle.run_options.specs.Shapes.{shape_cost};
+ghost use Rattle.vision.specs.Faults.{HasRunFault, IsStop};
+ghost use Rattle.vision.specs.Jobs.{IsFinished, job_of};
+
+use crate::{Report, VisionError};
+use byte_streams::Sink;
+use cost_store::DataCost;
+use label_field::{Labelling, Pairs};
+use labelling_runs::{Run, run_with_table};
+use moves::How;
+use pgm_image::{Image, put_image};
+use run_options::{Moves, Shape, smooth_table};
+use std::alloc::{AllocError, Global};
+
+/// How a problem is run, and the maxval of the picture that its labels make.
+#[derive(Clone, Copy)]
+pub(crate) struct Plan {
+    pub moves: Moves,
+    pub cycles: u32,
+    pub maxval: u32,
+}
+
+/// A picture that is ready to be written, and what its labels cost.
+#[derive(Drop)]
+pub(crate) struct Finished {
+    pub image: Image,
+    pub report: Report,
+}
+
+/// Makes the moves of a problem on the pixels of a picture, from the label 0 everywhere, and the picture of the last
+/// labels, which are its samples.
+pub(crate) fn run_job<F: Fn(u32, u32) -> i64, H: How>(
+    alloc: Global,
+    picture: &Image,
+    plan: Plan,
+    pairs: Pairs,
+    data_cost: DataCost<F>,
+    smooth: &[i64],
+    how: &H,
+) -> Result<Finished, VisionError>
+    requires ready { H.ready how.now }
+    requires sites { (data_cost.sites ≡ picture.now.width * picture.now.height)
+        × (pairs.sites ≡ picture.now.width * picture.now.height) }
+    requires labels { (1 ≤ data_cost.labels) × (data_cost.labels ≤ 256) }
+    requires maxval { (1 ≤ plan.maxval) × (data_cost.labels ≤ plan.maxval + 1) × (plan.maxval ≤ 65535) }
+    requires costs { Keeps (F.pre data_cost.f) (F.post data_cost.f) data_cost.sites data_cost.labels
+        data_limit }
+    requires smooth { (length smooth.now ≡ data_cost.labels * data_cost.labels)
+        × All (IsCost smooth_limit) smooth.now }
+    ensures { (m : Instance) →
+        IsInstanceOf (F.post data_cost.f) pairs data_cost.labels smooth.now m →
+        MatchResult result (IsFinished (job_of m plan.moves plan.cycles picture.now plan.maxval))
+        (HasRunFault (job_of m plan.moves plan.cycles picture.now plan.maxval)) }
+{
+    let _valid = picture.samples();
+    let start = Labelling::new(alloc, data_cost.sites, data_cost.labels)?;
+    let run = run_with_table(
+        alloc,
+        pairs,
+        data_cost,
+        smooth,
+        start,
+        plan.moves,
+        plan.cycles,
+        how,
+    )?;
+    Ok(finish(alloc, picture, plan.maxval, &run)?)
+}
+
+/// The picture whose samples are the labels of a run, of the size of another picture, and the run's report.
+fn finish(alloc: Global, source: &Image, maxval: u32, run: &Run) -> Result<Finished, AllocError>
+    requires sites { length run.now.labelling.at ≡ source.now.width * source.now.height }
+    requires labels { run.now.labelling.labels ≤ maxval + 1 }
+    requires maxval { (1 ≤ maxval) × (maxval ≤ 65535) }
+    requires data { (pos 0 ≤ℤ run.now.«data») × (run.now.«data» ≤ℤ pos 10485760000000) }
+    requires smooth { (pos 0 ≤ℤ run.now.smooth) × (run.now.smooth ≤ℤ pos 41943040000000) }
+    ensures image { IfOk result (λ f. f.image
+        ≡ picture source.now.width source.now.height maxval run.now.labelling.at) }
+    ensures valid { IfOk result (λ f. IsPicture f.image) }
+    ensures report { IfOk result (λ f. f.report ≡ record {
+      energy = run.now.«data» +ℤ run.now.smooth;
+      data_part = run.now.«data»;
+      smooth_part = run.now.smooth;
+    }) }
+{
+    let _valid = source.samples();
+    let samples = samples_of(alloc, run.labelling.as_slice())?;
+    Ok(Finished {
+        image: Image::new(source.width(), source.height(), maxval, samples),
+        report: Report {
+            energy: run.data + run.smooth,
+            data_part: run.data,
+            smooth_part: run.smooth,
+        },
+    })
+}
+
+/// The labels as samples.
+fn samples_of(alloc: Global, labels: &[u8]) -> Result<Vec<u16>, AllocError>
+    ensures { IfOk result (λ samples. samples.items ≡ labels.now) }
+{
+    let mut samples = Vec::with_capacity(alloc, labels.len())?;
+    for label in labels {
+        samples.push_reserved(u16::from(*label));
+    }
+    Ok(samples)
+}
+
+/// The table of a smooth cost.
+pub(crate) fn smooth_costs(
+    alloc: Global,
+    shape: Shape,
+    trunc: u32,
+    labels: u32,
+) -> Result<Vec<i64>, AllocError>
+    requires labels { labels ≤ 256 }
+    requires trunc { trunc ≤ trunc_limit }
+    ensures table { IfOk result (λ table. IsTable labels labels (shape_cost shape trunc) table.items) }
+    ensures costs { IfOk result (λ table. All (IsCost smooth_limit) table.items) }
+{
+    smooth_table(alloc, shape, trunc, labels)
+}
+
+/// Writes the picture, and answers the report.
+pub(crate) fn put_finished<S: Sink>(
+    finished: &Finished,
+    sink: &mut S,
+) -> Result<Report, VisionError>
+    ensures told { IfOk result (λ report. report ≡ finished.now.report) }
+    ensures taken { OnOk result (Appends (S.held sink.old) (S.held sink.new) (written finished.now.image)) }
+    ensures sound { OnOk result (S.has_failed sink.new ≡ S.has_failed sink.old) }
+    ensures failed { IfErr result (IsStop (λ count.
+        Stops (S.held sink.old) (S.held sink.new) 0 (written finished.now.image) count)) }
+    ensures only { OnErr result (S.has_failed sink.new ≡ true) }
+    ensures kept { S.loan sink.new ≡ S.loan sink.old }
+{
+    put_image(&finished.image, sink)?;
+    Ok(finished.report)
+}

@@ -1,0 +1,114 @@
+//! Restoring a picture.
+ghost use Rattle.std.specs.Prelude.{◌≡◌, ◌+◌, ◌<◌, ◌≤◌, pos, IfOk, IfErr, OnOk, MatchResult, length, slice_index};
+ghost use Rattle.label_field.specs.Grids.{distance};
+ghost use Rattle.image_options.specs.Ranges.{AreRestoreOptions};
+ghost use Rattle.vision.specs.Faults.{HasRestoreFault, HasRunFault, IsWrite, Leaves};
+ghost use Rattle.vision.specs.Inputs.{IsRestoreJob};
+ghost use Rattle.vision.specs.Jobs.{Does, IsFinished, Job, restore_job};
+
+use crate::inputs::read_one;
+use crate::job::{Finished, Plan, put_finished, run_job, smooth_costs};
+use crate::pairs::pairs_of;
+use crate::{Report, VisionError};
+use byte_streams::Sink;
+use cost_store::DataCost;
+use image_options::RestoreOptions;
+use moves::How;
+use pgm_image::Image;
+use std::alloc::Global;
+
+/// The greatest maxval of a picture that is restored: a label takes one byte.
+const LEVEL_LIMIT: u32 = 255;
+
+/// Restores the picture at the front of the input, and writes the result as `P5`.
+///
+/// A label is a grey level from 0 to maxval. It costs a pixel the distance to its sample, and two labels cost a pair of
+/// neighbours the weight times their smooth cost. The picture that is written has the labels where the chain of best moves
+/// from all 0 ends, as samples, and the input's maxval; the report has their energy. Nothing is written before the
+/// last move is finished. What follows the image in the input is not looked at.
+///
+/// Refused, the first that holds: `Image` where no image is at the front of the input, `TooManyLevels` where maxval is
+/// above 255, `Move` as the run of moves is, `Write` where the sink failed, which then took the first bytes of the picture's
+/// written form, as many as are told. `OutOfMemory` may come before the first byte is written. The options are to be in their
+/// ranges, which `fits` tells.
+pub fn run_restore<H: How, S: Sink>(
+    alloc: Global,
+    input: &[u8],
+    options: &RestoreOptions,
+    how: &H,
+    sink: &mut S,
+) -> Result<Report, VisionError>
+    requires options { AreRestoreOptions options.now }
+    requires ready { H.ready how.now }
+    ensures done { IfOk result (λ report. (job : Job) × IsRestoreJob options.now input.now job
+        × Does job (S.held sink.old) (S.held sink.new) report) }
+    ensures sound { OnOk result (S.has_failed sink.new ≡ S.has_failed sink.old) }
+    ensures refused { IfErr result (Leaves (IsRestoreJob options.now input.now)
+        (HasRestoreFault options.now input.now) (S.held sink.old) (S.held sink.new) (S.has_failed sink.new)) }
+    ensures unchanged { IfErr result (λ e. (¬ IsWrite e) → sink.new ≡ sink.old) }
+    ensures kept { S.loan sink.new ≡ S.loan sink.old }
+{
+    let finished = restore_input(alloc, input, options, how)?;
+    put_finished(&finished, sink)
+}
+
+/// The restored picture of the input.
+fn restore_input<H: How>(
+    alloc: Global,
+    input: &[u8],
+    options: &RestoreOptions,
+    how: &H,
+) -> Result<Finished, VisionError>
+    requires options { AreRestoreOptions options.now }
+    requires ready { H.ready how.now }
+    ensures finished { IfOk result (λ f. (job : Job) × IsRestoreJob options.now input.now job
+        × IsFinished job f) }
+    ensures refused { IfErr result (HasRestoreFault options.now input.now) }
+{
+    let picture = read_one(alloc, input)?;
+    if picture.maxval() > LEVEL_LIMIT {
+        return Err(VisionError::TooManyLevels);
+    }
+    restore(alloc, &picture, options, how)
+}
+
+/// The restored picture of another.
+fn restore<H: How>(
+    alloc: Global,
+    picture: &Image,
+    options: &RestoreOptions,
+    how: &H,
+) -> Result<Finished, VisionError>
+    requires options { AreRestoreOptions options.now }
+    requires levels { picture.now.maxval ≤ 255 }
+    requires ready { H.ready how.now }
+    ensures { MatchResult result (IsFinished (restore_job options.now picture.now))
+        (HasRunFault (restore_job options.now picture.now)) }
+{
+    let samples = picture.samples();
+    let maxval = picture.maxval();
+    let smooth = smooth_costs(alloc, options.smooth, options.trunc, maxval + 1)?;
+    let pairs = pairs_of(alloc, picture, options.neighbours, options.weight)?;
+    let plan = Plan {
+        moves: options.moves,
+        cycles: options.cycles,
+        maxval,
+    };
+    let data_cost = DataCost::new(
+        |site: u32, label: u32| -> i64
+            requires { (site < length samples.now) × (label < 256) }
+            ensures { result ≡ pos (distance (slice_index samples.entry.now site) label) }
+        { i64::from(u32::from(samples[site as usize]).abs_diff(label)) },
+        picture.width() * picture.height(),
+        maxval + 1,
+    );
+    run_job(
+        alloc,
+        picture,
+        plan,
+        pairs,
+        data_cost,
+        smooth.as_slice(),
+        how,
+    )
+}

@@ -1,0 +1,124 @@
+//! Matching a left and a right picture.
+ghost use Rattle.std.specs.Prelude.{◌≡◌, ◌+◌, ◌-◌, ◌*◌, ◌%◌, ◌<◌, ◌≤◌, pos, min, nat_lt, if◌then◌else◌, IfOk, IfErr, OnOk, MatchResult, length, slice_index};
+ghost use Rattle.image_options.specs.Limits.{cap_limit};
+ghost use Rattle.image_options.specs.Ranges.{AreStereoOptions};
+ghost use Rattle.pgm_image.specs.Picture.{IsPicture};
+ghost use Rattle.vision.specs.Faults.{HasRunFault, HasStereoFault, IsWrite, Leaves};
+ghost use Rattle.vision.specs.Inputs.{IsStereoJob, SameSizes};
+ghost use Rattle.vision.specs.Jobs.{Does, IsFinished, Job, stereo_job};
+ghost use Rattle.vision.specs.Problems.{shift_cost};
+
+use crate::inputs::read_two;
+use crate::job::{Finished, Plan, put_finished, run_job, smooth_costs};
+use crate::pairs::pairs_of;
+use crate::{Report, VisionError};
+use byte_streams::Sink;
+use cost_store::DataCost;
+use image_options::StereoOptions;
+use moves::How;
+use pgm_image::Image;
+use std::alloc::Global;
+
+/// Matches the two pictures of the input, the left one first, and writes the shifts of the left one's pixels as `P5`.
+///
+/// A label is a shift: so many columns to the left is the pixel of the right picture that shows the same. It costs a
+/// pixel the distance of the two samples, as they stand, but at most the cap, and the cap where the picture has no such
+/// column; two labels cost a pair of neighbours the weight times their smooth cost. The picture that is written has the
+/// labels where the chain of best moves from all 0 ends, as samples, and as maxval the greatest label, but at least 1;
+/// the report has their energy. Nothing is written before the last move is finished. Between the images there may be
+/// white space, and what follows the second is not looked at.
+///
+/// Refused, the first that holds: `Image` where no image is at the front of the input, or none behind it, `SizesDiffer` where
+/// they differ in width or height, `Move` as the run of moves is, `Write` where the sink failed, which then took the first
+/// bytes of the picture's written form, as many as are told. `OutOfMemory` may come before the first byte is written.
+/// The options are to be in their ranges, which `fits` tells.
+pub fn run_stereo<H: How, S: Sink>(
+    alloc: Global,
+    input: &[u8],
+    options: &StereoOptions,
+    how: &H,
+    sink: &mut S,
+) -> Result<Report, VisionError>
+    requires options { AreStereoOptions options.now }
+    requires ready { H.ready how.now }
+    ensures done { IfOk result (λ report. (job : Job) × IsStereoJob options.now input.now job
+        × Does job (S.held sink.old) (S.held sink.new) report) }
+    ensures sound { OnOk result (S.has_failed sink.new ≡ S.has_failed sink.old) }
+    ensures refused { IfErr result (Leaves (IsStereoJob options.now input.now)
+        (HasStereoFault options.now input.now) (S.held sink.old) (S.held sink.new) (S.has_failed sink.new)) }
+    ensures unchanged { IfErr result (λ e. (¬ IsWrite e) → sink.new ≡ sink.old) }
+    ensures kept { S.loan sink.new ≡ S.loan sink.old }
+{
+    let finished = match_input(alloc, input, options, how)?;
+    put_finished(&finished, sink)
+}
+
+/// The picture of the shifts of the input.
+fn match_input<H: How>(
+    alloc: Global,
+    input: &[u8],
+    options: &StereoOptions,
+    how: &H,
+) -> Result<Finished, VisionError>
+    requires options { AreStereoOptions options.now }
+    requires ready { H.ready how.now }
+    ensures finished { IfOk result (λ f. (job : Job) × IsStereoJob options.now input.now job
+        × IsFinished job f) }
+    ensures refused { IfErr result (HasStereoFault options.now input.now) }
+{
+    let (left, right) = read_two(alloc, input)?;
+    match_pictures(alloc, &left, &right, options, how)
+}
+
+/// The picture of the shifts of two pictures of one size.
+fn match_pictures<H: How>(
+    alloc: Global,
+    left: &Image,
+    right: &Image,
+    options: &StereoOptions,
+    how: &H,
+) -> Result<Finished, VisionError>
+    requires options { AreStereoOptions options.now }
+    requires sizes { SameSizes left.now right.now }
+    requires ready { H.ready how.now }
+    ensures { MatchResult result (IsFinished (stereo_job options.now left.now right.now))
+        (HasRunFault (stereo_job options.now left.now right.now)) }
+{
+    let labels = options.labels;
+    let cap = options.cap;
+    let smooth = smooth_costs(alloc, options.smooth, options.trunc, labels)?;
+    let pairs = pairs_of(alloc, left, options.neighbours, options.weight)?;
+    let plan = Plan {
+        moves: options.moves,
+        cycles: options.cycles,
+        maxval: (labels - 1).max(1),
+    };
+    let _left = left.samples();
+    let _right = right.samples();
+    let data_cost = DataCost::new(
+        |site: u32, shift: u32| -> i64
+            requires { (site < length left.now.samples) × (site < length right.now.samples)
+                × (1 ≤ left.now.width) }
+            ensures { result ≡ pos (shift_cost cap left.entry.now right.entry.now site shift) }
+        { i64::from(shift_cost(cap, left, right, site, shift)) },
+        left.width() * left.height(),
+        labels,
+    );
+    run_job(alloc, left, plan, pairs, data_cost, smooth.as_slice(), how)
+}
+
+/// What a shift costs a pixel of the left picture.
+fn shift_cost(cap: u32, left: &Image, right: &Image, site: u32, shift: u32) -> u32
+    requires left { site < length left.now.samples }
+    requires right { site < length right.now.samples }
+    requires width { 1 ≤ left.now.width }
+    ensures cost { result ≡ shift_cost cap left.now right.now site shift }
+    ensures capped { result ≤ cap }
+{
+    if site % left.width() < shift {
+        return cap;
+    }
+    let here = u32::from(left.samples()[site as usize]);
+    let there = u32::from(right.samples()[(site - shift) as usize]);
+    here.abs_diff(there).min(cap)
+}
