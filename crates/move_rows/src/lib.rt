@@ -1,10 +1,14 @@
-//! Tests of moves between labellings, as tables: by hand, and small random ones with what a script answers that
-//! tries every labelling.
+//! Tests of moves between labellings, as tables: by hand, and small random ones and runs with what scripts
+//! answer that try every labelling.
 #![tactic(auto)]
 
 #[cfg(test)]
 mod cases;
 #[cfg(test)]
+mod chains;
+#[cfg(test)]
 mod random;
+#[cfg(test)]
+mod runs;
 #[cfg(test)]
 mod worked;

@@ -3,7 +3,7 @@ ghost use Rattle.std.specs.Prelude.{◌≤◌, ◌<◌, ◌+◌, ◌*◌, ◌≤
 
 use cost_store::{DataCost, SmoothCost};
 use label_field::{Labelling, Pairs};
-use moves::{Alone, MoveError, Problem};
+use moves::{Alone, Ended, MoveError, Problem};
 use std::alloc::Global;
 use std::process::Abort;
 use std::test::Fail;
@@ -140,4 +140,68 @@ fn three_labels(rt: HostRuntime) {
     for row in &ROWS {
         expect_row(&rt, rt.alloc(), row);
     }
+}
+
+/// Costs of three labels at four sites.
+const SLOW: [u8; 12] = [8, 2, 1, 3, 7, 4, 3, 4, 6, 9, 5, 3];
+
+/// Where two labels differ they cost 1.
+const DIFFER: [u8; 9] = [0, 1, 1, 1, 0, 1, 1, 1, 0];
+
+/// The labellings of its swaps, in their order: they are settled after four cycles.
+const CHAIN: [[u8; 4]; 7] = [
+    [1, 2, 0, 0],
+    [1, 2, 1, 1],
+    [1, 0, 1, 1],
+    [2, 0, 1, 1],
+    [2, 0, 0, 1],
+    [2, 0, 0, 2],
+    [2, 2, 2, 2],
+];
+
+// Where a growth is refused, the run stands at a labelling of its chain, and it goes on from there.
+#[test]
+fn a_chain_of_swaps(rt: HostRuntime) -> Result<(), Fail> {
+    let mut pairs = Pairs::new(rt.alloc(), 4);
+    pairs.add(0, 1, 3)?;
+    pairs.add(1, 2, 3)?;
+    pairs.add(2, 3, 2)?;
+    let mut labelling = Labelling::new(rt.alloc(), 4, 3)?;
+    labelling.set_label(0, 1)?;
+    labelling.set_label(1, 2)?;
+    assert!(rt; pairs.sites() == 4 && labelling.sites() == 4 && labelling.labels() == 3);
+    let problem = Problem {
+        pairs,
+        data_cost: DataCost::new(
+            |site: u32, label: u32| -> i64
+                requires { site * 3 + label < 12 }
+                ensures { (pos 0 ≤ℤ result) × (result ≤ℤ pos 255) }
+            { i64::from(SLOW[(site * 3 + label) as usize]) },
+            4,
+            3,
+        ),
+        smooth_cost: SmoothCost::new(
+            |first: u32, second: u32| -> i64
+                requires { first * 3 + second < 9 }
+                ensures { (pos 0 ≤ℤ result) × (result ≤ℤ pos 255) }
+            { i64::from(DIFFER[(first * 3 + second) as usize]) },
+            3,
+        ),
+    };
+    let first = problem.run_swap(rt.alloc(), &mut labelling, 9, &Alone);
+    if first == Err(MoveError::OutOfMemory) {
+        assert!(rt; CHAIN.iter().any(|it| labelling.as_slice() == it.as_slice()));
+        let again = problem.run_swap(rt.alloc(), &mut labelling, 9, &Alone);
+        assert!(rt; matches!(again, Ok(Ended { settled: true, .. })));
+    } else {
+        assert_eq!(rt;
+            first,
+            Ok(Ended {
+                cycles: 4,
+                settled: true
+            })
+        );
+    }
+    assert_eq!(rt; labelling.as_slice(), CHAIN[6].as_slice());
+    Ok(())
 }
