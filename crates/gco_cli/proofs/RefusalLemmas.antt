@@ -1,5 +1,5 @@
 -- How the refusal of a command becomes that of a run, and a run's end the run.
-use Rattle.std.proofs.Common.{◌≡◌, ◌||◌, ◌≤◌, ℕ, Bool, false, List, [], inl, inr, Result, Ok, Err, IfOk, IfErr, MatchResult, refl, sym, subst, arith}
+use Rattle.std.proofs.Common.{◌≡◌, ◌||◌, ℕ, Bool, false, List, inl, inr, Result, Ok, Err, IfOk, IfErr, MatchResult, refl, sym, subst, arith}
 use Rattle.std.specs.Result.{IsErrAnd}
 use Rattle.command_line.specs.Task.{Asks, AsksForHelp, IsNoTaskFor}
 use Rattle.command_line.specs.declared.task.NoTask.{NoTask}
