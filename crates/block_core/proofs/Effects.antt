@@ -63,16 +63,3 @@ pub sent_is : (b b' : BlocksView) (ways ways' : List (List (List Message))) (got
 sent_is b b' ways ways' got x v w d e a from to lane at_v at_w label excess is amount at_from at_to made put =
     let residual = ap (λ (q : core.Lane). q.residual) is in
     rw (made, put, at_from, at_to, amount, label, excess, at_v, at_w, residual) refl
-
--- ---- new labels
-
-start_small : (b : Bool) (n : ℕ) → n ≤ 16777216 → cond b 1 (n + 2) ≤ 16777218
-start_small true n l = omega arith
-start_small false n l = omega arith
-
-pub highest_small : {rooms : List (List ℕ)} {s : core.State} (v : ℕ) → IsHeld rooms s → highest_label s v ≤ 16777218
-highest_small {rooms} {s} v held =
-    let start = cond (ltb 0 (core.room_of s v)) 1 (top s.net) in
-    let below : highest_label s v ≤ start = least-le-start (length s.net.arcs) _ start in
-    let small : start ≤ 16777218 = start_small (ltb 0 (core.room_of s v)) (nodes s.net) held.sound.sized.net.count in
-    omega (arith, below, small)

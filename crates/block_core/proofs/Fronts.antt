@@ -1,9 +1,7 @@
 -- What the code knows of the message in front of a way, and what it leaves.
 use Rattle.std.proofs.Common.{◌≡◌, ℕ, ◌+◌, ◌<◌, ◌≤◌, ◌^◌, List, ◌∷◌, length, slice_index, sym, ◌∙◌, ap, subst, arith}
-use Rattle.std.proofs.lemmas.List.Sums.{get_or-le-sum_by}
-use Rattle.flow_network.specs.Cut.{Network, IsNet}
+use Rattle.flow_network.specs.Progress.{top}
 use Rattle.flow_network.specs.Preflow.{arc_at}
-use Rattle.flow_network.specs.declared.arc.Arc.{Arc}
 use Rattle.parcel.specs.declared.direction.Direction.{Direction}
 use Rattle.parcel.specs.declared.message.Message.{Message}
 use Rattle.parcel.specs.declared.message.Message.TheVariants.{Parcel, Accepted, Refused}
@@ -11,7 +9,8 @@ use Rattle.parcel.specs.declared.event.Event.TheVariants.{Accept, Refuse, Settle
 use Rattle.parcel.specs.Directions.{IsDirection, far, opposite}
 use Rattle.parcel.specs.States as core
 use Rattle.parcel.specs.Events as events
-use Rattle.parcel.specs.Soundness.{IsOut}
+use Rattle.parcel.specs.Soundness.{IsOut, amount_out}
+use Rattle.parcel.proofs.Ends.{far_in}
 use Rattle.parcel.proofs.Owning.{accept_fits}
 use Rattle.parcel.proofs.Replies.{front_out}
 use Rattle.parcel.proofs.Ways.{square_put}
@@ -19,23 +18,33 @@ use Rattle.block_core.specs.Views.{BlocksView, state_of, accepted, settled, retu
 use Rattle.block_core.specs.Mails.{IsHeld, room_at}
 use Rattle.block_core.proofs.Effects.{room_after, border_apart}
 
-pub capacity_small : (net : Network) (k : ℕ) → IsNet net → k < length net.arcs → (arc_at net k).capacity < 2 ^ 62
-capacity_small net k is l =
-    let part = get_or-le-sum_by (λ (a : Arc). a.capacity) net.arcs k (record { from = 0; to = 0; capacity = 0 }) l in
-    omega (arith, part, is.total)
-
 -- the parcel in front of a way is out
 pub parcel_out : {rooms : List (List ℕ)} {s : core.State} (b c : ℕ) (x : Direction) (a d : ℕ) (rest : List Message) → IsHeld rooms s
     → core.way_at s.ways b c ≡ Parcel x a d ∷ rest → IsOut s.net s.blocks s.lanes x a d b c
 parcel_out {rooms} {s} b c x a d rest held front = front_out s b c (Parcel x a d) rest held.sound front
 
-pub accepted_direction : {rooms : List (List ℕ)} {s : core.State} (b c : ℕ) (x : Direction) (a : ℕ) (rest : List Message) → IsHeld rooms s
-    → core.way_at s.ways b c ≡ Accepted x a ∷ rest → IsDirection s.net x
-accepted_direction {rooms} {s} b c x a rest held front = (front_out s b c (Accepted x a) rest held.sound front).1.direction
+-- the parcel whose answer is in front of a way is out
+pub accepted_out : {rooms : List (List ℕ)} {s : core.State} (b c : ℕ) (x : Direction) (a : ℕ) (rest : List Message) → IsHeld rooms s
+    → core.way_at s.ways b c ≡ Accepted x a ∷ rest → (d : ℕ) × IsOut s.net s.blocks s.lanes x a d c b
+accepted_out {rooms} {s} b c x a rest held front = front_out s b c (Accepted x a) rest held.sound front
 
-pub refused_direction : {rooms : List (List ℕ)} {s : core.State} (b c : ℕ) (x : Direction) (a d told : ℕ) (rest : List Message) → IsHeld rooms s
-    → core.way_at s.ways b c ≡ Refused x a d told ∷ rest → IsDirection s.net x
-refused_direction {rooms} {s} b c x a d told rest held front = (front_out s b c (Refused x a d told) rest held.sound front).0.direction
+pub refused_out : {rooms : List (List ℕ)} {s : core.State} (b c : ℕ) (x : Direction) (a d told : ℕ) (rest : List Message) → IsHeld rooms s
+    → core.way_at s.ways b c ≡ Refused x a d told ∷ rest → IsOut s.net s.blocks s.lanes x a d c b
+refused_out {rooms} {s} b c x a d told rest held front = (front_out s b c (Refused x a d told) rest held.sound front).0
+
+-- the label that a refusal tells is a label
+pub refused_label : {rooms : List (List ℕ)} {s : core.State} (b c : ℕ) (x : Direction) (a d told : ℕ) (rest : List Message) → IsHeld rooms s
+    → core.way_at s.ways b c ≡ Refused x a d told ∷ rest → told ≤ top s.net
+refused_label {rooms} {s} b c x a d told rest held front =
+    let found = front_out s b c (Refused x a d told) rest held.sound front in
+    omega (arith, found.2, held.sound.top (far s.net x) (far_in s.net x held.sound.sized.net found.0.direction))
+
+-- the amount that comes back is the one that is out
+pub refused_amount : {rooms : List (List ℕ)} {s : core.State} (b c : ℕ) (x : Direction) (a d told : ℕ) (rest : List Message) → IsHeld rooms s
+    → core.way_at s.ways b c ≡ Refused x a d told ∷ rest → a ≤ amount_out (core.flight_of s x)
+refused_amount {rooms} {s} b c x a d told rest held front =
+    let found = front_out s b c (Refused x a d told) rest held.sound front in
+    omega (arith, ap amount_out found.0.flight)
 
 -- the two blocks of a way with a parcel differ
 pub out_apart : (s : core.State) (x : Direction) (a d b c : ℕ) → IsOut s.net s.blocks s.lanes x a d b c → c ≡ b → ⊥
@@ -55,11 +64,14 @@ accept_room {rooms} {s} b c x a d rest held way front level =
     room_after (Accept b c) (core.put_way s.ways b c rest) c b (Accepted x a) held (may_accept s b c x a d rest way front level) is
     (square_put s.blocks s.ways b c rest held.sound.sized.ways) way.1 way.0 (out_apart s x a d b c (parcel_out b c x a d rest held front))
 
-pub accept_small : {rooms : List (List ℕ)} {s : core.State} (b c : ℕ) (x : Direction) (a d : ℕ) (rest : List Message) → IsHeld rooms s
-    → core.way_at s.ways b c ≡ Parcel x a d ∷ rest → core.label_of s (far s.net x) + 1 ≡ d → core.residual_of s (opposite x) + a < 2 ^ 62
-accept_small {rooms} {s} b c x a d rest held front level =
-    let out = parcel_out b c x a d rest held front in
-    omega (arith, (accept_fits s b c x a d rest held.sound front level).1, capacity_small s.net x.arc held.sound.sized.net out.direction)
+pub accept_label : {rooms : List (List ℕ)} {s : core.State} (b c : ℕ) (x : Direction) (a d : ℕ) (rest : List Message) → IsHeld rooms s
+    → core.way_at s.ways b c ≡ Parcel x a d ∷ rest → core.label_of s (far s.net x) + 1 ≡ d → d ≤ top s.net
+accept_label {rooms} {s} b c x a d rest held front level = (accept_fits s b c x a d rest held.sound front level).0
+
+pub accept_amount : {rooms : List (List ℕ)} {s : core.State} (b c : ℕ) (x : Direction) (a d : ℕ) (rest : List Message) → IsHeld rooms s
+    → core.way_at s.ways b c ≡ Parcel x a d ∷ rest → core.label_of s (far s.net x) + 1 ≡ d
+    → core.residual_of s (opposite x) + amount_out (core.flight_of s (opposite x)) + a ≤ (arc_at s.net x.arc).capacity
+accept_amount {rooms} {s} b c x a d rest held front level = (accept_fits s b c x a d rest held.sound front level).1
 
 pub accept_is : (v v' : BlocksView) (ways ways1 ways2 : List (List (List Message))) (got b c : ℕ) (x : Direction) (a d : ℕ) (rest : List Message)
     → core.way_at ways b c ≡ Parcel x a d ∷ rest → v' ≡ accepted v x a d → ways1 ≡ core.put_way ways b c rest → ways2 ≡ core.put_message ways1 c b (Accepted x a)

@@ -1,5 +1,8 @@
 pub mod Nested
-pub mod Lanes
+pub mod Writing
+pub mod Steps
+pub mod Allowing
+pub mod Opened
 pub mod Keeping
 pub mod Effects
 pub mod Fronts

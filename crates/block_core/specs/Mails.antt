@@ -4,6 +4,7 @@ use Rattle.flow_network.specs.Cut.{Network}
 use Rattle.parcel.specs.declared.message.Message.{Message}
 use Rattle.parcel.specs.States.{State}
 use Rattle.parcel.specs.Soundness.{IsSound, room_between}
+use Rattle.block_net.specs.Limits.{block_limit}
 
 pub record MailView : Type 0 where
   pub messages : List (List (List Message))
@@ -22,5 +23,5 @@ HasRooms net blocks rooms = (b c : ℕ) → b < blocks → c < blocks → (b ≡
 -- a sound state, and ways that have room
 pub record IsHeld (rooms : List (List ℕ)) (s : State) : Type 0 where
   pub sound : IsSound s
-  pub few : s.blocks ≤ 256
+  pub few : s.blocks ≤ block_limit
   pub room : HasRooms s.net s.blocks rooms

@@ -1,12 +1,15 @@
 -- What the blocks of a net hold of nodes and directions, and the state that they make with the ways.
-use Rattle.std.specs.Prelude.{Bool, true, false, cond, replicate, ℕ, ◌+◌, ◌-◌, ◌≡◌, ◌≤◌, List, length, map, slice_index, slice_set, Some, None}
+use Rattle.std.specs.Prelude.{Bool, true, false, cond, replicate, ℕ, ◌+◌, ◌-◌, ◌≡◌, ◌<◌, ◌≤◌, List, [], length, map, slice_index, slice_set, Some, None}
 use Rattle.flow_network.specs.declared.arc.Arc.{Arc}
 use Rattle.flow_network.specs.Cut.{Network, nodes, IsNet}
 use Rattle.parcel.specs.declared.direction.Direction.{Direction}
 use Rattle.parcel.specs.declared.message.Message.{Message}
-use Rattle.parcel.specs.Directions.{near, far, opposite}
+use Rattle.parcel.specs.Directions.{IsDirection, near, far, opposite}
 use Rattle.parcel.specs.States as core
 use Rattle.parcel.specs.Events.{learned}
+use Rattle.block_net.specs.Limits.{arc_limit, block_limit}
+use Rattle.block_net.specs.Views.{BlockView}
+use Rattle.block_net.specs.Whole.{Whole, whole_of, home, place, near_home, slot, is_outer, shown, IsPlaced}
 use Rattle.block_core.specs.declared.lane.Lane.{Lane}
 
 pub record BlocksView : Type 0 where
@@ -20,21 +23,49 @@ pub record BlocksView : Type 0 where
 abbrev pub shown_lane : Lane → core.Lane
 shown_lane lane = record { residual = lane.residual; known = lane.known; flight = lane.flight }
 
-abbrev pub blocks_of : Network → ℕ → List ℕ → List ℕ → List ℕ → List Lane → List Lane → BlocksView
-blocks_of net blocks excess labels rooms forth back = record {
-  net = net;
-  blocks = blocks;
-  excess = excess;
-  labels = labels;
-  rooms = rooms;
-  lanes = record { forth = map shown_lane forth; back = map shown_lane back };
+-- what a whole of blocks shows, without the messages on the way
+abbrev pub blocks_in : Whole → BlocksView
+blocks_in w = record {
+  net = w.net;
+  blocks = length w.blocks;
+  excess = (shown w).excess;
+  labels = (shown w).labels;
+  rooms = (shown w).rooms;
+  lanes = (shown w).lanes;
 }
+
+-- the whole of these blocks, with no message on the way
+abbrev pub whole_in : Network → List ℕ → List ℕ → List BlockView → Whole
+whole_in net firsts slots parts = whole_of net firsts slots parts [] 0
+
+-- what is kept of the blocks of a net
+pub record IsLaid (w : Whole) : Type 0 where
+  pub net : IsNet w.net
+  pub arcs : length w.net.arcs ≤ arc_limit
+  pub some : 1 ≤ length w.blocks
+  pub few : length w.blocks ≤ block_limit
+  pub placed : IsPlaced w
+
+-- a node, its block and its place there
+pub record IsSpot (w : Whole) (v b p : ℕ) : Type 0 where
+  pub node : v < nodes w.net
+  pub home : home w v ≡ b
+  pub place : place w v ≡ p
+  pub block : b < length w.blocks
+
+-- a direction, whether it leads to another block, the block that it leaves and its slot there
+pub record IsRow (w : Whole) (x : Direction) (leaves : Bool) (b j : ℕ) : Type 0 where
+  pub direction : IsDirection w.net x
+  pub outer : is_outer w x ≡ leaves
+  pub home : near_home w x ≡ b
+  pub slot : slot w x ≡ j
+  pub block : b < length w.blocks
 
 -- the lists are as long as the net says
 pub record IsLong (b : BlocksView) : Type 0 where
   pub net : IsNet b.net
   pub some : 1 ≤ b.blocks
-  pub few : b.blocks ≤ 256
+  pub few : b.blocks ≤ block_limit
   pub excess : length b.excess ≡ nodes b.net
   pub labels : length b.labels ≡ nodes b.net
   pub rooms : length b.rooms ≡ nodes b.net

@@ -1,6 +1,7 @@
 ghost use Rattle.std.specs.Prelude.{◌≡◌, ◌≤◌, IfOk, OnOk, OnErr};
 ghost use Rattle.parcel.specs.Events.{Enabled, Happens};
 ghost use Rattle.parcel.specs.Soundness.{opened};
+ghost use Rattle.block_net.specs.Split.{CanSplit};
 
 use crate::state::State;
 use flow_network::Net;
@@ -32,11 +33,10 @@ impl Model for Core {
 }
 
 impl Core {
-    /// The opening of a net in so many blocks, at least one and at most 256: node i of n lies in block
-    /// `i * blocks / n`. The only error is that memory runs out.
+    /// The opening of a net in so many blocks, at least one and at most `BLOCK_LIMIT`, where it has at most
+    /// `ARC_LIMIT` arcs: node i of n lies in block `i * blocks / n`. The only error is that memory runs out.
     pub fn open(alloc: Global, net: &Net, blocks: usize) -> Result<Core, AllocError>
-        requires some { 1 ≤ blocks }
-        requires few { blocks ≤ 256 }
+        requires { CanSplit net.now blocks }
         ensures { IfOk result (λ core. core ≡ opened net.now blocks) }
     {
         let state = State::open(alloc, net, blocks)?;

@@ -1,37 +1,43 @@
-ghost use Rattle.std.specs.Prelude.{IfOk, map, ◌≡◌, ◌≢◌, ◌↔◌, ◌+◌, ◌*◌, ◌/◌, ◌<◌, ◌≤◌, ◌^◌, IsTrue, true, length, slice_index, slice_set};
+ghost use Rattle.std.specs.Prelude.{IfOk, ◌≡◌, ◌≢◌, ◌↔◌, ◌+◌, ◌*◌, ◌/◌, ◌<◌, ◌≤◌, IsTrue, None, true, false, [], length, slice_index};
 ghost use Rattle.flow_network.specs.Limits.{node_limit};
 ghost use Rattle.flow_network.specs.Cut.{nodes, IsNet};
+ghost use Rattle.flow_network.specs.Preflow.{arc_at};
 ghost use Rattle.flow_network.specs.Progress.{top};
 ghost use Rattle.parcel.specs.Directions.{IsDirection, near, far, opposite};
 ghost use Rattle.parcel.specs.States.{lane_at, put_lane, block_of, is_border};
-ghost use Rattle.block_core.specs.Views.{BlocksView, IsLong, first_lanes, first_of, shown_lane, gave, labelled, pushed, sent, accepted, settled, returned};
+ghost use Rattle.parcel.specs.Soundness.{amount_out};
+ghost use Rattle.parcel.specs.Events.{highest_label};
+ghost use Rattle.block_net.specs.Limits.{arc_limit, block_limit};
+ghost use Rattle.block_net.specs.Split.{CanSplit};
+ghost use Rattle.block_net.specs.Whole.{index_of, is_outer};
+ghost use Rattle.block_core.specs.Views.{whole_in, state_of, IsLaid, IsLong, IsSpot, IsRow, first_of, shown_lane, gave, labelled, pushed, sent, accepted, settled, returned};
 
 use crate::lane::Lane;
-use flow_network::{Arc, Net};
-use parcel::{Direction, Flight};
+use block_net::Parts;
+use flow_network::Net;
+use parcel::Direction;
 use std::alloc::{AllocError, Global};
 use std::marker::Model;
 
 /// What the blocks of a net hold of its nodes and of its directions.
+///
+/// Beside the net that is 36 bytes a node (excess and room 8 each, its two starts 8 each, the label 4), 40
+/// bytes an arc within a block (of each direction 16, and 4 for its place), and 24 bytes a block; the short
+/// list of the directions to other blocks takes 72 bytes each, and 4 for the place.
 #[derive(Drop)]
 pub struct Blocks {
     net: Net,
-    blocks: usize,
-    excess: Vec<u64>,
-    labels: Vec<u32>,
-    rooms: Vec<u64>,
-    forth: Vec<Lane>,
-    back: Vec<Lane>,
+    parts: Parts,
 }
 
 impl Model for Blocks {
-    ghost use Rattle.block_core.specs.Views.{BlocksView, blocks_of, IsLong};
+    ghost use Rattle.block_core.specs.Views.{BlocksView, whole_in, blocks_in, IsLaid};
 
     ghost Value = { BlocksView };
 
-    ghost view = { λ b. blocks_of b.net b.blocks b.excess.items b.labels.items b.rooms.items b.forth.items b.back.items };
+    ghost view = { λ b. blocks_in (whole_in b.net b.parts.firsts.items b.parts.slots.items b.parts.blocks.items) };
 
-    ghost invariant = { λ b. IsLong (blocks_of b.net b.blocks b.excess.items b.labels.items b.rooms.items b.forth.items b.back.items) };
+    ghost invariant = { λ b. IsLaid (whole_in b.net b.parts.firsts.items b.parts.slots.items b.parts.blocks.items) };
 }
 
 /// The direction against a direction.
@@ -48,7 +54,7 @@ pub fn opposite_of(direction: Direction) -> Direction
 fn home_of(v: usize, nodes: usize, blocks: usize) -> usize
     requires node { v < nodes }
     requires nodes { nodes ≤ node_limit }
-    requires blocks { blocks ≤ 256 }
+    requires blocks { blocks ≤ block_limit }
     ensures { result ≡ (v * blocks) / nodes }
 {
     v * blocks / nodes
@@ -56,7 +62,8 @@ fn home_of(v: usize, nodes: usize, blocks: usize) -> usize
 
 /// The same net once more.
 fn copy_of(alloc: Global, net: &Net) -> Result<Net, AllocError>
-    ensures { IfOk result (λ copy. copy ≡ net.now) }
+    ensures copy { IfOk result (λ copy. copy ≡ net.now) }
+    ensures limits { IfOk result (λ copy. IsNet net.now) }
 {
     let sources = Vec::from_slice(alloc, net.sources())?;
     let sinks = Vec::from_slice(alloc, net.sinks())?;
@@ -64,46 +71,66 @@ fn copy_of(alloc: Global, net: &Net) -> Result<Net, AllocError>
     Ok(Net::new(sources, sinks, arcs))
 }
 
-/// What is held of the arcs in one sense before any flow.
-fn first_lanes(alloc: Global, arcs: &[Arc], back: bool) -> Result<Vec<Lane>, AllocError>
-    ensures { IfOk result (λ lanes. map shown_lane lanes.items ≡ first_lanes back arcs.now) }
+/// The node that a direction leaves.
+fn near_of(net: &Net, direction: Direction) -> usize
+    requires { IsDirection net.now direction }
+    ensures value { result ≡ near net.now direction }
+    ensures node { result < nodes net.now }
 {
-    let mut lanes = Vec::with_capacity(alloc, arcs.len())?;
-    for arc in arcs {
-        let residual = if back { 0 } else { arc.capacity };
-        let lane = Lane {
-            residual,
-            known: 0,
-            flight: None,
-        };
-        lanes.push(lane)?;
+    let arc = net.arcs()[direction.arc];
+    if direction.back {
+        arc.to as usize
+    } else {
+        arc.from as usize
     }
-    Ok(lanes)
+}
+
+/// The block of a node, and the node's place there.
+fn spot(net: &Net, parts: &Parts, v: usize) -> (usize, usize)
+    requires laid { IsLaid (whole_in net.now parts.now.firsts.items parts.now.slots.items parts.now.blocks.items) }
+    requires node { v < nodes net.now }
+    ensures { IsSpot (whole_in net.now parts.now.firsts.items parts.now.slots.items parts.now.blocks.items)
+        v result.0 result.1 }
+{
+    let block = home_of(v, net.nodes(), parts.blocks.len());
+    (block, v - parts.firsts[block])
+}
+
+/// Where a direction stands in the table of slots.
+fn index_of(net: &Net, direction: Direction) -> usize
+    requires direction { IsDirection net.now direction }
+    requires arcs { length net.now.arcs ≤ arc_limit }
+    ensures { result ≡ index_of net.now direction }
+{
+    if direction.back {
+        net.arcs().len() + direction.arc
+    } else {
+        direction.arc
+    }
+}
+
+/// The block of the node that a direction leaves, and the direction's slot there.
+fn row(net: &Net, parts: &Parts, direction: Direction) -> (usize, usize)
+    requires laid { IsLaid (whole_in net.now parts.now.firsts.items parts.now.slots.items parts.now.blocks.items) }
+    requires direction { IsDirection net.now direction }
+    ensures { (let w = whole_in net.now parts.now.firsts.items parts.now.slots.items parts.now.blocks.items in
+        IsRow w direction (is_outer w direction) result.0 result.1) }
+{
+    let block = home_of(near_of(net, direction), net.nodes(), parts.blocks.len());
+    let slot = parts.slots[index_of(net, direction)];
+    (block, slot as usize)
 }
 
 impl Blocks {
     /// A net in so many blocks before any flow: what the source can send is excess, and all labels are 0.
     pub fn open(alloc: Global, net: &Net, blocks: usize) -> Result<Blocks, AllocError>
-        requires some { 1 ≤ blocks }
-        requires few { blocks ≤ 256 }
+        requires { CanSplit net.now blocks }
         ensures first { IfOk result (λ b. b ≡ first_of net.now blocks) }
         ensures limits { IfOk result (λ b. IsNet net.now) }
     {
-        let forth = first_lanes(alloc, net.arcs(), false)?;
-        let back = first_lanes(alloc, net.arcs(), true)?;
-        let labels = vec![in alloc; 0; net.nodes()]?;
-        let excess = Vec::from_slice(alloc, net.sources())?;
-        let rooms = Vec::from_slice(alloc, net.sinks())?;
+        let parts = Parts::split(alloc, net, blocks)?;
         let net = copy_of(alloc, net)?;
-        Ok(Blocks {
-            net,
-            blocks,
-            excess,
-            labels,
-            rooms,
-            forth,
-            back,
-        })
+        Ok(Blocks { net, parts })
     }
 
     /// How many nodes the net has.
@@ -126,9 +153,9 @@ impl Blocks {
     pub fn count(&self) -> usize
         ensures value { result ≡ self.now.blocks }
         ensures some { 1 ≤ result }
-        ensures few { result ≤ 256 }
+        ensures few { result ≤ block_limit }
     {
-        self.blocks
+        self.parts.blocks.len()
     }
 
     /// The node that a direction leaves.
@@ -137,12 +164,7 @@ impl Blocks {
         ensures value { result ≡ near self.now.net direction }
         ensures node { result < nodes self.now.net }
     {
-        let arc = self.net.arcs()[direction.arc];
-        if direction.back {
-            arc.to as usize
-        } else {
-            arc.from as usize
-        }
+        near_of(&self.net, direction)
     }
 
     /// The node that a direction leads to.
@@ -160,7 +182,7 @@ impl Blocks {
         ensures value { result ≡ block_of self.now.net self.now.blocks v }
         ensures block { result < self.now.blocks }
     {
-        home_of(v, self.net.nodes(), self.blocks)
+        home_of(v, self.net.nodes(), self.parts.blocks.len())
     }
 
     /// Whether a direction leads to another block.
@@ -176,16 +198,19 @@ impl Blocks {
         requires { v < nodes self.now.net }
         ensures { result ≡ slice_index self.now.excess v }
     {
-        self.excess[v]
+        let (block, place) = spot(&self.net, &self.parts, v);
+        self.parts.blocks[block].excess(place)
     }
 
     /// A node's label.
     pub fn label(&self, v: usize) -> u32
         requires { v < nodes self.now.net }
         ensures value { result ≡ slice_index self.now.labels v }
+        ensures limit { result ≤ top self.now.net }
         ensures long { IsLong self.now }
     {
-        self.labels[v]
+        let (block, place) = spot(&self.net, &self.parts, v);
+        self.parts.blocks[block].label(place)
     }
 
     /// What a node can still give the sink.
@@ -193,7 +218,8 @@ impl Blocks {
         requires { v < nodes self.now.net }
         ensures { result ≡ slice_index self.now.rooms v }
     {
-        self.rooms[v]
+        let (block, place) = spot(&self.net, &self.parts, v);
+        self.parts.blocks[block].room(place)
     }
 
     /// What the block of its near end holds of a direction.
@@ -201,40 +227,43 @@ impl Blocks {
         requires { IsDirection self.now.net direction }
         ensures { shown_lane result ≡ lane_at self.now.lanes direction }
     {
-        if direction.back {
-            self.back[direction.arc]
-        } else {
-            self.forth[direction.arc]
+        let (block, slot) = row(&self.net, &self.parts, direction);
+        let cells = &self.parts.blocks[block];
+        if !self.is_border(direction) {
+            return Lane {
+                residual: cells.lane(slot).residual,
+                known: 0,
+                flight: None,
+            };
+        }
+        let border = cells.border(slot);
+        Lane {
+            residual: border.residual,
+            known: border.known,
+            flight: border.flight,
         }
     }
 
-    /// What is held of a direction from now on.
-    fn set_lane(&mut self, direction: Direction, lane: Lane)
-        requires { IsDirection self.old.net direction }
-        ensures { self.new ≡ record self.old { lanes = put_lane self.old.lanes direction (shown_lane lane) } }
+    /// The highest label that a node may have, by the directions that leave it.
+    pub fn highest_label(&self, v: usize) -> u32
+        requires { v < nodes self.now.net }
+        ensures value { result ≡ highest_label (state_of self.now [] 0) v }
+        ensures limit { result ≤ top self.now.net }
     {
-        if direction.back {
-            self.back[direction.arc] = lane;
-        } else {
-            self.forth[direction.arc] = lane;
-        }
+        let (block, place) = spot(&self.net, &self.parts, v);
+        self.parts.blocks[block].highest_label(place)
     }
 
-    /// The label that a direction knows of its far end from now on.
+    /// The label that a direction to another block knows of its far end from now on.
     pub fn set_known(&mut self, direction: Direction, known: u32)
-        requires { IsDirection self.old.net direction }
-        ensures { self.new ≡ record self.old { lanes = put_lane self.old.lanes direction (record (lane_at self.old.lanes direction) { known = known }) } }
+        requires direction { IsDirection self.old.net direction }
+        requires border { is_border self.old.net self.old.blocks direction ≡ true }
+        requires limit { known ≤ top self.old.net }
+        ensures { self.new ≡ record self.old { lanes = put_lane self.old.lanes direction
+            (record (lane_at self.old.lanes direction) { known = known }) } }
     {
-        let lane = self.lane(direction);
-        self.set_lane(direction, Lane { known, ..lane });
-    }
-
-    /// What a node holds from now on.
-    fn set_excess(&mut self, v: usize, excess: u64)
-        requires { v < nodes self.old.net }
-        ensures { self.new ≡ record self.old { excess = slice_set self.old.excess v excess } }
-    {
-        self.excess[v] = excess;
+        let (block, slot) = row(&self.net, &self.parts, direction);
+        self.parts.blocks[block].inform(slot, known);
     }
 
     /// An amount of a node's excess goes to the sink.
@@ -244,122 +273,82 @@ impl Blocks {
         requires room { amount ≤ slice_index self.old.rooms v }
         ensures { self.new ≡ gave self.old v amount }
     {
-        self.excess[v] -= amount;
-        self.rooms[v] -= amount;
+        let (block, place) = spot(&self.net, &self.parts, v);
+        self.parts.blocks[block].give(place, amount);
     }
 
     /// A node gets a label.
     pub fn relabel(&mut self, v: usize, label: u32)
-        requires { v < nodes self.old.net }
+        requires node { v < nodes self.old.net }
+        requires limit { label ≤ top self.old.net }
         ensures { self.new ≡ labelled self.old v label }
     {
-        self.labels[v] = label;
+        let (block, place) = spot(&self.net, &self.parts, v);
+        self.parts.blocks[block].relabel(place, label);
     }
 
-    /// An amount of the near end's excess goes along a direction to the far end.
+    /// An amount of the near end's excess goes along a direction within a block to the far end.
     pub fn push(&mut self, direction: Direction, amount: u64)
         requires direction { IsDirection self.old.net direction }
+        requires inner { is_border self.old.net self.old.blocks direction ≡ false }
         requires other { near self.old.net direction ≢ far self.old.net direction }
         requires excess { amount ≤ slice_index self.old.excess (near self.old.net direction) }
         requires residual { amount ≤ (lane_at self.old.lanes direction).residual }
-        requires excess_fits { slice_index self.old.excess (far self.old.net direction) + amount < 2 ^ 62 }
-        requires residual_fits { (lane_at self.old.lanes (opposite direction)).residual + amount < 2 ^ 62 }
         ensures { self.new ≡ pushed self.old direction amount }
     {
-        let near = self.near(direction);
-        let far = self.far(direction);
-        let less = self.excess(near) - amount;
-        self.set_excess(near, less);
-        let more = self.excess(far) + amount;
-        self.set_excess(far, more);
-        let lane = self.lane(direction);
-        self.set_lane(
-            direction,
-            Lane {
-                residual: lane.residual - amount,
-                ..lane
-            },
-        );
-        let against = opposite_of(direction);
-        let lane = self.lane(against);
-        self.set_lane(
-            against,
-            Lane {
-                residual: lane.residual + amount,
-                ..lane
-            },
-        );
+        let (_, place) = spot(&self.net, &self.parts, near_of(&self.net, direction));
+        let (block, slot) = row(&self.net, &self.parts, direction);
+        self.parts.blocks[block].push(place, slot, amount);
     }
 
-    /// An amount of the near end's excess leaves along a direction in a parcel.
+    /// An amount of the near end's excess leaves along a direction to another block in a parcel.
     pub fn send(&mut self, direction: Direction, amount: u64)
         requires direction { IsDirection self.old.net direction }
+        requires border { is_border self.old.net self.old.blocks direction ≡ true }
         requires excess { amount ≤ slice_index self.old.excess (near self.old.net direction) }
         requires residual { amount ≤ (lane_at self.old.lanes direction).residual }
+        requires idle { (lane_at self.old.lanes direction).flight ≡ None }
         ensures { self.new ≡ sent self.old direction amount }
     {
-        let near = self.near(direction);
-        let label = self.label(near);
-        let less = self.excess(near) - amount;
-        self.set_excess(near, less);
-        let lane = self.lane(direction);
-        let sent = Lane {
-            residual: lane.residual - amount,
-            flight: Some(Flight { amount, label }),
-            ..lane
-        };
-        self.set_lane(direction, sent);
+        let (_, place) = spot(&self.net, &self.parts, near_of(&self.net, direction));
+        let (block, slot) = row(&self.net, &self.parts, direction);
+        self.parts.blocks[block].send(place, slot, amount);
     }
 
-    /// An amount comes along a direction: its far end gets it, and the opposite direction learns the
-    /// label that it was sent by, but not while a parcel of its own is out.
+    /// An amount comes along a direction from another block: its far end gets it, and the opposite direction
+    /// learns the label that it was sent by, but not while a parcel of its own is out.
     pub fn accept(&mut self, direction: Direction, amount: u64, label: u32)
         requires direction { IsDirection self.old.net direction }
-        requires excess_fits { slice_index self.old.excess (far self.old.net direction) + amount < 2 ^ 62 }
-        requires residual_fits { (lane_at self.old.lanes (opposite direction)).residual + amount < 2 ^ 62 }
+        requires border { is_border self.old.net self.old.blocks direction ≡ true }
+        requires fits { (lane_at self.old.lanes (opposite direction)).residual
+            + amount_out (lane_at self.old.lanes (opposite direction)).flight + amount
+            ≤ (arc_at self.old.net direction.arc).capacity }
+        requires label { label ≤ top self.old.net }
         ensures { self.new ≡ accepted self.old direction amount label }
     {
-        let far = self.far(direction);
-        let more = self.excess(far) + amount;
-        self.set_excess(far, more);
-        let against = opposite_of(direction);
-        let lane = self.lane(against);
-        self.set_lane(against, lane.learned(amount, label));
+        let (block, slot) = row(&self.net, &self.parts, opposite_of(direction));
+        self.parts.blocks[block].accept(slot, amount, label);
     }
 
-    /// The parcel of a direction was taken.
+    /// The parcel of a direction to another block was taken.
     pub fn settle(&mut self, direction: Direction)
-        requires { IsDirection self.old.net direction }
+        requires direction { IsDirection self.old.net direction }
+        requires border { is_border self.old.net self.old.blocks direction ≡ true }
         ensures { self.new ≡ settled self.old direction }
     {
-        let lane = self.lane(direction);
-        self.set_lane(
-            direction,
-            Lane {
-                flight: None,
-                ..lane
-            },
-        );
+        let (block, slot) = row(&self.net, &self.parts, direction);
+        self.parts.blocks[block].settle(slot);
     }
 
-    /// The parcel of a direction comes back, with the label that stood against it.
+    /// The parcel of a direction to another block comes back, with the label that stood against it.
     pub fn take_back(&mut self, direction: Direction, amount: u64, told: u32)
         requires direction { IsDirection self.old.net direction }
-        requires excess_fits { slice_index self.old.excess (near self.old.net direction) + amount < 2 ^ 62 }
-        requires residual_fits { (lane_at self.old.lanes direction).residual + amount < 2 ^ 62 }
+        requires border { is_border self.old.net self.old.blocks direction ≡ true }
+        requires fits { amount ≤ amount_out (lane_at self.old.lanes direction).flight }
+        requires told { told ≤ top self.old.net }
         ensures { self.new ≡ returned self.old direction amount told }
     {
-        let near = self.near(direction);
-        let more = self.excess(near) + amount;
-        self.set_excess(near, more);
-        let residual = self.lane(direction).residual + amount;
-        self.set_lane(
-            direction,
-            Lane {
-                residual,
-                known: told,
-                flight: None,
-            },
-        );
+        let (block, slot) = row(&self.net, &self.parts, direction);
+        self.parts.blocks[block].take_back(slot, amount, told);
     }
 }

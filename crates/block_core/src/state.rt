@@ -4,7 +4,8 @@ ghost use Rattle.parcel.specs.declared.message.Message.TheVariants.{Parcel, Acce
 ghost use Rattle.parcel.specs.Directions.{IsDirection, far};
 ghost use Rattle.parcel.specs.States.{IsWay, way_at, excess_of, label_of, room_of, residual_of, known_of, flight_of};
 ghost use Rattle.parcel.specs.Soundness.{IsSound, opened};
-ghost use Rattle.parcel.specs.Events.{Happens, IsActive, IsQuiet, Enabled, effect, allowed, highest_label};
+ghost use Rattle.parcel.specs.Events.{Happens, IsActive, IsQuiet, Enabled, effect};
+ghost use Rattle.block_net.specs.Split.{CanSplit};
 
 use crate::blocks::Blocks;
 use crate::mail::Mail;
@@ -35,11 +36,10 @@ impl Model for State {
 }
 
 impl State {
-    /// The opening of a net in so many blocks, at least one and at most 256. All room for messages is made
-    /// here; the only error is that memory runs out.
+    /// The opening of a net in so many blocks, at least one and at most `BLOCK_LIMIT`, where it has at most
+    /// `ARC_LIMIT` arcs. All room for messages is made here; the only error is that memory runs out.
     pub fn open(alloc: Global, net: &Net, blocks: usize) -> Result<State, AllocError>
-        requires some { 1 ≤ blocks }
-        requires few { blocks ≤ 256 }
+        requires { CanSplit net.now blocks }
         ensures { IfOk result (λ state. state ≡ opened net.now blocks) }
     {
         let blocks = Blocks::open(alloc, net, blocks)?;
@@ -240,43 +240,6 @@ impl State {
         true
     }
 
-    /// The label that a direction allows a node to have.
-    fn allowed(&self, v: usize, direction: Direction) -> u64
-        requires { IsDirection self.now.net direction }
-        ensures { result ≡ allowed self.now v direction }
-    {
-        let lane = self.blocks.lane(direction);
-        let border = self.blocks.is_border(direction);
-        let open = lane.residual > 0 || (border && lane.flight.is_some());
-        if self.blocks.near(direction) != v || !open {
-            return self.blocks.nodes() as u64 + 2;
-        }
-        let seen = if border {
-            lane.known
-        } else {
-            self.blocks.label(self.blocks.far(direction))
-        };
-        seen as u64 + 1
-    }
-
-    /// The highest label that a node may have.
-    fn highest_label(&self, v: usize) -> u64
-        requires { v < nodes self.now.net }
-        ensures { result ≡ highest_label self.now v }
-    {
-        let mut least = if self.blocks.room(v) > 0 {
-            1
-        } else {
-            self.blocks.nodes() as u64 + 2
-        };
-        'arcs: for arc in 0..self.blocks.arcs() {
-            let forward = self.allowed(v, Direction { arc, back: false });
-            let backward = self.allowed(v, Direction { arc, back: true });
-            least = u64::min(least, u64::min(forward, backward));
-        }
-        least
-    }
-
     /// A node gets the highest label that it may have; no where that is not enabled, and nothing changes.
     fn relabel(&mut self, v: usize) -> bool
         ensures { MatchBool result
@@ -286,11 +249,11 @@ impl State {
         if !self.is_active(v) {
             return false;
         }
-        let highest = self.highest_label(v);
-        if highest <= self.blocks.label(v) as u64 {
+        let highest = self.blocks.highest_label(v);
+        if highest <= self.blocks.label(v) {
             return false;
         }
-        self.blocks.relabel(v, highest as u32);
+        self.blocks.relabel(v, highest);
         true
     }
 

@@ -1,5 +1,5 @@
 mod Keeping
-mod Tables
+pub mod Tables
 mod Numbers
 mod Grouped
 mod Spots

@@ -287,6 +287,8 @@ placed net blocks rows ready =
     let border_starts = λ (v : ℕ) (l : v < n). ap (λ (q : BlockView). first_border q (place w v)) (home_of v l).block_is ∙ ap (λ k. slice_index (starts_from rows.outer.starts.items (first v) (next v)) k) (home_of v l).place_is in
     let border_ends = λ (v : ℕ) (l : v < n). ap (λ (q : BlockView). first_border q (place w v + 1)) (home_of v l).block_is ∙ ap (λ k. slice_index (starts_from rows.outer.starts.items (first v) (next v)) (k + 1)) (home_of v l).place_is in
     record {
+      firsts_len = length_table blocks (first_of n blocks) ∙ sym len;
+      slots_len = ready.rows_are.slots_len;
       homes = λ v l. omega (arith, (home_of v l).home_is, (home_of v l).small, len);
       firsts = λ v l. omega (arith, ap (slice_index (firsts_made net blocks)) (home_of v l).home_is, table_at blocks (first_of n blocks) (core.block_of net blocks v) 0 (home_of v l).small, (home_of v l).low);
       places = λ v l.

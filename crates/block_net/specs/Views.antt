@@ -1,6 +1,8 @@
 -- A block as plain lists, and what its lists keep.
 use Rattle.std.specs.Prelude.{◌≡◌, ℕ, zero, suc, ◌+◌, ◌-◌, ◌^◌, ◌<◌, ◌≤◌, ◌||◌, false, cond, nat_lt, min, max, List, length, slice_index, slice_index_or, slice_set, Option, Some, None, All, sum, sum_by}
 use Rattle.std.specs.Option.{is_some}
+use Rattle.flow_network.specs.Limits.{node_limit}
+use Rattle.flow_network.specs.Progress.{top_label}
 use Rattle.parcel.specs.declared.flight.Flight.{Flight}
 use Rattle.block_net.specs.declared.rows.Lane.{Lane}
 use Rattle.block_net.specs.declared.rows.Border.{Border}
@@ -68,7 +70,7 @@ pub record IsBorder (nodes top : ℕ) (x : Border) : Type 0 where
 
 -- what the lists keep
 pub record IsBlock (b : BlockView) : Type 0 where
-  pub top : b.top ≤ 16777218
+  pub top : b.top ≤ top_label node_limit
   pub above : 1 ≤ b.top
   pub labels_len : length b.labels ≡ length b.excess
   pub rooms_len : length b.rooms ≡ length b.excess
@@ -119,6 +121,10 @@ accepted b j a d =
       excess = slice_set b.excess x.near (excess_in b x.near + a);
       borders = slice_set b.borders j (record x { residual = x.residual + a; known = cond (is_some x.flight) x.known (max x.known d) });
     }
+
+-- a direction to another block knows a label of its far end
+abbrev pub informed : BlockView → ℕ → ℕ → BlockView
+informed b j d = record b { borders = slice_set b.borders j (record (border_in b j) { known = d }) }
 
 -- the parcel that was out was taken
 abbrev pub settled : BlockView → ℕ → BlockView

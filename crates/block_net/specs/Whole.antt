@@ -1,5 +1,5 @@
 -- What a whole of blocks shows: a state.
-use Rattle.std.specs.Prelude.{◌≡◌, ℕ, ◌+◌, ◌-◌, ◌<◌, ◌≤◌, Bool, false, true, cond, List, [], length, map, slice_index, slice_index_or, slice_set, None}
+use Rattle.std.specs.Prelude.{◌≡◌, ℕ, ◌+◌, ◌-◌, ◌*◌, ◌<◌, ◌≤◌, Bool, false, true, cond, List, [], length, map, slice_index, slice_index_or, slice_set, None}
 use Rattle.std.specs.List.{range_with_len}
 use Rattle.flow_network.specs.Cut.{Network, nodes}
 use Rattle.flow_network.specs.Preflow.{arc_at}
@@ -127,6 +127,8 @@ pub record StandsAt (w : Whole) (leaves : Bool) (v j : ℕ) (x : Direction) : Ty
 
 -- each node and each direction has its place, and no two directions have one place
 pub record IsPlaced (w : Whole) : Type 0 where
+  pub firsts_len : length w.firsts ≡ length w.blocks
+  pub slots_len : length w.slots ≡ 2 * length w.net.arcs
   pub homes : (v : ℕ) → v < nodes w.net → home w v < length w.blocks
   pub firsts : (v : ℕ) → v < nodes w.net → slice_index w.firsts (home w v) ≤ v
   pub places : (v : ℕ) → v < nodes w.net → place w v < count (block_with w v)

@@ -1,6 +1,8 @@
 ghost use Rattle.std.specs.Prelude.{◌≡◌, ◌≢◌, ◌+◌, ◌<◌, ◌≤◌, IfOk, None, length};
+ghost use Rattle.flow_network.specs.Limits.{node_limit};
+ghost use Rattle.flow_network.specs.Progress.{top_label};
 ghost use Rattle.block_net.specs.Split.{CanSplit, AreGrouped, block_made};
-ghost use Rattle.block_net.specs.Views.{BlockView, count, excess_in, label_in, room_in, lane_in, border_in, first_lane, first_border, out_of, pushed, given, labelled, sent, accepted, settled, returned};
+ghost use Rattle.block_net.specs.Views.{BlockView, count, excess_in, label_in, room_in, lane_in, border_in, first_lane, first_border, out_of, pushed, given, labelled, sent, accepted, settled, returned, informed, lane_allows, border_allows, highest};
 
 use crate::ends::bounds;
 use crate::make::{borders_of, lanes_of, span, starts_from};
@@ -73,7 +75,7 @@ impl Cells {
     /// The label of a node that is cut off.
     pub fn top(&self) -> u32
         ensures value { result ≡ self.now.top }
-        ensures limit { result ≤ 16777218 }
+        ensures limit { result ≤ top_label node_limit }
         ensures above { 1 ≤ result }
     {
         self.top
@@ -92,7 +94,7 @@ impl Cells {
         requires { v < count self.now }
         ensures value { result ≡ label_in self.now v }
         ensures limit { result ≤ self.now.top }
-        ensures small { result ≤ 16777218 }
+        ensures small { result ≤ top_label node_limit }
     {
         self.labels[v]
     }
@@ -141,9 +143,56 @@ impl Cells {
         ensures near { result.near < count self.now }
         ensures fits { result.residual + out_of result.flight ≤ result.capacity }
         ensures known { result.known ≤ self.now.top }
-        ensures small { result.known ≤ 16777218 }
+        ensures small { result.known ≤ top_label node_limit }
     {
         self.borders[j]
+    }
+
+    /// The highest label that a direction within the block allows the node that it leaves.
+    fn lane_allows(&self, j: usize) -> u32
+        requires { j < length self.now.lanes }
+        ensures { result ≡ lane_allows self.now j }
+    {
+        let lane = self.lane(j);
+        if lane.residual > 0 {
+            self.label(lane.far as usize) + 1
+        } else {
+            self.top()
+        }
+    }
+
+    /// The highest label that a direction to another block allows the node that it leaves.
+    fn border_allows(&self, j: usize) -> u32
+        requires { j < length self.now.borders }
+        ensures { result ≡ border_allows self.now j }
+    {
+        let border = self.border(j);
+        if border.residual > 0 || border.flight.is_some() {
+            border.known + 1
+        } else {
+            self.top()
+        }
+    }
+
+    /// The highest label that a node may have: the least of that of a node that is cut off, 1 where the node
+    /// can give the sink, and 1 more than the label seen over each direction that is residual or on which a
+    /// parcel is out (Goldberg, Tarjan 1988, section 2). Reads the directions of the node alone.
+    pub fn highest_label(&self, v: usize) -> u32
+        requires { v < count self.now }
+        ensures value { result ≡ highest self.now v }
+        ensures limit { result ≤ self.now.top }
+    {
+        let top = self.top();
+        let mut least = if self.room(v) > 0 { 1 } else { top };
+        let (first, end) = self.range(v);
+        'lanes: for k in 0..end.saturating_sub(first) {
+            least = u32::min(least, self.lane_allows(first + k));
+        }
+        let (first_border, end_border) = self.border_range(v);
+        'borders: for k in 0..end_border.saturating_sub(first_border) {
+            least = u32::min(least, self.border_allows(first_border + k));
+        }
+        least
     }
 
     /// An amount of a node's excess goes along a direction within the block.
@@ -167,7 +216,8 @@ impl Cells {
         requires node { v < count self.old }
         requires excess { amount ≤ excess_in self.old v }
         requires room { amount ≤ room_in self.old v }
-        ensures { self.new ≡ given self.old v amount }
+        ensures given { self.new ≡ given self.old v amount }
+        ensures place { v < length self.old.rooms }
     {
         self.excess[v] -= amount;
         self.rooms[v] -= amount;
@@ -177,7 +227,8 @@ impl Cells {
     pub fn relabel(&mut self, v: usize, label: u32)
         requires node { v < count self.old }
         requires limit { label ≤ self.old.top }
-        ensures { self.new ≡ labelled self.old v label }
+        ensures labelled { self.new ≡ labelled self.old v label }
+        ensures place { v < length self.old.labels }
     {
         self.labels[v] = label;
     }
@@ -224,6 +275,15 @@ impl Cells {
             known,
             ..border
         };
+    }
+
+    /// A direction to another block knows a label of its far end.
+    pub fn inform(&mut self, j: usize, known: u32)
+        requires place { j < length self.old.borders }
+        requires limit { known ≤ self.old.top }
+        ensures { self.new ≡ informed self.old j known }
+    {
+        self.borders[j].known = known;
     }
 
     /// The parcel of a direction was taken.

@@ -1,7 +1,9 @@
 ghost use Rattle.std.specs.Prelude.{◌≡◌, ◌+◌, ◌*◌, ◌<◌, ◌≤◌, length};
+ghost use Rattle.flow_network.specs.Limits.{node_limit};
 ghost use Rattle.flow_network.specs.Cut.{nodes};
 ghost use Rattle.parcel.specs.Directions.{IsDirection, near, far};
 ghost use Rattle.parcel.specs.States.{block_of, is_border};
+ghost use Rattle.block_net.specs.Limits.{block_limit};
 ghost use Rattle.block_net.specs.Split.{CanSplit, direction_of, first_of};
 
 use flow_network::Net;
@@ -56,8 +58,8 @@ pub(crate) fn block_of(net: &Net, blocks: usize, node: u32) -> usize
 
 /// The first node of a block; for the number of blocks, the number of nodes.
 pub(crate) fn first_of(nodes: usize, blocks: usize, block: usize) -> usize
-    requires nodes { nodes ≤ 16777216 }
-    requires few { blocks ≤ 256 }
+    requires nodes { nodes ≤ node_limit }
+    requires few { blocks ≤ block_limit }
     requires some { 1 ≤ blocks }
     requires block { block ≤ blocks }
     ensures value { result ≡ first_of nodes blocks block }
@@ -74,7 +76,7 @@ pub(crate) fn bounds(net: &Net, blocks: usize, block: usize) -> (usize, usize)
     ensures next { result.1 ≡ first_of (nodes net.now) blocks (block + 1) }
     ensures order { result.0 ≤ result.1 }
     ensures within { result.1 ≤ nodes net.now }
-    ensures few { nodes net.now ≤ 16777216 }
+    ensures few { nodes net.now ≤ node_limit }
     ensures same { length net.now.sinks ≡ nodes net.now }
 {
     let nodes = net.nodes();

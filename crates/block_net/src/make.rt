@@ -1,4 +1,5 @@
 ghost use Rattle.std.specs.Prelude.{◌≡◌, ◌+◌, ◌<◌, ◌≤◌, ℕ, All, IfOk, length, slice_index};
+ghost use Rattle.flow_network.specs.Limits.{node_limit};
 ghost use Rattle.parcel.specs.Directions.{IsDirection, near, far, opposite};
 ghost use Rattle.parcel.specs.Soundness.{first_residual};
 ghost use Rattle.block_net.specs.Whole.{index_of};
@@ -21,7 +22,7 @@ pub(crate) fn starts_from(
     requires order { first ≤ next }
     requires within { next < length starts.now }
     requires grow { (v : ℕ) → first ≤ v → v ≤ next → slice_index starts.now first ≤ slice_index starts.now v }
-    requires small { next < 16777217 }
+    requires small { next ≤ node_limit }
     ensures { IfOk result (λ list. list.items ≡ starts_from starts.now first next) }
 {
     let count = next - first + 1;

@@ -1,4 +1,5 @@
 use block_core::{Core, State};
+use block_net::ARC_LIMIT;
 use flow_network::{Arc, Net};
 use parcel::{Direction, Event, Message};
 use std::process::Abort;
@@ -23,6 +24,7 @@ fn open(rt: &(impl Abort + AllocGlobal), sources: &[u64]) -> Result<Core, Fail> 
     let arcs = Vec::from_slice(rt.alloc(), &[arc])?;
     assert!(rt; Net::fits(sources.as_slice(), sinks.as_slice(), arcs.as_slice()));
     let net = Net::new(sources, sinks, arcs);
+    assert!(rt; net.arcs().len() <= ARC_LIMIT);
     Ok(Core::open(rt.alloc(), &net, 2)?)
 }
 

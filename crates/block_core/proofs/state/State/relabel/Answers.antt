@@ -4,19 +4,13 @@ use Rattle.parcel.specs.declared.event.Event.TheVariants.{Relabel}
 use Rattle.parcel.specs.Events.{IsActive, Enabled, effect, highest_label}
 use Rattle.block_core.specs.Views.{state_of}
 use Rattle.block_core.proofs.Keeping.{held_next}
-use Rattle.block_core.proofs.Effects.{highest_small}
 use Rattle.block_core.proofs.state.State.relabel.Goals as goal
-
-pub overflow_cast-highest : goal.overflow_cast-highest
-overflow_cast-highest c =
-    let is = c.highest_label-highest.ensures ∙ ap (λ (t : core.State). highest_label t c.args.v) (sym c.self.view_is) in
-    omega (arith, is, highest_small c.args.v c.self.invariant)
 
 pub invariant_of-self : goal.invariant_of-self
 invariant_of-self c =
     let v = c.args.v in
     let s : core.State = state_of c.self.inside.blocks c.self.inside.ways.messages c.self.inside.got in
-    let is : c.highest_label-highest.result ≡ highest_label s v = c.highest_label-highest.ensures ∙ ap (λ (t : core.State). highest_label t v) (sym c.self.view_is) in
+    let is : c.highest_label-highest.result ≡ highest_label s v = c.highest_label-highest.ensures.value in
     let active = subst (λ (t : core.State). IsActive t v) (sym c.self.view_is) (c.is_active.ensures.0 c.if-not-is_active.false) in
     let on : Enabled s (Relabel v) = (active, omega (arith, is, c.label.ensures.value, c.if-highest-label.false)) in
     let made : state_of c.relabel.new.self c.self.inside.ways.messages c.self.inside.got ≡ effect s (Relabel v) = rw (c.relabel.ensures, is) refl in

@@ -4,7 +4,7 @@ use Rattle.parcel.specs.declared.event.Event.TheVariants.{Settle}
 use Rattle.parcel.specs.States as core
 use Rattle.block_core.specs.Views.{state_of}
 use Rattle.block_core.proofs.Keeping.{held_next}
-use Rattle.block_core.proofs.Fronts.{refused_direction, may_settle, return_is}
+use Rattle.block_core.proofs.Fronts.{refused_out, refused_amount, refused_label, may_settle, return_is}
 use Rattle.block_core.proofs.state.State.take_back.Goals as goal
 
 pub take_back-requires-clause-direction : goal.take_back-requires-clause-direction
@@ -14,7 +14,34 @@ take_back-requires-clause-direction c =
     let x = c.args.direction in
     let s : core.State = state_of c.self.inside.blocks c.self.inside.ways.messages c.self.inside.got in
     let front : core.way_at s.ways b e ≡ Refused x c.args.amount c.args.label c.args.told ∷ drop 1 (core.way_at s.ways b e) = subst (λ (t : core.State). core.way_at t.ways b e ≡ Refused x c.args.amount c.args.label c.args.told ∷ drop 1 (core.way_at t.ways b e)) (sym c.self.view_is) c.requires.front in
-    refused_direction b e x c.args.amount c.args.label c.args.told _ c.self.invariant front
+    (refused_out b e x c.args.amount c.args.label c.args.told _ c.self.invariant front).direction
+
+pub take_back-requires-clause-border : goal.take_back-requires-clause-border
+take_back-requires-clause-border c =
+    let b = c.args.from in
+    let e = c.args.to in
+    let x = c.args.direction in
+    let s : core.State = state_of c.self.inside.blocks c.self.inside.ways.messages c.self.inside.got in
+    let front : core.way_at s.ways b e ≡ Refused x c.args.amount c.args.label c.args.told ∷ drop 1 (core.way_at s.ways b e) = subst (λ (t : core.State). core.way_at t.ways b e ≡ Refused x c.args.amount c.args.label c.args.told ∷ drop 1 (core.way_at t.ways b e)) (sym c.self.view_is) c.requires.front in
+    (refused_out b e x c.args.amount c.args.label c.args.told _ c.self.invariant front).border
+
+pub take_back-requires-clause-fits : goal.take_back-requires-clause-fits
+take_back-requires-clause-fits c =
+    let b = c.args.from in
+    let e = c.args.to in
+    let x = c.args.direction in
+    let s : core.State = state_of c.self.inside.blocks c.self.inside.ways.messages c.self.inside.got in
+    let front : core.way_at s.ways b e ≡ Refused x c.args.amount c.args.label c.args.told ∷ drop 1 (core.way_at s.ways b e) = subst (λ (t : core.State). core.way_at t.ways b e ≡ Refused x c.args.amount c.args.label c.args.told ∷ drop 1 (core.way_at t.ways b e)) (sym c.self.view_is) c.requires.front in
+    refused_amount b e x c.args.amount c.args.label c.args.told _ c.self.invariant front
+
+pub take_back-requires-clause-told : goal.take_back-requires-clause-told
+take_back-requires-clause-told c =
+    let b = c.args.from in
+    let e = c.args.to in
+    let x = c.args.direction in
+    let s : core.State = state_of c.self.inside.blocks c.self.inside.ways.messages c.self.inside.got in
+    let front : core.way_at s.ways b e ≡ Refused x c.args.amount c.args.label c.args.told ∷ drop 1 (core.way_at s.ways b e) = subst (λ (t : core.State). core.way_at t.ways b e ≡ Refused x c.args.amount c.args.label c.args.told ∷ drop 1 (core.way_at t.ways b e)) (sym c.self.view_is) c.requires.front in
+    refused_label b e x c.args.amount c.args.label c.args.told _ c.self.invariant front
 
 pub invariant_of-self : goal.invariant_of-self
 invariant_of-self c =

@@ -1,0 +1,57 @@
+-- The blocks of a net, as they are made.
+use Rattle.std.proofs.Common.{◌≡◌, ℕ, ◌<◌, ◌≤◌, List, length, replicate, refl, sym, ◌∙◌, ap, subst, arith}
+use Rattle.std.proofs.lemmas.List.{length-map}
+use Rattle.flow_network.specs.Cut.{Network, nodes, IsNet}
+use Rattle.parcel.specs.States as core
+use Rattle.parcel.specs.Soundness.{opened}
+use Rattle.block_net.specs.Views.{BlockView}
+use Rattle.block_net.specs.Whole.{Whole, shown}
+use Rattle.block_net.specs.Split.{CanSplit, IsSplit, whole_at_opening}
+use Rattle.block_net.proofs.Tables.{length_table}
+use Rattle.block_core.specs.Views.{BlocksView, blocks_in, whole_in, IsLaid, IsLong, first_of}
+
+-- what a state shows of its blocks
+abbrev blocks_shown : core.State → BlocksView
+blocks_shown s = record { net = s.net; blocks = s.blocks; excess = s.excess; labels = s.labels; rooms = s.rooms; lanes = s.lanes }
+
+pub opened_view : (net : Network) (blocks : ℕ) (firsts slots : List ℕ) (parts : List BlockView) → IsSplit net blocks firsts slots parts
+    → blocks_in (whole_in net firsts slots parts) ≡ first_of net blocks
+opened_view net blocks firsts slots parts split = ap blocks_shown split.opening
+
+pub opened_laid : (net : Network) (blocks : ℕ) (firsts slots : List ℕ) (parts : List BlockView) → IsNet net → CanSplit net blocks → IsSplit net blocks firsts slots parts
+    → IsLaid (whole_in net firsts slots parts)
+opened_laid net blocks firsts slots parts is can split = record {
+  net = is;
+  arcs = can.arcs;
+  some = omega (arith, split.number, can.some);
+  few = omega (arith, split.number, can.few);
+  placed = record {
+    firsts_len = split.placed.firsts_len;
+    slots_len = split.placed.slots_len;
+    homes = split.placed.homes;
+    firsts = split.placed.firsts;
+    places = split.placed.places;
+    tops = split.placed.tops;
+    inner = λ x d e. let at = split.placed.inner x d e in record { from = at.from; below = at.below; within = at.within; far = at.far; opposite = at.opposite };
+    borders = λ x d e. let at = split.placed.borders x d e in record { from = at.from; below = at.below; within = at.within; direction = at.direction; near = at.near; to = at.to; opposite = at.opposite; capacity = at.capacity };
+    apart = split.placed.apart;
+    lanes = λ v j l low high. let found = split.placed.lanes v j l low high in (found.0, record { direction = found.1.direction; near = found.1.near; outer = found.1.outer; slot = found.1.slot });
+    outers = λ v j l low high. let found = split.placed.outers v j l low high in (found.0, record { direction = found.1.direction; near = found.1.near; outer = found.1.outer; slot = found.1.slot });
+  };
+}
+
+pub laid_long : (w : Whole) (v : BlocksView) → IsLaid w → blocks_in w ≡ v → IsLong v
+laid_long w v laid view =
+    let n = nodes w.net in
+    let m = length w.net.arcs in
+    let long : IsLong (blocks_in w) = record {
+      net = laid.net;
+      some = laid.some;
+      few = laid.few;
+      excess = length_table n _;
+      labels = length_table n _;
+      rooms = length_table n _;
+      forth = length_table m _;
+      back = length_table m _;
+    } in
+    subst IsLong view long

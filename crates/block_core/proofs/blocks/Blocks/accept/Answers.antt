@@ -1,0 +1,55 @@
+use Rattle.std.proofs.Common.{◌≡◌, ◌≤◌, ◌+◌, length, true, false, None, refl, sym, ◌∙◌, ap, subst, arith}
+use Rattle.flow_network.specs.Cut.{Network}
+use Rattle.parcel.specs.declared.direction.Direction.{Direction}
+use Rattle.parcel.specs.Directions.{near, far, opposite}
+use Rattle.parcel.specs.States as core
+use Rattle.parcel.specs.Soundness.{amount_out}
+use Rattle.parcel.proofs.Lanes.{border_opposite}
+use Rattle.block_net.specs.Views.{BlockView, lane_in, border_in}
+use Rattle.block_net.specs.Views as block
+use Rattle.block_net.specs.Whole.{Whole, put_block, is_outer, shown_lane, shown_border}
+use Rattle.block_core.specs.Views.{BlocksView, blocks_in, whole_in, IsLaid, IsSpot, IsRow, gave, labelled, pushed, sent, accepted, settled, returned}
+use Rattle.block_core.proofs.Steps.{at_read, excess_read, label_read, room_read, top_read, inner_read, border_read, border_capacity, row_as, spot_as, border_spot, back_spot, far_spot, back_row, far_other, out_same, gave_at, labelled_at, sent_at, settled_at, informed_at, returned_at, accepted_at, pushed_at}
+use Rattle.block_core.proofs.Allowing.{highest_is}
+use Rattle.block_core.proofs.Opened.{laid_long, opened_view, opened_laid}
+use Rattle.block_core.proofs.blocks.Blocks.accept.Goals as goal
+
+pub accept-requires-clause-fits : goal.accept-requires-clause-fits
+accept-requires-clause-fits c =
+    let i = c.self.inside in
+    let w : Whole = whole_in i.net i.parts.firsts.items i.parts.slots.items i.parts.blocks.items in
+    let b = c.row-block.result.0 in
+    let p = c.row-block.result.1 in
+    let B = c.index_mut.result.now in
+    let at = at_read w c.args.self.now b B c.self.invariant c.self.view_is c.row-block.ensures.block c.index_mut.ensures.value in
+    let x = c.args.direction in
+    let found = subst (λ (q : Direction). IsRow w q (is_outer w q) b p) c.opposite_of.ensures c.row-block.ensures in
+    let row = row_as w _ b B (opposite x) true p at found (border_opposite c.args.self.now.net c.args.self.now.blocks x ∙ c.requires.border) in
+    let lane = border_read w _ b B (opposite x) p at row in
+    omega (arith, out_same (border_in B p).flight, ap (λ (q : core.Lane). amount_out q.flight) lane, ap (λ (q : core.Lane). q.residual) lane, border_capacity w _ b B (opposite x) p at row, c.requires.fits)
+
+pub invariant_of-self : goal.invariant_of-self
+invariant_of-self c =
+    let i = c.self.inside in
+    let w : Whole = whole_in i.net i.parts.firsts.items i.parts.slots.items i.parts.blocks.items in
+    let b = c.row-block.result.0 in
+    let p = c.row-block.result.1 in
+    let B = c.index_mut.result.now in
+    let at = at_read w c.args.self.now b B c.self.invariant c.self.view_is c.row-block.ensures.block c.index_mut.ensures.value in
+    let x = c.args.direction in
+    let found = subst (λ (q : Direction). IsRow w q (is_outer w q) b p) c.opposite_of.ensures c.row-block.ensures in
+    let row = row_as w _ b B (opposite x) true p at found (border_opposite c.args.self.now.net c.args.self.now.blocks x ∙ c.requires.border) in
+    subst (λ (q : BlockView). IsLaid (put_block w b q)) (sym c.accept.ensures) (accepted_at w _ b B x p c.args.amount c.args.label at row (back_spot w _ b B x p at row)).laid
+
+pub returns : goal.returns
+returns c =
+    let i = c.self.inside in
+    let w : Whole = whole_in i.net i.parts.firsts.items i.parts.slots.items i.parts.blocks.items in
+    let b = c.row-block.result.0 in
+    let p = c.row-block.result.1 in
+    let B = c.index_mut.result.now in
+    let at = at_read w c.args.self.now b B c.self.invariant c.self.view_is c.row-block.ensures.block c.index_mut.ensures.value in
+    let x = c.args.direction in
+    let found = subst (λ (q : Direction). IsRow w q (is_outer w q) b p) c.opposite_of.ensures c.row-block.ensures in
+    let row = row_as w _ b B (opposite x) true p at found (border_opposite c.args.self.now.net c.args.self.now.blocks x ∙ c.requires.border) in
+    subst (λ (q : BlockView). blocks_in (put_block w b q) ≡ accepted c.args.self.now x c.args.amount c.args.label) (sym c.accept.ensures) (accepted_at w _ b B x p c.args.amount c.args.label at row (back_spot w _ b B x p at row)).view
