@@ -1,2 +1,4 @@
 pub mod Decisions
 pub mod MoveValues
+pub mod Working
+pub mod Decided

@@ -1,9 +1,26 @@
 -- The energies of the labellings that a move makes, as a function of the sites' values.
-use Rattle.std.specs.Prelude.{ℕ, Bool, ℤ, pos}
+use Rattle.std.specs.Prelude.{ℕ, Bool, true, false, ℤ, pos, ◌-ℤ◌, List, [], ◌∷◌}
+use Rattle.label_field.specs.declared.pair.Pair.{Pair}
 use Rattle.labellings.specs.declared.change.Move.{Move}
-use Rattle.labellings.specs.Energies.{Instance, energy}
-use Rattle.labellings.specs.Moves.{made}
+use Rattle.labellings.specs.Energies.{Instance, energy, pair_cost}
+use Rattle.labellings.specs.Moves.{label_in, made, pair_entry}
+use Rattle.deciding.specs.Decisions.{set_bit}
 
 -- the energy of the labelling that a value for each site makes
 abbrev pub move_value : Instance → Move → (ℕ → ℕ) → (ℕ → Bool) → ℤ
 move_value m move f x = pos (energy m (made move f x))
+
+-- how much more the label costs a site where its value turns from 0 to 1
+abbrev pub data_rise : Instance → Move → (ℕ → ℕ) → ℕ → ℤ
+data_rise m move f u = pos (m.data_cost u (label_in move (f u) true)) -ℤ pos (m.data_cost u (label_in move (f u) false))
+
+-- how much more a pair costs where the value of one site turns
+abbrev pub pair_rise : Instance → Move → (ℕ → ℕ) → ℕ → (ℕ → Bool) → Pair → ℤ
+pair_rise m move f u x pair =
+    pos (pair_cost m (made move f (set_bit x u true)) pair) -ℤ pos (pair_cost m (made move f (set_bit x u false)) pair)
+
+-- what a pair costs at the values 00, 01, 10 and 11 of its ends
+abbrev pub term_of : Instance → Move → (ℕ → ℕ) → Pair → List ℤ
+term_of m move f pair =
+    pos (pair_entry m move f pair false false) ∷ pos (pair_entry m move f pair false true)
+    ∷ pos (pair_entry m move f pair true false) ∷ pos (pair_entry m move f pair true true) ∷ []

@@ -2,4 +2,12 @@
 //! (Iyer, Jegelka, Bilmes, ICML 2013, section 4; for graph cuts Boros and Hammer 2002).
 #![tactic(auto)]
 
+mod bounds;
+mod costs;
+mod counting;
 pub mod laws;
+mod settling;
+mod sites;
+
+pub use bounds::Bounds;
+pub use sites::Deciding;

@@ -1,0 +1,53 @@
+-- The ends that are left to look at.
+use Rattle.std.proofs.Common.{◌≡◌, ◌≢◌, ℕ, zero, suc, ◌+◌, ◌*◌, ◌<◌, ◌≤◌, false, List, length, refl, sym, ap, arith}
+use Rattle.sums.specs.Sums.{sum_below, counted}
+use Rattle.sums.proofs.SumLemmas.{sum_below-change, sum_below-le, counted-le}
+use Rattle.grouping.specs.declared.Groups.{Groups}
+use Rattle.grouping.specs.Grouping.{start_of}
+use Rattle.label_field.specs.PairLists.{PairList}
+use Rattle.move_energy.specs.declared.choice.Choice.{Choice}
+use Rattle.move_energy.specs.declared.choice.Choice.TheVariants.{Open, Zero, One}
+use Rattle.move_energy.specs.Choices.{choice_at}
+use Rattle.deciding.specs.Working.{is_open, degree, left}
+use Rattle.deciding.specs.Decided.{AreBySite}
+use Rattle.deciding.proofs.Ends.{ends_len}
+
+closed_not : (c : Choice) → ¬ (c ≡ Open) → is_open c ≡ false
+closed_not Open off = absurd (off refl)
+closed_not Zero off = refl
+closed_not One off = refl
+
+-- a decided site's ends are no longer left
+pub left_less : (ends : Groups) (n site : ℕ) (old new : List Choice) → site < n → choice_at old site ≡ Open → ¬ (choice_at new site ≡ Open)
+    → ((u : ℕ) → u ≢ site → choice_at new u ≡ choice_at old u) → left ends n new + degree ends site ≡ left ends n old
+left_less ends n site old new l opened closed others =
+    let change = sum_below-change n site (λ u. counted (is_open (choice_at old u)) (degree ends u)) (λ u. counted (is_open (choice_at new u)) (degree ends u)) l
+    (λ u k other. ap (λ (c : Choice). counted (is_open c) (degree ends u)) (sym (others u other))) in
+    let was : counted (is_open (choice_at old site)) (degree ends site) ≡ degree ends site = ap (λ (c : Choice). counted (is_open c) (degree ends site)) opened in
+    let is : counted (is_open (choice_at new site)) (degree ends site) ≡ 0 = ap (λ b. counted b (degree ends site)) (closed_not (choice_at new site) closed) in
+    omega (arith, change, was, is)
+
+succ_is : (n : ℕ) → n + 1 ≡ suc n
+succ_is n = omega arith
+
+all_degrees : (ends : Groups) (n : ℕ) → ((v : ℕ) → v < n → start_of ends v ≤ start_of ends (v + 1)) → sum_below n (degree ends) ≤ start_of ends n
+all_degrees ends zero ordered = omega arith
+all_degrees ends (suc n) ordered =
+    let before = all_degrees ends n (λ v l. ordered v (omega (arith, l))) in
+    let here = ordered n (omega arith) in
+    let next = ap (start_of ends) (succ_is n) in
+    omega (arith, before, here, next)
+
+-- at most two ends of each pair are left
+pub left_most : (pairs : PairList) (ends : Groups) (choices : List Choice) → AreBySite pairs ends → left ends pairs.sites choices ≤ 2 * length pairs.list
+left_most pairs ends choices by_site =
+    let below = sum_below-le pairs.sites (λ u. counted (is_open (choice_at choices u)) (degree ends u)) (degree ends) (λ u l. counted-le (is_open (choice_at choices u)) (degree ends u)) in
+    let all = all_degrees ends pairs.sites by_site.ordered in
+    let most = by_site.within pairs.sites (omega arith) in
+    omega (arith, below, all, most, ends_len pairs.list)
+
+-- and of one site
+pub degree_most : (pairs : PairList) (ends : Groups) (site : ℕ) → AreBySite pairs ends → site < pairs.sites → degree ends site ≤ 2 * length pairs.list
+degree_most pairs ends site by_site l =
+    let most = by_site.within (site + 1) (omega (arith, l)) in
+    omega (arith, most, ends_len pairs.list)

@@ -1,0 +1,148 @@
+-- The places of a site's part, as the loop over them reads them.
+use Rattle.std.proofs.Common.{◌≡◌, ◌≢◌, ℕ, ◌+◌, ◌-◌, ◌*◌, ◌/◌, ◌<◌, ◌≤◌, Bool, List, length, get_or, All, Some, Contains, Result, Ok, Err, OnOk, [], ◌∷◌, ◌++◌, unsigned_abs, sym, ap, ◌∙◌, inl, inr, subst, arith}
+use Rattle.std.specs.Prelude.{slice_get}
+use Rattle.std.proofs.lemmas.Option.{get_or_from_slice_get}
+use Rattle.std.proofs.lemmas.List.Elements.{All-pop, Contains-push_cases}
+use Rattle.grouping.specs.declared.Groups.{Groups}
+use Rattle.grouping.specs.Grouping.{IsGrouped, start_of, place_at}
+use Rattle.label_field.specs.declared.pair.Pair.{Pair}
+use Rattle.label_field.specs.PairLists.{IsPair, PairList, IsPairList}
+use Rattle.labellings.specs.declared.change.Move.{Move}
+use Rattle.labellings.specs.Energies.{Instance, IsInstance}
+use Rattle.move_energy.specs.declared.choice.Choice.{Choice}
+use Rattle.move_energy.specs.declared.choice.Choice.TheVariants.{Open}
+use Rattle.move_energy.specs.Choices.{bit_of, choice_at}
+use Rattle.move_energy.proofs.Joins.{read_at}
+use Rattle.deciding.specs.declared.bounds.Bounds.{Bounds}
+use Rattle.deciding.specs.Decisions.{put}
+use Rattle.deciding.specs.Working.{bound_at, ends_of, left, room_of, IsWithinRange, IsLooking, IsMarked, AreWaiting, AreWaitingBut, ArePartlyDecided, CanDecide}
+use Rattle.deciding.specs.Decided.{AreBySite}
+use Rattle.deciding.proofs.Ends.{Touches, end_touches}
+use Rattle.deciding.proofs.Ranges.{range_wider, below_not, tells_same}
+use Rattle.deciding.proofs.Left.{degree_most, left_most}
+use Rattle.deciding.proofs.Spreading.{pair_in}
+
+pub meant_pairs : (m : Instance) (pairs : PairList) → m.pairs ≡ pairs.list → m.sites ≡ pairs.sites → IsPairList pairs → IsInstance m
+meant_pairs m pairs same sites list =
+    let P : ℕ → Type 0 = λ n. All (IsPair n) pairs.list in
+    let Q : List Pair → Type 0 = λ ps. All (IsPair m.sites) ps in
+    subst Q (sym same) (subst P (sym sites) list.each)
+
+pub meant_grouped : (m : Instance) (pairs : PairList) (ends : Groups) → m.pairs ≡ pairs.list → m.sites ≡ pairs.sites → AreBySite pairs ends → IsGrouped m.sites (ends_of m.pairs) ends
+meant_grouped m pairs ends same sites by_site =
+    let P : ℕ → Type 0 = λ n. IsGrouped n (ends_of pairs.list) ends in
+    let Q : List Pair → Type 0 = λ ps. IsGrouped m.sites (ends_of ps) ends in
+    subst Q (sym same) (subst P (sym sites) by_site)
+
+-- where a site's part begins, as it was read
+pub start_read : (pairs : PairList) (ends : Groups) (v n : ℕ) → AreBySite pairs ends → v ≤ pairs.sites → n ≡ get_or ends.starts.items v n → n ≡ start_of ends v
+start_read pairs ends v n by_site l is = read_at ends.starts.items v n 0 (omega (arith, l, by_site.starts_len)) is
+
+-- the place that was read
+pub place_read : (pairs : PairList) (ends : Groups) (site place j : ℕ) → AreBySite pairs ends → site < pairs.sites → place < start_of ends (site + 1) → j ≡ get_or ends.places.items place j
+    → j ≡ place_at ends place
+place_read pairs ends site place j by_site inside to is =
+    let most = by_site.within (site + 1) (omega (arith, inside)) in
+    read_at ends.places.items place j 0 (omega (arith, to, most, by_site.places_len)) is
+
+pub place_within : (pairs : PairList) (ends : Groups) (site place j : ℕ) → AreBySite pairs ends → site < pairs.sites → start_of ends site ≤ place → place < start_of ends (site + 1)
+    → j ≡ place_at ends place → j / 2 < length pairs.list
+place_within pairs ends site place j by_site inside from to is =
+    let at = by_site.places site place inside from to in
+    let within = (end_touches pairs.list site (place_at ends place) (record { first = 0; second = 0; weight = 0 }) at.0 at.1).0 in
+    omega (arith, within, ap (λ i. i / 2) is)
+
+pub pair_read : (list : List Pair) (k : ℕ) (pair : Pair) → slice_get list k ≡ Some pair → pair_in list k ≡ pair
+pair_read list k pair is = get_or_from_slice_get list k pair _ is
+
+pub place_touches : (pairs : PairList) (ends : Groups) (site place j : ℕ) (pair : Pair) → AreBySite pairs ends → site < pairs.sites → start_of ends site ≤ place → place < start_of ends (site + 1)
+    → j ≡ place_at ends place → slice_get pairs.list (j / 2) ≡ Some pair → Touches site pair
+place_touches pairs ends site place j pair by_site inside from to is here =
+    let at = by_site.places site place inside from to in
+    let touches = (end_touches pairs.list site (place_at ends place) (record { first = 0; second = 0; weight = 0 }) at.0 at.1).1 in
+    let P : Pair → Type 0 = λ p. Touches site p in
+    subst P (ap (λ i. pair_in pairs.list (i / 2)) (sym is) ∙ pair_read pairs.list (j / 2) pair here) touches
+
+-- the range while places are looked at
+pub range_step : (start place : ℕ) (first old new : Bounds) → start ≤ place → IsLooking 1 old new
+    → ((most : ℕ) → IsWithinRange most first → IsWithinRange (most + 20000000 * (place - start)) old)
+    → (most : ℕ) → IsWithinRange most first → IsWithinRange (most + 20000000 * (place + 1 - start)) new
+range_step start place first old new l looking range most within =
+    range_wider (most + 20000000 * (place - start) + 20000000 * 1) (most + 20000000 * (place + 1 - start)) new (omega (arith, l))
+    (looking.range (most + 20000000 * (place - start)) (range most within))
+
+pub range_enough : (pairs : PairList) (ends : Groups) (site place : ℕ) (first now : Bounds) → AreBySite pairs ends → IsPairList pairs → site < pairs.sites → start_of ends site ≤ place → place < start_of ends (site + 1)
+    → ((most : ℕ) → IsWithinRange most first → IsWithinRange (most + 20000000 * (place - start_of ends site)) now) → IsWithinRange 576460752303423488 first
+    → IsWithinRange 1152921504606846976 now
+range_enough pairs ends site place first now by_site list inside from to range within =
+    let most = degree_most pairs ends site by_site inside in
+    range_wider _ 1152921504606846976 now (omega (arith, most, from, to, list.count)) (range 576460752303423488 within)
+
+pub range_start : (old new : Bounds) (site : ℕ) (value : Bool) → IsMarked site value old new → (most : ℕ) → IsWithinRange most old → IsWithinRange most new
+range_start old new site value marked most within u =
+    let a = ap (λ (v : _). unsigned_abs (bound_at v.items u)) marked.least in
+    let b = ap (λ (v : _). unsigned_abs (bound_at v.items u)) marked.greatest in
+    (omega (arith, a, (within u).0), omega (arith, b, (within u).1))
+
+-- the loop's facts of a problem
+pub site_free : (m : Instance) (move : Move) (f : ℕ → ℕ) (site : ℕ) (b : Bool) (old : Bounds) → (decided : ArePartlyDecided m move f old) → site < m.sites → choice_at old.choices.items site ≡ Open
+    → put decided.decisions (λ v. b) site ≡ b
+site_free m move f site b old decided l opened = decided.shown (λ v. b) site l ∙ ap (λ (c : Choice). bit_of c b) opened
+
+-- ---- one site after another
+
+pub on_ok_two : {T E : Type 0} (r : Result T E) (P Q R : Type 0) → (P → Q → R) → OnOk r P → OnOk r Q → OnOk r R
+on_ok_two (Ok v) P Q R f p q = f p q
+on_ok_two (Err e) P Q R f p q = tt
+
+pub room_grows : (old new d most : ℕ) (was b : Bounds) → new + d ≡ old → old ≤ 2 * most → most ≤ 4194304 → ((n : ℕ) → IsWithinRange n was → IsWithinRange (n + 20000000 * d) b)
+    → IsWithinRange (room_of old) was → IsWithinRange (room_of new) b
+room_grows old new d most was b less few limit range within =
+    range_wider (room_of old + 20000000 * d) (room_of new) b (omega (arith, less, few, limit)) (range (room_of old) within)
+
+pub room_first : (pairs : PairList) (ends : Groups) (n : ℕ) (b : Bounds) → AreBySite pairs ends → IsPairList pairs → n ≡ pairs.sites → IsWithinRange (10000000 + 20000000 * length pairs.list) b
+    → (left ends n b.choices.items ≤ 2 * length pairs.list) × IsWithinRange (room_of (left ends n b.choices.items)) b
+room_first pairs ends n b by_site list same within =
+    let P : ℕ → Type 0 = λ k. left ends k b.choices.items ≤ 2 * length pairs.list in
+    let few = subst P (sym same) (left_most pairs ends b.choices.items by_site) in
+    (few, range_wider (10000000 + 20000000 * length pairs.list) (room_of (left ends n b.choices.items)) b (omega (arith, few, list.count)) within)
+
+-- the waiting sites are not part of what was decided
+pub partly_same : (m : Instance) (move : Move) (f : ℕ → ℕ) (old new : Bounds) → new.choices ≡ old.choices → new.least ≡ old.least → new.greatest ≡ old.greatest
+    → ArePartlyDecided m move f old → ArePartlyDecided m move f new
+partly_same m move f old new cs ls gs decided = record {
+  decisions = decided.decisions;
+  passed = decided.passed;
+  shown = λ x p l. decided.shown x p l ∙ ap (λ (v : _). bit_of (choice_at v.items p) (x p)) (sym cs);
+  least = λ u l opened. ap (λ (v : _). bound_at v.items u) ls ∙ decided.least u l (ap (λ (v : _). choice_at v.items u) (sym cs) ∙ opened);
+  greatest = λ u l opened. ap (λ (v : _). bound_at v.items u) gs ∙ decided.greatest u l (ap (λ (v : _). choice_at v.items u) (sym cs) ∙ opened);
+}
+
+-- the last that waits is taken
+popped_contains : (xs : List ℕ) (v u : ℕ) → u ≢ v → Contains (xs ++ v ∷ []) u → Contains xs u
+popped_contains xs v u other inside = elim (Contains-push_cases xs v u inside) [
+  | inl before ↦ before
+  | inr here ↦ absurd (other (sym here))
+]
+
+pub popped_waits : (n site : ℕ) (old new : Bounds) → old.waiting.items ≡ new.waiting.items ++ site ∷ [] → new.choices ≡ old.choices → new.least ≡ old.least → new.greatest ≡ old.greatest
+    → AreWaiting n old → (site < n) × AreWaitingBut n site new
+popped_waits n site old new items cs ls gs waiting =
+    let all = All-pop (λ u. u < n) old.waiting.items new.waiting.items (Some site) items waiting.sites in (
+      all.1,
+      record {
+        sites = all.0;
+        each = λ u l other opened tells.
+            let C : List ℕ → Type 0 = λ xs. Contains xs u in
+            popped_contains new.waiting.items site u other
+            (subst C items (waiting.each u l (below_not u n l) (ap (λ (v : _). choice_at v.items u) (sym cs) ∙ opened)
+            (tells_same old new u (ap (λ (v : _). bound_at v.items u) ls) (ap (λ (v : _). bound_at v.items u) gs) tells)));
+      },
+    )
+
+-- nothing waits any more
+pub none_waits : (n : ℕ) (b : Bounds) → b.waiting.items ≡ [] → AreWaiting n b → (u : ℕ) → u < n → choice_at b.choices.items u ≡ Open → ¬ CanDecide b u
+none_waits n b none waiting u l opened tells =
+    let C : List ℕ → Type 0 = λ xs. Contains xs u in
+    let inside = subst C none (waiting.each u l (below_not u n l) opened tells) in
+    absurd (omega (arith, inside.1))

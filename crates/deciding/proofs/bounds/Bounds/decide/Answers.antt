@@ -1,0 +1,123 @@
+use Rattle.std.proofs.Common.{◌<◌, ◌≤◌, ◌+◌, ◌-◌, ◌*◌, ◌/◌, ◌∙◌, ℕ, true, false, ap, sym, subst, refl, length, arith}
+use Rattle.grouping.specs.Grouping.{start_of}
+use Rattle.labellings.specs.Energies.{labelling}
+use Rattle.move_energy.specs.Choices.{choice_at}
+use Rattle.deciding.specs.Working.{degree}
+use Rattle.deciding.proofs.Left.{left_less}
+use Rattle.deciding.proofs.Ranges.{range_wider, decided_waits}
+use Rattle.deciding.proofs.Spreading.{IsSpread, spread_start, spread_step, spread_end, pair_in}
+use Rattle.deciding.proofs.Places.{start_read, place_read, place_within, place_touches, pair_read, meant_pairs, meant_grouped, range_start, range_step, range_enough, site_free}
+use Rattle.deciding.proofs.bounds.Bounds.decide.Goals as goal
+
+pub loop-place-init : goal.loop-place-init
+loop-place-init g c =
+    let a = c.args in
+    let inside : a.site < a.pairs.now.sites = omega (arith, c.requires.site.0, c.requires.sites) in
+    let start = start_read a.pairs.now a.ends.now a.site _ c.requires.by_site (omega (arith, inside)) c.index-place.ensures in
+    record {
+      choices = refl;
+      sized = record {
+        choices = c.mark.ensures.count ∙ c.requires.sized.choices;
+        least = ap (λ (v : _). length v.items) c.mark.ensures.least ∙ c.requires.sized.least;
+        greatest = ap (λ (v : _). length v.items) c.mark.ensures.greatest ∙ c.requires.sized.greatest;
+      };
+      waiting = decided_waits (length a.at.now) a.site a.value a.self.now c.mark.new.self c.mark.ensures c.requires.waiting;
+      more = (let e = ap (λ (v : _). length v.items) c.mark.ensures.waiting in omega (arith, e));
+      range = λ most within. range_wider most _ c.mark.new.self (omega arith) (range_start a.self.now c.mark.new.self a.site a.value c.mark.ensures most within);
+      spread = λ m answers same sites decided.
+          let P : ℕ → Type 0 = λ p. IsSpread m a.change (labelling a.at.now) decided.decisions a.site a.value a.ends.now p c.mark.new.self in
+          subst P (sym start)
+          (spread_start m a.change (labelling a.at.now) a.site a.value a.ends.now a.self.now c.mark.new.self m.sites (meant_grouped m a.pairs.now a.ends.now same sites c.requires.by_site) decided c.mark.ensures);
+    }
+
+pub get-pair-requires : goal.get-pair-requires
+get-pair-requires g c =
+    let a = c.args in
+    let inside : a.site < a.pairs.now.sites = omega (arith, c.requires.site.0, c.requires.sites) in
+    let start = start_read a.pairs.now a.ends.now a.site _ c.requires.by_site (omega (arith, inside)) c.index-place.ensures in
+    let end = start_read a.pairs.now a.ends.now (a.site + 1) _ c.requires.by_site (omega (arith, inside)) c.index-place-end.ensures in
+    let from : start_of a.ends.now a.site ≤ c.loop-place.place = omega (arith, start, c.loop-place.auto.place) in
+    let to : c.loop-place.place < start_of a.ends.now (a.site + 1) = omega (arith, end, c.loop-place-test.true) in
+    place_within a.pairs.now a.ends.now a.site c.loop-place.place _ c.requires.by_site inside from to
+    (place_read a.pairs.now a.ends.now a.site c.loop-place.place _ c.requires.by_site inside to c.index.ensures)
+
+pub see-requires-clause-end : goal.see-requires-clause-end
+see-requires-clause-end g c =
+    let a = c.args in
+    let inside : a.site < a.pairs.now.sites = omega (arith, c.requires.site.0, c.requires.sites) in
+    let start = start_read a.pairs.now a.ends.now a.site _ c.requires.by_site (omega (arith, inside)) c.index-place.ensures in
+    let end = start_read a.pairs.now a.ends.now (a.site + 1) _ c.requires.by_site (omega (arith, inside)) c.index-place-end.ensures in
+    let from : start_of a.ends.now a.site ≤ c.loop-place.place = omega (arith, start, c.loop-place.auto.place) in
+    let to : c.loop-place.place < start_of a.ends.now (a.site + 1) = omega (arith, end, c.loop-place-test.true) in
+    place_touches a.pairs.now a.ends.now a.site c.loop-place.place _ c.get-pair.result c.requires.by_site inside from to
+    (place_read a.pairs.now a.ends.now a.site c.loop-place.place _ c.requires.by_site inside to c.index.ensures) c.get-pair.ensures.value
+
+pub see-requires-clause-range : goal.see-requires-clause-range
+see-requires-clause-range g c =
+    let a = c.args in
+    let inside : a.site < a.pairs.now.sites = omega (arith, c.requires.site.0, c.requires.sites) in
+    let start = start_read a.pairs.now a.ends.now a.site _ c.requires.by_site (omega (arith, inside)) c.index-place.ensures in
+    let end = start_read a.pairs.now a.ends.now (a.site + 1) _ c.requires.by_site (omega (arith, inside)) c.index-place-end.ensures in
+    let from : start_of a.ends.now a.site ≤ c.loop-place.place = omega (arith, start, c.loop-place.auto.place) in
+    let to : c.loop-place.place < start_of a.ends.now (a.site + 1) = omega (arith, end, c.loop-place-test.true) in
+    range_enough a.pairs.now a.ends.now a.site c.loop-place.place a.self.now c.loop-place.self c.requires.by_site c.requires.list inside from to c.loop-place.invariant.range c.requires.range
+
+pub loop-place-preserved : goal.loop-place-preserved
+loop-place-preserved g c =
+    let a = c.args in
+    let inside : a.site < a.pairs.now.sites = omega (arith, c.requires.site.0, c.requires.sites) in
+    let start = start_read a.pairs.now a.ends.now a.site _ c.requires.by_site (omega (arith, inside)) c.index-place.ensures in
+    let end = start_read a.pairs.now a.ends.now (a.site + 1) _ c.requires.by_site (omega (arith, inside)) c.index-place-end.ensures in
+    let from : start_of a.ends.now a.site ≤ c.loop-place.place = omega (arith, start, c.loop-place.auto.place) in
+    let to : c.loop-place.place < start_of a.ends.now (a.site + 1) = omega (arith, end, c.loop-place-test.true) in
+    let read = place_read a.pairs.now a.ends.now a.site c.loop-place.place _ c.requires.by_site inside to c.index.ensures in
+    let looking = c.in_ok-see.ensures.looking in
+    record {
+      choices = looking.choices ∙ c.loop-place.invariant.choices;
+      sized = record {
+        choices = ap (λ (v : _). length v.items) looking.choices ∙ c.loop-place.invariant.sized.choices;
+        least = looking.least_len ∙ c.loop-place.invariant.sized.least;
+        greatest = looking.greatest_len ∙ c.loop-place.invariant.sized.greatest;
+      };
+      waiting = c.in_ok-see.ensures.waiting;
+      more = omega (arith, looking.waiting, c.loop-place.invariant.more, from);
+      range = range_step (start_of a.ends.now a.site) c.loop-place.place a.self.now c.loop-place.self c.see.new.self from looking c.loop-place.invariant.range;
+      spread = λ m answers same sites decided.
+          let within : a.site < m.sites = omega (arith, inside, sites) in
+          spread_step m a.change (labelling a.at.now) decided.decisions a.site a.value a.ends.now c.loop-place.place c.get-pair.result c.loop-place.self c.see.new.self
+          (meant_pairs m a.pairs.now same sites c.requires.list) (meant_grouped m a.pairs.now a.ends.now same sites c.requires.by_site) within from to
+          ((λ i. pair_in (same i) (sym read i / 2)) ∙ pair_read a.pairs.now.list _ c.get-pair.result c.get-pair.ensures.value)
+          (site_free m a.change (labelling a.at.now) a.site true a.self.now decided within c.requires.site.1)
+          (site_free m a.change (labelling a.at.now) a.site false a.self.now decided within c.requires.site.1)
+          looking.choices (c.in_ok-see.ensures.sees m answers) (c.loop-place.invariant.spread m answers same sites decided);
+    }
+
+pub returns-clause-range : goal.returns-clause-range
+returns-clause-range g c = λ most within.
+    let a = c.args in
+    let inside : a.site < a.pairs.now.sites = omega (arith, c.requires.site.0, c.requires.sites) in
+    let end = start_read a.pairs.now a.ends.now (a.site + 1) _ c.requires.by_site (omega (arith, inside)) c.index-place-end.ensures in
+    let start = start_read a.pairs.now a.ends.now a.site _ c.requires.by_site (omega (arith, inside)) c.index-place.ensures in
+    let ordered = c.requires.by_site.ordered a.site inside in
+    let last : c.loop-place.place - start_of a.ends.now a.site ≤ degree a.ends.now a.site = omega (arith, start, end, ordered, c.loop-place.auto.place-end) in
+    range_wider (most + 20000000 * (c.loop-place.place - start_of a.ends.now a.site)) (most + 20000000 * degree a.ends.now a.site) c.loop-place.self
+    (omega (arith, last)) (c.loop-place.invariant.range most within)
+
+pub returns-clause-left : goal.returns-clause-left
+returns-clause-left g c =
+    let a = c.args in
+    let marked = c.mark.ensures in
+    let choices = ap (λ (v : _). v.items) c.loop-place.invariant.choices in
+    left_less a.ends.now (length a.at.now) a.site a.self.now.choices.items c.loop-place.self.choices.items c.requires.site.0 c.requires.site.1
+    (λ opened. marked.closed (sym (ap (λ (xs : _). choice_at xs a.site) choices) ∙ opened))
+    (λ u other. ap (λ (xs : _). choice_at xs u) choices ∙ marked.others u other)
+
+pub returns-clause-decided : goal.returns-clause-decided
+returns-clause-decided g c = λ m answers same sites tells decided.
+    let a = c.args in
+    let inside : a.site < a.pairs.now.sites = omega (arith, c.requires.site.0, c.requires.sites) in
+    let end = start_read a.pairs.now a.ends.now (a.site + 1) _ c.requires.by_site (omega (arith, inside)) c.index-place-end.ensures in
+    let past : start_of a.ends.now (a.site + 1) ≤ c.loop-place.place = omega (arith, end, c.loop-place-test.false) in
+    spread_end m a.change (labelling a.at.now) a.site a.value a.ends.now c.loop-place.place a.self.now c.mark.new.self c.loop-place.self
+    (meant_pairs m a.pairs.now same sites c.requires.list) (omega (arith, inside, sites)) decided c.requires.site.1 tells c.mark.ensures c.loop-place.invariant.choices past
+    (c.loop-place.invariant.spread m answers same sites decided)

@@ -1,0 +1,19 @@
+use Rattle.std.proofs.Common.{◌≡◌, ◌+◌, ◌-◌, ◌*◌, ◌≤◌, ℕ, length}
+use Rattle.cost_store.specs.Promises.{Answers}
+use Rattle.grouping.specs.Grouping.{start_of}
+use Rattle.labellings.specs.Energies.{Instance, labelling}
+use Rattle.deciding.specs.Working.{IsSized, AreWaiting, IsWithinRange, ArePartlyDecided}
+use Rattle.deciding.proofs.Spreading.{IsSpread}
+use Rattle.deciding.proofs.bounds.Bounds.decide.Given as goal
+
+abbrev pub invariant-loop-place : goal.invariant-loop-place
+invariant-loop-place g l = record {
+  choices : l.self.choices ≡ l.initial.self.choices;
+  sized : IsSized (length l.at) l.self;
+  waiting : AreWaiting (length l.at) l.self;
+  more : length l.self.waiting.items ≤ length l.fn.self.waiting.items + (l.place - start_of l.ends l.site);
+  range : (most : ℕ) → IsWithinRange most l.fn.self → IsWithinRange (most + 20000000 * (l.place - start_of l.ends l.site)) l.self;
+  spread : (m : Instance) → Answers (goal.V-post g l.smooth_cost.v) m.smooth_cost l.smooth_cost.labels l.smooth_cost.labels → m.pairs ≡ l.pairs.list → m.sites ≡ l.pairs.sites
+      → (decided : ArePartlyDecided m l.change (labelling l.at) l.fn.self)
+      → IsSpread m l.change (labelling l.at) decided.decisions l.site l.value l.ends l.place l.self;
+}

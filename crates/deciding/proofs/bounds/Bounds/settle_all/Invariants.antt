@@ -1,0 +1,18 @@
+use Rattle.std.proofs.Common.{◌≡◌, ◌+◌, ◌*◌, ◌≤◌, length}
+use Rattle.cost_store.specs.Promises.{Answers}
+use Rattle.labellings.specs.Energies.{Instance, labelling}
+use Rattle.deciding.specs.Working.{IsSized, AreWaiting, IsWithinRange, ArePartlyDecided, left, room_of}
+use Rattle.deciding.proofs.bounds.Bounds.settle_all.Given as goal
+
+abbrev pub invariant-settling : goal.invariant-settling
+invariant-settling g l = record {
+  sized : IsSized (length l.at) l.self;
+  waiting : AreWaiting (length l.at) l.self;
+  few : left l.ends (length l.at) l.self.choices.items ≤ 2 * length l.pairs.list;
+  range : IsWithinRange (room_of (left l.ends (length l.at) l.self.choices.items)) l.self;
+  decided : (m : Instance) → Answers (goal.V-post g l.smooth_cost.v) m.smooth_cost l.smooth_cost.labels l.smooth_cost.labels → m.pairs ≡ l.pairs.list → m.sites ≡ l.pairs.sites
+      → ArePartlyDecided m l.change (labelling l.at) l.fn.self → ArePartlyDecided m l.change (labelling l.at) l.self;
+}
+
+abbrev pub decreases-settling : goal.decreases-settling
+decreases-settling g l = length l.self.waiting.items + left l.ends (length l.at) l.self.choices.items

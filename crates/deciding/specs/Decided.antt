@@ -1,0 +1,33 @@
+-- What deciding answers.
+use Rattle.std.specs.Prelude.{◌≡◌, ℕ, ◌<◌, Bool, List, Result, Ok, Err}
+use Rattle.label_field.specs.PairLists.{PairList}
+use Rattle.grouping.specs.declared.Groups.{Groups}
+use Rattle.grouping.specs.Grouping.{IsGrouped}
+use Rattle.labellings.specs.declared.change.Move.{Move}
+use Rattle.labellings.specs.Energies.{Instance, labelling}
+use Rattle.labellings.specs.Moves.{IsAllowed}
+use Rattle.move_energy.specs.declared.choice.Choice.{Choice}
+use Rattle.move_energy.specs.declared.choice.Choice.TheVariants.{Open}
+use Rattle.move_energy.specs.declared.error.BuildError.{BuildError}
+use Rattle.move_energy.specs.Choices.{bit_of, choice_at}
+use Rattle.move_energy.specs.Problems.{IsPrepareRefusal}
+use Rattle.deciding.specs.Decisions.{Decision, put, Passes, HavePassed}
+use Rattle.deciding.specs.MoveValues.{move_value}
+use Rattle.deciding.specs.Working.{ends_of}
+
+-- the sites were decided one after another, each by the test, and none that is open passes it
+pub record AreDecided (m : Instance) (move : Move) (f : ℕ → ℕ) (choice : ℕ → Choice) : Type 0 where
+  pub decisions : List Decision
+  pub passed : HavePassed (move_value m move f) decisions
+  pub shown : (x : ℕ → Bool) (p : ℕ) → p < m.sites → put decisions x p ≡ bit_of (choice p) (x p)
+  pub none_left : (p : ℕ) (b : Bool) → p < m.sites → choice p ≡ Open → ¬ Passes (move_value m move f) decisions p b
+
+-- what the deciding of a move from f answers: each pair's term is regular, and the sites are decided; or the first
+-- pair whose term is not regular; or memory was refused
+abbrev pub IsDecidedMove : Instance → Move → List ℕ → List Choice → Result Unit BuildError → Type 0
+IsDecidedMove m move f choices (Ok done) = IsAllowed m move (labelling f) × AreDecided m move (labelling f) (choice_at choices)
+IsDecidedMove m move f choices (Err e) = IsPrepareRefusal m move (labelling f) e
+
+-- the ends of the pairs, two of each pair, by their site
+abbrev pub AreBySite : PairList → Groups → Type 0
+AreBySite pairs ends = IsGrouped pairs.sites (ends_of pairs.list) ends

@@ -1,0 +1,167 @@
+-- What is kept while sites are decided.
+use Rattle.std.specs.Prelude.{◌≡◌, ◌≢◌, ◌⊎◌, ℕ, ◌+◌, ◌-◌, ◌*◌, ◌<◌, ◌≤◌, Bool, true, false, List, [], ◌∷◌, length, take, slice_index_or, unsigned_abs, ℤ, pos, ◌+ℤ◌, ◌-ℤ◌, ◌≤ℤ◌, ◌<ℤ◌, Result, Ok, Err}
+use Rattle.std.specs.List.{All, Contains}
+use Rattle.sums.specs.Sums.{sum_below, counted}
+use Rattle.sums.specs.IntegerSums.{int_sum_by}
+use Rattle.grouping.specs.declared.Groups.{Groups}
+use Rattle.grouping.specs.Grouping.{start_of}
+use Rattle.label_field.specs.declared.pair.Pair.{Pair}
+use Rattle.labellings.specs.declared.change.Move.{Move}
+use Rattle.labellings.specs.Energies.{Instance}
+use Rattle.labellings.specs.Moves.{IsAllowed}
+use Rattle.move_energy.specs.declared.error.BuildError.{BuildError}
+use Rattle.move_energy.specs.Problems.{IsPrepareRefusal}
+use Rattle.move_energy.specs.declared.choice.Choice.{Choice}
+use Rattle.move_energy.specs.declared.choice.Choice.TheVariants.{Open, Zero, One}
+use Rattle.move_energy.specs.Choices.{bit_of, choice_at}
+use Rattle.deciding.specs.Decisions.{Decision, set_bit, put, rise, HavePassed}
+use Rattle.deciding.specs.MoveValues.{move_value, data_rise, pair_rise}
+use Rattle.deciding.specs.declared.bounds.Bounds.{Bounds}
+
+-- the ends of pairs, the first and the second of each
+abbrev pub ends_of : List Pair → List ℕ
+ends_of [] = []
+ends_of (pair ∷ pairs) = pair.first ∷ pair.second ∷ ends_of pairs
+
+-- the two sites are the ends of the pair
+abbrev pub AreEnds : Pair → ℕ → ℕ → Type 0
+AreEnds pair site other = ((pair.first ≡ site) × (pair.second ≡ other)) ⊎ ((pair.first ≡ other) × (pair.second ≡ site))
+
+-- the bound of a site
+abbrev pub bound_at : List ℤ → ℕ → ℤ
+bound_at bounds u = slice_index_or bounds u (pos 0)
+
+abbrev pub is_open : Choice → Bool
+is_open Open = true
+is_open Zero = false
+is_open One = false
+
+-- how many ends of pairs lie at a site
+abbrev pub degree : Groups → ℕ → ℕ
+degree ends u = start_of ends (u + 1) - start_of ends u
+
+-- how many ends lie at open sites: those that may still be looked at
+abbrev pub left : Groups → ℕ → List Choice → ℕ
+left ends n choices = sum_below n (λ u. counted (is_open (choice_at choices u)) (degree ends u))
+
+-- how large a bound may be while so many ends are left: each end that is looked at changes one by at most 20,000,000
+abbrev pub room_of : ℕ → ℕ
+room_of n = 500000000000000000 - 20000000 * n
+
+-- by how much the costs of a pair at 01 and 10 are together above those at 00 and 11
+abbrev pub surplus_of : List ℤ → ℤ
+surplus_of table = (bound_at table 1 +ℤ bound_at table 2) -ℤ (bound_at table 0 +ℤ bound_at table 3)
+
+-- the bounds of a site tell that it has this value
+abbrev pub Tells : Bounds → ℕ → Bool → Type 0
+Tells b u false = pos 0 ≤ℤ bound_at b.least.items u
+Tells b u true = bound_at b.greatest.items u <ℤ pos 0
+
+-- the bounds of a site tell its value
+abbrev pub CanDecide : Bounds → ℕ → Type 0
+CanDecide b u = Tells b u false ⊎ Tells b u true
+
+-- a choice and two bounds of each of n sites
+pub record IsSized (n : ℕ) (b : Bounds) : Type 0 where
+  pub choices : length b.choices.items ≡ n
+  pub least : length b.least.items ≡ n
+  pub greatest : length b.greatest.items ≡ n
+
+-- nothing is decided, and no site waits
+pub record AreUndecided (n : ℕ) (b : Bounds) : Type 0 where
+  pub sized : IsSized n b
+  pub opened : (u : ℕ) → u < n → choice_at b.choices.items u ≡ Open
+  pub none : length b.waiting.items ≡ 0
+
+-- no bound is larger
+abbrev pub IsWithinRange : ℕ → Bounds → Type 0
+IsWithinRange most b = (u : ℕ) → (unsigned_abs (bound_at b.least.items u) ≤ most) × (unsigned_abs (bound_at b.greatest.items u) ≤ most)
+
+-- each open site whose bounds tell its value waits, but perhaps this one; and only sites wait
+pub record AreWaitingBut (n but : ℕ) (b : Bounds) : Type 0 where
+  pub sites : All (λ u. u < n) b.waiting.items
+  pub each : (u : ℕ) → u < n → u ≢ but → choice_at b.choices.items u ≡ Open → CanDecide b u → Contains b.waiting.items u
+
+-- each of them waits
+abbrev pub AreWaiting : ℕ → Bounds → Type 0
+AreWaiting n b = AreWaitingBut n n b
+
+-- nothing is decided, and the bounds count the sites' own costs and the first k pairs
+pub record AreCounted (m : Instance) (move : Move) (f : ℕ → ℕ) (k : ℕ) (b : Bounds) : Type 0 where
+  pub least : (u : ℕ) → u < m.sites
+      → bound_at b.least.items u ≡ data_rise m move f u +ℤ int_sum_by (pair_rise m move f u (λ v. true)) (take k m.pairs)
+  pub greatest : (u : ℕ) → u < m.sites
+      → bound_at b.greatest.items u ≡ data_rise m move f u +ℤ int_sum_by (pair_rise m move f u (λ v. false)) (take k m.pairs)
+
+-- what the counting of all pairs answers: each term is regular, and all are counted; or the first that is not
+abbrev pub AreTermsCounted : Instance → Move → (ℕ → ℕ) → Bounds → Bounds → Result Unit BuildError → Type 0
+AreTermsCounted m move f old new (Ok done) = IsAllowed m move f × (AreCounted m move f 0 old → AreCounted m move f (length m.pairs) new)
+AreTermsCounted m move f old new (Err e) = IsPrepareRefusal m move f e
+
+-- the sites were decided one after another, each by the test, and the bounds of an open site are its rises with all
+-- undecided sites at 1 and at 0
+pub record ArePartlyDecided (m : Instance) (move : Move) (f : ℕ → ℕ) (b : Bounds) : Type 0 where
+  pub decisions : List Decision
+  pub passed : HavePassed (move_value m move f) decisions
+  pub shown : (x : ℕ → Bool) (p : ℕ) → p < m.sites → put decisions x p ≡ bit_of (choice_at b.choices.items p) (x p)
+  pub least : (u : ℕ) → u < m.sites → choice_at b.choices.items u ≡ Open
+      → bound_at b.least.items u ≡ rise (move_value m move f) u (put decisions (λ v. true))
+  pub greatest : (u : ℕ) → u < m.sites → choice_at b.choices.items u ≡ Open
+      → bound_at b.greatest.items u ≡ rise (move_value m move f) u (put decisions (λ v. false))
+
+-- the site has this value, and nothing else changes
+pub record IsMarked (site : ℕ) (value : Bool) (old new : Bounds) : Type 0 where
+  pub count : length new.choices.items ≡ length old.choices.items
+  pub own : (b : Bool) → bit_of (choice_at new.choices.items site) b ≡ value
+  pub closed : ¬ (choice_at new.choices.items site ≡ Open)
+  pub others : (u : ℕ) → u ≢ site → choice_at new.choices.items u ≡ choice_at old.choices.items u
+  pub least : new.least ≡ old.least
+  pub greatest : new.greatest ≡ old.greatest
+  pub waiting : new.waiting ≡ old.waiting
+
+-- a pair of this site is seen with the site's value: the bounds of each other open site change as the pair's rise does
+pub record SeesPair (m : Instance) (move : Move) (f : ℕ → ℕ) (site : ℕ) (value : Bool) (pair : Pair) (old new : Bounds) : Type 0 where
+  pub least : (x : ℕ → Bool) (u : ℕ) → x site ≡ true → u ≢ site → choice_at old.choices.items u ≡ Open
+      → bound_at new.least.items u ≡ bound_at old.least.items u +ℤ (pair_rise m move f u (set_bit x site value) pair -ℤ pair_rise m move f u x pair)
+  pub greatest : (x : ℕ → Bool) (u : ℕ) → x site ≡ false → u ≢ site → choice_at old.choices.items u ≡ Open
+      → bound_at new.greatest.items u ≡ bound_at old.greatest.items u +ℤ (pair_rise m move f u (set_bit x site value) pair -ℤ pair_rise m move f u x pair)
+
+-- a pair with these costs is counted at both its ends
+pub record AddsTerm (pair : Pair) (table : List ℤ) (old new : Bounds) : Type 0 where
+  pub first_least : bound_at new.least.items pair.first ≡ bound_at old.least.items pair.first +ℤ (bound_at table 3 -ℤ bound_at table 1)
+  pub first_greatest : bound_at new.greatest.items pair.first ≡ bound_at old.greatest.items pair.first +ℤ (bound_at table 2 -ℤ bound_at table 0)
+  pub second_least : bound_at new.least.items pair.second ≡ bound_at old.least.items pair.second +ℤ (bound_at table 3 -ℤ bound_at table 2)
+  pub second_greatest : bound_at new.greatest.items pair.second ≡ bound_at old.greatest.items pair.second +ℤ (bound_at table 1 -ℤ bound_at table 0)
+  pub others : (u : ℕ) → u ≢ pair.first → u ≢ pair.second
+      → (bound_at new.least.items u ≡ bound_at old.least.items u) × (bound_at new.greatest.items u ≡ bound_at old.greatest.items u)
+
+-- the other costs of a site whose neighbour is now 1, or now 0
+abbrev pub least_shift : Bool → ℤ → ℤ
+least_shift true surplus = pos 0
+least_shift false surplus = surplus
+
+abbrev pub greatest_shift : Bool → ℤ → ℤ
+greatest_shift true surplus = pos 0 -ℤ surplus
+greatest_shift false surplus = pos 0
+
+-- the bounds of a site are shifted, as the value of its neighbour wants it
+pub record Shifts (site : ℕ) (value : Bool) (surplus : ℤ) (old new : Bounds) : Type 0 where
+  pub least : bound_at new.least.items site ≡ bound_at old.least.items site +ℤ least_shift value surplus
+  pub greatest : bound_at new.greatest.items site ≡ bound_at old.greatest.items site +ℤ greatest_shift value surplus
+  pub others : (u : ℕ) → u ≢ site
+      → (bound_at new.least.items u ≡ bound_at old.least.items u) × (bound_at new.greatest.items u ≡ bound_at old.greatest.items u)
+
+-- a site waits if its bounds tell its value, and all that waited still wait
+pub record CallsUp (site : ℕ) (old new : Bounds) : Type 0 where
+  pub kept : (u : ℕ) → Contains old.waiting.items u → Contains new.waiting.items u
+  pub called : CanDecide old site → Contains new.waiting.items site
+  pub sites : (n : ℕ) → site < n → All (λ u. u < n) old.waiting.items → All (λ u. u < n) new.waiting.items
+  pub more : length new.waiting.items ≤ length old.waiting.items + 1
+
+-- the choices stay, no bound grows by more than 20,000,000, and at most so many sites more wait
+pub record IsLooking (more : ℕ) (old new : Bounds) : Type 0 where
+  pub choices : new.choices ≡ old.choices
+  pub least_len : length new.least.items ≡ length old.least.items
+  pub greatest_len : length new.greatest.items ≡ length old.greatest.items
+  pub waiting : length new.waiting.items ≤ length old.waiting.items + more
+  pub range : (most : ℕ) → IsWithinRange most old → IsWithinRange (most + 20000000 * more) new

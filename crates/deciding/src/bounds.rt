@@ -1,0 +1,66 @@
+//! What is known of each site while sites are decided.
+ghost use Rattle.std.specs.Prelude.{◌≡◌, ◌↔◌, ◌+◌, ◌<◌, ◌^◌, ℕ, ℤ, pos, ◌+ℤ◌, ◌≤ℤ◌, ◌<ℤ◌, ◌⊎◌, ◌++◌, ◌∷◌, [], IsTrue, length, slice_set, unsigned_abs, OnOk};
+ghost use Rattle.deciding.specs.Working.{bound_at, CanDecide, CallsUp};
+
+use move_energy::Choice;
+use std::alloc::{AllocError, Global};
+
+/// Of each site what is known of its value, and by how much the energy rises where its value turns from 0 to 1: at least
+/// with every other undecided site at 1, and at most with every other at 0. Then the sites that wait: those whose bounds tell
+/// their value. It takes 21 bytes a site at most.
+#[derive(Drop)]
+pub struct Bounds {
+    pub choices: Vec<Choice>,
+    pub least: Vec<i64>,
+    pub greatest: Vec<i64>,
+    pub waiting: Vec<u32>,
+}
+
+impl Bounds {
+    /// No sites. It takes no memory.
+    pub fn new(alloc: Global) -> Bounds {
+        Bounds {
+            choices: Vec::new(alloc),
+            least: Vec::new(alloc),
+            greatest: Vec::new(alloc),
+            waiting: Vec::new(alloc),
+        }
+    }
+
+    /// Adds to the two bounds of a site.
+    pub fn raise(&mut self, site: usize, least: i64, greatest: i64)
+        requires site { (site < length self.old.least.items) × (site < length self.old.greatest.items) }
+        requires least { unsigned_abs (bound_at self.old.least.items site) + unsigned_abs least < 2 ^ 62 }
+        requires greatest { unsigned_abs (bound_at self.old.greatest.items site) + unsigned_abs greatest
+            < 2 ^ 62 }
+        ensures least { self.new.least.items ≡ slice_set self.old.least.items site
+            (bound_at self.old.least.items site +ℤ least) }
+        ensures greatest { self.new.greatest.items ≡ slice_set self.old.greatest.items site
+            (bound_at self.old.greatest.items site +ℤ greatest) }
+        ensures same { (self.new.choices ≡ self.old.choices) × (self.new.waiting ≡ self.old.waiting) }
+    {
+        self.least[site] += least;
+        self.greatest[site] += greatest;
+    }
+
+    /// Whether the bounds of a site tell its value: 0 where turning never lowers the energy, and 1 where it always does.
+    pub fn can_decide(&self, site: usize) -> bool
+        requires { (site < length self.now.least.items) × (site < length self.now.greatest.items) }
+        ensures { IsTrue result ↔ CanDecide self.now site }
+    {
+        self.least[site] >= 0 || self.greatest[site] < 0
+    }
+
+    /// Lets a site wait if its bounds tell its value.
+    pub fn call_up(&mut self, site: u32) -> Result<(), AllocError>
+        requires { (site < length self.old.least.items) × (site < length self.old.greatest.items) }
+        ensures same { (self.new.choices ≡ self.old.choices) × (self.new.least ≡ self.old.least)
+            × (self.new.greatest ≡ self.old.greatest) }
+        ensures calls { OnOk result (CallsUp site self.old self.new) }
+    {
+        if self.can_decide(site as usize) {
+            self.waiting.push(site)?;
+        }
+        Ok(())
+    }
+}

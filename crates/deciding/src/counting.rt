@@ -1,0 +1,154 @@
+//! The bounds of all sites with nothing decided.
+ghost use Rattle.std.specs.Prelude.{◌≡◌, ◌≢◌, ◌<◌, ◌≤◌, ◌+◌, ◌*◌, ◌^◌, ℕ, ℤ, pos, ◌-ℤ◌, ◌≤ℤ◌, ◌++◌, ◌∷◌, [], All, length, unsigned_abs, OnOk, true, false};
+ghost use Rattle.label_field.specs.Limits.{site_limit};
+ghost use Rattle.label_field.specs.PairLists.{IsPair, IsPairList};
+ghost use Rattle.labellings.specs.Energies.{Instance, labelling};
+ghost use Rattle.labellings.specs.Moves.{IsMoveOf};
+ghost use Rattle.cost_store.specs.Limits.{data_limit};
+ghost use Rattle.cost_store.specs.Promises.{Keeps, KeepsSmooth, Answers, IsCost};
+ghost use Rattle.move_energy.specs.declared.choice.Choice.TheVariants.{Open};
+ghost use Rattle.move_energy.specs.Choices.{choice_at};
+ghost use Rattle.deciding.specs.MoveValues.{term_of};
+ghost use Rattle.deciding.specs.Working.{bound_at, IsSized, IsWithinRange, AreCounted, AreUndecided, AddsTerm, AreWaiting, AreTermsCounted};
+
+use crate::Bounds;
+use crate::costs::{data_rise, is_regular, term};
+use cost_store::{DataCost, SmoothCost};
+use label_field::{Pair, Pairs};
+use labellings::Move;
+use move_energy::{BuildError, Choice};
+use std::alloc::AllocError;
+
+/// By how much one entry of a table is above another.
+fn difference(table: &[i64; 4], more: usize, less: usize) -> i64
+    requires table { All (IsCost (pos 10000000)) table.now }
+    requires entries { (more < 4) × (less < 4) }
+    ensures value { result ≡ bound_at table.now more -ℤ bound_at table.now less }
+    ensures range { unsigned_abs result ≤ 10000000 }
+{
+    table[more] - table[less]
+}
+
+impl Bounds {
+    /// Makes room for so many sites, and forgets what was known.
+    fn clear(&mut self, sites: usize) -> Result<(), AllocError>
+        ensures empty { OnOk result ((length self.new.choices.items ≡ 0) × (length self.new.least.items ≡ 0)
+            × (length self.new.greatest.items ≡ 0) × (length self.new.waiting.items ≡ 0)) }
+    {
+        self.choices.clear();
+        self.choices.reserve(sites)?;
+        self.least.clear();
+        self.least.reserve(sites)?;
+        self.greatest.clear();
+        self.greatest.reserve(sites)?;
+        self.waiting.clear();
+        self.waiting.reserve(sites)?;
+        Ok(())
+    }
+
+    /// Adds a site of which nothing is decided.
+    fn add_site(&mut self, rise: i64) -> Result<(), AllocError>
+        ensures choices { OnOk result (self.new.choices.items ≡ self.old.choices.items ++ Open ∷ []) }
+        ensures least { OnOk result (self.new.least.items ≡ self.old.least.items ++ rise ∷ []) }
+        ensures greatest { OnOk result (self.new.greatest.items ≡ self.old.greatest.items ++ rise ∷ []) }
+        ensures same { OnOk result (self.new.waiting ≡ self.old.waiting) }
+    {
+        self.choices.push(Choice::Open)?;
+        self.least.push(rise)?;
+        self.greatest.push(rise)?;
+        Ok(())
+    }
+
+    /// Opens every site, and counts what its own label costs it.
+    pub fn count_sites<F: Fn(u32, u32) -> i64>(
+        &mut self,
+        data_cost: &DataCost<F>,
+        at: &[u8],
+        change: Move,
+    ) -> Result<(), AllocError>
+        requires costs { Keeps (F.pre data_cost.now.f) (F.post data_cost.now.f) data_cost.now.sites
+            data_cost.now.labels data_limit }
+        requires sites { (length at.now ≡ data_cost.now.sites) × (length at.now ≤ site_limit) }
+        requires labels { All (λ label. label < data_cost.now.labels) at.now }
+        requires change { IsMoveOf data_cost.now.labels change }
+        ensures undecided { OnOk result (AreUndecided (length at.now) self.new) }
+        ensures range { OnOk result (IsWithinRange 10000000 self.new) }
+        ensures counted { OnOk result ((m : Instance) → m.sites ≡ length at.now →
+            Answers (F.post data_cost.now.f) m.data_cost data_cost.now.sites data_cost.now.labels →
+            AreCounted m change (labelling at.now) 0 self.new) }
+    {
+        self.clear(at.len())?;
+        for site in 0..at.len() {
+            let rise = data_rise(data_cost, change, site as u32, u32::from(at[site]));
+            self.add_site(rise)?;
+        }
+        Ok(())
+    }
+
+    /// Counts a pair at both its ends.
+    fn add_term(&mut self, pair: Pair, table: &[i64; 4])
+        requires pair { IsPair (length self.old.least.items) pair }
+        requires sized { length self.old.greatest.items ≡ length self.old.least.items }
+        requires table { All (IsCost (pos 10000000)) table.now }
+        requires range { IsWithinRange (2 ^ 60) self.old }
+        ensures adds { AddsTerm pair table.now self.old self.new }
+        ensures sized { (length self.new.least.items ≡ length self.old.least.items)
+            × (length self.new.greatest.items ≡ length self.old.greatest.items) }
+        ensures range { (most : ℕ) → IsWithinRange most self.old → IsWithinRange (most + 20000000) self.new }
+        ensures same { (self.new.choices ≡ self.old.choices) × (self.new.waiting ≡ self.old.waiting) }
+    {
+        let first = pair.first as usize;
+        self.raise(first, difference(table, 3, 1), difference(table, 2, 0));
+        let second = pair.second as usize;
+        self.raise(second, difference(table, 3, 2), difference(table, 1, 0));
+    }
+
+    /// Counts each pair, or refuses the first whose term is not regular.
+    pub fn count_pairs<V: Fn(u32, u32) -> i64>(
+        &mut self,
+        pairs: &Pairs,
+        smooth_cost: &SmoothCost<V>,
+        at: &[u8],
+        change: Move,
+    ) -> Result<(), BuildError>
+        requires smooth { KeepsSmooth (V.pre smooth_cost.now.v) (V.post smooth_cost.now.v)
+            smooth_cost.now.labels smooth_cost.now.by_metric }
+        requires sites { length at.now ≡ pairs.now.sites }
+        requires labels { All (λ label. label < smooth_cost.now.labels) at.now }
+        requires change { IsMoveOf smooth_cost.now.labels change }
+        requires undecided { AreUndecided (length at.now) self.old }
+        requires range { IsWithinRange 10000000 self.old }
+        requires list { IsPairList pairs.now }
+        ensures undecided { OnOk result (AreUndecided (length at.now) self.new) }
+        ensures range { OnOk result (IsWithinRange (10000000 + 20000000 * length pairs.now.list) self.new) }
+        ensures counted { (m : Instance) →
+            Answers (V.post smooth_cost.now.v) m.smooth_cost smooth_cost.now.labels smooth_cost.now.labels →
+            m.pairs ≡ pairs.now.list → m.sites ≡ pairs.now.sites →
+            AreTermsCounted m change (labelling at.now) self.old self.new result }
+    {
+        for index in 0..pairs.len() {
+            let pair = pairs.get(index);
+            let table = term(smooth_cost, at, change, pair);
+            if !is_regular(&table) {
+                return Err(BuildError::PairNotRegular(index));
+            }
+            self.add_term(pair, &table);
+        }
+        Ok(())
+    }
+
+    /// Lets each site wait whose bounds tell its value.
+    pub fn find_waiting(&mut self) -> Result<(), AllocError>
+        requires undecided { AreUndecided (length self.old.choices.items) self.old }
+        requires sites { length self.old.choices.items ≤ site_limit }
+        ensures same { (self.new.choices ≡ self.old.choices) × (self.new.least ≡ self.old.least)
+            × (self.new.greatest ≡ self.old.greatest) }
+        ensures waiting { OnOk result (AreWaiting (length self.old.choices.items) self.new) }
+        ensures few { OnOk result (length self.new.waiting.items ≤ length self.old.choices.items) }
+    {
+        for site in 0..self.choices.len() {
+            self.call_up(site as u32)?;
+        }
+        Ok(())
+    }
+}

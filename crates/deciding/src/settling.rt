@@ -1,0 +1,270 @@
+//! Deciding the sites that wait, one after another.
+ghost use Rattle.std.specs.Prelude.{◌≡◌, ◌≢◌, ◌⊎◌, ◌<◌, ◌≤◌, ◌+◌, ◌*◌, ◌^◌, ℕ, ℤ, pos, ◌≤ℤ◌, ◌<ℤ◌, Bool, true, false, All, length, slice_get, Some, unsigned_abs, OnOk};
+ghost use Rattle.grouping.specs.Grouping.{IsGrouped};
+ghost use Rattle.label_field.specs.PairLists.{IsPair, IsPairList};
+ghost use Rattle.labellings.specs.Energies.{Instance, labelling};
+ghost use Rattle.labellings.specs.Moves.{IsMoveOf, IsAllowed};
+ghost use Rattle.cost_store.specs.Promises.{KeepsSmooth, Answers};
+ghost use Rattle.move_energy.specs.declared.choice.Choice.{Choice};
+ghost use Rattle.move_energy.specs.declared.choice.Choice.TheVariants.{Open};
+ghost use Rattle.move_energy.specs.Choices.{choice_at, bit_of};
+ghost use Rattle.deciding.specs.Working.{bound_at, AreEnds, CanDecide, Tells, IsMarked, IsSized, IsWithinRange, AreWaiting, AreWaitingBut, ArePartlyDecided, SeesPair, IsLooking, Shifts, least_shift as least_shift_of, greatest_shift as greatest_shift_of, degree, left, room_of};
+ghost use Rattle.deciding.specs.Decided.{AreBySite};
+
+use crate::Bounds;
+use crate::costs::{surplus, term};
+use cost_store::SmoothCost;
+use grouping::Groups;
+use label_field::{Pair, Pairs};
+use labellings::Move;
+use move_energy::Choice;
+use std::alloc::AllocError;
+
+/// What is known of a variable once it has a value.
+fn decided(value: bool) -> Choice
+    ensures bit { (b : Bool) → bit_of result b ≡ value }
+    ensures closed { result ≢ Open }
+{
+    if value { Choice::One } else { Choice::Zero }
+}
+
+/// The other end of a pair.
+fn other_end(pair: Pair, site: u32) -> u32
+    requires { (pair.first ≡ site) ⊎ (pair.second ≡ site) }
+    ensures { AreEnds pair site result }
+{
+    if pair.first == site {
+        pair.second
+    } else {
+        pair.first
+    }
+}
+
+/// What is added to the least rise of a site of which a neighbour got a value, and their pair has this surplus.
+fn least_shift(value: bool, surplus: i64) -> i64
+    requires { unsigned_abs surplus ≤ 20000000 }
+    ensures value { result ≡ least_shift_of value surplus }
+    ensures range { unsigned_abs result ≤ 20000000 }
+{
+    if value { 0 } else { surplus }
+}
+
+/// What is added to the greatest rise.
+fn greatest_shift(value: bool, surplus: i64) -> i64
+    requires { unsigned_abs surplus ≤ 20000000 }
+    ensures value { result ≡ greatest_shift_of value surplus }
+    ensures range { unsigned_abs result ≤ 20000000 }
+{
+    if value { -surplus } else { 0 }
+}
+
+impl Bounds {
+    /// Changes the bounds of a site of which a neighbour got a value, by their pair's surplus.
+    fn turn(&mut self, site: usize, value: bool, surplus: i64)
+        requires site { (site < length self.old.least.items) × (site < length self.old.greatest.items) }
+        requires surplus { unsigned_abs surplus ≤ 20000000 }
+        requires range { IsWithinRange (2 ^ 60) self.old }
+        ensures shifts { Shifts site value surplus self.old self.new }
+        ensures range { (most : ℕ) → IsWithinRange most self.old → IsWithinRange (most + 20000000) self.new }
+        ensures sized { (length self.new.least.items ≡ length self.old.least.items)
+            × (length self.new.greatest.items ≡ length self.old.greatest.items) }
+        ensures same { (self.new.choices ≡ self.old.choices) × (self.new.waiting ≡ self.old.waiting) }
+    {
+        self.raise(
+            site,
+            least_shift(value, surplus),
+            greatest_shift(value, surplus),
+        );
+    }
+
+    /// Changes the bounds of a site of which a neighbour got a value. The site waits from now on if they tell its value and did
+    /// not before.
+    fn shift(&mut self, site: u32, value: bool, surplus: i64) -> Result<(), AllocError>
+        requires site { (site < length self.old.least.items) × (site < length self.old.greatest.items) }
+        requires surplus { unsigned_abs surplus ≤ 20000000 }
+        requires range { IsWithinRange (2 ^ 60) self.old }
+        ensures looking { OnOk result (IsLooking 1 self.old self.new) }
+        ensures shifts { OnOk result (Shifts site value surplus self.old self.new) }
+        ensures waiting { OnOk result ((n : ℕ) → site < n → AreWaiting n self.old → AreWaiting n self.new) }
+    {
+        let waits = self.can_decide(site as usize);
+        self.turn(site as usize, value, surplus);
+        if waits {
+            return Ok(());
+        }
+        self.call_up(site)
+    }
+
+    /// Sees a pair with the value of one of its sites.
+    fn see<V: Fn(u32, u32) -> i64>(
+        &mut self,
+        smooth_cost: &SmoothCost<V>,
+        at: &[u8],
+        change: Move,
+        pair: Pair,
+        site: u32,
+        value: bool,
+    ) -> Result<(), AllocError>
+        requires smooth { KeepsSmooth (V.pre smooth_cost.now.v) (V.post smooth_cost.now.v)
+            smooth_cost.now.labels smooth_cost.now.by_metric }
+        requires labels { All (λ label. label < smooth_cost.now.labels) at.now }
+        requires change { IsMoveOf smooth_cost.now.labels change }
+        requires pair { IsPair (length at.now) pair }
+        requires end { (pair.first ≡ site) ⊎ (pair.second ≡ site) }
+        requires sized { IsSized (length at.now) self.old }
+        requires range { IsWithinRange (2 ^ 60) self.old }
+        requires waiting { AreWaiting (length at.now) self.old }
+        ensures looking { OnOk result (IsLooking 1 self.old self.new) }
+        ensures waiting { OnOk result (AreWaiting (length at.now) self.new) }
+        ensures sees { OnOk result ((m : Instance) →
+            Answers (V.post smooth_cost.now.v) m.smooth_cost smooth_cost.now.labels smooth_cost.now.labels →
+            SeesPair m change (labelling at.now) site value pair self.old self.new) }
+    {
+        let other = other_end(pair, site);
+        if !self.choices[other as usize].is_open() {
+            return Ok(());
+        }
+        let table = term(smooth_cost, at, change, pair);
+        self.shift(other, value, surplus(&table))
+    }
+
+    /// Gives a site its value.
+    fn mark(&mut self, site: usize, value: bool)
+        requires { site < length self.old.choices.items }
+        ensures { IsMarked site value self.old self.new }
+    {
+        self.choices[site] = decided(value);
+    }
+
+    /// Decides a site, and sees each of its pairs with its value.
+    fn decide<V: Fn(u32, u32) -> i64>(
+        &mut self,
+        pairs: &Pairs,
+        ends: &Groups,
+        smooth_cost: &SmoothCost<V>,
+        at: &[u8],
+        change: Move,
+        site: u32,
+        value: bool,
+    ) -> Result<(), AllocError>
+        requires smooth { KeepsSmooth (V.pre smooth_cost.now.v) (V.post smooth_cost.now.v)
+            smooth_cost.now.labels smooth_cost.now.by_metric }
+        requires sites { length at.now ≡ pairs.now.sites }
+        requires by_site { AreBySite pairs.now ends.now }
+        requires list { IsPairList pairs.now }
+        requires labels { All (λ label. label < smooth_cost.now.labels) at.now }
+        requires change { IsMoveOf smooth_cost.now.labels change }
+        requires site { (site < length at.now) × (choice_at self.old.choices.items site ≡ Open) }
+        requires sized { IsSized (length at.now) self.old }
+        requires range { IsWithinRange (2 ^ 59) self.old }
+        requires waiting { AreWaitingBut (length at.now) site self.old }
+        ensures sized { OnOk result (IsSized (length at.now) self.new) }
+        ensures waiting { OnOk result (AreWaiting (length at.now) self.new) }
+        ensures range { OnOk result ((most : ℕ) → IsWithinRange most self.old →
+            IsWithinRange (most + 20000000 * degree ends.now site) self.new) }
+        ensures more { OnOk result (length self.new.waiting.items ≤
+            length self.old.waiting.items + degree ends.now site) }
+        ensures left { OnOk result (left ends.now (length at.now) self.new.choices.items
+            + degree ends.now site ≡ left ends.now (length at.now) self.old.choices.items) }
+        ensures decided { OnOk result ((m : Instance) →
+            Answers (V.post smooth_cost.now.v) m.smooth_cost smooth_cost.now.labels smooth_cost.now.labels →
+            m.pairs ≡ pairs.now.list → m.sites ≡ pairs.now.sites →
+            Tells self.old site value → ArePartlyDecided m change (labelling at.now) self.old →
+            ArePartlyDecided m change (labelling at.now) self.new) }
+    {
+        self.mark(site as usize, value);
+        for place in ends.starts[site as usize]..ends.starts[site as usize + 1] {
+            let pair = pairs.get(ends.places[place] / 2);
+            self.see(smooth_cost, at, change, pair, site, value)?;
+        }
+        Ok(())
+    }
+
+    /// The value that the bounds of a site tell: 0 where they tell both.
+    fn told_value(&self, site: usize) -> bool
+        requires site { (site < length self.now.least.items) × (site < length self.now.greatest.items) }
+        requires told { CanDecide self.now site }
+        ensures { Tells self.now site result }
+    {
+        self.least[site] < 0
+    }
+
+    /// Decides a site that waited, where its bounds tell its value.
+    fn settle<V: Fn(u32, u32) -> i64>(
+        &mut self,
+        pairs: &Pairs,
+        ends: &Groups,
+        smooth_cost: &SmoothCost<V>,
+        at: &[u8],
+        change: Move,
+        site: u32,
+    ) -> Result<(), AllocError>
+        requires smooth { KeepsSmooth (V.pre smooth_cost.now.v) (V.post smooth_cost.now.v)
+            smooth_cost.now.labels smooth_cost.now.by_metric }
+        requires sites { length at.now ≡ pairs.now.sites }
+        requires by_site { AreBySite pairs.now ends.now }
+        requires list { IsPairList pairs.now }
+        requires labels { All (λ label. label < smooth_cost.now.labels) at.now }
+        requires change { IsMoveOf smooth_cost.now.labels change }
+        requires site { site < length at.now }
+        requires sized { IsSized (length at.now) self.old }
+        requires left { left ends.now (length at.now) self.old.choices.items ≤ 2 * length pairs.now.list }
+        requires range { IsWithinRange (room_of (left ends.now (length at.now) self.old.choices.items)) self.old }
+        requires waiting { AreWaitingBut (length at.now) site self.old }
+        ensures sized { OnOk result (IsSized (length at.now) self.new) }
+        ensures waiting { OnOk result (AreWaiting (length at.now) self.new) }
+        ensures left { OnOk result (left ends.now (length at.now) self.new.choices.items ≤
+            2 * length pairs.now.list) }
+        ensures range { OnOk result (IsWithinRange
+            (room_of (left ends.now (length at.now) self.new.choices.items)) self.new) }
+        ensures less { OnOk result (length self.new.waiting.items
+            + left ends.now (length at.now) self.new.choices.items ≤ length self.old.waiting.items
+            + left ends.now (length at.now) self.old.choices.items) }
+        ensures decided { OnOk result ((m : Instance) →
+            Answers (V.post smooth_cost.now.v) m.smooth_cost smooth_cost.now.labels smooth_cost.now.labels →
+            m.pairs ≡ pairs.now.list → m.sites ≡ pairs.now.sites →
+            ArePartlyDecided m change (labelling at.now) self.old →
+            ArePartlyDecided m change (labelling at.now) self.new) }
+    {
+        let place = site as usize;
+        if !self.choices[place].is_open() || !self.can_decide(place) {
+            return Ok(());
+        }
+        let value = self.told_value(place);
+        self.decide(pairs, ends, smooth_cost, at, change, site, value)
+    }
+
+    /// Decides the sites that wait, and those whose values then can be told, until none is left.
+    pub fn settle_all<V: Fn(u32, u32) -> i64>(
+        &mut self,
+        pairs: &Pairs,
+        ends: &Groups,
+        smooth_cost: &SmoothCost<V>,
+        at: &[u8],
+        change: Move,
+    ) -> Result<(), AllocError>
+        requires smooth { KeepsSmooth (V.pre smooth_cost.now.v) (V.post smooth_cost.now.v)
+            smooth_cost.now.labels smooth_cost.now.by_metric }
+        requires sites { length at.now ≡ pairs.now.sites }
+        requires by_site { AreBySite pairs.now ends.now }
+        requires list { IsPairList pairs.now }
+        requires labels { All (λ label. label < smooth_cost.now.labels) at.now }
+        requires change { IsMoveOf smooth_cost.now.labels change }
+        requires sized { IsSized (length at.now) self.old }
+        requires range { IsWithinRange (10000000 + 20000000 * length pairs.now.list) self.old }
+        requires waiting { AreWaiting (length at.now) self.old }
+        ensures sized { OnOk result (IsSized (length at.now) self.new) }
+        ensures none { OnOk result ((u : ℕ) → u < length at.now → choice_at self.new.choices.items u ≡ Open →
+            ¬ CanDecide self.new u) }
+        ensures decided { OnOk result ((m : Instance) →
+            Answers (V.post smooth_cost.now.v) m.smooth_cost smooth_cost.now.labels smooth_cost.now.labels →
+            m.pairs ≡ pairs.now.list → m.sites ≡ pairs.now.sites →
+            ArePartlyDecided m change (labelling at.now) self.old →
+            ArePartlyDecided m change (labelling at.now) self.new) }
+    {
+        'settling: while let Some(site) = self.waiting.pop() {
+            self.settle(pairs, ends, smooth_cost, at, change, site)?;
+        }
+        Ok(())
+    }
+}

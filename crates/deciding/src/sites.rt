@@ -1,0 +1,91 @@
+//! Deciding the sites of a move.
+ghost use Rattle.std.specs.Prelude.{◌≡◌, ◌<◌, ◌≤◌, ℕ, All, length, IfOk, OnOk};
+ghost use Rattle.labellings.specs.Energies.{Instance, labelling};
+ghost use Rattle.labellings.specs.Moves.{IsMoveOf};
+ghost use Rattle.cost_store.specs.Limits.{data_limit};
+ghost use Rattle.cost_store.specs.Promises.{Keeps, KeepsSmooth};
+ghost use Rattle.move_energy.specs.Problems.{IsMeant};
+ghost use Rattle.deciding.specs.Working.{ends_of};
+ghost use Rattle.deciding.specs.Decided.{AreBySite, IsDecidedMove};
+
+use crate::Bounds;
+use cost_store::{DataCost, SmoothCost};
+use grouping::{Groups, group};
+use label_field::Pairs;
+use labellings::Move;
+use move_energy::BuildError;
+use std::alloc::{AllocError, Global};
+
+/// The ends of a list of pairs by their sites, made once a run, and the room in which the sites of a move are decided.
+#[derive(Drop)]
+pub struct Deciding {
+    pub ends: Groups,
+    pub bounds: Bounds,
+}
+
+/// The sites of the pairs, two of each pair.
+fn ends_of_pairs(alloc: Global, pairs: &Pairs) -> Result<Vec<u32>, AllocError>
+    ensures ends { IfOk result (λ ends. ends.items ≡ ends_of pairs.now.list) }
+    ensures sites { IfOk result (λ ends. All (λ site. site < pairs.now.sites) ends.items) }
+{
+    let mut ends = Vec::with_capacity(alloc, 2 * pairs.len())?;
+    for index in 0..pairs.len() {
+        let pair = pairs.get(index);
+        ends.push_reserved(pair.first);
+        ends.push_reserved(pair.second);
+    }
+    Ok(ends)
+}
+
+impl Deciding {
+    /// Room for the moves of a run over these pairs.
+    pub fn new(alloc: Global, pairs: &Pairs) -> Result<Deciding, AllocError>
+        ensures { IfOk result (λ d. AreBySite pairs.now d.ends) }
+    {
+        let list = ends_of_pairs(alloc, pairs)?;
+        let ends = group(alloc, pairs.sites() as usize, list.as_slice())?;
+        Ok(Deciding {
+            ends,
+            bounds: Bounds::new(alloc),
+        })
+    }
+
+    /// Decides the sites of a move, one after another, until none can be told: `bounds.choices` says of each site that it
+    /// keeps its label or what else its variable has at 0 (`Zero`), that it takes the label of the move (`One`), or that a
+    /// cut has to tell (`Open`). Turning a site that was decided the other way would raise the energy, or not lower it, whatever
+    /// the open sites do. Refused: the first pair whose term is not regular.
+    ///
+    /// It looks at each pair once, and once more for each of its ends that is decided (Iyer, Jegelka, Bilmes, ICML 2013).
+    pub fn decide<F: Fn(u32, u32) -> i64, V: Fn(u32, u32) -> i64>(
+        &mut self,
+        pairs: &Pairs,
+        data_cost: &DataCost<F>,
+        smooth_cost: &SmoothCost<V>,
+        at: &[u8],
+        change: Move,
+    ) -> Result<(), BuildError>
+        requires sites { (length at.now ≡ pairs.now.sites) × (data_cost.now.sites ≡ pairs.now.sites) }
+        requires labels { (smooth_cost.now.labels ≡ data_cost.now.labels)
+            × All (λ label. label < data_cost.now.labels) at.now }
+        requires change { IsMoveOf data_cost.now.labels change }
+        requires costs { Keeps (F.pre data_cost.now.f) (F.post data_cost.now.f) data_cost.now.sites
+            data_cost.now.labels data_limit }
+        requires smooth { KeepsSmooth (V.pre smooth_cost.now.v) (V.post smooth_cost.now.v)
+            smooth_cost.now.labels smooth_cost.now.by_metric }
+        requires by_site { AreBySite pairs.now self.old.ends }
+        ensures kept { self.new.ends ≡ self.old.ends }
+        ensures count { OnOk result (length self.new.bounds.choices.items ≡ length at.now) }
+        ensures decided { (m : Instance) →
+            IsMeant (F.post data_cost.now.f) (V.post smooth_cost.now.v) pairs.now data_cost.now.labels m →
+            IsDecidedMove m change at.now self.new.bounds.choices.items result }
+    {
+        let _pairs = pairs.as_slice();
+        let _sites = pairs.sites();
+        self.bounds.count_sites(data_cost, at, change)?;
+        self.bounds.count_pairs(pairs, smooth_cost, at, change)?;
+        self.bounds.find_waiting()?;
+        self.bounds
+            .settle_all(pairs, &self.ends, smooth_cost, at, change)?;
+        Ok(())
+    }
+}
