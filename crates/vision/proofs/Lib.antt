@@ -3,3 +3,5 @@ pub mod Places
 pub mod Images
 pub mod Finishing
 pub mod Refusing
+pub mod Weights
+pub mod Parts

@@ -3,9 +3,10 @@ use Rattle.std.proofs.Common.{ℕ, ◌≤◌, List, Result, Ok, Err, MatchResult
 use Rattle.pgm_image.specs.Picture.{Picture}
 use Rattle.image_options.specs.declared.options.RestoreOptions.{RestoreOptions}
 use Rattle.image_options.specs.declared.options.StereoOptions.{StereoOptions}
-use Rattle.vision.specs.Faults.{HasRunFault, HasRestoreFault, HasStereoFault}
-use Rattle.vision.specs.Inputs.{HoldsPicture, HoldsTwo, SameSizes}
-use Rattle.vision.specs.Jobs.{IsFinished, restore_job, stereo_job}
+use Rattle.image_options.specs.declared.options.SegmentOptions.{SegmentOptions}
+use Rattle.vision.specs.Faults.{HasRunFault, HasRestoreFault, HasStereoFault, HasSegmentFault}
+use Rattle.vision.specs.Inputs.{HoldsPicture, HoldsTwo, SameSizes, AreSeeds}
+use Rattle.vision.specs.Jobs.{IsFinished, restore_job, stereo_job, segment_job}
 use Rattle.vision.specs.declared.error.VisionError.{VisionError}
 use Rattle.vision.specs.declared.error.VisionError.TheVariants.{OutOfMemory, Image, SizesDiffer, BadSeed, TooManyLevels, Move, Write}
 use Rattle.vision.specs.declared.job.Finished.{Finished}
@@ -39,3 +40,18 @@ pub stereo_refused : (o : StereoOptions) (input : List ℕ) (a b : Picture) (r :
     → MatchResult r (IsFinished (stereo_job o a b)) (HasRunFault (stereo_job o a b)) → IfErr r (HasStereoFault o input)
 stereo_refused o input a b (Ok f) held sizes h = tt
 stereo_refused o input a b (Err e) held sizes h = stereo_fault o input a b e held sizes h
+
+segment_fault : (o : SegmentOptions) (input : List ℕ) (p seeds : Picture) (e : VisionError) → HoldsTwo input p seeds → SameSizes p seeds → AreSeeds seeds
+    → HasRunFault (segment_job o p seeds) e → HasSegmentFault o input e
+segment_fault o input p seeds OutOfMemory held sizes marks h = tt
+segment_fault o input p seeds (Image x) held sizes marks h = absurd h
+segment_fault o input p seeds SizesDiffer held sizes marks h = absurd h
+segment_fault o input p seeds (BadSeed i) held sizes marks h = absurd h
+segment_fault o input p seeds TooManyLevels held sizes marks h = absurd h
+segment_fault o input p seeds (Move x) held sizes marks h = (segment_job o p seeds, (p, seeds, held, sizes, marks, refl), h)
+segment_fault o input p seeds (Write w) held sizes marks h = absurd h
+
+pub segment_refused : (o : SegmentOptions) (input : List ℕ) (p seeds : Picture) (r : Result Finished VisionError) → HoldsTwo input p seeds → SameSizes p seeds
+    → AreSeeds seeds → MatchResult r (IsFinished (segment_job o p seeds)) (HasRunFault (segment_job o p seeds)) → IfErr r (HasSegmentFault o input)
+segment_refused o input p seeds (Ok f) held sizes marks h = tt
+segment_refused o input p seeds (Err e) held sizes marks h = segment_fault o input p seeds e held sizes marks h

@@ -8,9 +8,11 @@ mod job;
 mod pairs;
 mod report;
 mod restore;
+mod segment;
 mod stereo;
 
 pub use error::VisionError;
 pub use report::Report;
 pub use restore::run_restore;
+pub use segment::run_segment;
 pub use stereo::run_stereo;

@@ -1,0 +1,29 @@
+use Rattle.std.proofs.Common.{◌∙◌, List, ℤ, pos, slice_index, refl, sym, ap, subst}
+use Rattle.cost_store.specs.Promises.{IsTable}
+use Rattle.label_field.specs.PairLists.{PairList}
+use Rattle.run_options.specs.Shapes.{shape_cost}
+use Rattle.run_options.specs.declared.shape.Shape.TheVariants.{Potts}
+use Rattle.vision.specs.Problems.{segment_problem, part_cost}
+use Rattle.vision.proofs.Parts.{part_keeps, samples_long, samples_small}
+use Rattle.vision.proofs.segment.part.Goals as goal
+
+pub new-data_cost-requires : goal.new-data_cost-requires
+new-data_cost-requires g c =
+    let picture = c.samples-samples.ensures in
+    let seeds = c.samples-marks.ensures in
+    part_keeps c.args.options.now c.samples-samples.result.now c.samples-marks.result.now _ c.requires.options
+    (samples_long c.args.picture.now _ c.width.result c.height.result picture.valid picture.value c.width.ensures c.height.ensures)
+    (samples_long c.args.seeds.now _ c.width.result c.height.result seeds.valid seeds.value (c.width.ensures ∙ c.requires.sizes.0) (c.height.ensures ∙ c.requires.sizes.1))
+    (samples_small c.args.picture.now _ picture.valid picture.value)
+
+pub returns : goal.returns
+returns g c =
+    let o = c.args.options.now in
+    let S : List ℤ → Type 0 = λ t. IsTable 2 2 (shape_cost Potts 1) t in
+    c.run_job.ensures (segment_problem o c.args.picture.now c.args.seeds.now) (rw c.new-data_cost.ensures.stored (record {
+      sites_are = sym (ap (λ (l : PairList). l.sites) c.in_ok-pairs.ensures);
+      labels_are = refl;
+      pairs_are = sym (ap (λ (l : PairList). l.list) c.in_ok-pairs.ensures);
+      data_are = λ a b z la lb is. is ∙ (λ k. pos (part_cost o (slice_index (c.samples-samples.ensures.value k) a) (slice_index (c.samples-marks.ensures.value k) a) b));
+      smooth_are = subst S (sym c.as_slice.ensures.value) c.in_ok-smooth.ensures.table;
+    }))

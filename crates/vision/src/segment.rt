@@ -1,0 +1,152 @@
+//! Parting a picture in two.
+ghost use Rattle.std.specs.Prelude.{◌≡◌, ◌*◌, ◌<◌, ◌≤◌, pos, All, IfOk, IfErr, OnOk, MatchOption, MatchResult, length, slice_index};
+ghost use Rattle.image_options.specs.Ranges.{AreSegmentOptions};
+ghost use Rattle.pgm_image.specs.Raster.{IsFirstAbove};
+ghost use Rattle.vision.specs.Faults.{HasRunFault, HasSegmentFault, IsWrite, Leaves};
+ghost use Rattle.vision.specs.Inputs.{AreSeeds, IsSegmentJob, SameSizes};
+ghost use Rattle.vision.specs.Jobs.{Does, IsFinished, Job, segment_job};
+ghost use Rattle.vision.specs.Problems.{part_cost};
+
+use crate::inputs::read_two;
+use crate::job::{Finished, Plan, put_finished, run_job, smooth_costs};
+use crate::pairs::edge_pairs;
+use crate::{Report, VisionError};
+use byte_streams::Sink;
+use cost_store::DataCost;
+use image_options::SegmentOptions;
+use moves::How;
+use pgm_image::Image;
+use run_options::{Moves, Shape};
+use std::alloc::Global;
+
+/// The greatest seed: a pixel is free (0), or has label 0 (1) or label 1 (2).
+const SEED_LIMIT: u16 = 2;
+
+/// What the other label costs a seed.
+const SEED_COST: u32 = 10_000_000;
+
+/// Parts the picture of the input in two, by the seeds of a second picture, and writes the labels as `P5`.
+///
+/// A label is 0 or 1. It costs a free pixel the distance of its sample to `low` or to `high`, and a seed of label 0 or of
+/// label 1 nothing or 10,000,000: a seed is a cost, not a bar. Two unequal labels cost a pair of neighbours `strong` where
+/// their samples differ by at most `edge`, else `weak`. The picture that is written has the labels where the chain of
+/// best expansions from all 0 ends, as samples, and maxval 1; the report has their energy. Nothing is written before
+/// the last move is finished. Between the images there may be white space, and what follows the second is not looked
+/// at.
+///
+/// Refused, the first that holds: `Image` where no image is at the front of the input, or none behind it, `SizesDiffer` where
+/// they differ in width or height, `BadSeed` with the first seed above 2, `Move` as the run of moves is (no expansion of
+/// these is ever refused for its terms), `Write` where the sink failed, which then took the first bytes of the picture's
+/// written form, as many as are told. `OutOfMemory` may come before the first byte is written. The options are to be in
+/// their ranges, which `fits` tells.
+pub fn run_segment<H: How, S: Sink>(
+    alloc: Global,
+    input: &[u8],
+    options: &SegmentOptions,
+    how: &H,
+    sink: &mut S,
+) -> Result<Report, VisionError>
+    requires options { AreSegmentOptions options.now }
+    requires ready { H.ready how.now }
+    ensures done { IfOk result (λ report. (job : Job) × IsSegmentJob options.now input.now job
+        × Does job (S.held sink.old) (S.held sink.new) report) }
+    ensures sound { OnOk result (S.has_failed sink.new ≡ S.has_failed sink.old) }
+    ensures refused { IfErr result (Leaves (IsSegmentJob options.now input.now)
+        (HasSegmentFault options.now input.now) (S.held sink.old) (S.held sink.new) (S.has_failed sink.new)) }
+    ensures unchanged { IfErr result (λ e. (¬ IsWrite e) → sink.new ≡ sink.old) }
+    ensures kept { S.loan sink.new ≡ S.loan sink.old }
+{
+    let finished = part_input(alloc, input, options, how)?;
+    put_finished(&finished, sink)
+}
+
+/// The picture of the labels of the input.
+fn part_input<H: How>(
+    alloc: Global,
+    input: &[u8],
+    options: &SegmentOptions,
+    how: &H,
+) -> Result<Finished, VisionError>
+    requires options { AreSegmentOptions options.now }
+    requires ready { H.ready how.now }
+    ensures finished { IfOk result (λ f. (job : Job) × IsSegmentJob options.now input.now job
+        × IsFinished job f) }
+    ensures refused { IfErr result (HasSegmentFault options.now input.now) }
+{
+    let (picture, seeds) = read_two(alloc, input)?;
+    if let Some(index) = bad_seed(seeds.samples()) {
+        return Err(VisionError::BadSeed(index));
+    }
+    part(alloc, &picture, &seeds, options, how)
+}
+
+/// The first seed that is none.
+fn bad_seed(seeds: &[u16]) -> Option<usize>
+    ensures { MatchOption result (All (λ seed. seed ≤ 2) seeds.now) (IsFirstAbove 2 seeds.now) }
+{
+    for index in 0..seeds.len() {
+        if seeds[index] > SEED_LIMIT {
+            return Some(index);
+        }
+    }
+    None
+}
+
+/// The picture of the labels of a picture and its seeds.
+fn part<H: How>(
+    alloc: Global,
+    picture: &Image,
+    seeds: &Image,
+    options: &SegmentOptions,
+    how: &H,
+) -> Result<Finished, VisionError>
+    requires options { AreSegmentOptions options.now }
+    requires sizes { SameSizes picture.now seeds.now }
+    requires ready { H.ready how.now }
+    ensures { MatchResult result (IsFinished (segment_job options.now picture.now seeds.now))
+        (HasRunFault (segment_job options.now picture.now seeds.now)) }
+{
+    let smooth = smooth_costs(alloc, Shape::Potts, 1, 2)?;
+    let pairs = edge_pairs(alloc, picture, options)?;
+    let plan = Plan {
+        moves: Moves::Expansion,
+        cycles: options.cycles,
+        maxval: 1,
+    };
+    let samples = picture.samples();
+    let marks = seeds.samples();
+    let data_cost = DataCost::new(
+        |site: u32, label: u32| -> i64
+            requires { (site < length samples.now) × (site < length marks.now) }
+            ensures { result ≡ pos (part_cost options.entry.now (slice_index samples.entry.now site)
+                (slice_index marks.entry.now site) label) }
+        {
+            let sample = u32::from(samples[site as usize]);
+            let seed = u32::from(marks[site as usize]);
+            i64::from(part_cost(options, sample, seed, label))
+        },
+        picture.width() * picture.height(),
+        2,
+    );
+    run_job(
+        alloc,
+        picture,
+        plan,
+        pairs,
+        data_cost,
+        smooth.as_slice(),
+        how,
+    )
+}
+
+/// What a label costs a pixel of this sample and this seed.
+fn part_cost(options: &SegmentOptions, sample: u32, seed: u32, label: u32) -> u32
+    ensures { result ≡ part_cost options.now sample seed label }
+{
+    let first = label == 0;
+    match seed {
+        0 => sample.abs_diff(if first { options.low } else { options.high }),
+        1 => if first { 0 } else { SEED_COST },
+        _ => if first { SEED_COST } else { 0 },
+    }
+}
