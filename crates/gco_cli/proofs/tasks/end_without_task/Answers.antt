@@ -6,3 +6,6 @@ returns-in-Help-clause-refused g c = search rules
 
 pub returns-in-Refused-clause-done : goal.returns-in-Refused-clause-done
 returns-in-Refused-clause-done g c = search rules
+
+pub returns-in-Refused-clause-refused : goal.returns-in-Refused-clause-refused
+returns-in-Refused-clause-refused g c = search rules
