@@ -1,0 +1,203 @@
+//! Pictures and their answers.
+use crate::tasks::{RESTORE, SEGMENT, STEREO, Task, expect};
+use image_options::{Neighbours, RestoreOptions, SegmentOptions, StereoOptions};
+use run_options::{Moves, Shape};
+use std::test::Fail;
+
+const ROW: &[u8] = b"P5\n3 1\n3\n\x00\x03\x00";
+
+const ZEROS: &[u8] = b"P5\n3 1\n3\n\x00\x00\x00";
+
+const SQUARE: &[u8] = b"P5\n2 2\n3\n\x00\x03\x03\x00";
+
+const RAMP: &[u8] = b"P5\n5 1\n4\n\x00\x01\x04\x03\x04";
+
+#[test]
+fn restored(rt: HostRuntime) {
+    let heavy = RestoreOptions {
+        weight: 2,
+        ..RESTORE
+    };
+    let linear = RestoreOptions {
+        smooth: Shape::Linear,
+        trunc: 2,
+        ..RESTORE
+    };
+    let touching = RestoreOptions {
+        neighbours: Neighbours::Eight,
+        ..RESTORE
+    };
+    let swaps = RestoreOptions {
+        moves: Moves::Swap,
+        ..RESTORE
+    };
+    for (options, input, written, parts) in [
+        (RESTORE, ROW, ROW, (0, 2)),
+        (heavy, ROW, ZEROS, (3, 0)),
+        // What follows the image is not looked at.
+        (RESTORE, b"P5\n3 1\n3\n\x00\x03\x00P5 xx", ROW, (0, 2)),
+        (
+            RestoreOptions {
+                cycles: 0,
+                ..RESTORE
+            },
+            ROW,
+            ZEROS,
+            (3, 0),
+        ),
+        (linear, ROW, ZEROS, (3, 0)),
+        (
+            RestoreOptions {
+                smooth: Shape::Quadratic,
+                trunc: 4,
+                ..RESTORE
+            },
+            ROW,
+            ZEROS,
+            (3, 0),
+        ),
+        (swaps, ROW, ROW, (0, 2)),
+        (
+            RESTORE,
+            b"P5\n1 1\n255\n\x07",
+            b"P5\n1 1\n255\n\x07",
+            (0, 0),
+        ),
+        (RESTORE, SQUARE, SQUARE, (0, 4)),
+        (touching, SQUARE, SQUARE, (0, 4)),
+        (
+            RestoreOptions {
+                weight: 2,
+                ..touching
+            },
+            b"P5\n2 2\n3\n\x00\x03\x03\x01",
+            b"P5\n2 2\n3\n\x01\x01\x01\x01",
+            (5, 0),
+        ),
+        (linear, RAMP, b"P5\n5 1\n4\n\x00\x01\x04\x04\x04", (1, 3)),
+        (
+            RestoreOptions {
+                moves: Moves::Swap,
+                ..linear
+            },
+            RAMP,
+            b"P5\n5 1\n4\n\x00\x01\x04\x04\x04",
+            (1, 3),
+        ),
+    ] {
+        expect(
+            &rt,
+            rt.alloc(),
+            &Task::Restore(options),
+            input,
+            written,
+            parts,
+        );
+    }
+}
+
+#[test]
+fn matched_and_parted(rt: HostRuntime) {
+    let shifts = StereoOptions {
+        labels: 2,
+        cap: 9,
+        ..STEREO
+    };
+    let one = StereoOptions {
+        labels: 1,
+        ..STEREO
+    };
+    let near = SegmentOptions {
+        low: 10,
+        high: 16,
+        strong: 3,
+        weak: 0,
+        ..SEGMENT
+    };
+    let touching = SegmentOptions {
+        low: 0,
+        high: 9,
+        strong: 2,
+        weak: 1,
+        edge: 0,
+        neighbours: Neighbours::Eight,
+        cycles: 100,
+    };
+    for (task, input, written, parts) in [
+        (
+            Task::Stereo(shifts),
+            b"P5\n4 1\n9\n\x00\x09\x00\x00P5\n4 1\n9\n\x09\x00\x00\x00".as_slice(),
+            b"P5\n4 1\n1\n\x01\x01\x01\x01".as_slice(),
+            (9, 0),
+        ),
+        (
+            Task::Stereo(StereoOptions {
+                labels: 3,
+                cap: 4,
+                ..STEREO
+            }),
+            b"P5\n3 2\n9\n\x05\x07\x09\x01\x05\x07 \t\r\nP5\n3 2\n255\n\x07\x09\x09\x05\x07\x07",
+            b"P5\n3 2\n2\n\x00\x01\x01\x00\x01\x01",
+            (6, 2),
+        ),
+        // One label: the maxval of its picture is 1.
+        (
+            Task::Stereo(one),
+            b"P5\n2 1\n9\n\x03\x04P5\n2 1\n9\n\x03\x01",
+            b"P5\n2 1\n1\n\x00\x00",
+            (3, 0),
+        ),
+        (
+            Task::Segment(SEGMENT),
+            b"P5\n3 1\n255\n\x0a\x0c\xc8P5\n3 1\n2\n\x01\x00\x02",
+            b"P5\n3 1\n1\n\x00\x00\x01",
+            (1, 5),
+        ),
+        (
+            Task::Segment(SEGMENT),
+            b"P2 3 1 255 10 12 200\nP5 3 1 2\n\x01\x00\x02",
+            b"P5\n3 1\n1\n\x00\x00\x01",
+            (1, 5),
+        ),
+        // Two samples that differ by as much as the edge, and by one more.
+        (
+            Task::Segment(near),
+            b"P5\n2 1\n255\n\x0a\x0fP5\n2 1\n2\n\x00\x00",
+            b"P5\n2 1\n1\n\x00\x01",
+            (1, 3),
+        ),
+        (
+            Task::Segment(near),
+            b"P5\n2 1\n255\n\x0a\x10P5\n2 1\n2\n\x00\x00",
+            b"P5\n2 1\n1\n\x00\x01",
+            (0, 0),
+        ),
+        (
+            Task::Segment(touching),
+            b"P5\n2 2\n9\n\x00\x09\x09\x00P5\n2 2\n2\n\x01\x02\x00\x00",
+            b"P5\n2 2\n1\n\x00\x01\x01\x00",
+            (0, 4),
+        ),
+    ] {
+        expect(&rt, rt.alloc(), &task, input, written, parts);
+    }
+}
+
+// 64 by 64 pixels, 3 in each fourth column, else 0: the picture is its own answer.
+#[test]
+fn stripes(rt: HostRuntime) -> Result<(), Fail> {
+    let mut picture: Vec<u8> = Vec::new(rt.alloc());
+    picture.extend_from_slice(b"P5\n64 64\n3\n")?;
+    for _ in 0..1024 {
+        picture.extend_from_slice(b"\x00\x03\x00\x00")?;
+    }
+    expect(
+        &rt,
+        rt.alloc(),
+        &Task::Restore(RESTORE),
+        &picture,
+        &picture,
+        (0, 2048),
+    );
+    Ok(())
+}

@@ -1,0 +1,98 @@
+//! A command and its options.
+use byte_streams::{Sink, Watched};
+use image_options::{Neighbours, RestoreOptions, SegmentOptions, StereoOptions};
+use moves::Alone;
+use run_options::{Moves, Shape};
+use std::alloc::Global;
+use std::process::Abort;
+use vision::{Report, VisionError, run_restore, run_segment, run_stereo};
+
+/// What a command line with no option of its own asks for.
+pub const RESTORE: RestoreOptions = RestoreOptions {
+    smooth: Shape::Potts,
+    trunc: 1,
+    weight: 1,
+    neighbours: Neighbours::Four,
+    moves: Moves::Expansion,
+    cycles: 100,
+};
+
+pub const STEREO: StereoOptions = StereoOptions {
+    smooth: Shape::Potts,
+    trunc: 1,
+    weight: 1,
+    neighbours: Neighbours::Four,
+    moves: Moves::Expansion,
+    cycles: 100,
+    labels: 16,
+    cap: 20,
+};
+
+pub const SEGMENT: SegmentOptions = SegmentOptions {
+    low: 11,
+    high: 200,
+    strong: 20,
+    weak: 5,
+    edge: 5,
+    neighbours: Neighbours::Four,
+    cycles: 100,
+};
+
+#[derive(Clone, Copy)]
+pub enum Task {
+    Restore(RestoreOptions),
+    Stereo(StereoOptions),
+    Segment(SegmentOptions),
+}
+
+/// The command over this input, whose options are to be in their ranges.
+pub fn run<S: Sink>(
+    rt: &impl Abort,
+    alloc: Global,
+    task: &Task,
+    input: &[u8],
+    sink: &mut S,
+) -> Result<Report, VisionError> {
+    match task {
+        Task::Restore(options) => {
+            assert!(*rt; options.fits());
+            run_restore(alloc, input, options, &Alone, sink)
+        }
+        Task::Stereo(options) => {
+            assert!(*rt; options.fits());
+            run_stereo(alloc, input, options, &Alone, sink)
+        }
+        Task::Segment(options) => {
+            assert!(*rt; options.fits());
+            run_segment(alloc, input, options, &Alone, sink)
+        }
+    }
+}
+
+/// The command gives this picture, and these two parts of the energy.
+pub fn expect(
+    rt: &impl Abort,
+    alloc: Global,
+    task: &Task,
+    input: &[u8],
+    written: &[u8],
+    parts: (i32, i32),
+) {
+    let mut held: Vec<u8> = Vec::new(alloc);
+    let mut sink = Watched {
+        writer: &mut held,
+        has_failed: false,
+    };
+    let report = run(rt, alloc, task, input, &mut sink);
+    assert!(*rt; !sink.has_failed);
+    let Ok(report) = report else {
+        panic!(*rt; "refused");
+    };
+    let wanted = Report {
+        energy: i64::from(parts.0) + i64::from(parts.1),
+        data_part: i64::from(parts.0),
+        smooth_part: i64::from(parts.1),
+    };
+    assert!(*rt; report == wanted);
+    assert!(*rt; held.as_slice() == written);
+}
