@@ -1,4 +1,4 @@
-use Rattle.std.proofs.Common.{◌≡◌, ◌+◌, ◌-◌, ◌∙◌, length, slice_get, Some, ℕ, arith, ap, subst}
+use Rattle.std.proofs.Common.{◌≡◌, ◌+◌, ◌∙◌, length, slice_get, Some, ℕ, arith, ap, subst}
 use Rattle.labellings.specs.declared.change.Move.TheVariants.{Swap}
 use Rattle.labellings.specs.Chains.{swaps}
 use Rattle.labellings.proofs.Swaps.{swaps_before}

@@ -1,6 +1,4 @@
-use Rattle.std.proofs.Common.{◌≡◌, ◌∙◌, ℕ, length, ap, sym, subst}
-use Rattle.moves.specs.declared.cycle.Kind.{Kind}
-use Rattle.moves.specs.Cycles.{moves_of}
+use Rattle.std.proofs.Common.{sym}
 use Rattle.moves.proofs.Places.{expansions-length, swaps-length}
 use Rattle.moves.proofs.cycle.Kind.count.Goals as goal
 

@@ -1,5 +1,4 @@
-use Rattle.std.proofs.Common.{◌≡◌, ◌<◌, ℕ, length, arith}
-use Rattle.moves.specs.Cycles.{moves_of}
+use Rattle.std.proofs.Common.{arith}
 use Rattle.moves.proofs.Places.{expansions-length, expansion_at}
 use Rattle.moves.proofs.cycle.Kind.move_at.Goals as goal
 

@@ -1,12 +1,10 @@
-use Rattle.std.proofs.Common.{◌≡◌, ◌∙◌, ◌+◌, ◌++◌, ◌∷◌, ◌<◌, List, ℕ, length, Some, arith, sym, subst, take, drop, true, false, refl, ap}
+use Rattle.std.proofs.Common.{◌≡◌, ◌∙◌, ◌+◌, List, ℕ, length, Some, arith, sym, subst, take, drop, true, false, ap}
 use Rattle.std.specs.Prelude.{slice_get}
 use Rattle.std.proofs.lemmas.Result.{err_from_is_err_and}
-use Rattle.labellings.specs.declared.change.Move.{Move}
 use Rattle.labellings.specs.Chains.{Leads}
-use Rattle.labellings.specs.Moves.{IsMoveOf}
-use Rattle.moves.specs.Problems.{IsRefusal, IsRunRefusal}
+use Rattle.moves.specs.Problems.{IsRefusal}
 use Rattle.moves.specs.Cycles.{moves_of}
-use Rattle.moves.proofs.Running.{so_far_more, moves_split, stopped_leads, stopped_known, ended_leads, ended_known}
+use Rattle.moves.proofs.Running.{so_far_more, moves_split, stopped_leads, ended_leads, ended_known}
 use Rattle.moves.proofs.problem.Problem.cycle.Goals.{then-branch, else-branch}
 use Rattle.moves.proofs.problem.Problem.cycle.Goals as goal
 
