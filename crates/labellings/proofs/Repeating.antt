@@ -15,9 +15,10 @@ becomes_twice : (move : Move) (old new last : ℕ) → MayBecome move old new �
 becomes_twice (Expand a) old new last (inl stays) (inl still) = inl (still ∙ stays)
 becomes_twice (Expand a) old new last (inr turns) (inl still) = inr (still ∙ turns)
 becomes_twice (Expand a) old new last first (inr turns) = inr turns
-becomes_twice (Swap a b) old new last first second =
-    ((λ one. second.0 (first.0 one)),
-    (λ none. let same = first.1 none in let P : ℕ → Type 0 = λ label. ¬ IsOneOf a b label in second.1 (subst P (sym same) none) ∙ same))
+becomes_twice (Swap a b) old new last first second = (
+  (λ one. second.0 (first.0 one)),
+  (λ none. let same = first.1 none in let P : ℕ → Type 0 = λ label. ¬ IsOneOf a b label in second.1 (subst P (sym same) none) ∙ same),
+)
 
 -- the best labelling of a move is its own best by that move
 pub best_again : (m : Instance) (move : Move) (f g : List ℕ) → IsBest m move f g → IsBest m move g g
