@@ -1,18 +1,16 @@
 -- The highest label by a node's own directions is that by all directions.
-use Rattle.std.proofs.Common.{◌≡◌, ℕ, zero, suc, ◌+◌, ◌-◌, ◌<◌, ◌≤◌, Bool, true, false, cond, min, eqb, ltb, nat_lt, ◌&&◌, ◌||◌, List, [], length, slice_index, Some, None, Option, refl, sym, ◌∙◌, ap, subst, inl, inr, arith}
+use Rattle.std.proofs.Common.{◌≡◌, ℕ, zero, suc, ◌+◌, ◌-◌, ◌<◌, ◌≤◌, Bool, true, false, cond, min, eqb, nat_lt, ◌&&◌, ◌||◌, List, [], length, slice_index, refl, sym, ◌∙◌, ap, subst, inl, inr, arith}
 use Rattle.std.specs.Option.{is_some}
 use Rattle.std.proofs.lemmas.Bool.{cases_eq, cases_lt, cases_Bool, eq-eqb, ne_eqb}
-use Rattle.flow_network.specs.Cut.{nodes}
 use Rattle.flow_network.specs.Progress.{top}
 use Rattle.parcel.specs.declared.direction.Direction.{Direction}
 use Rattle.parcel.specs.Directions.{IsDirection, forward, backward, near, far}
 use Rattle.parcel.specs.States as core
 use Rattle.parcel.specs.Events.{least_below, is_open, allowed, highest_label}
-use Rattle.parcel.proofs.Ends.{far_in}
 use Rattle.parcel.proofs.Inside.{least-le-start, least-le}
-use Rattle.block_net.specs.Views.{BlockView, lane_in, border_in, label_in, room_in, first_lane, first_border, least_span, lane_allows, border_allows, highest}
-use Rattle.block_net.specs.Whole.{Whole, block_at, block_with, home, place, near_home, slot, is_outer, shown_lane, shown_border, StandsAt}
-use Rattle.block_core.specs.Views.{BlocksView, blocks_in, state_of, IsLaid, IsSpot, IsRow}
+use Rattle.block_net.specs.Views.{BlockView, lane_in, label_in, room_in, first_lane, first_border, least_span, lane_allows, border_allows, highest}
+use Rattle.block_net.specs.Whole.{Whole, block_at, block_with, home, place, slot, is_outer, StandsAt}
+use Rattle.block_core.specs.Views.{BlocksView, state_of, IsSpot, IsRow}
 use Rattle.block_core.proofs.Steps.{IsAt, label_read, room_read, top_read, inner_read, border_read, far_spot}
 
 -- ---- the least of a span

@@ -1,9 +1,7 @@
 -- What the code of an event leaves is its effect.
-use Rattle.std.proofs.Common.{cond, ltb, ◌≡◌, ℕ, ◌+◌, ◌<◌, ◌≤◌, min, not, Bool, true, false, List, [], ◌∷◌, ◌++◌, length, slice_index, refl, sym, ◌∙◌, ap, arith}
+use Rattle.std.proofs.Common.{◌≡◌, ℕ, ◌<◌, ◌≤◌, min, not, true, List, [], ◌∷◌, ◌++◌, length, slice_index, refl, sym, ◌∙◌, ap, arith}
 use Rattle.std.proofs.lemmas.List.{length_push}
 use Rattle.std.proofs.lemmas.Bool.{eq-eqb, false≢true}
-use Rattle.flow_network.specs.Cut.{nodes}
-use Rattle.flow_network.specs.Progress.{top}
 use Rattle.parcel.specs.declared.direction.Direction.{Direction}
 use Rattle.parcel.specs.declared.message.Message.{Message}
 use Rattle.parcel.specs.declared.message.Message.TheVariants.{Parcel}
@@ -11,11 +9,10 @@ use Rattle.parcel.specs.declared.event.Event.{Event}
 use Rattle.parcel.specs.declared.event.Event.TheVariants.{PushInner, Send}
 use Rattle.parcel.specs.Directions.{near, far}
 use Rattle.parcel.specs.States as core
-use Rattle.parcel.specs.Events.{Enabled, effect, highest_label}
+use Rattle.parcel.specs.Events.{Enabled, effect}
 use Rattle.parcel.specs.Soundness.{IsSquare}
 use Rattle.parcel.proofs.Ends.{near_block_in, far_block_in}
 use Rattle.parcel.proofs.Fitting.{way_fits}
-use Rattle.parcel.proofs.Inside.{least-le-start}
 use Rattle.parcel.proofs.Kept.{effect_kept}
 use Rattle.parcel.proofs.Ways.{way_same}
 use Rattle.block_core.specs.declared.lane.Lane.{Lane}

@@ -1,12 +1,12 @@
 -- What the code knows of the message in front of a way, and what it leaves.
-use Rattle.std.proofs.Common.{◌≡◌, ℕ, ◌+◌, ◌<◌, ◌≤◌, ◌^◌, List, ◌∷◌, length, slice_index, sym, ◌∙◌, ap, subst, arith}
+use Rattle.std.proofs.Common.{◌≡◌, ℕ, ◌+◌, ◌<◌, ◌≤◌, List, ◌∷◌, length, slice_index, sym, ◌∙◌, ap, subst, arith}
 use Rattle.flow_network.specs.Progress.{top}
 use Rattle.flow_network.specs.Preflow.{arc_at}
 use Rattle.parcel.specs.declared.direction.Direction.{Direction}
 use Rattle.parcel.specs.declared.message.Message.{Message}
 use Rattle.parcel.specs.declared.message.Message.TheVariants.{Parcel, Accepted, Refused}
 use Rattle.parcel.specs.declared.event.Event.TheVariants.{Accept, Refuse, Settle}
-use Rattle.parcel.specs.Directions.{IsDirection, far, opposite}
+use Rattle.parcel.specs.Directions.{far, opposite}
 use Rattle.parcel.specs.States as core
 use Rattle.parcel.specs.Events as events
 use Rattle.parcel.specs.Soundness.{IsOut, amount_out}

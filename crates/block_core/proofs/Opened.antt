@@ -1,12 +1,10 @@
 -- The blocks of a net, as they are made.
-use Rattle.std.proofs.Common.{◌≡◌, ℕ, ◌<◌, ◌≤◌, List, length, replicate, refl, sym, ◌∙◌, ap, subst, arith}
-use Rattle.std.proofs.lemmas.List.{length-map}
+use Rattle.std.proofs.Common.{◌≡◌, ℕ, List, length, ap, subst, arith}
 use Rattle.flow_network.specs.Cut.{Network, nodes, IsNet}
 use Rattle.parcel.specs.States as core
-use Rattle.parcel.specs.Soundness.{opened}
 use Rattle.block_net.specs.Views.{BlockView}
-use Rattle.block_net.specs.Whole.{Whole, shown}
-use Rattle.block_net.specs.Split.{CanSplit, IsSplit, whole_at_opening}
+use Rattle.block_net.specs.Whole.{Whole}
+use Rattle.block_net.specs.Split.{CanSplit, IsSplit}
 use Rattle.block_net.proofs.Tables.{length_table}
 use Rattle.block_core.specs.Views.{BlocksView, blocks_in, whole_in, IsLaid, IsLong, first_of}
 

@@ -1,23 +1,23 @@
 -- What the calls of a block do to what all blocks show.
-use Rattle.std.proofs.Common.{◌≡◌, ℕ, ◌+◌, ◌-◌, ◌<◌, ◌≤◌, Bool, true, false, cond, max, not, eqb, List, length, set, get_or, slice_index, Some, None, Option, refl, sym, ◌∙◌, ap, subst, arith, get_or-set_same}
+use Rattle.std.proofs.Common.{◌≡◌, ℕ, ◌+◌, ◌-◌, ◌<◌, Bool, true, false, cond, max, not, eqb, List, length, set, get_or, slice_index, Some, None, Option, refl, sym, ◌∙◌, ap, subst, arith}
 use Rattle.std.specs.Option.{is_some}
 use Rattle.std.proofs.lemmas.List.{length-set, set-set, get_or_read}
-use Rattle.std.proofs.lemmas.Bool.{eqb-true, cases_Bool, true≢false, false≢true}
+use Rattle.std.proofs.lemmas.Bool.{eqb-true}
 use Rattle.flow_network.specs.Cut.{Network, nodes}
 use Rattle.flow_network.specs.Preflow.{arc_at}
 use Rattle.flow_network.specs.Progress.{top}
 use Rattle.parcel.specs.declared.direction.Direction.{Direction}
 use Rattle.parcel.specs.declared.flight.Flight.{Flight}
-use Rattle.parcel.specs.Directions.{IsDirection, near, far, opposite}
+use Rattle.parcel.specs.Directions.{near, far, opposite}
 use Rattle.parcel.specs.States as core
 use Rattle.parcel.specs.Soundness.{amount_out}
 use Rattle.parcel.proofs.Ends.{near_in, far_in}
-use Rattle.parcel.proofs.Lanes.{near_opposite, far_opposite, border_opposite}
+use Rattle.parcel.proofs.Lanes.{near_opposite, border_opposite}
 use Rattle.block_net.specs.declared.rows.Lane.{Lane}
 use Rattle.block_net.specs.declared.rows.Border.{Border}
 use Rattle.block_net.specs.Views as block
 use Rattle.block_net.specs.Views.{BlockView, no_row, no_border, count, excess_in, label_in, room_in, lane_in, border_in, out_of}
-use Rattle.block_net.specs.Whole.{Whole, no_block, block_at, block_with, home, place, near_home, slot, is_outer, lane_of, border_of, shown_lane, shown_border, shown_of, put_block}
+use Rattle.block_net.specs.Whole.{Whole, no_block, block_at, block_with, home, place, slot, is_outer, lane_of, border_of, shown_lane, shown_border, put_block}
 use Rattle.block_net.proofs.Tables.{table_at}
 use Rattle.block_core.specs.Views.{BlocksView, blocks_in, IsLaid, IsSpot, IsRow, gave, labelled, pushed, sent, accepted, settled, returned}
 use Rattle.block_core.proofs.Writing.{IsLike, spot_put, row_put, numbers_same, numbers_set, numbers, lanes_keep, lane_shown, border_shown, lane_read, inner_shown, outer_shown, same_spot, laid_put, set_other, block_same}

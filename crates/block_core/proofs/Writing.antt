@@ -1,18 +1,17 @@
 -- A write to one block is a write to one place of what all blocks show.
-use Rattle.std.proofs.Common.{◌≡◌, ℕ, ◌+◌, ◌-◌, ◌*◌, ◌/◌, ◌<◌, ◌≤◌, Bool, true, false, cond, List, length, set, get_or, slice_index, refl, sym, ◌∙◌, ap, subst, inl, inr, arith, get_or-set_same, get_or-set_other}
-use Rattle.std.proofs.lemmas.List.{length-set, set-set, same_lists, get_or_read}
+use Rattle.std.proofs.Common.{◌≡◌, ℕ, ◌+◌, ◌-◌, ◌*◌, ◌/◌, ◌<◌, Bool, true, false, cond, List, length, set, get_or, slice_index, refl, sym, ◌∙◌, ap, inl, inr, arith, get_or-set_same, get_or-set_other}
+use Rattle.std.proofs.lemmas.List.{length-set}
 use Rattle.std.proofs.lemmas.Bool.{cases_eq, cases_Bool, false≢true}
-use Rattle.flow_network.specs.Cut.{Network, nodes, IsNet}
-use Rattle.flow_network.specs.Progress.{top}
+use Rattle.flow_network.specs.Cut.{nodes}
 use Rattle.parcel.specs.declared.direction.Direction.{Direction}
-use Rattle.parcel.specs.Directions.{IsDirection, forward, backward, near, far, opposite}
+use Rattle.parcel.specs.Directions.{IsDirection, forward, backward, near, far}
 use Rattle.parcel.specs.States as core
 use Rattle.block_net.specs.declared.rows.Lane.{Lane}
 use Rattle.block_net.specs.declared.rows.Border.{Border}
-use Rattle.block_net.specs.Views.{BlockView, no_row, no_border, count, excess_in, label_in, room_in, lane_in, border_in, first_lane, first_border}
+use Rattle.block_net.specs.Views.{BlockView, no_row, no_border, count, lane_in, border_in}
 use Rattle.block_net.specs.Whole.{Whole, table, no_block, block_at, block_with, home, place, near_home, slot, is_outer, lane_of, border_of, shown_lane, shown_border, shown_of, IsInnerAt, IsBorderAt, StandsAt, IsPlaced, put_block}
 use Rattle.block_net.proofs.Tables.{length_table, table_at, table_is}
-use Rattle.block_core.specs.Views.{BlocksView, blocks_in, IsLaid, IsSpot, IsRow}
+use Rattle.block_core.specs.Views.{blocks_in, IsLaid, IsSpot, IsRow}
 
 -- ---- tables
 
@@ -344,8 +343,8 @@ module _ (w : Whole) (b : ℕ) (block : BlockView) (placed : IsPlaced w) (l : b 
     inner = λ x d e. inner_put x (placed.inner x d (sym (outer_put w b block x) ∙ e));
     borders = λ x d e. outer_at x (placed.borders x d (sym (outer_put w b block x) ∙ e));
     apart = λ x y dx dy same home slot. placed.apart x y dx dy
-    (sym (outer_put w b block x) ∙ (same ∙ outer_put w b block y))
-    (sym (home_put w b block (near w.net x)) ∙ (home ∙ home_put w b block (near w.net y))) slot;
+        (sym (outer_put w b block x) ∙ (same ∙ outer_put w b block y))
+        (sym (home_put w b block (near w.net x)) ∙ (home ∙ home_put w b block (near w.net y))) slot;
     lanes = λ v j lv from below.
         let found = placed.lanes v j lv (omega (arith, from, read_keeps w b block v (λ q. q) (λ (q : BlockView). q.starts) l like.starts)) (omega (arith, below, read_keeps w b block v (λ q. q + 1) (λ (q : BlockView). q.starts) l like.starts)) in
         (found.0, stands_put false v j found.0 found.1);

@@ -35,9 +35,11 @@ impl Model for Blocks {
 
     ghost Value = { BlocksView };
 
-    ghost view = { λ b. blocks_in (whole_in b.net b.parts.firsts.items b.parts.slots.items b.parts.blocks.items) };
+    ghost view = { λ b. blocks_in
+        (whole_in b.net b.parts.firsts.items b.parts.slots.items b.parts.blocks.items) };
 
-    ghost invariant = { λ b. IsLaid (whole_in b.net b.parts.firsts.items b.parts.slots.items b.parts.blocks.items) };
+    ghost invariant = { λ b. IsLaid
+        (whole_in b.net b.parts.firsts.items b.parts.slots.items b.parts.blocks.items) };
 }
 
 /// The direction against a direction.
@@ -87,7 +89,8 @@ fn near_of(net: &Net, direction: Direction) -> usize
 
 /// The block of a node, and the node's place there.
 fn spot(net: &Net, parts: &Parts, v: usize) -> (usize, usize)
-    requires laid { IsLaid (whole_in net.now parts.now.firsts.items parts.now.slots.items parts.now.blocks.items) }
+    requires laid { IsLaid
+        (whole_in net.now parts.now.firsts.items parts.now.slots.items parts.now.blocks.items) }
     requires node { v < nodes net.now }
     ensures { IsSpot (whole_in net.now parts.now.firsts.items parts.now.slots.items parts.now.blocks.items)
         v result.0 result.1 }
@@ -111,7 +114,8 @@ fn index_of(net: &Net, direction: Direction) -> usize
 
 /// The block of the node that a direction leaves, and the direction's slot there.
 fn row(net: &Net, parts: &Parts, direction: Direction) -> (usize, usize)
-    requires laid { IsLaid (whole_in net.now parts.now.firsts.items parts.now.slots.items parts.now.blocks.items) }
+    requires laid { IsLaid
+        (whole_in net.now parts.now.firsts.items parts.now.slots.items parts.now.blocks.items) }
     requires direction { IsDirection net.now direction }
     ensures { (let w = whole_in net.now parts.now.firsts.items parts.now.slots.items parts.now.blocks.items in
         IsRow w direction (is_outer w direction) result.0 result.1) }
@@ -259,8 +263,10 @@ impl Blocks {
         requires direction { IsDirection self.old.net direction }
         requires border { is_border self.old.net self.old.blocks direction ≡ true }
         requires limit { known ≤ top self.old.net }
-        ensures { self.new ≡ record self.old { lanes = put_lane self.old.lanes direction
-            (record (lane_at self.old.lanes direction) { known = known }) } }
+        ensures { self.new ≡ record self.old {
+          lanes = put_lane self.old.lanes direction
+              (record (lane_at self.old.lanes direction) { known = known });
+        } }
     {
         let (block, slot) = row(&self.net, &self.parts, direction);
         self.parts.blocks[block].inform(slot, known);

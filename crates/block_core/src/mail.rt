@@ -23,7 +23,8 @@ impl Model for Mail {
 
     ghost Value = { MailView };
 
-    ghost view = { λ m. mail_view (map (λ row. map (λ way. way.items) row.items) m.rows.items) (map (λ row. map (λ way. deque_capacity way) row.items) m.rows.items) };
+    ghost view = { λ m. mail_view (map (λ row. map (λ way. way.items) row.items) m.rows.items)
+        (map (λ row. map (λ way. deque_capacity way) row.items) m.rows.items) };
 }
 
 /// Empty ways of one block, each with the room that is told.
@@ -56,7 +57,8 @@ impl Mail {
         requires from { from < length self.now.messages }
         requires to { to < length (slice_index_or self.now.messages from []) }
         ensures { MatchOption result (way_at self.now.messages from to ≡ [])
-            (λ message. way_at self.now.messages from to ≡ message ∷ drop 1 (way_at self.now.messages from to)) }
+            (λ message. way_at self.now.messages from to
+            ≡ message ∷ drop 1 (way_at self.now.messages from to)) }
     {
         self.rows[from][to].front().copied()
     }
@@ -65,7 +67,8 @@ impl Mail {
     pub fn take(&mut self, from: usize, to: usize)
         requires from { from < length self.old.messages }
         requires to { to < length (slice_index_or self.old.messages from []) }
-        ensures messages { self.new.messages ≡ put_way self.old.messages from to (drop 1 (way_at self.old.messages from to)) }
+        ensures messages { self.new.messages
+            ≡ put_way self.old.messages from to (drop 1 (way_at self.old.messages from to)) }
         ensures rooms { self.new.rooms ≡ self.old.rooms }
     {
         self.rows[from][to].pop_front();

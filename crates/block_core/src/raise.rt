@@ -59,7 +59,8 @@ impl Blocks {
     fn lower_arc(&mut self, arc: usize) -> bool
         requires { arc < length self.old.net.arcs }
         ensures lowered { IsLowered self.old self.new result }
-        ensures stable { result ≡ false → IsStableAlong self.old (forward arc) × IsStableAlong self.old (backward arc) }
+        ensures stable { result ≡ false
+            → IsStableAlong self.old (forward arc) × IsStableAlong self.old (backward arc) }
     {
         let forward = self.lower_along(Direction { arc, back: false });
         let backward = self.lower_along(Direction { arc, back: true });
@@ -69,7 +70,8 @@ impl Blocks {
     /// Labels come down along the directions; whether any did.
     fn lower_arcs(&mut self) -> bool
         ensures lowered { IsLowered self.old self.new result }
-        ensures stable { result ≡ false → (k : ℕ) → k < length self.old.net.arcs → IsStableAlong self.old (forward k) × IsStableAlong self.old (backward k) }
+        ensures stable { result ≡ false → (k : ℕ) → k < length self.old.net.arcs
+            → IsStableAlong self.old (forward k) × IsStableAlong self.old (backward k) }
     {
         let mut lowered = false;
         'arcs: for arc in 0..self.arcs() {
@@ -136,7 +138,8 @@ impl Blocks {
 
     /// Each label becomes the exact one, and each direction to another block knows that of its far end.
     pub fn raise(&mut self)
-        ensures { (labels : List ℕ) × AreExact (bare self.old) labels × (self.new ≡ told (record self.old { labels = labels })) }
+        ensures { (labels : List ℕ) × AreExact (bare self.old) labels
+            × (self.new ≡ told (record self.old { labels = labels })) }
     {
         self.find_labels();
         self.tell_all();

@@ -259,7 +259,8 @@ impl State {
 
     /// The message in front of a way; none where there is no such way, or no message on it.
     pub fn front(&self, from: usize, to: usize) -> Option<Message>
-        ensures some { IfSome result (λ m. IsWay self.now from to × (way_at self.now.ways from to ≡ m ∷ drop 1 (way_at self.now.ways from to))) }
+        ensures some { IfSome result (λ m. IsWay self.now from to
+            × (way_at self.now.ways from to ≡ m ∷ drop 1 (way_at self.now.ways from to))) }
         ensures none { IfNone result (IsWay self.now from to → way_at self.now.ways from to ≡ []) }
     {
         if self.blocks.count() <= from || self.blocks.count() <= to {
@@ -271,7 +272,8 @@ impl State {
     /// The parcel in front of a way is taken.
     fn take_parcel(&mut self, from: usize, to: usize, direction: Direction, amount: u64, label: u32)
         requires way { IsWay self.old from to }
-        requires front { way_at self.old.ways from to ≡ Parcel direction amount label ∷ drop 1 (way_at self.old.ways from to) }
+        requires front { way_at self.old.ways from to
+            ≡ Parcel direction amount label ∷ drop 1 (way_at self.old.ways from to) }
         requires label { label_of self.old (far self.old.net direction) + 1 ≡ label }
         ensures { self.new ≡ effect self.old (Accept from to) }
     {
@@ -291,7 +293,8 @@ impl State {
         label: u32,
     )
         requires way { IsWay self.old from to }
-        requires front { way_at self.old.ways from to ≡ Parcel direction amount label ∷ drop 1 (way_at self.old.ways from to) }
+        requires front { way_at self.old.ways from to
+            ≡ Parcel direction amount label ∷ drop 1 (way_at self.old.ways from to) }
         requires label { label ≤ label_of self.old (far self.old.net direction) }
         ensures { self.new ≡ effect self.old (Refuse from to) }
     {
@@ -309,7 +312,8 @@ impl State {
     /// The answer in front of a way says that a parcel was taken.
     fn end_flight(&mut self, from: usize, to: usize, direction: Direction, amount: u64)
         requires way { IsWay self.old from to }
-        requires front { way_at self.old.ways from to ≡ Accepted direction amount ∷ drop 1 (way_at self.old.ways from to) }
+        requires front { way_at self.old.ways from to
+            ≡ Accepted direction amount ∷ drop 1 (way_at self.old.ways from to) }
         ensures { self.new ≡ effect self.old (Settle from to) }
     {
         self.blocks.settle(direction);
@@ -327,7 +331,8 @@ impl State {
         told: u32,
     )
         requires way { IsWay self.old from to }
-        requires front { way_at self.old.ways from to ≡ Refused direction amount label told ∷ drop 1 (way_at self.old.ways from to) }
+        requires front { way_at self.old.ways from to
+            ≡ Refused direction amount label told ∷ drop 1 (way_at self.old.ways from to) }
         ensures { self.new ≡ effect self.old (Settle from to) }
     {
         self.blocks.take_back(direction, amount, told);
@@ -432,7 +437,8 @@ impl State {
 
     /// The event happens; no where it is not enabled, and nothing changes.
     pub(crate) fn perform(&mut self, event: Event) -> bool
-        ensures { MatchBool result (Happens self.old event self.new) ((¬ Enabled self.old event) × (self.new ≡ self.old)) }
+        ensures { MatchBool result (Happens self.old event self.new)
+            ((¬ Enabled self.old event) × (self.new ≡ self.old)) }
     {
         match event {
             Event::PushInner { direction } => self.push_inner(direction),

@@ -30,9 +30,27 @@ impl Model for Cells {
 
     ghost Value = { BlockView };
 
-    ghost view = { λ c. record { top = c.top; excess = c.excess.items; labels = c.labels.items; rooms = c.rooms.items; starts = c.starts.items; lanes = c.lanes.items; border_starts = c.border_starts.items; borders = c.borders.items } };
+    ghost view = { λ c. record {
+      top = c.top;
+      excess = c.excess.items;
+      labels = c.labels.items;
+      rooms = c.rooms.items;
+      starts = c.starts.items;
+      lanes = c.lanes.items;
+      border_starts = c.border_starts.items;
+      borders = c.borders.items;
+    } };
 
-    ghost invariant = { λ c. IsBlock (record { top = c.top; excess = c.excess.items; labels = c.labels.items; rooms = c.rooms.items; starts = c.starts.items; lanes = c.lanes.items; border_starts = c.border_starts.items; borders = c.borders.items }) };
+    ghost invariant = { λ c. IsBlock (record {
+      top = c.top;
+      excess = c.excess.items;
+      labels = c.labels.items;
+      rooms = c.rooms.items;
+      starts = c.starts.items;
+      lanes = c.lanes.items;
+      border_starts = c.border_starts.items;
+      borders = c.borders.items;
+    }) };
 }
 
 impl Cells {
@@ -259,7 +277,8 @@ impl Cells {
     /// An amount comes along the opposite of a direction to another block.
     pub fn accept(&mut self, j: usize, amount: u64, label: u32)
         requires place { j < length self.old.borders }
-        requires fits { (border_in self.old j).residual + out_of (border_in self.old j).flight + amount ≤ (border_in self.old j).capacity }
+        requires fits { (border_in self.old j).residual + out_of (border_in self.old j).flight + amount
+            ≤ (border_in self.old j).capacity }
         requires label { label ≤ self.old.top }
         ensures { self.new ≡ accepted self.old j amount label }
     {

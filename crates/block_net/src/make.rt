@@ -137,7 +137,8 @@ pub(crate) fn borders_of(
     requires room { length slots.now ≡ directions net.now }
     requires small { All (λ i. i < directions net.now) indices.now }
     requires near { All (λ i. first ≤ near net.now (direction_in net.now i)) indices.now }
-    ensures { IfOk result (λ borders. borders.items ≡ borders_made net.now blocks slots.now first indices.now) }
+    ensures { IfOk result (λ borders. borders.items
+        ≡ borders_made net.now blocks slots.now first indices.now) }
 {
     let arcs = net.arcs().len();
     let mut borders = Vec::with_capacity(alloc, indices.len())?;

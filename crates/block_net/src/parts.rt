@@ -59,7 +59,8 @@ impl Parts {
     /// Takes time linear in the number of nodes, arcs and blocks. Refuses only where memory runs out.
     pub fn split(alloc: Global, net: &Net, blocks: usize) -> Result<Parts, AllocError>
         requires { CanSplit net.now blocks }
-        ensures { IfOk result (λ parts. IsSplit net.now blocks parts.firsts.items parts.slots.items parts.blocks.items) }
+        ensures { IfOk result (λ parts. IsSplit net.now blocks
+            parts.firsts.items parts.slots.items parts.blocks.items) }
     {
         let rows = grouped(alloc, net, blocks)?;
         let firsts = firsts_of(alloc, net, blocks)?;

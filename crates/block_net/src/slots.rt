@@ -11,7 +11,8 @@ pub(crate) fn write_slots(net: &Net, blocks: usize, rows: &Groups, slots: &mut [
     requires rows { (outer : Bool) × AreRows net.now blocks outer rows.now }
     requires room { length slots.old ≡ directions net.now }
     ensures slots { HasSlots net.now blocks rows.now slots.new }
-    ensures others { (i : ℕ) → IsNoPlace net.now rows.now i → slice_index slots.new i ≡ slice_index slots.old i }
+    ensures others { (i : ℕ) → IsNoPlace net.now rows.now i
+        → slice_index slots.new i ≡ slice_index slots.old i }
 {
     let arcs = net.arcs().len();
     for place in rows.starts[0]..rows.starts[net.nodes()] {

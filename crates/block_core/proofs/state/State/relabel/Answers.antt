@@ -1,4 +1,4 @@
-use Rattle.std.proofs.Common.{◌≡◌, refl, sym, ◌∙◌, ap, subst, arith}
+use Rattle.std.proofs.Common.{◌≡◌, refl, sym, subst, arith}
 use Rattle.parcel.specs.States as core
 use Rattle.parcel.specs.declared.event.Event.TheVariants.{Relabel}
 use Rattle.parcel.specs.Events.{IsActive, Enabled, effect, highest_label}
