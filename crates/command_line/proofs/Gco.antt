@@ -5,17 +5,17 @@ use Rattle.clap.specs.declared.error.Error.{Error}
 use Rattle.clap.specs.declared.error.ErrorKind.{ErrorKind}
 use Rattle.clap.specs.declared.error.ErrorKind.TheVariants as kind
 use Rattle.clap.proofs.OnLiterals.{clap_on_literals}
-use Rattle.command_line.specs.App.{energy_app, gco_app, label_app}
+use Rattle.command_line.specs.App.{energy_app, gco_app, label_app, restore_app, segment_app, stereo_app}
 use Rattle.command_line.specs.Task.{IsHelp, IsNoTaskFor, IsNoTaskOf}
 use Rattle.command_line.specs.declared.task.NoTask.{NoTask}
-use Rattle.command_line.specs.declared.task.NoTask.TheVariants.{OutOfMemory, Help, Refused}
+use Rattle.command_line.specs.declared.task.NoTask.TheVariants.{OutOfMemory, Help, Refused, BadOption}
 
 pub gco_is_simple : is_simple gco_app ≡ true
-unfolding clap_on_literals gco_app energy_app label_app
+unfolding clap_on_literals gco_app energy_app label_app restore_app stereo_app segment_app
 gco_is_simple = refl
 
 pub gco_is_free : is_simple_and_free gco_app ≡ true
-unfolding clap_on_literals gco_app energy_app label_app
+unfolding clap_on_literals gco_app energy_app label_app restore_app stereo_app segment_app
 gco_is_free = refl
 
 no_memory : (k : ErrorKind) → IsHelp k → k ≡ kind.OutOfMemory → ⊥
@@ -31,3 +31,4 @@ refused_by a same words e (Help text) is has =
 refused_by a same words e (Refused text) is has =
     let kinds = subst (λ (b : App). HasKind (fault_of b words) e) same has in
     inl (kind_of e, is.1, elim kinds [ inl memory ↦ absurd (is.0 memory) | inr among ↦ among ])
+refused_by a same words e (BadOption option) is has = absurd is

@@ -3,6 +3,7 @@ use Rattle.std.specs.Prelude.{◌≡◌, false, true, codes}
 use Rattle.clap.specs.Words.{App, app_of, new_app, with_subcommand}
 use Rattle.clap.specs.declared.builder.command.Command.{Command}
 use Rattle.clap.specs.declared.builder.command.Command.TheViews.{out-Command}
+use Rattle.command_line.specs.Rules.{restore_rules, segment_rules, stereo_rules, with_rules}
 
 -- `energy` has no options of its own
 unfoldable pub energy_app : App
@@ -12,6 +13,16 @@ energy_app = new_app (codes "energy")
 unfoldable pub label_app : App
 label_app = new_app (codes "label")
 
+unfoldable pub restore_app : App
+restore_app = with_rules (new_app (codes "restore")) restore_rules
+
+-- `stereo` has the options of `restore`, and two more
+unfoldable pub stereo_app : App
+stereo_app = with_rules (with_rules (new_app (codes "stereo")) restore_rules) stereo_rules
+
+unfoldable pub segment_app : App
+segment_app = with_rules (new_app (codes "segment")) segment_rules
+
 -- the words have to name a subcommand
 abbrev pub requiring_subcommand : App → App
 requiring_subcommand a = record a { top = record a.top { subcommand_required = true } }
@@ -19,7 +30,9 @@ requiring_subcommand a = record a { top = record a.top { subcommand_required = t
 -- the whole command line
 unfoldable pub gco_app : App
 gco_app =
-    with_subcommand (with_subcommand (requiring_subcommand (new_app (codes "gco"))) energy_app.top) label_app.top
+    with_subcommand (with_subcommand (with_subcommand (with_subcommand (with_subcommand
+    (requiring_subcommand (new_app (codes "gco")))
+    restore_app.top) stereo_app.top) segment_app.top) energy_app.top) label_app.top
 
 -- the command reads the words as the app says, and has no global argument
 abbrev pub Makes : App → Command → Type 0

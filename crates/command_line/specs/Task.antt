@@ -4,11 +4,16 @@ use Rattle.clap.specs.Words.{IsAmong, Row, Text, fault_of, kind_of, subcommand_o
 use Rattle.clap.specs.declared.error.Error.{Error}
 use Rattle.clap.specs.declared.error.ErrorKind.{ErrorKind}
 use Rattle.clap.specs.declared.error.ErrorKind.TheVariants as kind
+use Rattle.image_options.specs.Ranges.{AreRestoreOptions, AreSegmentOptions, AreStereoOptions}
 use Rattle.command_line.specs.App.{gco_app}
+use Rattle.command_line.specs.Options.{IsFirstBad, IsOnlyBad, IsRestore, IsSegment, IsStereo}
 use Rattle.command_line.specs.declared.task.NoTask.{NoTask}
-use Rattle.command_line.specs.declared.task.NoTask.TheVariants.{OutOfMemory, Help, Refused}
+use Rattle.command_line.specs.declared.task.NoTask.TheVariants.{OutOfMemory, Help, Refused, BadOption}
+use Rattle.command_line.specs.declared.task.OptionName.{OptionName}
 use Rattle.command_line.specs.declared.task.Task.{Task}
-use Rattle.command_line.specs.declared.task.Task.TheVariants.{Energy, Label}
+use Rattle.command_line.specs.declared.task.Task.TheVariants.{Energy, Label, Restore, Stereo, Segment}
+use Rattle.command_line.specs.declared.values.Unmet.{Unmet}
+use Rattle.command_line.specs.declared.values.Unmet.TheVariants as unmet
 
 -- the words are a command line, by the rules of clap
 abbrev pub IsAccepted : List Text → Type 0
@@ -18,10 +23,32 @@ IsAccepted words = fault_of gco_app words ≡ []
 abbrev pub IsTaskOf : Text → List Row → Task → Type 0
 IsTaskOf name rows Energy = name ≡ codes "energy"
 IsTaskOf name rows Label = name ≡ codes "label"
+IsTaskOf name rows (Restore o) = (name ≡ codes "restore") × IsRestore rows o
+IsTaskOf name rows (Stereo o) = (name ≡ codes "stereo") × IsStereo rows o
+IsTaskOf name rows (Segment o) = (name ≡ codes "segment") × IsSegment rows o
+
+-- this option of a subcommand is the first whose value is no name that it takes
+abbrev pub IsBadOptionOf : Text → List Row → OptionName → Type 0
+IsBadOptionOf name rows option =
+    (((name ≡ codes "restore") ⊎ (name ≡ codes "stereo")) × IsFirstBad rows option)
+    ⊎ ((name ≡ codes "segment") × IsOnlyBad rows option)
 
 -- the words are a command line that names a subcommand, and it has this task
 abbrev pub Asks : List Text → Task → Type 0
 Asks words task = IsAccepted words × IsSomeAnd (subcommand_of gco_app words) (λ p. IsTaskOf p.0 p.1 task)
+
+-- the words are a command line, and this option of its subcommand is the first bad one
+abbrev pub NamesBadOption : List Text → OptionName → Type 0
+NamesBadOption words option =
+    IsAccepted words × IsSomeAnd (subcommand_of gco_app words) (λ p. IsBadOptionOf p.0 p.1 option)
+
+-- the options of the task are in their ranges
+abbrev pub Fits : Task → Type 0
+Fits Energy = ⊤
+Fits Label = ⊤
+Fits (Restore o) = AreRestoreOptions o
+Fits (Stereo o) = AreStereoOptions o
+Fits (Segment o) = AreSegmentOptions o
 
 -- what clap tells is help that was asked for
 abbrev pub IsHelp : ErrorKind → Type 0
@@ -31,19 +58,26 @@ IsHelp k = (k ≡ kind.DisplayHelp) ⊎ (k ≡ kind.DisplayVersion)
 abbrev pub AsksForHelp : List Text → Type 0
 AsksForHelp words = (k : ErrorKind) × IsHelp k × IsAmong k (fault_of gco_app words)
 
--- the words are no command line, and ask for no help; or they are one that has no task
+-- the words are no command line, and ask for no help; or they are one that has no task and no bad option
 abbrev pub AreRefused : List Text → Type 0
 AreRefused words = ((k : ErrorKind) × (¬ IsHelp k) × IsAmong k (fault_of gco_app words))
-    ⊎ (IsAccepted words × ((task : Task) → ¬ Asks words task))
+    ⊎ (IsAccepted words × ((task : Task) → ¬ Asks words task) × ((option : OptionName) → ¬ NamesBadOption words option))
 
 -- why these words give no task: memory may always be refused
 abbrev pub IsNoTaskFor : List Text → NoTask → Type 0
 IsNoTaskFor words OutOfMemory = ⊤
 IsNoTaskFor words (Help text) = AsksForHelp words
 IsNoTaskFor words (Refused text) = AreRefused words
+IsNoTaskFor words (BadOption option) = NamesBadOption words option
 
 -- what becomes of an error of the parse
 abbrev pub IsNoTaskOf : Error → NoTask → Type 0
 IsNoTaskOf e OutOfMemory = ⊤
 IsNoTaskOf e (Help text) = IsHelp (kind_of e)
 IsNoTaskOf e (Refused text) = (kind_of e ≢ kind.OutOfMemory) × (¬ IsHelp (kind_of e))
+IsNoTaskOf e (BadOption option) = ⊥
+
+-- why a subcommand does not give what it is asked for: a bad option, or none such and nothing to give
+abbrev pub HasNo : {X : Type 0} → (X → Type 0) → (OptionName → Type 0) → Unmet → Type 0
+HasNo {X} gives bad (unmet.BadOption option) = bad option
+HasNo {X} gives bad unmet.NoTask = ((x : X) → ¬ gives x) × ((option : OptionName) → ¬ bad option)

@@ -5,7 +5,7 @@ pub const GCO: &str = "Labels pixels by minimum cuts. The answer is proved to be
 
 /// What follows the list of commands.
 pub const GCO_AFTER: &str = "\
-Each command reads standard input to its end and writes its answer to standard output.
+Each command reads standard input and writes its answer to standard output.
 
 Exit status:
   0  the answer, or help that was asked for, was written
@@ -13,9 +13,85 @@ Exit status:
   2  the command line was refused: standard error says why
 
 Example:
-  gco energy < problem.toml
+  gco restore --smooth linear --trunc 40 < noisy.pgm > restored.pgm
 
 `gco COMMAND --help` says what a command reads and writes.";
+
+/// What `gco restore` is.
+pub const RESTORE: &str = "Restores a picture: reads one PGM image, writes one";
+
+/// What `gco restore` reads and writes.
+pub const RESTORE_AFTER: &str = "\
+Reads a PGM image of at most 256 grey levels and writes one of the same size and levels: each pixel gets a
+level near its own, with few and small jumps between neighbours. The energy is the sum of the differences
+between old and new levels, plus the weight times the cost of each two neighbours' levels. It is made
+smaller by moves, each to the best picture that it reaches. Then standard error has the line
+`energy E data D smooth S`.
+
+Exit status: 0 answered, 1 refused (standard error has one line `refused N ..`), 2 not understood.
+
+Example:
+  gco restore --smooth linear --trunc 40 --weight 4 < noisy.pgm > restored.pgm";
+
+/// What `gco stereo` is.
+pub const STEREO: &str =
+    "Matches two pictures: reads the left and the right PGM image, writes how far each pixel moved";
+
+/// What `gco stereo` reads and writes.
+pub const STEREO_AFTER: &str = "\
+Reads two PGM images of one size, the left one first, and writes an image with a label for each pixel of the
+left one: label l says that it stands l columns further left in the right one. A label costs the difference
+of the two samples, or the cap where that is less or no such column is there, plus the weight times the
+cost of each two neighbours' labels. Then standard error has the line `energy E data D smooth S`.
+
+Exit status: 0 answered, 1 refused (standard error has one line `refused N ..`), 2 not understood.
+
+Example:
+  cat left.pgm right.pgm | gco stereo --labels 16 --weight 10 > moved.pgm";
+
+/// What `gco segment` is.
+pub const SEGMENT: &str =
+    "Parts a picture in two: reads a PGM image and one of seeds, writes one of 0 and 1";
+
+/// What `gco segment` reads and writes.
+pub const SEGMENT_AFTER: &str = "\
+Reads two PGM images of one size, the picture and then its seeds (0 free, 1 label 0, 2 label 1), and writes
+an image with the label of each pixel. A free pixel's label costs its difference from the low sample (label
+0) or the high one (label 1), a seed's other label 10000000. Two neighbours of unlike labels cost `strong`,
+or `weak` where an edge runs between them. Then standard error has the line `energy E data D smooth S`.
+
+Exit status: 0 answered, 1 refused (standard error has one line `refused N ..`), 2 not understood.
+
+Example:
+  cat picture.pgm seeds.pgm | gco segment --low 60 --high 170 > parts.pgm";
+
+/// The options.
+pub const SMOOTH: &str =
+    "Cost of two labels: potts (0 or 1), linear (their difference) or quadratic (its square)";
+
+pub const TRUNC: &str = "Where the linear and the quadratic cost are cut off, 1 to 10000";
+
+pub const WEIGHT: &str = "Factor of the cost of two neighbours' labels, 0 to 1000";
+
+pub const NEIGHBOURS: &str = "Neighbours of a pixel: 4 (by an edge) or 8 (by an edge or a corner)";
+
+pub const MOVES: &str = "Moves to make: expansion (of one label) or swap (of two)";
+
+pub const CYCLES: &str = "Most cycles of moves, 0 to 1000; one that changes nothing is the last";
+
+pub const LABELS: &str = "How many labels, 1 to 256";
+
+pub const CAP: &str = "Greatest cost of a label at a pixel, 0 to 10000000";
+
+pub const LOW: &str = "Sample of label 0, 0 to 65535";
+
+pub const HIGH: &str = "Sample of label 1, 0 to 65535";
+
+pub const STRONG: &str = "Cost of unlike labels where no edge runs, 0 to 1000";
+
+pub const WEAK: &str = "Cost of unlike labels across an edge, 0 to 1000";
+
+pub const EDGE: &str = "Greatest difference of samples that is no edge, 0 to 65535";
 
 /// What `gco energy` is.
 pub const ENERGY: &str = "The least value of an energy of yes-no variables, and where it stands";

@@ -3,8 +3,10 @@
 
 mod app;
 mod help;
+mod rules;
 mod task;
+mod values;
 mod words;
 
-pub use task::{NoTask, Task};
+pub use task::{NoTask, OptionName, Task};
 pub use words::parse;

@@ -2,15 +2,33 @@
 ghost use Rattle.std.specs.Prelude.{◌≡◌};
 ghost use Rattle.command_line.specs.declared.task.NoTask.TheVariants.{OutOfMemory};
 
+use image_options::{RestoreOptions, SegmentOptions, StereoOptions};
 use std::alloc::AllocError;
 
 /// What a command line asks for.
-#[derive(Clone, Copy, Debug, PartialEq, Eq, Drop)]
+#[derive(Clone, Copy, Debug, PartialEq, Eq)]
 pub enum Task {
     /// `gco energy`: the minimum of a yes-no energy.
     Energy,
     /// `gco label`: moves to labellings of lower energy.
     Label,
+    /// `gco restore`: a picture with few and small jumps between neighbours.
+    Restore(RestoreOptions),
+    /// `gco stereo`: how far the pixels of a left picture have moved in the right one.
+    Stereo(StereoOptions),
+    /// `gco segment`: a picture in two parts.
+    Segment(SegmentOptions),
+}
+
+/// An option whose value is a name.
+#[derive(Clone, Copy, Debug, PartialEq, Eq)]
+pub enum OptionName {
+    /// `--smooth`
+    Smooth,
+    /// `--neighbours`
+    Neighbours,
+    /// `--moves`
+    Moves,
 }
 
 /// Why there is no task.
@@ -22,6 +40,8 @@ pub enum NoTask {
     Help(String),
     /// The words are no command line of the program, and this says why.
     Refused(String),
+    /// This option's value is no name that it takes: the first such of `smooth`, `neighbours`, `moves`.
+    BadOption(OptionName),
 }
 
 impl From<AllocError> for NoTask {

@@ -1,11 +1,11 @@
 //! From the words to the task.
-ghost use Rattle.std.specs.Prelude.{◌≡◌, Some, None, OnOk, IfOk, IfErr, IfSome, IfNone, IsSomeAnd, MatchOption, map};
+ghost use Rattle.std.specs.Prelude.{◌≡◌, Some, None, OnOk, IfOk, IfErr, IsSomeAnd, MatchOption, map};
 ghost use Rattle.clap.specs.Words.{found_of, rows_of, subcommand_of, subcommand_rows_of};
 ghost use Rattle.command_line.specs.App.{gco_app};
-ghost use Rattle.command_line.specs.declared.task.Task.{Task};
-ghost use Rattle.command_line.specs.Task.{Asks, IsAccepted, IsNoTaskFor, IsNoTaskOf, IsTaskOf};
+ghost use Rattle.command_line.specs.Task.{Asks, Fits, HasNo, IsAccepted, IsBadOptionOf, IsNoTaskFor, IsNoTaskOf, IsTaskOf};
 
 use crate::app::gco_command;
+use crate::values::{Unmet, restore_in, segment_in, stereo_in};
 use crate::{NoTask, Task};
 use clap::ArgMatches;
 use clap::error::ErrorKind;
@@ -15,15 +15,21 @@ use std::string::ToString;
 
 /// The task that the words ask for. The first word is the program's name.
 ///
-/// The words are read by `clap`: a subcommand is required, and each command takes `--help`.
+/// The words are read by `clap`: a subcommand is required, and each command takes `--help`. Each option takes
+/// the next word as its value, and a number out of its range is refused by `clap`; a name that is not listed
+/// is the answer `BadOption`, of the first such option in the order `smooth`, `neighbours`, `moves`.
 pub fn parse<S: AsStr>(alloc: Global, words: &[S]) -> Result<Task, NoTask>
     ensures asked { IfOk result (Asks (map S.text words.now)) }
+    ensures fits { IfOk result Fits }
     ensures refused { IfErr result (IsNoTaskFor (map S.text words.now)) }
 {
     let matches = matches_of(alloc, words)?;
     match entered_task(&matches) {
-        Some(task) => Ok(task),
-        None => Err(NoTask::Refused(String::from_str(alloc, "error: no such command\n")?)),
+        Ok(task) => Ok(task),
+        Err(Unmet::BadOption(option)) => Err(NoTask::BadOption(option)),
+        Err(Unmet::NoTask) => {
+            Err(NoTask::Refused(String::from_str(alloc, "error: no such command\n")?))
+        }
     }
 }
 
@@ -57,14 +63,15 @@ fn no_task(alloc: Global, error: &clap::Error) -> NoTask
 }
 
 // The task of the subcommand that was used.
-fn entered_task(matches: &ArgMatches<'_>) -> Option<Task>
-    ensures task { IfSome result (λ task. IsSomeAnd (subcommand_rows_of matches.now)
-        (λ p. IsTaskOf p.0 p.1 task)) }
-    ensures none { IfNone result ((task : Task) → ¬ IsSomeAnd (subcommand_rows_of matches.now)
-        (λ p. IsTaskOf p.0 p.1 task)) }
+fn entered_task(matches: &ArgMatches<'_>) -> Result<Task, Unmet>
+    ensures task { IfOk result (λ task. IsSomeAnd (subcommand_rows_of matches.now) (λ p. IsTaskOf p.0 p.1 task)) }
+    ensures unmet { IfErr result (HasNo (λ task. IsSomeAnd (subcommand_rows_of matches.now) (λ p. IsTaskOf p.0 p.1 task))
+        (λ option. IsSomeAnd (subcommand_rows_of matches.now) (λ p. IsBadOptionOf p.0 p.1 option))) }
 {
-    let (name, inner) = entered(matches)?;
-    task_of(name, inner)
+    match entered(matches) {
+        Some((name, inner)) => task_of(name, inner),
+        None => Err(Unmet::NoTask),
+    }
 }
 
 // The subcommand that was used, with its name.
@@ -76,13 +83,17 @@ fn entered<'m, 'a>(matches: &'m ArgMatches<'a>) -> Option<(&'a str, &'m ArgMatch
 }
 
 // The task of a subcommand of this name.
-fn task_of(name: &str, matches: &ArgMatches<'_>) -> Option<Task>
-    ensures task { IfSome result (IsTaskOf name.now (rows_of (found_of matches.now))) }
-    ensures none { IfNone result ((task : Task) → ¬ IsTaskOf name.now (rows_of (found_of matches.now)) task) }
+fn task_of(name: &str, matches: &ArgMatches<'_>) -> Result<Task, Unmet>
+    ensures task { IfOk result (IsTaskOf name.now (rows_of (found_of matches.now))) }
+    ensures unmet { IfErr result (HasNo (IsTaskOf name.now (rows_of (found_of matches.now)))
+        (IsBadOptionOf name.now (rows_of (found_of matches.now)))) }
 {
     match name {
-        "energy" => Some(Task::Energy),
-        "label" => Some(Task::Label),
-        _ => None,
+        "energy" => Ok(Task::Energy),
+        "label" => Ok(Task::Label),
+        "restore" => Ok(Task::Restore(restore_in(matches)?)),
+        "stereo" => Ok(Task::Stereo(stereo_in(matches)?)),
+        "segment" => Ok(Task::Segment(segment_in(matches)?)),
+        _ => Err(Unmet::NoTask),
     }
 }

@@ -12,8 +12,14 @@ use Rattle.label_file.specs.declared.fault.LabelFault.{LabelFault}
 use Rattle.label_file.specs.declared.fault.LabelFault.TheVariants as label
 use Rattle.moves.specs.declared.error.MoveError.{MoveError}
 use Rattle.moves.specs.declared.error.MoveError.TheVariants as move
+use Rattle.pgm_image.specs.declared.error.PgmError.{PgmError}
+use Rattle.pgm_image.specs.declared.error.PgmError.TheVariants as image
+use Rattle.vision.specs.declared.error.VisionError.{VisionError}
+use Rattle.vision.specs.declared.error.VisionError.TheVariants as vision
+use Rattle.command_line.specs.declared.task.OptionName.{OptionName}
+use Rattle.command_line.specs.declared.task.OptionName.TheVariants as option
 use Rattle.fault_lines.specs.declared.fault.Fault.{Fault}
-use Rattle.fault_lines.specs.declared.fault.Fault.TheVariants.{OutOfMemory, Write, Read, Problem, Regularity, Label, Move}
+use Rattle.fault_lines.specs.declared.fault.Fault.TheVariants.{OutOfMemory, Write, Read, Problem, Regularity, Label, Move, Vision, BadOption}
 
 -- a yes-no value as a digit
 abbrev pub bit_text : Bool → List ℕ
@@ -74,6 +80,39 @@ move_words move.BadOptions = codes "23"
 move_words (move.PairNotRegular pair alpha beta) =
     codes "24 pair " ++ decimal pair ++ codes " alpha " ++ decimal alpha ++ beta_words beta
 
+-- why there is no image
+abbrev pub image_words : PgmError → List ℕ
+image_words image.OutOfMemory = codes "0"
+image_words image.NotPgm = codes "1"
+image_words (image.BadHeader at) = codes "2 at " ++ decimal at
+image_words image.ZeroSize = codes "3"
+image_words image.TooLarge = codes "4"
+image_words image.BadMaxval = codes "5"
+image_words image.Truncated = codes "6"
+image_words (image.SampleAboveMax index) = codes "7 sample " ++ decimal index
+image_words (image.BadSample at) = codes "8 at " ++ decimal at
+
+-- why an image command was refused
+abbrev pub vision_words : VisionError → List ℕ
+vision_words vision.OutOfMemory = codes "0"
+vision_words (vision.Image error) = image_words error
+vision_words vision.SizesDiffer = codes "25"
+vision_words (vision.BadSeed index) = codes "26 sample " ++ decimal index
+vision_words vision.TooManyLevels = codes "30"
+vision_words (vision.Move error) = move_words error
+vision_words (vision.Write failed) = codes "9 after " ++ decimal failed.count
+
+-- the option whose value is no name that it takes
+abbrev pub option_words : OptionName → List ℕ
+option_words option.Smooth = codes "29 smooth"
+option_words option.Neighbours = codes "29 neighbours"
+option_words option.Moves = codes "29 moves"
+
+-- the fault of a refused image command: a writer's fault is told as that of any command
+abbrev pub of_vision : VisionError → Fault
+of_vision (vision.Write failed) = Write failed
+of_vision error = Vision error
+
 -- what stands between `refused ` and the end of the line
 abbrev pub fault_words : Fault → List ℕ
 fault_words OutOfMemory = codes "0"
@@ -83,6 +122,8 @@ fault_words (Problem fault) = problem_words fault
 fault_words (Regularity failing) = codes "20 term " ++ decimal failing.term ++ fixed_words failing.fixed
 fault_words (Label fault) = label_words fault
 fault_words (Move error) = move_words error
+fault_words (Vision error) = vision_words error
+fault_words (BadOption option) = option_words option
 
 abbrev pub fault_line : Fault → List ℕ
 fault_line fault = codes "refused " ++ fault_words fault ++ codes "\n"

@@ -1,13 +1,16 @@
 //! The faults of the program, over those of the libraries.
 ghost use Rattle.std.specs.Prelude.{◌≡◌};
+ghost use Rattle.fault_lines.specs.FaultLine.{of_vision};
 ghost use Rattle.fault_lines.specs.declared.fault.Fault.TheVariants.{Label, Move, OutOfMemory, Problem, Read, Regularity, Write};
 
 use byte_streams::{ReadError, WriteFailed};
+use command_line::OptionName;
 use label_file::LabelFault;
 use moves::MoveError;
 use problem_file::ProblemFault;
 use regular::NotRegular;
 use std::alloc::AllocError;
+use vision::VisionError;
 
 /// Why a run was refused: what refused it, with that library's own fault.
 #[derive(Clone, Copy, Debug, PartialEq, Eq, Drop)]
@@ -26,6 +29,10 @@ pub enum Fault {
     Label(LabelFault),
     /// A move between labellings was refused.
     Move(MoveError),
+    /// An image command was refused, for another cause than its writer.
+    Vision(VisionError),
+    /// The value of this option is no name that it takes.
+    BadOption(OptionName),
 }
 
 impl From<AllocError> for Fault {
@@ -81,5 +88,16 @@ impl From<MoveError> for Fault {
 
     fn from(error: MoveError) -> Fault {
         Fault::Move(error)
+    }
+}
+
+impl From<VisionError> for Fault {
+    ghost from_gives = { λ error fault. fault ≡ of_vision error };
+
+    fn from(error: VisionError) -> Fault {
+        match error {
+            VisionError::Write(failed) => Fault::Write(failed),
+            error => Fault::Vision(error),
+        }
     }
 }

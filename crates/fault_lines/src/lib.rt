@@ -4,6 +4,7 @@
 mod fault;
 mod labels;
 mod line;
+mod pictures;
 
 pub use fault::Fault;
 pub use line::{LINE_LIMIT, Line, line_of};

@@ -6,6 +6,7 @@ ghost use Rattle.fault_lines.specs.FaultLine.{fault_line, fixed_words, problem_w
 
 use crate::Fault;
 use crate::labels::{push_label, push_move};
+use crate::pictures::{option_words, push_vision};
 use arrayvec::ArrayString;
 use byte_streams::ReadError;
 use itoa::Buffer;
@@ -35,6 +36,8 @@ pub fn line_of(fault: Fault) -> Line
         }
         Fault::Label(label) => push_label(&mut line, label),
         Fault::Move(error) => push_move(&mut line, error),
+        Fault::Vision(error) => push_vision(&mut line, error),
+        Fault::BadOption(option) => line.push_str(option_words(option)),
     }
     line.push_str("\n");
     line

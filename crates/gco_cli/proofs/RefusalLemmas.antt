@@ -3,7 +3,7 @@ use Rattle.std.proofs.Common.{◌≡◌, ◌||◌, ℕ, Bool, false, List, inl, 
 use Rattle.std.specs.Result.{IsErrAnd}
 use Rattle.command_line.specs.Task.{Asks, AsksForHelp, IsNoTaskFor}
 use Rattle.command_line.specs.declared.task.NoTask.{NoTask}
-use Rattle.command_line.specs.declared.task.NoTask.TheVariants.{OutOfMemory, Help, Refused}
+use Rattle.command_line.specs.declared.task.NoTask.TheVariants.{OutOfMemory, Help, Refused, BadOption}
 use Rattle.command_line.specs.declared.task.Task.{Task}
 use Rattle.fault_lines.specs.declared.fault.Fault.{Fault}
 use Rattle.gco_cli.specs.Commands.{IsDueFor, StandsFor}
@@ -30,7 +30,7 @@ pub of_command : (words : List (List ℕ)) (task : Task) (source source_new old 
     → IsRefusalFor words source source_new old new (Faulty fault)
 of_command words task source source_new old new fault asks refuses read = (
   elim refuses [
-    | inl stands ↦ inl (inr (task, asks, stands.0), stands.1, stands.2)
+    | inl stands ↦ inl (inr (inr (task, asks, stands.0)), stands.1, stands.2)
     | inr stops ↦ inr (cut_weaker (IsDueFor task source.bytes) (IsDue words source.bytes) old new fault
         (λ text said due. inr (task, asks, due)) stops)
   ],
@@ -56,6 +56,8 @@ refused words OutOfMemory source old new e is of =
 refused words (Help text) source old new (Faulty fault) is of = of_help words source old new fault is of
 refused words (Help text) source old new (Words said) is of = absurd of
 refused words (Refused text) source old new e is of = rw of.0 (is, refl, of.1)
+refused words (BadOption option) source old new e is of =
+    rw of.0 (inl (inr (inl (option, is, refl)), refl, of.1), refl)
 
 pub all_refused : {T : Type 0} (words : List (List ℕ)) (no_task : NoTask) (source old new : Stream) (r : Result T Refusal)
     → IsNoTaskFor words no_task → IfErr r (IsRefusalOf no_task old new) → IfErr r (IsRefusalFor words source source old new)

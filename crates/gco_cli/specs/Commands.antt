@@ -1,20 +1,29 @@
 -- What each command is: the answer that is due to an input, and the faults that an input has.
 use Rattle.std.specs.Prelude.{◌≡◌, ℕ, List, [], Option, IfSome}
 use Rattle.command_line.specs.declared.task.Task.{Task}
-use Rattle.command_line.specs.declared.task.Task.TheVariants.{Energy, Label}
+use Rattle.command_line.specs.declared.task.Task.TheVariants.{Energy, Label, Restore, Stereo, Segment}
+use Rattle.vision.specs.Faults.{HasRestoreFault, HasSegmentFault, HasStereoFault}
+use Rattle.vision.specs.Inputs.{IsRestoreJob, IsSegmentJob, IsStereoJob}
 use Rattle.fault_lines.specs.declared.fault.Fault.{Fault}
 use Rattle.gco_cli.specs.Energy.{AnswersInput, HasEnergyFault}
 use Rattle.gco_cli.specs.Label.{AnswersLabels, HasLabelFault}
+use Rattle.gco_cli.specs.Pictures.{AnswersPictures, HasPictureFault}
 
 -- the command of a task writes this text for this input, and says this beside it
 abbrev pub IsAnswer : Task → List ℕ → List ℕ → List ℕ → Type 0
 IsAnswer Energy input text said = AnswersInput input text × (said ≡ [])
 IsAnswer Label input text said = AnswersLabels input text × (said ≡ [])
+IsAnswer (Restore o) input text said = AnswersPictures (IsRestoreJob o) input text said
+IsAnswer (Stereo o) input text said = AnswersPictures (IsStereoJob o) input text said
+IsAnswer (Segment o) input text said = AnswersPictures (IsSegmentJob o) input text said
 
 -- the input has this fault for the command of a task
 abbrev pub HasFaultFor : Task → List ℕ → Fault → Type 0
 HasFaultFor Energy input fault = HasEnergyFault input fault
 HasFaultFor Label input fault = HasLabelFault input fault
+HasFaultFor (Restore o) input fault = HasPictureFault (HasRestoreFault o) input fault
+HasFaultFor (Stereo o) input fault = HasPictureFault (HasStereoFault o) input fault
+HasFaultFor (Segment o) input fault = HasPictureFault (HasSegmentFault o) input fault
 
 -- the same, where the input is known
 abbrev pub IsDueFor : Task → Option (List ℕ) → List ℕ → List ℕ → Type 0

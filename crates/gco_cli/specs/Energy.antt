@@ -5,7 +5,7 @@ use Rattle.pseudo_bool.specs.Formula.{Formula}
 use Rattle.regular.specs.Regularity.{IsFirstFailing}
 use Rattle.problem_file.specs.Text.{HasFault, NamesEnergy}
 use Rattle.fault_lines.specs.declared.fault.Fault.{Fault}
-use Rattle.fault_lines.specs.declared.fault.Fault.TheVariants.{OutOfMemory, Write, Read, Problem, Regularity, Label, Move}
+use Rattle.fault_lines.specs.declared.fault.Fault.TheVariants.{OutOfMemory, Write, Read, Problem, Regularity, Label, Move, Vision, BadOption}
 use Rattle.gco_cli.specs.Answer.{AnswersEnergy}
 
 -- the input is not too long, and names this energy
@@ -26,3 +26,5 @@ HasEnergyFault input (Regularity failing) =
     (e : Formula) × HoldsEnergy input e × IsFirstFailing e failing.term failing.fixed
 HasEnergyFault input (Label fault) = ⊥
 HasEnergyFault input (Move error) = ⊥
+HasEnergyFault input (Vision error) = ⊥
+HasEnergyFault input (BadOption option) = ⊥

@@ -9,7 +9,7 @@ use Rattle.table_moves.specs.Instances.{instance_named}
 use Rattle.labelling_runs.specs.Runs.{Answers}
 use Rattle.labelling_runs.specs.declared.Run.{Run}
 use Rattle.fault_lines.specs.declared.fault.Fault.{Fault}
-use Rattle.fault_lines.specs.declared.fault.Fault.TheVariants.{OutOfMemory, Write, Read, Problem as EnergyFile, Regularity, Label, Move}
+use Rattle.fault_lines.specs.declared.fault.Fault.TheVariants.{OutOfMemory, Write, Read, Problem as EnergyFile, Regularity, Label, Move, Vision, BadOption}
 
 -- a blank and the number of each label, in the order of the sites
 abbrev pub numbers_text : List ℕ → List ℕ
@@ -50,6 +50,8 @@ IsRunFault p (EnergyFile fault) = ⊥
 IsRunFault p (Regularity failing) = ⊥
 IsRunFault p (Label fault) = ⊥
 IsRunFault p (Move error) = Answers (instance_named p) p.moves p.cycles p.start.at (Err error)
+IsRunFault p (Vision error) = ⊥
+IsRunFault p (BadOption option) = ⊥
 
 -- the fault that the input has: memory may always be refused, a read may fail, and so may a move of the run
 abbrev pub HasLabelFault : List ℕ → Fault → Type 0
@@ -61,3 +63,5 @@ HasLabelFault input (Regularity failing) = ⊥
 HasLabelFault input (Label fault) = (length input ≤ input_limit) × HasProblemFault input fault
 HasLabelFault input (Move error) =
     (p : Problem) × HoldsProblem input p × IsRunFault p (Move error)
+HasLabelFault input (Vision error) = ⊥
+HasLabelFault input (BadOption option) = ⊥

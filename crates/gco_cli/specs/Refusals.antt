@@ -2,7 +2,7 @@
 use Rattle.std.specs.Prelude.{◌≡◌, ◌||◌, ℕ, List, [], Result, Ok, Err}
 use Rattle.command_line.specs.Task.{AreRefused}
 use Rattle.command_line.specs.declared.task.NoTask.{NoTask}
-use Rattle.command_line.specs.declared.task.NoTask.TheVariants.{OutOfMemory, Help, Refused}
+use Rattle.command_line.specs.declared.task.NoTask.TheVariants.{OutOfMemory, Help, Refused, BadOption}
 use Rattle.fault_lines.specs.FaultLine.{fault_line}
 use Rattle.fault_lines.specs.declared.fault.Fault.TheVariants as fault
 use Rattle.gco_cli.specs.Run.{IsCut, IsDue, Refuses, Stands, Writes, is_failed_read}
@@ -27,6 +27,7 @@ abbrev pub ShowsHelp : NoTask → Stream → Stream → List ℕ → Type 0
 ShowsHelp (Help text) old new said = Writes IsHelp old new said
 ShowsHelp OutOfMemory old new said = ⊥
 ShowsHelp (Refused text) old new said = ⊥
+ShowsHelp (BadOption option) old new said = ⊥
 
 -- the sink failed within help
 abbrev pub IsCutHelp : Stream → Stream → Refusal → Type 0
@@ -38,6 +39,7 @@ abbrev pub IsRefusalOf : NoTask → Stream → Stream → Refusal → Type 0
 IsRefusalOf OutOfMemory old new refusal = (refusal ≡ Fault fault.OutOfMemory) × (new ≡ old)
 IsRefusalOf (Help text) old new refusal = IsCutHelp old new refusal
 IsRefusalOf (Refused text) old new refusal = (refusal ≡ Words text) × (new ≡ old)
+IsRefusalOf (BadOption option) old new refusal = (refusal ≡ Fault (fault.BadOption option)) × (new ≡ old)
 
 -- what is said of a refusal: the line of its fault, or some words
 abbrev pub SaysRefusal : Stream → Stream → Refusal → Type 0

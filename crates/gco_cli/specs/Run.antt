@@ -2,11 +2,12 @@
 use Rattle.std.specs.Prelude.{◌≡◌, ◌⊎◌, ◌≤◌, ◌||◌, ℕ, Bool, true, false, List, [], Option, Result, Ok, Err}
 use Rattle.byte_streams.specs.Input.{is_fault}
 use Rattle.byte_streams.specs.declared.sink.WriteFailed.{WriteFailed}
-use Rattle.command_line.specs.Task.{AreRefused, Asks, AsksForHelp}
+use Rattle.command_line.specs.Task.{AreRefused, Asks, AsksForHelp, NamesBadOption}
+use Rattle.command_line.specs.declared.task.OptionName.{OptionName}
 use Rattle.command_line.specs.declared.task.Task.{Task}
 use Rattle.fault_lines.specs.FaultLine.{fault_line}
 use Rattle.fault_lines.specs.declared.fault.Fault.{Fault}
-use Rattle.fault_lines.specs.declared.fault.Fault.TheVariants.{OutOfMemory, Write, Read}
+use Rattle.fault_lines.specs.declared.fault.Fault.TheVariants.{OutOfMemory, Write, Read, BadOption}
 use Rattle.gco_cli.specs.Commands.{IsDueFor, StandsFor}
 use Rattle.gco_cli.specs.Streams.{Stream, Stops, Takes, Took, stream}
 
@@ -15,9 +16,12 @@ abbrev pub IsDue : List (List ℕ) → Option (List ℕ) → List ℕ → List �
 IsDue words known text said = (AsksForHelp words × (said ≡ []))
     ⊎ ((task : Task) × Asks words task × IsDueFor task known text said)
 
--- the fault is one of a run of these words: memory may always be refused, and a command has its faults
+-- the fault is one of a run of these words: memory may always be refused, the words may name a bad option, and a command has
+-- its faults
 abbrev pub Stands : List (List ℕ) → Option (List ℕ) → Fault → Type 0
-Stands words known fault = (fault ≡ OutOfMemory) ⊎ ((task : Task) × Asks words task × StandsFor task known fault)
+Stands words known fault = (fault ≡ OutOfMemory)
+    ⊎ (((option : OptionName) × NamesBadOption words option × (fault ≡ BadOption option))
+    ⊎ ((task : Task) × Asks words task × StandsFor task known fault))
 
 -- the fault says that a sink failed
 abbrev pub is_write : Fault → Bool

@@ -1,26 +1,29 @@
 //! What the words ask for, done.
-ghost use Rattle.std.specs.Prelude.{◌≡◌, false, IfOk, IfErr};
+ghost use Rattle.std.specs.Prelude.{◌≡◌, IfOk, IfErr};
+ghost use Rattle.command_line.specs.Task.{Fits};
 ghost use Rattle.gco_cli.specs.Commands.{IsDueFor, StandsFor};
 ghost use Rattle.gco_cli.specs.Refusals.{IsCutHelp, IsHelp, IsRefusalOf, ShowsHelp};
-ghost use Rattle.gco_cli.specs.Run.{Refuses, TellsRead, Writes, is_write};
+ghost use Rattle.gco_cli.specs.Run.{Refuses, TellsRead, Writes};
 ghost use Rattle.gco_cli.specs.Streams.{stream};
 
 use crate::energy::answer_energy;
 use crate::label::answer_label;
+use crate::pictures::{restore, segment, stereo};
 use crate::refusal::Refusal;
-use crate::written::{Answer, write_text};
+use crate::written::write_text;
 use byte_streams::{Sink, Source};
 use command_line::{NoTask, Task};
 use fault_lines::{Fault, Line};
 use std::alloc::Global;
 
-/// One command over its input. What it answers is made whole before any of it is written.
+/// One command over its input. Nothing is written before the whole answer is there.
 pub fn run_task<R: Source, W: Sink>(
     alloc: Global,
     task: Task,
     source: &mut R,
     sink: &mut W,
 ) -> Result<Line, Fault>
+    requires { Fits task }
     ensures done { IfOk result (λ said. Writes (IsDueFor task (R.remaining source.old))
         (stream (W.held sink.old) (W.has_failed sink.old))
         (stream (W.held sink.new) (W.has_failed sink.new)) said.bytes) }
@@ -31,20 +34,18 @@ pub fn run_task<R: Source, W: Sink>(
     ensures read { TellsRead (R.has_failed source.old) (R.has_failed source.new) result }
     ensures kept { W.loan sink.new ≡ W.loan sink.old }
 {
-    let answer = answer_task(alloc, task, source)?;
-    write_text(sink, answer.text.as_slice(), answer.said)
-}
-
-// What a command answers to its input.
-fn answer_task<R: Source>(alloc: Global, task: Task, source: &mut R) -> Result<Answer, Fault>
-    ensures due { IfOk result (λ a. IsDueFor task (R.remaining source.old) a.text.items a.said.bytes) }
-    ensures stands { IfErr result (StandsFor task (R.remaining source.old)) }
-    ensures unwritten { IfErr result (λ fault. is_write fault ≡ false) }
-    ensures read { TellsRead (R.has_failed source.old) (R.has_failed source.new) result }
-{
     match task {
-        Task::Energy => answer_energy(alloc, source),
-        Task::Label => answer_label(alloc, source),
+        Task::Energy => {
+            let answer = answer_energy(alloc, source)?;
+            write_text(sink, answer.text.as_slice(), answer.said)
+        }
+        Task::Label => {
+            let answer = answer_label(alloc, source)?;
+            write_text(sink, answer.text.as_slice(), answer.said)
+        }
+        Task::Restore(options) => restore(alloc, options, source, sink),
+        Task::Stereo(options) => stereo(alloc, options, source, sink),
+        Task::Segment(options) => segment(alloc, options, source, sink),
     }
 }
 
@@ -60,6 +61,7 @@ pub fn end_without_task<W: Sink>(no_task: NoTask, sink: &mut W) -> Result<Line, 
         NoTask::OutOfMemory => Err(Refusal::Fault(Fault::OutOfMemory)),
         NoTask::Help(text) => show_help(sink, text.as_str()),
         NoTask::Refused(text) => Err(Refusal::Words(text)),
+        NoTask::BadOption(option) => Err(Refusal::Fault(Fault::BadOption(option))),
     }
 }
 

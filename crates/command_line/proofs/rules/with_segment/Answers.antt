@@ -1,0 +1,15 @@
+use Rattle.std.proofs.Common.{take}
+use Rattle.std.proofs.lemmas.Result.{IfOk-weaker}
+use Rattle.command_line.proofs.Adding.{adds_more}
+use Rattle.command_line.specs.Rules.{Adds, segment_rules}
+use Rattle.command_line.proofs.rules.with_segment.Goals as goal
+
+pub returns : goal.returns
+returns c =
+    let to_1 : Adds c.args.command (take 1 segment_rules) c.in_ok-command.command = c.in_ok-command.ensures in
+    let to_2 : Adds c.args.command (take 2 segment_rules) c.in_ok-command-2.command = adds_more c.args.command c.in_ok-command.command c.in_ok-command-2.command (take 1 segment_rules) _ to_1 c.in_ok-command-2.ensures in
+    let to_3 : Adds c.args.command (take 3 segment_rules) c.in_ok-command-3.command = adds_more c.args.command c.in_ok-command-2.command c.in_ok-command-3.command (take 2 segment_rules) _ to_2 c.in_ok-command-3.ensures in
+    let to_4 : Adds c.args.command (take 4 segment_rules) c.in_ok-command-4.command = adds_more c.args.command c.in_ok-command-3.command c.in_ok-command-4.command (take 3 segment_rules) _ to_3 c.in_ok-command-4.ensures in
+    let to_5 : Adds c.args.command (take 5 segment_rules) c.in_ok-command-5.command = adds_more c.args.command c.in_ok-command-4.command c.in_ok-command-5.command (take 4 segment_rules) _ to_4 c.in_ok-command-5.ensures in
+    let to_6 : Adds c.args.command (take 6 segment_rules) c.in_ok-command-6.command = adds_more c.args.command c.in_ok-command-5.command c.in_ok-command-6.command (take 5 segment_rules) _ to_5 c.in_ok-command-6.ensures in
+    IfOk-weaker c.with_number-5.result _ _ (λ new adds. adds_more c.args.command c.in_ok-command-6.command new (take 6 segment_rules) _ to_6 adds) c.with_number-5.ensures

@@ -1,0 +1,101 @@
+-- What the options of a subcommand say, by its matches.
+use Rattle.std.specs.Prelude.{◌≡◌, ℕ, ◌≤◌, Option, Some, None, option_and_then, IsSomeAnd, List, codes}
+use Rattle.std.specs.Str.Parse.{IsNumeral, digits_value, without_leading_plus}
+use Rattle.clap.specs.Words.{Row, Text, first_of, one_of}
+use Rattle.image_options.specs.Limits.{cap_limit, sample_limit}
+use Rattle.image_options.specs.declared.options.Neighbours.{Neighbours}
+use Rattle.image_options.specs.declared.options.Neighbours.TheVariants.{Four, Eight}
+use Rattle.image_options.specs.declared.options.RestoreOptions.{RestoreOptions}
+use Rattle.image_options.specs.declared.options.StereoOptions.{StereoOptions}
+use Rattle.image_options.specs.declared.options.SegmentOptions.{SegmentOptions}
+use Rattle.label_field.specs.Limits.{label_limit, weight_limit}
+use Rattle.run_options.specs.Limits.{cycle_limit, trunc_limit}
+use Rattle.run_options.specs.Names.{moves_named, shape_named}
+use Rattle.run_options.specs.declared.moves.Moves.{Moves}
+use Rattle.run_options.specs.declared.shape.Shape.{Shape}
+use Rattle.command_line.specs.declared.task.OptionName.{OptionName}
+use Rattle.command_line.specs.declared.task.OptionName.TheVariants as option
+
+-- the text is a number, with or without a plus, and this is it
+abbrev pub Reads : Text → ℕ → Type 0
+Reads text n = IsNumeral 10 (without_leading_plus text) × (n ≡ digits_value 10 (without_leading_plus text))
+
+-- the value of the option of this name is this number
+abbrev pub HasValue : List Row → Text → ℕ → Type 0
+HasValue rows name n = IsSomeAnd (one_of name rows) (λ text. Reads text n)
+
+-- and one from the least to the most
+pub record HasNumber (rows : List Row) (name : Text) (least most n : ℕ) : Type 0 where
+  pub is : HasValue rows name n
+  pub from : least ≤ n
+  pub to : n ≤ most
+
+-- what the name stands for that is the value of `--smooth`, and that of `--moves`
+abbrev pub smooth_of : List Row → Option Shape
+smooth_of rows = option_and_then shape_named (first_of (codes "smooth") rows)
+
+abbrev pub moves_of : List Row → Option Moves
+moves_of rows = option_and_then moves_named (first_of (codes "moves") rows)
+
+-- how many neighbours a pixel has, away from the border
+abbrev pub count_of : Neighbours → ℕ
+count_of Four = 4
+count_of Eight = 8
+
+abbrev pub HasNeighbours : List Row → Neighbours → Type 0
+HasNeighbours rows neighbours = HasNumber rows (codes "neighbours") 4 8 (count_of neighbours)
+
+-- the three options whose value is a name
+pub record AreNames (rows : List Row) (smooth : Shape) (neighbours : Neighbours) (moves : Moves) : Type 0 where
+  pub smooth_is : smooth_of rows ≡ Some smooth
+  pub neighbours_are : HasNeighbours rows neighbours
+  pub moves_are : moves_of rows ≡ Some moves
+
+-- these are the options of `restore`
+pub record IsRestore (rows : List Row) (o : RestoreOptions) : Type 0 where
+  pub names : AreNames rows o.smooth o.neighbours o.moves
+  pub trunc : HasNumber rows (codes "trunc") 1 trunc_limit o.trunc
+  pub weight : HasNumber rows (codes "weight") 0 weight_limit o.weight
+  pub cycles : HasNumber rows (codes "cycles") 0 cycle_limit o.cycles
+
+-- the options that `stereo` shares with `restore`
+abbrev pub shared : StereoOptions → RestoreOptions
+shared o = record {
+  smooth = o.smooth;
+  trunc = o.trunc;
+  weight = o.weight;
+  neighbours = o.neighbours;
+  moves = o.moves;
+  cycles = o.cycles;
+}
+
+pub record IsStereo (rows : List Row) (o : StereoOptions) : Type 0 where
+  pub restore : IsRestore rows (shared o)
+  pub labels : HasNumber rows (codes "labels") 1 label_limit o.labels
+  pub cap : HasNumber rows (codes "cap") 0 cap_limit o.cap
+
+pub record IsSegment (rows : List Row) (o : SegmentOptions) : Type 0 where
+  pub low : HasNumber rows (codes "low") 0 sample_limit o.low
+  pub high : HasNumber rows (codes "high") 0 sample_limit o.high
+  pub strong : HasNumber rows (codes "strong") 0 weight_limit o.strong
+  pub weak : HasNumber rows (codes "weak") 0 weight_limit o.weak
+  pub edge : HasNumber rows (codes "edge") 0 sample_limit o.edge
+  pub neighbours : HasNeighbours rows o.neighbours
+  pub cycles : HasNumber rows (codes "cycles") 0 cycle_limit o.cycles
+
+-- the value of this option is no name that it takes
+abbrev pub IsBad : List Row → OptionName → Type 0
+IsBad rows option.Smooth = smooth_of rows ≡ None
+IsBad rows option.Neighbours = (neighbours : Neighbours) → ¬ HasNeighbours rows neighbours
+IsBad rows option.Moves = moves_of rows ≡ None
+
+-- and none before it in the order `smooth`, `neighbours`, `moves` is such
+abbrev pub IsFirstBad : List Row → OptionName → Type 0
+IsFirstBad rows option.Smooth = IsBad rows option.Smooth
+IsFirstBad rows option.Neighbours = (¬ IsBad rows option.Smooth) × IsBad rows option.Neighbours
+IsFirstBad rows option.Moves =
+    (¬ IsBad rows option.Smooth) × (¬ IsBad rows option.Neighbours) × IsBad rows option.Moves
+
+-- of a command that has the second alone
+abbrev pub IsOnlyBad : List Row → OptionName → Type 0
+IsOnlyBad rows name = (name ≡ option.Neighbours) × IsBad rows option.Neighbours

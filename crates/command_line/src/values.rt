@@ -1,0 +1,195 @@
+//! The options of a subcommand, read from what `clap` matched.
+ghost use Rattle.std.specs.Prelude.{◌≡◌, ℕ, ◌<◌, ◌^◌, option_map, IfOk, IfErr, IfSome, IfNone};
+ghost use Rattle.clap.specs.Words.{first_of, found_of, rows_of};
+ghost use Rattle.image_options.specs.declared.options.Neighbours.{Neighbours};
+ghost use Rattle.command_line.specs.Options.{AreNames, HasNeighbours, HasNumber, HasValue, IsFirstBad, IsOnlyBad, IsRestore, IsSegment, IsStereo, moves_of, smooth_of};
+ghost use Rattle.command_line.specs.Task.{HasNo};
+
+use crate::OptionName;
+use clap::ArgMatches;
+use image_options::{
+    CAP_LIMIT, Neighbours, RestoreOptions, SAMPLE_LIMIT, SegmentOptions, StereoOptions,
+};
+use label_field::{LABEL_LIMIT, WEIGHT_LIMIT};
+use run_options::{CYCLE_LIMIT, Moves, Shape, TRUNC_LIMIT};
+
+/// Why the options of a subcommand are not had.
+#[derive(Clone, Copy)]
+pub(crate) enum Unmet {
+    /// The value of this option is no name that it takes.
+    BadOption(OptionName),
+    /// A number is out of its range, which `clap` has refused before.
+    NoTask,
+}
+
+/// The options whose value is a name.
+#[derive(Clone, Copy)]
+struct Names {
+    smooth: Shape,
+    neighbours: Neighbours,
+    moves: Moves,
+}
+
+/// The options of `restore`.
+pub(crate) fn restore_in(matches: &ArgMatches<'_>) -> Result<RestoreOptions, Unmet>
+    ensures options { IfOk result (IsRestore (rows_of (found_of matches.now))) }
+    ensures unmet { IfErr result (HasNo (IsRestore (rows_of (found_of matches.now))) (IsFirstBad (rows_of (found_of matches.now)))) }
+{
+    let names = match names_in(matches) {
+        Ok(names) => names,
+        Err(option) => return Err(Unmet::BadOption(option)),
+    };
+    let Some(trunc) = number_in(matches, "trunc", 1, TRUNC_LIMIT) else {
+        return Err(Unmet::NoTask);
+    };
+    let Some(weight) = number_in(matches, "weight", 0, WEIGHT_LIMIT) else {
+        return Err(Unmet::NoTask);
+    };
+    let Some(cycles) = number_in(matches, "cycles", 0, CYCLE_LIMIT) else {
+        return Err(Unmet::NoTask);
+    };
+    Ok(RestoreOptions {
+        smooth: names.smooth,
+        trunc,
+        weight,
+        neighbours: names.neighbours,
+        moves: names.moves,
+        cycles,
+    })
+}
+
+/// The options of `stereo`.
+pub(crate) fn stereo_in(matches: &ArgMatches<'_>) -> Result<StereoOptions, Unmet>
+    ensures options { IfOk result (IsStereo (rows_of (found_of matches.now))) }
+    ensures unmet { IfErr result (HasNo (IsStereo (rows_of (found_of matches.now))) (IsFirstBad (rows_of (found_of matches.now)))) }
+{
+    let shared = match restore_in(matches) {
+        Ok(shared) => shared,
+        Err(unmet) => return Err(unmet),
+    };
+    let Some(labels) = number_in(matches, "labels", 1, LABEL_LIMIT) else {
+        return Err(Unmet::NoTask);
+    };
+    let Some(cap) = number_in(matches, "cap", 0, CAP_LIMIT) else {
+        return Err(Unmet::NoTask);
+    };
+    Ok(StereoOptions {
+        smooth: shared.smooth,
+        trunc: shared.trunc,
+        weight: shared.weight,
+        neighbours: shared.neighbours,
+        moves: shared.moves,
+        cycles: shared.cycles,
+        labels,
+        cap,
+    })
+}
+
+/// The options of `segment`.
+pub(crate) fn segment_in(matches: &ArgMatches<'_>) -> Result<SegmentOptions, Unmet>
+    ensures options { IfOk result (IsSegment (rows_of (found_of matches.now))) }
+    ensures unmet { IfErr result (HasNo (IsSegment (rows_of (found_of matches.now))) (IsOnlyBad (rows_of (found_of matches.now)))) }
+{
+    let Some(neighbours) = neighbours_in(matches) else {
+        return Err(Unmet::BadOption(OptionName::Neighbours));
+    };
+    match segment_with(matches, neighbours) {
+        Some(options) => Ok(options),
+        None => Err(Unmet::NoTask),
+    }
+}
+
+// The options of `segment` with these neighbours.
+fn segment_with(matches: &ArgMatches<'_>, neighbours: Neighbours) -> Option<SegmentOptions>
+    requires { HasNeighbours (rows_of (found_of matches.now)) neighbours }
+    ensures options { IfSome result (IsSegment (rows_of (found_of matches.now))) }
+    ensures none { IfNone result ((o : _) → ¬ IsSegment (rows_of (found_of matches.now)) o) }
+{
+    Some(SegmentOptions {
+        low: number_in(matches, "low", 0, SAMPLE_LIMIT)?,
+        high: number_in(matches, "high", 0, SAMPLE_LIMIT)?,
+        strong: number_in(matches, "strong", 0, WEIGHT_LIMIT)?,
+        weak: number_in(matches, "weak", 0, WEIGHT_LIMIT)?,
+        edge: number_in(matches, "edge", 0, SAMPLE_LIMIT)?,
+        neighbours,
+        cycles: number_in(matches, "cycles", 0, CYCLE_LIMIT)?,
+    })
+}
+
+// The options whose value is a name, or the first that has another value.
+fn names_in(matches: &ArgMatches<'_>) -> Result<Names, OptionName>
+    ensures names { IfOk result (λ names. AreNames (rows_of (found_of matches.now)) names.smooth names.neighbours names.moves) }
+    ensures bad { IfErr result (IsFirstBad (rows_of (found_of matches.now))) }
+{
+    let Some(smooth) = smooth_in(matches) else {
+        return Err(OptionName::Smooth);
+    };
+    let Some(neighbours) = neighbours_in(matches) else {
+        return Err(OptionName::Neighbours);
+    };
+    match moves_in(matches) {
+        Some(moves) => Ok(Names {
+            smooth,
+            neighbours,
+            moves,
+        }),
+        None => Err(OptionName::Moves),
+    }
+}
+
+fn smooth_in(matches: &ArgMatches<'_>) -> Option<Shape>
+    ensures { result ≡ smooth_of (rows_of (found_of matches.now)) }
+{
+    match text_in(matches, "smooth") {
+        Some(name) => Shape::named(name),
+        None => None,
+    }
+}
+
+fn moves_in(matches: &ArgMatches<'_>) -> Option<Moves>
+    ensures { result ≡ moves_of (rows_of (found_of matches.now)) }
+{
+    match text_in(matches, "moves") {
+        Some(name) => Moves::named(name),
+        None => None,
+    }
+}
+
+fn neighbours_in(matches: &ArgMatches<'_>) -> Option<Neighbours>
+    ensures neighbours { IfSome result (HasNeighbours (rows_of (found_of matches.now))) }
+    ensures none { IfNone result ((neighbours : Neighbours) → ¬ HasNeighbours (rows_of (found_of matches.now)) neighbours) }
+{
+    match number_in(matches, "neighbours", 4, 8) {
+        Some(4) => Some(Neighbours::Four),
+        Some(8) => Some(Neighbours::Eight),
+        _ => None,
+    }
+}
+
+// The value of an option, as text.
+fn text_in<'a>(matches: &ArgMatches<'a>, name: &str) -> Option<&'a str>
+    ensures { option_map (λ s. s.now) result ≡ first_of name.now (rows_of (found_of matches.now)) }
+{
+    matches.get_str(name)
+}
+
+// The value of an option, if it is a number from the least to the most.
+fn number_in(matches: &ArgMatches<'_>, name: &str, least: u32, most: u32) -> Option<u32>
+    ensures number { IfSome result (HasNumber (rows_of (found_of matches.now)) name.now least most) }
+    ensures none { IfNone result ((n : ℕ) → ¬ HasNumber (rows_of (found_of matches.now)) name.now least most n) }
+{
+    let number = value_in(matches, name)?;
+    if least <= number && number <= most {
+        Some(number)
+    } else {
+        None
+    }
+}
+
+// The value of an option, if it is a number.
+fn value_in(matches: &ArgMatches<'_>, name: &str) -> Option<u32>
+    ensures number { IfSome result (HasValue (rows_of (found_of matches.now)) name.now) }
+    ensures none { IfNone result ((n : ℕ) → n < 2 ^ 32 → ¬ HasValue (rows_of (found_of matches.now)) name.now n) }
+{
+    matches.get_one(name)
+}
