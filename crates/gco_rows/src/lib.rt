@@ -9,6 +9,8 @@ mod faults;
 #[cfg(test)]
 mod picture;
 #[cfg(test)]
+mod pictures;
+#[cfg(test)]
 mod refusals;
 #[cfg(test)]
 mod streams;

@@ -8,7 +8,7 @@ use std::io::{Error, ErrorKind, Read, Write};
 use std::process::Abort;
 
 /// The most bytes that a writer holds.
-pub const ROOM: usize = 1024;
+pub const ROOM: usize = 4096;
 
 /// A writer that takes `room` bytes, at most `step` a call, and then fails.
 #[derive(Drop)]
