@@ -42,12 +42,13 @@ pub wrote : (IsJob : List ℕ → Job → Type 0) (bytes said : List ℕ) (known
 wrote IsJob bytes said known old new report is (job, of, does) sound line =
     let tells = does.tells in
     let says : said ≡ energy_line (energy job.problem (labelling does.labels)) (data_energy job.problem (labelling does.labels))
-        (smooth_energy job.problem (labelling does.labels)) =
-    line ∙ rw (tells.energy_is, tells.data_is, tells.smooth_is) refl in
-    (written (picture_of job does.labels),
-    due IsJob bytes (written (picture_of job does.labels)) said known job is of
-    (record { labels = does.labels; ends = does.ends; is = refl; says = says }),
-    (does.took, sound))
+    (smooth_energy job.problem (labelling does.labels)) =
+    line ∙ rw (tells.energy_is, tells.data_is, tells.smooth_is) refl in (
+      written (picture_of job does.labels),
+      due IsJob bytes (written (picture_of job does.labels)) said known job is of
+          (record { labels = does.labels; ends = does.ends; is = refl; says = says }),
+      (does.took, sound),
+    )
 
 -- the sink failed within it
 stopped : (IsJob : List ℕ → Job → Type 0) (bytes : List ℕ) (known : Option (List ℕ)) (old new : Stream) (count : ℕ) (job : Job)
@@ -56,13 +57,20 @@ stopped : (IsJob : List ℕ → Job → Type 0) (bytes : List ℕ) (known : Opti
 stopped IsJob bytes known old new count job is of stops failed =
     let text = written (picture_of job stops.labels) in
     let said = energy_line (energy job.problem (labelling stops.labels)) (data_energy job.problem (labelling stops.labels))
-        (smooth_energy job.problem (labelling stops.labels)) in
-    (text, said,
-    due IsJob bytes text said known job is of (record { labels = stops.labels; ends = stops.ends; is = refl; says = refl }),
-    (record { count = count }, refl,
-    (omega (arith, stops.took.short),
-    (let same : count - 0 ≡ count = omega arith in subst (λ (n : ℕ). Appends old.bytes new.bytes (take n text)) same stops.took.taken),
-    failed)))
+    (smooth_energy job.problem (labelling stops.labels)) in (
+      text,
+      said,
+      due IsJob bytes text said known job is of (record { labels = stops.labels; ends = stops.ends; is = refl; says = refl }),
+      (
+        record { count = count },
+        refl,
+        (
+          omega (arith, stops.took.short),
+          (let same : count - 0 ≡ count = omega arith in subst (λ (n : ℕ). Appends old.bytes new.bytes (take n text)) same stops.took.taken),
+          failed,
+        ),
+      ),
+    )
 
 stands : (Has : List ℕ → VisionError → Type 0) (bytes : List ℕ) (known : Option (List ℕ)) (e : VisionError)
     → IsInput bytes known → Has bytes e → Fault_of Has known (Vision e)

@@ -24,7 +24,9 @@ fn pictures(rt: HostRuntime) {
         ),
         // Label 0 costs 9 9 0 0, label 1 costs 9 0 0 0.
         (
-            &["gco", "stereo", "--labels", "2", "--cap", "9", "--weight", "1"],
+            &[
+                "gco", "stereo", "--labels", "2", "--cap", "9", "--weight", "1",
+            ],
             b"P5\n4 1\n9\n\x00\x09\x00\x00P5\n4 1\n9\n\x09\x00\x00\x00".as_slice(),
             0,
             b"P5\n4 1\n1\n\x01\x01\x01\x01".as_slice(),
@@ -95,11 +97,21 @@ fn pictures(rt: HostRuntime) {
 #[test]
 fn a_picture_that_is_cut(rt: HostRuntime) {
     let input = b"P5\n3 1\n3\n\x00\x03\x00".as_slice();
-    for (room, said) in [(0, "refused 9 after 0\n"), (4, "refused 9 after 4\n"), (11, "refused 9 after 11\n")] {
+    for (room, said) in [
+        (0, "refused 9 after 0\n"),
+        (4, "refused 9 after 4\n"),
+        (11, "refused 9 after 11\n"),
+    ] {
         let mut reader = input;
         let mut writer = CutWriter::new(room, 3);
         let mut faults = CutWriter::ample();
-        let ended = run(&rt, &["gco", "restore"], &mut reader, &mut writer, &mut faults);
+        let ended = run(
+            &rt,
+            &["gco", "restore"],
+            &mut reader,
+            &mut writer,
+            &mut faults,
+        );
         assert_eq!(rt; ended, 1);
         assert!(rt; writer.held.as_slice() == &input[..room]);
         assert!(rt; faults.held.as_slice() == said.as_bytes(), "{said}");

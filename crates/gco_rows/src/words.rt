@@ -46,10 +46,26 @@ fn words(rt: HostRuntime) {
         (&["gco", "restore", "--help"], 0, RESTORE_HELP),
         (&["gco", "stereo", "-h"], 0, STEREO_HELP),
         (&["gco", "help", "segment"], 0, SEGMENT_HELP),
-        (&["gco", "segment", "--low", "1"], 2, "error: the following required arguments were not provided:\n  --high <N>"),
-        (&["gco", "segment", "--bound"], 2, "error: unexpected argument '--bound'"),
-        (&["gco", "restore", "--trunc", "0"], 2, "error: invalid value '0'"),
-        (&["gco", "restore", "--smooth", "cubic", "--cycles", "1001"], 2, "error: invalid value '1001'"),
+        (
+            &["gco", "segment", "--low", "1"],
+            2,
+            "error: the following required arguments were not provided:\n  --high <N>",
+        ),
+        (
+            &["gco", "segment", "--bound"],
+            2,
+            "error: unexpected argument '--bound'",
+        ),
+        (
+            &["gco", "restore", "--trunc", "0"],
+            2,
+            "error: invalid value '0'",
+        ),
+        (
+            &["gco", "restore", "--smooth", "cubic", "--cycles", "1001"],
+            2,
+            "error: invalid value '1001'",
+        ),
     ] {
         let mut reader = b"variables = 1".as_slice();
         let mut writer = CutWriter::ample();
