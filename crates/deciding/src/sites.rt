@@ -38,6 +38,17 @@ fn ends_of_pairs(alloc: Global, pairs: &Pairs) -> Result<Vec<u32>, AllocError>
 }
 
 impl Deciding {
+    /// Of no pairs. It takes no memory.
+    pub fn empty(alloc: Global) -> Deciding {
+        Deciding {
+            ends: Groups {
+                starts: Vec::new(alloc),
+                places: Vec::new(alloc),
+            },
+            bounds: Bounds::new(alloc),
+        }
+    }
+
     /// Room for the moves of a run over these pairs.
     pub fn new(alloc: Global, pairs: &Pairs) -> Result<Deciding, AllocError>
         ensures { IfOk result (λ d. AreBySite pairs.now d.ends) }

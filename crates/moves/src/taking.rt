@@ -1,11 +1,12 @@
 //! The labels that the least assignment of a move makes.
 ghost use Rattle.std.specs.Prelude.{◌≡◌, ◌≢◌, ◌≤◌, ◌<◌, ◌↔◌, ℕ, length, map, ◌==◌, IfOk, IfErr, IsTrue, IsFalse, false, slice_index, slice_index_or, slice_set, ◌<ℤ◌};
 ghost use Rattle.labellings.specs.Energies.{Instance, IsInstance, labelling};
-ghost use Rattle.labellings.specs.Moves.{IsBest, IsMoveOf, label_in};
+ghost use Rattle.labellings.specs.Moves.{IsAllowed, IsBest, IsMoveOf, label_in};
 ghost use Rattle.compile_cut.specs.Shown.{IsSmallestLeastAssignment};
 ghost use Rattle.pseudo_bool.specs.Formula.{Formula, assignment, value_at};
 ghost use Rattle.move_energy.specs.Choices.{bit_of, choice_at, AreAllOpen, IsNumbering};
 ghost use Rattle.move_energy.specs.Problems.{Stands};
+ghost use Rattle.moves.specs.Building.{AreOpenFor, AreDecidedFor};
 
 use crate::MoveError;
 use label_field::Labelling;
@@ -31,7 +32,7 @@ pub fn take_best(
     least: &Least,
 ) -> Result<bool, MoveError>
     requires below { IsMoveOf field.old.labels change }
-    requires opened { AreAllOpen change field.old.at made.now.variables.choices.items }
+    requires opened { AreOpenFor change field.old.at made.now.variables.choices.items }
     requires numbering { IsNumbering made.now.variables.choices.items made.now.variables.of_sites.items
         made.now.variables.sites.items }
     requires lengths { (length made.now.variables.sites.items ≡ made.now.energy.variables)
@@ -40,7 +41,8 @@ pub fn take_best(
     ensures sizes { (field.new.labels ≡ field.old.labels) × (length field.new.at ≡ length field.old.at) }
     ensures refused { IfErr result (λ e. (e ≡ MoveError.OutOfMemory) × (field.new ≡ field.old)) }
     ensures best { IfOk result (λ changed. (m : Instance) → IsInstance m → length field.old.at ≡ m.sites →
-        Stands m change field.old.at made.now →
+        IsAllowed m change (labelling field.old.at) → Stands m change field.old.at made.now →
+        AreDecidedFor m change field.old.at made.now.variables.choices.items →
         IsSmallestLeastAssignment made.now.energy (assignment least.now.bits.items) →
         (IsBest m change field.old.at field.new.at × ((IsTrue changed → field.new.at ≢ field.old.at)
         × (IsFalse changed → field.new.at ≡ field.old.at)))) }

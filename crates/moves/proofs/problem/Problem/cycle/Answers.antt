@@ -30,6 +30,7 @@ returns-in_err-make_move-clause-cycled g c = λ m meant.
 
 pub loop-place-preserved : goal.loop-place-preserved
 loop-place-preserved g c = record {
+  by_site = c.in_ok-make_move.ensures.by_site;
   labels = c.in_ok-make_move.ensures.sizes.0 ∙ c.loop-place.invariant.labels;
   sites = c.in_ok-make_move.ensures.sizes.1 ∙ c.loop-place.invariant.sites;
   so_far = λ m meant.

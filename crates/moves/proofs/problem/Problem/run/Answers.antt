@@ -33,6 +33,7 @@ returns-then-not-branch-clause-run g c = λ m meant.
 
 pub loop-done-preserved : goal.loop-done-preserved
 loop-done-preserved g c = record {
+  by_site = c.in_ok-cycle.ensures.by_site;
   labels = c.in_ok-cycle.ensures.sizes.0 ∙ c.loop-done.invariant.labels;
   sites = c.in_ok-cycle.ensures.sizes.1 ∙ c.loop-done.invariant.sites;
   so_far = λ m meant.

@@ -1,0 +1,144 @@
+//! The energy of a move, of which sites are decided before it is built.
+ghost use Rattle.std.specs.Prelude.{◌≡◌, ◌<◌, ℕ, All, length, false, OnOk};
+ghost use Rattle.labellings.specs.Energies.{Instance};
+ghost use Rattle.labellings.specs.Moves.{IsMoveOf};
+ghost use Rattle.regular.specs.Regularity.{IsRegular};
+ghost use Rattle.cost_store.specs.Limits.{data_limit};
+ghost use Rattle.cost_store.specs.Promises.{Keeps, KeepsSmooth};
+ghost use Rattle.move_energy.specs.Choices.{IsNumbering};
+ghost use Rattle.move_energy.specs.Problems.{IsMeant};
+ghost use Rattle.deciding.specs.Decided.{AreBySite};
+ghost use Rattle.moves.specs.Building.{IsGroupedFor, AreOpenFor, IsBuiltMove, IsBuiltDecided};
+
+use crate::Problem;
+use deciding::Deciding;
+use label_field::Pairs;
+use labellings::Move;
+use move_energy::{BuildError, MoveEnergy};
+use std::alloc::{AllocError, Global};
+use std::mem::swap;
+
+/// The room of a run: what decides the sites of its expansions, once the pairs were grouped by their sites, and the energy
+/// of its moves.
+#[derive(Drop)]
+pub struct Room {
+    pub grouped: bool,
+    pub deciding: Deciding,
+    pub built: MoveEnergy,
+}
+
+impl Room {
+    /// Room of which nothing is taken yet. It takes no memory.
+    pub fn new(alloc: Global) -> Room
+        ensures { result.grouped ≡ false }
+    {
+        Room {
+            grouped: false,
+            deciding: Deciding::empty(alloc),
+            built: MoveEnergy::new(alloc),
+        }
+    }
+
+    /// Groups the pairs by their sites, where that was not done before.
+    fn group(&mut self, alloc: Global, pairs: &Pairs) -> Result<(), AllocError>
+        requires by_site { IsGroupedFor pairs.now self.old }
+        ensures grouped { OnOk result (AreBySite pairs.now self.new.deciding.ends) }
+        ensures by_site { IsGroupedFor pairs.now self.new }
+    {
+        if !self.grouped {
+            self.deciding = Deciding::new(alloc, pairs)?;
+            self.grouped = true;
+        }
+        Ok(())
+    }
+}
+
+impl<F: Fn(u32, u32) -> i64, V: Fn(u32, u32) -> i64> Problem<F, V> {
+    /// The energy of a move whose sites were decided first.
+    fn build_decided(
+        &self,
+        alloc: Global,
+        room: &mut Room,
+        at: &[u8],
+        change: Move,
+    ) -> Result<(), BuildError>
+        requires sites { (length at.now ≡ self.now.pairs.sites)
+            × (self.now.data_cost.sites ≡ self.now.pairs.sites) }
+        requires labels { (self.now.smooth_cost.labels ≡ self.now.data_cost.labels)
+            × All (λ label. label < self.now.data_cost.labels) at.now }
+        requires change { IsMoveOf self.now.data_cost.labels change }
+        requires costs { Keeps (F.pre self.now.data_cost.f) (F.post self.now.data_cost.f)
+            self.now.data_cost.sites self.now.data_cost.labels data_limit }
+        requires smooth { KeepsSmooth (V.pre self.now.smooth_cost.v) (V.post self.now.smooth_cost.v)
+            self.now.smooth_cost.labels self.now.smooth_cost.by_metric }
+        requires by_site { IsGroupedFor self.now.pairs room.old }
+        ensures by_site { IsGroupedFor self.now.pairs room.new }
+        ensures count { OnOk result (length room.new.built.variables.choices.items ≡ length at.now) }
+        ensures regular { OnOk result (IsRegular room.new.built.energy) }
+        ensures numbering { OnOk result (IsNumbering room.new.built.variables.choices.items
+            room.new.built.variables.of_sites.items room.new.built.variables.sites.items) }
+        ensures variables { OnOk result (room.new.built.energy.variables
+            ≡ length room.new.built.variables.sites.items) }
+        ensures built { (m : Instance) →
+            IsMeant (F.post self.now.data_cost.f) (V.post self.now.smooth_cost.v) self.now.pairs
+            self.now.data_cost.labels m →
+            IsBuiltDecided m change at.now room.new.built result }
+    {
+        room.group(alloc, &self.pairs)?;
+        room.deciding
+            .decide(&self.pairs, &self.data_cost, &self.smooth_cost, at, change)?;
+        swap(
+            &mut room.deciding.bounds.choices,
+            &mut room.built.variables.choices,
+        );
+        match room
+            .built
+            .build(&self.pairs, &self.data_cost, &self.smooth_cost, at, change)
+        {
+            Ok(()) => Ok(()),
+            Err(_) => Err(BuildError::OutOfMemory),
+        }
+    }
+
+    /// The energy of a move: of an expansion the sites are decided first, and of a swap all that it can change are open.
+    pub(crate) fn build_move(
+        &self,
+        alloc: Global,
+        room: &mut Room,
+        at: &[u8],
+        change: Move,
+    ) -> Result<(), BuildError>
+        requires sites { (length at.now ≡ self.now.pairs.sites)
+            × (self.now.data_cost.sites ≡ self.now.pairs.sites) }
+        requires labels { (self.now.smooth_cost.labels ≡ self.now.data_cost.labels)
+            × All (λ label. label < self.now.data_cost.labels) at.now }
+        requires change { IsMoveOf self.now.data_cost.labels change }
+        requires costs { Keeps (F.pre self.now.data_cost.f) (F.post self.now.data_cost.f)
+            self.now.data_cost.sites self.now.data_cost.labels data_limit }
+        requires smooth { KeepsSmooth (V.pre self.now.smooth_cost.v) (V.post self.now.smooth_cost.v)
+            self.now.smooth_cost.labels self.now.smooth_cost.by_metric }
+        requires by_site { IsGroupedFor self.now.pairs room.old }
+        ensures by_site { IsGroupedFor self.now.pairs room.new }
+        ensures opened { OnOk result (AreOpenFor change at.now room.new.built.variables.choices.items) }
+        ensures regular { OnOk result (IsRegular room.new.built.energy) }
+        ensures numbering { OnOk result (IsNumbering room.new.built.variables.choices.items
+            room.new.built.variables.of_sites.items room.new.built.variables.sites.items) }
+        ensures variables { OnOk result (room.new.built.energy.variables
+            ≡ length room.new.built.variables.sites.items) }
+        ensures built { (m : Instance) →
+            IsMeant (F.post self.now.data_cost.f) (V.post self.now.smooth_cost.v) self.now.pairs
+            self.now.data_cost.labels m →
+            IsBuiltMove m change at.now room.new.built result }
+    {
+        match change {
+            Move::Expand(_) => self.build_decided(alloc, room, at, change),
+            Move::Swap(_, _) => room.built.prepare(
+                &self.pairs,
+                &self.data_cost,
+                &self.smooth_cost,
+                at,
+                change,
+            ),
+        }
+    }
+}
