@@ -18,7 +18,7 @@ pub struct Bounds {
 
 impl Bounds {
     /// No sites. It takes no memory.
-    pub fn new(alloc: Global) -> Bounds {
+    pub(crate) fn new(alloc: Global) -> Bounds {
         Bounds {
             choices: Vec::new(alloc),
             least: Vec::new(alloc),
@@ -28,7 +28,7 @@ impl Bounds {
     }
 
     /// Adds to the two bounds of a site.
-    pub fn raise(&mut self, site: usize, least: i64, greatest: i64)
+    pub(crate) fn raise(&mut self, site: usize, least: i64, greatest: i64)
         requires site { (site < length self.old.least.items) × (site < length self.old.greatest.items) }
         requires least { unsigned_abs (bound_at self.old.least.items site) + unsigned_abs least < 2 ^ 62 }
         requires greatest { unsigned_abs (bound_at self.old.greatest.items site) + unsigned_abs greatest
@@ -44,7 +44,7 @@ impl Bounds {
     }
 
     /// Whether the bounds of a site tell its value: 0 where turning never lowers the energy, and 1 where it always does.
-    pub fn can_decide(&self, site: usize) -> bool
+    pub(crate) fn can_decide(&self, site: usize) -> bool
         requires { (site < length self.now.least.items) × (site < length self.now.greatest.items) }
         ensures { IsTrue result ↔ CanDecide self.now site }
     {
@@ -52,7 +52,7 @@ impl Bounds {
     }
 
     /// Lets a site wait if its bounds tell its value.
-    pub fn call_up(&mut self, site: u32) -> Result<(), AllocError>
+    pub(crate) fn call_up(&mut self, site: u32) -> Result<(), AllocError>
         requires { (site < length self.old.least.items) × (site < length self.old.greatest.items) }
         ensures same { (self.new.choices ≡ self.old.choices) × (self.new.least ≡ self.old.least)
             × (self.new.greatest ≡ self.old.greatest) }

@@ -60,7 +60,7 @@ impl Bounds {
     }
 
     /// Opens every site, and counts what its own label costs it.
-    pub fn count_sites<F: Fn(u32, u32) -> i64>(
+    pub(crate) fn count_sites<F: Fn(u32, u32) -> i64>(
         &mut self,
         data_cost: &DataCost<F>,
         at: &[u8],
@@ -104,7 +104,7 @@ impl Bounds {
     }
 
     /// Counts each pair, or refuses the first whose term is not regular.
-    pub fn count_pairs<V: Fn(u32, u32) -> i64>(
+    pub(crate) fn count_pairs<V: Fn(u32, u32) -> i64>(
         &mut self,
         pairs: &Pairs,
         smooth_cost: &SmoothCost<V>,
@@ -138,7 +138,7 @@ impl Bounds {
     }
 
     /// Lets each site wait whose bounds tell its value.
-    pub fn find_waiting(&mut self) -> Result<(), AllocError>
+    pub(crate) fn find_waiting(&mut self) -> Result<(), AllocError>
         requires undecided { AreUndecided (length self.old.choices.items) self.old }
         requires sites { length self.old.choices.items ≤ site_limit }
         ensures same { (self.new.choices ≡ self.old.choices) × (self.new.least ≡ self.old.least)

@@ -235,7 +235,7 @@ impl Bounds {
     }
 
     /// Decides the sites that wait, and those whose values then can be told, until none is left.
-    pub fn settle_all<V: Fn(u32, u32) -> i64>(
+    pub(crate) fn settle_all<V: Fn(u32, u32) -> i64>(
         &mut self,
         pairs: &Pairs,
         ends: &Groups,

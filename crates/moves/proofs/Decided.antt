@@ -1,5 +1,5 @@
 -- An expansion whose sites were decided first.
-use Rattle.std.proofs.Common.{◌≡◌, ◌≢◌, ℕ, ◌+◌, ◌<◌, ◌≤◌, Bool, true, false, eqb, List, length, Result, Ok, Err, ℤ, pos, ◌+ℤ◌, ◌≤ℤ◌, refl, sym, ap, ◌∙◌, inl, inr, subst, arith}
+use Rattle.std.proofs.Common.{◌≡◌, ℕ, ◌<◌, ◌≤◌, Bool, true, false, eqb, List, length, Result, Ok, Err, ℤ, ◌≤ℤ◌, refl, sym, ap, ◌∙◌, inl, inr, subst, arith}
 use Rattle.std.proofs.lemmas.Int.{ints}
 use Rattle.std.proofs.lemmas.Bool.{cases_Bool}
 use Rattle.move_energy.specs.declared.building.MoveEnergy.{MoveEnergy}
@@ -16,8 +16,8 @@ use Rattle.pseudo_bool.specs.Formula.{Formula, value_at}
 use Rattle.compile_cut.specs.Shown.{IsSmallestLeastAssignment}
 use Rattle.move_energy.specs.declared.choice.Choice.{Choice}
 use Rattle.move_energy.specs.declared.choice.Choice.TheVariants.{Open, Zero as DecidedZero, One as DecidedOne}
-use Rattle.move_energy.specs.Choices.{bit_of, choice_at, made_by, StandsFor}
-use Rattle.deciding.specs.Decisions.{put, IsFree, IsSmallestLeast, IsRest}
+use Rattle.move_energy.specs.Choices.{bit_of, choice_at, StandsFor}
+use Rattle.deciding.specs.Decisions.{put, IsSmallestLeast, IsRest}
 use Rattle.deciding.specs.MoveValues.{move_value}
 use Rattle.deciding.specs.Decided.{AreDecided}
 use Rattle.moves.specs.Building.{AreDecidedFor, IsBuiltDecided, IsBuiltMove}
@@ -117,9 +117,9 @@ expanded_decided m move a f g choices e variable site y is pairs size allowed st
     let P : Move → Type 0 = λ mv. IsAllowed m mv (labelling f) → StandsFor m mv (labelling f) (choice_at choices) e variable site → AreDecidedFor m mv f choices
     → ((p : ℕ) → p < length f → labelling g p ≡ label_in mv (labelling f p) (bit_of (choice_at choices p) (y (variable p)))) → IsBest m mv f g in
     let own : P (Expand a) = λ allowed_too stands_too decided_too each_too.
-        expand_best_of m a f g (λ p. bit_of (choice_at choices p) (y (variable p))) pairs
-        (decided_least m (Expand a) (labelling f) (choice_at choices) e variable site y pairs allowed_too decided_too stands_too least) size same
-        (λ p l. each_too p (omega (arith, l, size))) in
+    expand_best_of m a f g (λ p. bit_of (choice_at choices p) (y (variable p))) pairs
+    (decided_least m (Expand a) (labelling f) (choice_at choices) e variable site y pairs allowed_too decided_too stands_too least) size same
+    (λ p l. each_too p (omega (arith, l, size))) in
     subst P (sym is) own allowed stands decided each
 
 -- ---- what the building answers

@@ -85,16 +85,12 @@ impl<F: Fn(u32, u32) -> i64, V: Fn(u32, u32) -> i64> Problem<F, V> {
             IsBuiltDecided m change at.now room.new.built result }
     {
         room.group(alloc, &self.pairs)?;
-        room.deciding
-            .decide(&self.pairs, &self.data_cost, &self.smooth_cost, at, change)?;
+        room.deciding.decide(&self.pairs, &self.data_cost, &self.smooth_cost, at, change)?;
         swap(
             &mut room.deciding.bounds.choices,
             &mut room.built.variables.choices,
         );
-        match room
-            .built
-            .build(&self.pairs, &self.data_cost, &self.smooth_cost, at, change)
-        {
+        match room.built.build(&self.pairs, &self.data_cost, &self.smooth_cost, at, change) {
             Ok(()) => Ok(()),
             Err(_) => Err(BuildError::OutOfMemory),
         }

@@ -1,4 +1,4 @@
-use Rattle.std.proofs.Common.{◌≡◌, ◌<◌, ◌∙◌, ℕ, length}
+use Rattle.std.proofs.Common.{◌≡◌, ◌<◌, ℕ, length}
 use Rattle.std.proofs.lemmas.Result.{IfOk-weaker}
 use Rattle.pseudo_bool.specs.Formula.{assignment}
 use Rattle.labellings.specs.Energies.{labelling}
@@ -12,7 +12,7 @@ returns-in-Expand-clause-best c = λ m pairs size allowed stands decided least.
     let a = c.args in
     let vs = a.made.now.variables in
     let each : (p : ℕ) → p < length a.field.now.at → labelling c.relabel.new.labelling.at p
-        ≡ label_in a.change (labelling a.field.now.at p) (bit_of (choice_at vs.choices.items p) (assignment a.least.now.bits.items (labelling vs.of_sites.items p))) =
+    ≡ label_in a.change (labelling a.field.now.at p) (bit_of (choice_at vs.choices.items p) (assignment a.least.now.bits.items (labelling vs.of_sites.items p))) =
     λ p l. rw c.deref.ensures.value at (c.relabel.ensures.each p l) in (
       expanded_decided m a.change _ a.field.now.at c.relabel.new.labelling.at vs.choices.items a.made.now.energy (labelling vs.of_sites.items) (labelling vs.sites.items)
           (assignment a.least.now.bits.items) c.in-Expand.is pairs size allowed stands decided least c.relabel.ensures.sizes.1 each,
