@@ -35,8 +35,7 @@ const SEED_COST: u32 = 10_000_000;
 /// at.
 ///
 /// Refused, the first that holds: `Image` where no image is at the front of the input, or none behind it, `SizesDiffer` where
-/// they differ in width or height, `BadSeed` with the first seed above 2, `Move` as the run of moves is (no expansion of
-/// these is ever refused for its terms), `Write` where the sink failed, which then took the first bytes of the picture's
+/// they differ in width or height, `BadSeed` with the first seed above 2, `Move` as the run of moves is, `Write` where the sink failed, which then took the first bytes of the picture's
 /// written form, as many as are told. `OutOfMemory` may come before the first byte is written. The options are to be in
 /// their ranges, which `fits` tells.
 pub fn run_segment<H: How, S: Sink>(
