@@ -5,3 +5,4 @@ pub mod Finishing
 pub mod Refusing
 pub mod Weights
 pub mod Parts
+pub mod Metrics

@@ -2,6 +2,7 @@
 use Rattle.std.specs.Prelude.{◌≡◌, ℕ, ◌<◌, ◌⊎◌, ⊤, Bool, true, List, Option}
 use Rattle.moves.specs.declared.error.MoveError.{MoveError}
 use Rattle.moves.specs.declared.error.MoveError.TheVariants as move
+use Rattle.moves.specs.Problems.{TellsPairNotRegular}
 use Rattle.pgm_image.specs.Front.{Refuses}
 use Rattle.pgm_image.specs.Picture.{Picture}
 use Rattle.pgm_image.specs.Raster.{IsFirstAbove}
@@ -85,6 +86,11 @@ Leaves IsJob HasFault old new failed e = HasFault e
 abbrev pub IsWrite : VisionError → Type 0
 IsWrite (Write failed) = ⊤
 IsWrite e = ⊥
+
+-- the refusal is that of a pair whose term is not regular
+abbrev pub TellsPair : VisionError → Type 0
+TellsPair (Move e) = TellsPairNotRegular e
+TellsPair e = ⊥
 
 -- the writer failed, after so many bytes of which this holds
 abbrev pub IsStop : (ℕ → Type 0) → VisionError → Type 0

@@ -4,14 +4,14 @@ ghost use Rattle.std.specs.Io.KnownBytes.{Appends};
 ghost use Rattle.label_field.specs.LabelFields.{AreSizes};
 ghost use Rattle.labellings.specs.Energies.{Instance};
 ghost use Rattle.cost_store.specs.Limits.{data_limit, smooth_limit};
-ghost use Rattle.cost_store.specs.Promises.{IsCost, IsTable, Keeps};
+ghost use Rattle.cost_store.specs.Promises.{IsCost, IsMetricTable, IsTable, Keeps};
 ghost use Rattle.labelling_runs.specs.Instances.{IsInstanceOf};
 ghost use Rattle.labelling_runs.specs.Runs.{IsSized};
 ghost use Rattle.pgm_image.specs.Picture.{IsPicture, picture};
 ghost use Rattle.pgm_image.specs.Written.{written, Stops};
 ghost use Rattle.run_options.specs.Limits.{trunc_limit};
 ghost use Rattle.run_options.specs.Shapes.{shape_cost};
-ghost use Rattle.vision.specs.Faults.{HasRunFault, IsStop};
+ghost use Rattle.vision.specs.Faults.{HasRunFault, IsStop, TellsPair};
 ghost use Rattle.vision.specs.Jobs.{IsFinished, job_of};
 
 use crate::{Report, VisionError};
@@ -59,10 +59,13 @@ pub(crate) fn run_job<F: Fn(u32, u32) -> i64, H: How>(
         data_limit }
     requires smooth { (length smooth.now ≡ data_cost.labels * data_cost.labels)
         × All (IsCost smooth_limit) smooth.now }
-    ensures { (m : Instance) →
+    ensures run { (m : Instance) →
         IsInstanceOf (F.post data_cost.f) pairs data_cost.labels smooth.now m →
         MatchResult result (IsFinished (job_of m plan.moves plan.cycles picture.now plan.maxval))
         (HasRunFault (job_of m plan.moves plan.cycles picture.now plan.maxval)) }
+    ensures metric { IsMetricTable data_cost.labels smooth.now → (m : Instance) →
+        IsInstanceOf (F.post data_cost.f) pairs data_cost.labels smooth.now m →
+        IfErr result (λ e. ¬ TellsPair e) }
 {
     let _valid = picture.samples();
     let start = Labelling::new(alloc, data_cost.sites, data_cost.labels)?;

@@ -1,8 +1,9 @@
 //! Restoring a picture.
-ghost use Rattle.std.specs.Prelude.{◌≡◌, ◌+◌, ◌<◌, ◌≤◌, pos, IfOk, IfErr, OnOk, MatchResult, length, slice_index};
+ghost use Rattle.std.specs.Prelude.{◌≡◌, ◌≢◌, ◌+◌, ◌<◌, ◌≤◌, pos, IfOk, IfErr, OnOk, MatchResult, length, slice_index};
 ghost use Rattle.label_field.specs.Grids.{distance};
 ghost use Rattle.image_options.specs.Ranges.{AreRestoreOptions};
-ghost use Rattle.vision.specs.Faults.{HasRestoreFault, HasRunFault, IsWrite, Leaves};
+ghost use Rattle.run_options.specs.declared.shape.Shape.TheVariants.{Quadratic};
+ghost use Rattle.vision.specs.Faults.{HasRestoreFault, HasRunFault, IsWrite, Leaves, TellsPair};
 ghost use Rattle.vision.specs.Inputs.{IsRestoreJob};
 ghost use Rattle.vision.specs.Jobs.{Does, IsFinished, Job, restore_job};
 
@@ -27,10 +28,11 @@ const LEVEL_LIMIT: u32 = 255;
 /// from all 0 ends, as samples, and the input's maxval; the report has their energy. Nothing is written before the
 /// last move is finished. What follows the image in the input is not looked at.
 ///
-/// Refused, the first that holds: `Image` where no image is at the front of the input, `TooManyLevels` where maxval is
-/// above 255, `Move` as the run of moves is, `Write` where the sink failed, which then took the first bytes of the picture's
-/// written form, as many as are told. `OutOfMemory` may come before the first byte is written. The options are to be in their
-/// ranges, which `fits` tells.
+/// Refused, the first that holds: `Image` where no image is at the front of the input, `TooManyLevels` where
+/// maxval is above 255, `Move` as the run of moves is, `Write` where the sink failed, which then took the
+/// first bytes of the picture's written form, as many as are told. `OutOfMemory` may come before the first
+/// byte is written. `Potts` and `Linear` costs are a metric: with them no move is refused for a pair. The
+/// options are to be in their ranges, which `fits` tells.
 pub fn run_restore<H: How, S: Sink>(
     alloc: Global,
     input: &[u8],
@@ -45,6 +47,7 @@ pub fn run_restore<H: How, S: Sink>(
     ensures sound { OnOk result (S.has_failed sink.new ≡ S.has_failed sink.old) }
     ensures refused { IfErr result (Leaves (IsRestoreJob options.now input.now)
         (HasRestoreFault options.now input.now) (S.held sink.old) (S.held sink.new) (S.has_failed sink.new)) }
+    ensures metric { options.now.smooth ≢ Quadratic → IfErr result (λ e. ¬ TellsPair e) }
     ensures unchanged { IfErr result (λ e. (¬ IsWrite e) → sink.new ≡ sink.old) }
     ensures kept { S.loan sink.new ≡ S.loan sink.old }
 {
@@ -64,6 +67,7 @@ fn restore_input<H: How>(
     ensures finished { IfOk result (λ f. (job : Job) × IsRestoreJob options.now input.now job
         × IsFinished job f) }
     ensures refused { IfErr result (HasRestoreFault options.now input.now) }
+    ensures metric { options.now.smooth ≢ Quadratic → IfErr result (λ e. ¬ TellsPair e) }
 {
     let picture = read_one(alloc, input)?;
     if picture.maxval() > LEVEL_LIMIT {
@@ -82,8 +86,9 @@ fn restore<H: How>(
     requires options { AreRestoreOptions options.now }
     requires levels { picture.now.maxval ≤ 255 }
     requires ready { H.ready how.now }
-    ensures { MatchResult result (IsFinished (restore_job options.now picture.now))
+    ensures run { MatchResult result (IsFinished (restore_job options.now picture.now))
         (HasRunFault (restore_job options.now picture.now)) }
+    ensures metric { options.now.smooth ≢ Quadratic → IfErr result (λ e. ¬ TellsPair e) }
 {
     let samples = picture.samples();
     let maxval = picture.maxval();

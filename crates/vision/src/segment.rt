@@ -2,7 +2,7 @@
 ghost use Rattle.std.specs.Prelude.{◌≡◌, ◌*◌, ◌<◌, ◌≤◌, pos, All, IfOk, IfErr, OnOk, MatchOption, MatchResult, length, slice_index};
 ghost use Rattle.image_options.specs.Ranges.{AreSegmentOptions};
 ghost use Rattle.pgm_image.specs.Raster.{IsFirstAbove};
-ghost use Rattle.vision.specs.Faults.{HasRunFault, HasSegmentFault, IsWrite, Leaves};
+ghost use Rattle.vision.specs.Faults.{HasRunFault, HasSegmentFault, IsWrite, Leaves, TellsPair};
 ghost use Rattle.vision.specs.Inputs.{AreSeeds, IsSegmentJob, SameSizes};
 ghost use Rattle.vision.specs.Jobs.{Does, IsFinished, Job, segment_job};
 ghost use Rattle.vision.specs.Problems.{part_cost};
@@ -34,10 +34,11 @@ const SEED_COST: u32 = 10_000_000;
 /// the last move is finished. Between the images there may be white space, and what follows the second is not looked
 /// at.
 ///
-/// Refused, the first that holds: `Image` where no image is at the front of the input, or none behind it, `SizesDiffer` where
-/// they differ in width or height, `BadSeed` with the first seed above 2, `Move` as the run of moves is, `Write` where the sink failed, which then took the first bytes of the picture's
-/// written form, as many as are told. `OutOfMemory` may come before the first byte is written. The options are to be in
-/// their ranges, which `fits` tells.
+/// Refused, the first that holds: `Image` where no image is at the front of the input, or none behind it,
+/// `SizesDiffer` where they differ in width or height, `BadSeed` with the first seed above 2, `Move` as the
+/// run of moves is, but never for a pair, `Write` where the sink failed, which then took the first bytes of
+/// the picture's written form, as many as are told. `OutOfMemory` may come before the first byte is written.
+/// The options are to be in their ranges, which `fits` tells.
 pub fn run_segment<H: How, S: Sink>(
     alloc: Global,
     input: &[u8],
@@ -52,6 +53,7 @@ pub fn run_segment<H: How, S: Sink>(
     ensures sound { OnOk result (S.has_failed sink.new ≡ S.has_failed sink.old) }
     ensures refused { IfErr result (Leaves (IsSegmentJob options.now input.now)
         (HasSegmentFault options.now input.now) (S.held sink.old) (S.held sink.new) (S.has_failed sink.new)) }
+    ensures metric { IfErr result (λ e. ¬ TellsPair e) }
     ensures unchanged { IfErr result (λ e. (¬ IsWrite e) → sink.new ≡ sink.old) }
     ensures kept { S.loan sink.new ≡ S.loan sink.old }
 {
@@ -71,6 +73,7 @@ fn part_input<H: How>(
     ensures finished { IfOk result (λ f. (job : Job) × IsSegmentJob options.now input.now job
         × IsFinished job f) }
     ensures refused { IfErr result (HasSegmentFault options.now input.now) }
+    ensures metric { IfErr result (λ e. ¬ TellsPair e) }
 {
     let (picture, seeds) = read_two(alloc, input)?;
     if let Some(index) = bad_seed(seeds.samples()) {
@@ -102,8 +105,9 @@ fn part<H: How>(
     requires options { AreSegmentOptions options.now }
     requires sizes { SameSizes picture.now seeds.now }
     requires ready { H.ready how.now }
-    ensures { MatchResult result (IsFinished (segment_job options.now picture.now seeds.now))
+    ensures run { MatchResult result (IsFinished (segment_job options.now picture.now seeds.now))
         (HasRunFault (segment_job options.now picture.now seeds.now)) }
+    ensures metric { IfErr result (λ e. ¬ TellsPair e) }
 {
     let smooth = smooth_costs(alloc, Shape::Potts, 1, 2)?;
     let pairs = edge_pairs(alloc, picture, options)?;

@@ -1,9 +1,10 @@
 //! Matching a left and a right picture.
-ghost use Rattle.std.specs.Prelude.{◌≡◌, ◌+◌, ◌-◌, ◌*◌, ◌%◌, ◌<◌, ◌≤◌, pos, min, nat_lt, if◌then◌else◌, IfOk, IfErr, OnOk, MatchResult, length, slice_index};
+ghost use Rattle.std.specs.Prelude.{◌≡◌, ◌≢◌, ◌+◌, ◌-◌, ◌*◌, ◌%◌, ◌<◌, ◌≤◌, pos, min, nat_lt, if◌then◌else◌, IfOk, IfErr, OnOk, MatchResult, length, slice_index};
 ghost use Rattle.image_options.specs.Limits.{cap_limit};
 ghost use Rattle.image_options.specs.Ranges.{AreStereoOptions};
 ghost use Rattle.pgm_image.specs.Picture.{IsPicture};
-ghost use Rattle.vision.specs.Faults.{HasRunFault, HasStereoFault, IsWrite, Leaves};
+ghost use Rattle.run_options.specs.declared.shape.Shape.TheVariants.{Quadratic};
+ghost use Rattle.vision.specs.Faults.{HasRunFault, HasStereoFault, IsWrite, Leaves, TellsPair};
 ghost use Rattle.vision.specs.Inputs.{IsStereoJob, SameSizes};
 ghost use Rattle.vision.specs.Jobs.{Does, IsFinished, Job, stereo_job};
 ghost use Rattle.vision.specs.Problems.{shift_cost};
@@ -28,10 +29,11 @@ use std::alloc::Global;
 /// the report has their energy. Nothing is written before the last move is finished. Between the images there may be
 /// white space, and what follows the second is not looked at.
 ///
-/// Refused, the first that holds: `Image` where no image is at the front of the input, or none behind it, `SizesDiffer` where
-/// they differ in width or height, `Move` as the run of moves is, `Write` where the sink failed, which then took the first
-/// bytes of the picture's written form, as many as are told. `OutOfMemory` may come before the first byte is written.
-/// The options are to be in their ranges, which `fits` tells.
+/// Refused, the first that holds: `Image` where no image is at the front of the input, or none behind it,
+/// `SizesDiffer` where they differ in width or height, `Move` as the run of moves is, `Write` where the sink
+/// failed, which then took the first bytes of the picture's written form, as many as are told. `OutOfMemory`
+/// may come before the first byte is written. `Potts` and `Linear` costs are a metric: with them no move is
+/// refused for a pair. The options are to be in their ranges, which `fits` tells.
 pub fn run_stereo<H: How, S: Sink>(
     alloc: Global,
     input: &[u8],
@@ -46,6 +48,7 @@ pub fn run_stereo<H: How, S: Sink>(
     ensures sound { OnOk result (S.has_failed sink.new ≡ S.has_failed sink.old) }
     ensures refused { IfErr result (Leaves (IsStereoJob options.now input.now)
         (HasStereoFault options.now input.now) (S.held sink.old) (S.held sink.new) (S.has_failed sink.new)) }
+    ensures metric { options.now.smooth ≢ Quadratic → IfErr result (λ e. ¬ TellsPair e) }
     ensures unchanged { IfErr result (λ e. (¬ IsWrite e) → sink.new ≡ sink.old) }
     ensures kept { S.loan sink.new ≡ S.loan sink.old }
 {
@@ -65,6 +68,7 @@ fn match_input<H: How>(
     ensures finished { IfOk result (λ f. (job : Job) × IsStereoJob options.now input.now job
         × IsFinished job f) }
     ensures refused { IfErr result (HasStereoFault options.now input.now) }
+    ensures metric { options.now.smooth ≢ Quadratic → IfErr result (λ e. ¬ TellsPair e) }
 {
     let (left, right) = read_two(alloc, input)?;
     match_pictures(alloc, &left, &right, options, how)
@@ -81,8 +85,9 @@ fn match_pictures<H: How>(
     requires options { AreStereoOptions options.now }
     requires sizes { SameSizes left.now right.now }
     requires ready { H.ready how.now }
-    ensures { MatchResult result (IsFinished (stereo_job options.now left.now right.now))
+    ensures run { MatchResult result (IsFinished (stereo_job options.now left.now right.now))
         (HasRunFault (stereo_job options.now left.now right.now)) }
+    ensures metric { options.now.smooth ≢ Quadratic → IfErr result (λ e. ¬ TellsPair e) }
 {
     let labels = options.labels;
     let cap = options.cap;

@@ -2,16 +2,23 @@ use Rattle.std.proofs.Common.{◌∙◌, replicate, sym, ap}
 use Rattle.std.proofs.lemmas.Result.{err_from_is_err_and}
 use Rattle.label_field.specs.LabelFields.{LabelField}
 use Rattle.vision.proofs.Finishing.{finished, refused}
+use Rattle.vision.proofs.Metrics.{move_tells}
 use Rattle.vision.proofs.job.run_job.Goals as goal
 
-pub returns-in_err-run : goal.returns-in_err-run
-returns-in_err-run g c = λ m is.
+pub returns-in_err-run-clause-run : goal.returns-in_err-run-clause-run
+returns-in_err-run-clause-run g c = λ m is.
     let zeros = ap (λ (f : LabelField). f.at) c.in_ok-start.ensures ∙ ap (λ n. replicate n 0) (c.requires.sites.0 ∙ sym (is.sites_are ∙ c.requires.sites.1)) in
     let p = err_from_is_err_and c.from_residual-in_err-run.result c.from_residual-in_err-run.ensures.1 in
     rw (p.1, p.2) (refused m c.args.plan.moves c.args.plan.cycles c.args.picture.now c.args.plan.maxval c.in_ok-start.start.at _ zeros (c.in_err-run.ensures.run m (rw (ap (λ (f : LabelField). f.labels) c.in_ok-start.ensures) is)))
 
-pub returns : goal.returns
-returns g c = λ m is.
+pub returns-clause-run : goal.returns-clause-run
+returns-clause-run g c = λ m is.
     let zeros = ap (λ (f : LabelField). f.at) c.in_ok-start.ensures ∙ ap (λ n. replicate n 0) (c.requires.sites.0 ∙ sym (is.sites_are ∙ c.requires.sites.1)) in
     finished m c.args.plan.moves c.args.plan.cycles c.args.picture.now c.args.plan.maxval c.in_ok-start.start.at c.in_ok-run.run' c.in_ok-finish.field-0
     zeros (c.in_ok-run.ensures.run m (rw (ap (λ (f : LabelField). f.labels) c.in_ok-start.ensures) is)) c.in_ok-finish.ensures.valid c.in_ok-finish.ensures.image c.in_ok-finish.ensures.report
+
+pub returns-in_err-run-clause-metric : goal.returns-in_err-run-clause-metric
+returns-in_err-run-clause-metric g c = λ metric m is.
+    let labels = ap (λ (f : LabelField). f.labels) c.in_ok-start.ensures in
+    let p = err_from_is_err_and c.from_residual-in_err-run.result c.from_residual-in_err-run.ensures.1 in
+    rw (p.1, p.2) (move_tells _ (c.in_err-run.ensures.metric (rw labels metric) m (rw labels is)))

@@ -1,4 +1,4 @@
-use Rattle.std.proofs.Common.{◌∙◌, ℕ, ◌+◌, List, ℤ, pos, MatchResult, slice_index, sym, ap, subst}
+use Rattle.std.proofs.Common.{arith, ◌∙◌, ℕ, ◌+◌, List, ℤ, pos, MatchResult, slice_index, sym, ap, subst}
 use Rattle.cost_store.specs.Promises.{IsTable}
 use Rattle.label_field.specs.Grids.{distance}
 use Rattle.label_field.specs.PairLists.{PairList}
@@ -6,19 +6,38 @@ use Rattle.run_options.specs.Shapes.{shape_cost}
 use Rattle.vision.specs.Faults.{HasRunFault}
 use Rattle.vision.specs.Jobs.{IsFinished, job_of}
 use Rattle.vision.specs.Problems.{restore_problem}
+use Rattle.vision.proofs.Metrics.{shape_metric_table}
 use Rattle.vision.proofs.restore.restore.Goals as goal
 
-pub returns : goal.returns
-returns g c =
+pub returns-clause-run : goal.returns-clause-run
+returns-clause-run g c =
     let o = c.args.options.now in
     let p = c.args.picture.now in
     let maxval = c.maxval-maxval.ensures in
     let J : ℕ → Type 0 = λ v. MatchResult c.run_job.result (IsFinished (job_of (restore_problem o p) o.moves o.cycles p v)) (HasRunFault (job_of (restore_problem o p) o.moves o.cycles p v)) in
     let S : List ℤ → Type 0 = λ t. IsTable (c.maxval-maxval.result + 1) (c.maxval-maxval.result + 1) (shape_cost o.smooth o.trunc) t in
-    subst J maxval (c.run_job.ensures (restore_problem o p) (rw c.new-data_cost.ensures.stored (record {
+    subst J maxval (c.run_job.ensures.run (restore_problem o p) (rw c.new-data_cost.ensures.stored (record {
       sites_are = sym (ap (λ (l : PairList). l.sites) c.in_ok-pairs.ensures);
       labels_are = ap (λ v. v + 1) (sym maxval);
       pairs_are = sym (ap (λ (l : PairList). l.list) c.in_ok-pairs.ensures);
       data_are = λ a b z la lb is. is ∙ ap (λ xs. pos (distance (slice_index xs a) b)) c.samples-samples.ensures.value;
       smooth_are = subst S (sym c.as_slice.ensures.value) c.in_ok-smooth.ensures.table;
     })))
+
+pub returns-clause-metric : goal.returns-clause-metric
+returns-clause-metric g c = λ apart.
+    let o = c.args.options.now in
+    let p = c.args.picture.now in
+    let maxval = c.maxval-maxval.ensures in
+    let k = c.maxval-maxval.result + 1 in
+    let S : List ℤ → Type 0 = λ t. IsTable k k (shape_cost o.smooth o.trunc) t in
+    let table = subst S (sym c.as_slice.ensures.value) c.in_ok-smooth.ensures.table in
+    c.run_job.ensures.metric (rw c.new-data_cost.ensures.stored
+    (shape_metric_table o.smooth k o.trunc c.as_slice.result.now (omega arith) c.requires.options.trunc_least apart table))
+    (restore_problem o p) (rw c.new-data_cost.ensures.stored (record {
+      sites_are = sym (ap (λ (l : PairList). l.sites) c.in_ok-pairs.ensures);
+      labels_are = ap (λ v. v + 1) (sym maxval);
+      pairs_are = sym (ap (λ (l : PairList). l.list) c.in_ok-pairs.ensures);
+      data_are = λ a b z la lb is. is ∙ ap (λ xs. pos (distance (slice_index xs a) b)) c.samples-samples.ensures.value;
+      smooth_are = table;
+    }))

@@ -4,4 +4,4 @@ use Rattle.vision.proofs.restore.restore_input.Goals as goal
 
 pub returns-clause-refused : goal.returns-clause-refused
 returns-clause-refused g c =
-    restore_refused c.args.options.now c.args.input.now c.in_ok-picture.picture c.restore.result c.in_ok-picture.ensures.held (omega arith) c.restore.ensures
+    restore_refused c.args.options.now c.args.input.now c.in_ok-picture.picture c.restore.result c.in_ok-picture.ensures.held (omega arith) c.restore.ensures.run

@@ -1,9 +1,10 @@
-use Rattle.std.proofs.Common.{◌∙◌, List, ℤ, pos, slice_index, refl, sym, ap, subst}
+use Rattle.std.proofs.Common.{arith, ◌∙◌, List, ℤ, pos, slice_index, refl, sym, ap, subst}
 use Rattle.cost_store.specs.Promises.{IsTable}
 use Rattle.label_field.specs.PairLists.{PairList}
 use Rattle.run_options.specs.Shapes.{shape_cost}
 use Rattle.run_options.specs.declared.shape.Shape.TheVariants.{Potts}
 use Rattle.vision.specs.Problems.{segment_problem, part_cost}
+use Rattle.vision.proofs.Metrics.{potts_metric_table}
 use Rattle.vision.proofs.Parts.{part_keeps, samples_long, samples_small}
 use Rattle.vision.proofs.segment.part.Goals as goal
 
@@ -16,14 +17,28 @@ new-data_cost-requires g c =
     (samples_long c.args.seeds.now _ c.width.result c.height.result seeds.valid seeds.value (c.width.ensures ∙ c.requires.sizes.0) (c.height.ensures ∙ c.requires.sizes.1))
     (samples_small c.args.picture.now _ picture.valid picture.value)
 
-pub returns : goal.returns
-returns g c =
+pub returns-clause-run : goal.returns-clause-run
+returns-clause-run g c =
     let o = c.args.options.now in
     let S : List ℤ → Type 0 = λ t. IsTable 2 2 (shape_cost Potts 1) t in
-    c.run_job.ensures (segment_problem o c.args.picture.now c.args.seeds.now) (rw c.new-data_cost.ensures.stored (record {
+    c.run_job.ensures.run (segment_problem o c.args.picture.now c.args.seeds.now) (rw c.new-data_cost.ensures.stored (record {
       sites_are = sym (ap (λ (l : PairList). l.sites) c.in_ok-pairs.ensures);
       labels_are = refl;
       pairs_are = sym (ap (λ (l : PairList). l.list) c.in_ok-pairs.ensures);
       data_are = λ a b z la lb is. is ∙ (λ k. pos (part_cost o (slice_index (c.samples-samples.ensures.value k) a) (slice_index (c.samples-marks.ensures.value k) a) b));
       smooth_are = subst S (sym c.as_slice.ensures.value) c.in_ok-smooth.ensures.table;
+    }))
+
+pub returns-clause-metric : goal.returns-clause-metric
+returns-clause-metric g c =
+    let o = c.args.options.now in
+    let S : List ℤ → Type 0 = λ t. IsTable 2 2 (shape_cost Potts 1) t in
+    let table = subst S (sym c.as_slice.ensures.value) c.in_ok-smooth.ensures.table in
+    c.run_job.ensures.metric (rw c.new-data_cost.ensures.stored (potts_metric_table 2 1 c.as_slice.result.now (omega arith) (omega arith) table))
+    (segment_problem o c.args.picture.now c.args.seeds.now) (rw c.new-data_cost.ensures.stored (record {
+      sites_are = sym (ap (λ (l : PairList). l.sites) c.in_ok-pairs.ensures);
+      labels_are = refl;
+      pairs_are = sym (ap (λ (l : PairList). l.list) c.in_ok-pairs.ensures);
+      data_are = λ a b z la lb is. is ∙ (λ k. pos (part_cost o (slice_index (c.samples-samples.ensures.value k) a) (slice_index (c.samples-marks.ensures.value k) a) b));
+      smooth_are = table;
     }))
