@@ -1,5 +1,5 @@
 -- What an image command did is what was due, or a refusal that leaves what it must.
-use Rattle.std.proofs.Common.{◌≡◌, ℕ, ◌+◌, ◌-◌, ◌≤◌, Bool, true, false, List, length, take, Option, Some, None, IfSome, unsigned_abs, pos, inl, inr, refl, sym, ap, subst, ◌∙◌, arith}
+use Rattle.std.proofs.Common.{◌≡◌, ℕ, ◌-◌, ◌≤◌, true, List, length, take, Option, Some, None, IfSome, unsigned_abs, inl, inr, refl, sym, subst, ◌∙◌, arith}
 use Rattle.std.specs.Io.KnownBytes.{Appends}
 use Rattle.byte_streams.specs.Input.{input_limit}
 use Rattle.labellings.specs.Energies.{data_energy, energy, labelling, smooth_energy}
@@ -14,7 +14,7 @@ use Rattle.fault_lines.specs.declared.fault.Fault.{Fault}
 use Rattle.fault_lines.specs.declared.fault.Fault.TheVariants.{Vision}
 use Rattle.gco_cli.specs.Pictures.{AnswersJob, AnswersPictures, HasPictureFault, energy_line}
 use Rattle.gco_cli.specs.Run.{IsCut, Refuses, Writes}
-use Rattle.gco_cli.specs.Streams.{Stream, stream}
+use Rattle.gco_cli.specs.Streams.{Stream}
 
 -- these bytes are the input, where it is known
 abbrev pub IsInput : List ℕ → Option (List ℕ) → Type 0

@@ -1,14 +1,15 @@
 -- How the refusal of a command becomes that of a run, and a run's end the run.
-use Rattle.std.proofs.Common.{◌≡◌, ◌||◌, ℕ, Bool, false, List, inl, inr, Result, Ok, Err, IfOk, IfErr, MatchResult, refl, sym, subst, arith}
+use Rattle.std.proofs.Common.{◌≡◌, ◌||◌, ℕ, false, List, inl, inr, Result, Ok, Err, IfOk, IfErr, MatchResult, refl, sym, subst, arith}
 use Rattle.std.specs.Result.{IsErrAnd}
 use Rattle.command_line.specs.Task.{Asks, AsksForHelp, IsNoTaskFor}
 use Rattle.command_line.specs.declared.task.NoTask.{NoTask}
 use Rattle.command_line.specs.declared.task.NoTask.TheVariants.{OutOfMemory, Help, Refused, BadOption}
 use Rattle.command_line.specs.declared.task.Task.{Task}
 use Rattle.fault_lines.specs.declared.fault.Fault.{Fault}
+use Rattle.fault_lines.specs.declared.fault.Fault.TheVariants as fault
 use Rattle.gco_cli.specs.Commands.{IsDueFor, StandsFor}
 use Rattle.gco_cli.specs.Refusals.{IsHelp, IsRefusalFor, IsRefusalOf, SaysRefusal, status_of}
-use Rattle.gco_cli.specs.Run.{IsCut, IsDue, IsRun, Refuses, Streams, Writes, is_failed_read}
+use Rattle.gco_cli.specs.Run.{IsCut, IsDue, IsRun, Leaves, Refuses, Streams, Writes, is_failed_read, is_bad_option}
 use Rattle.gco_cli.specs.Streams.{Stream, Took}
 use Rattle.gco_cli.specs.declared.refusal.Refusal.{Refusal}
 use Rattle.gco_cli.specs.declared.refusal.Refusal.TheVariants.{Fault as Faulty, Words}
@@ -23,41 +24,45 @@ cut_weaker : (Due Due' : List ℕ → List ℕ → Type 0) (old new : Stream) (f
     → ((text said : List ℕ) → Due text said → Due' text said) → IsCut Due old new fault → IsCut Due' old new fault
 cut_weaker Due Due' old new fault due k = (k.0, k.1, due k.0 k.1 k.2, k.3)
 
+leaves : (old new : Stream) (fault : Fault) → is_bad_option fault ≡ false
+    → new.has_failed ≡ (is_failed_read fault || old.has_failed) → Leaves old new fault
+leaves old new fault is failed = record { failed = failed; unread = λ is_too. cc }
+
 -- a refusal of a command that was asked for is one of the run
 pub of_command : (words : List (List ℕ)) (task : Task) (source source_new old new : Stream) (fault : Fault) → Asks words task
     → Refuses (IsDueFor task source.bytes) (StandsFor task source.bytes) old new fault
-    → source_new.has_failed ≡ (is_failed_read fault || source.has_failed)
+    → is_bad_option fault ≡ false → source_new.has_failed ≡ (is_failed_read fault || source.has_failed)
     → IsRefusalFor words source source_new old new (Faulty fault)
-of_command words task source source_new old new fault asks refuses read = (
+of_command words task source source_new old new fault asks refuses asked read = (
   elim refuses [
     | inl stands ↦ inl (inr (inr (task, asks, stands.0)), stands.1, stands.2)
     | inr stops ↦ inr (cut_weaker (IsDueFor task source.bytes) (IsDue words source.bytes) old new fault
         (λ text said due. inr (task, asks, due)) stops)
   ],
-  read,
+  leaves source source_new fault asked read,
 )
 
-unread : (fault : Fault) (b : Bool) → is_failed_read fault ≡ false → b ≡ (is_failed_read fault || b)
-unread fault b is = rw is refl
+unread : (source : Stream) (fault : Fault) → is_failed_read fault ≡ false → Leaves source source fault
+unread source fault is = record { failed = rw is refl; unread = λ is_too. refl }
 
 -- help that was cut is a refusal of a run that was asked for help
 of_help : (words : List (List ℕ)) (source old new : Stream) (fault : Fault) → AsksForHelp words
     → IsCut IsHelp old new fault → IsRefusalFor words source source old new (Faulty fault)
 of_help words source old new fault asks stops = (
   inr (cut_weaker IsHelp (IsDue words source.bytes) old new fault (λ text said none. inl (asks, none)) stops),
-  unread fault source.has_failed (rw stops.3.1 refl),
+  unread source fault (rw stops.3.1 refl),
 )
 
 -- words without a task: a refusal is one of the run
 refused : (words : List (List ℕ)) (no_task : NoTask) (source old new : Stream) (e : Refusal) → IsNoTaskFor words no_task
     → IsRefusalOf no_task old new e → IsRefusalFor words source source old new e
 refused words OutOfMemory source old new e is of =
-    rw of.0 (inl (inl refl, refl, of.1), refl)
+    rw of.0 (inl (inl refl, refl, of.1), unread source fault.OutOfMemory refl)
 refused words (Help text) source old new (Faulty fault) is of = of_help words source old new fault is of
 refused words (Help text) source old new (Words said) is of = absurd of
 refused words (Refused text) source old new e is of = rw of.0 (is, refl, of.1)
 refused words (BadOption option) source old new e is of =
-    rw of.0 (inl (inr (inl (option, is, refl)), refl, of.1), refl)
+    rw of.0 (inl (inr (inl (option, is, refl)), refl, of.1), unread source (fault.BadOption option) refl)
 
 pub all_refused : {T : Type 0} (words : List (List ℕ)) (no_task : NoTask) (source old new : Stream) (r : Result T Refusal)
     → IsNoTaskFor words no_task → IfErr r (IsRefusalOf no_task old new) → IfErr r (IsRefusalFor words source source old new)

@@ -1,11 +1,11 @@
 -- How a run comes to be refused, and what its end says.
-use Rattle.std.specs.Prelude.{◌≡◌, ◌||◌, ℕ, List, [], Result, Ok, Err}
+use Rattle.std.specs.Prelude.{◌≡◌, ℕ, List, [], Result, Ok, Err}
 use Rattle.command_line.specs.Task.{AreRefused}
 use Rattle.command_line.specs.declared.task.NoTask.{NoTask}
 use Rattle.command_line.specs.declared.task.NoTask.TheVariants.{OutOfMemory, Help, Refused, BadOption}
 use Rattle.fault_lines.specs.FaultLine.{fault_line}
 use Rattle.fault_lines.specs.declared.fault.Fault.TheVariants as fault
-use Rattle.gco_cli.specs.Run.{IsCut, IsDue, Refuses, Stands, Writes, is_failed_read}
+use Rattle.gco_cli.specs.Run.{IsCut, IsDue, Leaves, Refuses, Stands, Writes}
 use Rattle.gco_cli.specs.Streams.{Stream, Took}
 use Rattle.gco_cli.specs.declared.refusal.Refusal.{Refusal}
 use Rattle.gco_cli.specs.declared.refusal.Refusal.TheVariants.{Fault, Words}
@@ -14,7 +14,7 @@ use Rattle.gco_cli.specs.declared.refusal.Refusal.TheVariants.{Fault, Words}
 abbrev pub IsRefusalFor : List (List ℕ) → Stream → Stream → Stream → Stream → Refusal → Type 0
 IsRefusalFor words source source_new sink sink_new (Fault fault) =
     Refuses (IsDue words source.bytes) (Stands words source.bytes) sink sink_new fault
-    × (source_new.has_failed ≡ (is_failed_read fault || source.has_failed))
+    × Leaves source source_new fault
 IsRefusalFor words source source_new sink sink_new (Words text) =
     AreRefused words × (source_new ≡ source) × (sink_new ≡ sink)
 

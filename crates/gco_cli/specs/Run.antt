@@ -28,6 +28,11 @@ abbrev pub is_write : Fault → Bool
 is_write (Write failed) = true
 is_write fault = false
 
+-- the fault says that an option's value is no name that it takes
+abbrev pub is_bad_option : Fault → Bool
+is_bad_option (BadOption option) = true
+is_bad_option fault = false
+
 -- the fault says that the source failed
 abbrev pub is_failed_read : Fault → Bool
 is_failed_read (Read error) = is_fault error
@@ -54,6 +59,11 @@ abbrev pub TellsRead : {T : Type 0} → Bool → Bool → Result T Fault → Typ
 TellsRead old new (Ok x) = new ≡ old
 TellsRead old new (Err fault) = new ≡ (is_failed_read fault || old)
 
+-- a refused run has failed to read exactly where its fault says so, and read nothing where an option was refused
+pub record Leaves (old new : Stream) (fault : Fault) : Type 0 where
+  pub failed : new.has_failed ≡ (is_failed_read fault || old.has_failed)
+  pub unread : is_bad_option fault ≡ true → new ≡ old
+
 -- the streams of a run
 pub record Streams : Type 0 where
   pub source : Stream
@@ -75,7 +85,7 @@ pub record IsRefused (words : List (List ℕ)) (old new : Streams) : Type 0 wher
   pub fault : Fault
   pub stands : Refuses (IsDue words old.source.bytes) (Stands words old.source.bytes) old.sink new.sink fault
   pub told : Took old.faults new.faults (fault_line fault)
-  pub read : new.source.has_failed ≡ (is_failed_read fault || old.source.has_failed)
+  pub read : Leaves old.source new.source fault
 
 -- status 2: the words were refused, some text was said, and nothing was read or written
 pub record IsRejected (words : List (List ℕ)) (old new : Streams) : Type 0 where

@@ -3,7 +3,7 @@ ghost use Rattle.std.specs.Prelude.{◌≡◌, false, IfOk, IfErr, IfSome};
 ghost use Rattle.command_line.specs.declared.task.Task.TheVariants.{Energy as EnergyTask};
 ghost use Rattle.gco_cli.specs.Commands.{IsDueFor, StandsFor};
 ghost use Rattle.gco_cli.specs.Energy.{HasEnergyFault, HoldsEnergy};
-ghost use Rattle.gco_cli.specs.Run.{TellsRead, is_write};
+ghost use Rattle.gco_cli.specs.Run.{TellsRead, is_bad_option, is_write};
 
 use crate::answers::answer;
 use crate::written::Answer;
@@ -19,6 +19,7 @@ pub fn answer_energy<R: Source>(alloc: Global, source: &mut R) -> Result<Answer,
     ensures due { IfOk result (λ a. IsDueFor EnergyTask (R.remaining source.old) a.text.items a.said.bytes) }
     ensures stands { IfErr result (StandsFor EnergyTask (R.remaining source.old)) }
     ensures unwritten { IfErr result (λ fault. is_write fault ≡ false) }
+    ensures asked { IfErr result (λ fault. is_bad_option fault ≡ false) }
     ensures read { TellsRead (R.has_failed source.old) (R.has_failed source.new) result }
 {
     let energy = read_problem(alloc, source)?;
@@ -34,6 +35,7 @@ fn read_problem<R: Source>(alloc: Global, source: &mut R) -> Result<Energy, Faul
     ensures named { IfOk result (λ energy. IfSome (R.remaining source.old) (λ input. HoldsEnergy input energy)) }
     ensures stands { IfErr result (λ fault. IfSome (R.remaining source.old) (λ input. HasEnergyFault input fault)) }
     ensures unwritten { IfErr result (λ fault. is_write fault ≡ false) }
+    ensures asked { IfErr result (λ fault. is_bad_option fault ≡ false) }
     ensures read { TellsRead (R.has_failed source.old) (R.has_failed source.new) result }
 {
     let bytes = read_input(alloc, source)?;

@@ -5,7 +5,7 @@ ghost use Rattle.label_file.specs.Limits.{IsInLimits};
 ghost use Rattle.label_file.specs.Names.{told};
 ghost use Rattle.gco_cli.specs.Commands.{IsDueFor, StandsFor};
 ghost use Rattle.gco_cli.specs.Label.{AnswersProblem, HasLabelFault, HoldsProblem, IsRunFault, labels_text, numbers_text};
-ghost use Rattle.gco_cli.specs.Run.{TellsRead, is_write};
+ghost use Rattle.gco_cli.specs.Run.{TellsRead, is_bad_option, is_write};
 
 use crate::written::Answer;
 use byte_streams::{Source, read_input};
@@ -21,6 +21,7 @@ pub fn answer_label<R: Source>(alloc: Global, source: &mut R) -> Result<Answer, 
     ensures due { IfOk result (λ a. IsDueFor LabelTask (R.remaining source.old) a.text.items a.said.bytes) }
     ensures stands { IfErr result (StandsFor LabelTask (R.remaining source.old)) }
     ensures unwritten { IfErr result (λ fault. is_write fault ≡ false) }
+    ensures asked { IfErr result (λ fault. is_bad_option fault ≡ false) }
     ensures read { TellsRead (R.has_failed source.old) (R.has_failed source.new) result }
 {
     let problem = read_problem(alloc, source)?;
@@ -38,6 +39,7 @@ fn read_problem<R: Source>(alloc: Global, source: &mut R) -> Result<LabelProblem
     ensures stands { IfErr result (λ fault. IfSome (R.remaining source.old)
         (λ input. HasLabelFault input fault)) }
     ensures unwritten { IfErr result (λ fault. is_write fault ≡ false) }
+    ensures asked { IfErr result (λ fault. is_bad_option fault ≡ false) }
     ensures read { TellsRead (R.has_failed source.old) (R.has_failed source.new) result }
 {
     let bytes = read_input(alloc, source)?;

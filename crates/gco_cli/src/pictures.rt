@@ -1,9 +1,9 @@
 //! `gco restore`, `gco stereo` and `gco segment`.
-ghost use Rattle.std.specs.Prelude.{◌≡◌, IfOk, IfErr};
+ghost use Rattle.std.specs.Prelude.{◌≡◌, false, IfOk, IfErr};
 ghost use Rattle.command_line.specs.declared.task.Task.TheVariants.{Restore as RestoreTask, Stereo as StereoTask, Segment as SegmentTask};
 ghost use Rattle.image_options.specs.Ranges.{AreRestoreOptions, AreSegmentOptions, AreStereoOptions};
 ghost use Rattle.gco_cli.specs.Commands.{IsDueFor, StandsFor};
-ghost use Rattle.gco_cli.specs.Run.{Refuses, TellsRead, Writes};
+ghost use Rattle.gco_cli.specs.Run.{Refuses, TellsRead, Writes, is_bad_option};
 ghost use Rattle.gco_cli.specs.Streams.{stream};
 
 use crate::report::report_line;
@@ -29,6 +29,7 @@ pub fn restore<R: Source, W: Sink>(
         (StandsFor (RestoreTask options) (R.remaining source.old))
         (stream (W.held sink.old) (W.has_failed sink.old))
         (stream (W.held sink.new) (W.has_failed sink.new))) }
+    ensures asked { IfErr result (λ fault. is_bad_option fault ≡ false) }
     ensures read { TellsRead (R.has_failed source.old) (R.has_failed source.new) result }
     ensures kept { W.loan sink.new ≡ W.loan sink.old }
 {
@@ -54,6 +55,7 @@ pub fn stereo<R: Source, W: Sink>(
         (StandsFor (StereoTask options) (R.remaining source.old))
         (stream (W.held sink.old) (W.has_failed sink.old))
         (stream (W.held sink.new) (W.has_failed sink.new))) }
+    ensures asked { IfErr result (λ fault. is_bad_option fault ≡ false) }
     ensures read { TellsRead (R.has_failed source.old) (R.has_failed source.new) result }
     ensures kept { W.loan sink.new ≡ W.loan sink.old }
 {
@@ -79,6 +81,7 @@ pub fn segment<R: Source, W: Sink>(
         (StandsFor (SegmentTask options) (R.remaining source.old))
         (stream (W.held sink.old) (W.has_failed sink.old))
         (stream (W.held sink.new) (W.has_failed sink.new))) }
+    ensures asked { IfErr result (λ fault. is_bad_option fault ≡ false) }
     ensures read { TellsRead (R.has_failed source.old) (R.has_failed source.new) result }
     ensures kept { W.loan sink.new ≡ W.loan sink.old }
 {

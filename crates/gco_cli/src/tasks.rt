@@ -1,9 +1,9 @@
 //! What the words ask for, done.
-ghost use Rattle.std.specs.Prelude.{◌≡◌, IfOk, IfErr};
+ghost use Rattle.std.specs.Prelude.{◌≡◌, false, IfOk, IfErr};
 ghost use Rattle.command_line.specs.Task.{Fits};
 ghost use Rattle.gco_cli.specs.Commands.{IsDueFor, StandsFor};
 ghost use Rattle.gco_cli.specs.Refusals.{IsCutHelp, IsHelp, IsRefusalOf, ShowsHelp};
-ghost use Rattle.gco_cli.specs.Run.{Refuses, TellsRead, Writes};
+ghost use Rattle.gco_cli.specs.Run.{Refuses, TellsRead, Writes, is_bad_option};
 ghost use Rattle.gco_cli.specs.Streams.{stream};
 
 use crate::energy::answer_energy;
@@ -31,6 +31,7 @@ pub fn run_task<R: Source, W: Sink>(
         (StandsFor task (R.remaining source.old))
         (stream (W.held sink.old) (W.has_failed sink.old))
         (stream (W.held sink.new) (W.has_failed sink.new))) }
+    ensures asked { IfErr result (λ fault. is_bad_option fault ≡ false) }
     ensures read { TellsRead (R.has_failed source.old) (R.has_failed source.new) result }
     ensures kept { W.loan sink.new ≡ W.loan sink.old }
 {

@@ -15,7 +15,7 @@ returns-in_err-run_task-in-Ok-clause-refused g c =
     let fault = c.in_err-run_task-in-Ok.field-0.0 in
     as_fault (IsRefusalFor words source source_new old new) fault c.from_residual.result c.from_residual.ensures.1
     (of_command words c.in-Ok.task source source_new old new fault c.in-Ok.ensures.asked c.in_err-run_task-in-Ok.ensures.refused
-    c.in_err-run_task-in-Ok.ensures.read)
+    c.in_err-run_task-in-Ok.ensures.asked c.in_err-run_task-in-Ok.ensures.read)
 
 pub returns-in-Err-clause-refused : goal.returns-in-Err-clause-refused
 returns-in-Err-clause-refused g c =
