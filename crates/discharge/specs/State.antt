@@ -27,10 +27,12 @@ abbrev pub IsFinished : Network → Work → Type 0
 IsFinished net w =
     (v : ℕ) → v < nodes net → slice_index w.labels.items v < top net → slice_index w.excess.items v ≡ 0
 
--- a push or a new label at a node: less is left, at most one more node is queued, and none is forgotten
+-- a push or a new label at a node: less is left, also of what new labels lower and count; at most one more node is
+-- queued, and none is forgotten
 pub record IsStep (net : Network) (but : ℕ) (old new : Work) : Type 0 where
   pub work : IsWork net new
   pub lower : left net new < left net old
+  pub counted : left net new + new.relabels ≤ left net old + old.relabels
   pub queue : length new.queue.items ≤ length old.queue.items + 1
   pub queued : IsQueuedBut net but old → IsQueuedBut net but new
 
@@ -39,6 +41,7 @@ pub record IsSteps (net : Network) (but : ℕ) (old new : Work) : Type 0 where
   pub work : IsWork net new
   pub fall : left net new ≤ left net old
   pub lower : left net new + length new.queue.items ≤ left net old + length old.queue.items
+  pub counted : left net new + new.relabels ≤ left net old + old.relabels
   pub queued : IsQueuedBut net but old → IsQueuedBut net but new
 
 -- no residual direction of the node leads to a lower label
@@ -82,3 +85,17 @@ pub record IsRaised (net : Network) (old new : Work) : Type 0 where
   pub labels : (v : ℕ) → v < nodes net → slice_index old.labels.items v ≤ slice_index new.labels.items v
   pub excess : new.excess.items ≡ old.excess.items
   pub queue : new.queue.items ≡ old.queue.items
+
+-- pushes at any nodes: no more is left, whatever is queued
+pub record IsWave (net : Network) (old new : Work) : Type 0 where
+  pub work : IsWork net new
+  pub fall : left net new ≤ left net old
+  pub counted : left net new + new.relabels ≤ left net old + old.relabels
+
+-- the work at the start of a round: no node is forgotten, and no more are queued than there are
+pub record IsRound (net : Network) (old new : Work) : Type 0 where
+  pub work : IsWork net new
+  pub fall : left net new ≤ left net old
+  pub counted : left net new + new.relabels ≤ left net old
+  pub queue : length new.queue.items ≤ nodes net
+  pub queued : IsQueuedBut net (nodes net) new

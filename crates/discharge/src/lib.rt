@@ -1,11 +1,12 @@
 //! A least cut of a net by the preflow method, proved to be the smallest one.
 //!
-//! `work` is what the solver changes, `pushes` and `relabels` are its moves, `turns` is their order, and `solver` is
-//! the whole (Goldberg, Tarjan 1988).
+//! `work` is what the solver changes, `pushes` and `relabels` are its moves, `rounds` and `turns` are their order, and
+//! `solver` is the whole (Goldberg, Tarjan 1988).
 #![tactic(auto)]
 
 mod pushes;
 mod relabels;
+mod rounds;
 mod solver;
 mod turns;
 mod work;

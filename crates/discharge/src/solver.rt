@@ -5,6 +5,7 @@ ghost use Rattle.flow_network.specs.Answer.{side_of, IsRightCut};
 ghost use Rattle.sink_distances.specs.Distances.{AreDistances};
 ghost use Rattle.discharge.specs.State.{work_flow, IsWork, IsFinished};
 
+use crate::rounds::begin_round;
 use crate::turns::run;
 use crate::work::{Work, raise_all, start};
 use flow_network::{Net, Solved, cut_capacity};
@@ -15,10 +16,12 @@ use std::alloc::{AllocError, Global};
 /// lies within that of every other. Its capacity, `value`, is at most `CAPACITY_LIMIT`.
 ///
 /// The preflow method with one queue, first in and first out (Goldberg, Tarjan 1988, "A new approach to the
-/// maximum-flow problem", sections 2 to 4), whose labels are raised to the exact distances at the start and after
-/// each n new labels, where n is the number of nodes (Cherkassky, Goldberg 1997, "On implementing the push-relabel
-/// method for the maximum flow problem"). It stops where no node that reaches the sink has excess: a preflow
-/// certifies the cut as well as a flow. The sink side is the nodes that reach the sink over residual directions.
+/// maximum-flow problem", sections 2 to 4), in rounds: a round begins at the start and after each n / 16 new labels,
+/// where n is the number of nodes. It raises the labels to the exact distances (Cherkassky, Goldberg 1997, "On
+/// implementing the push-relabel method for the maximum flow problem") and pushes once at each node, the farthest
+/// from the sink first, so that excess moves down all the way in one pass. The method stops where no node that
+/// reaches the sink has excess: a preflow certifies the cut as well as a flow. The sink side is the nodes that reach
+/// the sink over residual directions.
 ///
 /// Takes every net, also of no nodes, with parallel and opposite arcs, and with arcs from a node to itself.
 /// Refuses only where memory runs out.
@@ -30,7 +33,7 @@ pub fn solve(alloc: Global, net: &Net) -> Result<Solved, AllocError>
     let adjacency = arcs_by_node(alloc, net)?;
     let mut order = vec![in alloc; 0; net.nodes()]?;
     let mut work = start(alloc, net)?;
-    raise_all(net, &adjacency, &mut work, order.as_mut_slice());
+    begin_round(net, &adjacency, &mut work, order.as_mut_slice())?;
     run(net, &adjacency, &mut work, order.as_mut_slice())?;
     raise_all(net, &adjacency, &mut work, order.as_mut_slice());
     answer_of(alloc, net, work)

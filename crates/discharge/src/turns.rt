@@ -6,7 +6,8 @@ ghost use Rattle.discharge.specs.State.{IsWork, IsQueuedBut, IsSteps, IsFinished
 
 use crate::pushes::push_all;
 use crate::relabels::relabel;
-use crate::work::{Work, raise_all};
+use crate::rounds::begin_round;
+use crate::work::Work;
 use flow_network::Net;
 use sink_distances::{Adjacency, top_label};
 use std::alloc::{AllocError, Global};
@@ -34,8 +35,8 @@ pub fn discharge(
     Ok(())
 }
 
-/// Discharges the nodes in the order of the queue, until no node below the top label has excess. The labels are
-/// raised to the exact distances after each n new labels, where n is the number of nodes.
+/// Discharges the nodes in the order of the queue, until no node below the top label has excess. A new round begins
+/// once there were more than n / 16 new labels in this one, where n is the number of nodes.
 pub fn run(
     net: &Net,
     adjacency: &Adjacency,
@@ -49,11 +50,11 @@ pub fn run(
     ensures work { OnOk result (IsWork net.now work.new) }
     ensures done { OnOk result (IsFinished net.now work.new) }
 {
-    let nodes = net.nodes();
+    let most = net.nodes() / 16;
     'turns: while let Some(v) = work.queue.pop_front() {
         discharge(net, adjacency, work, v as usize)?;
-        if work.relabels >= nodes {
-            raise_all(net, adjacency, work, order);
+        if work.relabels > most {
+            begin_round(net, adjacency, work, order)?;
         }
     }
     Ok(())

@@ -1,9 +1,9 @@
-ghost use Rattle.std.specs.Prelude.{◌≡◌, ◌<◌, ◌≤◌, ℕ, IfOk, All, Contains, length, slice_index};
+ghost use Rattle.std.specs.Prelude.{◌≡◌, ◌<◌, ◌≤◌, ℕ, IfOk, OnOk, All, Contains, length, slice_index};
 ghost use Rattle.flow_network.specs.Limits.{node_limit};
 ghost use Rattle.flow_network.specs.Cut.{nodes, IsNet};
 ghost use Rattle.sink_distances.specs.Adjacency.{IsAdjacency};
 ghost use Rattle.sink_distances.specs.Distances.{AreDistances};
-ghost use Rattle.discharge.specs.State.{work_flow, IsWork, IsQueuedBut, IsRaised};
+ghost use Rattle.discharge.specs.State.{work_flow, IsWork, IsRaised};
 
 use flow_network::Net;
 use sink_distances::{Adjacency, write_distances};
@@ -27,31 +27,37 @@ pub struct Work {
     pub relabels: usize,
 }
 
-/// The nodes that have excess, in rising order.
-fn nodes_with_excess(alloc: Global, excess: &[u64]) -> Result<VecDeque<u32>, AllocError>
-    requires { length excess.now ≤ node_limit }
-    ensures nodes { IfOk result (λ queue. All (λ v. v < length excess.now) queue.items) }
-    ensures all { IfOk result (λ queue. (v : ℕ) → v < length excess.now → 0 < slice_index excess.now v →
-        Contains queue.items v) }
+/// Queues anew the nodes that have excess and a label below the top one, in rising order.
+pub fn queue_again(
+    queue: &mut VecDeque<u32>,
+    excess: &[u64],
+    labels: &[u32],
+    top: u32,
+) -> Result<(), AllocError>
+    requires len { length labels.now ≡ length excess.now }
+    requires limit { length excess.now ≤ node_limit }
+    ensures nodes { OnOk result (All (λ v. v < length excess.now) queue.new.items) }
+    ensures all { OnOk result ((v : ℕ) → v < length excess.now → 0 < slice_index excess.now v →
+        slice_index labels.now v < top → Contains queue.new.items v) }
+    ensures few { OnOk result (length queue.new.items ≤ length excess.now) }
 {
-    let mut queue = VecDeque::with_capacity(alloc, excess.len())?;
+    queue.clear();
     'nodes: for v in 0..excess.len() {
-        if excess[v] > 0 {
+        if excess[v] > 0 && labels[v] < top {
             queue.push_back(v as u32)?;
         }
     }
-    Ok(queue)
+    Ok(())
 }
 
-/// The work at the start: no flow but that of the source, all labels 0.
+/// The work at the start: no flow but that of the source, all labels 0, no node queued.
 pub fn start(alloc: Global, net: &Net) -> Result<Work, AllocError>
     ensures work { IfOk result (λ w. IsWork net.now w) }
-    ensures queued { IfOk result (λ w. IsQueuedBut net.now (nodes net.now) w) }
     ensures limits { IsNet net.now }
 {
     let nodes = net.nodes();
     let excess = Vec::from_slice(alloc, net.sources())?;
-    let queue = nodes_with_excess(alloc, net.sources())?;
+    let queue = VecDeque::with_capacity(alloc, nodes)?;
     Ok(Work {
         arc_flow: vec![in alloc; 0; net.arcs().len()]?,
         sink_flow: vec![in alloc; 0; nodes]?,
@@ -62,7 +68,8 @@ pub fn start(alloc: Global, net: &Net) -> Result<Work, AllocError>
     })
 }
 
-/// Raises all labels to the exact distances. `order` is room for the search, one place for each node.
+/// Raises all labels to the exact distances. `order` has one place for each node: the search leaves there the nodes
+/// that reach the sink, the nearest first.
 pub fn raise_all(net: &Net, adjacency: &Adjacency, work: &mut Work, order: &mut [u32])
     requires limits { IsNet net.now }
     requires adjacency { IsAdjacency net.now adjacency.now }
@@ -70,6 +77,7 @@ pub fn raise_all(net: &Net, adjacency: &Adjacency, work: &mut Work, order: &mut 
     requires order { length order.old ≡ nodes net.now }
     ensures raised { IsRaised net.now work.old work.new }
     ensures exact { AreDistances net.now (work_flow work.new) work.new.labels.items }
+    ensures counted { work.new.relabels ≡ 0 }
 {
     write_distances(
         net,

@@ -51,7 +51,7 @@ returns c =
       step = back_step net old _ k z h c.requires.work c.requires.arc
           (omega (arith, amount, kept)) (omega (arith, amount, kept, flow, c.requires.some, c.requires.residual)) (omega (arith, amount, flow, c.requires.residual)) c.requires.down
           (ap (λ (f : ℕ). set old.arc_flow.items k (f - z)) flow) refl
-          (with_items_is old.excess c.shift.new.excess long ∙ shifted) refl queue;
+          (with_items_is old.excess c.shift.new.excess long ∙ shifted) refl queue refl;
       push = arc_push old _ u w z ne in_kept refl refl excess;
       arc = λ j off. get_or-set_other old.arc_flow.items k j (c.index-flow.result.now - z) 0 off;
       spent = λ some room.

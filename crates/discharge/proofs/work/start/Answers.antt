@@ -1,4 +1,4 @@
-use Rattle.std.proofs.Common.{◌∙◌, ap, length, replicate, ℕ}
+use Rattle.std.proofs.Common.{◌∙◌, ap, arith, length, replicate, ℕ}
 use Rattle.flow_network.specs.declared.arc.Arc.{Arc}
 use Rattle.discharge.proofs.Starting.{start_work}
 use Rattle.discharge.proofs.work.start.Goals as goal
@@ -11,4 +11,4 @@ returns-clause-work c =
     (c.in_ok-vec-2.ensures.items_if_clones_equal (λ y e. e) ∙ ap zero_to c.nodes-nodes.ensures.value)
     (c.in_ok-excess.ensures.items ∙ c.sources.ensures.value)
     (c.in_ok-vec-3.ensures.items_if_clones_equal (λ y e. e) ∙ ap zero_to c.nodes-nodes.ensures.value)
-    (rw c.sources-2.ensures.value at c.in_ok-queue.ensures.nodes)
+    (rw c.in_ok-queue.ensures.items (λ k d l. absurd (omega (arith, l))))
