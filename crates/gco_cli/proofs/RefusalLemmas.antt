@@ -1,5 +1,5 @@
 -- How the refusal of a command becomes that of a run, and a run's end the run.
-use Rattle.std.proofs.Common.{◌≡◌, ◌||◌, ℕ, false, List, inl, inr, Result, Ok, Err, IfOk, IfErr, MatchResult, refl, sym, subst, arith}
+use Rattle.std.proofs.Common.{◌≡◌, ◌||◌, ℕ, Bool, false, List, Option, inl, inr, Result, Ok, Err, IfOk, IfErr, MatchResult, refl, sym, subst, arith}
 use Rattle.std.specs.Result.{IsErrAnd}
 use Rattle.command_line.specs.Task.{Asks, AsksForHelp, IsNoTaskFor}
 use Rattle.command_line.specs.declared.task.NoTask.{NoTask}
@@ -8,7 +8,7 @@ use Rattle.command_line.specs.declared.task.Task.{Task}
 use Rattle.fault_lines.specs.declared.fault.Fault.{Fault}
 use Rattle.fault_lines.specs.declared.fault.Fault.TheVariants as fault
 use Rattle.gco_cli.specs.Commands.{IsDueFor, StandsFor}
-use Rattle.gco_cli.specs.Refusals.{IsHelp, IsRefusalFor, IsRefusalOf, SaysRefusal, status_of}
+use Rattle.gco_cli.specs.Refusals.{IsHelp, IsRefusalFor, IsRefusalOf, SaysRefusal, ShowsHelp, status_of}
 use Rattle.gco_cli.specs.Run.{IsCut, IsDue, IsRun, Leaves, Refuses, Streams, Writes, is_failed_read, is_bad_option}
 use Rattle.gco_cli.specs.Streams.{Stream, Took}
 use Rattle.gco_cli.specs.declared.refusal.Refusal.{Refusal}
@@ -68,6 +68,16 @@ pub all_refused : {T : Type 0} (words : List (List ℕ)) (no_task : NoTask) (sou
     → IsNoTaskFor words no_task → IfErr r (IsRefusalOf no_task old new) → IfErr r (IsRefusalFor words source source old new)
 all_refused words no_task source old new (Ok said) is of = tt
 all_refused words no_task source old new (Err e) is of = refused words no_task source old new e is of
+
+-- words without a task: what was shown is what was due
+pub all_shown : {T : Type 0} (bytes : T → List ℕ) (words : List (List ℕ)) (no_task : NoTask) (known : Option (List ℕ)) (old new : Stream)
+    (failed : Bool) (r : Result T Refusal) → IsNoTaskFor words no_task → IfOk r (λ said. ShowsHelp no_task old new (bytes said))
+    → IfOk r (λ said. Writes (IsDue words known) old new (bytes said) × (failed ≡ failed))
+all_shown bytes words (Help text) known old new failed (Ok said) is shows = ((shows.0, inl (is, shows.1), shows.2), refl)
+all_shown bytes words OutOfMemory known old new failed (Ok said) is shows = absurd shows
+all_shown bytes words (Refused text) known old new failed (Ok said) is shows = absurd shows
+all_shown bytes words (BadOption option) known old new failed (Ok said) is shows = absurd shows
+all_shown bytes words no_task known old new failed (Err e) is shows = tt
 
 -- the end of a run, and what was said of it, is the run
 pub run_of : {T : Type 0} (bytes : T → List ℕ) (words : List (List ℕ)) (old new : Streams) (end : Result T Refusal)

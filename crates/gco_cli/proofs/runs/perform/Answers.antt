@@ -1,7 +1,7 @@
 use Rattle.std.proofs.Common.{map}
 use Rattle.gco_cli.specs.Refusals.{IsRefusalFor}
 use Rattle.gco_cli.specs.Streams.{stream}
-use Rattle.gco_cli.proofs.RefusalLemmas.{all_refused, as_fault, of_command}
+use Rattle.gco_cli.proofs.RefusalLemmas.{all_refused, all_shown, as_fault, of_command}
 use Rattle.gco_cli.proofs.runs.perform.Goals as goal
 
 pub returns-in_err-run_task-in-Ok-clause-refused :
@@ -24,3 +24,10 @@ returns-in-Err-clause-refused g c =
     (stream (g.W.Sink.held c.args.sink.now) (g.W.Sink.has_failed c.args.sink.now))
     (stream (g.W.Sink.held c.end_without_task.new.sink) (g.W.Sink.has_failed c.end_without_task.new.sink))
     c.end_without_task.result c.in-Err.ensures.refused c.end_without_task.ensures.refused
+
+pub returns-in-Err-clause-done : goal.returns-in-Err-clause-done
+returns-in-Err-clause-done g c =
+    all_shown (λ said. said.bytes) (map g.S.AsStr.text c.args.words.now) c.in-Err.no_task (g.R.Source.remaining c.args.source.now)
+    (stream (g.W.Sink.held c.args.sink.now) (g.W.Sink.has_failed c.args.sink.now))
+    (stream (g.W.Sink.held c.end_without_task.new.sink) (g.W.Sink.has_failed c.end_without_task.new.sink))
+    (g.R.Source.has_failed c.args.source.now) c.end_without_task.result c.in-Err.ensures.refused c.end_without_task.ensures.done
