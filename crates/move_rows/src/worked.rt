@@ -13,9 +13,10 @@ const DATA: [u8; 4] = [3, 0, 3, 0];
 
 const POTTS: [u8; 4] = [0, 1, 1, 0];
 
-// Where a growth is refused, nothing is changed, and the move is made once more.
+// The closures index arrays of exactly the promised sizes. Where a growth is refused, nothing is changed, and the
+// move is made once more.
 #[test]
-fn two_labels(rt: HostRuntime) -> Result<(), Fail> {
+fn costs_stay_in_range(rt: HostRuntime) -> Result<(), Fail> {
     let mut pairs = Pairs::new(rt.alloc(), 2);
     pairs.add(0, 1, 5)?;
     let mut labelling = Labelling::new(rt.alloc(), 2, 2)?;
