@@ -15,7 +15,7 @@ use std::alloc::{AllocError, Global};
 /// The starts of the nodes from one on to another, counted from the first.
 pub(crate) fn starts_from(
     alloc: Global,
-    starts: &[usize],
+    starts: &[u32],
     first: usize,
     next: usize,
 ) -> Result<Vec<usize>, AllocError>
@@ -28,20 +28,20 @@ pub(crate) fn starts_from(
     let count = next - first + 1;
     let mut list = Vec::with_capacity(alloc, count)?;
     for node in 0..count {
-        list.push_reserved(starts[first + node] - starts[first]);
+        list.push_reserved((starts[first + node] - starts[first]) as usize);
     }
     Ok(list)
 }
 
 /// The directions of the nodes from one on to another, as indices of the table of slots.
-pub(crate) fn span(rows: &Groups, first: usize, next: usize) -> &[usize]
+pub(crate) fn span(rows: &Groups, first: usize, next: usize) -> &[u32]
     requires first { first < length rows.now.starts.items }
     requires next { next < length rows.now.starts.items }
     requires order { slice_index rows.now.starts.items first ≤ slice_index rows.now.starts.items next }
     requires within { slice_index rows.now.starts.items next ≤ length rows.now.places.items }
     ensures { result.now ≡ span rows.now first next }
 {
-    &rows.places.as_slice()[rows.starts[first]..rows.starts[next]]
+    &rows.places.as_slice()[rows.starts[first] as usize..rows.starts[next] as usize]
 }
 
 /// What a direction can carry before any flow.
@@ -109,7 +109,7 @@ pub(crate) fn lanes_of(
     net: &Net,
     slots: &[u32],
     first: usize,
-    indices: &[usize],
+    indices: &[u32],
 ) -> Result<Vec<Lane>, AllocError>
     requires room { length slots.now ≡ directions net.now }
     requires small { All (λ i. i < directions net.now) indices.now }
@@ -119,7 +119,7 @@ pub(crate) fn lanes_of(
     let arcs = net.arcs().len();
     let mut lanes = Vec::with_capacity(alloc, indices.len())?;
     for index in indices {
-        lanes.push_reserved(lane_at(net, slots, first, direction_at(arcs, *index)));
+        lanes.push_reserved(lane_at(net, slots, first, direction_at(arcs, *index as usize)));
     }
     Ok(lanes)
 }
@@ -131,7 +131,7 @@ pub(crate) fn borders_of(
     blocks: usize,
     slots: &[u32],
     first: usize,
-    indices: &[usize],
+    indices: &[u32],
 ) -> Result<Vec<Border>, AllocError>
     requires split { CanSplit net.now blocks }
     requires room { length slots.now ≡ directions net.now }
@@ -143,7 +143,13 @@ pub(crate) fn borders_of(
     let arcs = net.arcs().len();
     let mut borders = Vec::with_capacity(alloc, indices.len())?;
     for index in indices {
-        borders.push_reserved(border_at(net, blocks, slots, first, direction_at(arcs, *index)));
+        borders.push_reserved(border_at(
+            net,
+            blocks,
+            slots,
+            first,
+            direction_at(arcs, *index as usize),
+        ));
     }
     Ok(borders)
 }

@@ -16,9 +16,9 @@ pub(crate) fn write_slots(net: &Net, blocks: usize, rows: &Groups, slots: &mut [
 {
     let arcs = net.arcs().len();
     for place in rows.starts[0]..rows.starts[net.nodes()] {
-        let index = rows.places[place];
+        let index = rows.places[place as usize] as usize;
         let block = block_of(net, blocks, near(net, direction_at(arcs, index)));
         let base = rows.starts[first_of(net.nodes(), blocks, block)];
-        slots[index] = (place - base) as u32;
+        slots[index] = place - base;
     }
 }

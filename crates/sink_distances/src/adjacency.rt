@@ -30,7 +30,7 @@ fn heads(alloc: Global, arcs: &[Arc]) -> Result<Vec<u32>, AllocError>
 
 /// The arcs of the net by the node that each leaves, and by the node that each enters.
 ///
-/// Refuses only where memory runs out.
+/// Refuses only where memory runs out; a net of 2^32 arcs or more counts as that.
 pub fn arcs_by_node(alloc: Global, net: &Net) -> Result<Adjacency, AllocError>
     ensures { IfOk result (λ adjacency. IsAdjacency net.now adjacency) }
 {

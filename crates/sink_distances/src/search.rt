@@ -100,7 +100,14 @@ fn mark_tails(
 {
     let into = &carried.adjacency.into;
     for p in into.starts[w]..into.starts[w + 1] {
-        count = mark_tail(carried, labels, order, count, into.places[p], label);
+        count = mark_tail(
+            carried,
+            labels,
+            order,
+            count,
+            into.places[p as usize] as usize,
+            label,
+        );
     }
     count
 }
@@ -154,7 +161,14 @@ fn mark_heads(
 {
     let out = &carried.adjacency.out;
     for p in out.starts[w]..out.starts[w + 1] {
-        count = mark_head(carried, labels, order, count, out.places[p], label);
+        count = mark_head(
+            carried,
+            labels,
+            order,
+            count,
+            out.places[p as usize] as usize,
+            label,
+        );
     }
     count
 }

@@ -10,7 +10,7 @@ use std::alloc::{AllocError, Global};
 
 /// The exact distance of each node to the sink over residual directions, as `write_distances` writes it.
 ///
-/// Refuses only where memory runs out.
+/// Refuses only where memory runs out; a net of 2^32 arcs or more counts as that.
 pub fn distances(
     alloc: Global,
     net: &Net,
