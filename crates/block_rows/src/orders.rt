@@ -1,8 +1,8 @@
 use block_core::Core;
 use block_net::{ARC_LIMIT, BLOCK_LIMIT};
-use discharge::solve;
 use flow_network::{Arc, Net};
 use parcel::{Direction, Event};
+use plain_cut::solve;
 use std::alloc::{AllocError, Global};
 use std::process::Abort;
 use std::test::Fail;

@@ -7,7 +7,7 @@ ghost use Rattle.pseudo_bool.specs.Formula.{assignment, value_at};
 ghost use Rattle.compile_cut.specs.Shown.{IsSmallestLeastAssignment};
 
 use compile_cut::compile;
-use discharge::solve;
+use plain_cut::solve;
 use regular::Regular;
 use std::alloc::{AllocError, Global};
 

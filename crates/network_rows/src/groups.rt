@@ -3,7 +3,7 @@ use grouping::group;
 use std::test::Fail;
 
 /// How many numbers, a list, and of its groups the starts and the places.
-type Case = (usize, &'static [u32], &'static [usize], &'static [usize]);
+type Case = (usize, &'static [u32], &'static [u32], &'static [u32]);
 
 const CASES: &[Case] = &[
     (2, &[], &[0, 0, 0], &[]),

@@ -1,8 +1,8 @@
 //! Least cuts, by hand and from a script that tries every cut.
 use crate::building::{Row, net_of};
 use crate::small_nets::{COUNT, NUMBERS};
-use discharge::solve;
 use flow_network::{Net, check_cut};
+use plain_cut::solve;
 use std::process::Abort;
 use std::slice::Iter;
 use std::test::Fail;

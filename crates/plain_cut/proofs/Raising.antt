@@ -1,0 +1,91 @@
+-- Labels that do not fall, and are not above the top, leave no more to do.
+use Rattle.std.proofs.Common.{◌≡◌, ℕ, zero, suc, ◌+◌, ◌-◌, ◌*◌, ◌<◌, ◌≤◌, List, slice_index, ap, arith}
+use Rattle.sums.specs.Sums.{sum_below}
+use Rattle.flow_network.specs.Cut.{Network, nodes, IsNet, total_capacity}
+use Rattle.flow_network.specs.Preflow.{Flow}
+use Rattle.flow_network.specs.Labels.{IsLabelling}
+use Rattle.flow_network.specs.Progress.{top, IsSound, work_left}
+use Rattle.flow_network.proofs.Moves.{kept-le-total}
+use Rattle.sink_distances.specs.Distances.{AreDistances}
+use Rattle.sink_distances.proofs.Laws.{distances_label, distances_rise, distances-le-top}
+use Rattle.plain_cut.specs.declared.work.Work.{Work}
+use Rattle.plain_cut.specs.State.{work_flow, IsWork, IsQueuedBut, IsFinished, IsRaised}
+
+sum_times : (x y k : ℕ) → (x + y) * k ≡ x * k + y * k
+sum_times x y k = grind arith
+
+-- a label that rises by j takes as much from what is left to rise as it adds to the height, or more
+rise_pays : (e g d j k : ℕ) → e < k → g * k + e * (d + j + 1) ≤ (g + j) * k + e * (d + 1)
+rise_pays e g d j k h =
+    let step : e * j ≤ k * j = grind arith in
+    grind arith
+
+one_pays : (t k e a b : ℕ) → a ≤ b → b ≤ t → e < k → (t - b) * k + e * (b + 1) ≤ (t - a) * k + e * (a + 1)
+one_pays t k e a b up fits small =
+    let pays = rise_pays e (t - b) a (b - a) k small in
+    let gap : (t - b) + (b - a) ≡ t - a = omega arith in
+    let sum : a + (b - a) + 1 ≡ b + 1 = omega arith in
+    omega (arith, pays, ap (λ q. q * k) gap, ap (λ q. e * q) sum)
+
+all_pay : (n t k : ℕ) (e a b : ℕ → ℕ) → ((v : ℕ) → v < n → (a v ≤ b v) × (b v ≤ t) × (e v < k))
+    → sum_below n (λ v. t - b v) * k + sum_below n (λ v. e v * (b v + 1)) ≤ sum_below n (λ v. t - a v) * k + sum_below n (λ v. e v * (a v + 1))
+all_pay zero t k e a b h = omega arith
+all_pay (suc n) t k e a b h =
+    let here = h n (omega arith) in
+    omega (
+      arith,
+      all_pay n t k e a b (λ v l. h v (omega arith)),
+      one_pays t k (e n) (a n) (b n) here.0 here.1 here.2,
+      sum_times (sum_below n (λ v. t - b v)) (t - b n) k,
+      sum_times (sum_below n (λ v. t - a v)) (t - a n) k,
+    )
+
+-- the work that is left does not grow
+pub raise_lowers : (net : Network) (flow : Flow) (kept labels new : List ℕ) → IsNet net → IsSound net flow kept labels
+    → ((v : ℕ) → v < nodes net → slice_index labels v ≤ slice_index new v) → ((v : ℕ) → v < nodes net → slice_index new v ≤ top net)
+    → work_left net kept new ≤ work_left net kept labels
+raise_lowers net flow kept labels new h s up fits =
+    all_pay (nodes net) (top net) (total_capacity net + 1) (slice_index kept) (slice_index labels) (slice_index new)
+    (λ v l. (up v l, fits v l, omega (arith, kept-le-total net flow kept labels h s v l)))
+
+-- what is sound stays so
+pub raise_sound : (net : Network) (flow : Flow) (kept labels new : List ℕ) → IsSound net flow kept labels
+    → IsLabelling net flow new → ((v : ℕ) → v < nodes net → slice_index new v ≤ top net) → IsSound net flow kept new
+raise_sound net flow kept labels new s fits low = record {
+  preflow = s.preflow;
+  kept_len = s.kept_len;
+  told = s.told;
+  labelling = fits;
+  below_top = low;
+}
+
+-- ---- over the work
+
+pub raise_work : (net : Network) (old new : Work) → IsNet net → IsWork net old
+    → new.arc_flow.items ≡ old.arc_flow.items → new.sink_flow.items ≡ old.sink_flow.items
+    → new.excess.items ≡ old.excess.items → new.queue.items ≡ old.queue.items
+    → AreDistances net (work_flow old) new.labels.items → IsRaised net old new
+raise_work net old new h s ea es ee eq exact =
+    let up = distances_rise net (work_flow old) old.labels.items new.labels.items s.sound.labelling s.sound.below_top exact in
+    let low = distances-le-top net (work_flow old) new.labels.items exact in
+    record {
+      work = record {
+        sound = rw (ea, es, ee) (raise_sound net (work_flow old) old.excess.items old.labels.items new.labels.items s.sound
+            (distances_label net (work_flow old) new.labels.items h exact) low);
+        queue = rw eq s.queue;
+      };
+      fall = rw ee (raise_lowers net (work_flow old) old.excess.items old.labels.items new.labels.items h s.sound up low);
+      labels = up;
+      excess = ee;
+      queue = eq;
+    }
+
+-- no node with excess is forgotten
+pub raise_queued : (net : Network) (but : ℕ) (old new : Work) → IsRaised net old new → IsQueuedBut net but old → IsQueuedBut net but new
+raise_queued net but old new r h v lv off some low =
+    rw r.queue (h v lv off (omega (arith, ap (λ (xs : List ℕ). slice_index xs v) r.excess, some)) (omega (arith, r.labels v lv, low)))
+
+-- what is finished stays so
+pub raise_finished : (net : Network) (old new : Work) → IsRaised net old new → IsFinished net old → IsFinished net new
+raise_finished net old new r h v lv low =
+    omega (arith, h v lv (omega (arith, r.labels v lv, low)), ap (λ (xs : List ℕ). slice_index xs v) r.excess)

@@ -1,0 +1,167 @@
+-- A push, a gift or a new label is a step of the work.
+use Rattle.std.proofs.Common.{◌≡◌, ◌≢◌, ℕ, ◌+◌, ◌-◌, ◌*◌, ◌<◌, ◌≤◌, inl, inr, Bool, true, false, cond, eqb, List, [], ◌∷◌, ◌++◌, length, set, slice_index, All, Contains, refl, sym, ap, arith, get_or-set_other}
+use Rattle.std.proofs.lemmas.List.{length_push}
+use Rattle.std.proofs.lemmas.List.Elements.{All-push, Contains-append_left, Contains-push}
+use Rattle.std.proofs.lemmas.Bool.{cases_lt, cases_eq, eq-eqb}
+use Rattle.plain_cut.specs.declared.work.Work.{Work}
+use Rattle.flow_network.specs.Cut.{Network, nodes, IsNet}
+use Rattle.flow_network.specs.Preflow.{arc_at}
+use Rattle.flow_network.specs.Progress.{top, IsSound}
+use Rattle.plain_cut.specs.State.{work_flow, IsWork, left, IsStep, IsSteps, IsWave, IsLowest}
+use Rattle.flow_network.proofs.Duality.{arc_is}
+use Rattle.flow_network.proofs.Push.{moved, move_lowers, give_lowers}
+use Rattle.flow_network.proofs.Moves.{forward_sound, back_sound, give_sound, relabel_sound, relabel_lowers_all}
+
+-- ---- the queue
+
+abbrev pub queued_after : List ℕ → ℕ → ℕ → List ℕ
+queued_after queue e w = cond (eqb e 0) (queue ++ w ∷ []) queue
+
+queue_all : (n : ℕ) (queue : List ℕ) (w : ℕ) (b : Bool) → w < n → All (λ v. v < n) queue → All (λ v. v < n) (cond b (queue ++ w ∷ []) queue)
+queue_all n queue w true l h = All-push (λ v. v < n) queue w h l
+queue_all n queue w false l h = h
+
+queue_length : (queue : List ℕ) (w : ℕ) (b : Bool) → length (cond b (queue ++ w ∷ []) queue) ≤ length queue + 1
+queue_length queue w true = omega (arith, length_push queue w)
+queue_length queue w false = omega arith
+
+queue_keeps : (queue : List ℕ) (w : ℕ) (b : Bool) (v : ℕ) → Contains queue v → Contains (cond b (queue ++ w ∷ []) queue) v
+queue_keeps queue w true v h = Contains-append_left queue (w ∷ []) v h
+queue_keeps queue w false v h = h
+
+queue_gains : (queue : List ℕ) (w : ℕ) (b : Bool) → (b ≡ false → Contains queue w) → Contains (cond b (queue ++ w ∷ []) queue) w
+queue_gains queue w true h = Contains-push queue w
+queue_gains queue w false h = h refl
+
+-- ---- a push
+
+pub push_step : (net : Network) (old new : Work) (u w z : ℕ) → IsWork net old
+    → IsSound net (work_flow new) new.excess.items new.labels.items → left net new < left net old
+    → u ≢ w → w < nodes net
+    → new.excess.items ≡ moved old.excess.items u w z → new.labels.items ≡ old.labels.items
+    → new.queue.items ≡ queued_after old.queue.items (slice_index old.excess.items w) w → new.relabels ≡ old.relabels
+    → IsStep net u old new
+push_step net old new u w z h sound lower ne lw ee el eq er =
+    let b = eqb (slice_index old.excess.items w) 0 in
+    record {
+      work = record { sound = sound; queue = rw eq (queue_all (nodes net) old.queue.items w b lw h.queue) };
+      lower = lower;
+      counted = omega (arith, lower, er);
+      queue = rw eq (queue_length old.queue.items w b);
+      queued = λ before v lv off some low.
+          let low' : slice_index old.labels.items v < top net = omega (arith, ap (λ (xs : List ℕ). slice_index xs v) el, low) in
+          let kept = ap (λ (xs : List ℕ). slice_index xs v) ee in
+          rw eq (elim (cases_eq v w) [
+            | inl there ↦ rw there (queue_gains old.queue.items w b (λ fails.
+                let positive : 0 < slice_index old.excess.items w = elim (cases_lt 0 (slice_index old.excess.items w)) [
+                  | inl holds ↦ holds
+                  | inr none ↦ let yes' = eq-eqb (slice_index old.excess.items w) 0 (omega arith) in absurd (cc)
+                ] in
+                before w lw (λ e. ne (sym e)) positive (omega (arith, ap (slice_index old.labels.items) there, low'))))
+            | inr away ↦
+                let r1 = get_or-set_other (set old.excess.items u (slice_index old.excess.items u - z)) w v (slice_index old.excess.items w + z) 0 away in
+                let r2 = get_or-set_other old.excess.items u v (slice_index old.excess.items u - z) 0 off in
+                queue_keeps old.queue.items w b v (before v lv off (omega (arith, kept, r1, r2, some)) low')
+          ]);
+    }
+
+pub forward_step : (net : Network) (old new : Work) (k z : ℕ) → IsNet net → IsWork net old → k < length net.arcs
+    → z ≤ slice_index old.excess.items (arc_at net k).from → 0 < z → slice_index old.arc_flow.items k + z ≤ (arc_at net k).capacity
+    → slice_index old.labels.items (arc_at net k).from ≡ slice_index old.labels.items (arc_at net k).to + 1
+    → new.arc_flow.items ≡ set old.arc_flow.items k (slice_index old.arc_flow.items k + z) → new.sink_flow.items ≡ old.sink_flow.items
+    → new.excess.items ≡ moved old.excess.items (arc_at net k).from (arc_at net k).to z → new.labels.items ≡ old.labels.items
+    → new.queue.items ≡ queued_after old.queue.items (slice_index old.excess.items (arc_at net k).to) (arc_at net k).to
+    → new.relabels ≡ old.relabels → IsStep net (arc_at net k).from old new
+forward_step net old new k z h s l le some fits down ea es ee el eq er =
+    let u = (arc_at net k).from in
+    let w = (arc_at net k).to in
+    let ne : u ≢ w = λ e. (let same = ap (slice_index old.labels.items) e in omega (arith, same, down)) in
+    let ends = arc_is net h k l in
+    push_step net old new u w z s
+    (rw (ea, es, ee, el) (forward_sound net (work_flow old) old.excess.items old.labels.items k z h s.sound l le fits (omega (arith, fits, some)) down))
+    (rw (ee, el) (move_lowers net old.excess.items old.labels.items u w z ends.from ends.to ne s.sound.kept_len le some down))
+    ne ends.to ee el eq er
+
+pub back_step : (net : Network) (old new : Work) (k z : ℕ) → IsNet net → IsWork net old → k < length net.arcs
+    → z ≤ slice_index old.excess.items (arc_at net k).to → 0 < z → z ≤ slice_index old.arc_flow.items k
+    → slice_index old.labels.items (arc_at net k).to ≡ slice_index old.labels.items (arc_at net k).from + 1
+    → new.arc_flow.items ≡ set old.arc_flow.items k (slice_index old.arc_flow.items k - z) → new.sink_flow.items ≡ old.sink_flow.items
+    → new.excess.items ≡ moved old.excess.items (arc_at net k).to (arc_at net k).from z → new.labels.items ≡ old.labels.items
+    → new.queue.items ≡ queued_after old.queue.items (slice_index old.excess.items (arc_at net k).from) (arc_at net k).from
+    → new.relabels ≡ old.relabels → IsStep net (arc_at net k).to old new
+back_step net old new k z h s l le some fits down ea es ee el eq er =
+    let u = (arc_at net k).to in
+    let w = (arc_at net k).from in
+    let ne : u ≢ w = λ e. (let same = ap (slice_index old.labels.items) e in omega (arith, same, down)) in
+    let ends = arc_is net h k l in
+    push_step net old new u w z s
+    (rw (ea, es, ee, el) (back_sound net (work_flow old) old.excess.items old.labels.items k z h s.sound l le fits (omega (arith, fits, some)) down))
+    (rw (ee, el) (move_lowers net old.excess.items old.labels.items u w z ends.to ends.from ne s.sound.kept_len le some down))
+    ne ends.from ee el eq er
+
+pub give_step : (net : Network) (old new : Work) (u z : ℕ) → IsWork net old → u < nodes net
+    → z ≤ slice_index old.excess.items u → 0 < z → slice_index old.sink_flow.items u + z ≤ slice_index net.sinks u
+    → new.arc_flow.items ≡ old.arc_flow.items → new.sink_flow.items ≡ set old.sink_flow.items u (slice_index old.sink_flow.items u + z)
+    → new.excess.items ≡ set old.excess.items u (slice_index old.excess.items u - z) → new.labels.items ≡ old.labels.items
+    → new.queue.items ≡ old.queue.items → new.relabels ≡ old.relabels
+    → IsStep net u old new
+give_step net old new u z s l le some fits ea es ee el eq er = record {
+  work = record { sound = rw (ea, es, ee, el) (give_sound net (work_flow old) old.excess.items old.labels.items u z s.sound l le fits); queue = rw eq s.queue };
+  lower = rw (ee, el) (give_lowers net old.excess.items old.labels.items u z l s.sound.kept_len le some);
+  counted = rw (ee, el) (omega (arith, er, give_lowers net old.excess.items old.labels.items u z l s.sound.kept_len le some));
+  queue = rw eq (omega arith);
+  queued = λ before v lv off positive low.
+      let kept = ap (λ (xs : List ℕ). slice_index xs v) ee in
+      let r = get_or-set_other old.excess.items u v (slice_index old.excess.items u - z) 0 off in
+      rw eq (before v lv off (omega (arith, kept, r, positive)) (omega (arith, ap (λ (xs : List ℕ). slice_index xs v) el, low)));
+}
+
+pub relabel_step : (net : Network) (old new : Work) (u j : ℕ) → IsNet net → IsWork net old → u < nodes net
+    → slice_index old.labels.items u < j → IsLowest net old u j
+    → new.arc_flow.items ≡ old.arc_flow.items → new.sink_flow.items ≡ old.sink_flow.items
+    → new.excess.items ≡ old.excess.items → new.labels.items ≡ set old.labels.items u j
+    → new.queue.items ≡ old.queue.items → new.relabels ≤ old.relabels + 1
+    → IsStep net u old new
+relabel_step net old new u j h s l up low ea es ee el eq er = record {
+  work = record { sound = rw (ea, es, ee, el) (relabel_sound net (work_flow old) old.excess.items old.labels.items u j s.sound l (omega (arith, up)) low.fits low.sinks low.arcs); queue = rw eq s.queue };
+  lower = rw (ee, el) (relabel_lowers_all net (work_flow old) old.excess.items old.labels.items u j h s.sound l up low.fits);
+  counted = rw (ee, el) (omega (arith, er, relabel_lowers_all net (work_flow old) old.excess.items old.labels.items u j h s.sound l up low.fits));
+  queue = rw eq (omega arith);
+  queued = λ before v lv off positive below.
+      let kept = ap (λ (xs : List ℕ). slice_index xs v) ee in
+      let lab = ap (λ (xs : List ℕ). slice_index xs v) el in
+      let r = get_or-set_other old.labels.items u v j 0 off in
+      rw eq (before v lv off (omega (arith, kept, positive)) (omega (arith, lab, r, below)));
+}
+
+-- ---- many steps
+
+pub steps_one : (net : Network) (u : ℕ) (a b : Work) → IsStep net u a b → IsSteps net u a b
+steps_one net u a b s = record { work = s.work; fall = omega (arith, s.lower); lower = omega (arith, s.lower, s.queue); counted = s.counted; queued = s.queued }
+
+pub steps_more : (net : Network) (u : ℕ) (a b c : Work) → IsSteps net u a b → IsSteps net u b c → IsSteps net u a c
+steps_more net u a b c h s = record {
+  work = s.work;
+  fall = omega (arith, h.fall, s.fall);
+  lower = omega (arith, h.lower, s.lower);
+  counted = omega (arith, h.counted, s.counted);
+  queued = λ q. s.queued (h.queued q);
+}
+
+-- ---- a wave and a round
+
+pub wave_more : (net : Network) (u : ℕ) (a b c : Work) → IsWave net a b → IsSteps net u b c → IsWave net a c
+wave_more net u a b c h s = record { work = s.work; fall = omega (arith, h.fall, s.fall); counted = omega (arith, h.counted, s.counted) }
+
+times_le : (k a b : ℕ) → b ≤ a → b * k ≤ a * k
+times_le k a b h = grind arith
+
+-- a turn lowers what a round may not raise
+pub turn_lowers : (n a b x y : ℕ) → b ≤ a → y < x → b * (n + 1) + y < a * (n + 1) + x
+turn_lowers n a b x y h l = omega (arith, times_le (n + 1) a b h, l)
+
+-- a round lowers the first part by more than it may raise the other
+pub round_lowers : (n a b x y : ℕ) → b < a → y ≤ x + n → b * (n + 1) + y < a * (n + 1) + x
+round_lowers n a b x y h l =
+    let step : (b + 1) * (n + 1) ≡ b * (n + 1) + (n + 1) = grind arith in
+    omega (arith, step, times_le (n + 1) a (b + 1) (omega (arith, h)), l)

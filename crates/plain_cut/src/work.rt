@@ -1,0 +1,91 @@
+ghost use Rattle.std.specs.Prelude.{◌≡◌, ◌<◌, ◌≤◌, ℕ, IfOk, OnOk, All, Contains, length, slice_index};
+ghost use Rattle.flow_network.specs.Limits.{node_limit};
+ghost use Rattle.flow_network.specs.Cut.{nodes, IsNet};
+ghost use Rattle.sink_distances.specs.Adjacency.{IsAdjacency};
+ghost use Rattle.sink_distances.specs.Distances.{AreDistances};
+ghost use Rattle.plain_cut.specs.State.{work_flow, IsWork, IsRaised};
+
+use flow_network::Net;
+use sink_distances::{Adjacency, write_distances};
+use std::alloc::{AllocError, Global};
+use std::collections::VecDeque;
+
+/// What the solver changes: a preflow, its excess, the labels, and the nodes that wait for their turn.
+#[derive(Drop)]
+pub struct Work {
+    /// What each arc carries.
+    pub arc_flow: Vec<u64>,
+    /// What each node gives the sink.
+    pub sink_flow: Vec<u64>,
+    /// What each node has got and not passed on.
+    pub excess: Vec<u64>,
+    /// Of each node at most the number of residual directions that lead to the sink, or `top_label`.
+    pub labels: Vec<u32>,
+    /// Nodes that had excess when they came, in the order of their turns.
+    pub queue: VecDeque<u32>,
+    /// How many new labels there were since all labels were exact distances.
+    pub relabels: usize,
+}
+
+/// Queues anew the nodes that have excess and a label below the top one, in rising order.
+pub fn queue_again(
+    queue: &mut VecDeque<u32>,
+    excess: &[u64],
+    labels: &[u32],
+    top: u32,
+) -> Result<(), AllocError>
+    requires len { length labels.now ≡ length excess.now }
+    requires limit { length excess.now ≤ node_limit }
+    ensures nodes { OnOk result (All (λ v. v < length excess.now) queue.new.items) }
+    ensures all { OnOk result ((v : ℕ) → v < length excess.now → 0 < slice_index excess.now v →
+        slice_index labels.now v < top → Contains queue.new.items v) }
+    ensures few { OnOk result (length queue.new.items ≤ length excess.now) }
+{
+    queue.clear();
+    'nodes: for v in 0..excess.len() {
+        if excess[v] > 0 && labels[v] < top {
+            queue.push_back(v as u32)?;
+        }
+    }
+    Ok(())
+}
+
+/// The work at the start: no flow but that of the source, all labels 0, no node queued.
+pub fn start(alloc: Global, net: &Net) -> Result<Work, AllocError>
+    ensures work { IfOk result (λ w. IsWork net.now w) }
+    ensures limits { IsNet net.now }
+{
+    let nodes = net.nodes();
+    let excess = Vec::from_slice(alloc, net.sources())?;
+    let queue = VecDeque::with_capacity(alloc, nodes)?;
+    Ok(Work {
+        arc_flow: vec![in alloc; 0; net.arcs().len()]?,
+        sink_flow: vec![in alloc; 0; nodes]?,
+        excess,
+        labels: vec![in alloc; 0; nodes]?,
+        queue,
+        relabels: 0,
+    })
+}
+
+/// Raises all labels to the exact distances. `order` has one place for each node: the search leaves there the nodes
+/// that reach the sink, the nearest first.
+pub fn raise_all(net: &Net, adjacency: &Adjacency, work: &mut Work, order: &mut [u32])
+    requires limits { IsNet net.now }
+    requires adjacency { IsAdjacency net.now adjacency.now }
+    requires work { IsWork net.now work.old }
+    requires order { length order.old ≡ nodes net.now }
+    ensures raised { IsRaised net.now work.old work.new }
+    ensures exact { AreDistances net.now (work_flow work.new) work.new.labels.items }
+    ensures counted { work.new.relabels ≡ 0 }
+{
+    write_distances(
+        net,
+        adjacency,
+        work.arc_flow.as_slice(),
+        work.sink_flow.as_slice(),
+        work.labels.as_mut_slice(),
+        order,
+    );
+    work.relabels = 0;
+}
