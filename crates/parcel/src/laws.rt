@@ -1,6 +1,6 @@
 //! Laws of the events. These functions do nothing: the contract of each is a law.
 
-ghost use Rattle.parcel.specs.Laws.{HasOneEffect, EventKeeps, EventLowers, RaiseNeverRaises, OpeningIsSound, OpeningCount, EveryList, GoesOn, FinishedIsSmallest, WayFits, AcceptFits, SettleFits, ExcessFits, SinkGotAtMostEachCut};
+ghost use Rattle.parcel.specs.Laws.{HasOneEffect, EventKeeps, EventLowers, RaiseNeverRaises, OpeningIsSound, OpeningCount, EveryList, GoesOn, FinishedIsSmallest, FinishedIsCertified, WayFits, AcceptFits, SettleFits, ExcessFits, SinkGotAtMostEachCut};
 
 /// An event that happens in a state leads to one state.
 pub fn has_one_effect()
@@ -49,6 +49,13 @@ pub fn goes_on()
 /// Tarjan 1988, section 3; Ford, Fulkerson 1962).
 pub fn finished_is_smallest()
     ensures { FinishedIsSmallest }
+{}
+
+/// In a sound and finished state what can be taken back of each arc, and what each node gave the sink, are a
+/// preflow that certifies the cut of the nodes that reach the sink; its value is what the sink got (Goldberg,
+/// Tarjan 1988, section 2).
+pub fn finished_is_certified()
+    ensures { FinishedIsCertified }
 {}
 
 /// In a sound state a way has at most as many messages as directions lie between its two blocks.

@@ -1,0 +1,4 @@
+pub mod Workers
+pub mod Rounds
+pub mod Laws
+pub mod Rows
