@@ -1,6 +1,6 @@
 -- Passes that lower labels end at the exact ones.
 use Rattle.std.proofs.Common.{eqb, add-one, ◌≡◌, ℕ, zero, suc, ◌+◌, ◌-◌, ◌<◌, ◌≤◌, ◌⊎◌, inl, inr, Bool, true, false, cond, List, [], length, map, set, get_or, slice_index, sum, refl, sym, ◌∙◌, ap, subst, arith, get_or-set_same, get_or-set_other}
-use Rattle.std.proofs.lemmas.List.{length-set, same_lists, get_or_default}
+use Rattle.std.proofs.lemmas.List.{ext_get_or, length-set, same_lists, get_or_default}
 use Rattle.std.proofs.lemmas.List.FromFn.{get_or-map-range_with_len, length-map-range_with_len}
 use Rattle.std.specs.List.{range_with_len}
 use Rattle.std.proofs.lemmas.Bool.{cases_eq, cases_lt, cases_Bool, false≢true}
@@ -150,11 +150,11 @@ pub record IsPass (old now : BlocksView) (changed : Bool) (Stable : Type 0) : Ty
   pub lowered : IsLowered old now changed
   pub stable : changed ≡ false → Stable
 
--- all labels below a number are the top one
-pub record IsCutOff (old now : BlocksView) (count : ℕ) : Type 0 where
+-- the labels of the nodes below a number are those of f
+pub record IsFilled (old now : BlocksView) (f : ℕ → ℕ) (count : ℕ) : Type 0 where
   pub rest : now ≡ record old { labels = now.labels }
   pub len : length now.labels ≡ nodes old.net
-  pub tops : (v : ℕ) → v < count → slice_index now.labels v ≡ top old.net
+  pub filled : (v : ℕ) → v < count → slice_index now.labels v ≡ f v
 
 -- the labels are on their way down
 pub record IsSearch (old now : BlocksView) : Type 0 where
@@ -185,15 +185,21 @@ step_down b x net l residual above r =
       | inr found ↦ (less, one_more (bare b) x (slice_index b.labels (far b.net x)) l residual found.1)
     ]
 
-pub cut_more : (a b c : BlocksView) (v t : ℕ) → IsCutOff a b v → c ≡ labelled b v t → v < nodes a.net → t ≡ top a.net → IsCutOff a c (v + 1)
-cut_more a b c v t cut is l high = rw is record {
-  rest = ap (λ (w : BlocksView). record w { labels = set b.labels v t }) cut.rest;
-  len = length-set b.labels v t ∙ cut.len;
-  tops = λ u lu. elim (cases_eq u v) [
-    | inl e ↦ rw e (get_or-set_same b.labels v t 0 (omega (arith, l, cut.len)) ∙ high)
-    | inr off ↦ get_or-set_other b.labels v u t 0 off ∙ cut.tops u (omega (arith, lu, off))
+pub filled_more : (a b c : BlocksView) (f : ℕ → ℕ) (v d : ℕ) → IsFilled a b f v → c ≡ labelled b v d → v < nodes a.net → d ≡ f v → IsFilled a c f (v + 1)
+filled_more a b c f v d made is l at_v = rw is record {
+  rest = ap (λ (w : BlocksView). record w { labels = set b.labels v d }) made.rest;
+  len = length-set b.labels v d ∙ made.len;
+  filled = λ u lu. elim (cases_eq u v) [
+    | inl e ↦ rw e (get_or-set_same b.labels v d 0 (omega (arith, l, made.len)) ∙ at_v)
+    | inr off ↦ get_or-set_other b.labels v u d 0 off ∙ made.filled u (omega (arith, lu, off))
   ];
 }
+
+-- all labels are those of a list
+pub filled_all : (a b : BlocksView) (labels : List ℕ) → IsFilled a b (slice_index labels) (nodes a.net) → length labels ≡ nodes a.net → b ≡ record a { labels = labels }
+filled_all a b labels made len =
+    made.rest ∙ ap (λ (xs : List ℕ). record a { labels = xs })
+    (ext_get_or 0 b.labels labels (made.len ∙ sym len) (λ v l. made.filled v (omega (arith, l, made.len))))
 
 pub search_starts : (a b : BlocksView) → b ≡ record a { labels = b.labels } → length b.labels ≡ nodes a.net → ((v : ℕ) → v < nodes a.net → slice_index b.labels v ≡ top a.net) → IsSearch a b
 search_starts a b rest len tops =

@@ -25,12 +25,15 @@ module _ (b : BlocksView) (ways : List (List (List Message))) (got : ℕ) where
   exact_state v label (inl near) = inl (near.0, to_state label v near.1, λ d path. near.2 d (from_state d v path))
   exact_state v label (inr far) = inr (far.0, λ leads. far.1 (leads.0, from_state leads.0 v leads.1))
 
+  pub told_happens : (b' : BlocksView) (labels : List ℕ) → IsQuiet (state_of b ways got) → AreExact (state_of b ways got) labels → b' ≡ told (record b { labels = labels })
+      → Happens (state_of b ways got) RaiseAll (state_of b' ways got)
+  told_happens b' labels quiet exact is =
+      record { enabled = quiet; effect = (labels, exact, ap (λ (v : BlocksView). state_of v ways got) is) }
+
   pub raise_happens : (b' : BlocksView) → IsQuiet (state_of b ways got) → (labels : List ℕ) × AreExact (bare b) labels × (b' ≡ told (record b { labels = labels }))
       → Happens (state_of b ways got) RaiseAll (state_of b' ways got)
-  raise_happens b' quiet made = record {
-    enabled = quiet;
-    effect = (made.0, record { len = made.1.len; exact = λ v l. exact_state v _ (made.1.exact v l) }, ap (λ (v : BlocksView). state_of v ways got) made.2);
-  }
+  raise_happens b' quiet made =
+      told_happens b' made.0 quiet (record { len = made.1.len; exact = λ v l. exact_state v _ (made.1.exact v l) }) made.2
 
 pub held_raised : {rooms : List (List ℕ)} {s : core.State} (t : core.State) → IsHeld rooms s → Happens s RaiseAll t → IsHeld rooms t
 held_raised {rooms} {s} t held happens =

@@ -137,6 +137,13 @@ impl Blocks {
         Ok(Blocks { net, parts })
     }
 
+    /// The net.
+    pub fn net(&self) -> &Net
+        ensures { result.now ≡ self.now.net }
+    {
+        &self.net
+    }
+
     /// How many nodes the net has.
     pub fn nodes(&self) -> usize
         ensures value { result ≡ nodes self.now.net }

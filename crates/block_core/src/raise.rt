@@ -136,6 +136,27 @@ impl Blocks {
         }
     }
 
+    /// Each node gets the label that is told.
+    fn set_labels(&mut self, labels: &[u32])
+        requires len { length labels.now ≡ nodes self.old.net }
+        requires limit { (v : ℕ) → v < nodes self.old.net → slice_index labels.now v ≤ top self.old.net }
+        ensures { self.new ≡ record self.old { labels = labels.now } }
+    {
+        'nodes: for v in 0..self.nodes() {
+            self.relabel(v, labels[v]);
+        }
+    }
+
+    /// Each node gets the label that is told, and each direction to another block knows that of its far end.
+    pub fn raise_to(&mut self, labels: &[u32])
+        requires len { length labels.now ≡ nodes self.old.net }
+        requires limit { (v : ℕ) → v < nodes self.old.net → slice_index labels.now v ≤ top self.old.net }
+        ensures { self.new ≡ told (record self.old { labels = labels.now }) }
+    {
+        self.set_labels(labels);
+        self.tell_all();
+    }
+
     /// Each label becomes the exact one, and each direction to another block knows that of its far end.
     pub fn raise(&mut self)
         ensures { (labels : List ℕ) × AreExact (bare self.old) labels

@@ -3,6 +3,7 @@ ghost use Rattle.flow_network.specs.Cut.{nodes, IsNet};
 ghost use Rattle.parcel.specs.declared.message.Message.TheVariants.{Parcel, Accepted, Refused};
 ghost use Rattle.parcel.specs.Directions.{IsDirection, far};
 ghost use Rattle.parcel.specs.States.{IsWay, way_at, excess_of, label_of, room_of, residual_of, known_of, flight_of};
+ghost use Rattle.parcel.specs.Reach.{AreExact};
 ghost use Rattle.parcel.specs.Soundness.{IsSound, opened};
 ghost use Rattle.parcel.specs.Events.{Happens, IsActive, IsQuiet, Enabled, effect};
 ghost use Rattle.block_net.specs.Split.{CanSplit};
@@ -50,6 +51,14 @@ impl State {
             ways,
             got: 0,
         })
+    }
+
+    /// The net.
+    pub fn net(&self) -> &Net
+        ensures value { result.now ≡ self.now.net }
+        ensures sound { IsSound self.now }
+    {
+        self.blocks.net()
     }
 
     /// How many nodes the net has.
@@ -357,6 +366,17 @@ impl State {
         }
         self.blocks.raise();
         true
+    }
+
+    /// Each node gets the exact label that is told, and each direction to another block knows that of its far
+    /// end, where no message is on the way: the event that raises all labels, for labels that are at hand. Takes
+    /// no memory.
+    pub fn raise_to(&mut self, labels: &[u32])
+        requires quiet { IsQuiet self.old }
+        requires exact { AreExact self.old labels.now }
+        ensures { Happens self.old RaiseAll self.new }
+    {
+        self.blocks.raise_to(labels);
     }
 
     /// The parcel in front of a way is taken; no where that is not enabled, and nothing changes.

@@ -1,5 +1,6 @@
-use Rattle.block_core.proofs.Lowering.{IsCutOff}
+use Rattle.flow_network.specs.Progress.{top}
+use Rattle.block_core.proofs.Lowering.{IsFilled}
 use Rattle.block_core.proofs.blocks.Blocks.cut_off.Given as goal
 
 abbrev pub invariant-nodes : goal.invariant-nodes
-invariant-nodes l = IsCutOff l.initial.self l.self l.v
+invariant-nodes l = IsFilled l.fn.self l.self (λ v. top l.fn.self.net) l.v

@@ -1,0 +1,34 @@
+use Rattle.std.proofs.Common.{slice_index, sym, subst}
+use Rattle.parcel.specs.declared.event.Event.TheVariants.{RaiseAll}
+use Rattle.parcel.specs.States as core
+use Rattle.parcel.specs.Reach.{AreExact}
+use Rattle.parcel.specs.Events.{IsQuiet, Happens}
+use Rattle.block_core.specs.Views.{state_of}
+use Rattle.parcel.proofs.Raising.{exact-le-top}
+use Rattle.block_core.proofs.Raised.{told_happens, held_raised}
+use Rattle.block_core.proofs.state.State.raise_to.Goals as goal
+
+pub raise_to-requires-clause-len : goal.raise_to-requires-clause-len
+raise_to-requires-clause-len c =
+    (subst (λ (s : core.State). AreExact s c.args.labels.now) (sym c.self.view_is) c.requires.exact).len
+
+pub raise_to-requires-clause-limit : goal.raise_to-requires-clause-limit
+raise_to-requires-clause-limit c =
+    let exact = subst (λ (s : core.State). AreExact s c.args.labels.now) (sym c.self.view_is) c.requires.exact in
+    let s : core.State = state_of c.self.inside.blocks c.self.inside.ways.messages c.self.inside.got in
+    λ v l. exact-le-top s v (slice_index c.args.labels.now v) (exact.exact v l)
+
+pub invariant_of-self : goal.invariant_of-self
+invariant_of-self c =
+    let quiet = subst IsQuiet (sym c.self.view_is) c.requires.quiet in
+    let exact = subst (λ (s : core.State). AreExact s c.args.labels.now) (sym c.self.view_is) c.requires.exact in
+    held_raised _ c.self.invariant
+    (told_happens c.self.inside.blocks c.self.inside.ways.messages c.self.inside.got c.raise_to.new.self c.args.labels.now quiet exact c.raise_to.ensures)
+
+pub returns : goal.returns
+returns c =
+    let quiet = subst IsQuiet (sym c.self.view_is) c.requires.quiet in
+    let exact = subst (λ (s : core.State). AreExact s c.args.labels.now) (sym c.self.view_is) c.requires.exact in
+    let t : core.State = state_of c.raise_to.new.self c.self.inside.ways.messages c.self.inside.got in
+    subst (λ (s : core.State). Happens s RaiseAll t) c.self.view_is
+    (told_happens c.self.inside.blocks c.self.inside.ways.messages c.self.inside.got c.raise_to.new.self c.args.labels.now quiet exact c.raise_to.ensures)
