@@ -1,0 +1,142 @@
+-- One event in code is one event of the block.
+use Rattle.std.proofs.Common.{◌≡◌, ◌≢◌, ℕ, ◌+◌, ◌-◌, ◌<◌, inl, inr, min, List, length, set, get_or, slice_index, Contains, ◌++◌, refl, sym, ◌∙◌, ap, subst, arith, get_or-set_same, get_or-set_other}
+use mathlib.Core.Path.{fun_ext}
+use Rattle.std.proofs.lemmas.Bool.{cases_eq, cases_lt}
+use Rattle.std.proofs.lemmas.List.{length-set, set_past}
+use Rattle.std.proofs.lemmas.List.Elements.{Contains-append_left}
+use Rattle.parcel.specs.declared.message.Message.TheVariants.{Parcel}
+use Rattle.block_net.specs.declared.rows.Border.{Border}
+use Rattle.block_net.specs.Views.{BlockView, count, excess_in, label_in, room_in, lane_in, border_in, no_border, pushed, given, labelled, sent, highest}
+use Rattle.discharge.specs.Seen.{Seen, IsLook, IsPut, add_to}
+use Rattle.discharge.specs.Steps.{Push, Give, Rise, Send, IsActive, IsOfNode, IsBorderOfNode, MayPush, MaySend, parcel_of}
+use Rattle.discharge.specs.Works.{IsAlike, Does, Waits}
+use Rattle.discharge.proofs.Runs.{does_one, look_sent, look_taken}
+
+-- a row that leads to the same block in a row's stead
+pub to_kept : (xs : List Border) (j : ℕ) (row : Border) → row.to ≡ (get_or xs j no_border).to → (i : ℕ) → (get_or (set xs j row) i no_border).to ≡ (get_or xs i no_border).to
+to_kept xs j row e i = elim (cases_eq i j) [
+  | inr other ↦ ap (λ (x : Border). x.to) (get_or-set_other xs j i row no_border other)
+  | inl same ↦ elim (cases_lt j (length xs)) [
+    | inl l ↦ rw same (ap (λ (x : Border). x.to) (get_or-set_same xs j row no_border l) ∙ e)
+    | inr past ↦ ap (λ (ys : List Border). (get_or ys i no_border).to) (set_past xs j row past)
+  ]
+]
+
+-- ---- the sink
+
+pub does_give : (b b' : BlockView) (s : Seen) (v a : ℕ) → IsActive b v → 0 < room_in b v → label_in b v ≡ 1 → a ≡ min (excess_in b v) (room_in b v) → b' ≡ given b v a
+    → Does b s 1 b' s
+does_give b b' s v a active room label is made =
+    let at : b' ≡ given b v (min (excess_in b v) (room_in b v)) = made ∙ ap (given b v) is in
+    let alike : IsAlike b (given b v (min (excess_in b v) (room_in b v))) = record {
+      top = refl;
+      count = length-set b.excess v _;
+      starts = refl;
+      lanes = refl;
+      border_starts = refl;
+      borders = refl;
+      tos = λ i. refl;
+    } in
+    subst (λ (x : BlockView). Does b s 1 x s) (sym at) (does_one b _ s s (Give v) (active, room, label) refl alike)
+
+less_active : (b b' : BlockView) (v a w : ℕ) → b'.excess ≡ set b.excess v (excess_in b v - a) → b'.labels ≡ b.labels → b'.top ≡ b.top → IsActive b' w → IsActive b w
+less_active b b' v a w ee el et active =
+    let len = ap length ee ∙ length-set b.excess v (excess_in b v - a) in
+    let below = ap (λ (xs : List ℕ). slice_index xs w) el in
+    let value = ap (λ (xs : List ℕ). slice_index xs w) ee in
+    let node : w < count b = omega (arith, active.node, len) in
+    record {
+      node = node;
+      excess = elim (cases_eq w v) [
+        | inl same ↦
+            let here = get_or-set_same b.excess v (excess_in b v - a) 0 (omega (arith, node, same)) in
+            let at = ap (slice_index (set b.excess v (excess_in b v - a))) same in
+            let at' = ap (slice_index b.excess) same in
+            omega (arith, active.excess, value, here, at, at')
+        | inr other ↦ omega (arith, active.excess, value, get_or-set_other b.excess v w (excess_in b v - a) 0 other)
+      ];
+      below = omega (arith, active.below, below, et);
+    }
+
+pub given_active : (b b' : BlockView) (v a w : ℕ) → b' ≡ given b v a → IsActive b' w → IsActive b w
+given_active b b' v a w made active = less_active b (given b v a) v a w refl refl refl (subst (λ (x : BlockView). IsActive x w) made active)
+
+pub sent_active : (b b' : BlockView) (v j a w : ℕ) → b' ≡ sent b v j a → IsActive b' w → IsActive b w
+sent_active b b' v j a w made active = less_active b (sent b v j a) v a w refl refl refl (subst (λ (x : BlockView). IsActive x w) made active)
+
+-- ---- a direction within the block
+
+pub does_push : (b b' : BlockView) (s : Seen) (v j a : ℕ) → IsActive b v → IsOfNode b v j → MayPush b v j → a ≡ min (excess_in b v) (lane_in b j).residual → b' ≡ pushed b v j a
+    → Does b s 1 b' s
+does_push b b' s v j a active lane may is made =
+    let z = min (excess_in b v) (lane_in b j).residual in
+    let at : b' ≡ pushed b v j z = made ∙ ap (pushed b v j) is in
+    let less = set b.excess v (excess_in b v - z) in
+    let taken = set b.lanes j (record (lane_in b j) { residual = (lane_in b j).residual - z }) in
+    let alike : IsAlike b (pushed b v j z) = record {
+      top = refl;
+      count = length-set less (lane_in b j).far _ ∙ length-set b.excess v _;
+      starts = refl;
+      lanes = length-set taken (lane_in b j).opposite _ ∙ length-set b.lanes j _;
+      border_starts = refl;
+      borders = refl;
+      tos = λ i. refl;
+    } in
+    subst (λ (x : BlockView). Does b s 1 x s) (sym at) (does_one b _ s s (Push v j) (active, lane, may) refl alike)
+
+pushed_active : (b : BlockView) (v j a w : ℕ) → w ≢ v → w ≢ (lane_in b j).far → IsActive (pushed b v j a) w → IsActive b w
+pushed_active b v j a w off off' active =
+    let less = set b.excess v (excess_in b v - a) in
+    let z = slice_index less (lane_in b j).far + a in
+    record {
+      node = omega (arith, active.node, length-set less (lane_in b j).far z, length-set b.excess v (excess_in b v - a));
+      excess = omega (arith, active.excess, get_or-set_other less (lane_in b j).far w z 0 off', get_or-set_other b.excess v w (excess_in b v - a) 0 off);
+      below = active.below;
+    }
+
+pub push_waits : (b b' : BlockView) (v j a : ℕ) (q q' : List ℕ) → b' ≡ pushed b v j a → (tail : List ℕ) × (q' ≡ q ++ tail) → Contains q' (lane_in b j).far → Waits v b q b' q'
+push_waits b b' v j a q q' made longer has = record {
+  longer = longer;
+  queued = λ h w active off. elim (cases_eq w (lane_in b j).far) [
+    | inl same ↦ rw same has
+    | inr other ↦
+        let before = h w (pushed_active b v j a w off other (subst (λ (x : BlockView). IsActive x w) made active)) off in
+        rw longer.1 (Contains-append_left q longer.0 w before)
+  ];
+}
+
+-- ---- another block
+
+pub does_send : (b b' : BlockView) (s t u : Seen) (v j a d : ℕ) (x : Border) → IsActive b v → IsBorderOfNode b v j → MaySend b v j → x ≡ border_in b j → d ≡ label_in b v
+    → a ≡ min (excess_in b v) x.residual → b' ≡ sent b v j a → IsLook s t → IsPut x.to (Parcel x.direction a d) t u
+    → Does b s 1 b' u
+does_send b b' s t u v j a d x active border may is_x is_d is made look put =
+    let z = min (excess_in b v) (border_in b j).residual in
+    let is_a : a ≡ z = is ∙ ap (λ (y : Border). min (excess_in b v) y.residual) is_x in
+    let at : b' ≡ sent b v j z = made ∙ ap (sent b v j) is_a in
+    let alike : IsAlike b (sent b v j z) = record {
+      top = refl;
+      count = length-set b.excess v _;
+      starts = refl;
+      lanes = refl;
+      border_starts = refl;
+      borders = length-set b.borders j _;
+      tos = to_kept b.borders j _ refl;
+    } in
+    let sent_is : u.sent ≡ add_to s.sent (border_in b j).to (parcel_of b v j) = fun_ext put.sent ∙ rw (look_sent s t look, is_a, is_d, is_x) refl in
+    let taken_is : u.taken ≡ s.taken = fun_ext put.taken ∙ look_taken s t look in
+    subst (λ (y : BlockView). Does b s 1 y u) (sym at) (does_one b _ s u (Send v j) (active, border, may) (rw (sent_is, taken_is) refl) alike)
+
+-- ---- a label
+
+pub does_rise : (b b' : BlockView) (s : Seen) (v d : ℕ) → IsActive b v → label_in b v < d → d ≡ highest b v → b' ≡ labelled b v d → Does b s 1 b' s
+does_rise b b' s v d active high is made =
+    let at : b' ≡ labelled b v (highest b v) = made ∙ ap (labelled b v) is in
+    let alike : IsAlike b (labelled b v (highest b v)) = record { top = refl; count = refl; starts = refl; lanes = refl; border_starts = refl; borders = refl; tos = λ i. refl } in
+    let high' : label_in b v < highest b v = omega (arith, high, is) in
+    subst (λ (x : BlockView). Does b s 1 x s) (sym at) (does_one b _ s s (Rise v) (active, high') refl alike)
+
+pub labelled_active : (b b' : BlockView) (v d w : ℕ) → b' ≡ labelled b v d → IsActive b' w → ¬ (w ≡ v) → IsActive b w
+labelled_active b b' v d w made active off =
+    let active' : IsActive (labelled b v d) w = subst (λ (x : BlockView). IsActive x w) made active in
+    record { node = active'.node; excess = active'.excess; below = omega (arith, active'.below, get_or-set_other b.labels v w d 0 off) }

@@ -1,0 +1,7 @@
+pub mod Queues
+pub mod Runs
+pub mod Doing
+pub mod Passing
+pub mod Receiving
+pub mod Turning
+pub mod Others

@@ -1,0 +1,105 @@
+-- One message taken in code is one event of the block.
+use Rattle.std.proofs.Common.{◌≡◌, ℕ, ◌+◌, inl, inr, max, cond, List, ◌++◌, length, set, slice_index, None, Contains, refl, sym, ◌∙◌, ap, subst, arith, get_or-set_other}
+use Rattle.std.specs.Option.{is_some}
+use mathlib.Core.Path.{fun_ext}
+use Rattle.std.proofs.lemmas.Bool.{cases_eq}
+use Rattle.std.proofs.lemmas.List.{length-set}
+use Rattle.std.proofs.lemmas.List.Elements.{Contains-append_left}
+use Rattle.parcel.specs.declared.direction.Direction.{Direction}
+use Rattle.parcel.specs.declared.message.Message.TheVariants.{Parcel, Accepted, Refused}
+use Rattle.block_net.specs.declared.rows.Border.{Border}
+use Rattle.block_net.specs.Views.{BlockView, label_in, border_in, accepted, settled, returned}
+use Rattle.discharge.specs.declared.letter.Letter.{Letter}
+use Rattle.discharge.specs.Seen.{Seen, IsLook, IsPut, IsTake, add_to}
+use Rattle.discharge.specs.Steps.{IsActive, Accept, Refuse, Settle, MayAccept, MayRefuse, MaySettle}
+use Rattle.discharge.specs.Works.{IsAlike, Does, IsQueued}
+use Rattle.discharge.proofs.Runs.{does_one, alike_same, look_sent, look_taken}
+use Rattle.discharge.proofs.Doing.{to_kept}
+
+pub does_accept : (b b' : BlockView) (s t u w : Seen) (c : ℕ) (x : Direction) (a d j : ℕ) → MayAccept b c j (Parcel x a d) → b' ≡ accepted b j a d
+    → IsLook s t → IsPut c (Accepted x a) t u → IsTake c (Parcel x a d) u w → Does b s 1 b' w
+does_accept b b' s t u w c x a d j may made look put take =
+    let y = border_in b j in
+    let row : Border = record y { residual = y.residual + a; known = cond (is_some y.flight) y.known (max y.known d) } in
+    let alike : IsAlike b (accepted b j a d) = record {
+      top = refl;
+      count = length-set b.excess y.near _;
+      starts = refl;
+      lanes = refl;
+      border_starts = refl;
+      borders = length-set b.borders j row;
+      tos = to_kept b.borders j row refl;
+    } in
+    let sent_is : w.sent ≡ add_to s.sent c (Accepted x a) = fun_ext take.sent ∙ (fun_ext put.sent ∙ rw (look_sent s t look) refl) in
+    let taken_is : w.taken ≡ add_to s.taken c (Parcel x a d) = fun_ext take.taken ∙ rw (fun_ext put.taken, look_taken s t look) refl in
+    let letter : Letter = record { message = Parcel x a d; place = j } in
+    subst (λ (z : BlockView). Does b s 1 z w) (sym made) (does_one b _ s w (Accept c letter) may (rw (sent_is, taken_is) refl) alike)
+
+pub does_refuse : (b : BlockView) (s t u w : Seen) (c : ℕ) (x : Direction) (a d j told : ℕ) → MayRefuse b c j (Parcel x a d) → told ≡ label_in b (border_in b j).near
+    → IsLook s t → IsPut c (Refused x a d told) t u → IsTake c (Parcel x a d) u w → Does b s 1 b w
+does_refuse b s t u w c x a d j told may is look put take =
+    let sent_is : w.sent ≡ add_to s.sent c (Refused x a d (label_in b (border_in b j).near)) = fun_ext take.sent ∙ (fun_ext put.sent ∙ rw (look_sent s t look, is) refl) in
+    let taken_is : w.taken ≡ add_to s.taken c (Parcel x a d) = fun_ext take.taken ∙ rw (fun_ext put.taken, look_taken s t look) refl in
+    let letter : Letter = record { message = Parcel x a d; place = j } in
+    does_one b b s w (Refuse c letter) may (rw (sent_is, taken_is) refl) (alike_same b)
+
+pub does_settle : (b b' : BlockView) (s w : Seen) (c : ℕ) (x : Direction) (a j : ℕ) → MaySettle b c j (Accepted x a) → b' ≡ settled b j → IsTake c (Accepted x a) s w → Does b s 1 b' w
+does_settle b b' s w c x a j may made take =
+    let row : Border = record (border_in b j) { flight = None } in
+    let alike : IsAlike b (settled b j) = record {
+      top = refl;
+      count = refl;
+      starts = refl;
+      lanes = refl;
+      border_starts = refl;
+      borders = length-set b.borders j row;
+      tos = to_kept b.borders j row refl;
+    } in
+    let letter : Letter = record { message = Accepted x a; place = j } in
+    subst (λ (z : BlockView). Does b s 1 z w) (sym made) (does_one b _ s w (Settle c letter) may (rw (fun_ext take.sent, fun_ext take.taken) refl) alike)
+
+pub does_return : (b b' : BlockView) (s w : Seen) (c : ℕ) (x : Direction) (a d told j : ℕ) → MaySettle b c j (Refused x a d told) → b' ≡ returned b j a told → IsTake c (Refused x a d told) s w
+    → Does b s 1 b' w
+does_return b b' s w c x a d told j may made take =
+    let y = border_in b j in
+    let row : Border = record y { residual = y.residual + a; known = told; flight = None } in
+    let alike : IsAlike b (returned b j a told) = record {
+      top = refl;
+      count = length-set b.excess y.near _;
+      starts = refl;
+      lanes = refl;
+      border_starts = refl;
+      borders = length-set b.borders j row;
+      tos = to_kept b.borders j row refl;
+    } in
+    let letter : Letter = record { message = Refused x a d told; place = j } in
+    subst (λ (z : BlockView). Does b s 1 z w) (sym made) (does_one b _ s w (Settle c letter) may (rw (fun_ext take.sent, fun_ext take.taken) refl) alike)
+
+-- one node gets more, and it waits
+more_queued : (b b' : BlockView) (v z : ℕ) (q q' : List ℕ) → b'.excess ≡ set b.excess v z → b'.labels ≡ b.labels → b'.top ≡ b.top → (tail : List ℕ) × (q' ≡ q ++ tail) → Contains q' v
+    → IsQueued b q → IsQueued b' q'
+more_queued b b' v z q q' ee el et longer has h w active = elim (cases_eq w v) [
+  | inl same ↦ subst (λ (u : ℕ). Contains q' u) (sym same) has
+  | inr other ↦
+      let len = ap length ee ∙ length-set b.excess v z in
+      let value = ap (λ (xs : List ℕ). slice_index xs w) ee in
+      let below = ap (λ (xs : List ℕ). slice_index xs w) el in
+      let before : IsActive b w = record {
+        node = omega (arith, active.node, len);
+        excess = omega (arith, active.excess, value, get_or-set_other b.excess v w z 0 other);
+        below = omega (arith, active.below, below, et);
+      } in
+      rw longer.1 (Contains-append_left q longer.0 w (h w before))
+]
+
+pub accept_queued : (b b' : BlockView) (j a d : ℕ) (q q' : List ℕ) → b' ≡ accepted b j a d → (tail : List ℕ) × (q' ≡ q ++ tail) → Contains q' (border_in b j).near → IsQueued b q → IsQueued b' q'
+accept_queued b b' j a d q q' made longer has h =
+    subst (λ (x : BlockView). IsQueued x q') (sym made) (more_queued b (accepted b j a d) (border_in b j).near _ q q' refl refl refl longer has h)
+
+pub return_queued : (b b' : BlockView) (j a told : ℕ) (q q' : List ℕ) → b' ≡ returned b j a told → (tail : List ℕ) × (q' ≡ q ++ tail) → Contains q' (border_in b j).near → IsQueued b q → IsQueued b' q'
+return_queued b b' j a told q q' made longer has h =
+    subst (λ (x : BlockView). IsQueued x q') (sym made) (more_queued b (returned b j a told) (border_in b j).near _ q q' refl refl refl longer has h)
+
+pub settle_queued : (b b' : BlockView) (j : ℕ) (q : List ℕ) → b' ≡ settled b j → IsQueued b q → IsQueued b' q
+settle_queued b b' j q made h =
+    subst (λ (x : BlockView). IsQueued x q) (sym made) (λ w active. h w (record { node = active.node; excess = active.excess; below = active.below }))

@@ -1,0 +1,167 @@
+-- Lists of events, one after another.
+use Rattle.std.proofs.Common.{◌≡◌, ℕ, ◌+◌, ◌-◌, ◌<◌, List, [], ◌∷◌, ◌++◌, false, Option, Some, None, refl, sym, ◌∙◌, ap, subst, arith}
+use mathlib.Core.Path.{fun_ext}
+use Rattle.std.proofs.lemmas.List.{append-nil, append_assoc, length-append}
+use Rattle.parcel.specs.declared.message.Message.{Message}
+use Rattle.discharge.specs.declared.letter.Letter.{Letter}
+use Rattle.block_net.specs.Views.{BlockView}
+use Rattle.discharge.specs.Seen.{Seen, IsLook}
+use Rattle.discharge.specs.Steps.{Step, Push, Give, Rise, Send, Held, held, Enabled, after, Run, DoesMany, IsActive, IsSure}
+use Rattle.discharge.specs.Works.{IsAlike, Does, Waits, IsIdle, IsIdleFrom}
+
+pub run_append : (es fs : List Step) (h g k : Held) → Run h es g → Run g fs k → Run h (es ++ fs) k
+run_append [] fs h g k first second = subst (λ (x : Held). Run x fs k) first second
+run_append (e ∷ es) fs h g k first second = (first.0, run_append es fs (after h e) g k first.1 second)
+
+pub many_more : (h g k : Held) (m n : ℕ) → DoesMany h m g → DoesMany g n k → DoesMany h (m + n) k
+many_more h g k m n first second =
+    (first.0 ++ second.0, run_append first.0 second.0 h g k first.1 second.1, omega (arith, length-append first.0 second.0, first.2, second.2))
+
+pub look_same : (s : Seen) → IsLook s s
+look_same s = record { sent = λ c. refl; taken = λ c. refl; room = λ c h. h; front = λ c m h. h }
+
+pub look_more : (a b c : Seen) → IsLook a b → IsLook b c → IsLook a c
+look_more a b c h k = record {
+  sent = λ c. k.sent c ∙ h.sent c;
+  taken = λ c. k.taken c ∙ h.taken c;
+  room = λ x e. k.room x (h.room x e);
+  front = λ x m e. k.front x m (h.front x m e);
+}
+
+pub alike_same : (b : BlockView) → IsAlike b b
+alike_same b = record { top = refl; count = refl; starts = refl; lanes = refl; border_starts = refl; borders = refl; tos = λ j. refl }
+
+pub alike_more : (a b c : BlockView) → IsAlike a b → IsAlike b c → IsAlike a c
+alike_more a b c h k = record {
+  top = k.top ∙ h.top;
+  count = k.count ∙ h.count;
+  starts = k.starts ∙ h.starts;
+  lanes = k.lanes ∙ h.lanes;
+  border_starts = k.border_starts ∙ h.border_starts;
+  borders = k.borders ∙ h.borders;
+  tos = λ j. k.tos j ∙ h.tos j;
+}
+
+pub look_sent : (s t : Seen) → IsLook s t → t.sent ≡ s.sent
+look_sent s t look = fun_ext look.sent
+
+pub look_taken : (s t : Seen) → IsLook s t → t.taken ≡ s.taken
+look_taken s t look = fun_ext look.taken
+
+held_look : (b : BlockView) (s t : Seen) → IsLook s t → held b t ≡ held b s
+held_look b s t look =
+    ap (λ (f : ℕ → List Message). record { block = b; sent = f; taken = t.taken }) (look_sent s t look)
+    ∙ ap (λ (f : ℕ → List Message). record { block = b; sent = s.sent; taken = f }) (look_taken s t look)
+
+-- looks alone
+pub does_look : (b : BlockView) (s t : Seen) → IsLook s t → Does b s 0 b t
+does_look b s t look = record {
+  run = ([], held_look b s t look, refl);
+  alike = alike_same b;
+  still = λ e. (refl, look);
+}
+
+pub does_none : (b : BlockView) (s : Seen) → Does b s 0 b s
+does_none b s = does_look b s s (look_same s)
+
+-- one event
+pub does_one : (b b' : BlockView) (s s' : Seen) (e : Step) → Enabled b e → held b' s' ≡ after (held b s) e → IsAlike b b' → Does b s 1 b' s'
+does_one b b' s s' e on is alike = record {
+  run = (e ∷ [], (on, is), refl);
+  alike = alike;
+  still = λ h. absurd (omega arith);
+}
+
+pub does_more : (a b c : BlockView) (s t u : Seen) (m n : ℕ) → Does a s m b t → Does b t n c u → Does a s (m + n) c u
+does_more a b c s t u m n h k = record {
+  run = many_more (held a s) (held b t) (held c u) m n h.run k.run;
+  alike = alike_more a b c h.alike k.alike;
+  still = λ e.
+      let first = h.still (omega (arith, e)) in
+      let second = k.still (omega (arith, e)) in
+      (second.0 ∙ first.0, look_more s t u first.1 second.1);
+}
+
+pub does_as : (a b : BlockView) (s t : Seen) (m n : ℕ) → m ≡ n → Does a s m b t → Does a s n b t
+does_as a b s t m n e h = subst (λ (k : ℕ). Does a s k b t) e h
+
+-- the queue
+
+pub waits_same : (but : ℕ) (b : BlockView) (q : List ℕ) → Waits but b q b q
+waits_same but b q = record { longer = ([], sym (append-nil q)); queued = λ h. h }
+
+pub waits_more : (but : ℕ) (a b c : BlockView) (p q r : List ℕ) → Waits but a p b q → Waits but b q c r → Waits but a p c r
+waits_more but a b c p q r h k = record {
+  longer = (h.longer.0 ++ k.longer.0, k.longer.1 ∙ (ap (λ (x : List ℕ). x ++ k.longer.0) h.longer.1 ∙ append_assoc p h.longer.0 k.longer.0));
+  queued = λ x. k.queued (h.queued x);
+}
+
+-- nothing seen
+abbrev pub no_seen : Seen
+no_seen = record { sent = λ c. []; taken = λ c. []; room = λ c. false; front = λ c. None }
+
+-- a node that is not active has no sure event
+pub idle_inactive : (b : BlockView) (s : Seen) (v : ℕ) → ¬ IsActive b v → IsIdle b s v
+idle_inactive b s v off = record {
+  pushes = λ j on. off on.0;
+  gift = λ on. off on.0;
+  rise = λ on. off on.0;
+  sends = λ j on. off on.0.0;
+}
+
+-- what is idle after a look was idle before it
+pub idle_look : (b : BlockView) (s t : Seen) (v : ℕ) → IsLook s t → IsIdle b t v → IsIdle b s v
+idle_look b s t v look idle = record {
+  pushes = idle.pushes;
+  gift = idle.gift;
+  rise = idle.rise;
+  sends = λ j on. idle.sends j (on.0, look.room _ on.1);
+}
+
+-- fewer nodes are active, but for one
+pub waits_fewer : (but : ℕ) (b b' : BlockView) (q : List ℕ) → ((w : ℕ) → IsActive b' w → ¬ (w ≡ but) → IsActive b w) → Waits but b q b' q
+waits_fewer but b b' q h = record { longer = ([], sym (append-nil q)); queued = λ old v active off. old v (h v active off) off }
+
+-- the four parts of a visit
+pub visit_does : (a b c d e : BlockView) (s t : Seen) (k l m n : ℕ) → ((u : Seen) → Does a u k b u) → ((u : Seen) → Does b u l c u) → Does c s m d t
+    → ((u : Seen) → Does d u n e u) → Does a s (k + l + m + n) e t
+visit_does a b c d e s t k l m n first second third fourth =
+    does_more a d e s t t (k + l + m) n (does_more a c d s s t (k + l) m (does_more a b c s s s k l (first s) (second s)) third) (fourth t)
+
+pub visit_idle : (a b c d e : BlockView) (s t : Seen) (k l m n v limit : ℕ) → ((u : Seen) → Does a u k b u) → ((u : Seen) → Does b u l c u) → Does c s m d t
+    → (k ≡ 0 → 0 < limit → ¬ Enabled a (Give v))
+    → (l ≡ 0 → 0 < limit - k → (j : ℕ) → ¬ Enabled b (Push v j))
+    → (m ≡ 0 → 0 < limit - k - l → (j : ℕ) → ¬ IsSure c s (Send v j))
+    → (n ≡ 0 → 0 < limit - k - l - m → ¬ Enabled d (Rise v))
+    → k + l + m + n ≡ 0 → 0 < limit → IsIdle a s v
+visit_idle a b c d e s t k l m n v limit first second third gift pushes sends rise none some =
+    let k0 : k ≡ 0 = omega arith in
+    let l0 : l ≡ 0 = omega arith in
+    let m0 : m ≡ 0 = omega arith in
+    let n0 : n ≡ 0 = omega arith in
+    let b_is = ((first s).still k0).0 in
+    let c_is = ((second s).still l0).0 ∙ b_is in
+    let d_is = (third.still m0).0 ∙ c_is in
+    record {
+      pushes = λ j. subst (λ (x : BlockView). ¬ Enabled x (Push v j)) b_is (pushes l0 (omega arith) j);
+      gift = gift k0 some;
+      rise = subst (λ (x : BlockView). ¬ Enabled x (Rise v)) d_is (rise n0 (omega arith));
+      sends = λ j. subst (λ (x : BlockView). ¬ IsSure x s (Send v j)) c_is (sends m0 (omega arith) j);
+    }
+
+pub idle_from_look : (b : BlockView) (s t : Seen) (c : ℕ) → IsLook s t → IsIdleFrom b t c → IsIdleFrom b s c
+idle_from_look b s t c look idle = record {
+  accepts = λ m on. idle.accepts m (on.0, look.front _ _ on.1, look.room _ on.2);
+  refuses = λ m on. idle.refuses m (on.0, look.front _ _ on.1, look.room _ on.2);
+  settles = λ m on. idle.settles m (on.0, look.front _ _ on.1);
+}
+
+some_none : (m : Letter) → ¬ (◌≡◌ {A = Option Letter} None (Some m))
+some_none m e = cc
+
+pub idle_from_none : (b : BlockView) (s t : Seen) (c : ℕ) → IsLook s t → t.front c ≡ None → IsIdleFrom b s c
+idle_from_none b s t c look none = record {
+  accepts = λ m on. some_none m (sym none ∙ look.front _ _ on.1);
+  refuses = λ m on. some_none m (sym none ∙ look.front _ _ on.1);
+  settles = λ m on. some_none m (sym none ∙ look.front _ _ on.1);
+}

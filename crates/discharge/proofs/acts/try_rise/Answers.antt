@@ -1,0 +1,9 @@
+use Rattle.std.proofs.Common.{◌<◌, arith}
+use Rattle.block_net.specs.Views.{label_in}
+use Rattle.discharge.proofs.Doing.{does_rise}
+use Rattle.discharge.proofs.acts.try_rise.Goals as goal
+
+pub returns-clause-does : goal.returns-clause-does
+returns-clause-does c =
+    let high : label_in c.args.cells.now c.args.v < c.highest_label-label.result = omega arith in
+    λ s. does_rise c.args.cells.now c.relabel.new.self s c.args.v c.highest_label-label.result c.requires high c.highest_label-label.ensures.value c.relabel.ensures.labelled

@@ -1,0 +1,12 @@
+use Rattle.std.proofs.Common.{◌≡◌, ◌≤◌}
+use Rattle.discharge.specs.Works.{Does, IsQueued}
+use Rattle.discharge.proofs.passes.work.Given as goal
+
+abbrev pub invariant-passes : goal.invariant-passes
+invariant-passes g l = record {
+  few : l.count ≤ l.limit;
+  more : l.i ≤ l.count;
+  does : Does l.fn.cells (g.W.Ways.seen l.fn.ways) l.count l.cells (g.W.Ways.seen l.ways);
+  size : l.queue.size ≡ l.fn.queue.size;
+  queued : IsQueued l.cells l.queue.order;
+}

@@ -1,0 +1,17 @@
+use Rattle.std.proofs.Common.{◌≡◌, ◌+◌, ◌∙◌, arith}
+use Rattle.discharge.proofs.Runs.{does_more, does_as}
+use Rattle.discharge.proofs.receive.receive_from.Goals as goal
+
+pub messages-preserved : goal.messages-preserved
+messages-preserved g c =
+    let inv = c.messages.invariant in
+    let told = c.receive.ensures in
+    let one : c.messages.count + c.receive.result ≡ c.messages.count + 1 = omega arith in
+    record {
+      does = does_as c.args.cells.now c.receive.new.cells (g.W.Ways.seen c.args.ways.now) (g.W.Ways.seen c.receive.new.ways) (c.messages.count + c.receive.result) (c.messages.count + 1) one
+          (does_more c.args.cells.now c.messages.cells c.receive.new.cells (g.W.Ways.seen c.args.ways.now) (g.W.Ways.seen c.messages.ways) (g.W.Ways.seen c.receive.new.ways)
+          c.messages.count c.receive.result inv.does told.does);
+      queued = λ h. told.queued (inv.queued h);
+      size = told.size ∙ inv.size;
+      still = λ none. absurd (omega arith);
+    }

@@ -1,0 +1,13 @@
+use Rattle.std.proofs.Common.{◌≡◌, ℕ, ◌<◌, ◌≤◌}
+use Rattle.block_net.specs.Views.{first_border}
+use Rattle.discharge.specs.Steps.{IsActive, IsSure, Send}
+use Rattle.discharge.specs.Works.{Does}
+use Rattle.discharge.proofs.visits.send_all.Given as goal
+
+abbrev pub invariant-borders : goal.invariant-borders
+invariant-borders g l = record {
+  few : l.count ≤ l.limit;
+  does : Does l.fn.cells (g.W.Ways.seen l.fn.ways) l.count l.cells (g.W.Ways.seen l.ways);
+  queue : (w : ℕ) → IsActive l.cells w → IsActive l.fn.cells w;
+  idle : l.count ≡ 0 → (i : ℕ) → first_border l.fn.cells l.v ≤ i → i < l.j → ¬ IsSure l.fn.cells (g.W.Ways.seen l.fn.ways) (Send l.v i);
+}

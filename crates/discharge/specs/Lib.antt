@@ -1,0 +1,5 @@
+pub mod Seen
+pub mod Steps
+pub mod Waits
+pub mod Works
+pub mod Turns

@@ -1,0 +1,50 @@
+-- What a part of a turn does to the block, its queue and its ways.
+use Rattle.std.specs.Prelude.{◌≡◌, ℕ, List, ◌++◌, length, Contains}
+use Rattle.block_net.specs.Views.{BlockView, border_in}
+use Rattle.discharge.specs.declared.letter.Letter.{Letter}
+use Rattle.discharge.specs.Seen.{Seen, IsLook}
+use Rattle.discharge.specs.Steps.{held, DoesMany, IsActive, IsSure, Push, Give, Rise, Send, Accept, Refuse, Settle}
+
+-- what no event changes
+pub record IsAlike (a b : BlockView) : Type 0 where
+  pub top : b.top ≡ a.top
+  pub count : length b.excess ≡ length a.excess
+  pub starts : b.starts ≡ a.starts
+  pub lanes : length b.lanes ≡ length a.lanes
+  pub border_starts : b.border_starts ≡ a.border_starts
+  pub borders : length b.borders ≡ length a.borders
+  pub tos : (j : ℕ) → (border_in b j).to ≡ (border_in a j).to
+
+-- a list of n events leads from one block and what it saw to another; none changes nothing
+pub record Does (b : BlockView) (s : Seen) (n : ℕ) (b' : BlockView) (s' : Seen) : Type 0 where
+  pub run : DoesMany (held b s) n (held b' s')
+  pub alike : IsAlike b b'
+  pub still : n ≡ 0 → (b' ≡ b) × IsLook s s'
+
+-- ---- the queue
+
+-- each node with excess and a label below the top waits
+abbrev pub IsQueued : BlockView → List ℕ → Type 0
+IsQueued b q = (v : ℕ) → IsActive b v → Contains q v
+
+-- the queue gets longer at its end alone, and no node with excess and a label below the top is forgotten, but
+-- for one
+pub record Waits (but : ℕ) (b : BlockView) (q : List ℕ) (b' : BlockView) (q' : List ℕ) : Type 0 where
+  pub longer : (tail : List ℕ) × (q' ≡ q ++ tail)
+  pub queued : ((v : ℕ) → IsActive b v → ¬ (v ≡ but) → Contains q v)
+      → (v : ℕ) → IsActive b' v → ¬ (v ≡ but) → Contains q' v
+
+-- ---- where nothing is to be done
+
+-- no event of node v is sure, of those that take no message
+pub record IsIdle (b : BlockView) (s : Seen) (v : ℕ) : Type 0 where
+  pub pushes : (j : ℕ) → ¬ IsSure b s (Push v j)
+  pub gift : ¬ IsSure b s (Give v)
+  pub rise : ¬ IsSure b s (Rise v)
+  pub sends : (j : ℕ) → ¬ IsSure b s (Send v j)
+
+-- no message from block c is sure to be taken
+pub record IsIdleFrom (b : BlockView) (s : Seen) (c : ℕ) : Type 0 where
+  pub accepts : (l : Letter) → ¬ IsSure b s (Accept c l)
+  pub refuses : (l : Letter) → ¬ IsSure b s (Refuse c l)
+  pub settles : (l : Letter) → ¬ IsSure b s (Settle c l)
