@@ -1,0 +1,83 @@
+-- What a port shows, and what its calls do.
+use Rattle.std.specs.Prelude.{◌≡◌, ℕ, ◌+◌, ◌≤◌, List, [], ◌∷◌, ◌++◌, Option, slice_get}
+use mathlib.Core.List.{IsPrefix}
+use Rattle.rtrb.specs.Ring.{sent, received, known_free, known_items, producer_capacity, IsPair, SameProducer, SameConsumer}
+use Rattle.parcel.specs.declared.message.Message.{Message}
+use Rattle.block_rings.specs.declared.port.Port.{Port}
+
+-- the block at the other ends
+abbrev pub other : Port → ℕ
+other p = p.other
+
+-- all messages that were put so far, in order
+abbrev pub put : Port → List Message
+put p = sent p.to_ring
+
+-- all messages that were taken so far, in order
+abbrev pub taken : Port → List Message
+taken p = received p.from_ring
+
+-- for how many messages room was seen
+abbrev pub free : Port → ℕ
+free p = known_free p.to_ring
+
+-- the messages that were seen, in the order in which they are to be taken
+abbrev pub waiting : Port → List Message
+waiting p = known_items p.from_ring
+
+-- the message that is to be taken next, where one was seen
+abbrev pub first : Port → Option Message
+first p = slice_get (waiting p) 0
+
+-- how many messages the ring that is put into has room for
+abbrev pub capacity : Port → ℕ
+capacity p = producer_capacity p.to_ring
+
+-- what the one puts the other takes
+abbrev pub LeadsTo : Port → Port → Type 0
+LeadsTo p q = IsPair p.to_ring q.from_ring
+
+-- the ends are those of the same rings, to the same block
+pub record IsSamePort (old new : Port) : Type 0 where
+  pub to_ring : SameProducer old.to_ring new.to_ring
+  pub from_ring : SameConsumer old.from_ring new.from_ring
+  pub other : other new ≡ other old
+
+-- nothing was put or taken so far, and nothing is there to be taken
+pub record IsNewPort (block ring : ℕ) (p : Port) : Type 0 where
+  pub other : other p ≡ block
+  pub capacity : capacity p ≡ ring
+  pub put : put p ≡ []
+  pub taken : taken p ≡ []
+  pub free : free p ≡ ring
+  pub waiting : waiting p ≡ []
+
+-- nothing was put or taken, and what was seen is still there
+pub record Looks (old new : Port) : Type 0 where
+  pub same : IsSamePort old new
+  pub put : put new ≡ put old
+  pub taken : taken new ≡ taken old
+  pub free : free old ≤ free new
+  pub waiting : IsPrefix (waiting old) (waiting new)
+
+-- one message was put
+pub record Puts (message : Message) (old new : Port) : Type 0 where
+  pub same : IsSamePort old new
+  pub put : put new ≡ put old ++ message ∷ []
+  pub taken : taken new ≡ taken old
+  pub free : free old ≡ free new + 1
+  pub waiting : waiting new ≡ waiting old
+
+-- one message was taken
+pub record Takes (message : Message) (old new : Port) : Type 0 where
+  pub same : IsSamePort old new
+  pub put : put new ≡ put old
+  pub taken : taken new ≡ taken old ++ message ∷ []
+  pub free : free new ≡ free old
+  pub waiting : waiting old ≡ message ∷ waiting new
+
+-- these messages were taken, one after another
+pub record TakesAll (messages : List Message) (old new : Port) : Type 0 where
+  pub same : IsSamePort old new
+  pub put : put new ≡ put old
+  pub taken : taken new ≡ taken old ++ messages

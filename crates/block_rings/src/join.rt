@@ -1,0 +1,53 @@
+ghost use Rattle.std.specs.Prelude.{◌≡◌, ◌≤◌, ◌++◌, IfOk, vec_len, vec_capacity};
+ghost use Rattle.block_rings.specs.Ports.{IsNewPort, LeadsTo, Looks, TakesAll, capacity, put, taken};
+
+use crate::port::Port;
+use crate::rule::Fair;
+use parcel::Message;
+use rtrb::RingBuffer;
+use std::alloc::{AllocError, Global};
+
+/// Two new rings, one each way between two blocks, with room for so many messages each; the port of the first
+/// block, and that of the second. The only error is that memory runs out.
+pub fn join_blocks(
+    alloc: Global,
+    first: u32,
+    second: u32,
+    ring: usize,
+) -> Result<(Port, Port), AllocError>
+    ensures first { IfOk result (λ ports. IsNewPort second ring ports.0) }
+    ensures second { IfOk result (λ ports. IsNewPort first ring ports.1) }
+    ensures there { IfOk result (λ ports. LeadsTo ports.0 ports.1) }
+    ensures back { IfOk result (λ ports. LeadsTo ports.1 ports.0) }
+{
+    let (to_second, from_first) = RingBuffer::with_protocol::<Global, Fair>(alloc, ring)?;
+    let (to_first, from_second) = RingBuffer::with_protocol::<Global, Fair>(alloc, ring)?;
+    let first_port = Port {
+        other: second,
+        to_ring: to_second,
+        from_ring: from_second,
+    };
+    let second_port = Port {
+        other: first,
+        to_ring: to_first,
+        from_ring: from_first,
+    };
+    Ok((first_port, second_port))
+}
+
+/// Takes all that is left in the ring from one port to another into a list with room for a full ring. What
+/// was put is then what was taken, followed by that list. Takes no memory.
+pub fn take_left(from: &mut Port, to: &mut Port, left: &mut Vec<Message>)
+    requires joined { LeadsTo from.old to.old }
+    requires empty { vec_len left.old ≡ 0 }
+    requires room { capacity from.old ≤ vec_capacity left.old }
+    ensures left { put from.old ≡ taken to.old ++ left.new.items }
+    ensures from { Looks from.old from.new }
+    ensures to { TakesAll left.new.items to.old to.new }
+{
+    from.to_ring.slots_beside(&mut to.from_ring);
+    let count = to.from_ring.slots_beside(&mut from.to_ring);
+    for _ in 0..count {
+        left.push_reserved(to.from_ring.pop_known());
+    }
+}

@@ -1,0 +1,100 @@
+ghost use Rattle.block_rings.specs.Ports.{IsSamePort};
+
+use block_rings::{Port, join_blocks, take_left};
+use parcel::{Direction, Message};
+use std::alloc::Global;
+use std::process::Abort;
+use std::sync::Wait;
+use std::test::Fail;
+use std::thread;
+use std::thread::Threads;
+
+/// How many messages a ring has room for.
+const RING: usize = 4;
+
+/// How many parcels go through a ring, or stay in it at the end.
+const PARCELS: u64 = 50_000;
+
+/// Puts parcels whose amounts rise from 1, each once there is room for it.
+fn put_all<R: Wait>(rt: &R, port: Port) -> Port
+    ensures { IsSamePort port result }
+{
+    let mut port = port;
+    let mut amount = 1;
+    for _ in rt.forever() {
+        if amount > PARCELS {
+            break;
+        }
+        if port.room() {
+            port.put(Message::Parcel {
+                direction: Direction {
+                    arc: 0,
+                    back: false,
+                },
+                amount,
+                label: 1,
+            });
+            amount += 1;
+        } else {
+            thread::yield_now();
+        }
+    }
+    port
+}
+
+/// The amount of a parcel, and 0 for any other message.
+fn amount_of(message: Message) -> u64 {
+    match message {
+        Message::Parcel { amount, .. } => amount,
+        _ => 0,
+    }
+}
+
+/// Takes all parcels but those that fill a ring; and whether their amounts rose from 1, one by one.
+fn take_most<R: Wait>(rt: &R, port: Port) -> (Port, bool)
+    ensures { IsSamePort port result.0 }
+{
+    let mut port = port;
+    let mut next = 1;
+    let mut in_order = true;
+    for _ in rt.forever() {
+        if next > PARCELS - RING as u64 {
+            break;
+        }
+        if let Some(_) = port.front() {
+            in_order = in_order && amount_of(port.take()) == next;
+            next += 1;
+        } else {
+            thread::yield_now();
+        }
+    }
+    (port, in_order)
+}
+
+/// Two threads, one of which puts what the other takes: each message comes once and in order, and those that
+/// were not taken are left in the ring.
+fn exchange<R: Threads + Wait + Abort + Sync>(rt: &R, alloc: Global) -> Result<(), Fail> {
+    let (first, second) = join_blocks(alloc, 0, 1, RING)?;
+    let mut left = Vec::with_capacity(alloc, RING)?;
+    let (first, (second, in_order)) = thread::join(
+        rt,
+        move || put_all(rt, first),
+        move || take_most(rt, second),
+    );
+    let mut first = first;
+    let mut second = second;
+    take_left(&mut first, &mut second, &mut left);
+    assert!(rt; in_order);
+    let mut next = PARCELS - RING as u64;
+    for message in &left {
+        next = next.saturating_add(1);
+        assert_eq!(rt; amount_of(*message), next);
+    }
+    assert_eq!(rt; next, PARCELS);
+    Ok(())
+}
+
+#[test]
+fn ring_in_order(rt: HostRuntime) -> Result<(), Fail> {
+    exchange(&rt, rt.alloc())
+}
