@@ -2,7 +2,7 @@
 use Rattle.std.specs.Prelude.{◌≡◌, ℕ, ◌≤◌, Option, Some, None, option_and_then, IsSomeAnd, List, codes}
 use Rattle.std.specs.Str.Parse.{IsNumeral, digits_value, without_leading_plus}
 use Rattle.clap.specs.Words.{Row, Text, first_of, one_of}
-use Rattle.image_options.specs.Limits.{cap_limit, sample_limit}
+use Rattle.image_options.specs.Limits.{cap_limit, maxval_limit}
 use Rattle.image_options.specs.declared.options.Neighbours.{Neighbours}
 use Rattle.image_options.specs.declared.options.Neighbours.TheVariants.{Four, Eight}
 use Rattle.image_options.specs.declared.options.RestoreOptions.{RestoreOptions}
@@ -46,7 +46,8 @@ abbrev pub HasNeighbours : List Row → Neighbours → Type 0
 HasNeighbours rows neighbours = HasNumber rows (codes "neighbours") 4 8 (count_of neighbours)
 
 -- the three options whose value is a name
-pub record AreNames (rows : List Row) (smooth : Shape) (neighbours : Neighbours) (moves : Moves) : Type 0 where
+pub record AreNames (rows : List Row) (smooth : Shape) (neighbours : Neighbours) (moves : Moves)
+    : Type 0 where
   pub smooth_is : smooth_of rows ≡ Some smooth
   pub neighbours_are : HasNeighbours rows neighbours
   pub moves_are : moves_of rows ≡ Some moves
@@ -75,11 +76,11 @@ pub record IsStereo (rows : List Row) (o : StereoOptions) : Type 0 where
   pub cap : HasNumber rows (codes "cap") 0 cap_limit o.cap
 
 pub record IsSegment (rows : List Row) (o : SegmentOptions) : Type 0 where
-  pub low : HasNumber rows (codes "low") 0 sample_limit o.low
-  pub high : HasNumber rows (codes "high") 0 sample_limit o.high
+  pub low : HasNumber rows (codes "low") 0 maxval_limit o.low
+  pub high : HasNumber rows (codes "high") 0 maxval_limit o.high
   pub strong : HasNumber rows (codes "strong") 0 weight_limit o.strong
   pub weak : HasNumber rows (codes "weak") 0 weight_limit o.weak
-  pub edge : HasNumber rows (codes "edge") 0 sample_limit o.edge
+  pub edge : HasNumber rows (codes "edge") 0 maxval_limit o.edge
   pub neighbours : HasNeighbours rows o.neighbours
   pub cycles : HasNumber rows (codes "cycles") 0 cycle_limit o.cycles
 

@@ -4,7 +4,7 @@ use Rattle.clap.specs.Words.{App, Rule, Text, app_of, new_rule, with_rule}
 use Rattle.clap.specs.declared.builder.command.Command.{Command}
 use Rattle.clap.specs.declared.builder.command.Command.TheViews.{out-Command}
 use Rattle.clap.specs.declared.builder.value_parser.ValueParser.TheVariants.{Signed}
-use Rattle.image_options.specs.Limits.{cap_limit, sample_limit}
+use Rattle.image_options.specs.Limits.{cap_limit, maxval_limit}
 use Rattle.label_field.specs.Limits.{label_limit, weight_limit}
 use Rattle.run_options.specs.Limits.{cycle_limit, trunc_limit}
 
@@ -15,7 +15,11 @@ text_rule name default = record (new_rule name) { long = Some name; value_names 
 -- `--name` with a number from the least to the most as its value
 abbrev pub number_rule : Text → ℕ → ℕ → Rule
 number_rule name least most =
-    record (new_rule name) { long = Some name; value_names = 1; parser = Some (Signed (pos least) (pos most)) }
+    record (new_rule name) {
+      long = Some name;
+      value_names = 1;
+      parser = Some (Signed (pos least) (pos most));
+    }
 
 -- the same with a default, and one that has to be given
 abbrev pub defaulted_rule : Text → ℕ → ℕ → Text → Rule
@@ -51,11 +55,11 @@ stereo_rules =
 -- the options of `segment`
 abbrev pub segment_rules : List Rule
 segment_rules =
-    required_rule (codes "low") 0 sample_limit
-    ∷ required_rule (codes "high") 0 sample_limit
+    required_rule (codes "low") 0 maxval_limit
+    ∷ required_rule (codes "high") 0 maxval_limit
     ∷ defaulted_rule (codes "strong") 0 weight_limit (codes "20")
     ∷ defaulted_rule (codes "weak") 0 weight_limit (codes "5")
-    ∷ defaulted_rule (codes "edge") 0 sample_limit (codes "5")
+    ∷ defaulted_rule (codes "edge") 0 maxval_limit (codes "5")
     ∷ neighbours_rule
     ∷ cycles_rule
     ∷ []

@@ -61,7 +61,8 @@ AsksForHelp words = (k : ErrorKind) × IsHelp k × IsAmong k (fault_of gco_app w
 -- the words are no command line, and ask for no help; or they are one that has no task and no bad option
 abbrev pub AreRefused : List Text → Type 0
 AreRefused words = ((k : ErrorKind) × (¬ IsHelp k) × IsAmong k (fault_of gco_app words))
-    ⊎ (IsAccepted words × ((task : Task) → ¬ Asks words task) × ((option : OptionName) → ¬ NamesBadOption words option))
+    ⊎ (IsAccepted words × ((task : Task) → ¬ Asks words task)
+    × ((option : OptionName) → ¬ NamesBadOption words option))
 
 -- why these words give no task: memory may always be refused
 abbrev pub IsNoTaskFor : List Text → NoTask → Type 0

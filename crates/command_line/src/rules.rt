@@ -5,7 +5,7 @@ ghost use Rattle.command_line.specs.Rules.{Adds, defaulted_rule, required_rule, 
 use crate::help;
 use clap::builder::ValueParser;
 use clap::{Arg, Command};
-use image_options::{CAP_LIMIT, SAMPLE_LIMIT};
+use image_options::{CAP_LIMIT, MAXVAL_LIMIT};
 use label_field::{LABEL_LIMIT, WEIGHT_LIMIT};
 use run_options::{CYCLE_LIMIT, TRUNC_LIMIT};
 use std::alloc::{AllocError, Global};
@@ -51,8 +51,8 @@ pub(crate) fn with_segment<'a>(
 ) -> Result<Command<'a>, AllocError>
     ensures { IfOk result (Adds command.entry segment_rules) }
 {
-    let command = with_required(alloc, command, "low", 0, SAMPLE_LIMIT, help::LOW)?;
-    let command = with_required(alloc, command, "high", 0, SAMPLE_LIMIT, help::HIGH)?;
+    let command = with_required(alloc, command, "low", 0, MAXVAL_LIMIT, help::LOW)?;
+    let command = with_required(alloc, command, "high", 0, MAXVAL_LIMIT, help::HIGH)?;
     let command = with_number(
         alloc,
         command,
@@ -63,7 +63,7 @@ pub(crate) fn with_segment<'a>(
         help::STRONG,
     )?;
     let command = with_number(alloc, command, "weak", 0, WEIGHT_LIMIT, "5", help::WEAK)?;
-    let command = with_number(alloc, command, "edge", 0, SAMPLE_LIMIT, "5", help::EDGE)?;
+    let command = with_number(alloc, command, "edge", 0, MAXVAL_LIMIT, "5", help::EDGE)?;
     let command = with_number(alloc, command, "neighbours", 4, 8, "4", help::NEIGHBOURS)?;
     with_number(
         alloc,
@@ -104,7 +104,8 @@ fn with_number<'a>(
     default: &'a str,
     help: &'a str,
 ) -> Result<Command<'a>, AllocError>
-    ensures { IfOk result (Adds command.entry (defaulted_rule name.entry.now least most default.entry.now ∷ [])) }
+    ensures { IfOk result (Adds command.entry
+        (defaulted_rule name.entry.now least most default.entry.now ∷ [])) }
 {
     let option = Arg::new(alloc, name)
         .long(name)

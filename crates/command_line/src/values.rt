@@ -8,7 +8,7 @@ ghost use Rattle.command_line.specs.Task.{HasNo};
 use crate::OptionName;
 use clap::ArgMatches;
 use image_options::{
-    CAP_LIMIT, Neighbours, RestoreOptions, SAMPLE_LIMIT, SegmentOptions, StereoOptions,
+    CAP_LIMIT, MAXVAL_LIMIT, Neighbours, RestoreOptions, SegmentOptions, StereoOptions,
 };
 use label_field::{LABEL_LIMIT, WEIGHT_LIMIT};
 use run_options::{CYCLE_LIMIT, Moves, Shape, TRUNC_LIMIT};
@@ -33,7 +33,8 @@ struct Names {
 /// The options of `restore`.
 pub(crate) fn restore_in(matches: &ArgMatches<'_>) -> Result<RestoreOptions, Unmet>
     ensures options { IfOk result (IsRestore (rows_of (found_of matches.now))) }
-    ensures unmet { IfErr result (HasNo (IsRestore (rows_of (found_of matches.now))) (IsFirstBad (rows_of (found_of matches.now)))) }
+    ensures unmet { IfErr result (HasNo (IsRestore (rows_of (found_of matches.now)))
+        (IsFirstBad (rows_of (found_of matches.now)))) }
 {
     let names = match names_in(matches) {
         Ok(names) => names,
@@ -61,7 +62,8 @@ pub(crate) fn restore_in(matches: &ArgMatches<'_>) -> Result<RestoreOptions, Unm
 /// The options of `stereo`.
 pub(crate) fn stereo_in(matches: &ArgMatches<'_>) -> Result<StereoOptions, Unmet>
     ensures options { IfOk result (IsStereo (rows_of (found_of matches.now))) }
-    ensures unmet { IfErr result (HasNo (IsStereo (rows_of (found_of matches.now))) (IsFirstBad (rows_of (found_of matches.now)))) }
+    ensures unmet { IfErr result (HasNo (IsStereo (rows_of (found_of matches.now)))
+        (IsFirstBad (rows_of (found_of matches.now)))) }
 {
     let shared = match restore_in(matches) {
         Ok(shared) => shared,
@@ -88,7 +90,8 @@ pub(crate) fn stereo_in(matches: &ArgMatches<'_>) -> Result<StereoOptions, Unmet
 /// The options of `segment`.
 pub(crate) fn segment_in(matches: &ArgMatches<'_>) -> Result<SegmentOptions, Unmet>
     ensures options { IfOk result (IsSegment (rows_of (found_of matches.now))) }
-    ensures unmet { IfErr result (HasNo (IsSegment (rows_of (found_of matches.now))) (IsOnlyBad (rows_of (found_of matches.now)))) }
+    ensures unmet { IfErr result (HasNo (IsSegment (rows_of (found_of matches.now)))
+        (IsOnlyBad (rows_of (found_of matches.now)))) }
 {
     let Some(neighbours) = neighbours_in(matches) else {
         return Err(Unmet::BadOption(OptionName::Neighbours));
@@ -106,11 +109,11 @@ fn segment_with(matches: &ArgMatches<'_>, neighbours: Neighbours) -> Option<Segm
     ensures none { IfNone result ((o : _) → ¬ IsSegment (rows_of (found_of matches.now)) o) }
 {
     Some(SegmentOptions {
-        low: number_in(matches, "low", 0, SAMPLE_LIMIT)?,
-        high: number_in(matches, "high", 0, SAMPLE_LIMIT)?,
+        low: number_in(matches, "low", 0, MAXVAL_LIMIT)?,
+        high: number_in(matches, "high", 0, MAXVAL_LIMIT)?,
         strong: number_in(matches, "strong", 0, WEIGHT_LIMIT)?,
         weak: number_in(matches, "weak", 0, WEIGHT_LIMIT)?,
-        edge: number_in(matches, "edge", 0, SAMPLE_LIMIT)?,
+        edge: number_in(matches, "edge", 0, MAXVAL_LIMIT)?,
         neighbours,
         cycles: number_in(matches, "cycles", 0, CYCLE_LIMIT)?,
     })
@@ -118,7 +121,8 @@ fn segment_with(matches: &ArgMatches<'_>, neighbours: Neighbours) -> Option<Segm
 
 // The options whose value is a name, or the first that has another value.
 fn names_in(matches: &ArgMatches<'_>) -> Result<Names, OptionName>
-    ensures names { IfOk result (λ names. AreNames (rows_of (found_of matches.now)) names.smooth names.neighbours names.moves) }
+    ensures names { IfOk result (λ names. AreNames (rows_of (found_of matches.now))
+        names.smooth names.neighbours names.moves) }
     ensures bad { IfErr result (IsFirstBad (rows_of (found_of matches.now))) }
 {
     let Some(smooth) = smooth_in(matches) else {
@@ -157,7 +161,8 @@ fn moves_in(matches: &ArgMatches<'_>) -> Option<Moves>
 
 fn neighbours_in(matches: &ArgMatches<'_>) -> Option<Neighbours>
     ensures neighbours { IfSome result (HasNeighbours (rows_of (found_of matches.now))) }
-    ensures none { IfNone result ((neighbours : Neighbours) → ¬ HasNeighbours (rows_of (found_of matches.now)) neighbours) }
+    ensures none { IfNone result ((neighbours : Neighbours) →
+        ¬ HasNeighbours (rows_of (found_of matches.now)) neighbours) }
 {
     match number_in(matches, "neighbours", 4, 8) {
         Some(4) => Some(Neighbours::Four),
@@ -176,7 +181,8 @@ fn text_in<'a>(matches: &ArgMatches<'a>, name: &str) -> Option<&'a str>
 // The value of an option, if it is a number from the least to the most.
 fn number_in(matches: &ArgMatches<'_>, name: &str, least: u32, most: u32) -> Option<u32>
     ensures number { IfSome result (HasNumber (rows_of (found_of matches.now)) name.now least most) }
-    ensures none { IfNone result ((n : ℕ) → ¬ HasNumber (rows_of (found_of matches.now)) name.now least most n) }
+    ensures none { IfNone result ((n : ℕ) →
+        ¬ HasNumber (rows_of (found_of matches.now)) name.now least most n) }
 {
     let number = value_in(matches, name)?;
     if least <= number && number <= most {
@@ -189,7 +195,8 @@ fn number_in(matches: &ArgMatches<'_>, name: &str, least: u32, most: u32) -> Opt
 // The value of an option, if it is a number.
 fn value_in(matches: &ArgMatches<'_>, name: &str) -> Option<u32>
     ensures number { IfSome result (HasValue (rows_of (found_of matches.now)) name.now) }
-    ensures none { IfNone result ((n : ℕ) → n < 2 ^ 32 → ¬ HasValue (rows_of (found_of matches.now)) name.now n) }
+    ensures none { IfNone result ((n : ℕ) → n < 2 ^ 32 →
+        ¬ HasValue (rows_of (found_of matches.now)) name.now n) }
 {
     matches.get_one(name)
 }

@@ -64,8 +64,10 @@ fn no_task(alloc: Global, error: &clap::Error) -> NoTask
 
 // The task of the subcommand that was used.
 fn entered_task(matches: &ArgMatches<'_>) -> Result<Task, Unmet>
-    ensures task { IfOk result (λ task. IsSomeAnd (subcommand_rows_of matches.now) (λ p. IsTaskOf p.0 p.1 task)) }
-    ensures unmet { IfErr result (HasNo (λ task. IsSomeAnd (subcommand_rows_of matches.now) (λ p. IsTaskOf p.0 p.1 task))
+    ensures task { IfOk result (λ task. IsSomeAnd (subcommand_rows_of matches.now)
+        (λ p. IsTaskOf p.0 p.1 task)) }
+    ensures unmet { IfErr result (HasNo
+        (λ task. IsSomeAnd (subcommand_rows_of matches.now) (λ p. IsTaskOf p.0 p.1 task))
         (λ option. IsSomeAnd (subcommand_rows_of matches.now) (λ p. IsBadOptionOf p.0 p.1 option))) }
 {
     match entered(matches) {

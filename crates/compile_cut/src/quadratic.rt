@@ -76,7 +76,8 @@ impl Quadratic {
             → IsRegularTable (projection table.now fixed) }
         ensures len { OnOk result (vec_len self.new.weights ≡ vec_len self.old.weights + 1) }
         ensures bounded { OnOk result ((k : ℕ) → IsBounded k self.old → IsBounded (k + 1) self.new) }
-        ensures value { OnOk result (AddsTerm self.old self.new (Term.Three nodes.first nodes.second nodes.third table.now)) }
+        ensures value { OnOk result (AddsTerm self.old self.new
+            (Term.Three nodes.first nodes.second nodes.third table.now)) }
     {
         let part = split_three(table);
         let hidden = self.weights.len() as u32;

@@ -2,7 +2,7 @@
 use Rattle.std.specs.Prelude.{ℕ, ◌≤◌}
 use Rattle.label_field.specs.Limits.{label_limit, weight_limit}
 use Rattle.run_options.specs.Limits.{cycle_limit, trunc_limit}
-use Rattle.image_options.specs.Limits.{cap_limit, sample_limit}
+use Rattle.image_options.specs.Limits.{cap_limit, maxval_limit}
 use Rattle.image_options.specs.declared.options.RestoreOptions.{RestoreOptions}
 use Rattle.image_options.specs.declared.options.StereoOptions.{StereoOptions}
 use Rattle.image_options.specs.declared.options.SegmentOptions.{SegmentOptions}
@@ -24,9 +24,9 @@ pub record AreStereoOptions (o : StereoOptions) : Type 0 where
   pub cap_most : o.cap ≤ cap_limit
 
 pub record AreSegmentOptions (o : SegmentOptions) : Type 0 where
-  pub low_most : o.low ≤ sample_limit
-  pub high_most : o.high ≤ sample_limit
+  pub low_most : o.low ≤ maxval_limit
+  pub high_most : o.high ≤ maxval_limit
   pub strong_most : o.strong ≤ weight_limit
   pub weak_most : o.weak ≤ weight_limit
-  pub edge_most : o.edge ≤ sample_limit
+  pub edge_most : o.edge ≤ maxval_limit
   pub cycles_most : o.cycles ≤ cycle_limit

@@ -4,5 +4,5 @@
 mod limits;
 mod options;
 
-pub use limits::{CAP_LIMIT, SAMPLE_LIMIT};
+pub use limits::{CAP_LIMIT, MAXVAL_LIMIT};
 pub use options::{Neighbours, RestoreOptions, SegmentOptions, StereoOptions};

@@ -1,5 +1,7 @@
-/// The greatest cost of a label at a pixel of a pair of pictures. The least is 0.
-pub const CAP_LIMIT: u32 = 10_000_000;
+use run_options::DATA_LIMIT;
 
-/// The greatest sample of a picture (the Netpbm project's PGM page). The least is 0.
-pub const SAMPLE_LIMIT: u32 = 65_535;
+/// The greatest cost at which that of a label at a pixel may be cut off. The least is 0.
+pub const CAP_LIMIT: u32 = DATA_LIMIT;
+
+/// The greatest sample of a picture, which is the greatest maxval (the Netpbm project's PGM page). The least is 0.
+pub const MAXVAL_LIMIT: u32 = 65_535;

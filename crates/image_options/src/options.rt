@@ -1,7 +1,7 @@
 ghost use Rattle.std.specs.Prelude.{◌↔◌, IsTrue};
 ghost use Rattle.image_options.specs.Ranges.{AreRestoreOptions, AreRunOptions, AreSegmentOptions, AreStereoOptions};
 
-use crate::{CAP_LIMIT, SAMPLE_LIMIT};
+use crate::{CAP_LIMIT, MAXVAL_LIMIT};
 use label_field::{LABEL_LIMIT, WEIGHT_LIMIT};
 use run_options::{CYCLE_LIMIT, Moves, Shape, TRUNC_LIMIT};
 
@@ -56,15 +56,15 @@ pub struct StereoOptions {
 /// The options of parting a picture in two: label 0 is near the one sample, label 1 near the other.
 #[derive(Clone, Copy, Debug, PartialEq, Eq)]
 pub struct SegmentOptions {
-    /// The sample of label 0, from 0 to `SAMPLE_LIMIT`.
+    /// The sample of label 0, from 0 to `MAXVAL_LIMIT`.
     pub low: u32,
-    /// The sample of label 1, from 0 to `SAMPLE_LIMIT`.
+    /// The sample of label 1, from 0 to `MAXVAL_LIMIT`.
     pub high: u32,
     /// The weight of a pair whose samples differ by at most `edge`, from 0 to `WEIGHT_LIMIT`.
     pub strong: u32,
     /// The weight of a pair whose samples differ by more than `edge`, from 0 to `WEIGHT_LIMIT`.
     pub weak: u32,
-    /// The greatest difference of two samples between which no edge runs, from 0 to `SAMPLE_LIMIT`.
+    /// The greatest difference of two samples between which no edge runs, from 0 to `MAXVAL_LIMIT`.
     pub edge: u32,
     /// The pairs of pixels.
     pub neighbours: Neighbours,
@@ -98,11 +98,11 @@ impl SegmentOptions {
     pub fn fits(&self) -> bool
         ensures { IsTrue result ↔ AreSegmentOptions self.now }
     {
-        self.low <= SAMPLE_LIMIT
-            && self.high <= SAMPLE_LIMIT
+        self.low <= MAXVAL_LIMIT
+            && self.high <= MAXVAL_LIMIT
             && self.strong <= WEIGHT_LIMIT
             && self.weak <= WEIGHT_LIMIT
-            && self.edge <= SAMPLE_LIMIT
+            && self.edge <= MAXVAL_LIMIT
             && self.cycles <= CYCLE_LIMIT
     }
 }

@@ -7,7 +7,6 @@ use Rattle.std.proofs.lemmas.List.{length-map}
 use Rattle.std.proofs.lemmas.List.Elements.{All-map}
 use Rattle.toml.specs.Data.{Data, string, integer, float, boolean, datetime, array, table, Items, Members, as_array, get_member}
 use Rattle.label_file.specs.FieldNames.{and_then, field_name, out_of_range, unless}
-use Rattle.label_file.specs.Costs.{data_cost_limit}
 use Rattle.label_file.specs.ListFields.{checked, checked_items, data_at, data_from, data_in, integer_of, is_beyond, is_other, list_from, list_of, number_of}
 use Rattle.label_file.specs.SmoothFields.{listed_from, smooth_at, smooth_from, smooth_in, table_named}
 use Rattle.label_file.specs.declared.fault.Field.{Field}
@@ -16,7 +15,7 @@ use Rattle.label_file.specs.declared.fault.LabelFault.{LabelFault}
 use Rattle.label_file.specs.declared.fault.LabelFault.TheVariants.{BadElement, BadField}
 use Rattle.label_file.proofs.Listed.{none_passes}
 use Rattle.run_options.proofs.Tables.{rows_kept, table_long}
-use Rattle.run_options.specs.Limits.{IsSmoothCost, smooth_cost_limit, trunc_limit}
+use Rattle.run_options.specs.Limits.{IsSmoothCost, data_limit, smooth_limit, trunc_limit}
 use Rattle.run_options.specs.Names.{shape_named}
 use Rattle.run_options.specs.Shapes.{shape_table}
 use Rattle.run_options.specs.declared.shape.Shape.{Shape}
@@ -72,20 +71,20 @@ small : (most : ℕ) (z : ℤ) → IsCost most z → unsigned_abs z ≤ most
 small most (pos n) h = omega (arith, ints, h.1)
 small most (negsuc n) h = absurd (omega (arith, ints, h.0))
 
-data_from_kept : (count : ℕ) (d : Data) (zs : List ℕ) → data_from count d ≡ Ok zs → (length zs ≡ count) × All (λ n. n ≤ data_cost_limit) zs
+data_from_kept : (count : ℕ) (d : Data) (zs : List ℕ) → data_from count d ≡ Ok zs → (length zs ≡ count) × All (λ n. n ≤ data_limit) zs
 unfolding data_from
 data_from_kept count d zs e =
-    let (ds, read, made) = then_ok (list_from field.Data count data_cost_limit d) (λ ds. Ok (map number_of ds)) zs e in
-    let kept = list_kept field.Data count data_cost_limit d ds read in
+    let (ds, read, made) = then_ok (list_from field.Data count data_limit d) (λ ds. Ok (map number_of ds)) zs e in
+    let kept = list_kept field.Data count data_limit d ds read in
     let same : map number_of ds ≡ zs = let is = made in cc in
-    let P : List ℕ → Type 0 = λ xs. (length xs ≡ count) × All (λ n. n ≤ data_cost_limit) xs in
-    subst P same (simp length-map kept.long, All-map (λ n. n ≤ data_cost_limit) number_of ds (λ k d below. small data_cost_limit (integer_of (get_or ds k d)) (kept.limit k d below)))
+    let P : List ℕ → Type 0 = λ xs. (length xs ≡ count) × All (λ n. n ≤ data_limit) xs in
+    subst P same (simp length-map kept.long, All-map (λ n. n ≤ data_limit) number_of ds (λ k d below. small data_limit (integer_of (get_or ds k d)) (kept.limit k d below)))
 
-data_at_kept : (count : ℕ) (o : Option Data) (zs : List ℕ) → data_at count o ≡ Ok zs → (length zs ≡ count) × All (λ n. n ≤ data_cost_limit) zs
+data_at_kept : (count : ℕ) (o : Option Data) (zs : List ℕ) → data_at count o ≡ Ok zs → (length zs ≡ count) × All (λ n. n ≤ data_limit) zs
 data_at_kept count None zs e = absurd (let never = e in cc)
 data_at_kept count (Some d) zs e = data_from_kept count d zs e
 
-pub data_kept : (ms : Members) (count : ℕ) (zs : List ℕ) → data_in ms count ≡ Ok zs → (length zs ≡ count) × All (λ n. n ≤ data_cost_limit) zs
+pub data_kept : (ms : Members) (count : ℕ) (zs : List ℕ) → data_in ms count ≡ Ok zs → (length zs ≡ count) × All (λ n. n ≤ data_limit) zs
 unfolding data_in
 data_kept ms count zs e = data_at_kept count (get_member (field_name field.Data) ms) zs e
 
@@ -103,8 +102,8 @@ named_kept k most (Some shape) f few e =
 listed_kept : (k most : ℕ) (d : Data) (f : ℕ → List ℤ) → listed_from k d ≡ Ok f → IsTable k (f most)
 unfolding listed_from
 listed_kept k most d f e =
-    let (ds, read, made) = then_ok (list_from field.Smooth (k * k) smooth_cost_limit d) (λ ds. Ok (λ most. map integer_of ds)) f e in
-    let kept = list_kept field.Smooth (k * k) smooth_cost_limit d ds read in
+    let (ds, read, made) = then_ok (list_from field.Smooth (k * k) smooth_limit d) (λ ds. Ok (λ most. map integer_of ds)) f e in
+    let kept = list_kept field.Smooth (k * k) smooth_limit d ds read in
     let g : ℕ → List ℤ = λ most. map integer_of ds in
     let same : g ≡ f = let is = made in cc in
     let P : (ℕ → List ℤ) → Type 0 = λ h. IsTable k (h most) in

@@ -1,4 +1,3 @@
-pub mod Costs
 pub mod FieldNames
 pub mod Gains
 pub mod Limits

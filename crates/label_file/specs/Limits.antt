@@ -1,18 +1,17 @@
 -- What each problem that is read keeps.
 use Rattle.std.specs.Prelude.{◌≡◌, ◌*◌, ◌≤◌, length, All}
 use Rattle.label_field.specs.LabelFields.{AreSizes}
-use Rattle.run_options.specs.Limits.{IsSmoothCost, cycle_limit}
-use Rattle.label_file.specs.Costs.{data_cost_limit}
+use Rattle.run_options.specs.Limits.{IsSmoothCost, cycle_limit, data_limit}
 use Rattle.label_file.specs.Names.{Problem}
 
 -- the sizes agree, and the numbers are in their limits
 pub record IsInLimits (p : Problem) : Type 0 where
   pub sizes : AreSizes p.sites p.labels
   pub data_count : length p.data_costs ≡ p.sites * p.labels
-  pub data_limit : All (λ cost. cost ≤ data_cost_limit) p.data_costs
+  pub data_most : All (λ cost. cost ≤ data_limit) p.data_costs
   pub smooth_count : length p.smooth_costs ≡ p.labels * p.labels
-  pub smooth_limit : All IsSmoothCost p.smooth_costs
+  pub smooth_most : All IsSmoothCost p.smooth_costs
   pub pair_sites : p.pairs.sites ≡ p.sites
   pub start_sites : length p.start.at ≡ p.sites
   pub start_labels : p.start.labels ≡ p.labels
-  pub cycles_limit : p.cycles ≤ cycle_limit
+  pub cycles_most : p.cycles ≤ cycle_limit

@@ -2,7 +2,7 @@
 use Rattle.std.specs.Prelude.{ℕ, ℤ, pos, unsigned_abs, int_le, Bool, not, ◌&&◌, ◌==◌, List, [], ◌∷◌, length, map, position, Option, Some, None, unwrap_or, Result, Ok, Err, if◌then◌else◌}
 use Rattle.std.specs.Option.{is_none}
 use Rattle.toml.specs.Data.{Data, Items, no_items, item, Members, as_array, as_integer, get_member}
-use Rattle.label_file.specs.Costs.{data_cost_limit}
+use Rattle.run_options.specs.Limits.{data_limit}
 use Rattle.label_file.specs.FieldNames.{and_then, field_name, out_of_range, unless}
 use Rattle.label_file.specs.declared.fault.Field.{Field}
 use Rattle.label_file.specs.declared.fault.Field.TheVariants as field
@@ -29,7 +29,8 @@ number_of d = unsigned_abs (integer_of d)
 abbrev pub is_beyond : ℕ → Data → Bool
 is_beyond most d = not (int_le (pos 0) (integer_of d) && int_le (integer_of d) (pos most))
 
--- the list, if it has so many items, all integers, and each from 0 to the most; its first fault, in this order, if not
+-- the list, if it has so many items, all integers, and each from 0 to the most; its first fault, in this
+-- order, if not
 unfoldable pub checked : Field → ℕ → ℕ → List Data → Result (List Data) LabelFault
 checked field count most ds =
     if length ds == count then
@@ -47,7 +48,7 @@ list_from field count most d = checked_items field count most (as_array d)
 
 -- the costs of each of so many labels at sites
 unfoldable pub data_from : ℕ → Data → Result (List ℕ) LabelFault
-data_from count d = and_then (list_from field.Data count data_cost_limit d) (λ ds. Ok (map number_of ds))
+data_from count d = and_then (list_from field.Data count data_limit d) (λ ds. Ok (map number_of ds))
 
 abbrev pub data_at : ℕ → Option Data → Result (List ℕ) LabelFault
 data_at count None = Err (BadField field.Data)

@@ -8,7 +8,8 @@ use Rattle.label_file.specs.declared.fault.LabelFault.TheVariants.{BadField}
 
 -- the number that an integer is, if it is one from the least to the most
 abbrev pub within : Field → ℕ → ℕ → Option ℤ → Result ℕ LabelFault
-within field least most (Some (pos n)) = if nat_le least n && nat_le n most then Ok n else Err (BadField field)
+within field least most (Some (pos n)) =
+    if nat_le least n && nat_le n most then Ok n else Err (BadField field)
 within field least most _ = Err (BadField field)
 
 abbrev pub number_from : Field → ℕ → ℕ → Data → Result ℕ LabelFault
@@ -21,8 +22,10 @@ number_at missing field least most (Some d) = number_from field least most d
 
 -- the number that a field must be
 unfoldable pub number_in : Members → Field → ℕ → ℕ → Result ℕ LabelFault
-number_in ms field least most = number_at (Err (BadField field)) field least most (get_member (field_name field) ms)
+number_in ms field least most =
+    number_at (Err (BadField field)) field least most (get_member (field_name field) ms)
 
 -- the number that a field is, with a default
 unfoldable pub number_or : Members → Field → ℕ → ℕ → ℕ → Result ℕ LabelFault
-number_or ms field least most default = number_at (Ok default) field least most (get_member (field_name field) ms)
+number_or ms field least most default =
+    number_at (Ok default) field least most (get_member (field_name field) ms)

@@ -8,7 +8,9 @@ use Rattle.label_file.specs.declared.fault.Field.TheVariants.{Start}
 use Rattle.label_file.specs.declared.fault.LabelFault.{LabelFault}
 
 unfoldable pub start_from : ℕ → ℕ → Data → Result LabelField LabelFault
-start_from sites labels d = and_then (list_from Start sites (labels - 1) d) (λ ds. Ok (record { labels = labels; at = map number_of ds }))
+start_from sites labels d =
+    and_then (list_from Start sites (labels - 1) d)
+    (λ ds. Ok (record { labels = labels; at = map number_of ds }))
 
 abbrev pub start_at : ℕ → ℕ → Option Data → Result LabelField LabelFault
 start_at sites labels None = Ok (record { labels = labels; at = replicate sites 0 })

@@ -5,7 +5,8 @@ ghost use Rattle.label_file.specs.ListFields.{data_from, data_in};
 
 use crate::lists::{list_from, numbers_of};
 use crate::numbers::value_of;
-use crate::{DATA_COST_LIMIT, Field, LabelFault};
+use crate::{Field, LabelFault};
+use run_options::DATA_LIMIT;
 use std::alloc::Global;
 use toml::{Table, Value};
 
@@ -13,7 +14,8 @@ use toml::{Table, Value};
 #[tactic(auto, unfolding(crate::specs::ListFields::data_in))]
 pub(crate) fn data_in(alloc: Global, table: &Table, count: usize) -> Result<Vec<u32>, LabelFault>
     ensures ok { IfOk result (λ costs. data_in (table_view table.now) count ≡ Ok costs.items) }
-    ensures refused { IfErr result (λ fault. fault ≢ OutOfMemory → data_in (table_view table.now) count ≡ Err fault) }
+    ensures refused { IfErr result (λ fault. fault ≢ OutOfMemory →
+        data_in (table_view table.now) count ≡ Err fault) }
 {
     match value_of(table, Field::Data) {
         Some(value) => data_from(alloc, value, count),
@@ -24,9 +26,10 @@ pub(crate) fn data_in(alloc: Global, table: &Table, count: usize) -> Result<Vec<
 #[tactic(auto, unfolding(crate::specs::ListFields::data_from))]
 fn data_from(alloc: Global, value: &Value, count: usize) -> Result<Vec<u32>, LabelFault>
     ensures ok { IfOk result (λ costs. data_from count (view value.now) ≡ Ok costs.items) }
-    ensures refused { IfErr result (λ fault. fault ≢ OutOfMemory → data_from count (view value.now) ≡ Err fault) }
+    ensures refused { IfErr result (λ fault. fault ≢ OutOfMemory →
+        data_from count (view value.now) ≡ Err fault) }
 {
-    let items = list_from(value, Field::Data, count, DATA_COST_LIMIT)?;
+    let items = list_from(value, Field::Data, count, DATA_LIMIT)?;
     match numbers_of(alloc, items) {
         Ok(costs) => Ok(costs),
         Err(_) => Err(LabelFault::OutOfMemory),

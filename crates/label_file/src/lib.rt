@@ -14,5 +14,5 @@ mod smooth;
 mod start;
 
 pub use fault::{Field, LabelFault};
-pub use problem::{DATA_COST_LIMIT, LabelProblem};
+pub use problem::LabelProblem;
 pub use read::{problem_of, read_label};

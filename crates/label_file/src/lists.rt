@@ -27,12 +27,14 @@ pub(crate) fn list_from<'a>(
     Ok(items)
 }
 
-#[tactic(auto, using(crate::proofs::Listed::length_viewed, crate::proofs::Listed::all_in_range), unfolding(crate::specs::ListFields::checked))]
 /// Refuses a list of another length, then one with an element that is no integer, then one with an element
 /// that is out of range.
+#[tactic(auto, using(crate::proofs::Listed::length_viewed, crate::proofs::Listed::all_in_range), unfolding(crate::specs::ListFields::checked))]
 fn check(items: &Vec<Value>, field: Field, count: usize, most: u32) -> Result<(), LabelFault>
-    ensures ok { IfOk result (λ _. checked field count most (map view items.now.items) ≡ Ok (map view items.now.items)) }
-    ensures refused { IfErr result (λ fault. checked field count most (map view items.now.items) ≡ Err fault) }
+    ensures ok { IfOk result (λ _.
+        checked field count most (map view items.now.items) ≡ Ok (map view items.now.items)) }
+    ensures refused { IfErr result (λ fault.
+        checked field count most (map view items.now.items) ≡ Err fault) }
     ensures count { IfOk result (λ _. vec_len items.now ≡ count) }
     ensures range { IfOk result (λ _. All (λ item. number_of (view item) ≤ most) items.now.items) }
 {

@@ -42,7 +42,8 @@ pub(crate) fn number_or(
     default: u32,
 ) -> Result<u32, LabelFault>
     ensures value { result ≡ number_or (table_view table.now) field least most default }
-    ensures range { (least ≤ default) × (default ≤ most) → IfOk result (λ number. (least ≤ number) × (number ≤ most)) }
+    ensures range { (least ≤ default) × (default ≤ most) →
+        IfOk result (λ number. (least ≤ number) × (number ≤ most)) }
 {
     match value_of(table, field) {
         Some(value) => number_from(value, field, least, most),

@@ -17,7 +17,8 @@ use toml::{Table, Value};
 pub(crate) fn pairs_in(alloc: Global, table: &Table, sites: u32) -> Result<Pairs, LabelFault>
     requires { sites ≤ site_limit }
     ensures ok { IfOk result (λ pairs. pairs_in (table_view table.now) sites ≡ Ok pairs.list) }
-    ensures refused { IfErr result (λ fault. fault ≢ OutOfMemory → pairs_in (table_view table.now) sites ≡ Err fault) }
+    ensures refused { IfErr result (λ fault. fault ≢ OutOfMemory →
+        pairs_in (table_view table.now) sites ≡ Err fault) }
     ensures sites { IfOk result (λ pairs. pairs.sites ≡ sites) }
 {
     let mut pairs = Pairs::new(alloc, sites);
@@ -42,7 +43,8 @@ fn add_items(pairs: &mut Pairs, items: &Vec<Value>) -> Result<(), LabelFault>
     requires empty { pairs.old.list ≡ [] }
     requires room { vec_len items.now ≤ pair_limit }
     ensures ok { OnOk result (pairs_from pairs.old.sites 0 (map view items.now.items) ≡ Ok pairs.new.list) }
-    ensures refused { IfErr result (λ fault. fault ≢ OutOfMemory → pairs_from pairs.old.sites 0 (map view items.now.items) ≡ Err fault) }
+    ensures refused { IfErr result (λ fault. fault ≢ OutOfMemory →
+        pairs_from pairs.old.sites 0 (map view items.now.items) ≡ Err fault) }
     ensures sites { pairs.new.sites ≡ pairs.old.sites }
 {
     for (place, item) in items.iter().enumerate() {
@@ -57,7 +59,8 @@ fn add_item(pairs: &mut Pairs, place: usize, item: &Value) -> Result<(), LabelFa
     requires sites { pairs.old.sites ≤ site_limit }
     requires room { length pairs.old.list < pair_limit }
     ensures ok { OnOk result (Gains pairs.old pairs.new (pair_at pairs.old.sites place (view item.now))) }
-    ensures refused { IfErr result (λ fault. fault ≢ OutOfMemory → pair_at pairs.old.sites place (view item.now) ≡ Err fault) }
+    ensures refused { IfErr result (λ fault. fault ≢ OutOfMemory →
+        pair_at pairs.old.sites place (view item.now) ≡ Err fault) }
     ensures sites { pairs.new.sites ≡ pairs.old.sites }
 {
     let shape = LabelFault::BadElement(Field::Pairs, place);
@@ -84,8 +87,10 @@ fn add(
 ) -> Result<(), LabelFault>
     requires sites { pairs.old.sites ≤ site_limit }
     requires room { length pairs.old.list < pair_limit }
-    ensures ok { OnOk result (Gains pairs.old pairs.new (pair_with pairs.old.sites place first second weight)) }
-    ensures refused { IfErr result (λ fault. fault ≢ OutOfMemory → pair_with pairs.old.sites place first second weight ≡ Err fault) }
+    ensures ok { OnOk result (Gains pairs.old pairs.new
+        (pair_with pairs.old.sites place first second weight)) }
+    ensures refused { IfErr result (λ fault. fault ≢ OutOfMemory →
+        pair_with pairs.old.sites place first second weight ≡ Err fault) }
     ensures sites { pairs.new.sites ≡ pairs.old.sites }
 {
     let Some(first) = site_of(first) else {

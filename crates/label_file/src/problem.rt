@@ -1,9 +1,6 @@
 use label_field::{Labelling, Pairs};
 use run_options::Moves;
 
-/// The greatest cost of a label at a site. The least is 0.
-pub const DATA_COST_LIMIT: u32 = 10_000_000;
-
 /// A problem of labels, and the run that is to better its labelling.
 #[derive(Drop)]
 pub struct LabelProblem {
@@ -11,10 +8,10 @@ pub struct LabelProblem {
     pub sites: u32,
     /// How many labels there are, at least 1.
     pub labels: u32,
-    /// The cost of each label at each site, site by site, each from 0 to `DATA_COST_LIMIT`.
+    /// The cost of each label at each site, site by site, each from 0 to `DATA_LIMIT`.
     pub data: Vec<u32>,
     /// The cost of each label beside each, row after row by the label of a pair's first site, each from 0 to
-    /// `SMOOTH_COST_LIMIT`.
+    /// `SMOOTH_LIMIT`.
     pub smooth: Vec<i64>,
     /// The pairs of sites that pay the smooth cost, times their weight.
     pub pairs: Pairs,

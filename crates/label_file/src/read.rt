@@ -21,7 +21,8 @@ use toml::Table;
 pub fn read_label(alloc: Global, bytes: &[u8]) -> Result<LabelProblem, LabelFault>
     ensures ok { IfOk result (λ problem. IsUtf8 bytes.now × (problem_in bytes.now ≡ Ok (told problem))) }
     ensures limits { IfOk result (λ problem. IsInLimits (told problem)) }
-    ensures refused { IfErr result (λ fault. fault ≢ OutOfMemory → IsUtf8 bytes.now → problem_in bytes.now ≡ Err fault) }
+    ensures refused { IfErr result (λ fault. fault ≢ OutOfMemory →
+        IsUtf8 bytes.now → problem_in bytes.now ≡ Err fault) }
     ensures text { IfErr result (λ fault. fault ≢ OutOfMemory → fault ≢ BadToml → IsUtf8 bytes.now) }
 {
     let table = match read_table(alloc, bytes) {

@@ -8,7 +8,7 @@ ghost use Rattle.label_file.specs.Smooths.{table_by};
 use crate::lists::{integers_of, list_from};
 use crate::numbers::value_of;
 use crate::{Field, LabelFault};
-use run_options::{SMOOTH_COST_LIMIT, Shape, smooth_table};
+use run_options::{SMOOTH_LIMIT, Shape, smooth_table};
 use std::alloc::{AllocError, Global};
 use toml::{Table, Value};
 
@@ -25,8 +25,10 @@ pub(crate) enum Smooth {
 #[tactic(auto, unfolding(crate::specs::SmoothFields::smooth_in))]
 pub(crate) fn smooth_in(alloc: Global, table: &Table, labels: u32) -> Result<Smooth, LabelFault>
     requires { labels ≤ label_limit }
-    ensures ok { IfOk result (λ smooth. smooth_in (table_view table.now) labels ≡ Ok (table_by labels smooth)) }
-    ensures refused { IfErr result (λ fault. fault ≢ OutOfMemory → smooth_in (table_view table.now) labels ≡ Err fault) }
+    ensures ok { IfOk result (λ smooth.
+        smooth_in (table_view table.now) labels ≡ Ok (table_by labels smooth)) }
+    ensures refused { IfErr result (λ fault. fault ≢ OutOfMemory →
+        smooth_in (table_view table.now) labels ≡ Err fault) }
 {
     match value_of(table, Field::Smooth) {
         Some(value) => smooth_from(alloc, value, labels),
@@ -38,7 +40,8 @@ pub(crate) fn smooth_in(alloc: Global, table: &Table, labels: u32) -> Result<Smo
 fn smooth_from(alloc: Global, value: &Value, labels: u32) -> Result<Smooth, LabelFault>
     requires { labels ≤ label_limit }
     ensures ok { IfOk result (λ smooth. smooth_from labels (view value.now) ≡ Ok (table_by labels smooth)) }
-    ensures refused { IfErr result (λ fault. fault ≢ OutOfMemory → smooth_from labels (view value.now) ≡ Err fault) }
+    ensures refused { IfErr result (λ fault. fault ≢ OutOfMemory →
+        smooth_from labels (view value.now) ≡ Err fault) }
 {
     let Some(name) = value.as_str() else {
         return listed_in(alloc, value, labels);
@@ -54,10 +57,11 @@ fn smooth_from(alloc: Global, value: &Value, labels: u32) -> Result<Smooth, Labe
 fn listed_in(alloc: Global, value: &Value, labels: u32) -> Result<Smooth, LabelFault>
     requires { labels ≤ label_limit }
     ensures ok { IfOk result (λ smooth. listed_from labels (view value.now) ≡ Ok (table_by labels smooth)) }
-    ensures refused { IfErr result (λ fault. fault ≢ OutOfMemory → listed_from labels (view value.now) ≡ Err fault) }
+    ensures refused { IfErr result (λ fault. fault ≢ OutOfMemory →
+        listed_from labels (view value.now) ≡ Err fault) }
 {
     let count = labels as usize * labels as usize;
-    let items = list_from(value, Field::Smooth, count, SMOOTH_COST_LIMIT)?;
+    let items = list_from(value, Field::Smooth, count, SMOOTH_LIMIT)?;
     match integers_of(alloc, items) {
         Ok(costs) => Ok(Smooth::Listed(costs)),
         Err(_) => Err(LabelFault::OutOfMemory),

@@ -22,7 +22,8 @@ pub(crate) fn start_in(
 ) -> Result<Labelling, LabelFault>
     requires { AreSizes sites labels }
     ensures ok { IfOk result (λ start. start_in (table_view table.now) sites labels ≡ Ok start) }
-    ensures refused { IfErr result (λ fault. fault ≢ OutOfMemory → start_in (table_view table.now) sites labels ≡ Err fault) }
+    ensures refused { IfErr result (λ fault. fault ≢ OutOfMemory →
+        start_in (table_view table.now) sites labels ≡ Err fault) }
     ensures sizes { IfOk result (λ start. (length start.at ≡ sites) × (start.labels ≡ labels)) }
 {
     let Ok(start) = Labelling::new(alloc, sites, labels) else {

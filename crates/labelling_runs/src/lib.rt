@@ -30,12 +30,12 @@ pub struct Run {
     pub smooth: i64,
 }
 
-/// Makes moves from a labelling, in at most so many cycles, and answers where they ended. `smooth` has a row for each
-/// label of a pair's first site, and in it an entry from 0 to `SMOOTH_LIMIT` for each of the second.
+/// Makes moves from a labelling, in at most so many cycles, and answers where they ended. `smooth` has a row
+/// for each label of a pair's first site, and in it an entry from 0 to `SMOOTH_LIMIT` for each of the second.
 ///
-/// Refused: `PairNotRegular` where the next move of the chain has a term that is not regular, which never happens where
-/// the table is a metric; what `how` refuses; and out of memory. The contract speaks of every instance whose data
-/// costs the closure answers: who knows them names it.
+/// Refused: `PairNotRegular` where the next move of the chain has a term that is not regular, which never
+/// happens where the table is a metric; what `how` refuses; and out of memory. The contract speaks of every
+/// instance whose data costs the closure answers: who knows them names it.
 pub fn run_with_table<F: Fn(u32, u32) -> i64, H: How>(
     alloc: Global,
     pairs: Pairs,
@@ -155,7 +155,8 @@ fn make_moves<F: Fn(u32, u32) -> i64, V: Fn(u32, u32) -> i64, H: How>(
     ensures run { (m : Instance) →
         IsMeant (F.post problem.now.data_cost.f) (V.post problem.now.smooth_cost.v) problem.now.pairs
         problem.now.data_cost.labels m →
-        IsRun m (cycle_of moves problem.now.data_cost.labels) cycles labelling.old.at labelling.new.at result }
+        IsRun m (cycle_of moves problem.now.data_cost.labels) cycles labelling.old.at labelling.new.at
+        result }
 {
     match moves {
         Moves::Expansion => problem.run_expansion(alloc, labelling, cycles, how),

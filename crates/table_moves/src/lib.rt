@@ -4,7 +4,8 @@
 ghost use Rattle.std.specs.Prelude.{◌≡◌, pos, ◌+◌, ◌*◌, ◌<◌, ◌≤◌, All, length, slice_index};
 ghost use Rattle.label_file.specs.Limits.{IsInLimits};
 ghost use Rattle.label_file.specs.Names.{told};
-ghost use Rattle.cost_store.specs.Limits.{data_limit, smooth_limit};
+ghost use Rattle.run_options.specs.Limits.{data_limit};
+ghost use Rattle.cost_store.specs.Limits.{smooth_limit};
 ghost use Rattle.cost_store.specs.Promises.{IsCost};
 ghost use Rattle.labelling_runs.specs.Instances.{instance_of};
 ghost use Rattle.labelling_runs.specs.Runs.{Answers};
@@ -53,9 +54,11 @@ fn run_over<H: How>(
 ) -> Result<Run, MoveError>
     requires ready { H.ready how.now }
     requires sites { length start.at ≡ pairs.sites }
-    requires data { (length data.now ≡ pairs.sites * start.labels) × All (λ cost. cost ≤ 10000000) data.now }
-    requires smooth { (length smooth.now ≡ start.labels * start.labels) × All (IsCost smooth_limit) smooth.now }
-    ensures { Answers (instance_of pairs start.labels (data_entry start.labels data.now) smooth.now) moves cycles start.at result }
+    requires data { (length data.now ≡ pairs.sites * start.labels) × All (λ cost. cost ≤ data_limit) data.now }
+    requires smooth { (length smooth.now ≡ start.labels * start.labels)
+        × All (IsCost smooth_limit) smooth.now }
+    ensures { Answers (instance_of pairs start.labels (data_entry start.labels data.now) smooth.now)
+        moves cycles start.at result }
 {
     let labels = start.labels();
     let sites = start.sites();

@@ -1,4 +1,5 @@
 use Rattle.std.proofs.Common.{◌∙◌, ◌*◌, refl, sym, pos}
+use Rattle.run_options.specs.Limits.{data_limit}
 use Rattle.labelling_runs.specs.Instances.{instance_of}
 use Rattle.labelling_runs.proofs.Entries.{table_of_costs}
 use Rattle.table_moves.specs.Instances.{data_entry}
@@ -7,7 +8,7 @@ use Rattle.table_moves.proofs.run_over.Goals as goal
 
 pub new-data_cost-requires : goal.new-data_cost-requires
 new-data_cost-requires g c =
-    data_keeps 10000000 c.args.data.now c.sites-sites.result c.labels-labels.result
+    data_keeps data_limit c.args.data.now c.sites-sites.result c.labels-labels.result
     (c.requires.data.0 ∙ (λ i. sym (c.sites-sites.ensures.value ∙ c.requires.sites) i * sym c.labels-labels.ensures.value i))
     c.labels-labels.ensures.sizes.2 c.requires.data.1
 

@@ -10,12 +10,12 @@ run_over-requires-clause-sites g c = c.requires.limits.start_sites ∙ sym c.req
 pub run_over-requires-clause-data : goal.run_over-requires-clause-data
 run_over-requires-clause-data g c =
     let limits = c.requires.limits in
-    rw c.as_slice.ensures.value (limits.data_count ∙ (λ i. sym limits.pair_sites i * sym limits.start_labels i), limits.data_limit)
+    rw c.as_slice.ensures.value (limits.data_count ∙ (λ i. sym limits.pair_sites i * sym limits.start_labels i), limits.data_most)
 
 pub run_over-requires-clause-smooth : goal.run_over-requires-clause-smooth
 run_over-requires-clause-smooth g c =
     let limits = c.requires.limits in
-    rw c.as_slice-2.ensures.value (limits.smooth_count ∙ (λ i. sym limits.start_labels i * sym limits.start_labels i), limits.smooth_limit)
+    rw c.as_slice-2.ensures.value (limits.smooth_count ∙ (λ i. sym limits.start_labels i * sym limits.start_labels i), limits.smooth_most)
 
 pub returns : goal.returns
 returns g c =

@@ -12,11 +12,11 @@ returns-clause-limits c =
     record {
       sizes = (c.in_ok-sites.ensures.range.1, c.in_ok-labels.ensures.range.0, c.in_ok-labels.ensures.range.1);
       data_count = costs.0;
-      data_limit = costs.1;
+      data_most = costs.1;
       smooth_count = rw c.in-Ok.ensures table.0;
-      smooth_limit = rw c.in-Ok.ensures table.1;
+      smooth_most = rw c.in-Ok.ensures table.1;
       pair_sites = c.in_ok-pairs.ensures.sites;
       start_sites = c.in_ok-start.ensures.sizes.0;
       start_labels = c.in_ok-start.ensures.sizes.1;
-      cycles_limit = (c.in_ok-cycles.ensures.range (omega arith, omega arith)).1;
+      cycles_most = (c.in_ok-cycles.ensures.range (omega arith, omega arith)).1;
     }
