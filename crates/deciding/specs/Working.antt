@@ -14,6 +14,7 @@ use Rattle.move_energy.specs.Problems.{IsPrepareRefusal}
 use Rattle.move_energy.specs.declared.choice.Choice.{Choice}
 use Rattle.move_energy.specs.declared.choice.Choice.TheVariants.{Open, Zero, One}
 use Rattle.move_energy.specs.Choices.{bit_of, choice_at}
+use Rattle.deciding.specs.Limits.{surplus_limit, bound_limit}
 use Rattle.deciding.specs.Decisions.{Decision, set_bit, put, rise, HavePassed}
 use Rattle.deciding.specs.MoveValues.{move_value, data_rise, pair_rise}
 use Rattle.deciding.specs.declared.bounds.Bounds.{Bounds}
@@ -44,9 +45,9 @@ degree ends u = start_of ends (u + 1) - start_of ends u
 abbrev pub left : Groups → ℕ → List Choice → ℕ
 left ends n choices = sum_below n (λ u. counted (is_open (choice_at choices u)) (degree ends u))
 
--- how large a bound may be while so many ends are left: each end that is looked at changes one by at most 20,000,000
+-- how large a bound may be while so many ends are left: each end that is looked at changes one by at most a surplus
 abbrev pub room_of : ℕ → ℕ
-room_of n = 500000000000000000 - 20000000 * n
+room_of n = bound_limit - surplus_limit * n
 
 -- by how much the costs of a pair at 01 and 10 are together above those at 00 and 11
 abbrev pub surplus_of : List ℤ → ℤ
@@ -158,10 +159,10 @@ pub record CallsUp (site : ℕ) (old new : Bounds) : Type 0 where
   pub sites : (n : ℕ) → site < n → All (λ u. u < n) old.waiting.items → All (λ u. u < n) new.waiting.items
   pub more : length new.waiting.items ≤ length old.waiting.items + 1
 
--- the choices stay, no bound grows by more than 20,000,000, and at most so many sites more wait
+-- the choices stay, no bound grows by more than a surplus for each, and at most so many sites more wait
 pub record IsLooking (more : ℕ) (old new : Bounds) : Type 0 where
   pub choices : new.choices ≡ old.choices
   pub least_len : length new.least.items ≡ length old.least.items
   pub greatest_len : length new.greatest.items ≡ length old.greatest.items
   pub waiting : length new.waiting.items ≤ length old.waiting.items + more
-  pub range : (most : ℕ) → IsWithinRange most old → IsWithinRange (most + 20000000 * more) new
+  pub range : (most : ℕ) → IsWithinRange most old → IsWithinRange (most + surplus_limit * more) new

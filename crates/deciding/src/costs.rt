@@ -1,19 +1,22 @@
 //! What a site and a pair cost in a move.
 ghost use Rattle.std.specs.Prelude.{◌≡◌, ◌<◌, ◌≤◌, ◌*◌, ℕ, ℤ, pos, ◌-ℤ◌, ◌≤ℤ◌, ◌∷◌, [], true, false, All, length, unsigned_abs, IsTrue, ◌↔◌};
-ghost use Rattle.label_field.specs.Limits.{weight_limit};
 ghost use Rattle.label_field.specs.PairLists.{IsPair};
 ghost use Rattle.labellings.specs.Energies.{Instance, labelling};
 ghost use Rattle.labellings.specs.Moves.{label_in, IsMoveOf};
 ghost use Rattle.cost_store.specs.Limits.{data_limit};
 ghost use Rattle.cost_store.specs.Promises.{Keeps, KeepsSmooth, Answers, IsCost};
+ghost use Rattle.move_energy.specs.Limits.{site_cost_limit, pair_cost_limit};
+ghost use Rattle.deciding.specs.Limits.{surplus_limit};
 ghost use Rattle.deciding.specs.MoveValues.{data_rise as data_rise_of, term_of};
 ghost use Rattle.deciding.specs.Working.{surplus_of};
 
 use cost_store::{DataCost, SmoothCost};
 use label_field::Pair;
 use labellings::Move;
+use move_energy::pair_table;
 
-/// How much more the label costs a site where its value turns from 0 to 1.
+/// How much more the label costs a site where its value turns from 0 to 1. A site that the move cannot change is not
+/// asked.
 pub fn data_rise<F: Fn(u32, u32) -> i64>(
     data_cost: &DataCost<F>,
     change: Move,
@@ -26,64 +29,16 @@ pub fn data_rise<F: Fn(u32, u32) -> i64>(
     requires change { IsMoveOf data_cost.now.labels change }
     ensures rise { (cost : ℕ → ℕ → ℕ) →
         Answers (F.post data_cost.now.f) cost data_cost.now.sites data_cost.now.labels →
-        result ≡ pos (cost site (label_in change label true)) -ℤ pos (cost site (label_in change label false)) }
-    ensures range { unsigned_abs result ≤ 10000000 }
+        result ≡ pos (cost site (label_in change label true))
+        -ℤ pos (cost site (label_in change label false)) }
+    ensures range { unsigned_abs result ≤ site_cost_limit }
 {
-    let turns = data_cost.cost(site, change.label(label, true));
-    let stays = data_cost.cost(site, change.label(label, false));
-    turns - stays
-}
-
-/// What a pair of this weight costs at two labels.
-fn pair_cost<V: Fn(u32, u32) -> i64>(
-    smooth_cost: &SmoothCost<V>,
-    weight: u32,
-    first: u32,
-    second: u32,
-) -> i64
-    requires smooth { KeepsSmooth (V.pre smooth_cost.now.v) (V.post smooth_cost.now.v)
-        smooth_cost.now.labels smooth_cost.now.by_metric }
-    requires weight { weight ≤ weight_limit }
-    requires inside { (first < smooth_cost.now.labels) × (second < smooth_cost.now.labels) }
-    ensures cost { (cost : ℕ → ℕ → ℕ) →
-        Answers (V.post smooth_cost.now.v) cost smooth_cost.now.labels smooth_cost.now.labels →
-        result ≡ pos (weight * cost first second) }
-    ensures range { (pos 0 ≤ℤ result) × (result ≤ℤ pos 10000000) }
-{
-    (u64::from(weight) * smooth_cost.cost(first, second).unsigned_abs()) as i64
-}
-
-/// What a pair of this weight costs at the values 00, 01, 10 and 11 of its ends.
-fn costs_of<V: Fn(u32, u32) -> i64>(
-    smooth_cost: &SmoothCost<V>,
-    change: Move,
-    weight: u32,
-    first: u32,
-    second: u32,
-) -> [i64; 4]
-    requires smooth { KeepsSmooth (V.pre smooth_cost.now.v) (V.post smooth_cost.now.v)
-        smooth_cost.now.labels smooth_cost.now.by_metric }
-    requires weight { weight ≤ weight_limit }
-    requires inside { (first < smooth_cost.now.labels) × (second < smooth_cost.now.labels) }
-    requires change { IsMoveOf smooth_cost.now.labels change }
-    ensures table { (cost : ℕ → ℕ → ℕ) →
-        Answers (V.post smooth_cost.now.v) cost smooth_cost.now.labels smooth_cost.now.labels →
-        result ≡ pos (weight * cost (label_in change first false) (label_in change second false))
-        ∷ pos (weight * cost (label_in change first false) (label_in change second true))
-        ∷ pos (weight * cost (label_in change first true) (label_in change second false))
-        ∷ pos (weight * cost (label_in change first true) (label_in change second true)) ∷ [] }
-    ensures range { All (IsCost (pos 10000000)) result }
-{
-    let first_stays = change.label(first, false);
-    let first_turns = change.label(first, true);
-    let second_stays = change.label(second, false);
-    let second_turns = change.label(second, true);
-    [
-        pair_cost(smooth_cost, weight, first_stays, second_stays),
-        pair_cost(smooth_cost, weight, first_stays, second_turns),
-        pair_cost(smooth_cost, weight, first_turns, second_stays),
-        pair_cost(smooth_cost, weight, first_turns, second_turns),
-    ]
+    let turns = change.label(label, true);
+    let stays = change.label(label, false);
+    if turns == stays {
+        return 0;
+    }
+    data_cost.cost(site, turns) - data_cost.cost(site, stays)
 }
 
 /// What a pair costs at the values 00, 01, 10 and 11 of its ends.
@@ -101,27 +56,27 @@ pub fn term<V: Fn(u32, u32) -> i64>(
     ensures table { (m : Instance) →
         Answers (V.post smooth_cost.now.v) m.smooth_cost smooth_cost.now.labels smooth_cost.now.labels →
         result ≡ term_of m change (labelling at.now) pair }
-    ensures range { All (IsCost (pos 10000000)) result }
+    ensures range { All (IsCost (pos pair_cost_limit)) result }
     ensures size { length result ≡ 4 }
 {
     let first = u32::from(at[pair.first as usize]);
     let second = u32::from(at[pair.second as usize]);
-    costs_of(smooth_cost, change, pair.weight, first, second)
+    pair_table(smooth_cost, change, pair.weight, first, second)
 }
 
 /// By how much a pair's costs at 01 and 10 are together above those at 00 and 11: below 0 exactly where its term is not
 /// regular (Kolmogorov and Zabih, PAMI 2004, section 4.1).
 pub fn surplus(table: &[i64; 4]) -> i64
-    requires { All (IsCost (pos 10000000)) table.now }
+    requires { All (IsCost (pos pair_cost_limit)) table.now }
     ensures value { result ≡ surplus_of table.now }
-    ensures range { unsigned_abs result ≤ 20000000 }
+    ensures range { unsigned_abs result ≤ surplus_limit }
 {
     (table[1] + table[2]) - (table[0] + table[3])
 }
 
 /// Whether a pair's term is regular.
 pub fn is_regular(table: &[i64; 4]) -> bool
-    requires { All (IsCost (pos 10000000)) table.now }
+    requires { All (IsCost (pos pair_cost_limit)) table.now }
     ensures { IsTrue result ↔ (pos 0 ≤ℤ surplus_of table.now) }
 {
     surplus(table) >= 0

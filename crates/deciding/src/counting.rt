@@ -9,6 +9,8 @@ ghost use Rattle.cost_store.specs.Promises.{Keeps, KeepsSmooth, Answers, IsCost}
 ghost use Rattle.move_energy.specs.declared.choice.Choice.TheVariants.{Open};
 ghost use Rattle.move_energy.specs.Choices.{choice_at};
 ghost use Rattle.deciding.specs.MoveValues.{term_of};
+ghost use Rattle.move_energy.specs.Limits.{site_cost_limit, pair_cost_limit};
+ghost use Rattle.deciding.specs.Limits.{surplus_limit};
 ghost use Rattle.deciding.specs.Working.{bound_at, IsSized, IsWithinRange, AreCounted, AreUndecided, AddsTerm, AreWaiting, AreTermsCounted};
 
 use crate::Bounds;
@@ -21,10 +23,10 @@ use std::alloc::AllocError;
 
 /// By how much one entry of a table is above another.
 fn difference(table: &[i64; 4], more: usize, less: usize) -> i64
-    requires table { All (IsCost (pos 10000000)) table.now }
+    requires table { All (IsCost (pos pair_cost_limit)) table.now }
     requires entries { (more < 4) × (less < 4) }
     ensures value { result ≡ bound_at table.now more -ℤ bound_at table.now less }
-    ensures range { unsigned_abs result ≤ 10000000 }
+    ensures range { unsigned_abs result ≤ pair_cost_limit }
 {
     table[more] - table[less]
 }
@@ -72,7 +74,7 @@ impl Bounds {
         requires labels { All (λ label. label < data_cost.now.labels) at.now }
         requires change { IsMoveOf data_cost.now.labels change }
         ensures undecided { OnOk result (AreUndecided (length at.now) self.new) }
-        ensures range { OnOk result (IsWithinRange 10000000 self.new) }
+        ensures range { OnOk result (IsWithinRange site_cost_limit self.new) }
         ensures counted { OnOk result ((m : Instance) → m.sites ≡ length at.now →
             Answers (F.post data_cost.now.f) m.data_cost data_cost.now.sites data_cost.now.labels →
             AreCounted m change (labelling at.now) 0 self.new) }
@@ -89,12 +91,13 @@ impl Bounds {
     fn add_term(&mut self, pair: Pair, table: &[i64; 4])
         requires pair { IsPair (length self.old.least.items) pair }
         requires sized { length self.old.greatest.items ≡ length self.old.least.items }
-        requires table { All (IsCost (pos 10000000)) table.now }
+        requires table { All (IsCost (pos pair_cost_limit)) table.now }
         requires range { IsWithinRange (2 ^ 60) self.old }
         ensures adds { AddsTerm pair table.now self.old self.new }
         ensures sized { (length self.new.least.items ≡ length self.old.least.items)
             × (length self.new.greatest.items ≡ length self.old.greatest.items) }
-        ensures range { (most : ℕ) → IsWithinRange most self.old → IsWithinRange (most + 20000000) self.new }
+        ensures range { (most : ℕ) → IsWithinRange most self.old →
+            IsWithinRange (most + surplus_limit) self.new }
         ensures same { (self.new.choices ≡ self.old.choices) × (self.new.waiting ≡ self.old.waiting) }
     {
         let first = pair.first as usize;
@@ -117,10 +120,11 @@ impl Bounds {
         requires labels { All (λ label. label < smooth_cost.now.labels) at.now }
         requires change { IsMoveOf smooth_cost.now.labels change }
         requires undecided { AreUndecided (length at.now) self.old }
-        requires range { IsWithinRange 10000000 self.old }
+        requires range { IsWithinRange site_cost_limit self.old }
         requires list { IsPairList pairs.now }
         ensures undecided { OnOk result (AreUndecided (length at.now) self.new) }
-        ensures range { OnOk result (IsWithinRange (10000000 + 20000000 * length pairs.now.list) self.new) }
+        ensures range { OnOk result (IsWithinRange
+            (site_cost_limit + surplus_limit * length pairs.now.list) self.new) }
         ensures counted { (m : Instance) →
             Answers (V.post smooth_cost.now.v) m.smooth_cost smooth_cost.now.labels smooth_cost.now.labels →
             m.pairs ≡ pairs.now.list → m.sites ≡ pairs.now.sites →

@@ -8,6 +8,8 @@ ghost use Rattle.cost_store.specs.Promises.{KeepsSmooth, Answers};
 ghost use Rattle.move_energy.specs.declared.choice.Choice.{Choice};
 ghost use Rattle.move_energy.specs.declared.choice.Choice.TheVariants.{Open};
 ghost use Rattle.move_energy.specs.Choices.{choice_at, bit_of};
+ghost use Rattle.move_energy.specs.Limits.{site_cost_limit};
+ghost use Rattle.deciding.specs.Limits.{surplus_limit};
 ghost use Rattle.deciding.specs.Working.{bound_at, AreEnds, CanDecide, Tells, IsMarked, IsSized, IsWithinRange, AreWaiting, AreWaitingBut, ArePartlyDecided, SeesPair, IsLooking, Shifts, least_shift as least_shift_of, greatest_shift as greatest_shift_of, degree, left, room_of};
 ghost use Rattle.deciding.specs.Decided.{AreBySite};
 
@@ -42,18 +44,18 @@ fn other_end(pair: Pair, site: u32) -> u32
 
 /// What is added to the least rise of a site of which a neighbour got a value, and their pair has this surplus.
 fn least_shift(value: bool, surplus: i64) -> i64
-    requires { unsigned_abs surplus ≤ 20000000 }
+    requires { unsigned_abs surplus ≤ surplus_limit }
     ensures value { result ≡ least_shift_of value surplus }
-    ensures range { unsigned_abs result ≤ 20000000 }
+    ensures range { unsigned_abs result ≤ surplus_limit }
 {
     if value { 0 } else { surplus }
 }
 
 /// What is added to the greatest rise.
 fn greatest_shift(value: bool, surplus: i64) -> i64
-    requires { unsigned_abs surplus ≤ 20000000 }
+    requires { unsigned_abs surplus ≤ surplus_limit }
     ensures value { result ≡ greatest_shift_of value surplus }
-    ensures range { unsigned_abs result ≤ 20000000 }
+    ensures range { unsigned_abs result ≤ surplus_limit }
 {
     if value { -surplus } else { 0 }
 }
@@ -62,10 +64,11 @@ impl Bounds {
     /// Changes the bounds of a site of which a neighbour got a value, by their pair's surplus.
     fn turn(&mut self, site: usize, value: bool, surplus: i64)
         requires site { (site < length self.old.least.items) × (site < length self.old.greatest.items) }
-        requires surplus { unsigned_abs surplus ≤ 20000000 }
+        requires surplus { unsigned_abs surplus ≤ surplus_limit }
         requires range { IsWithinRange (2 ^ 60) self.old }
         ensures shifts { Shifts site value surplus self.old self.new }
-        ensures range { (most : ℕ) → IsWithinRange most self.old → IsWithinRange (most + 20000000) self.new }
+        ensures range { (most : ℕ) → IsWithinRange most self.old →
+            IsWithinRange (most + surplus_limit) self.new }
         ensures sized { (length self.new.least.items ≡ length self.old.least.items)
             × (length self.new.greatest.items ≡ length self.old.greatest.items) }
         ensures same { (self.new.choices ≡ self.old.choices) × (self.new.waiting ≡ self.old.waiting) }
@@ -81,7 +84,7 @@ impl Bounds {
     /// not before.
     fn shift(&mut self, site: u32, value: bool, surplus: i64) -> Result<(), AllocError>
         requires site { (site < length self.old.least.items) × (site < length self.old.greatest.items) }
-        requires surplus { unsigned_abs surplus ≤ 20000000 }
+        requires surplus { unsigned_abs surplus ≤ surplus_limit }
         requires range { IsWithinRange (2 ^ 60) self.old }
         ensures looking { OnOk result (IsLooking 1 self.old self.new) }
         ensures shifts { OnOk result (Shifts site value surplus self.old self.new) }
@@ -161,7 +164,7 @@ impl Bounds {
         ensures sized { OnOk result (IsSized (length at.now) self.new) }
         ensures waiting { OnOk result (AreWaiting (length at.now) self.new) }
         ensures range { OnOk result ((most : ℕ) → IsWithinRange most self.old →
-            IsWithinRange (most + 20000000 * degree ends.now site) self.new) }
+            IsWithinRange (most + surplus_limit * degree ends.now site) self.new) }
         ensures more { OnOk result (length self.new.waiting.items ≤
             length self.old.waiting.items + degree ends.now site) }
         ensures left { OnOk result (left ends.now (length at.now) self.new.choices.items
@@ -174,7 +177,7 @@ impl Bounds {
     {
         self.mark(site as usize, value);
         for place in ends.starts[site as usize]..ends.starts[site as usize + 1] {
-            let pair = pairs.get(ends.places[place] / 2);
+            let pair = pairs.get(ends.places[place as usize] as usize / 2);
             self.see(smooth_cost, at, change, pair, site, value)?;
         }
         Ok(())
@@ -209,7 +212,8 @@ impl Bounds {
         requires site { site < length at.now }
         requires sized { IsSized (length at.now) self.old }
         requires left { left ends.now (length at.now) self.old.choices.items ≤ 2 * length pairs.now.list }
-        requires range { IsWithinRange (room_of (left ends.now (length at.now) self.old.choices.items)) self.old }
+        requires range { IsWithinRange
+            (room_of (left ends.now (length at.now) self.old.choices.items)) self.old }
         requires waiting { AreWaitingBut (length at.now) site self.old }
         ensures sized { OnOk result (IsSized (length at.now) self.new) }
         ensures waiting { OnOk result (AreWaiting (length at.now) self.new) }
@@ -251,7 +255,7 @@ impl Bounds {
         requires labels { All (λ label. label < smooth_cost.now.labels) at.now }
         requires change { IsMoveOf smooth_cost.now.labels change }
         requires sized { IsSized (length at.now) self.old }
-        requires range { IsWithinRange (10000000 + 20000000 * length pairs.now.list) self.old }
+        requires range { IsWithinRange (site_cost_limit + surplus_limit * length pairs.now.list) self.old }
         requires waiting { AreWaiting (length at.now) self.old }
         ensures sized { OnOk result (IsSized (length at.now) self.new) }
         ensures none { OnOk result ((u : ℕ) → u < length at.now → choice_at self.new.choices.items u ≡ Open →

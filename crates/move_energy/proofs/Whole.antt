@@ -1,5 +1,5 @@
 -- A move of which nothing is decided.
-use Rattle.std.proofs.Common.{◌≡◌, ℕ, ◌+◌, ◌*◌, ◌<◌, ◌≤◌, true, false, IsTrue, Result, Ok, Err, List, [], ◌∷◌, ◌++◌, length, take, get_or, All, ℤ, sym, ap, ◌∙◌, subst, inl, inr, arith}
+use Rattle.std.proofs.Common.{◌≡◌, ◌≢◌, ℕ, ◌+◌, ◌*◌, ◌<◌, ◌≤◌, true, false, IsTrue, Result, Ok, Err, List, [], ◌∷◌, ◌++◌, length, take, get_or, All, ℤ, sym, ap, ◌∙◌, subst, inl, inr, arith}
 use Rattle.std.specs.Prelude.{◌↔◌}
 use Rattle.std.proofs.lemmas.Bool.{cases_lt}
 use Rattle.std.proofs.lemmas.List.{get_or_push, get_or_append_left, length-append}
@@ -12,7 +12,7 @@ use Rattle.labellings.specs.Moves.{label_in, IsRegularPair, IsAllowed, IsFirstIr
 use Rattle.labellings.proofs.Reaching.{cases_label_in}
 use Rattle.move_energy.specs.declared.building.MoveEnergy.{MoveEnergy}
 use Rattle.move_energy.specs.declared.choice.Choice.{Choice}
-use Rattle.move_energy.specs.declared.choice.Choice.TheVariants.{Open}
+use Rattle.move_energy.specs.declared.choice.Choice.TheVariants.{Open, One}
 use Rattle.move_energy.specs.declared.error.BuildError.{BuildError}
 use Rattle.move_energy.specs.declared.error.BuildError.TheVariants.{PairNotRegular, OutOfMemory}
 use Rattle.move_energy.specs.Choices.{choice_at, Changes, AreAllOpen}
@@ -22,13 +22,14 @@ use Rattle.move_energy.specs.Problems.{IsFitPair, IsFirstUnfit, IsMeant, IsBuild
 pub record AreOpenBelow (move : Move) (f : List ℕ) (choices : List Choice) (n : ℕ) : Type 0 where
   pub count : length choices ≡ n
   pub opened : (p : ℕ) → p < n → choice_at choices p ≡ Open ↔ Changes move (labelling f p)
+  pub none : (p : ℕ) → p < n → choice_at choices p ≢ One
 
 pub open_none : (move : Move) (f : List ℕ) (choices : List Choice) → length choices ≡ 0 → AreOpenBelow move f choices 0
-open_none move f choices none = record { count = none; opened = λ p l. absurd (omega (arith, l)) }
+open_none move f choices none = record { count = none; opened = λ p l. absurd (omega (arith, l)); none = λ p l. absurd (omega (arith, l)) }
 
 pub open_more : (move : Move) (f : List ℕ) (old new : List Choice) (n : ℕ) (c : Choice) → new ≡ old ++ c ∷ []
-    → c ≡ Open ↔ Changes move (labelling f n) → AreOpenBelow move f old n → AreOpenBelow move f new (n + 1)
-open_more move f old new n c is own below = record {
+    → c ≡ Open ↔ Changes move (labelling f n) → c ≢ One → AreOpenBelow move f old n → AreOpenBelow move f new (n + 1)
+open_more move f old new n c is own never below = record {
   count = ap (λ (xs : List Choice). length xs) is ∙ omega (arith, length-append old (c ∷ []), below.count);
   opened = λ p l.
       let here = ap (λ (xs : List Choice). choice_at xs p) is in
@@ -43,12 +44,19 @@ open_more move f old new n c is own below = record {
             let P : ℕ → Type 0 = λ q. Changes move (labelling f q) in
             ((λ opened. subst P equal (own.0 (sym same ∙ opened))), λ changes. same ∙ own.1 (subst P (sym equal) changes))
       ];
+  none = λ p l one.
+      let here = ap (λ (xs : List Choice). choice_at xs p) is in
+      elim (cases_lt p n) [
+        | inl before ↦ below.none p before (sym (here ∙ get_or_append_left old (c ∷ []) _ p (omega (arith, before, below.count))) ∙ one)
+        | inr at ↦ never (sym (here ∙ get_or_push old c _ p (omega (arith, at, l, below.count))) ∙ one)
+      ];
 }
 
 pub open_all : (move : Move) (f : List ℕ) (choices : List Choice) (n : ℕ) → n ≡ length f → AreOpenBelow move f choices n → AreAllOpen move f choices
 open_all move f choices n all below = record {
   count = below.count ∙ all;
   opened = λ p l. below.opened p (omega (arith, all, l));
+  none = λ p l. below.none p (omega (arith, all, l));
 }
 
 -- a pair of which the move cannot change one end makes a regular term

@@ -21,10 +21,11 @@ choice_at choices p = slice_index_or choices p Zero
 abbrev pub Changes : Move → ℕ → Type 0
 Changes move old = label_in move old true ≢ label_in move old false
 
--- nothing is decided: exactly the sites that the move can change are open
+-- nothing is decided: exactly the sites that the move can change are open, and no other is at 1
 pub record AreAllOpen (move : Move) (f : List ℕ) (choices : List Choice) : Type 0 where
   pub count : length choices ≡ length f
   pub opened : (p : ℕ) → p < length f → choice_at choices p ≡ Open ↔ Changes move (labelling f p)
+  pub none : (p : ℕ) → p < length f → choice_at choices p ≢ One
 
 -- each open site has a variable of its own, and each variable an open site: `variables` has the number of each
 -- site's variable, which means something at open sites alone, and `sites` the site of each variable

@@ -1,13 +1,13 @@
-//! What a pair of two sites costs.
+//! The term of a pair of two sites.
 ghost use Rattle.std.specs.Prelude.{◌≡◌, ◌≢◌, ◌<◌, ◌≤◌, ◌+◌, ◌*◌, ◌∷◌, [], ℕ, ℤ, pos, ◌≤ℤ◌, Bool, true, false, All, length, IfOk, OnOk, IsTrue, IsFalse, ◌↔◌};
 ghost use Rattle.label_field.specs.Limits.{weight_limit};
 ghost use Rattle.labellings.specs.Moves.{label_in, IsMoveOf};
 ghost use Rattle.pseudo_bool.specs.Limits.{term_limit};
-ghost use Rattle.pseudo_bool.specs.Formula.{IsWithin};
 ghost use Rattle.cost_store.specs.Promises.{KeepsSmooth, Answers};
 ghost use Rattle.move_energy.specs.declared.choice.Choice.TheVariants.{Open};
 ghost use Rattle.move_energy.specs.Built.{AddsCost, AddsEnds, IsLonger};
 
+use crate::costs::{pair_cost, pair_table};
 use crate::terms::{add_one, add_two};
 use crate::variables::End;
 use cost_store::SmoothCost;
@@ -15,58 +15,6 @@ use labellings::Move;
 use pseudo_bool::Energy;
 use regular::is_regular_table;
 use std::alloc::AllocError;
-
-/// What a pair of this weight costs at two labels.
-fn pair_cost<V: Fn(u32, u32) -> i64>(
-    smooth_cost: &SmoothCost<V>,
-    weight: u32,
-    first: u32,
-    second: u32,
-) -> i64
-    requires smooth { KeepsSmooth (V.pre smooth_cost.now.v) (V.post smooth_cost.now.v)
-        smooth_cost.now.labels smooth_cost.now.by_metric }
-    requires weight { weight ≤ weight_limit }
-    requires inside { (first < smooth_cost.now.labels) × (second < smooth_cost.now.labels) }
-    ensures cost { (cost : ℕ → ℕ → ℕ) →
-        Answers (V.post smooth_cost.now.v) cost smooth_cost.now.labels smooth_cost.now.labels →
-        result ≡ pos (weight * cost first second) }
-    ensures range { (pos 0 ≤ℤ result) × (result ≤ℤ pos 10000000) }
-{
-    (u64::from(weight) * smooth_cost.cost(first, second).unsigned_abs()) as i64
-}
-
-/// What a pair costs where both ends have the label that they get at 0, the second that at 1, the first, and both.
-fn pair_table<V: Fn(u32, u32) -> i64>(
-    smooth_cost: &SmoothCost<V>,
-    change: Move,
-    weight: u32,
-    first: u32,
-    second: u32,
-) -> [i64; 4]
-    requires smooth { KeepsSmooth (V.pre smooth_cost.now.v) (V.post smooth_cost.now.v)
-        smooth_cost.now.labels smooth_cost.now.by_metric }
-    requires weight { weight ≤ weight_limit }
-    requires inside { (first < smooth_cost.now.labels) × (second < smooth_cost.now.labels) }
-    requires change { IsMoveOf smooth_cost.now.labels change }
-    ensures table { (cost : ℕ → ℕ → ℕ) →
-        Answers (V.post smooth_cost.now.v) cost smooth_cost.now.labels smooth_cost.now.labels →
-        result ≡ pos (weight * cost (label_in change first false) (label_in change second false))
-        ∷ pos (weight * cost (label_in change first false) (label_in change second true))
-        ∷ pos (weight * cost (label_in change first true) (label_in change second false))
-        ∷ pos (weight * cost (label_in change first true) (label_in change second true)) ∷ [] }
-    ensures range { All (IsWithin 10000000) result }
-{
-    let first_stays = change.label(first, false);
-    let first_turns = change.label(first, true);
-    let second_stays = change.label(second, false);
-    let second_turns = change.label(second, true);
-    [
-        pair_cost(smooth_cost, weight, first_stays, second_stays),
-        pair_cost(smooth_cost, weight, first_stays, second_turns),
-        pair_cost(smooth_cost, weight, first_turns, second_stays),
-        pair_cost(smooth_cost, weight, first_turns, second_turns),
-    ]
-}
 
 /// Adds what a pair of two open ends costs, or answers that its term is not regular.
 fn add_both<V: Fn(u32, u32) -> i64>(

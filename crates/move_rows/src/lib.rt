@@ -9,6 +9,4 @@ mod chains;
 #[cfg(test)]
 mod random;
 #[cfg(test)]
-mod runs;
-#[cfg(test)]
 mod worked;

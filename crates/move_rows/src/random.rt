@@ -1,36 +1,94 @@
-//! Small random moves against answers worked out over all labellings.
-ghost use Rattle.std.specs.Prelude.{◌≤◌, ◌<◌, ◌+◌, ◌≤ℤ◌, pos};
+//! Small random moves and runs, with sites decided first and without, against answers worked out over all
+//! labellings.
+ghost use Rattle.std.specs.Prelude.{◌≡◌, ◌≤◌, ◌<◌, ◌+◌, ◌*◌, ◌≤ℤ◌, pos};
+ghost use Rattle.moves.specs.declared.error.SolveError.TheVariants.{OutOfMemory};
 
-use crate::cases::{COUNT, DIGITS, MOVES};
+use crate::cases::MOVES;
+use crate::chains::RUNS;
 use cost_store::{DataCost, SmoothCost};
+use flow_network::{Net, Solved};
 use label_field::{Labelling, Pairs};
-use moves::{Alone, MoveError, Problem};
+use moves::{Alone, How, MoveError, Problem, SolveError};
 use std::alloc::Global;
 use std::process::Abort;
 
-/// A digit of a move.
-fn digit(row: &[u8; DIGITS], place: usize) -> u32
-    requires { place < 78 }
-    ensures { result ≤ 255 }
-{
-    u32::from(row[place].saturating_sub(b'0'))
+/// How many bytes a row has: how many sites, labels and pairs; 0 for an expansion, 1 for a swap, 2 for a run
+/// of expansions, 3 for a run of swaps; the cycles that are allowed; the answer: 0 kept or stopped, 1 changed
+/// or settled, 2 not regular; how many cycles were done, or the place of the pair; alpha, beta. Then four
+/// data costs of each of six sites, four smooth costs of each of four labels, the labels of six sites before
+/// and after, seven pairs with their weights, and the data energy and the smooth energy after, each of eight
+/// digits.
+const BYTES: usize = 98;
+
+/// The greatest data cost, smooth cost and weight.
+const DATA: u32 = 10_000_000;
+
+const SMOOTH: u32 = 10_000;
+
+const WEIGHT: u32 = 1_000;
+
+/// As `Alone`, but no site is decided before the cut.
+#[derive(Clone, Copy, Debug)]
+struct CutAlone;
+
+impl How for CutAlone {
+    ghost ready = { λ _. Unit {0} };
+
+    ghost refuses = { λ _ e. e ≡ OutOfMemory };
+
+    fn solve(&self, alloc: Global, net: &Net) -> Result<Solved, SolveError> {
+        Alone.solve(alloc, net)
+    }
+
+    fn decides_first(&self) -> bool {
+        false
+    }
 }
 
-/// A number of three digits.
-fn number_at(row: &[u8; DIGITS], place: usize) -> i64
-    requires { place + 2 < 78 }
+/// A number of a row, at most so great: a digit is itself, a small letter the limit less its place in the
+/// alphabet from 0, a capital so many parts of 27 of the limit, from 1.
+fn number(row: &[u8; BYTES], place: usize, most: u32) -> u32
+    requires { place < 98 }
+    ensures { result ≤ most }
 {
-    i64::from(100 * digit(row, place) + 10 * digit(row, place + 1) + digit(row, place + 2))
+    let byte = u32::from(row[place]);
+    let number = if byte >= 97 {
+        most.saturating_sub(byte - 97)
+    } else if byte >= 65 {
+        most.saturating_mul(byte - 64) / 27
+    } else {
+        byte.saturating_sub(48)
+    };
+    number.min(most)
 }
 
-/// The pairs of a move.
-fn pairs_of(rt: &impl Abort, alloc: Global, row: &[u8; DIGITS], sites: u32) -> Pairs
-    requires { sites ≤ 5 }
+/// A digit of a row.
+fn digit(row: &[u8; BYTES], place: usize) -> u32
+    requires { place < 98 }
+    ensures { result ≤ 9 }
+{
+    number(row, place, 9)
+}
+
+/// An energy, of eight digits.
+fn energy_at(row: &[u8; BYTES], from: usize) -> i64
+    requires { from + 8 ≤ 98 }
+{
+    let mut energy: u32 = 0;
+    for place in from..from + 8 {
+        energy = energy.saturating_mul(10).saturating_add(digit(row, place));
+    }
+    i64::from(energy)
+}
+
+/// The pairs of a row.
+fn pairs_of(rt: &impl Abort, alloc: Global, row: &[u8; BYTES], sites: u32) -> Pairs
+    requires { sites ≤ 6 }
 {
     let mut pairs = Pairs::new(alloc, sites);
-    for place in 0..digit(row, 2).min(6) as usize {
-        let at = 54 + 3 * place;
-        let weight = i64::from(digit(row, at + 2));
+    for place in 0..digit(row, 2).min(7) as usize {
+        let at = 61 + 3 * place;
+        let weight = i64::from(number(row, at + 2, WEIGHT));
         pairs
             .add(digit(row, at), digit(row, at + 1), weight)
             .expect(rt, "a pair");
@@ -38,17 +96,17 @@ fn pairs_of(rt: &impl Abort, alloc: Global, row: &[u8; DIGITS], sites: u32) -> P
     pairs
 }
 
-/// The labels from this place of a move on.
+/// The labels from this place of a row on.
 fn labels_at(
     rt: &impl Abort,
     alloc: Global,
-    row: &[u8; DIGITS],
+    row: &[u8; BYTES],
     at: usize,
     sites: u32,
     labels: u32,
 ) -> Labelling
-    requires sizes { (sites ≤ 5) × (1 ≤ labels) × (labels ≤ 4) }
-    requires place { at + 5 < 78 }
+    requires sizes { (sites ≤ 6) × (1 ≤ labels) × (labels ≤ 4) }
+    requires place { at + 6 < 98 }
 {
     let mut labelling = Labelling::new(alloc, sites, labels).expect(rt, "memory");
     for site in 0..sites {
@@ -59,25 +117,29 @@ fn labels_at(
     labelling
 }
 
-/// What a move is to say.
-fn wanted(row: &[u8; DIGITS]) -> Result<bool, MoveError> {
-    match digit(row, 6) {
-        0 => Ok(false),
-        1 => Ok(true),
+/// What a move or a run is to say: whether it changed or is settled, and how many cycles were done, of a move
+/// none.
+fn wanted(row: &[u8; BYTES]) -> Result<(bool, u32), MoveError> {
+    let number = digit(row, 6);
+    match digit(row, 5) {
+        0 => Ok((false, number)),
+        1 => Ok((true, number)),
         _ => Err(MoveError::PairNotRegular {
-            pair: digit(row, 7) as usize,
-            alpha: digit(row, 4),
-            beta: (digit(row, 3) == 1).then_some(digit(row, 5)),
+            pair: number as usize,
+            alpha: digit(row, 7),
+            beta: (digit(row, 3) % 2 == 1).then_some(digit(row, 8)),
         }),
     }
 }
 
-/// Makes a move, and compares what it says, the labels and the energies with the table.
-fn expect_move(rt: &impl Abort, alloc: Global, row: &[u8; DIGITS], number: usize) {
+/// Makes the move or the run of a row, and compares what it says, the labels and the energies with the row.
+fn expect_row<H: How>(rt: &impl Abort, alloc: Global, row: &[u8; BYTES], place: usize, how: &H)
+    requires { H.ready how.now }
+{
     let (sites, labels) = (digit(row, 0), digit(row, 1));
-    assert!(*rt; sites <= 5 && 1 <= labels && labels <= 4, "move {number}");
+    assert!(*rt; sites <= 6 && 1 <= labels && labels <= 4, "row {place}");
     let pairs = pairs_of(rt, alloc, row, sites);
-    let mut labelling = labels_at(rt, alloc, row, 44, sites, labels);
+    let mut labelling = labels_at(rt, alloc, row, 49, sites, labels);
     assert!(*rt;
         pairs.sites() == sites && labelling.sites() == sites && labelling.labels() == labels
     );
@@ -85,55 +147,69 @@ fn expect_move(rt: &impl Abort, alloc: Global, row: &[u8; DIGITS], number: usize
         pairs,
         data_cost: DataCost::new(
             |site: u32, label: u32| -> i64
-                requires { (site < 5) × (label < 4) }
-                ensures { (pos 0 ≤ℤ result) × (result ≤ℤ pos 255) }
-            { i64::from(digit(row, 8 + (site * 4 + label) as usize)) },
+                requires { (site < 6) × (label < 4) }
+                ensures { (pos 0 ≤ℤ result) × (result ≤ℤ pos 10000000) }
+            { i64::from(number(row, 9 + (site * 4 + label) as usize, DATA)) },
             sites,
             labels,
         ),
         smooth_cost: SmoothCost::new(
             |first: u32, second: u32| -> i64
                 requires { (first < 4) × (second < 4) }
-                ensures { (pos 0 ≤ℤ result) × (result ≤ℤ pos 255) }
-            { i64::from(digit(row, 28 + (first * 4 + second) as usize)) },
+                ensures { (pos 0 ≤ℤ result) × (result ≤ℤ pos 10000) }
+            { i64::from(number(row, 33 + (first * 4 + second) as usize, SMOOTH)) },
             labels,
         ),
     };
-    let (alpha, beta) = (digit(row, 4), digit(row, 5));
-    let answer = if digit(row, 3) == 0 {
-        problem.expand(alloc, &mut labelling, alpha, &Alone)
-    } else {
-        problem.swap(alloc, &mut labelling, alpha, beta, &Alone)
+    let (cycles, alpha, beta) = (digit(row, 4), digit(row, 7), digit(row, 8));
+    let answer = match digit(row, 3) {
+        0 => problem
+            .expand(alloc, &mut labelling, alpha, how)
+            .map(|has_changed| (has_changed, 0)),
+        1 => problem
+            .swap(alloc, &mut labelling, alpha, beta, how)
+            .map(|has_changed| (has_changed, 0)),
+        2 => problem
+            .run_expansion(alloc, &mut labelling, cycles, how)
+            .map(|ended| (ended.settled, ended.cycles)),
+        _ => problem
+            .run_swap(alloc, &mut labelling, cycles, how)
+            .map(|ended| (ended.settled, ended.cycles)),
     };
-    assert_eq!(*rt; answer, wanted(row), "move {number}");
-    let after = labels_at(rt, alloc, row, 49, sites, labels);
-    assert_eq!(*rt; labelling.as_slice(), after.as_slice(), "move {number}");
+    assert_eq!(*rt; answer, wanted(row), "row {place}");
+    let after = labels_at(rt, alloc, row, 55, sites, labels);
+    assert_eq!(*rt; labelling.as_slice(), after.as_slice(), "row {place}");
+    assert!(*rt; labelling.sites() == sites && labelling.labels() == labels);
     assert_eq!(*rt;
         problem.data_energy(&labelling),
-        number_at(row, 72),
-        "move {number}"
+        energy_at(row, 82),
+        "row {place}"
     );
     assert_eq!(*rt;
         problem.smooth_energy(&labelling),
-        number_at(row, 75),
-        "move {number}"
+        energy_at(row, 90),
+        "row {place}"
     );
 }
 
-/// The digits of a move.
-fn row_at(number: usize) -> [u8; DIGITS]
-    requires { number < 500 }
-{
-    let mut row = [0; DIGITS];
-    for (digit, read) in row.iter_mut().zip(MOVES.iter().skip(number * DIGITS)) {
-        *digit = *read;
+/// Each row of a table, of which there are so many: with sites decided first, and without.
+fn expect_rows(rt: &impl Abort, alloc: Global, table: &[u8], count: usize) {
+    assert_eq!(*rt; table.len() / BYTES, count);
+    for (place, bytes) in table.chunks_exact(BYTES).enumerate() {
+        let mut row = [0; BYTES];
+        assert_eq!(*rt; bytes.len(), row.len());
+        row.copy_from_slice(bytes);
+        expect_row(rt, alloc, &row, place, &Alone);
+        expect_row(rt, alloc, &row, place, &CutAlone);
     }
-    row
 }
 
 #[test]
 fn random_moves_are_best(rt: HostRuntime) {
-    for number in 0..COUNT {
-        expect_move(&rt, rt.alloc(), &row_at(number), number);
-    }
+    expect_rows(&rt, rt.alloc(), MOVES, 500);
+}
+
+#[test]
+fn random_runs_are_chains(rt: HostRuntime) {
+    expect_rows(&rt, rt.alloc(), RUNS, 300);
 }

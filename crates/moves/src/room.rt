@@ -5,10 +5,9 @@ ghost use Rattle.labellings.specs.Moves.{IsMoveOf};
 ghost use Rattle.regular.specs.Regularity.{IsRegular};
 ghost use Rattle.cost_store.specs.Limits.{data_limit};
 ghost use Rattle.cost_store.specs.Promises.{Keeps, KeepsSmooth};
-ghost use Rattle.move_energy.specs.Choices.{IsNumbering};
 ghost use Rattle.move_energy.specs.Problems.{IsMeant};
 ghost use Rattle.deciding.specs.Decided.{AreBySite};
-ghost use Rattle.moves.specs.Building.{IsGroupedFor, AreOpenFor, IsBuiltMove, IsBuiltDecided};
+ghost use Rattle.moves.specs.Building.{IsGroupedFor, IsBuiltMove};
 
 use crate::Problem;
 use deciding::Deciding;
@@ -18,8 +17,8 @@ use move_energy::{BuildError, MoveEnergy};
 use std::alloc::{AllocError, Global};
 use std::mem::swap;
 
-/// The room of a run: what decides the sites of its expansions, once the pairs were grouped by their sites, and the energy
-/// of its moves.
+/// The room of a run: what decides the sites of its moves, once the pairs were grouped by their sites, and the energy of
+/// its moves.
 #[derive(Drop)]
 pub struct Room {
     pub grouped: bool,
@@ -73,17 +72,15 @@ impl<F: Fn(u32, u32) -> i64, V: Fn(u32, u32) -> i64> Problem<F, V> {
             self.now.smooth_cost.labels self.now.smooth_cost.by_metric }
         requires by_site { IsGroupedFor self.now.pairs room.old }
         ensures by_site { IsGroupedFor self.now.pairs room.new }
-        ensures count { OnOk result (length room.new.built.variables.choices.items ≡ length at.now) }
+        ensures choices { OnOk result (length room.new.built.variables.choices.items ≡ length at.now) }
+        ensures count { OnOk result (length room.new.built.variables.of_sites.items ≡ length at.now) }
         ensures regular { OnOk result (IsRegular room.new.built.energy) }
-        ensures numbering { OnOk result (IsNumbering room.new.built.variables.choices.items
-            room.new.built.variables.of_sites.items room.new.built.variables.sites.items) }
-        ensures variables { OnOk result (room.new.built.energy.variables
-            ≡ length room.new.built.variables.sites.items) }
         ensures built { (m : Instance) →
             IsMeant (F.post self.now.data_cost.f) (V.post self.now.smooth_cost.v) self.now.pairs
             self.now.data_cost.labels m →
-            IsBuiltDecided m change at.now room.new.built result }
+            IsBuiltMove m change at.now room.new.built result }
     {
+        let _pairs = self.pairs.as_slice();
         room.group(alloc, &self.pairs)?;
         room.deciding.decide(&self.pairs, &self.data_cost, &self.smooth_cost, at, change)?;
         swap(
@@ -96,13 +93,39 @@ impl<F: Fn(u32, u32) -> i64, V: Fn(u32, u32) -> i64> Problem<F, V> {
         }
     }
 
-    /// The energy of a move: of an expansion the sites are decided first, and of a swap all that it can change are open.
+    /// The energy of a move of which nothing is decided.
+    fn build_whole(&self, room: &mut Room, at: &[u8], change: Move) -> Result<(), BuildError>
+        requires sites { (length at.now ≡ self.now.pairs.sites)
+            × (self.now.data_cost.sites ≡ self.now.pairs.sites) }
+        requires labels { (self.now.smooth_cost.labels ≡ self.now.data_cost.labels)
+            × All (λ label. label < self.now.data_cost.labels) at.now }
+        requires change { IsMoveOf self.now.data_cost.labels change }
+        requires costs { Keeps (F.pre self.now.data_cost.f) (F.post self.now.data_cost.f)
+            self.now.data_cost.sites self.now.data_cost.labels data_limit }
+        requires smooth { KeepsSmooth (V.pre self.now.smooth_cost.v) (V.post self.now.smooth_cost.v)
+            self.now.smooth_cost.labels self.now.smooth_cost.by_metric }
+        requires by_site { IsGroupedFor self.now.pairs room.old }
+        ensures by_site { IsGroupedFor self.now.pairs room.new }
+        ensures choices { OnOk result (length room.new.built.variables.choices.items ≡ length at.now) }
+        ensures count { OnOk result (length room.new.built.variables.of_sites.items ≡ length at.now) }
+        ensures regular { OnOk result (IsRegular room.new.built.energy) }
+        ensures built { (m : Instance) →
+            IsMeant (F.post self.now.data_cost.f) (V.post self.now.smooth_cost.v) self.now.pairs
+            self.now.data_cost.labels m →
+            IsBuiltMove m change at.now room.new.built result }
+    {
+        let _pairs = self.pairs.as_slice();
+        room.built.prepare(&self.pairs, &self.data_cost, &self.smooth_cost, at, change)
+    }
+
+    /// The energy of a move, its sites decided first or not.
     pub(crate) fn build_move(
         &self,
         alloc: Global,
         room: &mut Room,
         at: &[u8],
         change: Move,
+        decides: bool,
     ) -> Result<(), BuildError>
         requires sites { (length at.now ≡ self.now.pairs.sites)
             × (self.now.data_cost.sites ≡ self.now.pairs.sites) }
@@ -115,26 +138,18 @@ impl<F: Fn(u32, u32) -> i64, V: Fn(u32, u32) -> i64> Problem<F, V> {
             self.now.smooth_cost.labels self.now.smooth_cost.by_metric }
         requires by_site { IsGroupedFor self.now.pairs room.old }
         ensures by_site { IsGroupedFor self.now.pairs room.new }
-        ensures opened { OnOk result (AreOpenFor change at.now room.new.built.variables.choices.items) }
+        ensures choices { OnOk result (length room.new.built.variables.choices.items ≡ length at.now) }
+        ensures count { OnOk result (length room.new.built.variables.of_sites.items ≡ length at.now) }
         ensures regular { OnOk result (IsRegular room.new.built.energy) }
-        ensures numbering { OnOk result (IsNumbering room.new.built.variables.choices.items
-            room.new.built.variables.of_sites.items room.new.built.variables.sites.items) }
-        ensures variables { OnOk result (room.new.built.energy.variables
-            ≡ length room.new.built.variables.sites.items) }
         ensures built { (m : Instance) →
             IsMeant (F.post self.now.data_cost.f) (V.post self.now.smooth_cost.v) self.now.pairs
             self.now.data_cost.labels m →
             IsBuiltMove m change at.now room.new.built result }
     {
-        match change {
-            Move::Expand(_) => self.build_decided(alloc, room, at, change),
-            Move::Swap(_, _) => room.built.prepare(
-                &self.pairs,
-                &self.data_cost,
-                &self.smooth_cost,
-                at,
-                change,
-            ),
+        if decides {
+            self.build_decided(alloc, room, at, change)
+        } else {
+            self.build_whole(room, at, change)
         }
     }
 }

@@ -1,0 +1,190 @@
+-- From the least values of a move's sites to the best labelling.
+use Rattle.std.proofs.Common.{◌≡◌, ◌≢◌, ℕ, ◌<◌, ◌≤◌, Bool, true, false, eqb, List, length, ℤ, pos, ◌+ℤ◌, ◌≤ℤ◌, refl, sym, ap, ◌∙◌, inl, inr, subst, arith}
+use Rattle.std.proofs.lemmas.Int.{ints}
+use Rattle.std.proofs.lemmas.Bool.{cases_Bool}
+use Rattle.std.proofs.lemmas.Bool.Decides.{nat_tests}
+use Rattle.labellings.specs.declared.change.Move.{Move}
+use Rattle.labellings.specs.declared.change.Move.TheVariants.{Expand, Swap}
+use Rattle.labellings.specs.Energies.{Instance, IsInstance, energy, labelling, Agrees}
+use Rattle.labellings.specs.Moves.{label_in, made, favoured, IsReached, IsBest, IsAllowed, LabelsWithin}
+use Rattle.labellings.proofs.Energy.{energy-same}
+use Rattle.labellings.proofs.Reaching.{label_in-favoured, label_in-fixed, label_in-one, cases_label_in}
+use Rattle.labellings.proofs.Best.{made-reached, stays-reached, expand-kept, lists_agree, reached-same}
+use Rattle.pseudo_bool.specs.Formula.{Formula, value_at}
+use Rattle.compile_cut.specs.Shown.{IsSmallestLeastAssignment}
+use Rattle.move_energy.specs.declared.choice.Choice.{Choice}
+use Rattle.move_energy.specs.declared.choice.Choice.TheVariants.{Open, Zero as DecidedZero, One as DecidedOne}
+use Rattle.move_energy.specs.Choices.{bit_of, choice_at, made_by, AreAllOpen, StandsFor}
+use Rattle.deciding.specs.Decisions.{put, IsSmallestLeast, IsRest}
+use Rattle.deciding.specs.MoveValues.{move_value}
+use Rattle.deciding.specs.Decided.{AreDecided}
+use Rattle.deciding.proofs.Putting.{passed_forced}
+use Rattle.deciding.proofs.Rests.{rest_least}
+use Rattle.deciding.proofs.Rises.{move_falls, move_over}
+
+is_eqb : (a b : ℕ) → eqb a b ≡ true → a ≡ b
+is_eqb a b h = grind (arith, nat_tests)
+
+antisym : (y z : ℤ) → y ≤ℤ z → z ≤ℤ y → y ≡ z
+antisym y z h k = omega (arith, ints)
+
+-- ---- the values of all sites
+
+stands_for : (m : Instance) (move : Move) (f h : ℕ → ℕ) → IsInstance m → IsReached move m.sites f h
+    → energy m (made move f (λ p. eqb (h p) (favoured move))) ≡ energy m h
+stands_for m move f h pairs reached =
+    energy-same m (made move f (λ p. eqb (h p) (favoured move))) h pairs (λ p l. label_in-favoured move (f p) (h p) (reached p l))
+
+lowest_of : (m : Instance) (move : Move) (f h : ℕ → ℕ) (x : ℕ → Bool) → IsInstance m → IsSmallestLeast m.sites (move_value m move f) x → IsReached move m.sites f h
+    → energy m (made move f x) ≤ energy m h
+lowest_of m move f h x pairs least reached =
+    let below = least.least (λ p. eqb (h p) (favoured move)) in
+    let same = stands_for m move f h pairs reached in
+    omega (arith, ints, below, same)
+
+smallest_of : (m : Instance) (move : Move) (f h : ℕ → ℕ) (x : ℕ → Bool) → IsInstance m → IsSmallestLeast m.sites (move_value m move f) x → IsReached move m.sites f h
+    → energy m h ≤ energy m (made move f x) → LabelsWithin m.sites (favoured move) (made move f x) h
+smallest_of m move f h x pairs least reached low p l is =
+    let bits = λ (q : ℕ). eqb (h q) (favoured move) in
+    let same = stands_for m move f h pairs reached in
+    let below = least.least bits in
+    let level : move_value m move f bits ≡ move_value m move f x = antisym _ _ (omega (arith, ints, same, low)) below in
+    elim (cases_label_in move (f p)) [
+      | inl fixed ↦ sym (label_in-favoured move (f p) (h p) (reached p l)) ∙ label_in-fixed move (f p) (bits p) (x p) fixed ∙ is
+      | inr changes ↦ elim (cases_Bool (x p)) [
+        | inl one ↦ is_eqb (h p) (favoured move) (least.smallest bits level p l one)
+        | inr none ↦ absurd (changes (label_in-one move (f p) changes ∙ sym is ∙ ap (label_in move (f p)) none))
+      ]
+    ]
+
+-- the labelling that the least values make is the best one, if it is the labelling itself where it is no lower
+best_of : (m : Instance) (move : Move) (f g : List ℕ) (x : ℕ → Bool) → IsInstance m → IsSmallestLeast m.sites (move_value m move (labelling f)) x
+    → length g ≡ length f → Agrees m.sites (labelling g) (made move (labelling f) x)
+    → (energy m (labelling f) ≤ energy m (labelling g) → g ≡ f) → IsBest m move f g
+best_of m move f g x pairs least same agrees kept =
+    let here = energy-same m (labelling g) (made move (labelling f) x) pairs agrees in
+    record {
+      sites = same;
+      reached = reached-same move m.sites (labelling f) (labelling g) (made move (labelling f) x) agrees (made-reached move m.sites (labelling f) x);
+      lowest = λ h to. omega (arith, here, lowest_of m move (labelling f) h x pairs least to);
+      kept = kept;
+      smallest = λ lower h to low p l is. smallest_of m move (labelling f) h x pairs least to (omega (arith, here, low)) p l (sym (agrees p l) ∙ is);
+    }
+
+-- an expansion keeps the labelling by itself where it lowers nothing
+expand_best : (m : Instance) (a : ℕ) (f g : List ℕ) (x : ℕ → Bool) → IsInstance m → IsSmallestLeast m.sites (move_value m (Expand a) (labelling f)) x
+    → length f ≡ m.sites → length g ≡ length f → Agrees m.sites (labelling g) (made (Expand a) (labelling f) x) → IsBest m (Expand a) f g
+expand_best m a f g x pairs least len same agrees =
+    let here = energy-same m (labelling g) (made (Expand a) (labelling f) x) pairs agrees in
+    best_of m (Expand a) f g x pairs least same agrees (λ none_lower.
+    let within = smallest_of m (Expand a) (labelling f) (labelling f) x pairs least (stays-reached (Expand a) m.sites (labelling f)) (omega (arith, here, none_lower)) in
+    lists_agree f g same (λ p l.
+    let q : p < m.sites = omega (arith, l, len) in
+    agrees p q ∙ expand-kept a m.sites (labelling f) (made (Expand a) (labelling f) x) (made-reached (Expand a) m.sites (labelling f) x) within p q))
+
+-- so what an expansion makes is best
+pub expanded_best : (m : Instance) (move : Move) (a : ℕ) (f g : List ℕ) (x : ℕ → Bool) → move ≡ Expand a → IsInstance m
+    → IsSmallestLeast m.sites (move_value m move (labelling f)) x → length f ≡ m.sites → length g ≡ length f
+    → Agrees m.sites (labelling g) (made move (labelling f) x) → IsBest m move f g
+expanded_best m move a f g x is pairs least len same agrees =
+    let P : Move → Type 0 = λ mv. IsSmallestLeast m.sites (move_value m mv (labelling f)) x → Agrees m.sites (labelling g) (made mv (labelling f) x) → IsBest m mv f g in
+    let own : P (Expand a) = λ least_too agrees_too. expand_best m a f g x pairs least_too len same agrees_too in
+    subst P (sym is) own least agrees
+
+-- and of any move what is lower
+pub lower_best : (m : Instance) (move : Move) (f g : List ℕ) (x : ℕ → Bool) → IsInstance m → IsSmallestLeast m.sites (move_value m move (labelling f)) x
+    → length g ≡ length f → Agrees m.sites (labelling g) (made move (labelling f) x)
+    → energy m (made move (labelling f) x) < energy m (labelling f) → IsBest m move f g
+lower_best m move f g x pairs least same agrees low =
+    let here = energy-same m (labelling g) (made move (labelling f) x) pairs agrees in
+    best_of m move f g x pairs least same agrees (λ no. absurd (omega (arith, here, low, no)))
+
+-- where what the least values make is no lower, the labelling itself is best
+pub kept_best : (m : Instance) (move : Move) (f : List ℕ) (x : ℕ → Bool) → IsInstance m → IsSmallestLeast m.sites (move_value m move (labelling f)) x
+    → energy m (labelling f) ≤ energy m (made move (labelling f) x) → IsBest m move f f
+kept_best m move f x pairs least low = record {
+  sites = refl;
+  reached = stays-reached move m.sites (labelling f);
+  lowest = λ h reached. omega (arith, low, lowest_of m move (labelling f) h x pairs least reached);
+  kept = λ no_lower. refl;
+  smallest = λ lower h reached no_more p l is. absurd (omega (arith, lower));
+}
+
+-- ---- where sites were decided
+
+open_of : (c : Choice) → bit_of c true ≡ true → bit_of c false ≡ false → c ≡ Open
+open_of Open h k = refl
+open_of DecidedZero h k = absurd (cc (h))
+open_of DecidedOne h k = absurd (cc (k))
+
+subst_le : (a b c : ℤ) → b ≡ a → a ≤ℤ c → b ≤ℤ c
+subst_le a b c h k = omega (arith, ints, h, k)
+
+smallest_along : (n : ℕ) (E : (ℕ → Bool) → ℤ) (x y : ℕ → Bool) → E y ≡ E x → ((k : ℕ) → k < n → y k ≡ x k) → IsSmallestLeast n E x → IsSmallestLeast n E y
+smallest_along n E x y value same least = record {
+  least = λ z. subst_le (E x) (E y) (E z) value (least.least z);
+  smallest = λ z level k l one. least.smallest z (level ∙ value) k l (sym (same k l) ∙ one);
+}
+
+-- the least assignment of the open sites and what was decided make the least values of all sites
+pub decided_least : (m : Instance) (move : Move) (f : ℕ → ℕ) (choice : ℕ → Choice) (e : Formula) (variable site : ℕ → ℕ) (y : ℕ → Bool)
+    → IsInstance m → IsAllowed m move f → AreDecided m move f choice → StandsFor m move f choice e variable site → IsSmallestLeastAssignment e y
+    → IsSmallestLeast m.sites (move_value m move f) (λ p. bit_of (choice p) (y (variable p)))
+decided_least m move f choice e variable site y pairs allowed decided stands least =
+    let ds = decided.decisions in
+    let over = move_over m move f pairs in
+    let forced = passed_forced (move_value m move f) ds (move_falls m move f pairs allowed) decided.passed in
+    let rest : IsRest m.sites (move_value m move f) ds e.variables (value_at e) variable site = record {
+      offset = stands.rest;
+      value = λ z. stands.value z ∙ sym (over (put ds (λ i. z (variable i))) (λ p. bit_of (choice p) (z (variable p))) (λ p l. decided.shown (λ i. z (variable i)) p l));
+      covers = λ p l free. stands.covers p l (open_of (choice p) (sym (decided.shown (λ i. true) p l) ∙ free (λ i. true)) (sym (decided.shown (λ i. false) p l) ∙ free (λ i. false)));
+    } in
+    let own : IsSmallestLeast e.variables (value_at e) y = record { least = least.least; smallest = least.smallest } in
+    let whole = rest_least m.sites (move_value m move f) ds e.variables (value_at e) variable site y over forced rest own in
+    smallest_along m.sites (move_value m move f) (put ds (λ i. y (variable i))) (λ p. bit_of (choice p) (y (variable p)))
+    (over (λ p. bit_of (choice p) (y (variable p))) (put ds (λ i. y (variable i))) (λ p l. sym (decided.shown (λ i. y (variable i)) p l)))
+    (λ p l. sym (decided.shown (λ i. y (variable i)) p l)) whole
+
+-- ---- where nothing was decided
+
+-- the values of all sites that the variables of the open ones make
+whole_made : (m : Instance) (move : Move) (f : List ℕ) (choices : List Choice) (e : Formula) (variable site : ℕ → ℕ) (z : ℕ → Bool) → length f ≡ m.sites → AreAllOpen move f choices
+    → StandsFor m move (labelling f) (choice_at choices) e variable site
+    → Agrees m.sites (made_by move (labelling f) (choice_at choices) variable (λ i. z (site i))) (made move (labelling f) z)
+whole_made m move f choices e variable site z size whole stands p l = elim (cases_label_in move (labelling f p)) [
+  | inl fixed ↦ label_in-fixed move (labelling f p) (bit_of (choice_at choices p) (z (site (variable p)))) (z p) fixed
+  | inr changes ↦
+      let opened = (whole.opened p (omega (arith, l, size))).1 changes in
+      ap (λ (c : Choice). label_in move (labelling f p) (bit_of c (z (site (variable p))))) opened
+      ∙ ap (λ q. label_in move (labelling f p) (z q)) ((stands.covers p l opened).1)
+]
+
+whole_value : (m : Instance) (move : Move) (f : List ℕ) (choices : List Choice) (e : Formula) (variable site : ℕ → ℕ) (z : ℕ → Bool) → IsInstance m → length f ≡ m.sites → AreAllOpen move f choices
+    → (stands : StandsFor m move (labelling f) (choice_at choices) e variable site)
+    → value_at e (λ i. z (site i)) +ℤ stands.rest ≡ move_value m move (labelling f) z
+whole_value m move f choices e variable site z pairs size whole stands =
+    stands.value (λ i. z (site i)) ∙ ap pos (energy-same m (made_by move (labelling f) (choice_at choices) variable (λ i. z (site i))) (made move (labelling f) z) pairs
+    (whole_made m move f choices e variable site z size whole stands))
+
+one_of : (c : Choice) (b : Bool) → c ≢ DecidedOne → bit_of c b ≡ true → (c ≡ Open) × (b ≡ true)
+one_of Open b none one = (refl, one)
+one_of DecidedZero b none one = absurd (cc (one))
+one_of DecidedOne b none one = absurd (none refl)
+
+least_by : (a b c d r : ℤ) → a +ℤ r ≡ c → b +ℤ r ≡ d → a ≤ℤ b → c ≤ℤ d
+least_by a b c d r h k l = omega (arith, ints, h, k, l)
+
+level_by : (a b c d r : ℤ) → a +ℤ r ≡ c → b +ℤ r ≡ d → d ≡ c → b ≡ a
+level_by a b c d r h k l = omega (arith, ints, h, k, l)
+
+pub open_least : (m : Instance) (move : Move) (f : List ℕ) (choices : List Choice) (e : Formula) (variable site : ℕ → ℕ) (y : ℕ → Bool)
+    → IsInstance m → length f ≡ m.sites → AreAllOpen move f choices → StandsFor m move (labelling f) (choice_at choices) e variable site → IsSmallestLeastAssignment e y
+    → IsSmallestLeast m.sites (move_value m move (labelling f)) (λ p. bit_of (choice_at choices p) (y (variable p)))
+open_least m move f choices e variable site y pairs size whole stands least = record {
+  least = λ z. least_by _ _ _ _ stands.rest (stands.value y) (whole_value m move f choices e variable site z pairs size whole stands) (least.least (λ i. z (site i)));
+  smallest = λ z level p l one.
+      let own = one_of (choice_at choices p) (y (variable p)) (whole.none p (omega (arith, l, size))) one in
+      let covered = stands.covers p l own.0 in
+      let equal = level_by _ _ _ _ stands.rest (stands.value y) (whole_value m move f choices e variable site z pairs size whole stands) level in
+      ap z (sym covered.1) ∙ least.smallest (λ i. z (site i)) equal (variable p) covered.0 own.1;
+}

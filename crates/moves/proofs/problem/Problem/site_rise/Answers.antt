@@ -1,0 +1,10 @@
+use Rattle.std.proofs.Common.{pos, ap, ◌∙◌}
+use Rattle.deciding.proofs.Numbers.{difference_is}
+use Rattle.moves.proofs.problem.Problem.site_rise.Goals as goal
+
+pub returns-clause-rise : goal.returns-clause-rise
+returns-clause-rise g c = λ cost answers.
+    difference_is c.cost.result c.cost-2.result _ _
+    (c.cost.ensures.entry cost answers ∙ ap (λ l. pos (cost c.args.site l)) c.made_label-new.ensures)
+    (c.cost-2.ensures.entry cost answers ∙ ap (λ l. pos (cost c.args.site l)) c.from-old.ensures)
+    c.cost.ensures.range c.cost-2.ensures.range

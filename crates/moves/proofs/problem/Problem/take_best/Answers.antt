@@ -1,0 +1,39 @@
+use Rattle.std.proofs.Common.{◌∙◌, sym, refl, arith}
+use Rattle.move_energy.proofs.Whole.{pairs_meant}
+use Rattle.moves.specs.Building.{site_values}
+use Rattle.moves.proofs.Least.{expanded_best, lower_best, kept_best}
+use Rattle.moves.proofs.Rising.{not_lower}
+use Rattle.moves.proofs.problem.Problem.take_best.Goals as goal
+
+pub returns-in-Expand-clause-best : goal.returns-in-Expand-clause-best
+returns-in-Expand-clause-best g c = λ m meant least.
+    let a = c.args in
+    let vs = a.variables.now in
+    let pairs = pairs_meant _ _ _ _ m _ meant c.as_slice-pairs.ensures.value c.as_slice-pairs.ensures.pairs in
+    let size = c.requires.sizes.field_sites ∙ sym meant.sites_are in (
+      expanded_best m a.change _ a.field.now.at c.relabel.new.labelling.at (site_values vs.choices.items vs.of_sites.items a.bits.now) c.in-Expand.is pairs least size
+          c.relabel.ensures.sizes.1 (λ p l. c.relabel.ensures.each p (omega (arith, l, size))),
+      c.relabel.ensures.changed,
+    )
+
+pub returns-then-not-lowers-clause-best : goal.returns-then-not-lowers-clause-best
+returns-then-not-lowers-clause-best g c = λ m meant least.
+    let a = c.args in
+    let vs = a.variables.now in
+    let pairs = pairs_meant _ _ _ _ m _ meant c.as_slice-pairs.ensures.value c.as_slice-pairs.ensures.pairs in
+    let told = rw (c.as_slice.ensures.value) at (c.lowers.ensures m meant) in (
+      kept_best m a.change a.field.now.at (site_values vs.choices.items vs.of_sites.items a.bits.now) pairs least (not_lower _ _ c.lowers.result told.1 c.if-not-lowers.true),
+      ((λ yes. absurd (cc yes)), λ still. refl),
+    )
+
+pub returns-else-not-lowers-clause-best : goal.returns-else-not-lowers-clause-best
+returns-else-not-lowers-clause-best g c = λ m meant least.
+    let a = c.args in
+    let vs = a.variables.now in
+    let pairs = pairs_meant _ _ _ _ m _ meant c.as_slice-pairs.ensures.value c.as_slice-pairs.ensures.pairs in
+    let size = c.requires.sizes.field_sites ∙ sym meant.sites_are in
+    let told = rw (c.as_slice.ensures.value) at (c.lowers.ensures m meant) in (
+      lower_best m a.change a.field.now.at c.relabel-in-Swap.new.labelling.at (site_values vs.choices.items vs.of_sites.items a.bits.now) pairs least
+          c.relabel-in-Swap.ensures.sizes.1 (λ p l. c.relabel-in-Swap.ensures.each p (omega (arith, l, size))) (told.0 c.if-not-lowers.false),
+      c.relabel-in-Swap.ensures.changed,
+    )
