@@ -21,13 +21,17 @@ one label at both. The term is regular where the entries at 00 and 11 together a
 A move with a term that is not regular is refused with the first such pair of the list. Any other answers f
 where no labelling that it reaches has a lower energy, and else the one of the least energy whose set of sites
 labelled alpha (expansion) or beta (swap) lies within that set of every other labelling of that energy.
+
+A row of a table has 98 bytes, in the order that `row_of` tells.
 """
 
 import itertools
 import random
 
 COUNT = 500
-SITES, LABELS, PAIRS = 5, 4, 6
+PAIRS = 6
+ROW_SITES, ROW_LABELS, ROW_PAIRS = 6, 4, 7
+EXPANSION, SWAP, RUN_OF_EXPANSIONS, RUN_OF_SWAPS = range(4)
 KEPT, CHANGED, NOT_REGULAR = range(3)
 
 
@@ -120,19 +124,28 @@ def padded(numbers, length):
     return list(numbers) + [0] * (length - len(numbers))
 
 
-def digits_of(problem, move, labels):
-    """A move and its answer as one row of digits, in the order that the head of the table tells."""
+def row_of(kind, allowed, answer, number, move, tables, labels, energies):
+    """One row: how many sites, labels and pairs; the kind; the cycles that are allowed; the answer and its
+    number; alpha and beta; four data costs of each of six sites; four smooth costs of each of four labels; the
+    labels of six sites before and after; seven pairs with their weights; and the data energy and the smooth
+    energy after, each of eight digits."""
+    data, smooth, pairs = tables
+    row = [len(data), len(smooth), len(pairs), kind, allowed, answer, number, *move]
+    row += padded([n for costs in data for n in padded(costs, ROW_LABELS)], ROW_SITES * ROW_LABELS)
+    row += padded([n for costs in smooth for n in padded(costs, ROW_LABELS)], ROW_LABELS * ROW_LABELS)
+    row += [n for it in labels for n in padded(it, ROW_SITES)]
+    row += padded([n for pair in pairs for n in pair], 3 * ROW_PAIRS)
+    assert all(len(str(it)) == 1 for it in row)
+    return "".join(map(str, row)) + "".join(f"{energy:08}" for energy in energies)
+
+
+def row_of_move(problem, move, labels):
+    """A move and its answer as a row."""
     answer, after, place, _ = best(problem, move, labels)
-    count = len(problem.data[0])
-    row = [len(labels), count, len(problem.pairs), int(move[0] == "swap"), move[1], move[2], answer, place]
-    row += padded([n for costs in problem.data for n in padded(costs, LABELS)], SITES * LABELS)
-    row += padded([n for costs in problem.smooth for n in padded(costs, LABELS)], LABELS * LABELS)
-    row += padded(labels, SITES) + padded(after, SITES)
-    row += padded([n for pair in problem.pairs for n in pair], 3 * PAIRS)
-    for energy in (problem.data_energy(after), problem.smooth_energy(after)):
-        row += [energy // 100, energy // 10 % 10, energy % 10]
-    assert all(0 <= n <= 9 for n in row)
-    return "".join(map(str, row))
+    kind = SWAP if move[0] == "swap" else EXPANSION
+    tables = problem.data, problem.smooth, problem.pairs
+    return row_of(kind, 0, answer, place, move[1:], tables, (labels, after),
+                  (problem.data_energy(after), problem.smooth_energy(after)))
 
 
 def wanted(draw):
@@ -146,9 +159,16 @@ def wanted(draw):
             yield move
 
 
+def print_table(name, kind, rows):
+    print(f"/// The {kind}, each a row of `random`.")
+    print(f'pub const {name}: &[u8] = b"\\')
+    for row in rows:
+        print(f"    {row}\\")
+    print("\";")
+
+
 def main():
     moves = list(wanted(random.Random(2001)))
-    rows = [digits_of(*move) for move in moves]
     ties = sum(best(*move)[3] for move in moves)
     twice = sum(len(set(move[0].pairs)) < len(move[0].pairs) for move in moves)
     swaps = sum(move[1][0] == "swap" for move in moves)
@@ -156,20 +176,7 @@ def main():
     print(f"//! they reach: {len(moves)} moves, {swaps} of them swaps, {ties} with several answers of the least energy,")
     print(f"//! {twice} with a pair twice.")
     print()
-    print("/// How many moves the table has.")
-    print(f"pub const COUNT: usize = {len(rows)};")
-    print()
-    print("/// How many digits a move has.")
-    print(f"pub const DIGITS: usize = {len(rows[0])};")
-    print()
-    print("/// Of each move: how many sites, labels and pairs; 0 for an expansion, 1 for a swap; alpha, beta; the answer:")
-    print("/// 0 kept, 1 changed, 2 not regular; the place of that pair. Then four data costs of each of five sites,")
-    print("/// four smooth costs of each of four labels, the labels of five sites before and after, six pairs with")
-    print("/// their weights, and the data energy and the smooth energy after, each of three digits.")
-    print("pub const MOVES: &[u8] = b\"\\")
-    for row in rows:
-        print(f"    {row}\\")
-    print("\";")
+    print_table("MOVES", "moves", [row_of_move(*move) for move in moves])
 
 
 if __name__ == "__main__":

@@ -12,18 +12,19 @@ move from the labelling that the move before it answered. It ends after the cycl
 first cycle that ends with the labelling that it began with, and is then settled. A refused move ends the run,
 which keeps the labelling that the moves before made.
 
-A byte of a row is a number: a digit is itself; a small letter is the limit of what stands there less the letter's
-place in the alphabet, from 0; a capital is so many parts of 27 of the limit, from 1. The limits are 10,000,000 for
-a data cost, 10,000 for a smooth cost and 1,000 for a weight.
+A row has the form of tools/random_moves.py. A byte of its costs and weights is a number: a digit is itself; a
+small letter is the limit of what stands there less the letter's place in the alphabet, from 0; a capital is so
+many parts of 27 of the limit, from 1. The limits are 10,000,000 for a data cost, 10,000 for a smooth cost and
+1,000 for a weight.
 """
 
 import itertools
 import random
 
-from random_moves import Problem, is_regular
+from random_moves import RUN_OF_EXPANSIONS, RUN_OF_SWAPS, Problem, is_regular, print_table, row_of
 
 COUNT = 300
-SITES, LABELS, PAIRS = 6, 4, 7
+PAIRS = 7
 DATA, SMOOTH, WEIGHT = 10_000_000, 10_000, 1_000
 STOPPED, SETTLED, REFUSED = range(3)
 
@@ -118,7 +119,7 @@ def random_pairs(draw, sites, mixed):
 
 
 def random_row(draw):
-    """A run and its answer as one row of bytes, in the order that the head of the table tells."""
+    """A run and its answer as a row, with what its kind of answer is told by."""
     mixed = draw.random() < 0.25
     sites, labels = draw.choice([1, 2, 3, 4, 5, 6, 6]), draw.choice([1, 2, 2, 3, 3, 4, 4])
     data = [[random_byte(draw, mixed) for _ in range(labels)] for _ in range(sites)]
@@ -129,13 +130,10 @@ def random_row(draw):
     kind, allowed = draw.choice(["expand", "swap"]), draw.choice([0, 1, 2, 2, 3, 3, 4, 4])
     start = tuple(draw.randrange(labels) for _ in range(sites))
     answer, number, move, after, came = run(problem, kind, allowed, start, labels)
-    row = [sites, labels, len(pairs), int(kind == "swap"), allowed, answer, number]
-    row += move[1:] if move else (0, 0)
-    for table, rows, columns in ((data, SITES, LABELS), (smooth, LABELS, LABELS)):
-        row += [table[a][b] if a < len(table) and b < labels else 0 for a in range(rows) for b in range(columns)]
-    row += list(start) + [0] * (SITES - sites) + list(after) + [0] * (SITES - sites)
-    row += [it for pair in pairs for it in pair] + [0] * (3 * (PAIRS - len(pairs)))
-    return answer, number, came, after != start, "".join(map(str, row))
+    row = row_of(RUN_OF_SWAPS if kind == "swap" else RUN_OF_EXPANSIONS, allowed, answer, number,
+                 move[1:] if move else (0, 0), (data, smooth, pairs), (start, after),
+                 (problem.data_energy(after), problem.smooth_energy(after)))
+    return answer, number, came, after != start, row
 
 
 def kind_of(answer, number, came, changed):
@@ -160,25 +158,11 @@ def wanted(draw):
 
 def main():
     rows = list(wanted(random.Random(1999)))
-    swaps = sum(row[3] == "1" for row in rows)
+    swaps = sum(row[3] == str(RUN_OF_SWAPS) for row in rows)
     print("//! Small random runs with their answers. Made by tools/random_runs.py, over all labellings:")
     print(f"//! {len(rows)} runs, {swaps} of them of swaps, 80 that a refused move ends, 45 of these after a change.")
     print()
-    print("/// How many runs the table has.")
-    print(f"pub const COUNT: usize = {len(rows)};")
-    print()
-    print("/// How many bytes a run has.")
-    print(f"pub const BYTES: usize = {len(rows[0])};")
-    print()
-    print("/// Of each run: how many sites, labels and pairs; 0 for expansions, 1 for swaps; the cycles that are allowed; the")
-    print("/// answer: 0 stopped, 1 settled, 2 not regular; how many cycles were done, or the place of the pair; alpha, beta.")
-    print("/// Then four data costs of each of six sites, four smooth costs of each of four labels, the labels of six sites")
-    print("/// before and after, and seven pairs with their weights. A digit is itself, a small letter the limit less its place")
-    print("/// in the alphabet from 0, a capital so many parts of 27 of the limit, from 1.")
-    print("pub const RUNS: &[u8] = b\"\\")
-    for row in rows:
-        print(f"    {row}\\")
-    print("\";")
+    print_table("RUNS", "runs", rows)
 
 
 if __name__ == "__main__":

@@ -1,5 +1,6 @@
 //! Whole runs of `gco label`. What each writes was worked by hand.
 use gco_cli::run;
+use std::process::Abort;
 
 // Two sites at labels 0 and 2, which cost 4 beside each other. Label 1 costs 1 beside each.
 const APART: &str =
@@ -142,22 +143,21 @@ const ROWS: [(&str, &str, u8, &str, &str); 21] = [
     ),
 ];
 
+/// A run over this file ends with this status, and writes and says this.
+pub fn expect(rt: &(impl AllocGlobal + Abort), file: &str, status: u8, written: &str, said: &str) {
+    let mut reader = file.as_bytes();
+    let mut writer = Vec::new(rt.alloc());
+    let mut faults = Vec::new(rt.alloc());
+    let ended = run(rt, &["gco", "label"], &mut reader, &mut writer, &mut faults);
+    assert_eq!(*rt; ended, status, "{file}");
+    assert!(*rt; writer.as_slice() == written.as_bytes(), "{file}");
+    assert!(*rt; faults.as_slice() == said.as_bytes(), "{file}");
+}
+
 #[test]
 fn runs(rt: HostRuntime) {
     for (first, second, status, written, said) in ROWS {
         let file = format!(in rt.alloc(); "{first}{second}").expect(&rt, "memory");
-        let mut reader = file.as_bytes();
-        let mut writer = Vec::new(rt.alloc());
-        let mut faults = Vec::new(rt.alloc());
-        let ended = run(
-            &rt,
-            &["gco", "label"],
-            &mut reader,
-            &mut writer,
-            &mut faults,
-        );
-        assert_eq!(rt; ended, status, "{file}");
-        assert!(rt; writer.as_slice() == written.as_bytes(), "{file}");
-        assert!(rt; faults.as_slice() == said.as_bytes(), "{file}");
+        expect(&rt, file.as_str(), status, written, said);
     }
 }
