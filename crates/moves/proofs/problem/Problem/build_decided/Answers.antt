@@ -1,4 +1,4 @@
-use Rattle.std.proofs.Common.{◌∙◌, List, ap, sym, subst}
+use Rattle.std.proofs.Common.{rules, ◌∙◌, List, ap, sym, subst}
 use Rattle.std.proofs.lemmas.Result.{err_from_is_err_and}
 use Rattle.pseudo_bool.specs.Formula.{assignment}
 use Rattle.labellings.specs.Energies.{labelling}
@@ -26,3 +26,93 @@ returns-in-Ok-clause-built g c = λ m meant.
       λ bits least. decided_least m c.args.change (labelling c.args.at.now) (choice_at vs.choices.items) c.build.new.self.energy (labelling vs.of_sites.items)
           (labelling vs.sites.items) (assignment bits) pairs decided.0 (subst P (sym same) decided.1) built.1 least,
     )
+
+pub returns-in_err-group-clause-by_site : goal.returns-in_err-group-clause-by_site
+returns-in_err-group-clause-by_site g c = search rules
+
+pub returns-in_err-group-clause-choices : goal.returns-in_err-group-clause-choices
+returns-in_err-group-clause-choices g c = search rules
+
+pub returns-in_err-group-clause-count : goal.returns-in_err-group-clause-count
+returns-in_err-group-clause-count g c = search rules
+
+pub returns-in_err-group-clause-regular : goal.returns-in_err-group-clause-regular
+returns-in_err-group-clause-regular g c = search rules
+
+pub returns-in_err-group-clause-built : goal.returns-in_err-group-clause-built
+returns-in_err-group-clause-built g c = search rules
+
+pub decide-requires-clause-sites : goal.decide-requires-clause-sites
+decide-requires-clause-sites g c = search rules
+
+pub decide-requires-clause-labels : goal.decide-requires-clause-labels
+decide-requires-clause-labels g c = search rules
+
+pub decide-requires-clause-change : goal.decide-requires-clause-change
+decide-requires-clause-change g c = search rules
+
+pub decide-requires-clause-costs : goal.decide-requires-clause-costs
+decide-requires-clause-costs g c = search rules
+
+pub decide-requires-clause-smooth : goal.decide-requires-clause-smooth
+decide-requires-clause-smooth g c = search rules
+
+pub decide-requires-clause-by_site : goal.decide-requires-clause-by_site
+decide-requires-clause-by_site g c = search rules
+
+pub returns-in_err-decide-clause-by_site : goal.returns-in_err-decide-clause-by_site
+returns-in_err-decide-clause-by_site g c = search rules
+
+pub returns-in_err-decide-clause-choices : goal.returns-in_err-decide-clause-choices
+returns-in_err-decide-clause-choices g c = search rules
+
+pub returns-in_err-decide-clause-count : goal.returns-in_err-decide-clause-count
+returns-in_err-decide-clause-count g c = search rules
+
+pub returns-in_err-decide-clause-regular : goal.returns-in_err-decide-clause-regular
+returns-in_err-decide-clause-regular g c = search rules
+
+pub build-requires-clause-sites : goal.build-requires-clause-sites
+build-requires-clause-sites g c = search rules
+
+pub build-requires-clause-labels : goal.build-requires-clause-labels
+build-requires-clause-labels g c = search rules
+
+pub build-requires-clause-change : goal.build-requires-clause-change
+build-requires-clause-change g c = search rules
+
+pub build-requires-clause-choices : goal.build-requires-clause-choices
+build-requires-clause-choices g c = search rules
+
+pub build-requires-clause-costs : goal.build-requires-clause-costs
+build-requires-clause-costs g c = search rules
+
+pub build-requires-clause-smooth : goal.build-requires-clause-smooth
+build-requires-clause-smooth g c = search rules
+
+pub returns-in-Ok-clause-by_site : goal.returns-in-Ok-clause-by_site
+returns-in-Ok-clause-by_site g c = search rules
+
+pub returns-in-Ok-clause-choices : goal.returns-in-Ok-clause-choices
+returns-in-Ok-clause-choices g c = search rules
+
+pub returns-in-Ok-clause-count : goal.returns-in-Ok-clause-count
+returns-in-Ok-clause-count g c = search rules
+
+pub returns-in-Ok-clause-regular : goal.returns-in-Ok-clause-regular
+returns-in-Ok-clause-regular g c = search rules
+
+pub returns-in-Err-clause-by_site : goal.returns-in-Err-clause-by_site
+returns-in-Err-clause-by_site g c = search rules
+
+pub returns-in-Err-clause-choices : goal.returns-in-Err-clause-choices
+returns-in-Err-clause-choices g c = search rules
+
+pub returns-in-Err-clause-count : goal.returns-in-Err-clause-count
+returns-in-Err-clause-count g c = search rules
+
+pub returns-in-Err-clause-regular : goal.returns-in-Err-clause-regular
+returns-in-Err-clause-regular g c = search rules
+
+pub returns-in-Err-clause-built : goal.returns-in-Err-clause-built
+returns-in-Err-clause-built g c = search rules

@@ -1,4 +1,4 @@
-use Rattle.std.proofs.Common.{◌≡◌, ◌∙◌, ◌+◌, List, ℕ, length, Some, arith, sym, subst, take, drop, true, false, ap}
+use Rattle.std.proofs.Common.{rules, ◌≡◌, ◌∙◌, ◌+◌, List, ℕ, length, Some, arith, sym, subst, take, drop, true, false, ap}
 use Rattle.std.specs.Prelude.{slice_get}
 use Rattle.std.proofs.lemmas.Result.{err_from_is_err_and}
 use Rattle.labellings.specs.Chains.{Leads}
@@ -64,3 +64,63 @@ pub returns-in_err-make_move-clause-metric : goal.returns-in_err-make_move-claus
 returns-in_err-make_move-clause-metric g c = λ stored m meant.
     let p = err_from_is_err_and c.from_residual.result c.from_residual.ensures.1 in
     rw (p.1, p.2) (c.in_err-make_move.ensures.metric stored m meant)
+
+pub loop-place-init : goal.loop-place-init
+loop-place-init g c = search rules
+
+pub returns-then-place-last-clause-by_site : goal.returns-then-place-last-clause-by_site
+returns-then-place-last-clause-by_site g c = search rules
+
+pub returns-then-place-last-clause-sizes : goal.returns-then-place-last-clause-sizes
+returns-then-place-last-clause-sizes g c = search rules
+
+pub returns-then-place-last-clause-known : goal.returns-then-place-last-clause-known
+returns-then-place-last-clause-known g c = search rules
+
+pub returns-then-place-last-clause-refused : goal.returns-then-place-last-clause-refused
+returns-then-place-last-clause-refused g c = search rules
+
+pub returns-then-place-last-clause-metric : goal.returns-then-place-last-clause-metric
+returns-then-place-last-clause-metric g c = search rules
+
+pub make_move-requires-clause-ready : goal.make_move-requires-clause-ready
+make_move-requires-clause-ready g c = search rules
+
+pub make_move-requires-clause-sizes : goal.make_move-requires-clause-sizes
+make_move-requires-clause-sizes g c = search rules
+
+pub make_move-requires-clause-costs : goal.make_move-requires-clause-costs
+make_move-requires-clause-costs g c = search rules
+
+pub make_move-requires-clause-smooth : goal.make_move-requires-clause-smooth
+make_move-requires-clause-smooth g c = search rules
+
+pub make_move-requires-clause-by_site : goal.make_move-requires-clause-by_site
+make_move-requires-clause-by_site g c = search rules
+
+pub returns-in_err-make_move-clause-by_site : goal.returns-in_err-make_move-clause-by_site
+returns-in_err-make_move-clause-by_site g c = search rules
+
+pub returns-in_err-make_move-clause-sizes : goal.returns-in_err-make_move-clause-sizes
+returns-in_err-make_move-clause-sizes g c = search rules
+
+pub returns-in_err-make_move-clause-known : goal.returns-in_err-make_move-clause-known
+returns-in_err-make_move-clause-known g c = search rules
+
+pub returns-in_err-make_move-clause-refused : goal.returns-in_err-make_move-clause-refused
+returns-in_err-make_move-clause-refused g c = search rules
+
+pub loop-place-smaller : goal.loop-place-smaller
+loop-place-smaller g c = search rules
+
+pub returns-clause-by_site : goal.returns-clause-by_site
+returns-clause-by_site g c = search rules
+
+pub returns-clause-sizes : goal.returns-clause-sizes
+returns-clause-sizes g c = search rules
+
+pub returns-clause-refused : goal.returns-clause-refused
+returns-clause-refused g c = search rules
+
+pub returns-clause-metric : goal.returns-clause-metric
+returns-clause-metric g c = search rules

@@ -1,4 +1,4 @@
-use Rattle.std.proofs.Common.{◌≡◌, ◌∙◌, ◌+◌, List, ℕ, suc, arith, sym, subst}
+use Rattle.std.proofs.Common.{rules, ◌≡◌, ◌∙◌, ◌+◌, List, ℕ, suc, arith, sym, subst}
 use Rattle.std.proofs.lemmas.Result.{err_from_is_err_and}
 use Rattle.labellings.specs.Chains.{Leads, Cycles}
 use Rattle.labellings.proofs.Chains.{cycles_more, chain_settles, chain_runs_out, chain_breaks}
@@ -60,3 +60,48 @@ pub returns-in_err-cycle-clause-metric : goal.returns-in_err-cycle-clause-metric
 returns-in_err-cycle-clause-metric g c = λ stored m meant.
     let p = err_from_is_err_and c.from_residual.result c.from_residual.ensures.1 in
     rw (p.1, p.2) (c.in_err-cycle.ensures.metric stored m meant)
+
+pub cycle-requires-clause-ready : goal.cycle-requires-clause-ready
+cycle-requires-clause-ready g c = search rules
+
+pub cycle-requires-clause-sizes : goal.cycle-requires-clause-sizes
+cycle-requires-clause-sizes g c = search rules
+
+pub cycle-requires-clause-costs : goal.cycle-requires-clause-costs
+cycle-requires-clause-costs g c = search rules
+
+pub cycle-requires-clause-smooth : goal.cycle-requires-clause-smooth
+cycle-requires-clause-smooth g c = search rules
+
+pub cycle-requires-clause-by_site : goal.cycle-requires-clause-by_site
+cycle-requires-clause-by_site g c = search rules
+
+pub returns-in_err-cycle-clause-sizes : goal.returns-in_err-cycle-clause-sizes
+returns-in_err-cycle-clause-sizes g c = search rules
+
+pub returns-in_err-cycle-clause-refused : goal.returns-in_err-cycle-clause-refused
+returns-in_err-cycle-clause-refused g c = search rules
+
+pub overflow_add-result : goal.overflow_add-result
+overflow_add-result g c = search rules
+
+pub returns-then-not-branch-clause-sizes : goal.returns-then-not-branch-clause-sizes
+returns-then-not-branch-clause-sizes g c = search rules
+
+pub returns-then-not-branch-clause-refused : goal.returns-then-not-branch-clause-refused
+returns-then-not-branch-clause-refused g c = search rules
+
+pub returns-then-not-branch-clause-metric : goal.returns-then-not-branch-clause-metric
+returns-then-not-branch-clause-metric g c = search rules
+
+pub loop-done-smaller : goal.loop-done-smaller
+loop-done-smaller g c = search rules
+
+pub returns-clause-sizes : goal.returns-clause-sizes
+returns-clause-sizes g c = search rules
+
+pub returns-clause-refused : goal.returns-clause-refused
+returns-clause-refused g c = search rules
+
+pub returns-clause-metric : goal.returns-clause-metric
+returns-clause-metric g c = search rules

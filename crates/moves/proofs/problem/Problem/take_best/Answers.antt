@@ -1,4 +1,4 @@
-use Rattle.std.proofs.Common.{◌∙◌, sym, refl, arith}
+use Rattle.std.proofs.Common.{rules, ◌∙◌, sym, refl, arith}
 use Rattle.move_energy.proofs.Whole.{pairs_meant}
 use Rattle.moves.specs.Building.{site_values}
 use Rattle.moves.proofs.Least.{expanded_best, lower_best, kept_best}
@@ -37,3 +37,51 @@ returns-else-not-lowers-clause-best g c = λ m meant least.
           c.relabel-in-Swap.ensures.sizes.1 (λ p l. c.relabel-in-Swap.ensures.each p (omega (arith, l, size))) (told.0 c.if-not-lowers.false),
       c.relabel-in-Swap.ensures.changed,
     )
+
+pub relabel-requires-clause-below : goal.relabel-requires-clause-below
+relabel-requires-clause-below g c = search rules
+
+pub relabel-requires-clause-choices : goal.relabel-requires-clause-choices
+relabel-requires-clause-choices g c = search rules
+
+pub relabel-requires-clause-count : goal.relabel-requires-clause-count
+relabel-requires-clause-count g c = search rules
+
+pub lowers-requires-clause-costs : goal.lowers-requires-clause-costs
+lowers-requires-clause-costs g c = search rules
+
+pub lowers-requires-clause-smooth : goal.lowers-requires-clause-smooth
+lowers-requires-clause-smooth g c = search rules
+
+pub lowers-requires-clause-sites : goal.lowers-requires-clause-sites
+lowers-requires-clause-sites g c = search rules
+
+pub lowers-requires-clause-labels : goal.lowers-requires-clause-labels
+lowers-requires-clause-labels g c = search rules
+
+pub lowers-requires-clause-change : goal.lowers-requires-clause-change
+lowers-requires-clause-change g c = search rules
+
+pub lowers-requires-clause-choices : goal.lowers-requires-clause-choices
+lowers-requires-clause-choices g c = search rules
+
+pub lowers-requires-clause-count : goal.lowers-requires-clause-count
+lowers-requires-clause-count g c = search rules
+
+pub returns-then-not-lowers-clause-sizes : goal.returns-then-not-lowers-clause-sizes
+returns-then-not-lowers-clause-sizes g c = search rules
+
+pub relabel-requires-in-Swap-clause-below : goal.relabel-requires-in-Swap-clause-below
+relabel-requires-in-Swap-clause-below g c = search rules
+
+pub relabel-requires-in-Swap-clause-choices : goal.relabel-requires-in-Swap-clause-choices
+relabel-requires-in-Swap-clause-choices g c = search rules
+
+pub relabel-requires-in-Swap-clause-count : goal.relabel-requires-in-Swap-clause-count
+relabel-requires-in-Swap-clause-count g c = search rules
+
+pub returns-in-Expand-clause-sizes : goal.returns-in-Expand-clause-sizes
+returns-in-Expand-clause-sizes g c = search rules
+
+pub returns-else-not-lowers-clause-sizes : goal.returns-else-not-lowers-clause-sizes
+returns-else-not-lowers-clause-sizes g c = search rules
