@@ -4,5 +4,8 @@ use Rattle.label_file.specs.ListFields.{number_of}
 use Rattle.label_file.proofs.Listed.{map_viewed}
 use Rattle.label_file.proofs.lists.numbers_of.Goals as goal
 
+pub loop-item-preserved : goal.loop-item-preserved
+loop-item-preserved c = grind (arith, common_steps)
+
 pub returns : goal.returns
 returns c = grind (arith, common_steps, map_viewed number_of c.args.items.now.items)
