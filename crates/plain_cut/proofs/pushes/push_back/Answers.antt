@@ -1,3 +1,4 @@
+use Rattle.std.proofs.lemmas.Grind.{common_steps}
 use Rattle.std.proofs.Common.{arith, refl, ◌≢◌, ◌∙◌, ap, set, length, ◌≡◌, ◌<◌, ◌+◌, ◌-◌, ℕ, slice_index, get_or-set_other}
 use Rattle.std.proofs.lemmas.List.{with_items_is, get_or_read, length-set}
 use Rattle.flow_network.specs.Preflow.{arc_at}
@@ -58,3 +59,6 @@ returns c =
           let now = pushed_values old.excess.items _ old.arc_flow.items _ u w k (slice_index old.arc_flow.items k - z) z ne in_kept (omega (arith, s.preflow.arcs_len, c.requires.arc)) excess arcs in
           absurd (omega (arith, now.0, now.1, some, room, amount, kept, flow));
     }
+
+pub shift-requires-clause-enough : goal.shift-requires-clause-enough
+shift-requires-clause-enough c = grind (arith, common_steps)

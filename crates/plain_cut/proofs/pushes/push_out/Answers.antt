@@ -1,3 +1,4 @@
+use Rattle.std.proofs.lemmas.Grind.{common_steps}
 use Rattle.std.proofs.Common.{arith, ap, ◌∙◌, inl, inr, ◌≡◌, ◌<◌, ◌≤◌, ◌+◌, ℕ, slice_index}
 use Rattle.std.proofs.lemmas.Bool.{cases_lt}
 use Rattle.std.proofs.lemmas.List.{get_or_read}
@@ -50,3 +51,6 @@ returns-clause-spent c = λ k l e.
     let low = rw e at f.1 in
     let high = rw e at f.2 in
     rw f.3 at (c.out.invariant.spent f.0 low (omega (arith, high, last, c.out-test.false)))
+
+pub out-init : goal.out-init
+out-init c = grind (arith, common_steps)

@@ -1,3 +1,4 @@
+use Rattle.std.proofs.lemmas.Grind.{common_steps}
 use Rattle.std.proofs.Common.{arith, refl, ap, set, length, ◌≡◌, ◌<◌, ◌+◌, ◌-◌, ℕ, slice_index, get_or-set_same}
 use Rattle.std.proofs.lemmas.List.{get_or_read}
 use Rattle.plain_cut.proofs.Steps.{give_step}
@@ -25,3 +26,9 @@ returns c =
           refl (ap (λ (f : ℕ). set old.sink_flow.items v (f + z)) given) (ap (λ (f : ℕ). set old.excess.items v (f - z)) again) refl refl refl;
       spent = λ some. omega (arith, some, kept_set, given_set, amount, kept, again);
     }
+
+pub overflow_sub-sinks : goal.overflow_sub-sinks
+overflow_sub-sinks c = grind (arith, common_steps)
+
+pub overflow_sub-index_mut : goal.overflow_sub-index_mut
+overflow_sub-index_mut c = grind (arith, common_steps)

@@ -1,3 +1,4 @@
+use Rattle.std.proofs.lemmas.Grind.{common_steps}
 use Rattle.std.proofs.Common.{arith, refl, inl, inr, ◌≡◌, ◌<◌, ◌≤◌, ◌+◌, slice_index}
 use Rattle.std.proofs.lemmas.Bool.{cases_lt}
 use Rattle.std.proofs.lemmas.List.{get_or_read}
@@ -110,3 +111,6 @@ returns c =
       };
       limits = c.top_label-least.ensures.limits;
     }
+
+pub out-init : goal.out-init
+out-init c = grind (arith, common_steps)

@@ -1,3 +1,4 @@
+use Rattle.std.proofs.lemmas.Grind.{common_steps}
 use Rattle.std.proofs.Common.{ℕ, Bool, false, slice_index_or, nat_lt, ap, ◌∙◌, length, arith}
 use Rattle.std.proofs.lemmas.List.{length-map}
 use Rattle.flow_network.specs.Progress.{top}
@@ -25,3 +26,6 @@ returns c =
       smallest = solved_smallest net w side h s done exact reach;
       bound = omega (arith, told, capacity-le-total net side h, h.total);
     }
+
+pub cut_capacity-value-requires : goal.cut_capacity-value-requires
+cut_capacity-value-requires c = grind (arith, common_steps)
