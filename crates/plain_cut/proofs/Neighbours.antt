@@ -1,6 +1,6 @@
 -- The arcs at a node, by the ends of each.
-use Rattle.std.proofs.Common.{◌≡◌, ℕ, ◌+◌, ◌<◌, ◌≤◌, List, length, map, slice_index, sym, ◌∙◌, arith}
-use Rattle.std.proofs.lemmas.List.{length-map}
+use Rattle.std.proofs.Common.{◌≡◌, ℕ, ◌+◌, ◌<◌, ◌≤◌, List, get_or, length, map, slice_index, sym, ◌∙◌, arith}
+use Rattle.std.proofs.lemmas.List.{get_or_read, length-map}
 use Rattle.std.proofs.Math.ListN.{get_or-map}
 use Rattle.flow_network.specs.declared.arc.Arc.{Arc}
 use Rattle.flow_network.specs.Cut.{Network, nodes}
@@ -48,3 +48,19 @@ pub into_ends : (net : Network) (a : Adjacency) → IsAdjacency net a → IsGrou
 into_ends net a h =
     grouped_by (nodes net) (length net.arcs) (map (λ (arc : Arc). arc.to) net.arcs) (λ k. (arc_at net k).to) a.into
     (length-map net.arcs (λ (arc : Arc). arc.to)) (to_at net) h.into
+
+-- what a loop over a node's places reads is a place, and there an arc
+pub place_here : (n m : ℕ) (end : ℕ → ℕ) (g : Groups) → IsGroupedBy n m end g → (v p last : ℕ) → v < n
+    → last ≡ get_or g.starts.items (v + 1) last → p < last → p < length g.places.items
+place_here n m end g a v p last lv is high =
+    let read : last ≡ slice_index g.starts.items (v + 1) = get_or_read g.starts.items (v + 1) last (omega (arith, a.starts_len, lv)) is 0 in
+    omega (arith, read, high, a.places_len, a.within (v + 1) (omega (arith, lv)))
+
+pub place_arc : (n m : ℕ) (end : ℕ → ℕ) (g : Groups) → IsGroupedBy n m end g → (v p first last k : ℕ) → v < n
+    → first ≡ get_or g.starts.items v first → last ≡ get_or g.starts.items (v + 1) last → k ≡ get_or g.places.items p k
+    → first ≤ p → p < last → k < m
+place_arc n m end g a v p first last k lv from to is low high =
+    let begin : first ≡ slice_index g.starts.items v = get_or_read g.starts.items v first (omega (arith, a.starts_len, lv)) from 0 in
+    let stop : last ≡ slice_index g.starts.items (v + 1) = get_or_read g.starts.items (v + 1) last (omega (arith, a.starts_len, lv)) to 0 in
+    let here : k ≡ slice_index g.places.items p = get_or_read g.places.items p k (place_here n m end g a v p last lv to high) is 0 in
+    omega (arith, here, (a.places v p lv (omega (arith, begin, low)) (omega (arith, stop, high))).0)

@@ -1,12 +1,13 @@
+use Rattle.flow_network.specs.Cut.{nodes}
 use Rattle.std.proofs.lemmas.Grind.{common_steps}
-use Rattle.std.proofs.Common.{arith, ap, sym, ◌∙◌, inl, inr, ◌≡◌, ◌<◌, ◌≤◌, ◌+◌, ℕ, slice_index}
+use Rattle.std.proofs.Common.{arith, ap, sym, ◌∙◌, inl, inr, ◌≡◌, ◌<◌, ◌≤◌, ◌+◌, ℕ, slice_index, length}
 use Rattle.std.proofs.lemmas.Bool.{cases_lt}
 use Rattle.std.proofs.lemmas.List.{get_or_read}
 use Rattle.flow_network.specs.Preflow.{arc_at}
 use Rattle.plain_cut.specs.State.{IsPush, ChangesOnly}
 use Rattle.plain_cut.proofs.Steps.{steps_more}
 use Rattle.plain_cut.proofs.Passes.{push_more, spent_back_more}
-use Rattle.plain_cut.proofs.Neighbours.{into_ends}
+use Rattle.plain_cut.proofs.Neighbours.{into_ends, place_here, place_arc}
 use Rattle.plain_cut.proofs.pushes.push_into.Goals as goal
 
 pub into-preserved : goal.into-preserved
@@ -55,3 +56,9 @@ returns-clause-spent c = λ k l e.
 
 pub into-init : goal.into-init
 into-init c = grind (arith, common_steps)
+
+pub index-requires-in-into : goal.index-requires-in-into
+index-requires-in-into c = omega (arith, place_here (nodes c.args.net.now) (length c.args.net.now.arcs) (λ k. (arc_at c.args.net.now k).to) c.args.adjacency.now.into (into_ends c.args.net.now c.args.adjacency.now c.requires.adjacency) c.args.v c.into.p c.index-p-end.result.now c.requires.node c.index-p-end.ensures c.into-test.true, c.args.adjacency.now.into.places.ok.0)
+
+pub try_push_back-requires-clause-arc : goal.try_push_back-requires-clause-arc
+try_push_back-requires-clause-arc c = place_arc (nodes c.args.net.now) (length c.args.net.now.arcs) (λ k. (arc_at c.args.net.now k).to) c.args.adjacency.now.into (into_ends c.args.net.now c.args.adjacency.now c.requires.adjacency) c.args.v c.into.p c.index-p.result.now c.index-p-end.result.now c.index-in-into.result.now c.requires.node c.index-p.ensures c.index-p-end.ensures c.index-in-into.ensures c.into.auto.p c.into-test.true

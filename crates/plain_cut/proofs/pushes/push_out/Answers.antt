@@ -1,12 +1,13 @@
+use Rattle.flow_network.specs.Cut.{nodes}
 use Rattle.std.proofs.lemmas.Grind.{common_steps}
-use Rattle.std.proofs.Common.{arith, ap, ◌∙◌, inl, inr, ◌≡◌, ◌<◌, ◌≤◌, ◌+◌, ℕ, slice_index}
+use Rattle.std.proofs.Common.{arith, ap, ◌∙◌, inl, inr, ◌≡◌, ◌<◌, ◌≤◌, ◌+◌, ℕ, slice_index, length}
 use Rattle.std.proofs.lemmas.Bool.{cases_lt}
 use Rattle.std.proofs.lemmas.List.{get_or_read}
 use Rattle.flow_network.specs.Preflow.{arc_at}
 use Rattle.plain_cut.specs.State.{IsPush, ChangesOnly}
 use Rattle.plain_cut.proofs.Steps.{steps_more}
 use Rattle.plain_cut.proofs.Passes.{push_more, spent_more}
-use Rattle.plain_cut.proofs.Neighbours.{out_ends}
+use Rattle.plain_cut.proofs.Neighbours.{out_ends, place_here, place_arc}
 use Rattle.plain_cut.proofs.pushes.push_out.Goals as goal
 
 pub out-preserved : goal.out-preserved
@@ -54,3 +55,9 @@ returns-clause-spent c = λ k l e.
 
 pub out-init : goal.out-init
 out-init c = grind (arith, common_steps)
+
+pub index-requires-in-out : goal.index-requires-in-out
+index-requires-in-out c = omega (arith, place_here (nodes c.args.net.now) (length c.args.net.now.arcs) (λ k. (arc_at c.args.net.now k).from) c.args.adjacency.now.out (out_ends c.args.net.now c.args.adjacency.now c.requires.adjacency) c.args.v c.out.p c.index-p-end.result.now c.requires.node c.index-p-end.ensures c.out-test.true, c.args.adjacency.now.out.places.ok.0)
+
+pub try_push_forward-requires-clause-arc : goal.try_push_forward-requires-clause-arc
+try_push_forward-requires-clause-arc c = place_arc (nodes c.args.net.now) (length c.args.net.now.arcs) (λ k. (arc_at c.args.net.now k).from) c.args.adjacency.now.out (out_ends c.args.net.now c.args.adjacency.now c.requires.adjacency) c.args.v c.out.p c.index-p.result.now c.index-p-end.result.now c.index-in-out.result.now c.requires.node c.index-p.ensures c.index-p-end.ensures c.index-in-out.ensures c.out.auto.p c.out-test.true

@@ -1,9 +1,10 @@
+use Rattle.flow_network.specs.Cut.{nodes}
 use Rattle.std.proofs.lemmas.Grind.{common_steps}
-use Rattle.std.proofs.Common.{arith, refl, inl, inr, ◌≡◌, ◌<◌, ◌≤◌, ◌+◌, slice_index}
+use Rattle.std.proofs.Common.{arith, refl, inl, inr, ◌≡◌, ◌<◌, ◌≤◌, ◌+◌, slice_index, length}
 use Rattle.std.proofs.lemmas.Bool.{cases_lt}
 use Rattle.std.proofs.lemmas.List.{get_or_read}
 use Rattle.flow_network.specs.Preflow.{arc_at}
-use Rattle.plain_cut.proofs.Neighbours.{out_ends, into_ends}
+use Rattle.plain_cut.proofs.Neighbours.{out_ends, into_ends, place_here, place_arc}
 use Rattle.plain_cut.proofs.relabels.highest_label.Goals as goal
 
 pub out-preserved : goal.out-preserved
@@ -114,3 +115,15 @@ returns c =
 
 pub out-init : goal.out-init
 out-init c = grind (arith, common_steps)
+
+pub index-requires : goal.index-requires
+index-requires c = omega (arith, place_here (nodes c.args.net.now) (length c.args.net.now.arcs) (λ k. (arc_at c.args.net.now k).from) c.args.adjacency.now.out (out_ends c.args.net.now c.args.adjacency.now c.requires.adjacency) c.args.v c.out.p c.index-p-end.result.now c.requires.node c.index-p-end.ensures c.out-test.true, c.args.adjacency.now.out.places.ok.0)
+
+pub lower_forward-least-requires-clause-arc : goal.lower_forward-least-requires-clause-arc
+lower_forward-least-requires-clause-arc c = place_arc (nodes c.args.net.now) (length c.args.net.now.arcs) (λ k. (arc_at c.args.net.now k).from) c.args.adjacency.now.out (out_ends c.args.net.now c.args.adjacency.now c.requires.adjacency) c.args.v c.out.p c.index-p.result.now c.index-p-end.result.now c.index.result.now c.requires.node c.index-p.ensures c.index-p-end.ensures c.index.ensures c.out.auto.p c.out-test.true
+
+pub index-requires-in-into : goal.index-requires-in-into
+index-requires-in-into c = omega (arith, place_here (nodes c.args.net.now) (length c.args.net.now.arcs) (λ k. (arc_at c.args.net.now k).to) c.args.adjacency.now.into (into_ends c.args.net.now c.args.adjacency.now c.requires.adjacency) c.args.v c.into.p c.index-p-end-2.result.now c.requires.node c.index-p-end-2.ensures c.into-test.true, c.args.adjacency.now.into.places.ok.0)
+
+pub lower_back-least-requires-clause-arc : goal.lower_back-least-requires-clause-arc
+lower_back-least-requires-clause-arc c = place_arc (nodes c.args.net.now) (length c.args.net.now.arcs) (λ k. (arc_at c.args.net.now k).to) c.args.adjacency.now.into (into_ends c.args.net.now c.args.adjacency.now c.requires.adjacency) c.args.v c.into.p c.index-p-2.result.now c.index-p-end-2.result.now c.index-in-into.result.now c.requires.node c.index-p-2.ensures c.index-p-end-2.ensures c.index-in-into.ensures c.into.auto.p c.into-test.true
