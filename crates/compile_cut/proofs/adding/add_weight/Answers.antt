@@ -1,3 +1,4 @@
+use Rattle.std.proofs.lemmas.Grind.{common_steps}
 use Rattle.std.proofs.Common.{arith, ◌≡◌, ◌<◌, length, pos}
 use Rattle.std.proofs.lemmas.List.{get_or_read}
 use Rattle.pseudo_bool.specs.Formula.{entry}
@@ -12,3 +13,6 @@ returns-clause-value c x =
     let here : c.index_mut.result.now ≡ entry ws c.args.at = get_or_read ws c.args.at c.index_mut.result.now inside c.index_mut.ensures.value (pos 0) in
     rw (here, constant_is (entry ws c.args.at) c.args.by (weight_small ws c.args.at inside (omega (arith, c.requires.room))) (omega (arith, c.requires.step)))
     (weights_value-add ws c.args.at c.args.by x inside)
+
+pub returns-clause-size : goal.returns-clause-size
+returns-clause-size c = grind (arith, common_steps)

@@ -1,3 +1,4 @@
+use Rattle.std.proofs.lemmas.Grind.{common_steps}
 use Rattle.std.proofs.Common.{arith, ◌≤◌, ◌∙◌, ap, map, sum, length, pos, ◌-ℤ◌, unsigned_abs}
 use Rattle.compile_cut.specs.Weights.{sink_part}
 use Rattle.sums.proofs.IntegerSumLemmas.{abs-sub}
@@ -34,3 +35,6 @@ pub returns-clause-one_sided : goal.returns-clause-one_sided
 returns-clause-one_sided c v =
     rw (c.new.ensures, c.in_ok-sources.ensures, c.as_slice.ensures.value, c.in_ok-sinks.ensures, c.as_slice-2.ensures.value)
     (one_sided c.args.form.weights.items v)
+
+pub returns-clause-nodes : goal.returns-clause-nodes
+returns-clause-nodes c = grind (arith, common_steps)
