@@ -60,8 +60,5 @@ returns c =
           absurd (omega (arith, now.0, now.1, some, room, amount, kept, flow));
     }
 
-pub overflow_sub-arc : goal.overflow_sub-arc
-overflow_sub-arc c = grind (arith, common_steps)
-
 pub shift-requires-clause-enough : goal.shift-requires-clause-enough
 shift-requires-clause-enough c = grind (arith, common_steps)
