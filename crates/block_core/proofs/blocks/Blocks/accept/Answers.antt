@@ -1,3 +1,4 @@
+use Rattle.std.proofs.lemmas.Grind.{common_steps}
 use Rattle.std.proofs.Common.{◌≡◌, true, sym, ◌∙◌, ap, subst, arith}
 use Rattle.parcel.specs.declared.direction.Direction.{Direction}
 use Rattle.parcel.specs.Directions.{opposite}
@@ -49,3 +50,9 @@ returns c =
     let found = subst (λ (q : Direction). IsRow w q (is_outer w q) b p) c.opposite_of.ensures c.row-block.ensures in
     let row = row_as w _ b B (opposite x) true p at found (border_opposite c.args.self.now.net c.args.self.now.blocks x ∙ c.requires.border) in
     subst (λ (q : BlockView). blocks_in (put_block w b q) ≡ accepted c.args.self.now x c.args.amount c.args.label) (sym c.accept.ensures) (accepted_at w _ b B x p c.args.amount c.args.label at row (back_spot w _ b B x p at row)).view
+
+pub accept-requires-clause-label : goal.accept-requires-clause-label
+accept-requires-clause-label c = grind (arith, common_steps)
+
+pub accept-requires-clause-place : goal.accept-requires-clause-place
+accept-requires-clause-place c = grind (arith, common_steps)

@@ -1,4 +1,5 @@
-use Rattle.std.proofs.Common.{true, false, sym, ◌∙◌, ap}
+use Rattle.std.proofs.lemmas.Grind.{common_steps}
+use Rattle.std.proofs.Common.{true, false, sym, ◌∙◌, ap, arith}
 use Rattle.block_net.specs.Whole.{Whole, shown_lane, shown_border}
 use Rattle.block_core.specs.Views.{whole_in}
 use Rattle.block_core.proofs.Steps.{at_read, inner_read, border_read, row_as}
@@ -25,3 +26,9 @@ returns c =
     let at = at_read w c.args.self.now b B c.self.invariant c.self.view_is c.row-block.ensures.block c.index-cells.ensures in
     let row = row_as w _ b B c.args.direction true p at c.row-block.ensures (sym c.is_border.ensures ∙ c.if-not-is_border.false) in
     ap shown_border c.border-border.ensures.value ∙ border_read w _ b B c.args.direction p at row
+
+pub border-border-requires : goal.border-border-requires
+border-border-requires c = grind (arith, common_steps)
+
+pub lane-requires : goal.lane-requires
+lane-requires c = grind (arith, common_steps)

@@ -1,3 +1,4 @@
+use Rattle.std.proofs.lemmas.Grind.{common_steps}
 use Rattle.std.proofs.Common.{◌≡◌, true, sym, ◌∙◌, ap, subst, arith}
 use Rattle.parcel.specs.States as core
 use Rattle.block_net.specs.Views.{BlockView}
@@ -75,3 +76,9 @@ returns c =
     let p = c.spot-place.result.1 in
     let spot = spot_as w _ b B x true j c.near_of.result c.spot-place.result.0 p at row c.near_of.ensures.value c.spot-place.ensures in
     subst (λ (q : BlockView). blocks_in (put_block w b q) ≡ sent c.args.self.now x c.args.amount) (sym c.send.ensures) (sent_at w _ b B x j p c.args.amount at row spot).view
+
+pub send-requires-clause-node : goal.send-requires-clause-node
+send-requires-clause-node c = grind (arith, common_steps)
+
+pub send-requires-clause-place : goal.send-requires-clause-place
+send-requires-clause-place c = grind (arith, common_steps)

@@ -1,4 +1,5 @@
-use Rattle.std.proofs.Common.{◌≡◌, true, sym, subst}
+use Rattle.std.proofs.lemmas.Grind.{common_steps}
+use Rattle.std.proofs.Common.{◌≡◌, true, sym, subst, arith}
 use Rattle.parcel.specs.States as core
 use Rattle.block_net.specs.Views.{BlockView}
 use Rattle.block_net.specs.Whole.{Whole, put_block}
@@ -29,3 +30,9 @@ returns c =
     let x = c.args.direction in
     let row = row_as w _ b B x true p at c.row-block.ensures c.requires.border in
     subst (λ (q : BlockView). blocks_in (put_block w b q) ≡ record c.args.self.now { lanes = core.put_lane c.args.self.now.lanes x (record (core.lane_at c.args.self.now.lanes x) { known = c.args.known }) }) (sym c.inform.ensures) (informed_at w _ b B x p c.args.known at row).view
+
+pub inform-requires-clause-limit : goal.inform-requires-clause-limit
+inform-requires-clause-limit c = grind (arith, common_steps)
+
+pub inform-requires-clause-place : goal.inform-requires-clause-place
+inform-requires-clause-place c = grind (arith, common_steps)

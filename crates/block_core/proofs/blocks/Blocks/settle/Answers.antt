@@ -1,4 +1,5 @@
-use Rattle.std.proofs.Common.{◌≡◌, true, sym, subst}
+use Rattle.std.proofs.lemmas.Grind.{common_steps}
+use Rattle.std.proofs.Common.{◌≡◌, true, sym, subst, arith}
 use Rattle.block_net.specs.Views.{BlockView}
 use Rattle.block_net.specs.Whole.{Whole, put_block}
 use Rattle.block_core.specs.Views.{blocks_in, whole_in, IsLaid, settled}
@@ -28,3 +29,6 @@ returns c =
     let x = c.args.direction in
     let row = row_as w _ b B x true p at c.row-block.ensures c.requires.border in
     subst (λ (q : BlockView). blocks_in (put_block w b q) ≡ settled c.args.self.now x) (sym c.settle.ensures) (settled_at w _ b B x p at row).view
+
+pub settle-requires : goal.settle-requires
+settle-requires c = grind (arith, common_steps)

@@ -1,3 +1,4 @@
+use Rattle.std.proofs.lemmas.Grind.{common_steps}
 use Rattle.std.proofs.Common.{◌≡◌, true, sym, ap, subst, arith}
 use Rattle.parcel.specs.States as core
 use Rattle.parcel.specs.Soundness.{amount_out}
@@ -54,3 +55,6 @@ returns c =
     let x = c.args.direction in
     let row = row_as w _ b B x true p at c.row-block.ensures c.requires.border in
     subst (λ (q : BlockView). blocks_in (put_block w b q) ≡ returned c.args.self.now x c.args.amount c.args.told) (sym c.take_back.ensures) (returned_at w _ b B x p c.args.amount c.args.told at row (border_spot w _ b B x p at row)).view
+
+pub take_back-requires-clause-place : goal.take_back-requires-clause-place
+take_back-requires-clause-place c = grind (arith, common_steps)

@@ -1,4 +1,5 @@
-use Rattle.std.proofs.Common.{drop, List, [], ◌∷◌, ◌++◌, refl, sym, ◌∙◌, ap}
+use Rattle.std.proofs.lemmas.Grind.{common_steps}
+use Rattle.std.proofs.Common.{drop, List, [], ◌∷◌, ◌++◌, refl, sym, ◌∙◌, ap, arith}
 use Rattle.std.specs.Vec.{with_item}
 use Rattle.std.specs.VecDeque.{deque_capacity}
 use Rattle.parcel.specs.declared.message.Message.{Message}
@@ -38,3 +39,9 @@ returns-clause-rooms c =
     } in
     unwritten (λ r. r.items) (λ w. w.items) rows m c.args.from c.args.to row row' c.index_mut-2.result.now c.pop_front.new.self is (λ w. deque_capacity w) c.pop_front.ensures.capacity
     ∙ ap (λ (v : MailView). v.rooms) c.self.view_is
+
+pub index_mut-requires : goal.index_mut-requires
+index_mut-requires c = grind (arith, common_steps)
+
+pub index_mut-requires-2 : goal.index_mut-requires-2
+index_mut-requires-2 c = grind (arith, common_steps)
