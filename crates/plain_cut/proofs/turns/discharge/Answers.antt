@@ -1,5 +1,5 @@
 use Rattle.std.proofs.lemmas.Grind.{common_steps}
-use Rattle.std.proofs.Common.{arith}
+use Rattle.std.proofs.Common.{arith, rules}
 use Rattle.plain_cut.specs.State.{IsSteps}
 use Rattle.plain_cut.proofs.Steps.{steps_more, steps_one}
 use Rattle.plain_cut.proofs.turns.discharge.Goals as goal
@@ -23,3 +23,6 @@ returns-else-index-top-clause-done c = grind (arith, common_steps)
 
 pub relabel-requires-clause-stuck : goal.relabel-requires-clause-stuck
 relabel-requires-clause-stuck c = c.steps.invariant.stuck (grind (arith, common_steps))
+
+pub returns-after-steps-clause-done : goal.returns-after-steps-clause-done
+returns-after-steps-clause-done c = search rules
