@@ -1,6 +1,9 @@
 //! Small random moves and runs, with sites decided first and without, against answers worked out over all
 //! labellings.
-ghost use Rattle.std.specs.Prelude.{◌≡◌, ◌≤◌, ◌<◌, ◌+◌, ◌*◌, ◌≤ℤ◌, pos};
+ghost use Rattle.std.specs.Prelude.{◌≡◌, ◌≤◌, ◌<◌, ◌+◌, ◌*◌, ◌≤ℤ◌, pos, length};
+ghost use Rattle.cost_store.specs.Limits.{data_limit};
+ghost use Rattle.cost_store.specs.Promises.{Keeps, KeepsSmooth};
+ghost use Rattle.move_energy.specs.Problems.{AreSized};
 ghost use Rattle.moves.specs.declared.error.SolveError.TheVariants.{OutOfMemory};
 
 use crate::cases::MOVES;
@@ -14,11 +17,11 @@ use std::process::Abort;
 
 /// How many bytes a row has: how many sites, labels and pairs; 0 for an expansion, 1 for a swap, 2 for a run
 /// of expansions, 3 for a run of swaps; the cycles that are allowed; the answer: 0 kept or stopped, 1 changed
-/// or settled, 2 not regular; how many cycles were done, or the place of the pair; alpha, beta. Then four
+/// or settled, 2 not regular, 3 no such label; how many cycles were done, or the place of the pair; alpha, beta. Then four
 /// data costs of each of six sites, four smooth costs of each of four labels, the labels of six sites before
 /// and after, seven pairs with their weights, and the data energy and the smooth energy after, each of eight
 /// digits.
-const BYTES: usize = 98;
+pub const BYTES: usize = 98;
 
 /// The greatest data cost, smooth cost and weight.
 const DATA: u32 = 10_000_000;
@@ -28,7 +31,7 @@ const SMOOTH: u32 = 10_000;
 const WEIGHT: u32 = 1_000;
 
 /// As `Alone`, but no site is decided before the cut.
-#[derive(Clone, Copy, Debug)]
+#[derive(Clone, Copy)]
 struct CutAlone;
 
 impl How for CutAlone {
@@ -96,25 +99,31 @@ fn pairs_of(rt: &impl Abort, alloc: Global, row: &[u8; BYTES], sites: u32) -> Pa
     pairs
 }
 
-/// The labels from this place of a row on.
-fn labels_at(
-    rt: &impl Abort,
-    alloc: Global,
-    row: &[u8; BYTES],
-    at: usize,
-    sites: u32,
-    labels: u32,
-) -> Labelling
-    requires sizes { (sites ≤ 6) × (1 ≤ labels) × (labels ≤ 4) }
-    requires place { at + 6 < 98 }
+/// The labels before the move of a row.
+fn start_of(rt: &impl Abort, alloc: Global, row: &[u8; BYTES], sites: u32, labels: u32) -> Labelling
+    requires { (sites ≤ 6) × (1 ≤ labels) × (labels ≤ 4) }
 {
     let mut labelling = Labelling::new(alloc, sites, labels).expect(rt, "memory");
     for site in 0..sites {
         labelling
-            .set_label(site, digit(row, at + site as usize))
+            .set_label(site, digit(row, 49 + site as usize))
             .expect(rt, "a label");
     }
     labelling
+}
+
+/// Whether these are the labels from this place of a row on.
+fn are_labels(labels: &[u8], row: &[u8; BYTES], at: usize) -> bool
+    requires { at + 6 < 98 }
+{
+    let mut place = at;
+    for label in labels {
+        if place >= at + 6 || u32::from(*label) != digit(row, place) {
+            return false;
+        }
+        place += 1;
+    }
+    true
 }
 
 /// What a move or a run is to say: whether it changed or is settled, and how many cycles were done, of a move
@@ -124,22 +133,85 @@ fn wanted(row: &[u8; BYTES]) -> Result<(bool, u32), MoveError> {
     match digit(row, 5) {
         0 => Ok((false, number)),
         1 => Ok((true, number)),
-        _ => Err(MoveError::PairNotRegular {
+        2 => Err(MoveError::PairNotRegular {
             pair: number as usize,
             alpha: digit(row, 7),
             beta: (digit(row, 3) % 2 == 1).then_some(digit(row, 8)),
         }),
+        _ => Err(MoveError::NoSuchLabel),
     }
 }
 
+/// Makes the move or the run of a row, and answers as `wanted` does.
+fn answer_of<F: Fn(u32, u32) -> i64, V: Fn(u32, u32) -> i64, H: How>(
+    problem: &Problem<F, V>,
+    alloc: Global,
+    labelling: &mut Labelling,
+    row: &[u8; BYTES],
+    how: &H,
+) -> Result<(bool, u32), MoveError>
+    requires ready { H.ready how.now }
+    requires sizes { AreSized problem.now.pairs problem.now.data_cost.sites problem.now.data_cost.labels
+        problem.now.smooth_cost.labels labelling.old }
+    requires costs { Keeps (F.pre problem.now.data_cost.f) (F.post problem.now.data_cost.f)
+        problem.now.data_cost.sites problem.now.data_cost.labels data_limit }
+    requires smooth { KeepsSmooth (V.pre problem.now.smooth_cost.v) (V.post problem.now.smooth_cost.v)
+        problem.now.smooth_cost.labels problem.now.smooth_cost.by_metric }
+    ensures sizes { (labelling.new.labels ≡ labelling.old.labels)
+        × (length labelling.new.at ≡ length labelling.old.at) }
+{
+    let (cycles, alpha, beta) = (digit(row, 4), digit(row, 7), digit(row, 8));
+    match digit(row, 3) {
+        0 => Ok((problem.expand(alloc, labelling, alpha, how)?, 0)),
+        1 => Ok((problem.swap(alloc, labelling, alpha, beta, how)?, 0)),
+        2 => {
+            let ended = problem.run_expansion(alloc, labelling, cycles, how)?;
+            Ok((ended.settled, ended.cycles))
+        }
+        _ => {
+            let ended = problem.run_swap(alloc, labelling, cycles, how)?;
+            Ok((ended.settled, ended.cycles))
+        }
+    }
+}
+
+/// Whether these are the labels of a row after its move, and their energies are those of the row.
+fn is_after<F: Fn(u32, u32) -> i64, V: Fn(u32, u32) -> i64>(
+    problem: &Problem<F, V>,
+    labelling: &Labelling,
+    row: &[u8; BYTES],
+) -> bool
+    requires sizes { AreSized problem.now.pairs problem.now.data_cost.sites problem.now.data_cost.labels
+        problem.now.smooth_cost.labels labelling.now }
+    requires costs { Keeps (F.pre problem.now.data_cost.f) (F.post problem.now.data_cost.f)
+        problem.now.data_cost.sites problem.now.data_cost.labels data_limit }
+    requires smooth { KeepsSmooth (V.pre problem.now.smooth_cost.v) (V.post problem.now.smooth_cost.v)
+        problem.now.smooth_cost.labels problem.now.smooth_cost.by_metric }
+{
+    let data_energy = energy_at(row, 82);
+    let smooth_energy = energy_at(row, 90);
+    are_labels(labelling.as_slice(), row, 55)
+        && problem.data_energy(labelling) == data_energy
+        && problem.smooth_energy(labelling) == smooth_energy
+        && problem.energy(labelling) == data_energy.saturating_add(smooth_energy)
+}
+
 /// Makes the move or the run of a row, and compares what it says, the labels and the energies with the row.
-fn expect_row<H: How>(rt: &impl Abort, alloc: Global, row: &[u8; BYTES], place: usize, how: &H)
+/// Where a growth is refused, the labels are those before or, in a run, stand in its chain, and the move is made
+/// once more.
+pub fn expect_row<H: How>(
+    rt: &impl Abort,
+    alloc: Global,
+    row: &[u8; BYTES],
+    chain: &[[u8; 4]],
+    how: &H,
+)
     requires { H.ready how.now }
 {
     let (sites, labels) = (digit(row, 0), digit(row, 1));
-    assert!(*rt; sites <= 6 && 1 <= labels && labels <= 4, "row {place}");
+    assert!(*rt; sites <= 6 && 1 <= labels && labels <= 4);
     let pairs = pairs_of(rt, alloc, row, sites);
-    let mut labelling = labels_at(rt, alloc, row, 49, sites, labels);
+    let mut labelling = start_of(rt, alloc, row, sites, labels);
     assert!(*rt;
         pairs.sites() == sites && labelling.sites() == sites && labelling.labels() == labels
     );
@@ -161,46 +233,26 @@ fn expect_row<H: How>(rt: &impl Abort, alloc: Global, row: &[u8; BYTES], place: 
             labels,
         ),
     };
-    let (cycles, alpha, beta) = (digit(row, 4), digit(row, 7), digit(row, 8));
-    let answer = match digit(row, 3) {
-        0 => problem
-            .expand(alloc, &mut labelling, alpha, how)
-            .map(|has_changed| (has_changed, 0)),
-        1 => problem
-            .swap(alloc, &mut labelling, alpha, beta, how)
-            .map(|has_changed| (has_changed, 0)),
-        2 => problem
-            .run_expansion(alloc, &mut labelling, cycles, how)
-            .map(|ended| (ended.settled, ended.cycles)),
-        _ => problem
-            .run_swap(alloc, &mut labelling, cycles, how)
-            .map(|ended| (ended.settled, ended.cycles)),
-    };
-    assert_eq!(*rt; answer, wanted(row), "row {place}");
-    let after = labels_at(rt, alloc, row, 55, sites, labels);
-    assert_eq!(*rt; labelling.as_slice(), after.as_slice(), "row {place}");
-    assert!(*rt; labelling.sites() == sites && labelling.labels() == labels);
-    assert_eq!(*rt;
-        problem.data_energy(&labelling),
-        energy_at(row, 82),
-        "row {place}"
-    );
-    assert_eq!(*rt;
-        problem.smooth_energy(&labelling),
-        energy_at(row, 90),
-        "row {place}"
-    );
+    let first = answer_of(&problem, alloc, &mut labelling, row, how);
+    if first == Err(MoveError::OutOfMemory) {
+        let stands = are_labels(labelling.as_slice(), row, 49)
+            || chain.iter().any(|it| labelling.as_slice() == it.as_slice());
+        let again = answer_of(&problem, alloc, &mut labelling, row, how);
+        assert!(*rt; stands && (again == wanted(row) || matches!(again, Ok((true, _)))));
+    } else {
+        assert!(*rt; first == wanted(row));
+    }
+    assert!(*rt; is_after(&problem, &labelling, row));
 }
 
 /// Each row of a table, of which there are so many: with sites decided first, and without.
 fn expect_rows(rt: &impl Abort, alloc: Global, table: &[u8], count: usize) {
-    assert_eq!(*rt; table.len() / BYTES, count);
-    for (place, bytes) in table.chunks_exact(BYTES).enumerate() {
+    assert!(*rt; count <= 500 && table.len() == BYTES * count);
+    for place in 0..count {
         let mut row = [0; BYTES];
-        assert_eq!(*rt; bytes.len(), row.len());
-        row.copy_from_slice(bytes);
-        expect_row(rt, alloc, &row, place, &Alone);
-        expect_row(rt, alloc, &row, place, &CutAlone);
+        row.copy_from_slice(&table[BYTES * place..BYTES * place + BYTES]);
+        expect_row(rt, alloc, &row, &[], &Alone);
+        expect_row(rt, alloc, &row, &[], &CutAlone);
     }
 }
 
