@@ -1,19 +1,36 @@
 //! Files that are read. What each names was worked by hand.
 use label_field::Pair;
-use label_file::read_label;
+use label_file::{LabelProblem, read_label};
 use run_options::Moves;
 use std::test::Fail;
 
-#[derive(Drop)]
 struct Row {
     file: &'static str,
     data: &'static [u32],
     smooth: &'static [i64],
-    pairs: &'static [(u32, u32, u32)],
+    pairs: &'static [Pair],
     start: &'static [u8],
     moves: Moves,
     cycles: u32,
 }
+
+const ONCE: Pair = Pair {
+    first: 0,
+    second: 1,
+    weight: 1,
+};
+
+const HEAVY: Pair = Pair {
+    first: 1,
+    second: 0,
+    weight: 1000,
+};
+
+const FREE: Pair = Pair {
+    first: 0,
+    second: 1,
+    weight: 0,
+};
 
 const ROWS: [Row; 5] = [
     // Each default.
@@ -32,7 +49,7 @@ const ROWS: [Row; 5] = [
                pairs = [[0,1],[1,0,1000],[0,1,0]]\nstart = [0,2]\nmoves = 'swap'\ncycles = 0\ntrunc = 7",
         data: &[0, 9, 9, 9, 9, 0],
         smooth: &[0, 1, 4, 2, 0, 1, 10_000, 3, 0],
-        pairs: &[(0, 1, 1), (1, 0, 1000), (0, 1, 0)],
+        pairs: &[ONCE, HEAVY, FREE],
         start: &[0, 2],
         moves: Moves::Swap,
         cycles: 0,
@@ -69,32 +86,20 @@ const ROWS: [Row; 5] = [
     },
 ];
 
+fn is_read(problem: &LabelProblem, row: &Row) -> bool {
+    problem.data.as_slice() == row.data
+        && problem.smooth.as_slice() == row.smooth
+        && problem.pairs.as_slice() == row.pairs
+        && problem.start.as_slice() == row.start
+        && problem.moves == row.moves
+        && problem.cycles == row.cycles
+}
+
 #[test]
 fn reads_files(rt: HostRuntime) -> Result<(), Fail> {
-    for Row {
-        file,
-        data,
-        smooth,
-        pairs,
-        start,
-        moves,
-        cycles,
-    } in ROWS {
-        let problem = read_label(rt.alloc(), file.as_bytes())?;
-        assert!(rt; problem.data.as_slice() == data, "{}", file);
-        assert!(rt; problem.smooth.as_slice() == smooth, "{}", file);
-        assert!(rt; problem.start.as_slice() == start, "{}", file);
-        assert_eq!(rt; problem.moves, moves, "{}", file);
-        assert_eq!(rt; problem.cycles, cycles, "{}", file);
-        assert_eq!(rt; problem.pairs.len(), pairs.len(), "{}", file);
-        for (place, (first, second, weight)) in pairs.iter().enumerate() {
-            let pair = Pair {
-                first: *first,
-                second: *second,
-                weight: *weight,
-            };
-            assert_eq!(rt; problem.pairs.get(place), pair, "{}", file);
-        }
+    for row in &ROWS {
+        let problem = read_label(rt.alloc(), row.file.as_bytes())?;
+        assert!(rt; is_read(&problem, row), "{}", row.file);
     }
     Ok(())
 }

@@ -1,7 +1,7 @@
 //! The first fault of a file.
 use label_file::{Field, LabelFault, read_label};
 
-const BAD: [(&str, LabelFault); 28] = [
+const BAD: [(&str, LabelFault); 38] = [
     ("sites = ", LabelFault::BadToml),
     ("labels = 2\ndata = []", LabelFault::BadField(Field::Sites)),
     ("sites = -1", LabelFault::BadField(Field::Sites)),
@@ -87,37 +87,53 @@ const BAD: [(&str, LabelFault); 28] = [
         "sites = 0\nlabels = 1\ndata = []\ncycles = 1001",
         LabelFault::BadField(Field::Cycles),
     ),
-];
-
-// Of pairs of two sites. The first one is in order, and the third is never looked at.
-const PAIRS: [(&str, LabelFault); 10] = [
-    ("7", LabelFault::BadElement(Field::Pairs, 1)),
-    ("[9]", LabelFault::BadElement(Field::Pairs, 1)),
-    ("[9, 9, 9, 9]", LabelFault::BadElement(Field::Pairs, 1)),
-    ("[9, 9, 1.0]", LabelFault::BadElement(Field::Pairs, 1)),
-    ("[0, 2]", LabelFault::NoSuchSite(1)),
-    ("[-1, -1]", LabelFault::NoSuchSite(1)),
-    ("[4294967296, 1]", LabelFault::NoSuchSite(1)),
-    ("[1, 1, 1001]", LabelFault::SamePair(1)),
-    ("[1, 0, 1001]", LabelFault::WeightRange(1)),
-    ("[1, 0, -1]", LabelFault::WeightRange(1)),
+    // Of three pairs of two sites the first is in order, and the third is never looked at.
+    (
+        "sites = 2\nlabels = 1\ndata = [0, 0]\npairs = [[0, 1], 7, 'x']\nstart = 3",
+        LabelFault::BadElement(Field::Pairs, 1),
+    ),
+    (
+        "sites = 2\nlabels = 1\ndata = [0, 0]\npairs = [[0, 1], [9], 'x']\nstart = 3",
+        LabelFault::BadElement(Field::Pairs, 1),
+    ),
+    (
+        "sites = 2\nlabels = 1\ndata = [0, 0]\npairs = [[0, 1], [9, 9, 9, 9], 'x']\nstart = 3",
+        LabelFault::BadElement(Field::Pairs, 1),
+    ),
+    (
+        "sites = 2\nlabels = 1\ndata = [0, 0]\npairs = [[0, 1], [9, 9, 1.0], 'x']\nstart = 3",
+        LabelFault::BadElement(Field::Pairs, 1),
+    ),
+    (
+        "sites = 2\nlabels = 1\ndata = [0, 0]\npairs = [[0, 1], [0, 2], 'x']\nstart = 3",
+        LabelFault::NoSuchSite(1),
+    ),
+    (
+        "sites = 2\nlabels = 1\ndata = [0, 0]\npairs = [[0, 1], [-1, -1], 'x']\nstart = 3",
+        LabelFault::NoSuchSite(1),
+    ),
+    (
+        "sites = 2\nlabels = 1\ndata = [0, 0]\npairs = [[0, 1], [4294967296, 1], 'x']\nstart = 3",
+        LabelFault::NoSuchSite(1),
+    ),
+    (
+        "sites = 2\nlabels = 1\ndata = [0, 0]\npairs = [[0, 1], [1, 1, 1001], 'x']\nstart = 3",
+        LabelFault::SamePair(1),
+    ),
+    (
+        "sites = 2\nlabels = 1\ndata = [0, 0]\npairs = [[0, 1], [1, 0, 1001], 'x']\nstart = 3",
+        LabelFault::WeightRange(1),
+    ),
+    (
+        "sites = 2\nlabels = 1\ndata = [0, 0]\npairs = [[0, 1], [1, 0, -1], 'x']\nstart = 3",
+        LabelFault::WeightRange(1),
+    ),
 ];
 
 #[test]
-fn refuses_fields(rt: HostRuntime) {
-    for (file, fault) in BAD {
-        let read = read_label(rt.alloc(), file.as_bytes());
-        assert_eq!(rt; read.err(), Some(fault), "{file}");
-    }
-}
-
-#[test]
-fn refuses_pairs(rt: HostRuntime) {
-    for (pair, fault) in PAIRS {
-        let file = format!(in rt.alloc();
-            "sites = 2\nlabels = 1\ndata = [0, 0]\npairs = [[0, 1], {pair}, 'x']\nstart = 3"
-        ).expect(&rt, "memory");
-        let read = read_label(rt.alloc(), file.as_bytes());
-        assert_eq!(rt; read.err(), Some(fault), "{pair}");
+fn refuses_files(rt: HostRuntime) {
+    for (file, fault) in &BAD {
+        let refused = read_label(rt.alloc(), file.as_bytes()).err();
+        assert!(rt; refused == Some(*fault), "{file}");
     }
 }
