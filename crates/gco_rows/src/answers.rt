@@ -1,97 +1,100 @@
 //! Energies and their answers. The values of the small ones were worked by hand.
 use crate::picture::PICTURE;
-use crate::streams::{CutWriter, expect_energy};
+use crate::streams::{CutWriter, ROOM, SlowReader, expect_energy};
 use gco_cli::run;
 use problem_file::{energy_of, read_table};
 use pseudo_bool::Term;
 use std::alloc::{AllocError, Global};
 use std::test::Fail;
 
+/// Files, and what is written for each.
+const MINIMA: [(&str, &str); 17] = [
+    // The values at 00, 01, 10 and 11 are 6, 14, 7 and 8.
+    (
+        "variables = 2\nterms = [{ on = [0], values = [5,2] }, { on = [1], values = [1,6] }, \
+         { on = [0,1], values = [0,3,4,0] }]",
+        "minimum 6\nassignment 00\n",
+    ),
+    (
+        "variables = 2\nterms = [{ on = [0,1], values = [0,0,0,-5] }]",
+        "minimum -5\nassignment 11\n",
+    ),
+    ("variables = 0\nconstant = 7", "minimum 7\nassignment\n"),
+    ("variables = 3", "minimum 0\nassignment 000\n"),
+    (
+        "variables = 3\nconstant = -1000000000\n[[terms]]\non = [1]\nvalues = [0, -1000000000]",
+        "minimum -2000000000\nassignment 010\n",
+    ),
+    // The two ends disagree, and the cheapest place to change is between x1 and x2.
+    (
+        "variables = 4\nterms = [{ on = [0], values = [9,0] }, { on = [3], values = [0,9] }, \
+         { on = [0,1], values = [0,3,3,0] }, { on = [1,2], values = [0,2,2,0] }, \
+         { on = [2,3], values = [0,4,4,0] }]",
+        "minimum 2\nassignment 1100\n",
+    ),
+    // Terms of three variables, of both kinds: the sum of the entries with an even number of ones less the
+    // others is at least 0, and below 0.
+    (
+        "variables = 3\nterms = [{ on = [0], values = [0,1] }, { on = [1], values = [0,1] }, \
+         { on = [2], values = [0,1] }, { on = [0,1,2], values = [0,0,0,0,0,0,0,-4] }]",
+        "minimum -1\nassignment 111\n",
+    ),
+    // 000 and 111 are both 0: of those that are equally low, the one with the fewest ones is printed.
+    (
+        "variables = 3\nterms = [{ on = [0], values = [0,1] }, { on = [1], values = [0,1] }, \
+         { on = [2], values = [0,1] }, { on = [0,1,2], values = [0,0,0,0,0,0,0,-3] }]",
+        "minimum 0\nassignment 000\n",
+    ),
+    (
+        "variables = 3\nterms = [{ on = [0], values = [0,1] }, { on = [1], values = [0,1] }, \
+         { on = [2], values = [0,1] }, { on = [0,1,2], values = [-1,0,0,0,0,0,0,0] }]",
+        "minimum -1\nassignment 000\n",
+    ),
+    // Every assignment whose first variable is 1 is 0.
+    (
+        "variables = 3\nterms = [{ on = [0,1,2], values = [-1,0,0,0,0,0,0,0] }, \
+         { on = [0], values = [3,0] }]",
+        "minimum 0\nassignment 100\n",
+    ),
+    (
+        "variables = 2\nterms = [{ on = [0,1], values = [0,1,1,0] }]",
+        "minimum 0\nassignment 00\n",
+    ),
+    // 10 and 11 are both 0.
+    (
+        "variables = 2\nterms = [{ on = [0], values = [3,0] }, { on = [0,1], values = [0,5,0,0] }]",
+        "minimum 0\nassignment 10\n",
+    ),
+    // 100 and 110 are both 12.
+    (
+        "variables = 3\nconstant = 10\nterms = [{ on = [0], values = [6,0] }, \
+         { on = [2], values = [0,3] }, { on = [0,1], values = [0,2,2,0] }, \
+         { on = [1,2], values = [0,2,2,0] }]",
+        "minimum 12\nassignment 100\n",
+    ),
+    // What a problem file need not have, and what is passed over in it.
+    (
+        "variables = 1\nconstant = 0\nterms = []",
+        "minimum 0\nassignment 0\n",
+    ),
+    (
+        "terms = [{ values = [0, 0], on = [0], note = \"free\" }]\nvariables = 1",
+        "minimum 0\nassignment 0\n",
+    ),
+    (
+        "\u{feff}variables = 0b1 # one\r\nname = \"small\"\r\n[picture]\r\nwidth = 1\r\n",
+        "minimum 0\nassignment 0\n",
+    ),
+    (
+        "variables = 1\n[[terms]]\non = [\n  0, # x0\n]\nvalues = [+0, -0]",
+        "minimum 0\nassignment 0\n",
+    ),
+];
+
 #[test]
 fn minima(rt: HostRuntime) {
-    for (input, written) in [
-        // The values at 00, 01, 10 and 11 are 6, 14, 7 and 8.
-        (
-            "variables = 2\nterms = [{ on = [0], values = [5,2] }, { on = [1], values = [1,6] }, \
-             { on = [0,1], values = [0,3,4,0] }]",
-            "minimum 6\nassignment 00\n",
-        ),
-        (
-            "variables = 2\nterms = [{ on = [0,1], values = [0,0,0,-5] }]",
-            "minimum -5\nassignment 11\n",
-        ),
-        ("variables = 0\nconstant = 7", "minimum 7\nassignment\n"),
-        ("variables = 3", "minimum 0\nassignment 000\n"),
-        (
-            "variables = 3\nconstant = -1000000000\n[[terms]]\non = [1]\nvalues = [0, -1000000000]",
-            "minimum -2000000000\nassignment 010\n",
-        ),
-        // The two ends disagree, and the cheapest place to change is between x1 and x2.
-        (
-            "variables = 4\nterms = [{ on = [0], values = [9,0] }, { on = [3], values = [0,9] }, \
-             { on = [0,1], values = [0,3,3,0] }, { on = [1,2], values = [0,2,2,0] }, \
-             { on = [2,3], values = [0,4,4,0] }]",
-            "minimum 2\nassignment 1100\n",
-        ),
-        // Terms of three variables, of both kinds: the sum of the entries with an even number of ones less the
-        // others is at least 0, and below 0.
-        (
-            "variables = 3\nterms = [{ on = [0], values = [0,1] }, { on = [1], values = [0,1] }, \
-             { on = [2], values = [0,1] }, { on = [0,1,2], values = [0,0,0,0,0,0,0,-4] }]",
-            "minimum -1\nassignment 111\n",
-        ),
-        // 000 and 111 are both 0: of those that are equally low, the one with the fewest ones is printed.
-        (
-            "variables = 3\nterms = [{ on = [0], values = [0,1] }, { on = [1], values = [0,1] }, \
-             { on = [2], values = [0,1] }, { on = [0,1,2], values = [0,0,0,0,0,0,0,-3] }]",
-            "minimum 0\nassignment 000\n",
-        ),
-        (
-            "variables = 3\nterms = [{ on = [0], values = [0,1] }, { on = [1], values = [0,1] }, \
-             { on = [2], values = [0,1] }, { on = [0,1,2], values = [-1,0,0,0,0,0,0,0] }]",
-            "minimum -1\nassignment 000\n",
-        ),
-        // Every assignment whose first variable is 1 is 0.
-        (
-            "variables = 3\nterms = [{ on = [0,1,2], values = [-1,0,0,0,0,0,0,0] }, \
-             { on = [0], values = [3,0] }]",
-            "minimum 0\nassignment 100\n",
-        ),
-        (
-            "variables = 2\nterms = [{ on = [0,1], values = [0,1,1,0] }]",
-            "minimum 0\nassignment 00\n",
-        ),
-        // 10 and 11 are both 0.
-        (
-            "variables = 2\nterms = [{ on = [0], values = [3,0] }, { on = [0,1], values = [0,5,0,0] }]",
-            "minimum 0\nassignment 10\n",
-        ),
-        // 100 and 110 are both 12.
-        (
-            "variables = 3\nconstant = 10\nterms = [{ on = [0], values = [6,0] }, \
-             { on = [2], values = [0,3] }, { on = [0,1], values = [0,2,2,0] }, \
-             { on = [1,2], values = [0,2,2,0] }]",
-            "minimum 12\nassignment 100\n",
-        ),
-        // What a problem file need not have, and what is passed over in it.
-        (
-            "variables = 1\nconstant = 0\nterms = []",
-            "minimum 0\nassignment 0\n",
-        ),
-        (
-            "terms = [{ values = [0, 0], on = [0], note = \"free\" }]\nvariables = 1",
-            "minimum 0\nassignment 0\n",
-        ),
-        (
-            "\u{feff}variables = 0b1 # one\r\nname = \"small\"\r\n[picture]\r\nwidth = 1\r\n",
-            "minimum 0\nassignment 0\n",
-        ),
-        (
-            "variables = 1\n[[terms]]\non = [\n  0, # x0\n]\nvalues = [+0, -0]",
-            "minimum 0\nassignment 0\n",
-        ),
-    ] {
-        expect_energy(&rt, &mut input.as_bytes(), 0, written, "");
+    for (file, written) in &MINIMA {
+        expect_energy(&rt, file.as_bytes(), 0, written, "");
     }
 }
 
@@ -111,12 +114,11 @@ terms = 7
 ";
     let table = read_table(rt.alloc(), text.as_bytes())?;
     let energy = energy_of(rt.alloc(), &table)?;
-    assert_eq!(rt; energy.constant(), -1_000_000_000);
-    assert_eq!(rt; energy.variables(), 2_097_152);
-    assert_eq!(rt; energy.term_count(), 2);
+    assert!(rt; energy.constant() == -1_000_000_000 && energy.variables() == 2_097_152);
+    assert!(rt; energy.term_count() == 2);
     let extremes = [-1_000_000_000, 1_000_000_000];
-    assert_eq!(rt; energy.term(0), Term::One(2_097_151, extremes));
-    assert_eq!(rt; energy.term(1), Term::Two(0, 1, [0, 3, 4, 0]));
+    assert!(rt; energy.term(0) == Term::One(2_097_151, extremes));
+    assert!(rt; energy.term(1) == Term::Two(0, 1, [0, 3, 4, 0]));
     Ok(())
 }
 
@@ -125,26 +127,20 @@ terms = 7
 #[test]
 fn a_picture_in_two_parts(rt: HostRuntime) {
     let file = picture_energy(rt.alloc()).expect(&rt, "memory");
-    let mut reader = file.as_bytes();
-    let mut writer = Vec::new(rt.alloc());
+    let mut reader = SlowReader::new(file.as_bytes(), ROOM, false);
+    let mut writer = CutWriter::ample();
     let mut faults = CutWriter::ample();
-    let ended = run(
-        &rt,
-        &["gco", "energy"],
-        &mut reader,
-        &mut writer,
-        &mut faults,
-    );
-    assert_eq!(rt; ended, 0);
-    assert!(rt; faults.held.is_empty());
+    let words = ["gco", "energy"];
+    let ended = run(&rt, &words, &mut reader, &mut writer, &mut faults);
+    assert!(rt; ended == 0 && faults.held.is_empty());
     let front = b"minimum 123892\nassignment ".as_slice();
-    assert!(rt; writer.as_slice().starts_with(front));
-    assert_eq!(rt; writer.len(), front.len() + 4096 + 1);
-    let ones = writer[front.len()..]
-        .iter()
-        .filter(|digit| **digit == b'1')
-        .count();
-    assert_eq!(rt; ones, 2_753);
+    let written = writer.held.as_slice();
+    assert!(rt; written.starts_with(front) && written.len() == front.len() + 4096 + 1);
+    let mut ones = 0u32;
+    for digit in &written[front.len()..] {
+        ones = ones.saturating_add(u32::from(*digit == b'1'));
+    }
+    assert!(rt; ones == 2_753);
 }
 
 // A pixel costs its difference from 60 where it is dark and from 170 where it is light, and two neighbours of unlike

@@ -1,261 +1,274 @@
 //! Inputs that are refused, and the lines of faults.
-use crate::streams::{Zeros, expect_energy};
+use crate::streams::{ROOM, SlowReader, expect, expect_energy};
 use byte_streams::{INPUT_LIMIT, ReadError, WatchedReader, WriteFailed, read_input};
 use fault_lines::{Fault, line_of};
 use problem_file::{Field, ProblemFault};
 use regular::{Fixed, NotRegular};
 
-// The energy of two variables and these terms is refused with this line.
+/// The terms of an energy of two variables, and the line that refuses it.
+const TERMS: [(&str, &str); 35] = [
+    // Each term is tested by itself: the sum of these two is regular.
+    (
+        "{ on = [0,1], values = [1,0,0,1] }, { on = [0,1], values = [0,5,5,0] }",
+        "refused 20 term 0\n",
+    ),
+    (
+        "{ on = [0], values = [1,0] }, { on = [1,0], values = [0,0,-1,0] }",
+        "refused 20 term 1\n",
+    ),
+    ("{ on = [5], values = [0,0] }", "refused 16 term 0\n"),
+    ("{ on = [-1], values = [0,0] }", "refused 16 term 0\n"),
+    (
+        "{ on = [4294967296], values = [0,0] }",
+        "refused 16 term 0\n",
+    ),
+    (
+        "{ on = [0,4294967296], values = [0,0,0,0] }",
+        "refused 16 term 0\n",
+    ),
+    (
+        "{ on = [-1,-1], values = [0,0,0,0] }",
+        "refused 16 term 0\n",
+    ),
+    ("{ on = [5,5], values = [0,0,0,0] }", "refused 16 term 0\n"),
+    (
+        "{ on = [5], values = [1000000001,0] }",
+        "refused 16 term 0\n",
+    ),
+    (
+        "{ on = [0,1,2], values = [0,0,0,0,0,0,0,0] }",
+        "refused 16 term 0\n",
+    ),
+    (
+        "{ on = [0,0,2], values = [0,0,0,0,0,0,0,0] }",
+        "refused 16 term 0\n",
+    ),
+    ("{ on = [0,0], values = [0,0,0,0] }", "refused 17 term 0\n"),
+    (
+        "{ on = [1,1], values = [0,0,0,2000000000] }",
+        "refused 17 term 0\n",
+    ),
+    (
+        "{ on = [0,1,0], values = [0,0,0,0,0,0,0,1000000001] }",
+        "refused 17 term 0\n",
+    ),
+    (
+        "{ on = [0,1,1], values = [0,0,0,0,0,0,0,0] }",
+        "refused 17 term 0\n",
+    ),
+    (
+        "{ on = [0], values = [1000000001,0] }",
+        "refused 18 term 0\n",
+    ),
+    (
+        "{ on = [0], values = [0,-4294967297] }",
+        "refused 18 term 0\n",
+    ),
+    (
+        "{ on = [1,0], values = [0,0,0,-1000000001] }",
+        "refused 18 term 0\n",
+    ),
+    (
+        "{ on = [1,0], values = [0,0,0,9223372036854775807] }",
+        "refused 18 term 0\n",
+    ),
+    ("7", "refused 29 terms 0\n"),
+    ("{ values = [1,2] }", "refused 29 terms 0\n"),
+    ("{ on = 0, values = [1,2] }", "refused 29 terms 0\n"),
+    ("{ on = [], values = [1] }", "refused 29 terms 0\n"),
+    ("{ on = [true], values = [1,2] }", "refused 29 terms 0\n"),
+    ("{ on = [0.0], values = [0,0] }", "refused 29 terms 0\n"),
+    ("{ on = [0], values = [1] }", "refused 29 terms 0\n"),
+    ("{ on = [0], values = [1,2.0] }", "refused 29 terms 0\n"),
+    ("{ on = [5], values = [0,0,0] }", "refused 29 terms 0\n"),
+    ("{ on = [9], values = [1,2,3,4] }", "refused 29 terms 0\n"),
+    (
+        "{ on = [0,1], values = [0,0,0,1e9] }",
+        "refused 29 terms 0\n",
+    ),
+    (
+        "{ on = [0,1,0], values = [0,0,0,0] }",
+        "refused 29 terms 0\n",
+    ),
+    (
+        "{ on = [0,1,2,3], values = [0,0,0,0,0,0,0,0] }",
+        "refused 29 terms 0\n",
+    ),
+    (
+        "{ on = [0,1,2], values = [0,0,0,0,0,0,0,0,0] }",
+        "refused 29 terms 0\n",
+    ),
+    // Each term is taken whole before the next, and the test of regularity comes last.
+    (
+        "{ on = [0,1], values = [1,0,0,1] }, { on = [2], values = [0,0] }, 7",
+        "refused 16 term 1\n",
+    ),
+    (
+        "{ on = [0,1], values = [1,0,0,1] }, { on = [1], values = [0,0] }, 7",
+        "refused 29 terms 2\n",
+    ),
+];
+
 #[test]
 fn terms(rt: HostRuntime) {
-    for (terms, said) in [
-        // Each term is tested by itself: the sum of these two is regular.
-        (
-            "{ on = [0,1], values = [1,0,0,1] }, { on = [0,1], values = [0,5,5,0] }",
-            "refused 20 term 0\n",
-        ),
-        (
-            "{ on = [0], values = [1,0] }, { on = [1,0], values = [0,0,-1,0] }",
-            "refused 20 term 1\n",
-        ),
-        ("{ on = [5], values = [0,0] }", "refused 16 term 0\n"),
-        ("{ on = [-1], values = [0,0] }", "refused 16 term 0\n"),
-        (
-            "{ on = [4294967296], values = [0,0] }",
-            "refused 16 term 0\n",
-        ),
-        (
-            "{ on = [0,4294967296], values = [0,0,0,0] }",
-            "refused 16 term 0\n",
-        ),
-        (
-            "{ on = [-1,-1], values = [0,0,0,0] }",
-            "refused 16 term 0\n",
-        ),
-        ("{ on = [5,5], values = [0,0,0,0] }", "refused 16 term 0\n"),
-        (
-            "{ on = [5], values = [1000000001,0] }",
-            "refused 16 term 0\n",
-        ),
-        (
-            "{ on = [0,1,2], values = [0,0,0,0,0,0,0,0] }",
-            "refused 16 term 0\n",
-        ),
-        (
-            "{ on = [0,0,2], values = [0,0,0,0,0,0,0,0] }",
-            "refused 16 term 0\n",
-        ),
-        ("{ on = [0,0], values = [0,0,0,0] }", "refused 17 term 0\n"),
-        (
-            "{ on = [1,1], values = [0,0,0,2000000000] }",
-            "refused 17 term 0\n",
-        ),
-        (
-            "{ on = [0,1,0], values = [0,0,0,0,0,0,0,1000000001] }",
-            "refused 17 term 0\n",
-        ),
-        (
-            "{ on = [0,1,1], values = [0,0,0,0,0,0,0,0] }",
-            "refused 17 term 0\n",
-        ),
-        (
-            "{ on = [0], values = [1000000001,0] }",
-            "refused 18 term 0\n",
-        ),
-        (
-            "{ on = [0], values = [0,-4294967297] }",
-            "refused 18 term 0\n",
-        ),
-        (
-            "{ on = [1,0], values = [0,0,0,-1000000001] }",
-            "refused 18 term 0\n",
-        ),
-        (
-            "{ on = [1,0], values = [0,0,0,9223372036854775807] }",
-            "refused 18 term 0\n",
-        ),
-        ("7", "refused 29 terms 0\n"),
-        ("{ values = [1,2] }", "refused 29 terms 0\n"),
-        ("{ on = 0, values = [1,2] }", "refused 29 terms 0\n"),
-        ("{ on = [], values = [1] }", "refused 29 terms 0\n"),
-        ("{ on = [true], values = [1,2] }", "refused 29 terms 0\n"),
-        ("{ on = [0.0], values = [0,0] }", "refused 29 terms 0\n"),
-        ("{ on = [0], values = [1] }", "refused 29 terms 0\n"),
-        ("{ on = [0], values = [1,2.0] }", "refused 29 terms 0\n"),
-        ("{ on = [5], values = [0,0,0] }", "refused 29 terms 0\n"),
-        ("{ on = [9], values = [1,2,3,4] }", "refused 29 terms 0\n"),
-        (
-            "{ on = [0,1], values = [0,0,0,1e9] }",
-            "refused 29 terms 0\n",
-        ),
-        (
-            "{ on = [0,1,0], values = [0,0,0,0] }",
-            "refused 29 terms 0\n",
-        ),
-        (
-            "{ on = [0,1,2,3], values = [0,0,0,0,0,0,0,0] }",
-            "refused 29 terms 0\n",
-        ),
-        (
-            "{ on = [0,1,2], values = [0,0,0,0,0,0,0,0,0] }",
-            "refused 29 terms 0\n",
-        ),
-        // Each term is taken whole before the next, and the test of regularity comes last.
-        (
-            "{ on = [0,1], values = [1,0,0,1] }, { on = [2], values = [0,0] }, 7",
-            "refused 16 term 1\n",
-        ),
-        (
-            "{ on = [0,1], values = [1,0,0,1] }, { on = [1], values = [0,0] }, 7",
-            "refused 29 terms 2\n",
-        ),
-    ] {
+    for (terms, said) in &TERMS {
         let file = format!(in rt.alloc(); "variables = 2\nterms = [{terms}]").expect(&rt, "memory");
-        expect_energy(&rt, &mut file.as_bytes(), 1, "", said);
+        expect_energy(&rt, file.as_bytes(), 1, "", said);
     }
 }
 
-// The input is refused with this line.
+/// Inputs, and the lines that refuse them.
+const INPUTS: [(&[u8], &str); 21] = [
+    (b"", "refused 29 variables\n"),
+    (b"variables = -1", "refused 29 variables\n"),
+    (b"variables = 2097153", "refused 29 variables\n"),
+    (b"variables = 4294967296", "refused 29 variables\n"),
+    (b"variables = 1.5", "refused 29 variables\n"),
+    (b"variables = \"2\"", "refused 29 variables\n"),
+    (
+        b"constant = 1000000001\nterms = 3\nvariables = true",
+        "refused 29 variables\n",
+    ),
+    (
+        b"variables = 2097152\nconstant = 1e9",
+        "refused 29 constant\n",
+    ),
+    (
+        b"variables = 1\nterms = 3\nconstant = '7'",
+        "refused 29 constant\n",
+    ),
+    (
+        b"variables = 1\nterms = 3\nconstant = 1000000001",
+        "refused 18 constant\n",
+    ),
+    (
+        b"variables = 1\nconstant = -1000000001",
+        "refused 18 constant\n",
+    ),
+    (b"variables = 1\nterms = 3", "refused 29 terms\n"),
+    (
+        b"variables = 1\n[terms]\non = [0]\nvalues = [0,0]",
+        "refused 29 terms\n",
+    ),
+    // Of a term of three the first projection that is not regular is told.
+    (
+        b"variables = 3\nterms = [{ on = [0,1,2], values = [0,0,0,-1,0,-1,0,-1] }]",
+        "refused 20 term 0 fixed 2 at 1\n",
+    ),
+    (
+        b"variables = 3\nterms = [{ on = [0,1,2], values = [1,0,0,1,0,0,0,0] }]",
+        "refused 20 term 0 fixed 0 at 0\n",
+    ),
+    (
+        b"variables = 3\nterms = [{ on = [0,1,2], values = [0,0,0,0,1,0,0,1] }]",
+        "refused 20 term 0 fixed 0 at 1\n",
+    ),
+    (b"variables = 1\nvariables = 1", "refused 28\n"),
+    (b"variables = 9223372036854775808", "refused 28\n"),
+    (b"variables = ", "refused 28\n"),
+    // The bytes are no text in UTF-8, or nested too deep.
+    (b"\xff", "refused 28\n"),
+    (b"variables = 1 # \xc3", "refused 28\n"),
+];
+
 #[test]
 fn inputs(rt: HostRuntime) {
+    for (input, said) in &INPUTS {
+        expect_energy(&rt, input, 1, "", said);
+    }
     let mut deep = vec![in rt.alloc(); b'['; 10_004].expect(&rt, "memory");
     deep[0] = b'a';
     deep[1] = b'=';
-    for (input, said) in [
-        (b"".as_slice(), "refused 29 variables\n"),
-        (b"variables = -1", "refused 29 variables\n"),
-        (b"variables = 2097153", "refused 29 variables\n"),
-        (b"variables = 4294967296", "refused 29 variables\n"),
-        (b"variables = 1.5", "refused 29 variables\n"),
-        (b"variables = \"2\"", "refused 29 variables\n"),
-        (
-            b"constant = 1000000001\nterms = 3\nvariables = true",
-            "refused 29 variables\n",
-        ),
-        (
-            b"variables = 2097152\nconstant = 1e9",
-            "refused 29 constant\n",
-        ),
-        (
-            b"variables = 1\nterms = 3\nconstant = '7'",
-            "refused 29 constant\n",
-        ),
-        (
-            b"variables = 1\nterms = 3\nconstant = 1000000001",
-            "refused 18 constant\n",
-        ),
-        (
-            b"variables = 1\nconstant = -1000000001",
-            "refused 18 constant\n",
-        ),
-        (b"variables = 1\nterms = 3", "refused 29 terms\n"),
-        (
-            b"variables = 1\n[terms]\non = [0]\nvalues = [0,0]",
-            "refused 29 terms\n",
-        ),
-        // Of a term of three the first projection that is not regular is told.
-        (
-            b"variables = 3\nterms = [{ on = [0,1,2], values = [0,0,0,-1,0,-1,0,-1] }]",
-            "refused 20 term 0 fixed 2 at 1\n",
-        ),
-        (
-            b"variables = 3\nterms = [{ on = [0,1,2], values = [1,0,0,1,0,0,0,0] }]",
-            "refused 20 term 0 fixed 0 at 0\n",
-        ),
-        (
-            b"variables = 3\nterms = [{ on = [0,1,2], values = [0,0,0,0,1,0,0,1] }]",
-            "refused 20 term 0 fixed 0 at 1\n",
-        ),
-        (b"variables = 1\nvariables = 1", "refused 28\n"),
-        (b"variables = 9223372036854775808", "refused 28\n"),
-        (b"variables = ", "refused 28\n"),
-        // The bytes are no text in UTF-8, or nested too deep.
-        (b"\xff", "refused 28\n"),
-        (b"variables = 1 # \xc3", "refused 28\n"),
-        (deep.as_slice(), "refused 28\n"),
-    ] {
-        let mut reader = input;
-        expect_energy(&rt, &mut reader, 1, "", said);
-    }
+    expect_energy(&rt, deep.as_slice(), 1, "", "refused 28\n");
 }
 
 // An input of the greatest length is read whole, and one byte more is refused before a fault behind it is met.
 #[test]
 fn inputs_end_at_the_limit(rt: HostRuntime) {
-    for (left, said) in [
+    for (more, said) in [
         (0, "refused 31\n"),
         (5000, "refused 31\n"),
         (INPUT_LIMIT + 1, "refused 32\n"),
     ] {
-        let is_broken = true;
-        expect_energy(&rt, &mut Zeros { left, is_broken }, 1, "", said);
+        let mut reader = SlowReader {
+            bytes: b"",
+            more,
+            step: INPUT_LIMIT,
+            is_broken: true,
+        };
+        expect(&rt, &["gco", "energy"], &mut reader, 1, b"", said);
     }
     let mut source = WatchedReader {
-        reader: &mut Zeros {
-            left: INPUT_LIMIT,
+        reader: &mut SlowReader {
+            bytes: b"",
+            more: INPUT_LIMIT,
+            step: INPUT_LIMIT,
             is_broken: false,
         },
         has_failed: false,
     };
     let length = read_input(rt.alloc(), &mut source).map(|input| input.len());
-    assert_eq!(rt; length, Ok(INPUT_LIMIT));
-    assert!(rt; !source.has_failed);
+    assert!(rt; length == Ok(INPUT_LIMIT) && !source.has_failed);
 }
+
+const LINES: [(Fault, &str); 16] = [
+    (Fault::OutOfMemory, "refused 0\n"),
+    (Fault::Read(ReadError::OutOfMemory), "refused 0\n"),
+    (Fault::Problem(ProblemFault::OutOfMemory), "refused 0\n"),
+    (
+        Fault::Write(WriteFailed { count: 4 }),
+        "refused 9 after 4\n",
+    ),
+    (
+        Fault::Problem(ProblemFault::NoSuchVariable(0)),
+        "refused 16 term 0\n",
+    ),
+    (
+        Fault::Problem(ProblemFault::SameVariable(7)),
+        "refused 17 term 7\n",
+    ),
+    (
+        Fault::Problem(ProblemFault::ValueRange(8_388_607)),
+        "refused 18 term 8388607\n",
+    ),
+    (
+        Fault::Problem(ProblemFault::ConstantRange),
+        "refused 18 constant\n",
+    ),
+    (Fault::Problem(ProblemFault::TooManyTerms), "refused 19\n"),
+    (
+        Fault::Regularity(NotRegular {
+            term: 0,
+            fixed: None,
+        }),
+        "refused 20 term 0\n",
+    ),
+    (
+        Fault::Regularity(NotRegular {
+            term: 10,
+            fixed: Some(Fixed {
+                position: 2,
+                value: true,
+            }),
+        }),
+        "refused 20 term 10 fixed 2 at 1\n",
+    ),
+    (Fault::Problem(ProblemFault::BadToml), "refused 28\n"),
+    (
+        Fault::Problem(ProblemFault::BadField(Field::Variables)),
+        "refused 29 variables\n",
+    ),
+    (
+        Fault::Problem(ProblemFault::BadElement(Field::Terms, 3)),
+        "refused 29 terms 3\n",
+    ),
+    (Fault::Read(ReadError::ReadFailed), "refused 31\n"),
+    (Fault::Read(ReadError::InputTooLong), "refused 32\n"),
+];
 
 #[test]
 fn lines(rt: HostRuntime) {
-    let fixed = Some(Fixed {
-        position: 2,
-        value: true,
-    });
-    for (fault, line) in [
-        (Fault::OutOfMemory, "refused 0\n"),
-        (Fault::Read(ReadError::OutOfMemory), "refused 0\n"),
-        (Fault::Problem(ProblemFault::OutOfMemory), "refused 0\n"),
-        (
-            Fault::Write(WriteFailed { count: 4 }),
-            "refused 9 after 4\n",
-        ),
-        (
-            Fault::Problem(ProblemFault::NoSuchVariable(0)),
-            "refused 16 term 0\n",
-        ),
-        (
-            Fault::Problem(ProblemFault::SameVariable(7)),
-            "refused 17 term 7\n",
-        ),
-        (
-            Fault::Problem(ProblemFault::ValueRange(8_388_607)),
-            "refused 18 term 8388607\n",
-        ),
-        (
-            Fault::Problem(ProblemFault::ConstantRange),
-            "refused 18 constant\n",
-        ),
-        (Fault::Problem(ProblemFault::TooManyTerms), "refused 19\n"),
-        (
-            Fault::Regularity(NotRegular {
-                term: 0,
-                fixed: None,
-            }),
-            "refused 20 term 0\n",
-        ),
-        (
-            Fault::Regularity(NotRegular { term: 10, fixed }),
-            "refused 20 term 10 fixed 2 at 1\n",
-        ),
-        (Fault::Problem(ProblemFault::BadToml), "refused 28\n"),
-        (
-            Fault::Problem(ProblemFault::BadField(Field::Variables)),
-            "refused 29 variables\n",
-        ),
-        (
-            Fault::Problem(ProblemFault::BadElement(Field::Terms, 3)),
-            "refused 29 terms 3\n",
-        ),
-        (Fault::Read(ReadError::ReadFailed), "refused 31\n"),
-        (Fault::Read(ReadError::InputTooLong), "refused 32\n"),
-    ] {
-        assert_eq!(rt; line_of(fault).as_str(), line);
+    for (fault, line) in &LINES {
+        assert!(rt; line_of(*fault).as_str() == *line, "{line}");
     }
 }

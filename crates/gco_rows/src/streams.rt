@@ -1,4 +1,4 @@
-//! Readers and writers in memory, and a run over them.
+//! A reader and a writer in memory, and a run over them.
 ghost use Rattle.std.specs.Prelude.{Some};
 
 use arrayvec::ArrayVec;
@@ -8,7 +8,7 @@ use std::io::{Error, ErrorKind, Read, Write};
 use std::process::Abort;
 
 /// The most bytes that a writer holds.
-pub const ROOM: usize = 4096;
+pub const ROOM: usize = 8192;
 
 /// A writer that takes `room` bytes, at most `step` a call, and then fails.
 #[derive(Drop)]
@@ -51,54 +51,70 @@ impl Write for CutWriter {
     }
 }
 
-/// A reader of at most `step` bytes a call, which at the end fails if it is to.
+/// A reader of these bytes and so many more, whatever they are, at most `step` a call, which at the end fails if it
+/// is to.
 #[derive(Drop)]
 pub struct SlowReader<'a> {
     pub bytes: &'a [u8],
+    pub more: usize,
     pub step: usize,
     pub is_broken: bool,
 }
 
-impl Read for SlowReader<'_> {
-    fn read(&mut self, buf: &mut [u8]) -> io::Result<usize> {
-        if self.bytes.is_empty() && self.is_broken {
-            return Err(Error::from(ErrorKind::Other));
+impl SlowReader<'_> {
+    /// A reader of bytes, at most so many a call.
+    pub fn new(bytes: &[u8], step: usize, is_broken: bool) -> SlowReader<'_> {
+        SlowReader {
+            bytes,
+            more: 0,
+            step,
+            is_broken,
         }
-        let most = buf.len().min(self.step);
-        self.bytes.read(&mut buf[..most])
     }
 }
 
-/// A reader of so many bytes, whatever they are, which then ends or fails.
-#[derive(Drop)]
-pub struct Zeros {
-    pub left: usize,
-    pub is_broken: bool,
-}
-
-impl Read for Zeros {
+impl Read for SlowReader<'_> {
     fn read(&mut self, buf: &mut [u8]) -> io::Result<usize> {
-        if self.left == 0 && self.is_broken {
+        let most = buf.len().min(self.step);
+        if !self.bytes.is_empty() {
+            return self.bytes.read(&mut buf[..most]);
+        }
+        if self.more == 0 && self.is_broken {
             return Err(Error::from(ErrorKind::Other));
         }
-        let count = buf.len().min(self.left);
-        self.left = self.left.saturating_sub(count);
+        let count = most.min(self.more);
+        self.more = self.more.saturating_sub(count);
         Ok(count)
     }
 }
 
-/// A run of `gco energy` over this reader ends with this status, and writes and says this.
-pub fn expect_energy<R: Read>(
+/// A run with these words ends with this status, and writes and says this.
+pub fn expect(
     rt: &(impl AllocGlobal + Abort),
-    reader: &mut R,
+    words: &[&str],
+    reader: &mut SlowReader<'_>,
     status: u8,
-    written: &str,
+    written: &[u8],
     said: &str,
 ) {
     let mut writer = CutWriter::ample();
     let mut faults = CutWriter::ample();
-    let ended = run(rt, &["gco", "energy"], reader, &mut writer, &mut faults);
-    assert_eq!(rt; ended, status);
-    assert!(rt; writer.held.as_slice() == written.as_bytes(), "{written}");
-    assert!(rt; faults.held.as_slice() == said.as_bytes(), "{said}");
+    let ended = run(rt, words, reader, &mut writer, &mut faults);
+    let is_right = ended == status
+        && writer.held.as_slice() == written
+        && faults.held.as_slice() == said.as_bytes();
+    assert!(*rt; is_right, "{words:?} {said}");
+}
+
+/// A run of `gco energy` over this file ends with this status, and writes and says this.
+pub fn expect_energy(
+    rt: &(impl AllocGlobal + Abort),
+    file: &[u8],
+    status: u8,
+    written: &str,
+    said: &str,
+) {
+    let mut reader = SlowReader::new(file, ROOM, false);
+    let written = written.as_bytes();
+    expect(rt, &["gco", "energy"], &mut reader, status, written, said);
 }

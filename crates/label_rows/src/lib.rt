@@ -1,14 +1,7 @@
-//! Tests of problems of labels: files that are read, the first fault of others, and whole runs, worked by
-//! hand or by a script that tries every labelling.
+//! Tests of problem files of labels, by hand: what is read, and the first fault of others.
 #![tactic(auto)]
 
 #[cfg(test)]
 mod files;
 #[cfg(test)]
-mod problems;
-#[cfg(test)]
-mod random;
-#[cfg(test)]
 mod refusals;
-#[cfg(test)]
-mod runs;

@@ -1,5 +1,5 @@
 //! Whole runs of `gco label`. What each writes was worked by hand.
-use gco_cli::run;
+use crate::streams::{ROOM, SlowReader, expect};
 use std::process::Abort;
 
 // Two sites at labels 0 and 2, which cost 4 beside each other. Label 1 costs 1 beside each.
@@ -144,21 +144,22 @@ const ROWS: [(&str, &str, u8, &str, &str); 21] = [
 ];
 
 /// A run over this file ends with this status, and writes and says this.
-pub fn expect(rt: &(impl AllocGlobal + Abort), file: &str, status: u8, written: &str, said: &str) {
-    let mut reader = file.as_bytes();
-    let mut writer = Vec::new(rt.alloc());
-    let mut faults = Vec::new(rt.alloc());
-    let ended = run(rt, &["gco", "label"], &mut reader, &mut writer, &mut faults);
-    let is_right = ended == status
-        && writer.as_slice() == written.as_bytes()
-        && faults.as_slice() == said.as_bytes();
-    assert!(*rt; is_right, "{file}");
+pub fn expect_labels(
+    rt: &(impl AllocGlobal + Abort),
+    file: &str,
+    status: u8,
+    written: &str,
+    said: &str,
+) {
+    let mut reader = SlowReader::new(file.as_bytes(), ROOM, false);
+    let written = written.as_bytes();
+    expect(rt, &["gco", "label"], &mut reader, status, written, said);
 }
 
 #[test]
 fn runs(rt: HostRuntime) {
     for (first, second, status, written, said) in &ROWS {
         let file = format!(in rt.alloc(); "{first}{second}").expect(&rt, "memory");
-        expect(&rt, file.as_str(), *status, written, said);
+        expect_labels(&rt, file.as_str(), *status, written, said);
     }
 }

@@ -1,6 +1,6 @@
 //! Small random problems against answers worked out over all labellings.
+use crate::labels::expect_labels;
 use crate::problems::PROBLEMS;
-use crate::runs::expect;
 
 #[test]
 fn random_problems(rt: HostRuntime) {
@@ -9,9 +9,9 @@ fn random_problems(rt: HostRuntime) {
         let lines = row.replace(rt.alloc(), ';', "\n").expect(&rt, "memory");
         let (file, said) = lines.split_once('|').expect(&rt, row);
         if said.starts_with("refused") {
-            expect(&rt, file, 1, "", said);
+            expect_labels(&rt, file, 1, "", said);
         } else {
-            expect(&rt, file, 0, said, "");
+            expect_labels(&rt, file, 0, said, "");
         }
     }
 }
