@@ -1,3 +1,4 @@
+use Rattle.std.proofs.lemmas.Grind.{common_steps}
 use Rattle.std.proofs.Common.{◌≡◌, ◌∙◌, ap, sym, length, slice_index, arith}
 use Rattle.std.proofs.lemmas.List.{map_more}
 use Rattle.block_net.specs.Split.{direction_in, direction_of, lane_made}
@@ -18,3 +19,6 @@ loop-index-preserved c =
       len = omega arith;
       room = c.push_reserved.ensures.capacity ∙ c.loop-index.invariant.room;
     }
+
+pub returns : goal.returns
+returns c = grind (arith, common_steps)

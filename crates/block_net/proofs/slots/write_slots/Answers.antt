@@ -1,3 +1,4 @@
+use Rattle.std.proofs.lemmas.Grind.{common_steps}
 use Rattle.std.proofs.Common.{◌≡◌, ◌-◌, length, slice_index, set, arith, ap, sym, ◌∙◌, subst, get_or-set_other}
 use Rattle.std.proofs.lemmas.List.{length-set}
 use Rattle.parcel.specs.Directions.{IsDirection}
@@ -61,3 +62,6 @@ loop-place-preserved c =
       others = λ i none.
           get_or-set_other c.loop-place.slots c.index.result.now i value 0 (λ h. none p read.low read.high (sym read.here ∙ sym h)) ∙ c.loop-place.invariant.others i none;
     }
+
+pub loop-place-init : goal.loop-place-init
+loop-place-init c = grind (arith, common_steps)

@@ -24,3 +24,9 @@ invariant_of-self c =
     let k : IsBlock now = subst IsBlock c.self.view_is c.self.invariant in
     let kept = accept_keeps now c.args.j c.args.amount c.args.label k c.requires.place c.requires.fits c.requires.label in
     subst IsBlock (sym (first_of (search (rules, common_steps), grind (arith, common_steps)))) kept
+
+pub overflow_add-index_mut : goal.overflow_add-index_mut
+overflow_add-index_mut c = grind (arith, common_steps)
+
+pub returns : goal.returns
+returns c = grind (arith, common_steps)

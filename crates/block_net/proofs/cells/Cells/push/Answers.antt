@@ -10,3 +10,18 @@ invariant_of-self c =
     let k : IsBlock now = subst IsBlock c.self.view_is c.self.invariant in
     let kept = push_keeps now c.args.v c.args.j c.args.amount k c.requires.node c.requires.place c.requires.excess c.requires.residual in
     subst IsBlock (sym (first_of (search (rules, common_steps), grind (arith, common_steps)))) kept
+
+pub overflow_add-index_mut : goal.overflow_add-index_mut
+overflow_add-index_mut c = grind (arith, common_steps)
+
+pub overflow_add-index_mut-2 : goal.overflow_add-index_mut-2
+overflow_add-index_mut-2 c = grind (arith, common_steps)
+
+pub overflow_sub-index_mut : goal.overflow_sub-index_mut
+overflow_sub-index_mut c = grind (arith, common_steps)
+
+pub overflow_sub-index_mut-2 : goal.overflow_sub-index_mut-2
+overflow_sub-index_mut-2 c = grind (arith, common_steps)
+
+pub returns : goal.returns
+returns c = grind (arith, common_steps)
