@@ -11,3 +11,12 @@ returns-else-not-index-clause-waits c =
     let on : c.index.result.now ≡ true = grind (arith, common_steps) in
     let read = get_or_read c.self.inside.waits.items c.args.v c.index.result.now l c.index.ensures false in
     subst (λ (w : Waiting). Contains w.order c.args.v) c.self.view_is (marked_in _ c.self.inside.waits.items _ c.args.v c.self.invariant l (sym read ∙ on))
+
+pub push_back_reserved-requires : goal.push_back_reserved-requires
+push_back_reserved-requires c = grind (arith, common_steps)
+
+pub returns-then-not-index-clause-kept : goal.returns-then-not-index-clause-kept
+returns-then-not-index-clause-kept c = grind (arith, common_steps)
+
+pub returns-then-not-index-clause-waits : goal.returns-then-not-index-clause-waits
+returns-then-not-index-clause-waits c = grind (arith, common_steps)
