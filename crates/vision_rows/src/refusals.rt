@@ -1,4 +1,5 @@
 //! Inputs that are refused: nothing is written then.
+use crate::streams::CutWriter;
 use crate::tasks::{RESTORE, SEGMENT, STEREO, Task, run};
 use byte_streams::Watched;
 use pgm_image::PgmError;
@@ -6,86 +7,93 @@ use vision::VisionError;
 
 const PART: Task = Task::Segment(SEGMENT);
 
+/// A command, its input, and why it is refused.
+const ROWS: [(Task, &[u8], VisionError); 13] = [
+    (
+        Task::Restore(RESTORE),
+        b"",
+        VisionError::Image(PgmError::NotPgm),
+    ),
+    (
+        Task::Restore(RESTORE),
+        b"P5\n1 1\n256\n\x01\x00",
+        VisionError::TooManyLevels,
+    ),
+    (
+        Task::Restore(RESTORE),
+        b"P5\n1 1\n256\n\x01",
+        VisionError::Image(PgmError::Truncated),
+    ),
+    // The first image is read to its end before the second is looked at.
+    (
+        PART,
+        b"P5\n3 1\n2\n\x01\x00",
+        VisionError::Image(PgmError::Truncated),
+    ),
+    (
+        PART,
+        b"P5\n3 1\n255\n\x0a\x0c\xc8",
+        VisionError::Image(PgmError::NotPgm),
+    ),
+    (
+        PART,
+        b"P5\n3 1\n255\n\x0a\x0c\xc8 \n\t",
+        VisionError::Image(PgmError::NotPgm),
+    ),
+    (
+        PART,
+        b"P5 3 1 255\n\x0a\x0c\xc8P5 3 1 2x",
+        VisionError::Image(PgmError::BadHeader(22)),
+    ),
+    (
+        PART,
+        b"P5 3 1 255\n\x0a\x0c\xc8\n P2 3 1 2 1 0#",
+        VisionError::Image(PgmError::BadSample(28)),
+    ),
+    // No comment is skipped between the images.
+    (
+        PART,
+        b"P5 3 1 255\n\x0a\x0c\xc8# seeds\nP5 3 1 2\n\x01\x00\x02",
+        VisionError::Image(PgmError::NotPgm),
+    ),
+    (
+        PART,
+        b"P5\n3 1\n255\n\x0a\x0c\xc8P5\n2 1\n3\n\x01\x03",
+        VisionError::SizesDiffer,
+    ),
+    // As many samples, by other sides.
+    (
+        PART,
+        b"P5\n2 1\n255\n\x0a\x0cP5\n1 2\n2\n\x01\x02",
+        VisionError::SizesDiffer,
+    ),
+    (
+        PART,
+        b"P5\n3 1\n255\n\x0a\x0c\xc8P5\n3 1\n3\n\x01\x03\x02",
+        VisionError::BadSeed(1),
+    ),
+    (
+        Task::Stereo(STEREO),
+        b"P5\n1 2\n9\n\x01\x02P5\n2 1\n9\n\x01\x02",
+        VisionError::SizesDiffer,
+    ),
+];
+
 #[test]
 fn refused(rt: HostRuntime) {
-    for (task, input, wanted) in [
-        (
-            Task::Restore(RESTORE),
-            b"".as_slice(),
-            VisionError::Image(PgmError::NotPgm),
-        ),
-        (
-            Task::Restore(RESTORE),
-            b"P5\n1 1\n256\n\x01\x00",
-            VisionError::TooManyLevels,
-        ),
-        (
-            Task::Restore(RESTORE),
-            b"P5\n1 1\n256\n\x01",
-            VisionError::Image(PgmError::Truncated),
-        ),
-        // The first image is read to its end before the second is looked at.
-        (
-            PART,
-            b"P5\n3 1\n2\n\x01\x00",
-            VisionError::Image(PgmError::Truncated),
-        ),
-        (
-            PART,
-            b"P5\n3 1\n255\n\x0a\x0c\xc8",
-            VisionError::Image(PgmError::NotPgm),
-        ),
-        (
-            PART,
-            b"P5\n3 1\n255\n\x0a\x0c\xc8 \n\t",
-            VisionError::Image(PgmError::NotPgm),
-        ),
-        (
-            PART,
-            b"P5 3 1 255\n\x0a\x0c\xc8P5 3 1 2x",
-            VisionError::Image(PgmError::BadHeader(22)),
-        ),
-        (
-            PART,
-            b"P5 3 1 255\n\x0a\x0c\xc8\n P2 3 1 2 1 0#",
-            VisionError::Image(PgmError::BadSample(28)),
-        ),
-        // No comment is skipped between the images.
-        (
-            PART,
-            b"P5 3 1 255\n\x0a\x0c\xc8# seeds\nP5 3 1 2\n\x01\x00\x02",
-            VisionError::Image(PgmError::NotPgm),
-        ),
-        (
-            PART,
-            b"P5\n3 1\n255\n\x0a\x0c\xc8P5\n2 1\n3\n\x01\x03",
-            VisionError::SizesDiffer,
-        ),
-        // As many samples, by other sides.
-        (
-            PART,
-            b"P5\n2 1\n255\n\x0a\x0cP5\n1 2\n2\n\x01\x02",
-            VisionError::SizesDiffer,
-        ),
-        (
-            PART,
-            b"P5\n3 1\n255\n\x0a\x0c\xc8P5\n3 1\n3\n\x01\x03\x02",
-            VisionError::BadSeed(1),
-        ),
-        (
-            Task::Stereo(STEREO),
-            b"P5\n1 2\n9\n\x01\x02P5\n2 1\n9\n\x01\x02",
-            VisionError::SizesDiffer,
-        ),
-    ] {
-        let mut held: Vec<u8> = Vec::new(rt.alloc());
+    for (task, input, wanted) in &ROWS {
+        let mut writer = CutWriter {
+            held: Vec::new(rt.alloc()),
+            room: 9999,
+            step: 9999,
+            faults: true,
+        };
         let mut sink = Watched {
-            writer: &mut held,
+            writer: &mut writer,
             has_failed: false,
         };
-        let refused = run(&rt, rt.alloc(), &task, input, &mut sink);
-        assert!(rt; refused == Err(wanted));
-        assert!(rt; !sink.has_failed);
-        assert!(rt; held.is_empty());
+        let refused = run(&rt, rt.alloc(), task, input, &mut sink).err();
+        assert!(rt; refused == Some(*wanted) && !sink.has_failed);
+        assert!(rt; writer.held.is_empty());
     }
 }

@@ -1,5 +1,6 @@
 //! A command and its options.
-use byte_streams::{Sink, Watched};
+use crate::streams::CutWriter;
+use byte_streams::Watched;
 use image_options::{Neighbours, RestoreOptions, SegmentOptions, StereoOptions};
 use moves::Alone;
 use run_options::{Moves, Shape};
@@ -46,12 +47,12 @@ pub enum Task {
 }
 
 /// The command over this input, whose options are to be in their ranges.
-pub fn run<S: Sink>(
+pub fn run(
     rt: &impl Abort,
     alloc: Global,
     task: &Task,
     input: &[u8],
-    sink: &mut S,
+    sink: &mut Watched<'_, CutWriter>,
 ) -> Result<Report, VisionError> {
     match task {
         Task::Restore(options) => {
@@ -76,23 +77,24 @@ pub fn expect(
     task: &Task,
     input: &[u8],
     written: &[u8],
-    parts: (i32, i32),
+    parts: (i64, i64),
 ) {
-    let mut held: Vec<u8> = Vec::new(alloc);
+    let mut writer = CutWriter {
+        held: Vec::new(alloc),
+        room: 9999,
+        step: 9999,
+        faults: true,
+    };
     let mut sink = Watched {
-        writer: &mut held,
+        writer: &mut writer,
         has_failed: false,
     };
     let report = run(rt, alloc, task, input, &mut sink);
     assert!(*rt; !sink.has_failed);
-    let Ok(report) = report else {
-        panic!(*rt; "refused");
-    };
     let wanted = Report {
-        energy: i64::from(parts.0) + i64::from(parts.1),
-        data_part: i64::from(parts.0),
-        smooth_part: i64::from(parts.1),
+        energy: parts.0.saturating_add(parts.1),
+        data_part: parts.0,
+        smooth_part: parts.1,
     };
-    assert!(*rt; report == wanted);
-    assert!(*rt; held.as_slice() == written);
+    assert!(*rt; report == Ok(wanted) && writer.held.as_slice() == written);
 }
