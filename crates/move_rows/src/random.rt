@@ -196,16 +196,16 @@ fn is_after<F: Fn(u32, u32) -> i64, V: Fn(u32, u32) -> i64>(
         && problem.energy(labelling) == data_energy.saturating_add(smooth_energy)
 }
 
-/// Makes the move or the run of a row, and compares what it says, the labels and the energies with the row.
+/// Makes the move or the run of a row; whether what it says, the labels and the energies are those of the row.
 /// Where a growth is refused, the labels are those before or, in a run, stand in its chain, and the move is made
 /// once more.
-pub fn expect_row<H: How>(
+pub fn is_right<H: How>(
     rt: &impl Abort,
     alloc: Global,
     row: &[u8; BYTES],
     chain: &[[u8; 4]],
     how: &H,
-)
+) -> bool
     requires { H.ready how.now }
 {
     let (sites, labels) = (digit(row, 0), digit(row, 1));
@@ -234,15 +234,14 @@ pub fn expect_row<H: How>(
         ),
     };
     let first = answer_of(&problem, alloc, &mut labelling, row, how);
-    if first == Err(MoveError::OutOfMemory) {
-        let stands = are_labels(labelling.as_slice(), row, 49)
-            || chain.iter().any(|it| labelling.as_slice() == it.as_slice());
-        let again = answer_of(&problem, alloc, &mut labelling, row, how);
-        assert!(*rt; stands && (again == wanted(row) || matches!(again, Ok((true, _)))));
-    } else {
-        assert!(*rt; first == wanted(row));
+    if first != Err(MoveError::OutOfMemory) {
+        return first == wanted(row) && is_after(&problem, &labelling, row);
     }
-    assert!(*rt; is_after(&problem, &labelling, row));
+    let stands = are_labels(labelling.as_slice(), row, 49)
+        || chain.iter().any(|it| labelling.as_slice() == it.as_slice());
+    let again = answer_of(&problem, alloc, &mut labelling, row, how);
+    let is_told = again == wanted(row) || matches!(again, Ok((true, _)));
+    stands && is_told && is_after(&problem, &labelling, row)
 }
 
 /// Each row of a table, of which there are so many: with sites decided first, and without.
@@ -251,8 +250,9 @@ fn expect_rows(rt: &impl Abort, alloc: Global, table: &[u8], count: usize) {
     for place in 0..count {
         let mut row = [0; BYTES];
         row.copy_from_slice(&table[BYTES * place..BYTES * place + BYTES]);
-        expect_row(rt, alloc, &row, &[], &Alone);
-        expect_row(rt, alloc, &row, &[], &CutAlone);
+        let is_known = is_right(rt, alloc, &row, &[], &Alone);
+        let is_cut = is_right(rt, alloc, &row, &[], &CutAlone);
+        assert!(*rt; is_known && is_cut, "row {place}");
     }
 }
 

@@ -1,7 +1,7 @@
 //! Moves worked by hand.
 ghost use Rattle.std.specs.Prelude.{◌≤◌, ◌<◌, ◌+◌, ◌*◌, ◌≤ℤ◌, pos};
 
-use crate::random::{BYTES, expect_row};
+use crate::random::{BYTES, is_right};
 use cost_store::{DataCost, SmoothCost};
 use moves::Alone;
 use std::test::Fail;
@@ -71,7 +71,10 @@ const CHAIN: [[u8; 4]; 7] = [
 
 #[test]
 fn moves_worked_by_hand(rt: HostRuntime) {
-    for row in ROWS {
-        expect_row(&rt, rt.alloc(), row, &CHAIN, &Alone);
+    for (place, row) in ROWS.iter().enumerate() {
+        assert!(rt;
+            is_right(&rt, rt.alloc(), row, &CHAIN, &Alone),
+            "row {place}"
+        );
     }
 }
