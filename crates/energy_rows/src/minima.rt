@@ -48,7 +48,7 @@ fn shown(rt: &impl Abort, net: &Net, constant: i64) -> [i64; 4] {
     let mut values = [constant; 4];
     for (place, value) in values.iter_mut().enumerate() {
         let side = [place / 2 == 1, place % 2 == 1];
-        assert_eq!(rt; net.nodes(), side.len());
+        assert!(rt; net.nodes() == side.len());
         let capacity = i64::try_from(cut_capacity(net, &side)).expect(rt, "small");
         *value = value.wrapping_add(capacity);
     }
@@ -58,16 +58,15 @@ fn shown(rt: &impl Abort, net: &Net, constant: i64) -> [i64; 4] {
 #[test]
 fn cuts_show_values_and_minima(rt: HostRuntime) -> Result<(), Fail> {
     let mut energy = Energy::new(rt.alloc());
-    for (first, second, both, values, least, at) in CASES {
+    for (first, second, both, values, least, at) in &CASES {
         energy.clear(2);
-        energy.add_term1(0, first)?;
-        energy.add_term1(1, second)?;
-        energy.add_term2(0, 1, both)?;
+        energy.add_term1(0, *first)?;
+        energy.add_term1(1, *second)?;
+        energy.add_term2(0, 1, *both)?;
         let compiled = compile(rt.alloc(), check(&energy).expect(&rt, "regular"))?;
-        assert_eq!(rt; shown(&rt, &compiled.net, compiled.constant), values);
+        assert!(rt; shown(&rt, &compiled.net, compiled.constant) == *values);
         let minimum = minimise(rt.alloc(), check(&energy).expect(&rt, "regular"))?;
-        assert_eq!(rt; minimum.value, least);
-        assert_eq!(rt; minimum.assignment.as_slice(), at.as_slice());
+        assert!(rt; minimum.value == *least && minimum.assignment.as_slice() == at.as_slice());
     }
     Ok(())
 }
