@@ -8,7 +8,7 @@ use crate::image::{MAXVAL_LIMIT, SAMPLE_LIMIT, SIDE_LIMIT};
 use crate::words::{Reading, number_at};
 
 /// How the samples are spelled.
-#[derive(Clone, Copy, Debug, PartialEq, Eq, Drop)]
+#[derive(Clone, Copy, Drop)]
 pub enum Form {
     /// `P5`: bytes.
     Raw,
@@ -17,7 +17,7 @@ pub enum Form {
 }
 
 /// The numbers of a header. A number above the cap is told as the cap.
-#[derive(Clone, Copy, Debug, PartialEq, Eq, Drop)]
+#[derive(Clone, Copy, Drop)]
 pub struct Header {
     pub width: u32,
     pub height: u32,

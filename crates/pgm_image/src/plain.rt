@@ -7,7 +7,7 @@ use crate::words::{Place, Reading, number_at};
 use std::alloc::Global;
 
 /// Why no plain sample stands at a front.
-#[derive(Clone, Copy, Debug, PartialEq, Eq, Drop)]
+#[derive(Clone, Copy, Drop)]
 pub enum Fault {
     /// The input ends before the first digit.
     Ended,

@@ -7,7 +7,7 @@ ghost use Rattle.pgm_image.specs.declared.words.Place.TheVariants.{Start};
 use crate::signs::{is_digit, is_line_end, is_space, with_digit};
 
 /// Where a byte stands.
-#[derive(Clone, Copy, Debug, PartialEq, Eq, Drop)]
+#[derive(Clone, Copy, Drop)]
 pub enum Place {
     /// Before the gap, which begins with white space.
     Start,
@@ -20,7 +20,7 @@ pub enum Place {
 }
 
 /// What one byte leads to.
-#[derive(Clone, Copy, Debug, PartialEq, Eq, Drop)]
+#[derive(Clone, Copy, Drop)]
 pub enum Step {
     On(Place),
     Ended(u32),
@@ -28,7 +28,7 @@ pub enum Step {
 }
 
 /// How the reading of a number ended.
-#[derive(Clone, Copy, Debug, PartialEq, Eq, Drop)]
+#[derive(Clone, Copy, Drop)]
 pub enum Reading {
     /// The number. White space follows.
     Whole(u32),
