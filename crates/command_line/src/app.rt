@@ -1,5 +1,6 @@
 //! The commands, as `clap` knows them.
 ghost use Rattle.std.specs.Prelude.{IfOk};
+ghost use Rattle.clap.specs.Words.{App, with_subcommand};
 ghost use Rattle.command_line.specs.App.{Makes, energy_app, gco_app, label_app, restore_app, segment_app, stereo_app};
 
 use crate::help;
@@ -11,18 +12,45 @@ use std::alloc::{AllocError, Global};
 pub fn gco_command<'a>(alloc: Global) -> Result<Command<'a>, AllocError>
     ensures { IfOk result (Makes gco_app) }
 {
-    let restore = restore_command(alloc)?;
-    let stereo = stereo_command(alloc)?;
-    let segment = segment_command(alloc)?;
-    Command::new(alloc, "gco")
+    let command = Command::new(alloc, "gco")
         .about(help::GCO)
         .after_help(help::GCO_AFTER)
-        .subcommand_required(true)
-        .subcommand(restore)?
-        .subcommand(stereo)?
-        .subcommand(segment)?
-        .subcommand(energy_command(alloc))?
-        .subcommand(label_command(alloc))
+        .subcommand_required(true);
+    let command = with_pictures(alloc, command)?;
+    with_tables(alloc, command)
+}
+
+// The commands on pictures.
+fn with_pictures<'a>(alloc: Global, command: Command<'a>) -> Result<Command<'a>, AllocError>
+    ensures { (a : App) → Makes a command.entry → IfOk result (Makes (with_subcommand (with_subcommand
+        (with_subcommand a restore_app.top) stereo_app.top) segment_app.top)) }
+{
+    let command = with_command(command, restore_command(alloc))?;
+    let command = with_command(command, stereo_command(alloc))?;
+    with_command(command, segment_command(alloc))
+}
+
+// The commands on tables.
+fn with_tables<'a>(alloc: Global, command: Command<'a>) -> Result<Command<'a>, AllocError>
+    ensures { (a : App) → Makes a command.entry → IfOk result (Makes (with_subcommand
+        (with_subcommand a energy_app.top) label_app.top)) }
+{
+    let command = command.subcommand(energy_command(alloc))?;
+    command.subcommand(label_command(alloc))
+}
+
+// A command with one more, where memory was had for that.
+fn with_command<'a>(
+    command: Command<'a>,
+    part: Result<Command<'a>, AllocError>,
+) -> Result<Command<'a>, AllocError>
+    ensures { (a b : App) → Makes a command.entry → IfOk part.entry (Makes b)
+        → IfOk result (Makes (with_subcommand a b.top)) }
+{
+    match part {
+        Ok(part) => command.subcommand(part),
+        Err(error) => Err(error),
+    }
 }
 
 #[tactic(auto, unfolding(crate::specs::App::restore_app))]
