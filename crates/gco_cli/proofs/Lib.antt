@@ -1,2 +1,3 @@
 mod RefusalLemmas
 mod PictureLemmas
+mod LabelFaults

@@ -5,7 +5,7 @@ ghost use Rattle.gco_cli.specs.declared.refusal.Refusal.TheVariants.{Fault as Fa
 use fault_lines::Fault;
 
 /// Why a run ends with another status than 0.
-#[derive(Debug, Drop)]
+#[derive(Drop)]
 pub enum Refusal {
     /// Status 1: the run was refused.
     Fault(Fault),
