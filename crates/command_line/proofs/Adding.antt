@@ -1,12 +1,12 @@
 -- A command with one option more.
-use Rattle.std.proofs.Common.{◌≡◌, Bool, false, ◌||◌, List, [], ◌∷◌, ◌++◌, refl, ap, ap₂, sym, ◌∙◌}
+use Rattle.std.proofs.Common.{◌≡◌, Bool, false, ◌||◌, List, [], ◌∷◌, ◌++◌, refl, ap, ap₂, sym, ◌∙◌, true, rules}
 use Rattle.std.proofs.Math.Bool.{or-false}
 use Rattle.std.proofs.lemmas.Bool.{or_from}
 use Rattle.clap.specs.Words.{AddsArg, AddsSubcommand, App, Rule, app_of, rule_of, with_rule, with_subcommand}
 use Rattle.clap.specs.declared.builder.arg.Arg.{Arg}
 use Rattle.clap.specs.declared.builder.command.Command.{Command}
 use Rattle.clap.specs.declared.builder.command.Command.TheViews.{out-Command}
-use Rattle.command_line.specs.App.{Makes}
+use Rattle.command_line.specs.App.{Makes, requiring_subcommand}
 use Rattle.command_line.specs.Rules.{Adds, with_rules}
 
 pub adds_one : (old new : Command) (a : Arg) (r : Rule) → rule_of a ≡ r → a.global ≡ false → AddsArg old a new → Adds old (r ∷ []) new
@@ -29,3 +29,8 @@ one_command old sub new a s is sub_is adds = (
   adds.shape sub_is.1 ∙ ap₂ with_subcommand is.0 (ap (λ (b : App). b.top) sub_is.0),
   adds.globals ∙ or_from (out-Command old).has_globals (out-Command sub).has_globals is.1 sub_is.1,
 )
+
+-- a command that has to have a subcommand
+pub requires_one : (old new : Command) (a : App) → Makes a old → out-Command new ≡ record (out-Command old) { subcommand_required = true }
+    → Makes (requiring_subcommand a) new
+requires_one old new a made is = search rules
