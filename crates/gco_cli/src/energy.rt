@@ -32,8 +32,10 @@ pub fn answer_energy<R: Source>(alloc: Global, source: &mut R) -> Result<Answer,
 
 // The energy that the input names.
 fn read_problem<R: Source>(alloc: Global, source: &mut R) -> Result<Energy, Fault>
-    ensures named { IfOk result (λ energy. IfSome (R.remaining source.old) (λ input. HoldsEnergy input energy)) }
-    ensures stands { IfErr result (λ fault. IfSome (R.remaining source.old) (λ input. HasEnergyFault input fault)) }
+    ensures named { IfOk result (λ energy.
+        IfSome (R.remaining source.old) (λ input. HoldsEnergy input energy)) }
+    ensures stands { IfErr result (λ fault.
+        IfSome (R.remaining source.old) (λ input. HasEnergyFault input fault)) }
     ensures unwritten { IfErr result (λ fault. is_write fault ≡ false) }
     ensures asked { IfErr result (λ fault. is_bad_option fault ≡ false) }
     ensures read { TellsRead (R.has_failed source.old) (R.has_failed source.new) result }

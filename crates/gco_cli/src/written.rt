@@ -17,7 +17,8 @@ pub struct Answer {
 
 /// Writes a text, and hands on what is to be said beside it.
 pub fn write_text<W: Sink>(sink: &mut W, text: &[u8], said: Line) -> Result<Line, Fault>
-    ensures done { IfOk result (λ line. (line ≡ said) × Takes (stream (W.held sink.old) (W.has_failed sink.old))
+    ensures done { IfOk result (λ line. (line ≡ said) ×
+        Takes (stream (W.held sink.old) (W.has_failed sink.old))
         (stream (W.held sink.new) (W.has_failed sink.new)) text.now) }
     ensures cut { IfErr result (IsCutIn text.now (stream (W.held sink.old) (W.has_failed sink.old))
         (stream (W.held sink.new) (W.has_failed sink.new))) }

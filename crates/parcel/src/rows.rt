@@ -12,7 +12,8 @@ ghost use Rattle.parcel.specs.Rows.{counts, after, AllEnabled, net_a, net_b, row
 /// left at node 1, which is cut off.
 pub fn counts_of_row_a()
     ensures counts { counts (opened net_a 2) row_a ≡
-        1072 ∷ 1021 ∷ 1020 ∷ 939 ∷ 938 ∷ 887 ∷ 875 ∷ 812 ∷ 811 ∷ 675 ∷ 674 ∷ 548 ∷ 547 ∷ 411 ∷ 410 ∷ 284 ∷ [] }
+        1072 ∷ 1021 ∷ 1020 ∷ 939 ∷ 938 ∷ 887 ∷ 875 ∷ 812 ∷
+        811 ∷ 675 ∷ 674 ∷ 548 ∷ 547 ∷ 411 ∷ 410 ∷ 284 ∷ [] }
     ensures got { (after (opened net_a 2) row_a).got ≡ 3 }
     ensures excess { (after (opened net_a 2) row_a).excess ≡ 0 ∷ 1 ∷ [] }
     ensures labels { (after (opened net_a 2) row_a).labels ≡ 3 ∷ 4 ∷ [] }

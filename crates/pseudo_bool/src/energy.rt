@@ -25,9 +25,17 @@ impl Model for Energy {
 
     ghost Value = { Formula };
 
-    ghost view = { λ e. record { constant = e.constant; variables = e.variables; terms = terms_of e.triples.items e.rows.items } };
+    ghost view = { λ e. record {
+      constant = e.constant;
+      variables = e.variables;
+      terms = terms_of e.triples.items e.rows.items;
+    } };
 
-    ghost invariant = { λ e. IsEnergy (record { constant = e.constant; variables = e.variables; terms = terms_of e.triples.items e.rows.items }) ×
+    ghost invariant = { λ e. IsEnergy (record {
+      constant = e.constant;
+      variables = e.variables;
+      terms = terms_of e.triples.items e.rows.items;
+    }) ×
         AreKept e.triples.items e.rows.items };
 }
 

@@ -54,7 +54,8 @@ fn run_over<H: How>(
 ) -> Result<Run, MoveError>
     requires ready { H.ready how.now }
     requires sites { length start.at ≡ pairs.sites }
-    requires data { (length data.now ≡ pairs.sites * start.labels) × All (λ cost. cost ≤ data_limit) data.now }
+    requires data { (length data.now ≡ pairs.sites * start.labels)
+        × All (λ cost. cost ≤ data_limit) data.now }
     requires smooth { (length smooth.now ≡ start.labels * start.labels)
         × All (IsCost smooth_limit) smooth.now }
     ensures { Answers (instance_of pairs start.labels (data_entry start.labels data.now) smooth.now)
