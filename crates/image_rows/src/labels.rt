@@ -1,4 +1,5 @@
 //! Labellings, and pairs that are added, refused and given other weights.
+use crate::rows::expect;
 use label_field::{LabelFieldError, Labelling, Pair, Pairs};
 use std::process::Abort;
 use std::test::Fail;
@@ -17,7 +18,7 @@ fn word(answer: Result<(), LabelFieldError>) -> &'static str {
 }
 
 /// Sites and labels, and whether a labelling may have so many.
-const SIZES: [(u32, u32, bool); 6] = [
+const SIZES: &[(u32, u32, bool)] = &[
     (0, 1, true),
     (1_048_576, 256, true),
     (1_048_577, 1, false),
@@ -27,7 +28,7 @@ const SIZES: [(u32, u32, bool); 6] = [
 ];
 
 /// A site, a label, and what `set_label` says of them, of 3 sites and 256 labels; and the labels then.
-const LABELS: [(u32, u32, &str, [u8; 3]); 7] = [
+const LABELS: &[(u32, u32, &str, [u8; 3])] = &[
     (1, 255, "done", [0, 255, 0]),
     (3, 256, "no such site", [0, 255, 0]),
     (3, 0, "no such site", [0, 255, 0]),
@@ -38,7 +39,7 @@ const LABELS: [(u32, u32, &str, [u8; 3]); 7] = [
 ];
 
 /// Two sites, a weight, and what `add` says of them, of 3 sites.
-const PAIRS: [(u32, u32, i64, &str); 12] = [
+const PAIRS: &[(u32, u32, i64, &str)] = &[
     (0, 5, 1, "no such site"),
     (5, 0, 1, "no such site"),
     (5, 5, 1, "no such site"),
@@ -54,7 +55,23 @@ const PAIRS: [(u32, u32, i64, &str); 12] = [
 ];
 
 /// The pairs that were added, the last with its other weight.
-const KEPT: [(u32, u32, u32); 3] = [(1, 0, 1000), (0, 2, 0), (1, 0, 7)];
+const KEPT: &[Pair] = &[
+    Pair {
+        first: 1,
+        second: 0,
+        weight: 1000,
+    },
+    Pair {
+        first: 0,
+        second: 2,
+        weight: 0,
+    },
+    Pair {
+        first: 1,
+        second: 0,
+        weight: 7,
+    },
+];
 
 /// Adds a pair. Where a growth is refused, nothing is changed, and the pair is added once more.
 fn add(rt: &impl Abort, pairs: &mut Pairs, first: u32, second: u32, weight: i64) -> &'static str {
@@ -63,55 +80,56 @@ fn add(rt: &impl Abort, pairs: &mut Pairs, first: u32, second: u32, weight: i64)
     if said != "out of memory" {
         return said;
     }
-    assert_eq!(*rt; pairs.len(), before);
+    assert!(*rt; pairs.len() == before);
     word(pairs.add(first, second, weight))
 }
 
-#[test]
-fn labels_and_pairs_are_kept(rt: HostRuntime) -> Result<(), Fail> {
-    for (sites, labels, wanted) in SIZES {
-        assert_eq!(rt; Labelling::fits(sites, labels), wanted, "{sites} {labels}");
+/// Each size is told.
+fn expect_sizes(rt: &impl Abort) {
+    for (place, (sites, labels, wanted)) in SIZES.iter().enumerate() {
+        let is_told = Labelling::fits(*sites, *labels) == *wanted;
+        expect(rt, "SIZES", place, is_told);
     }
-    let mut labelling = Labelling::new(rt.alloc(), 3, 256)?;
-    assert_eq!(rt; (labelling.sites(), labelling.labels()), (3, 256));
-    assert_eq!(rt; labelling.as_slice(), [0u8, 0, 0].as_slice());
-    for (site, label, wanted, labels) in LABELS {
-        assert_eq!(rt;
-            word(labelling.set_label(site, label)),
-            wanted,
-            "{site} {label}"
-        );
-        assert_eq!(rt; labelling.as_slice(), labels.as_slice());
-    }
-    assert_eq!(rt; labelling.label(2)?, 7);
-    assert!(rt; matches!(labelling.label(3), Err(LabelFieldError::NoSuchSite)));
+}
 
+/// Each label is set or refused.
+fn expect_labels(rt: &impl Abort, labelling: &mut Labelling) {
+    for (place, (site, label, wanted, labels)) in LABELS.iter().enumerate() {
+        let is_told = word(labelling.set_label(*site, *label)) == *wanted;
+        let is_left = labelling.as_slice() == labels.as_slice();
+        expect(rt, "LABELS", place, is_told && is_left);
+    }
+}
+
+#[test]
+fn labels_are_kept(rt: HostRuntime) -> Result<(), Fail> {
+    expect_sizes(&rt);
+    let mut labelling = Labelling::new(rt.alloc(), 3, 256)?;
+    assert!(rt; labelling.sites() == 3 && labelling.labels() == 256);
+    assert!(rt; labelling.as_slice() == [0u8, 0, 0].as_slice());
+    expect_labels(&rt, &mut labelling);
+    assert!(rt; matches!(labelling.label(2), Ok(7)));
+    assert!(rt; matches!(labelling.label(3), Err(LabelFieldError::NoSuchSite)));
+    Ok(())
+}
+
+/// Each pair is added or refused.
+fn expect_pairs(rt: &impl Abort, pairs: &mut Pairs) {
+    for (place, (first, second, weight, wanted)) in PAIRS.iter().enumerate() {
+        let is_told = add(rt, pairs, *first, *second, *weight) == *wanted;
+        expect(rt, "PAIRS", place, is_told);
+    }
+}
+
+#[test]
+fn pairs_are_kept(rt: HostRuntime) {
     assert!(rt; Pairs::fits(0) && Pairs::fits(1_048_576) && !Pairs::fits(1_048_577));
     let mut pairs = Pairs::new(rt.alloc(), 3);
     assert!(rt; pairs.is_empty());
-    for (first, second, weight, wanted) in PAIRS {
-        assert_eq!(rt;
-            add(&rt, &mut pairs, first, second, weight),
-            wanted,
-            "{first} {second}"
-        );
-    }
-    assert_eq!(rt;
-        (pairs.sites(), pairs.len(), pairs.is_empty()),
-        (3, 3, false)
-    );
+    expect_pairs(&rt, &mut pairs);
+    assert!(rt; pairs.sites() == 3 && !pairs.is_empty());
+    assert!(rt; pairs.len() == 3);
     pairs.set_weight(2, 7);
-    for (pair, wanted) in pairs.as_slice().iter().zip(&KEPT) {
-        assert_eq!(rt; (pair.first, pair.second, pair.weight), *wanted);
-    }
-    assert_eq!(rt; pairs.len(), 3);
-    assert_eq!(rt;
-        pairs.get(1),
-        Pair {
-            first: 0,
-            second: 2,
-            weight: 0
-        }
-    );
-    Ok(())
+    assert!(rt; pairs.as_slice() == KEPT);
+    assert!(rt; pairs.get(1) == KEPT[1]);
 }

@@ -8,6 +8,8 @@ mod neighbours;
 #[cfg(test)]
 mod reading;
 #[cfg(test)]
+mod rows;
+#[cfg(test)]
 mod streams;
 #[cfg(test)]
 mod writing;

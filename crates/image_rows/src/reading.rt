@@ -1,7 +1,7 @@
 //! Images that are read, and what is refused.
+use crate::rows::expect;
 use pgm_image::{PgmError, read_image};
-use std::process::Abort;
-use std::test::Fail;
+use std::alloc::Global;
 
 /// Bytes, and the image at their front: width and height, maxval, samples, how many bytes it takes.
 type Read = (&'static [u8], (u32, u32), u32, &'static [u16], usize);
@@ -25,16 +25,24 @@ const IMAGES: &[Read] = &[
     (b"P5\n3 1\n2\n\x00\x02\x01", (3, 1), 2, &[0, 2, 1], 12),
 ];
 
+/// Whether the image of a row is read.
+fn is_read(alloc: Global, row: &Read) -> bool {
+    let (bytes, size, maxval, samples, length) = row;
+    let Ok((image, used)) = read_image(alloc, bytes) else {
+        return false;
+    };
+    image.width() == size.0
+        && image.height() == size.1
+        && image.maxval() == *maxval
+        && image.samples() == *samples
+        && used == *length
+}
+
 #[test]
-fn images_are_read(rt: HostRuntime) -> Result<(), Fail> {
-    for (bytes, size, maxval, samples, length) in IMAGES {
-        let (image, used) = read_image(rt.alloc(), bytes)?;
-        assert_eq!(rt; (image.width(), image.height()), *size, "of {length}");
-        assert_eq!(rt; image.maxval(), *maxval, "of {length}");
-        assert_eq!(rt; image.samples(), *samples, "of {length}");
-        assert_eq!(rt; used, *length);
+fn images_are_read(rt: HostRuntime) {
+    for (place, row) in IMAGES.iter().enumerate() {
+        expect(&rt, "IMAGES", place, is_read(rt.alloc(), row));
     }
-    Ok(())
 }
 
 const FAULTS: &[(&[u8], PgmError)] = &[
@@ -80,7 +88,8 @@ const FAULTS: &[(&[u8], PgmError)] = &[
 
 #[test]
 fn faults_are_told(rt: HostRuntime) {
-    for (bytes, wanted) in FAULTS {
-        assert_eq!(rt; read_image(rt.alloc(), bytes).err(), Some(*wanted));
+    for (place, (bytes, wanted)) in FAULTS.iter().enumerate() {
+        let is_told = read_image(rt.alloc(), bytes).err() == Some(*wanted);
+        expect(&rt, "FAULTS", place, is_told);
     }
 }

@@ -1,4 +1,5 @@
 //! Images that are written, and writers that stop.
+use crate::rows::expect;
 use crate::streams::CutWriter;
 use byte_streams::Watched;
 use pgm_image::{Image, WriteError, put_image, write_image};
@@ -7,7 +8,7 @@ use std::process::Abort;
 use std::test::Fail;
 
 /// Width, height, maxval, and whether they and three samples 3, 0 and 2 make an image.
-const SIZES: [(u32, u32, u32, bool); 7] = [
+const SIZES: &[(u32, u32, u32, bool)] = &[
     (3, 1, 3, true),
     (1, 3, 65535, true),
     (3, 1, 2, false),
@@ -17,39 +18,46 @@ const SIZES: [(u32, u32, u32, bool); 7] = [
     (4_294_967_295, 4_294_967_295, 3, false),
 ];
 
-/// The bytes that a writer takes in a call, and whether it ends by a fault.
-const WRITERS: [(usize, bool); 5] = [
-    (1, false),
-    (1, true),
-    (9999, false),
-    (9999, true),
-    (0, false),
+/// How a writer stops, the bytes that it takes in a call, and whether it ends by a fault.
+const WRITERS: &[(&str, usize, bool)] = &[
+    ("a byte a call, then none", 1, false),
+    ("a byte a call, then a fault", 1, true),
+    ("all bytes, then none", 9999, false),
+    ("all bytes, then a fault", 9999, true),
+    ("none", 0, false),
 ];
+
+/// Whether a writer that takes at most `step` bytes a call and `room` in all gets just these of the image's
+/// written form, and the write tells that.
+fn is_stopped(
+    alloc: Global,
+    image: &Image,
+    whole: &[u8],
+    room: usize,
+    step: usize,
+    faults: bool,
+) -> bool {
+    let mut writer = CutWriter {
+        held: Vec::new(alloc),
+        room,
+        step,
+        faults,
+    };
+    let said = write_image(image, &mut writer);
+    let count = if step == 0 { 0 } else { room.min(whole.len()) };
+    let wanted = if count < whole.len() {
+        Err(WriteError::WriteFailed(count))
+    } else {
+        Ok(())
+    };
+    said == wanted && writer.held.as_slice() == &whole[..count]
+}
 
 /// Writes the image to writers that stop at this byte of its written form.
 fn stops_at(rt: &impl Abort, alloc: Global, image: &Image, whole: &[u8], room: usize) {
-    for (step, faults) in WRITERS {
-        let mut writer = CutWriter {
-            held: Vec::new(alloc),
-            room,
-            step,
-            faults,
-        };
-        let count = if step == 0 { 0 } else { room.min(whole.len()) };
-        let wanted = if count < whole.len() {
-            Err(WriteError::WriteFailed(count))
-        } else {
-            Ok(())
-        };
-        assert_eq!(*rt;
-            write_image(image, &mut writer),
-            wanted,
-            "at {room} by {step}"
-        );
-        assert!(*rt;
-            writer.held.as_slice() == &whole[..count],
-            "at {room} by {step}"
-        );
+    for (name, step, faults) in WRITERS {
+        let is_told = is_stopped(alloc, image, whole, room, *step, *faults);
+        expect(rt, name, room, is_told);
     }
 }
 
@@ -66,7 +74,7 @@ struct Even {
 
 /// A small one, stopped everywhere; and one of more bytes than are made at once, stopped in its header and round
 /// the end of its first piece.
-const IMAGES: [Even; 2] = [
+const IMAGES: &[Even] = &[
     Even {
         size: (1, 1),
         maxval: 256,
@@ -97,34 +105,40 @@ fn whole_of(alloc: Global, even: &Even) -> Result<Vec<u8>, AllocError> {
     Ok(whole)
 }
 
+/// Whether all bytes come to a writer that takes them.
+fn is_put(alloc: Global, image: &Image, whole: &[u8]) -> bool {
+    let mut held: Vec<u8> = Vec::new(alloc);
+    let mut sink = Watched {
+        writer: &mut held,
+        has_failed: false,
+    };
+    let is_done = put_image(image, &mut sink) == Ok(());
+    is_done && !sink.has_failed && held.as_slice() == whole
+}
+
+/// Writes an image to each writer, and takes its samples out again.
+fn expect_even(rt: &impl Abort, alloc: Global, even: &Even) -> Result<(), AllocError> {
+    let samples = vec![in alloc; even.sample; even.count]?;
+    assert!(*rt; Image::fits(even.size.0, even.size.1, even.maxval, &samples));
+    let image = Image::new(even.size.0, even.size.1, even.maxval, samples);
+    let whole = whole_of(alloc, even)?;
+    for room in even.rooms {
+        stops_at(rt, alloc, &image, &whole, *room);
+    }
+    assert!(*rt; is_put(alloc, &image, &whole));
+    let samples = vec![in alloc; even.sample; even.count]?;
+    assert!(*rt; image.into_samples().as_slice() == samples.as_slice());
+    Ok(())
+}
+
 #[test]
 fn images_are_written(rt: HostRuntime) -> Result<(), Fail> {
-    for (width, height, maxval, wanted) in SIZES {
-        assert_eq!(rt;
-            Image::fits(width, height, maxval, &[3, 0, 2]),
-            wanted,
-            "{width} {height}"
-        );
+    for (place, (width, height, maxval, wanted)) in SIZES.iter().enumerate() {
+        let is_told = Image::fits(*width, *height, *maxval, &[3, 0, 2]) == *wanted;
+        expect(&rt, "SIZES", place, is_told);
     }
-    for even in &IMAGES {
-        let samples = vec![in rt.alloc(); even.sample; even.count]?;
-        assert!(rt; Image::fits(even.size.0, even.size.1, even.maxval, &samples));
-        let image = Image::new(even.size.0, even.size.1, even.maxval, samples);
-        let whole = whole_of(rt.alloc(), even)?;
-        for room in even.rooms {
-            stops_at(&rt, rt.alloc(), &image, &whole, *room);
-        }
-        let mut held: Vec<u8> = Vec::new(rt.alloc());
-        let mut sink = Watched {
-            writer: &mut held,
-            has_failed: false,
-        };
-        assert_eq!(rt; put_image(&image, &mut sink), Ok(()));
-        assert!(rt; !sink.has_failed);
-        assert!(rt; held.as_slice() == whole.as_slice());
-        let samples = image.into_samples();
-        assert_eq!(rt; samples.len(), even.count);
-        assert!(rt; samples.iter().all(|sample| *sample == even.sample));
+    for even in IMAGES {
+        expect_even(&rt, rt.alloc(), even)?;
     }
     Ok(())
 }
