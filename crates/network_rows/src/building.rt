@@ -2,7 +2,6 @@
 use flow_network::{Arc, Net};
 use std::alloc::{AllocError, Global};
 use std::process::Abort;
-use std::test::Fail;
 
 /// The node that an arc leaves, the node that it enters, and its capacity.
 pub type Row = (u32, u32, u64);
@@ -26,7 +25,7 @@ pub fn net_of(
     sources: &[u64],
     sinks: &[u64],
     rows: &[Row],
-) -> Result<Net, Fail> {
+) -> Result<Net, AllocError> {
     let alloc = rt.alloc();
     let arcs = arcs_of(alloc, rows)?;
     assert!(rt; Net::fits(sources, sinks, arcs.as_slice()));

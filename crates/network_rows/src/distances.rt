@@ -1,6 +1,9 @@
 //! Distances to the sink, and the nodes that reach it.
 use crate::building::{Row, net_of};
+use crate::rows::expect;
 use sink_distances::{arcs_by_node, distances, sink_side};
+use std::alloc::AllocError;
+use std::process::Abort;
 use std::test::Fail;
 
 /// What each node can give the sink and gives it, the arcs and what each carries, and each node's distance.
@@ -96,24 +99,32 @@ const CASES: &[Case] = &[
     },
 ];
 
+/// Whether just the nodes whose label is at most their number are on the side.
+fn is_near(side: &[bool], labels: &[u32]) -> bool {
+    for (inside, label) in side.iter().zip(labels) {
+        if *inside != (*label as usize <= side.len()) {
+            return false;
+        }
+    }
+    side.len() == labels.len()
+}
+
+/// Whether the distances and the side of a case are found.
+fn is_found(rt: &(impl Abort + AllocGlobal), case: &Case) -> Result<bool, AllocError> {
+    let nodes = case.sinks.len();
+    assert!(rt; nodes <= NO_SOURCES.len());
+    let net = net_of(rt, &NO_SOURCES[..nodes], case.sinks, case.arcs)?;
+    assert!(rt; case.arc_flow.len() == net.arcs().len());
+    assert!(rt; case.sink_flow.len() == net.nodes());
+    let labels = distances(rt.alloc(), &net, case.arc_flow, case.sink_flow)?;
+    let side = sink_side(rt.alloc(), &net, labels.as_slice())?;
+    Ok(labels.as_slice() == case.labels && is_near(side.as_slice(), case.labels))
+}
+
 #[test]
 fn finds_distances_and_sides(rt: HostRuntime) -> Result<(), Fail> {
-    let alloc = rt.alloc();
-    for case in CASES {
-        let nodes = case.sinks.len();
-        assert!(rt; nodes <= NO_SOURCES.len());
-        let net = net_of(&rt, &NO_SOURCES[..nodes], case.sinks, case.arcs)?;
-        assert_eq!(rt; case.arc_flow.len(), net.arcs().len());
-        assert_eq!(rt; case.sink_flow.len(), net.nodes());
-        let labels = distances(alloc, &net, case.arc_flow, case.sink_flow)?;
-        assert_eq!(rt; labels.as_slice(), case.labels);
-        let side = sink_side(alloc, &net, labels.as_slice())?;
-        let near: Vec<bool> = case
-            .labels
-            .iter()
-            .map(|label| *label as usize <= nodes)
-            .collect(alloc)?;
-        assert_eq!(rt; side.as_slice(), near.as_slice(), "{:?}", case.labels);
+    for (place, case) in CASES.iter().enumerate() {
+        expect(&rt, "CASES", place, is_found(&rt, case)?);
     }
     Ok(())
 }
@@ -127,9 +138,9 @@ fn finds_arcs_of_each_node(rt: HostRuntime) -> Result<(), Fail> {
         &[(2, 0, 1), (0, 2, 1), (2, 2, 1)],
     )?;
     let adjacency = arcs_by_node(rt.alloc(), &net)?;
-    assert_eq!(rt; adjacency.out.starts.as_slice(), [0, 1, 1, 3].as_slice());
-    assert_eq!(rt; adjacency.out.places.as_slice(), [1, 0, 2].as_slice());
-    assert_eq!(rt; adjacency.into.starts.as_slice(), [0, 1, 1, 3].as_slice());
-    assert_eq!(rt; adjacency.into.places.as_slice(), [0, 1, 2].as_slice());
+    assert!(rt; adjacency.out.starts.as_slice() == [0, 1, 1, 3].as_slice());
+    assert!(rt; adjacency.out.places.as_slice() == [1, 0, 2].as_slice());
+    assert!(rt; adjacency.into.starts.as_slice() == [0, 1, 1, 3].as_slice());
+    assert!(rt; adjacency.into.places.as_slice() == [0, 1, 2].as_slice());
     Ok(())
 }

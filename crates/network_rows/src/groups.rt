@@ -1,5 +1,8 @@
 //! Places grouped by the number that stands there.
+use crate::rows::expect;
 use grouping::group;
+use std::alloc::{AllocError, Global};
+use std::process::Abort;
 use std::test::Fail;
 
 /// How many numbers, a list, and of its groups the starts and the places.
@@ -17,14 +20,19 @@ const CASES: &[Case] = &[
     (3, &[1, 2, 0], &[0, 1, 2, 3], &[2, 0, 1]),
 ];
 
+/// Whether the groups of a list are those of its row.
+fn is_grouped(rt: &impl Abort, alloc: Global, case: &Case) -> Result<bool, AllocError> {
+    let (numbers, list, starts, places) = case;
+    assert!(*rt; *numbers <= 5);
+    assert!(*rt; list.iter().all(|number| (*number as usize) < *numbers));
+    let groups = group(alloc, *numbers, list)?;
+    Ok(groups.starts.as_slice() == *starts && groups.places.as_slice() == *places)
+}
+
 #[test]
 fn groups_places(rt: HostRuntime) -> Result<(), Fail> {
-    for (numbers, list, starts, places) in CASES {
-        assert!(rt; *numbers <= 5);
-        assert!(rt; list.iter().all(|number| (*number as usize) < *numbers));
-        let groups = group(rt.alloc(), *numbers, list)?;
-        assert_eq!(rt; groups.starts.as_slice(), *starts, "{list:?}");
-        assert_eq!(rt; groups.places.as_slice(), *places, "{list:?}");
+    for (place, case) in CASES.iter().enumerate() {
+        expect(&rt, "CASES", place, is_grouped(&rt, rt.alloc(), case)?);
     }
     Ok(())
 }

@@ -13,6 +13,8 @@ mod groups;
 #[cfg(test)]
 mod nets;
 #[cfg(test)]
+mod rows;
+#[cfg(test)]
 mod small_nets;
 #[cfg(test)]
 mod solutions;

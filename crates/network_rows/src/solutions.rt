@@ -1,8 +1,10 @@
 //! Least cuts, by hand and from a script that tries every cut.
 use crate::building::{Row, net_of};
+use crate::rows::expect;
 use crate::small_nets::{COUNT, NUMBERS};
 use flow_network::{Net, check_cut};
 use plain_cut::solve;
+use std::alloc::{AllocError, Global};
 use std::process::Abort;
 use std::slice::Iter;
 use std::test::Fail;
@@ -52,33 +54,31 @@ const CASES: &[Case] = &[
     ),
 ];
 
+/// The number whose bit v is set where the side has node v.
 fn bits_of(side: &[bool]) -> u32 {
-    side.iter().rev().fold(
-        0u32,
-        |bits, inside| bits.wrapping_mul(2) | u32::from(*inside),
-    )
+    let mut bits = 0u32;
+    for inside in side.iter().rev() {
+        bits = bits.wrapping_mul(2) | u32::from(*inside);
+    }
+    bits
 }
 
-/// Solves the net, and compares the value and the smallest least cut.
-fn expect_cut(
-    rt: &(impl AllocGlobal + Abort),
-    net: &Net,
-    value: u64,
-    side: u32,
-) -> Result<(), Fail> {
-    let alloc = rt.alloc();
+/// Whether the net is solved by this value and the smallest least cut.
+fn is_solved(alloc: Global, net: &Net, value: u64, side: u32) -> Result<bool, AllocError> {
     let solved = solve(alloc, net)?;
-    assert!(rt; check_cut(alloc, net, &solved)?);
-    assert_eq!(rt; solved.value, value);
-    assert_eq!(rt; bits_of(solved.sink_side.as_slice()), side);
-    Ok(())
+    Ok(
+        check_cut(alloc, net, &solved)?
+            && solved.value == value
+            && bits_of(solved.sink_side.as_slice()) == side,
+    )
 }
 
 #[test]
 fn solves_nets_worked_by_hand(rt: HostRuntime) -> Result<(), Fail> {
-    for (sources, sinks, rows, value, side) in CASES {
+    for (place, (sources, sinks, rows, value, side)) in CASES.iter().enumerate() {
         let net = net_of(&rt, sources, sinks, rows)?;
-        expect_cut(&rt, &net, *value, *side)?;
+        let is_right = is_solved(rt.alloc(), &net, *value, *side)?;
+        expect(&rt, "CASES", place, is_right);
     }
     Ok(())
 }
@@ -87,36 +87,57 @@ fn next_number(numbers: &mut Iter<'_, u32>) -> u32 {
     numbers.next().copied().unwrap_or(0)
 }
 
-/// The next net of the table.
-fn next_net(rt: &(impl AllocGlobal + Abort), numbers: &mut Iter<'_, u32>) -> Result<Net, Fail> {
-    let alloc = rt.alloc();
-    let nodes = next_number(numbers);
-    let count = next_number(numbers);
+/// What the source can send and the nodes can send the sink, of so many nodes of the table.
+fn next_ends(
+    alloc: Global,
+    numbers: &mut Iter<'_, u32>,
+    nodes: u32,
+) -> Result<(Vec<u64>, Vec<u64>), AllocError> {
     let mut sources = Vec::new(alloc);
     let mut sinks = Vec::new(alloc);
-    let mut rows = Vec::new(alloc);
     for _ in 0..nodes {
         sources.push(u64::from(next_number(numbers)))?;
         sinks.push(u64::from(next_number(numbers)))?;
     }
+    Ok((sources, sinks))
+}
+
+/// So many arcs of the table.
+fn next_rows(
+    alloc: Global,
+    numbers: &mut Iter<'_, u32>,
+    count: u32,
+) -> Result<Vec<Row>, AllocError> {
+    let mut rows = Vec::new(alloc);
     for _ in 0..count {
-        rows.push((
-            next_number(numbers),
-            next_number(numbers),
-            u64::from(next_number(numbers)),
-        ))?;
+        let from = next_number(numbers);
+        let to = next_number(numbers);
+        rows.push((from, to, u64::from(next_number(numbers))))?;
     }
+    Ok(rows)
+}
+
+/// The next net of the table.
+fn next_net(
+    rt: &(impl AllocGlobal + Abort),
+    numbers: &mut Iter<'_, u32>,
+) -> Result<Net, AllocError> {
+    let nodes = next_number(numbers);
+    let count = next_number(numbers);
+    let (sources, sinks) = next_ends(rt.alloc(), numbers, nodes)?;
+    let rows = next_rows(rt.alloc(), numbers, count)?;
     net_of(rt, sources.as_slice(), sinks.as_slice(), rows.as_slice())
 }
 
 #[test]
 fn solves_nets_with_cuts_from_brute_force(rt: HostRuntime) -> Result<(), Fail> {
     let mut numbers = NUMBERS.iter();
-    for _ in 0..COUNT {
+    for place in 0..COUNT {
         let net = next_net(&rt, &mut numbers)?;
-        let value = next_number(&mut numbers);
+        let value = u64::from(next_number(&mut numbers));
         let side = next_number(&mut numbers);
-        expect_cut(&rt, &net, u64::from(value), side)?;
+        let is_right = is_solved(rt.alloc(), &net, value, side)?;
+        expect(&rt, "NUMBERS", place, is_right);
     }
     assert!(rt; numbers.next().is_none());
     Ok(())
