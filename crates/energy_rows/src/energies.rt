@@ -1,6 +1,7 @@
 //! Energies as they are put in. The values were worked by hand.
+use crate::rows::expect;
 use pseudo_bool::{Energy, EnergyError, Term, VARIABLE_LIMIT};
-use std::test::Fail;
+use std::process::Abort;
 
 /// Adds a term.
 pub fn add_term(energy: &mut Energy, term: Term) -> Result<(), EnergyError> {
@@ -16,7 +17,7 @@ const LEAST: i64 = -1_000_000_000;
 const GREATEST: i64 = 1_000_000_000;
 
 /// Terms over three variables.
-const TERMS: [Term; 6] = [
+const TERMS: &[Term] = &[
     Term::One(0, [5, 2]),
     Term::Two(0, 1, [0, 3, 4, 0]),
     Term::Three(2, 0, 1, [10, 20, 30, 40, 50, 60, 70, 80]),
@@ -26,7 +27,7 @@ const TERMS: [Term; 6] = [
 ];
 
 /// The values of the terms and the constant -9 at 000, 001, and so on.
-const VALUES: [i64; 8] = [
+const VALUES: &[i64] = &[
     -999_999_994,
     146,
     -999_999_974,
@@ -37,51 +38,71 @@ const VALUES: [i64; 8] = [
     2_000_000_066,
 ];
 
-#[test]
-fn energies_hold_what_was_put_in(rt: HostRuntime) -> Result<(), Fail> {
-    let mut energy = Energy::new(rt.alloc());
-    for number in 0..5 {
-        assert!(rt; energy.add_variable()? == number);
-    }
-    energy.add_constant(GREATEST)?;
-    for term in &TERMS {
-        add_term(&mut energy, *term)?;
-    }
-    energy.add_term3(4, 3, 1, [1; 8])?;
-    // Cleared, it keeps nothing old.
-    energy.clear(3);
-    assert!(rt; energy.constant() == 0 && energy.variables() == 3 && energy.term_count() == 0);
-    assert!(rt; energy.value(&[true, true, true]) == 0);
-    energy.add_constant(-9)?;
-    for term in &TERMS {
-        add_term(&mut energy, *term)?;
-    }
-    assert!(rt; energy.constant() == -9 && energy.variables() == 3 && energy.term_count() == 6);
-    for (place, term) in TERMS.iter().enumerate() {
-        assert!(rt; place < energy.term_count());
-        assert!(rt; energy.term(place) == *term);
-    }
-    for (place, value) in VALUES.iter().enumerate() {
-        let bits = [place & 4 != 0, place & 2 != 0, place & 1 != 0];
-        assert!(rt; energy.variables() == 3);
-        assert!(rt; energy.value(&bits) == *value, "at {place}");
+/// Adds all terms.
+fn add_terms(energy: &mut Energy) -> Result<(), EnergyError> {
+    for term in TERMS {
+        add_term(energy, *term)?;
     }
     Ok(())
 }
 
+/// Adds five variables, a constant and terms.
+fn fill(rt: &impl Abort, energy: &mut Energy) -> Result<(), EnergyError> {
+    for number in 0..5 {
+        assert!(*rt; energy.add_variable()? == number);
+    }
+    energy.add_constant(GREATEST)?;
+    add_terms(energy)?;
+    energy.add_term3(4, 3, 1, [1; 8])
+}
+
+/// Whether an energy has this constant, three variables, and so many terms.
+fn holds(energy: &Energy, constant: i64, terms: usize) -> bool {
+    energy.constant() == constant && energy.variables() == 3 && energy.term_count() == terms
+}
+
+/// The terms stand in their order.
+fn expect_terms(rt: &impl Abort, energy: &Energy) {
+    for (place, term) in TERMS.iter().enumerate() {
+        let is_held = place < energy.term_count() && energy.term(place) == *term;
+        expect(rt, "TERMS", place, is_held);
+    }
+}
+
+/// The values at all bits.
+fn expect_values(rt: &impl Abort, energy: &Energy) {
+    for (place, value) in VALUES.iter().enumerate() {
+        let bits = [place & 4 != 0, place & 2 != 0, place & 1 != 0];
+        let is_value = energy.variables() == 3 && energy.value(&bits) == *value;
+        expect(rt, "VALUES", place, is_value);
+    }
+}
+
 #[test]
-fn numbers_and_variables_have_limits(rt: HostRuntime) -> Result<(), Fail> {
+fn energies_hold_what_was_put_in(rt: HostRuntime) {
+    let mut energy = Energy::new(rt.alloc());
+    assert!(rt; fill(&rt, &mut energy) == Ok(()));
+    // Cleared, it keeps nothing old.
+    energy.clear(3);
+    assert!(rt; holds(&energy, 0, 0));
+    assert!(rt; energy.variables() == 3 && energy.value(&[true, true, true]) == 0);
+    assert!(rt; energy.add_constant(-9) == Ok(()) && add_terms(&mut energy) == Ok(()));
+    assert!(rt; holds(&energy, -9, 6));
+    expect_terms(&rt, &energy);
+    expect_values(&rt, &energy);
+}
+
+#[test]
+fn numbers_and_variables_have_limits(rt: HostRuntime) {
     assert!(rt; Energy::fits(2_097_152) && !Energy::fits(2_097_153));
     let mut energy = Energy::new(rt.alloc());
     energy.clear(2_097_151);
-    assert!(rt; energy.add_variable()? == 2_097_151);
+    assert!(rt; energy.add_variable() == Ok(2_097_151));
     assert!(rt; energy.add_variable() == Err(EnergyError::NoSuchVariable));
     assert!(rt; energy.variables() == VARIABLE_LIMIT);
-    for beyond in [GREATEST + 1, LEAST - 1] {
-        assert!(rt; energy.add_constant(beyond) == Err(EnergyError::ValueRange));
-    }
-    energy.add_constant(GREATEST)?;
-    energy.add_constant(GREATEST)?;
+    assert!(rt; energy.add_constant(GREATEST + 1) == Err(EnergyError::ValueRange));
+    assert!(rt; energy.add_constant(LEAST - 1) == Err(EnergyError::ValueRange));
+    assert!(rt; energy.add_constant(GREATEST) == Ok(()));
+    assert!(rt; energy.add_constant(GREATEST) == Ok(()));
     assert!(rt; energy.constant() == 2_000_000_000);
-    Ok(())
 }

@@ -8,6 +8,8 @@ mod minima;
 #[cfg(test)]
 mod refusals;
 #[cfg(test)]
+mod rows;
+#[cfg(test)]
 mod small_answers;
 #[cfg(test)]
 mod small_tables;

@@ -1,14 +1,18 @@
 //! Cuts that show values, and minima of small energies. The values were worked by hand.
+use crate::rows::expect;
 use compile_cut::{Net, compile};
 use flow_network::cut_capacity;
 use minimum::minimise;
-use pseudo_bool::Energy;
+use pseudo_bool::{Energy, EnergyError};
 use regular::check;
+use std::alloc::{AllocError, Global};
 use std::process::Abort;
 use std::test::Fail;
 
 /// Tables over x0, over x1 and over both, the values at 00, 01, 10 and 11, the least and where it stands.
-const CASES: [([i64; 2], [i64; 2], [i64; 4], [i64; 4], i64, [bool; 2]); 4] = [
+type Case = ([i64; 2], [i64; 2], [i64; 4], [i64; 4], i64, [bool; 2]);
+
+const CASES: &[Case] = &[
     (
         [5, 2],
         [1, 6],
@@ -55,18 +59,37 @@ fn shown(rt: &impl Abort, net: &Net, constant: i64) -> [i64; 4] {
     values
 }
 
+/// The energy of the tables of a case.
+fn put(energy: &mut Energy, case: &Case) -> Result<(), EnergyError> {
+    energy.clear(2);
+    energy.add_term1(0, case.0)?;
+    energy.add_term1(1, case.1)?;
+    energy.add_term2(0, 1, case.2)
+}
+
+/// Whether the cuts show the values of a case, and the minimum is its least.
+fn is_right(
+    rt: &impl Abort,
+    alloc: Global,
+    energy: &Energy,
+    case: &Case,
+) -> Result<bool, AllocError> {
+    let compiled = compile(alloc, check(energy).expect(rt, "regular"))?;
+    let minimum = minimise(alloc, check(energy).expect(rt, "regular"))?;
+    Ok(
+        shown(rt, &compiled.net, compiled.constant) == case.3
+            && minimum.value == case.4
+            && minimum.assignment.as_slice() == case.5.as_slice(),
+    )
+}
+
 #[test]
 fn cuts_show_values_and_minima(rt: HostRuntime) -> Result<(), Fail> {
     let mut energy = Energy::new(rt.alloc());
-    for (first, second, both, values, least, at) in &CASES {
-        energy.clear(2);
-        energy.add_term1(0, *first)?;
-        energy.add_term1(1, *second)?;
-        energy.add_term2(0, 1, *both)?;
-        let compiled = compile(rt.alloc(), check(&energy).expect(&rt, "regular"))?;
-        assert!(rt; shown(&rt, &compiled.net, compiled.constant) == *values);
-        let minimum = minimise(rt.alloc(), check(&energy).expect(&rt, "regular"))?;
-        assert!(rt; minimum.value == *least && minimum.assignment.as_slice() == at.as_slice());
+    for (place, case) in CASES.iter().enumerate() {
+        put(&mut energy, case)?;
+        let is_right = is_right(&rt, rt.alloc(), &energy, case)?;
+        expect(&rt, "CASES", place, is_right);
     }
     Ok(())
 }

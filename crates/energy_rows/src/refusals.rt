@@ -1,8 +1,8 @@
 //! Terms that are refused, and the first term that is not regular.
 use crate::energies::add_term;
+use crate::rows::expect;
 use pseudo_bool::{Energy, EnergyError, Term};
 use regular::{Fixed, NotRegular, check, is_regular_table};
-use std::test::Fail;
 
 const BEYOND: i64 = 1_000_000_001;
 
@@ -13,7 +13,7 @@ const SAME: EnergyError = EnergyError::SameVariable;
 const RANGE: EnergyError = EnergyError::ValueRange;
 
 /// Terms, and why an energy of three variables refuses each.
-const REFUSED: [(Term, EnergyError); 14] = [
+const REFUSED: &[(Term, EnergyError)] = &[
     (Term::One(5, [BEYOND, 0]), UNKNOWN),
     (Term::One(3, [0, 0]), UNKNOWN),
     (Term::One(0, [BEYOND, 0]), RANGE),
@@ -30,25 +30,32 @@ const REFUSED: [(Term, EnergyError); 14] = [
     (Term::Three(0, 2, 1, [0, 0, 0, 0, 0, 0, 0, -BEYOND]), RANGE),
 ];
 
+/// Whether an energy of three variables and a term refuses this one, and keeps what it has.
+fn is_refused(energy: &mut Energy, term: Term, error: EnergyError) -> bool {
+    add_term(energy, term) == Err(error) && energy.variables() == 3 && energy.term_count() == 1
+}
+
 #[test]
-fn the_first_cause_is_told(rt: HostRuntime) -> Result<(), Fail> {
+fn the_first_cause_is_told(rt: HostRuntime) {
     let mut energy = Energy::new(rt.alloc());
     energy.clear(3);
-    energy.add_term1(1, [3, 4])?;
+    assert!(rt; energy.add_term1(1, [3, 4]) == Ok(()));
     for (place, (term, error)) in REFUSED.iter().enumerate() {
-        assert!(rt; add_term(&mut energy, *term) == Err(*error), "row {place}");
-        assert!(rt;
-            energy.variables() == 3 && energy.term_count() == 1,
-            "row {place}"
+        expect(
+            &rt,
+            "REFUSED",
+            place,
+            is_refused(&mut energy, *term, *error),
         );
     }
     assert!(rt; energy.term_count() == 1);
     assert!(rt; energy.term(0) == Term::One(1, [3, 4]));
-    Ok(())
 }
 
 /// A first term and a second, and the place of the first that is not regular with what was fixed there.
-const TRIED: [(Term, Term, Option<(usize, Option<(usize, bool)>)>); 11] = [
+type Tried = (Term, Term, Option<(usize, Option<(usize, bool)>)>);
+
+const TRIED: &[Tried] = &[
     (
         Term::Two(0, 1, [1, 0, 0, 1]),
         Term::Two(0, 1, [0, 5, 5, 0]),
@@ -113,17 +120,22 @@ fn named(expected: Option<(usize, Option<(usize, bool)>)>) -> Option<NotRegular>
     })
 }
 
+/// Whether of an energy of three variables and two terms the first that is not regular is told.
+fn is_told(energy: &mut Energy, tried: &Tried) -> bool {
+    let (first, second, expected) = tried;
+    energy.clear(3);
+    add_term(energy, *first) == Ok(())
+        && add_term(energy, *second) == Ok(())
+        && check(energy).err() == named(*expected)
+}
+
 #[test]
-fn the_first_failing_term_is_named(rt: HostRuntime) -> Result<(), Fail> {
+fn the_first_failing_term_is_named(rt: HostRuntime) {
     let large = 1_000_000_000_000_000_000;
     assert!(rt; is_regular_table(&[large, large, large, large]));
     assert!(rt; !is_regular_table(&[large, -large, large, large]));
     let mut energy = Energy::new(rt.alloc());
-    for (place, (first, second, expected)) in TRIED.iter().enumerate() {
-        energy.clear(3);
-        add_term(&mut energy, *first)?;
-        add_term(&mut energy, *second)?;
-        assert!(rt; check(&energy).err() == named(*expected), "row {place}");
+    for (place, tried) in TRIED.iter().enumerate() {
+        expect(&rt, "TRIED", place, is_told(&mut energy, tried));
     }
-    Ok(())
 }
