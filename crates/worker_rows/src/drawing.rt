@@ -1,6 +1,6 @@
 ghost use Rattle.std.specs.Prelude.{◌≡◌, ◌<◌, IfSome, length};
 
-use std::alloc::Global;
+use std::alloc::{AllocError, Global};
 use std::marker::Brand;
 use std::process::Abort;
 use std::sync::ledger::{Blank, Ledger, Share};
@@ -99,14 +99,38 @@ fn mark_blocks<J: Job>(rt: &impl Abort, book: &mut TurnBook<J>)
     assert!(rt; book.mark(1, false));
 }
 
-/// A book of so many turns, from which two threads draw all.
+/// The book and both hands at the end: all turns were drawn, and a further one is refused.
+fn expect_drawn<J: Job>(
+    rt: &impl Abort,
+    book: TurnBook<J>,
+    whole: Share<J::Budget>,
+    one: Hand<J>,
+    two: Hand<J>,
+    turns: u32,
+)
+    requires budget { whole.parts ≡ J.Budget.parts }
+    requires first { (one.share.parts ≡ 1) × (one.share.amount ≡ one.turns) }
+    requires second { (two.share.parts ≡ 1) × (two.share.amount ≡ two.turns) }
+{
+    let mut book = book;
+    let mut whole = whole;
+    let mut all = one.share;
+    all.merge(two.share);
+    book.audit_drawn(&mut all);
+    book.audit_budget(&mut whole);
+    assert!(*rt; one.turns + two.turns == u64::from(turns));
+    assert!(*rt; book.drawn() == turns && book.left() == 0);
+    assert!(*rt; !book.draw(&mut all));
+}
+
+/// A book of so many turns, from which two threads draw all; whether both started.
 fn draw_out<J: Job + Sync, R: Threads + Wait + Abort + Sync>(
     rt: &R,
     alloc: Global,
     budget: Blank,
     drawn: Blank,
     turns: u32,
-) -> Result<(), Fail>
+) -> Result<bool, AllocError>
     requires budget { (budget.name ≡ J.Budget.name) × (budget.parts ≡ J.Budget.parts) }
     requires some { 0 < budget.parts }
     requires drawn { (drawn.name ≡ J.Drawn.name) × (drawn.parts ≡ J.Drawn.parts) }
@@ -114,22 +138,15 @@ fn draw_out<J: Job + Sync, R: Threads + Wait + Abort + Sync>(
 {
     let (book, whole, none) = TurnBook::<J>::new(alloc, budget, drawn, turns, 3)?;
     let mut book = book;
-    let mut whole = whole;
     let mut first = none;
     mark_blocks(rt, &mut book);
     let second = first.split_off(1, 0);
     let book = Mutex::new(book);
-    let (one, two) = draw_both(rt, &book, first, second).ok_or("a thread did not start")?;
-    let mut book = book.into_inner();
-    let mut all = one.share;
-    all.merge(two.share);
-    book.audit_drawn(&mut all);
-    book.audit_budget(&mut whole);
-    assert_eq!(rt; one.turns + two.turns, u64::from(turns));
-    assert_eq!(rt; book.drawn(), turns);
-    assert_eq!(rt; book.left(), 0);
-    assert!(rt; !book.draw(&mut all));
-    Ok(())
+    let Some((one, two)) = draw_both(rt, &book, first, second) else {
+        return Ok(false);
+    };
+    expect_drawn(rt, book.into_inner(), whole, one, two, turns);
+    Ok(true)
 }
 
 fn draw_with<B: Ledger + Send + Sync, D: Ledger + Send + Sync, R: Threads + Wait + Abort + Sync>(
@@ -138,7 +155,7 @@ fn draw_with<B: Ledger + Send + Sync, D: Ledger + Send + Sync, R: Threads + Wait
     budget: Blank,
     drawn: Blank,
     turns: u32,
-) -> Result<(), Fail>
+) -> Result<bool, AllocError>
     requires budget { (budget.name ≡ B.name) × (budget.parts ≡ B.parts) }
     requires some { 0 < budget.parts }
     requires drawn { (drawn.name ≡ D.name) × (drawn.parts ≡ D.parts) }
@@ -150,8 +167,10 @@ fn draw_with<B: Ledger + Send + Sync, D: Ledger + Send + Sync, R: Threads + Wait
 /// What two threads drew together is what the book counted, to the last turn; a further turn is refused.
 #[test]
 fn book_drawn_out(rt: HostRuntime) -> Result<(), Fail> {
-    for turns in [0, 1, TURNS] {
-        draw_with::<Brand, Brand, _>(&rt, rt.alloc(), Blank::new(1), Blank::new(2), turns)?;
+    for turns in &[0, 1, TURNS] {
+        let (budget, drawn) = (Blank::new(1), Blank::new(2));
+        let have_started = draw_with::<Brand, Brand, _>(&rt, rt.alloc(), budget, drawn, *turns)?;
+        assert!(rt; have_started);
     }
     Ok(())
 }

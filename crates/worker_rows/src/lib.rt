@@ -8,3 +8,5 @@ mod drawing;
 mod ranges;
 #[cfg(test)]
 mod rings;
+#[cfg(test)]
+mod rows;

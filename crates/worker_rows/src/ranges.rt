@@ -1,8 +1,8 @@
-use std::test::Fail;
+use crate::rows::expect;
 use worker_options::Options;
 
 /// Threads, blocks, messages in a ring, turns and rounds: each bound alone, all least and all greatest.
-const ACCEPTED: [[u32; 5]; 4] = [
+const ACCEPTED: &[[u32; 5]] = &[
     [1, 1, 1, 0, 0],
     [64, 256, 65_536, 1_000_000, 10_000],
     [2, 16, 64, 4096, 64],
@@ -10,7 +10,7 @@ const ACCEPTED: [[u32; 5]; 4] = [
 ];
 
 /// The same, with one number out of its range.
-const REFUSED: [[u32; 5]; 9] = [
+const REFUSED: &[[u32; 5]] = &[
     [0, 16, 64, 4096, 64],
     [65, 16, 64, 4096, 64],
     [2, 0, 64, 4096, 64],
@@ -36,12 +36,11 @@ fn is_accepted(numbers: &[u32; 5]) -> bool {
 
 /// Options are refused exactly where a number is out of its range.
 #[test]
-fn options_in_range(rt: HostRuntime) -> Result<(), Fail> {
-    for numbers in &ACCEPTED {
-        assert!(rt; is_accepted(numbers), "{numbers:?}");
+fn options_in_range(rt: HostRuntime) {
+    for (place, numbers) in ACCEPTED.iter().enumerate() {
+        expect(&rt, "ACCEPTED", place, is_accepted(numbers));
     }
-    for numbers in &REFUSED {
-        assert!(rt; !is_accepted(numbers), "{numbers:?}");
+    for (place, numbers) in REFUSED.iter().enumerate() {
+        expect(&rt, "REFUSED", place, !is_accepted(numbers));
     }
-    Ok(())
 }

@@ -2,7 +2,7 @@ ghost use Rattle.block_rings.specs.Ports.{IsSamePort};
 
 use block_rings::{Port, join_blocks, take_left};
 use parcel::{Direction, Message};
-use std::alloc::Global;
+use std::alloc::{AllocError, Global};
 use std::process::Abort;
 use std::sync::Wait;
 use std::test::Fail;
@@ -71,9 +71,21 @@ fn take_most<R: Wait>(rt: &R, port: Port) -> (Port, bool)
     (port, in_order)
 }
 
+/// Whether these are the last parcels, in their order.
+fn are_last(left: &[Message]) -> bool {
+    let mut next = PARCELS - RING as u64;
+    for message in left {
+        next = next.saturating_add(1);
+        if amount_of(*message) != next {
+            return false;
+        }
+    }
+    next == PARCELS
+}
+
 /// Two threads, one of which puts what the other takes: each message comes once and in order, and those that
 /// were not taken are left in the ring.
-fn exchange<R: Threads + Wait + Abort + Sync>(rt: &R, alloc: Global) -> Result<(), Fail> {
+fn exchange<R: Threads + Wait + Abort + Sync>(rt: &R, alloc: Global) -> Result<(), AllocError> {
     let (first, second) = join_blocks(alloc, 0, 1, RING)?;
     let mut left = Vec::with_capacity(alloc, RING)?;
     let (first, (second, in_order)) = thread::join(
@@ -84,17 +96,12 @@ fn exchange<R: Threads + Wait + Abort + Sync>(rt: &R, alloc: Global) -> Result<(
     let mut first = first;
     let mut second = second;
     take_left(&mut first, &mut second, &mut left);
-    assert!(rt; in_order);
-    let mut next = PARCELS - RING as u64;
-    for message in &left {
-        next = next.saturating_add(1);
-        assert_eq!(rt; amount_of(*message), next);
-    }
-    assert_eq!(rt; next, PARCELS);
+    assert!(*rt; in_order && are_last(left.as_slice()));
     Ok(())
 }
 
 #[test]
 fn ring_in_order(rt: HostRuntime) -> Result<(), Fail> {
-    exchange(&rt, rt.alloc())
+    exchange(&rt, rt.alloc())?;
+    Ok(())
 }
