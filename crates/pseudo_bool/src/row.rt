@@ -45,6 +45,16 @@ fn widen<const N: usize>(table: &[i32; N]) -> [i64; N]
     read
 }
 
+/// What a table of two variables has at an assignment.
+fn pair_value(first: u32, second: u32, table: &[i32; 4], bits: &[bool]) -> i64
+    requires { IsTerm (length bits.now) (Term.Two first second table.now) }
+    ensures value { result ≡ term_value (assignment bits.now) (Term.Two first second table.now) }
+    ensures within { IsValue result }
+{
+    let place = 2 * usize::from(bits[first as usize]) + usize::from(bits[second as usize]);
+    i64::from(table[place])
+}
+
 impl Triple {
     /// What the table has at an assignment.
     fn value(&self, bits: &[bool]) -> i64
@@ -84,11 +94,7 @@ impl Row {
     {
         match self {
             Row::One(first, table) => i64::from(table[usize::from(bits[*first as usize])]),
-            Row::Two(first, second, table) => {
-                let place = 2 * usize::from(bits[*first as usize])
-                    + usize::from(bits[*second as usize]);
-                i64::from(table[place])
-            }
+            Row::Two(first, second, table) => pair_value(*first, *second, table, bits),
             Row::Three(place) => triples[*place as usize].value(bits),
         }
     }
