@@ -1,4 +1,4 @@
-use Rattle.std.proofs.Common.{◌∙◌, ap, arith}
+use Rattle.std.proofs.Common.{◌∙◌, ap, arith, rules}
 use Rattle.flow_network.specs.Answer.{side_of}
 use Rattle.pseudo_bool.specs.Formula.{Formula, assignment}
 use Rattle.compile_cut.proofs.Best.{best_of_cut, front_shows}
@@ -11,3 +11,9 @@ returns-clause-best c =
     (assignment c.truncate.new.self.items) c.in_ok-compiled.ensures.variables c.in_ok-compiled.ensures.shown
     c.in_ok-solved.ensures.smallest
     (λ i l. front_shows _ _ _ c.truncate.ensures.items i (omega (arith, l, count)))
+
+pub returns-clause-count : goal.returns-clause-count
+returns-clause-count c = search rules
+
+pub returns-clause-value : goal.returns-clause-value
+returns-clause-value c = search rules
