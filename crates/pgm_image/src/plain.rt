@@ -48,7 +48,9 @@ pub(crate) fn plain_samples(
     ensures each { IfOk result (λ x. (length x.0.items ≡ count)
         × All (λ y. y ≤ maxval) x.0.items × (length x.1.now ≤ length bytes.now)) }
 {
-    let mut samples = Vec::with_capacity(alloc, count).map_err(|_| PgmError::OutOfMemory)?;
+    let Ok(mut samples) = Vec::with_capacity(alloc, count) else {
+        return Err(PgmError::OutOfMemory);
+    };
     let mut rest = bytes;
     for index in 0..count {
         let (value, after) = match sample_at(rest) {
@@ -59,9 +61,7 @@ pub(crate) fn plain_samples(
         if value > maxval {
             return Err(PgmError::SampleAboveMax(index));
         }
-        samples
-            .push(value as u16)
-            .map_err(|_| PgmError::OutOfMemory)?;
+        samples.push_reserved(value as u16);
         rest = after;
     }
     Ok((samples, rest))

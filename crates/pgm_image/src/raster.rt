@@ -12,14 +12,14 @@ fn single_bytes(alloc: Global, maxval: u32, raster: &[u8]) -> Result<Vec<u16>, P
         (λ v. (v.items ≡ raster.now) × All (λ x. x ≤ maxval) raster.now)
         (λ e. RefusesSamples maxval raster.now e) }
 {
-    let mut samples = Vec::with_capacity(alloc, raster.len()).map_err(|_| PgmError::OutOfMemory)?;
+    let Ok(mut samples) = Vec::with_capacity(alloc, raster.len()) else {
+        return Err(PgmError::OutOfMemory);
+    };
     for &byte in raster {
         if u32::from(byte) > maxval {
             return Err(PgmError::SampleAboveMax(samples.len()));
         }
-        samples
-            .push(u16::from(byte))
-            .map_err(|_| PgmError::OutOfMemory)?;
+        samples.push_reserved(u16::from(byte));
     }
     Ok(samples)
 }
@@ -31,16 +31,16 @@ fn double_bytes(alloc: Global, maxval: u32, raster: &[u8]) -> Result<Vec<u16>, P
         (λ v. (v.items ≡ doubles raster.now) × All (λ x. x ≤ maxval) (doubles raster.now))
         (λ e. RefusesSamples maxval (doubles raster.now) e) }
 {
-    let mut samples = Vec::with_capacity(alloc, raster.len() / 2).map_err(
-        |_| PgmError::OutOfMemory,
-    )?;
+    let Ok(mut samples) = Vec::with_capacity(alloc, raster.len() / 2) else {
+        return Err(PgmError::OutOfMemory);
+    };
     let mut rest = raster;
     while let [high, low, after @ ..] = rest {
         let sample = u16::from_be_bytes([*high, *low]);
         if u32::from(sample) > maxval {
             return Err(PgmError::SampleAboveMax(samples.len()));
         }
-        samples.push(sample).unwrap();
+        samples.push_reserved(sample);
         rest = after;
     }
     Ok(samples)
