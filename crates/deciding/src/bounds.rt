@@ -16,6 +16,16 @@ pub struct Bounds {
     pub waiting: Vec<u32>,
 }
 
+/// Adds to a number of a list.
+fn add_at(numbers: &mut Vec<i64>, place: usize, by: i64)
+    requires place { place < length numbers.old.items }
+    requires room { unsigned_abs (bound_at numbers.old.items place) + unsigned_abs by < 2 ^ 62 }
+    ensures { numbers.new.items ≡ slice_set numbers.old.items place
+        (bound_at numbers.old.items place +ℤ by) }
+{
+    numbers[place] += by;
+}
+
 impl Bounds {
     /// No sites. It takes no memory.
     pub(crate) fn new(alloc: Global) -> Bounds {
@@ -39,8 +49,8 @@ impl Bounds {
             (bound_at self.old.greatest.items site +ℤ greatest) }
         ensures same { (self.new.choices ≡ self.old.choices) × (self.new.waiting ≡ self.old.waiting) }
     {
-        self.least[site] += least;
-        self.greatest[site] += greatest;
+        add_at(&mut self.least, site, least);
+        add_at(&mut self.greatest, site, greatest);
     }
 
     /// Whether the bounds of a site tell its value: 0 where turning never lowers the energy, and 1 where it always does.

@@ -65,6 +65,63 @@ impl Known {
     }
 }
 
+/// The two labels of an end: where its value is 0, and where it is 1.
+#[derive(Clone, Copy)]
+struct Turn {
+    stays: u32,
+    turns: u32,
+}
+
+impl Turn {
+    /// The labels that a move gives an end of this label.
+    fn of(change: Move, label: u32) -> Turn
+        ensures { result ≡ record {
+          stays = label_in change label false;
+          turns = label_in change label true;
+        } }
+    {
+        Turn {
+            stays: change.label(label, false),
+            turns: change.label(label, true),
+        }
+    }
+}
+
+/// What a pair of this weight costs at the values 00, 01, 10 and 11 of its ends.
+fn corner_costs<V: Fn(u32, u32) -> i64>(
+    smooth_cost: &SmoothCost<V>,
+    weight: u32,
+    first: Turn,
+    second: Turn,
+) -> [i64; 4]
+    requires smooth { KeepsSmooth (V.pre smooth_cost.now.v) (V.post smooth_cost.now.v)
+        smooth_cost.now.labels smooth_cost.now.by_metric }
+    requires weight { weight ≤ weight_limit }
+    requires first { (first.stays < smooth_cost.now.labels) × (first.turns < smooth_cost.now.labels) }
+    requires second { (second.stays < smooth_cost.now.labels) × (second.turns < smooth_cost.now.labels) }
+    ensures table { (cost : ℕ → ℕ → ℕ) →
+        Answers (V.post smooth_cost.now.v) cost smooth_cost.now.labels smooth_cost.now.labels →
+        result ≡ pos (weight * cost first.stays second.stays) ∷ pos (weight * cost first.stays second.turns)
+        ∷ pos (weight * cost first.turns second.stays) ∷ pos (weight * cost first.turns second.turns) ∷ [] }
+    ensures range { All (IsCost (pos pair_cost_limit)) result }
+{
+    let neither = pair_cost(smooth_cost, weight, first.stays, second.stays);
+    let known = Known {
+        first: first.stays,
+        second: second.stays,
+        cost: neither,
+    };
+    let first_alone = known.pair_cost(smooth_cost, weight, first.turns, second.stays);
+    let second_alone = known.pair_cost(smooth_cost, weight, first.stays, second.turns);
+    let turned = Known {
+        first: first.stays,
+        second: second.turns,
+        cost: second_alone,
+    };
+    let both = turned.pair_cost(smooth_cost, weight, first.turns, second.turns);
+    [neither, second_alone, first_alone, both]
+}
+
 /// What a pair of this weight, whose ends have these labels, costs in a move at the values 00, 01, 10 and 11 of its ends.
 pub fn pair_table<V: Fn(u32, u32) -> i64>(
     smooth_cost: &SmoothCost<V>,
@@ -87,23 +144,10 @@ pub fn pair_table<V: Fn(u32, u32) -> i64>(
     ensures range { All (IsCost (pos pair_cost_limit)) result }
     ensures within { All (IsWithin pair_cost_limit) result }
 {
-    let first_stays = change.label(first, false);
-    let first_turns = change.label(first, true);
-    let second_stays = change.label(second, false);
-    let second_turns = change.label(second, true);
-    let neither = pair_cost(smooth_cost, weight, first_stays, second_stays);
-    let known = Known {
-        first: first_stays,
-        second: second_stays,
-        cost: neither,
-    };
-    let first_alone = known.pair_cost(smooth_cost, weight, first_turns, second_stays);
-    let second_alone = known.pair_cost(smooth_cost, weight, first_stays, second_turns);
-    let turned = Known {
-        first: first_stays,
-        second: second_turns,
-        cost: second_alone,
-    };
-    let both = turned.pair_cost(smooth_cost, weight, first_turns, second_turns);
-    [neither, second_alone, first_alone, both]
+    corner_costs(
+        smooth_cost,
+        weight,
+        Turn::of(change, first),
+        Turn::of(change, second),
+    )
 }

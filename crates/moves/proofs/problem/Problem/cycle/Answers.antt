@@ -4,6 +4,7 @@ use Rattle.std.proofs.lemmas.Result.{err_from_is_err_and}
 use Rattle.labellings.specs.Chains.{Leads}
 use Rattle.moves.specs.Problems.{IsRefusal}
 use Rattle.moves.specs.Cycles.{moves_of}
+use Rattle.moves.proofs.Answers.{sized_still}
 use Rattle.moves.proofs.Running.{so_far_more, moves_split, stopped_leads, ended_leads, ended_known}
 use Rattle.moves.proofs.problem.Problem.cycle.Goals.{then-branch, else-branch}
 use Rattle.moves.proofs.problem.Problem.cycle.Goals as goal
@@ -69,43 +70,45 @@ pub loop-place-init : goal.loop-place-init
 loop-place-init g c = search rules
 
 pub returns-then-place-last-clause-by_site : goal.returns-then-place-last-clause-by_site
-returns-then-place-last-clause-by_site g c = search rules
+returns-then-place-last-clause-by_site g c = c.loop-place.invariant.by_site
 
 pub returns-then-place-last-clause-sizes : goal.returns-then-place-last-clause-sizes
-returns-then-place-last-clause-sizes g c = search rules
+returns-then-place-last-clause-sizes g c = (c.loop-place.invariant.labels, c.loop-place.invariant.sites)
 
 pub returns-then-place-last-clause-known : goal.returns-then-place-last-clause-known
 returns-then-place-last-clause-known g c = search rules
 
 pub returns-then-place-last-clause-refused : goal.returns-then-place-last-clause-refused
-returns-then-place-last-clause-refused g c = search rules
+returns-then-place-last-clause-refused g c = tt
 
 pub returns-then-place-last-clause-metric : goal.returns-then-place-last-clause-metric
-returns-then-place-last-clause-metric g c = search rules
+returns-then-place-last-clause-metric g c = λ stored m meant. tt
 
 pub make_move-requires-clause-ready : goal.make_move-requires-clause-ready
-make_move-requires-clause-ready g c = search rules
+make_move-requires-clause-ready g c = c.requires.ready
 
 pub make_move-requires-clause-sizes : goal.make_move-requires-clause-sizes
-make_move-requires-clause-sizes g c = search rules
+make_move-requires-clause-sizes g c = sized_still _ _ _ _ _ _ c.requires.sizes c.loop-place.invariant.labels c.loop-place.invariant.sites
 
 pub make_move-requires-clause-costs : goal.make_move-requires-clause-costs
-make_move-requires-clause-costs g c = search rules
+make_move-requires-clause-costs g c = c.requires.costs
 
 pub make_move-requires-clause-smooth : goal.make_move-requires-clause-smooth
-make_move-requires-clause-smooth g c = search rules
+make_move-requires-clause-smooth g c = c.requires.smooth
 
 pub make_move-requires-clause-by_site : goal.make_move-requires-clause-by_site
-make_move-requires-clause-by_site g c = search rules
+make_move-requires-clause-by_site g c = c.loop-place.invariant.by_site
 
 pub returns-in_err-make_move-clause-by_site : goal.returns-in_err-make_move-clause-by_site
-returns-in_err-make_move-clause-by_site g c = search rules
+returns-in_err-make_move-clause-by_site g c = c.in_err-make_move.ensures.by_site
 
 pub returns-in_err-make_move-clause-sizes : goal.returns-in_err-make_move-clause-sizes
-returns-in_err-make_move-clause-sizes g c = search rules
+returns-in_err-make_move-clause-sizes g c = (c.in_err-make_move.ensures.sizes.0 ∙ c.loop-place.invariant.labels, c.in_err-make_move.ensures.sizes.1 ∙ c.loop-place.invariant.sites)
 
 pub returns-in_err-make_move-clause-known : goal.returns-in_err-make_move-clause-known
-returns-in_err-make_move-clause-known g c = search rules
+returns-in_err-make_move-clause-known g c = λ m meant.
+    let p = err_from_is_err_and c.from_residual.result c.from_residual.ensures.1 in
+    rw (p.1) tt
 
 pub returns-in_err-make_move-clause-refused : goal.returns-in_err-make_move-clause-refused
 returns-in_err-make_move-clause-refused g c = search rules
@@ -114,13 +117,13 @@ pub loop-place-smaller : goal.loop-place-smaller
 loop-place-smaller g c = search rules
 
 pub returns-clause-by_site : goal.returns-clause-by_site
-returns-clause-by_site g c = search rules
+returns-clause-by_site g c = c.loop-place.invariant.by_site
 
 pub returns-clause-sizes : goal.returns-clause-sizes
-returns-clause-sizes g c = search rules
+returns-clause-sizes g c = (c.loop-place.invariant.labels, c.loop-place.invariant.sites)
 
 pub returns-clause-refused : goal.returns-clause-refused
-returns-clause-refused g c = search rules
+returns-clause-refused g c = tt
 
 pub returns-clause-metric : goal.returns-clause-metric
-returns-clause-metric g c = search rules
+returns-clause-metric g c = λ stored m meant. tt

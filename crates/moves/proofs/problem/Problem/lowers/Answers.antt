@@ -10,28 +10,28 @@ returns g c = λ m meant.
     (c.smooth_rise.ensures.rise m meant.pairs_are (smooth_meant _ _ _ _ _ m meant c.requires.labels.0)) c.is_negative.ensures
 
 pub data_rise-rise-requires-clause-costs : goal.data_rise-rise-requires-clause-costs
-data_rise-rise-requires-clause-costs g c = search rules
+data_rise-rise-requires-clause-costs g c = c.requires.costs
 
 pub data_rise-rise-requires-clause-sites : goal.data_rise-rise-requires-clause-sites
 data_rise-rise-requires-clause-sites g c = search rules
 
 pub data_rise-rise-requires-clause-labels : goal.data_rise-rise-requires-clause-labels
-data_rise-rise-requires-clause-labels g c = search rules
+data_rise-rise-requires-clause-labels g c = c.requires.labels.1
 
 pub data_rise-rise-requires-clause-change : goal.data_rise-rise-requires-clause-change
-data_rise-rise-requires-clause-change g c = search rules
+data_rise-rise-requires-clause-change g c = c.requires.change
 
 pub data_rise-rise-requires-clause-choices : goal.data_rise-rise-requires-clause-choices
-data_rise-rise-requires-clause-choices g c = search rules
+data_rise-rise-requires-clause-choices g c = c.requires.choices
 
 pub data_rise-rise-requires-clause-count : goal.data_rise-rise-requires-clause-count
-data_rise-rise-requires-clause-count g c = search rules
+data_rise-rise-requires-clause-count g c = c.requires.count
 
 pub smooth_rise-requires-clause-smooth : goal.smooth_rise-requires-clause-smooth
-smooth_rise-requires-clause-smooth g c = search rules
+smooth_rise-requires-clause-smooth g c = c.requires.smooth
 
 pub smooth_rise-requires-clause-sites : goal.smooth_rise-requires-clause-sites
-smooth_rise-requires-clause-sites g c = search rules
+smooth_rise-requires-clause-sites g c = c.requires.sites.0
 
 pub smooth_rise-requires-clause-labels : goal.smooth_rise-requires-clause-labels
 smooth_rise-requires-clause-labels g c = search rules
@@ -40,10 +40,10 @@ pub smooth_rise-requires-clause-change : goal.smooth_rise-requires-clause-change
 smooth_rise-requires-clause-change g c = search rules
 
 pub smooth_rise-requires-clause-choices : goal.smooth_rise-requires-clause-choices
-smooth_rise-requires-clause-choices g c = search rules
+smooth_rise-requires-clause-choices g c = c.requires.choices
 
 pub smooth_rise-requires-clause-count : goal.smooth_rise-requires-clause-count
-smooth_rise-requires-clause-count g c = search rules
+smooth_rise-requires-clause-count g c = c.requires.count
 
 pub overflow_add-rise : goal.overflow_add-rise
 overflow_add-rise g c = search rules

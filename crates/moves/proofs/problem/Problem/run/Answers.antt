@@ -3,6 +3,7 @@ use Rattle.std.proofs.lemmas.Result.{err_from_is_err_and}
 use Rattle.labellings.specs.Chains.{Leads, Cycles}
 use Rattle.labellings.proofs.Chains.{cycles_more, chain_settles, chain_runs_out, chain_breaks}
 use Rattle.moves.specs.Cycles.{moves_of}
+use Rattle.moves.proofs.Answers.{sized_still}
 use Rattle.moves.proofs.problem.Problem.run.Goals as goal
 
 pub cycle-requires-clause-known : goal.cycle-requires-clause-known
@@ -62,46 +63,48 @@ returns-in_err-cycle-clause-metric g c = λ stored m meant.
     rw (p.1, p.2) (c.in_err-cycle.ensures.metric stored m meant)
 
 pub cycle-requires-clause-ready : goal.cycle-requires-clause-ready
-cycle-requires-clause-ready g c = search rules
+cycle-requires-clause-ready g c = c.requires.ready
 
 pub cycle-requires-clause-sizes : goal.cycle-requires-clause-sizes
-cycle-requires-clause-sizes g c = search rules
+cycle-requires-clause-sizes g c = sized_still _ _ _ _ _ _ c.requires.sizes c.loop-done.invariant.labels c.loop-done.invariant.sites
 
 pub cycle-requires-clause-costs : goal.cycle-requires-clause-costs
-cycle-requires-clause-costs g c = search rules
+cycle-requires-clause-costs g c = c.requires.costs
 
 pub cycle-requires-clause-smooth : goal.cycle-requires-clause-smooth
-cycle-requires-clause-smooth g c = search rules
+cycle-requires-clause-smooth g c = c.requires.smooth
 
 pub cycle-requires-clause-by_site : goal.cycle-requires-clause-by_site
-cycle-requires-clause-by_site g c = search rules
+cycle-requires-clause-by_site g c = c.loop-done.invariant.by_site
 
 pub returns-in_err-cycle-clause-sizes : goal.returns-in_err-cycle-clause-sizes
-returns-in_err-cycle-clause-sizes g c = search rules
+returns-in_err-cycle-clause-sizes g c = (c.in_err-cycle.ensures.sizes.0 ∙ c.loop-done.invariant.labels, c.in_err-cycle.ensures.sizes.1 ∙ c.loop-done.invariant.sites)
 
 pub returns-in_err-cycle-clause-refused : goal.returns-in_err-cycle-clause-refused
-returns-in_err-cycle-clause-refused g c = search rules
+returns-in_err-cycle-clause-refused g c =
+    let p = err_from_is_err_and c.from_residual.result c.from_residual.ensures.1 in
+    rw (p.1, p.2) c.in_err-cycle.ensures.refused
 
 pub overflow_add-result : goal.overflow_add-result
 overflow_add-result g c = search rules
 
 pub returns-then-not-branch-clause-sizes : goal.returns-then-not-branch-clause-sizes
-returns-then-not-branch-clause-sizes g c = search rules
+returns-then-not-branch-clause-sizes g c = (c.in_ok-cycle.ensures.sizes.0 ∙ c.loop-done.invariant.labels, c.in_ok-cycle.ensures.sizes.1 ∙ c.loop-done.invariant.sites)
 
 pub returns-then-not-branch-clause-refused : goal.returns-then-not-branch-clause-refused
-returns-then-not-branch-clause-refused g c = search rules
+returns-then-not-branch-clause-refused g c = tt
 
 pub returns-then-not-branch-clause-metric : goal.returns-then-not-branch-clause-metric
-returns-then-not-branch-clause-metric g c = search rules
+returns-then-not-branch-clause-metric g c = λ stored m meant. tt
 
 pub loop-done-smaller : goal.loop-done-smaller
 loop-done-smaller g c = search rules
 
 pub returns-clause-sizes : goal.returns-clause-sizes
-returns-clause-sizes g c = search rules
+returns-clause-sizes g c = (c.loop-done.invariant.labels, c.loop-done.invariant.sites)
 
 pub returns-clause-refused : goal.returns-clause-refused
-returns-clause-refused g c = search rules
+returns-clause-refused g c = tt
 
 pub returns-clause-metric : goal.returns-clause-metric
-returns-clause-metric g c = search rules
+returns-clause-metric g c = λ stored m meant. tt

@@ -1,4 +1,4 @@
-use Rattle.std.proofs.Common.{rules, ◌∙◌, sym, refl, arith}
+use Rattle.std.proofs.Common.{rules, ◌∙◌, ℕ, List, length, ap, sym, refl, arith}
 use Rattle.move_energy.proofs.Whole.{pairs_meant}
 use Rattle.moves.specs.Building.{site_values}
 use Rattle.moves.proofs.Least.{expanded_best, lower_best, kept_best}
@@ -39,22 +39,22 @@ returns-else-not-lowers-clause-best g c = λ m meant least.
     )
 
 pub relabel-requires-clause-below : goal.relabel-requires-clause-below
-relabel-requires-clause-below g c = search rules
+relabel-requires-clause-below g c = c.requires.below
 
 pub relabel-requires-clause-choices : goal.relabel-requires-clause-choices
-relabel-requires-clause-choices g c = search rules
+relabel-requires-clause-choices g c = c.requires.choices
 
 pub relabel-requires-clause-count : goal.relabel-requires-clause-count
-relabel-requires-clause-count g c = search rules
+relabel-requires-clause-count g c = c.requires.count
 
 pub lowers-requires-clause-costs : goal.lowers-requires-clause-costs
-lowers-requires-clause-costs g c = search rules
+lowers-requires-clause-costs g c = c.requires.costs
 
 pub lowers-requires-clause-smooth : goal.lowers-requires-clause-smooth
-lowers-requires-clause-smooth g c = search rules
+lowers-requires-clause-smooth g c = c.requires.smooth
 
 pub lowers-requires-clause-sites : goal.lowers-requires-clause-sites
-lowers-requires-clause-sites g c = search rules
+lowers-requires-clause-sites g c = (ap (λ (xs : List ℕ). length xs) c.as_slice.ensures.value ∙ c.requires.sizes.field_sites, c.requires.sizes.data_sites)
 
 pub lowers-requires-clause-labels : goal.lowers-requires-clause-labels
 lowers-requires-clause-labels g c = search rules
@@ -63,25 +63,25 @@ pub lowers-requires-clause-change : goal.lowers-requires-clause-change
 lowers-requires-clause-change g c = search rules
 
 pub lowers-requires-clause-choices : goal.lowers-requires-clause-choices
-lowers-requires-clause-choices g c = search rules
+lowers-requires-clause-choices g c = c.requires.choices ∙ sym (ap (λ (xs : List ℕ). length xs) c.as_slice.ensures.value)
 
 pub lowers-requires-clause-count : goal.lowers-requires-clause-count
-lowers-requires-clause-count g c = search rules
+lowers-requires-clause-count g c = c.requires.count ∙ sym (ap (λ (xs : List ℕ). length xs) c.as_slice.ensures.value)
 
 pub returns-then-not-lowers-clause-sizes : goal.returns-then-not-lowers-clause-sizes
-returns-then-not-lowers-clause-sizes g c = search rules
+returns-then-not-lowers-clause-sizes g c = (refl, refl)
 
 pub relabel-requires-in-Swap-clause-below : goal.relabel-requires-in-Swap-clause-below
-relabel-requires-in-Swap-clause-below g c = search rules
+relabel-requires-in-Swap-clause-below g c = c.requires.below
 
 pub relabel-requires-in-Swap-clause-choices : goal.relabel-requires-in-Swap-clause-choices
-relabel-requires-in-Swap-clause-choices g c = search rules
+relabel-requires-in-Swap-clause-choices g c = c.requires.choices
 
 pub relabel-requires-in-Swap-clause-count : goal.relabel-requires-in-Swap-clause-count
-relabel-requires-in-Swap-clause-count g c = search rules
+relabel-requires-in-Swap-clause-count g c = c.requires.count
 
 pub returns-in-Expand-clause-sizes : goal.returns-in-Expand-clause-sizes
-returns-in-Expand-clause-sizes g c = search rules
+returns-in-Expand-clause-sizes g c = c.relabel.ensures.sizes
 
 pub returns-else-not-lowers-clause-sizes : goal.returns-else-not-lowers-clause-sizes
-returns-else-not-lowers-clause-sizes g c = search rules
+returns-else-not-lowers-clause-sizes g c = c.relabel-in-Swap.ensures.sizes
