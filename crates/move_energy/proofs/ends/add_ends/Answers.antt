@@ -1,6 +1,7 @@
 use Rattle.std.proofs.Common.{rules, ◌≡◌, ◌∙◌, ap, true, refl}
 use Rattle.labellings.specs.Moves.{label_in}
 use Rattle.move_energy.proofs.Values.{first_adds, second_adds, none_adds, ends_fit}
+use Rattle.std.proofs.lemmas.Result.{err_from_is_err_and}
 use Rattle.move_energy.proofs.ends.add_ends.Goals as goal
 
 pub returns-then-is_open-clause-adds : goal.returns-then-is_open-clause-adds
@@ -30,16 +31,16 @@ returns-clause-adds g c = λ cost answers.
     (c.label-other-2.ensures ∙ ap (label_in a.change a.first.label) c.bit-2.ensures) (c.in_ok-add_second.ensures.adds cost answers))
 
 pub add_both-requires-clause-smooth : goal.add_both-requires-clause-smooth
-add_both-requires-clause-smooth g c = search rules
+add_both-requires-clause-smooth g c = c.requires.smooth
 
 pub add_both-requires-clause-weight : goal.add_both-requires-clause-weight
-add_both-requires-clause-weight g c = search rules
+add_both-requires-clause-weight g c = c.requires.weight
 
 pub add_both-requires-clause-inside : goal.add_both-requires-clause-inside
-add_both-requires-clause-inside g c = search rules
+add_both-requires-clause-inside g c = c.requires.inside
 
 pub add_both-requires-clause-change : goal.add_both-requires-clause-change
-add_both-requires-clause-change g c = search rules
+add_both-requires-clause-change g c = c.requires.change
 
 pub add_both-requires-clause-opened : goal.add_both-requires-clause-opened
 add_both-requires-clause-opened g c = search rules
@@ -48,67 +49,75 @@ pub add_both-requires-clause-variables : goal.add_both-requires-clause-variables
 add_both-requires-clause-variables g c = search rules
 
 pub add_both-requires-clause-room : goal.add_both-requires-clause-room
-add_both-requires-clause-room g c = search rules
+add_both-requires-clause-room g c = c.requires.room
 
 pub returns-then-is_open-2-clause-longer : goal.returns-then-is_open-2-clause-longer
-returns-then-is_open-2-clause-longer g c = search rules
+returns-then-is_open-2-clause-longer g c = c.add_both.ensures.longer
 
 pub returns-then-is_open-2-clause-adds : goal.returns-then-is_open-2-clause-adds
-returns-then-is_open-2-clause-adds g c = search rules
+returns-then-is_open-2-clause-adds g c = c.add_both.ensures.adds
 
 pub add_first-requires-clause-smooth : goal.add_first-requires-clause-smooth
-add_first-requires-clause-smooth g c = search rules
+add_first-requires-clause-smooth g c = c.requires.smooth
 
 pub add_first-requires-clause-weight : goal.add_first-requires-clause-weight
-add_first-requires-clause-weight g c = search rules
+add_first-requires-clause-weight g c = c.requires.weight
 
 pub add_first-requires-clause-inside : goal.add_first-requires-clause-inside
 add_first-requires-clause-inside g c = search rules
 
 pub add_first-requires-clause-change : goal.add_first-requires-clause-change
-add_first-requires-clause-change g c = search rules
+add_first-requires-clause-change g c = c.requires.change
 
 pub add_first-requires-clause-variable : goal.add_first-requires-clause-variable
-add_first-requires-clause-variable g c = search rules
+add_first-requires-clause-variable g c = c.requires.first (c.is_open.ensures.0 c.if-is_open.true)
 
 pub add_first-requires-clause-room : goal.add_first-requires-clause-room
-add_first-requires-clause-room g c = search rules
+add_first-requires-clause-room g c = c.requires.room
 
 pub returns-in_err-add_first-clause-longer : goal.returns-in_err-add_first-clause-longer
-returns-in_err-add_first-clause-longer g c = search rules
+returns-in_err-add_first-clause-longer g c =
+    let p = err_from_is_err_and c.from_residual.result c.from_residual.ensures.1 in
+    rw (p.1) tt
 
 pub returns-in_err-add_first-clause-adds : goal.returns-in_err-add_first-clause-adds
-returns-in_err-add_first-clause-adds g c = search rules
+returns-in_err-add_first-clause-adds g c =
+    let p = err_from_is_err_and c.from_residual.result c.from_residual.ensures.1 in
+    rw (p.1) tt
 
 pub returns-then-is_open-clause-longer : goal.returns-then-is_open-clause-longer
-returns-then-is_open-clause-longer g c = search rules
+returns-then-is_open-clause-longer g c = c.in_ok-add_first.ensures.longer
 
 pub returns-then-not-is_open-clause-longer : goal.returns-then-not-is_open-clause-longer
 returns-then-not-is_open-clause-longer g c = search rules
 
 pub add_second-requires-clause-smooth : goal.add_second-requires-clause-smooth
-add_second-requires-clause-smooth g c = search rules
+add_second-requires-clause-smooth g c = c.requires.smooth
 
 pub add_second-requires-clause-weight : goal.add_second-requires-clause-weight
-add_second-requires-clause-weight g c = search rules
+add_second-requires-clause-weight g c = c.requires.weight
 
 pub add_second-requires-clause-inside : goal.add_second-requires-clause-inside
 add_second-requires-clause-inside g c = search rules
 
 pub add_second-requires-clause-change : goal.add_second-requires-clause-change
-add_second-requires-clause-change g c = search rules
+add_second-requires-clause-change g c = c.requires.change
 
 pub add_second-requires-clause-variable : goal.add_second-requires-clause-variable
-add_second-requires-clause-variable g c = search rules
+add_second-requires-clause-variable g c = c.requires.second (c.is_open-2.ensures.0 c.if-not-is_open.false)
 
 pub add_second-requires-clause-room : goal.add_second-requires-clause-room
-add_second-requires-clause-room g c = search rules
+add_second-requires-clause-room g c = c.requires.room
 
 pub returns-in_err-add_second-clause-longer : goal.returns-in_err-add_second-clause-longer
-returns-in_err-add_second-clause-longer g c = search rules
+returns-in_err-add_second-clause-longer g c =
+    let p = err_from_is_err_and c.from_residual-in_err-add_second.result c.from_residual-in_err-add_second.ensures.1 in
+    rw (p.1) tt
 
 pub returns-in_err-add_second-clause-adds : goal.returns-in_err-add_second-clause-adds
-returns-in_err-add_second-clause-adds g c = search rules
+returns-in_err-add_second-clause-adds g c =
+    let p = err_from_is_err_and c.from_residual-in_err-add_second.result c.from_residual-in_err-add_second.ensures.1 in
+    rw (p.1) tt
 
 pub returns-clause-longer : goal.returns-clause-longer
-returns-clause-longer g c = search rules
+returns-clause-longer g c = c.in_ok-add_second.ensures.longer

@@ -7,6 +7,7 @@ use Rattle.deciding.proofs.Left.{left_less}
 use Rattle.deciding.proofs.Ranges.{range_wider, decided_waits}
 use Rattle.deciding.proofs.Spreading.{IsSpread, spread_start, spread_step, spread_end, pair_in}
 use Rattle.deciding.proofs.Places.{start_read, place_read, place_within, place_touches, pair_read, meant_pairs, meant_grouped, range_start, range_step, range_enough, site_free}
+use Rattle.std.proofs.lemmas.Result.{err_from_is_err_and}
 use Rattle.deciding.proofs.bounds.Bounds.decide.Goals as goal
 
 pub loop-place-init : goal.loop-place-init
@@ -121,3 +122,54 @@ returns-clause-decided g c = λ m answers same sites tells decided.
     spread_end m a.change (labelling a.at.now) a.site a.value a.ends.now c.loop-place.place a.self.now c.mark.new.self c.loop-place.self
     (meant_pairs m a.pairs.now same sites c.requires.list) (omega (arith, inside, sites)) decided c.requires.site.1 tells c.mark.ensures c.loop-place.invariant.choices past
     (c.loop-place.invariant.spread m answers same sites decided)
+
+pub see-requires-clause-smooth : goal.see-requires-clause-smooth
+see-requires-clause-smooth g c = c.requires.smooth
+
+pub see-requires-clause-labels : goal.see-requires-clause-labels
+see-requires-clause-labels g c = c.requires.labels
+
+pub see-requires-clause-change : goal.see-requires-clause-change
+see-requires-clause-change g c = c.requires.change
+
+pub see-requires-clause-sized : goal.see-requires-clause-sized
+see-requires-clause-sized g c = c.loop-place.invariant.sized
+
+pub see-requires-clause-waiting : goal.see-requires-clause-waiting
+see-requires-clause-waiting g c = c.loop-place.invariant.waiting
+
+pub returns-in_err-see-clause-sized : goal.returns-in_err-see-clause-sized
+returns-in_err-see-clause-sized g c =
+    let p = err_from_is_err_and c.from_residual.result c.from_residual.ensures.1 in
+    rw (p.1) tt
+
+pub returns-in_err-see-clause-waiting : goal.returns-in_err-see-clause-waiting
+returns-in_err-see-clause-waiting g c =
+    let p = err_from_is_err_and c.from_residual.result c.from_residual.ensures.1 in
+    rw (p.1) tt
+
+pub returns-in_err-see-clause-range : goal.returns-in_err-see-clause-range
+returns-in_err-see-clause-range g c =
+    let p = err_from_is_err_and c.from_residual.result c.from_residual.ensures.1 in
+    rw (p.1) tt
+
+pub returns-in_err-see-clause-more : goal.returns-in_err-see-clause-more
+returns-in_err-see-clause-more g c =
+    let p = err_from_is_err_and c.from_residual.result c.from_residual.ensures.1 in
+    rw (p.1) tt
+
+pub returns-in_err-see-clause-left : goal.returns-in_err-see-clause-left
+returns-in_err-see-clause-left g c =
+    let p = err_from_is_err_and c.from_residual.result c.from_residual.ensures.1 in
+    rw (p.1) tt
+
+pub returns-in_err-see-clause-decided : goal.returns-in_err-see-clause-decided
+returns-in_err-see-clause-decided g c =
+    let p = err_from_is_err_and c.from_residual.result c.from_residual.ensures.1 in
+    rw (p.1) tt
+
+pub returns-clause-sized : goal.returns-clause-sized
+returns-clause-sized g c = c.loop-place.invariant.sized
+
+pub returns-clause-waiting : goal.returns-clause-waiting
+returns-clause-waiting g c = c.loop-place.invariant.waiting

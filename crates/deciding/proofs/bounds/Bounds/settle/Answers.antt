@@ -13,3 +13,33 @@ returns-clause-range g c =
 
 pub returns-clause-decided : goal.returns-clause-decided
 returns-clause-decided g c = on_ok_weaker c.decide.result (λ decides m answers same sites decided. decides m answers same sites c.told_value-value.ensures decided) c.decide.ensures.decided
+
+pub decide-requires-clause-smooth : goal.decide-requires-clause-smooth
+decide-requires-clause-smooth g c = c.requires.smooth
+
+pub decide-requires-clause-sites : goal.decide-requires-clause-sites
+decide-requires-clause-sites g c = c.requires.sites
+
+pub decide-requires-clause-by_site : goal.decide-requires-clause-by_site
+decide-requires-clause-by_site g c = c.requires.by_site
+
+pub decide-requires-clause-list : goal.decide-requires-clause-list
+decide-requires-clause-list g c = c.requires.list
+
+pub decide-requires-clause-labels : goal.decide-requires-clause-labels
+decide-requires-clause-labels g c = c.requires.labels
+
+pub decide-requires-clause-change : goal.decide-requires-clause-change
+decide-requires-clause-change g c = c.requires.change
+
+pub decide-requires-clause-sized : goal.decide-requires-clause-sized
+decide-requires-clause-sized g c = c.requires.sized
+
+pub decide-requires-clause-waiting : goal.decide-requires-clause-waiting
+decide-requires-clause-waiting g c = c.requires.waiting
+
+pub returns-clause-sized : goal.returns-clause-sized
+returns-clause-sized g c = c.decide.ensures.sized
+
+pub returns-clause-waiting : goal.returns-clause-waiting
+returns-clause-waiting g c = c.decide.ensures.waiting

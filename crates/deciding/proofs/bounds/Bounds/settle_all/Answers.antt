@@ -1,6 +1,7 @@
 use Rattle.std.proofs.Common.{refl, length}
 use Rattle.labellings.specs.Energies.{labelling}
 use Rattle.deciding.proofs.Places.{room_first, partly_same, popped_waits}
+use Rattle.std.proofs.lemmas.Result.{err_from_is_err_and}
 use Rattle.deciding.proofs.bounds.Bounds.settle_all.Goals as goal
 
 pub settling-init : goal.settling-init
@@ -36,3 +37,49 @@ settling-preserved g c =
           (partly_same m c.args.change (labelling c.args.at.now) c.settling.self (record c.settling.self { waiting = c.pop.new.self }) refl refl refl
           (c.settling.invariant.decided m answers same sites first));
     }
+
+pub settle-requires-clause-smooth : goal.settle-requires-clause-smooth
+settle-requires-clause-smooth g c = c.requires.smooth
+
+pub settle-requires-clause-sites : goal.settle-requires-clause-sites
+settle-requires-clause-sites g c = c.requires.sites
+
+pub settle-requires-clause-by_site : goal.settle-requires-clause-by_site
+settle-requires-clause-by_site g c = c.requires.by_site
+
+pub settle-requires-clause-list : goal.settle-requires-clause-list
+settle-requires-clause-list g c = c.requires.list
+
+pub settle-requires-clause-labels : goal.settle-requires-clause-labels
+settle-requires-clause-labels g c = c.requires.labels
+
+pub settle-requires-clause-change : goal.settle-requires-clause-change
+settle-requires-clause-change g c = c.requires.change
+
+pub settle-requires-clause-sized : goal.settle-requires-clause-sized
+settle-requires-clause-sized g c = record {
+  choices = c.settling.invariant.sized.choices;
+  least = c.settling.invariant.sized.least;
+  greatest = c.settling.invariant.sized.greatest;
+}
+
+pub settle-requires-clause-left : goal.settle-requires-clause-left
+settle-requires-clause-left g c = c.settling.invariant.few
+
+pub settle-requires-clause-range : goal.settle-requires-clause-range
+settle-requires-clause-range g c = c.settling.invariant.range
+
+pub returns-in_err-settle-clause-sized : goal.returns-in_err-settle-clause-sized
+returns-in_err-settle-clause-sized g c =
+    let p = err_from_is_err_and c.from_residual.result c.from_residual.ensures.1 in
+    rw (p.1) tt
+
+pub returns-in_err-settle-clause-none : goal.returns-in_err-settle-clause-none
+returns-in_err-settle-clause-none g c =
+    let p = err_from_is_err_and c.from_residual.result c.from_residual.ensures.1 in
+    rw (p.1) tt
+
+pub returns-in_err-settle-clause-decided : goal.returns-in_err-settle-clause-decided
+returns-in_err-settle-clause-decided g c =
+    let p = err_from_is_err_and c.from_residual.result c.from_residual.ensures.1 in
+    rw (p.1) tt

@@ -1,9 +1,11 @@
-use Rattle.std.proofs.Common.{◌≡◌, ◌∙◌, ℕ, List, length, ap, sym, subst, arith}
+use Rattle.std.proofs.Common.{◌≡◌, ◌∙◌, ◌<◌, ℕ, List, All, length, ap, sym, subst, arith}
 use Rattle.std.proofs.lemmas.Result.{on_ok_weaker}
 use Rattle.cost_store.specs.Promises.{Answers}
 use Rattle.pseudo_bool.specs.Formula.{Formula}
 use Rattle.move_energy.specs.declared.choice.Choice.{Choice}
 use Rattle.move_energy.proofs.Joins.{empty_regular, built_of}
+use Rattle.std.proofs.lemmas.Result.{err_from_is_err_and}
+use Rattle.labellings.specs.Moves.{IsMoveOf}
 use Rattle.move_energy.proofs.building.MoveEnergy.build.Goals as goal
 
 pub returns-clause-regular : goal.returns-clause-regular
@@ -23,3 +25,79 @@ returns-clause-built g c = λ m meant.
     (length c.args.pairs.now.list) c.add_pairs.result (c.requires.sites.0 ∙ sym meant.sites_are)
     (ap (λ (xs : List Choice). length xs) c.number.ensures.kept ∙ c.requires.choices) c.in_ok-number.ensures.numbering
     (omega (arith, kept, cleared, c.number.new.self.sites.ok.0)) c.add_pairs.ensures.longer sites pairs
+
+pub returns-in_err-number-clause-kept : goal.returns-in_err-number-clause-kept
+returns-in_err-number-clause-kept g c = c.number.ensures.kept
+
+pub returns-in_err-number-clause-regular : goal.returns-in_err-number-clause-regular
+returns-in_err-number-clause-regular g c =
+    let p = err_from_is_err_and c.from_residual.result c.from_residual.ensures.1 in
+    rw (p.1) tt
+
+pub returns-in_err-number-clause-numbering : goal.returns-in_err-number-clause-numbering
+returns-in_err-number-clause-numbering g c =
+    let p = err_from_is_err_and c.from_residual.result c.from_residual.ensures.1 in
+    rw (p.1) tt
+
+pub returns-in_err-number-clause-variables : goal.returns-in_err-number-clause-variables
+returns-in_err-number-clause-variables g c =
+    let p = err_from_is_err_and c.from_residual.result c.from_residual.ensures.1 in
+    rw (p.1) tt
+
+pub add_sites-requires-clause-costs : goal.add_sites-requires-clause-costs
+add_sites-requires-clause-costs g c = c.requires.costs
+
+pub add_sites-requires-clause-labels : goal.add_sites-requires-clause-labels
+add_sites-requires-clause-labels g c = c.requires.labels.1
+
+pub add_sites-requires-clause-change : goal.add_sites-requires-clause-change
+add_sites-requires-clause-change g c = c.requires.change
+
+pub add_sites-requires-clause-numbering : goal.add_sites-requires-clause-numbering
+add_sites-requires-clause-numbering g c = c.in_ok-number.ensures.numbering
+
+pub add_sites-requires-clause-choices : goal.add_sites-requires-clause-choices
+add_sites-requires-clause-choices g c = ap (λ (xs : List Choice). length xs) c.number.ensures.kept ∙ c.requires.choices
+
+pub returns-in_err-add_sites-clause-kept : goal.returns-in_err-add_sites-clause-kept
+returns-in_err-add_sites-clause-kept g c = c.number.ensures.kept
+
+pub returns-in_err-add_sites-clause-regular : goal.returns-in_err-add_sites-clause-regular
+returns-in_err-add_sites-clause-regular g c =
+    let p = err_from_is_err_and c.from_residual-in_err-add_sites.result c.from_residual-in_err-add_sites.ensures.1 in
+    rw (p.1) tt
+
+pub returns-in_err-add_sites-clause-numbering : goal.returns-in_err-add_sites-clause-numbering
+returns-in_err-add_sites-clause-numbering g c =
+    let p = err_from_is_err_and c.from_residual-in_err-add_sites.result c.from_residual-in_err-add_sites.ensures.1 in
+    rw (p.1) tt
+
+pub returns-in_err-add_sites-clause-variables : goal.returns-in_err-add_sites-clause-variables
+returns-in_err-add_sites-clause-variables g c =
+    let p = err_from_is_err_and c.from_residual-in_err-add_sites.result c.from_residual-in_err-add_sites.ensures.1 in
+    rw (p.1) tt
+
+pub add_pairs-requires-clause-smooth : goal.add_pairs-requires-clause-smooth
+add_pairs-requires-clause-smooth g c = c.requires.smooth
+
+pub add_pairs-requires-clause-sites : goal.add_pairs-requires-clause-sites
+add_pairs-requires-clause-sites g c = c.requires.sites.0
+
+pub add_pairs-requires-clause-labels : goal.add_pairs-requires-clause-labels
+add_pairs-requires-clause-labels g c =
+    let L : ℕ → Type 0 = λ k. All (λ label. label < k) c.args.at.now in
+    subst L (sym c.requires.labels.0) c.requires.labels.1
+
+pub add_pairs-requires-clause-change : goal.add_pairs-requires-clause-change
+add_pairs-requires-clause-change g c =
+    let C : ℕ → Type 0 = λ k. IsMoveOf k c.args.change in
+    subst C (sym c.requires.labels.0) c.requires.change
+
+pub add_pairs-requires-clause-numbering : goal.add_pairs-requires-clause-numbering
+add_pairs-requires-clause-numbering g c = c.in_ok-number.ensures.numbering
+
+pub add_pairs-requires-clause-choices : goal.add_pairs-requires-clause-choices
+add_pairs-requires-clause-choices g c = ap (λ (xs : List Choice). length xs) c.number.ensures.kept ∙ c.requires.choices
+
+pub returns-clause-kept : goal.returns-clause-kept
+returns-clause-kept g c = c.number.ensures.kept
