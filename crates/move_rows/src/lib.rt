@@ -7,6 +7,8 @@ mod cases;
 #[cfg(test)]
 mod chains;
 #[cfg(test)]
+mod opened;
+#[cfg(test)]
 mod random;
 #[cfg(test)]
 mod worked;

@@ -1,0 +1,124 @@
+//! How many sites of the moves of a first cycle are left for a cut, on a picture that a formula gives.
+ghost use Rattle.std.specs.Prelude.{◌<◌, ◌≤ℤ◌, pos};
+ghost use Rattle.cost_store.specs.Limits.{data_limit};
+ghost use Rattle.cost_store.specs.Promises.{Keeps, KeepsSmooth};
+ghost use Rattle.move_energy.specs.Problems.{AreSized};
+
+use cost_store::{DataCost, SmoothCost};
+use deciding::Deciding;
+use label_field::{Labelling, Pairs};
+use labellings::Move;
+use move_energy::Choice;
+use moves::{Alone, Problem};
+use std::alloc::Global;
+use std::process::Abort;
+use std::test::Fail;
+
+/// How many sites each expansion of the first cycle leaves open, and how many it changes. Made by
+/// tools/open_sites.py, which knows the definitions alone.
+const FIRST_CYCLE: &[(usize, usize)] = &[(0, 0), (863, 3225), (855, 2191), (145, 1039)];
+
+/// A board of fields of 16 by 16 pixels, some of which have another sample.
+fn sample(site: u32) -> u32
+    requires { site < 4096 }
+    ensures { result < 4 }
+{
+    let (x, y) = (site % 64, site / 64);
+    let noise = (x * x * 7 + y * 13 + x * y * 5) % 11;
+    (x / 16 + y / 16 + if noise < 4 { noise } else { 0 }) % 4
+}
+
+/// How many choices are open.
+fn count_open(choices: &[Choice]) -> usize {
+    let mut count = 0usize;
+    for choice in choices {
+        if choice.is_open() {
+            count = count.wrapping_add(1);
+        }
+    }
+    count
+}
+
+/// At how many places two lists differ.
+fn count_changed(old: &[u8], new: &[u8]) -> usize {
+    let mut count = 0usize;
+    for (before, after) in old.iter().zip(new) {
+        if *before != *after {
+            count = count.wrapping_add(1);
+        }
+    }
+    count
+}
+
+/// Expands a label, and answers how many sites are left open, and how many change.
+fn expand<F: Fn(u32, u32) -> i64, V: Fn(u32, u32) -> i64>(
+    alloc: Global,
+    problem: &Problem<F, V>,
+    labelling: &mut Labelling,
+    alpha: u32,
+) -> Result<(usize, usize), Fail>
+    requires sizes { AreSized problem.now.pairs problem.now.data_cost.sites problem.now.data_cost.labels
+        problem.now.smooth_cost.labels labelling.old }
+    requires label { alpha < problem.now.data_cost.labels }
+    requires costs { Keeps (F.pre problem.now.data_cost.f) (F.post problem.now.data_cost.f)
+        problem.now.data_cost.sites problem.now.data_cost.labels data_limit }
+    requires smooth { KeepsSmooth (V.pre problem.now.smooth_cost.v) (V.post problem.now.smooth_cost.v)
+        problem.now.smooth_cost.labels problem.now.smooth_cost.by_metric }
+{
+    let mut deciding = Deciding::new(alloc, &problem.pairs)?;
+    let decided = deciding.decide(
+        &problem.pairs,
+        &problem.data_cost,
+        &problem.smooth_cost,
+        labelling.as_slice(),
+        Move::Expand(alpha),
+    );
+    let before = Vec::from_slice(alloc, labelling.as_slice())?;
+    let moved = problem.expand(alloc, labelling, alpha, &Alone);
+    if decided.is_err() || moved.is_err() {
+        return Ok((0, 0));
+    }
+    let open = count_open(deciding.bounds.choices.as_slice());
+    Ok((open, count_changed(before.as_slice(), labelling.as_slice())))
+}
+
+/// Expands a label of the picture, and answers how many sites are left open, and how many change.
+fn expand_picture(
+    rt: &impl Abort,
+    alloc: Global,
+    labelling: &mut Labelling,
+    alpha: u32,
+) -> Result<(usize, usize), Fail> {
+    let pairs = Pairs::grid4(alloc, 64, 64, 1)?;
+    assert!(*rt; alpha < 4 && pairs.sites() == 4096);
+    assert!(*rt; labelling.sites() == 4096);
+    assert!(*rt; labelling.labels() == 4);
+    let problem = Problem {
+        pairs,
+        data_cost: DataCost::new(
+            |site: u32, label: u32| -> i64
+                requires { (site < 4096) × (label < 4) }
+                ensures { (pos 0 ≤ℤ result) × (result ≤ℤ pos 15) }
+            { i64::from(5 * sample(site).abs_diff(label)) },
+            4096,
+            4,
+        ),
+        smooth_cost: SmoothCost::new(
+            |first: u32, second: u32| -> i64
+                ensures { (pos 0 ≤ℤ result) × (result ≤ℤ pos 2) }
+            { if first == second { 0 } else { 2 } },
+            4,
+        ),
+    };
+    expand(alloc, &problem, labelling, alpha)
+}
+
+#[test]
+fn few_sites_are_left_open(rt: HostRuntime) -> Result<(), Fail> {
+    let mut labelling = Labelling::new(rt.alloc(), 4096, 4)?;
+    for (alpha, wanted) in FIRST_CYCLE.iter().enumerate() {
+        let told = expand_picture(&rt, rt.alloc(), &mut labelling, alpha as u32)?;
+        assert!(rt; told == *wanted, "label {alpha}");
+    }
+    Ok(())
+}
