@@ -1,6 +1,7 @@
-use block_core::Core;
-use block_net::{ARC_LIMIT, BLOCK_LIMIT};
-use flow_network::{Arc, Net};
+use crate::building::{Row, core_of, net_of};
+use crate::rows::expect;
+use block_core::{Core, State};
+use flow_network::{Net, Solved};
 use parcel::{Direction, Event};
 use plain_cut::solve;
 use std::alloc::{AllocError, Global};
@@ -10,15 +11,17 @@ use std::test::Fail;
 /// What the source can send, what the nodes can send the sink, the arcs, and what is found by trying every
 /// cut: the value, and the sink side of the smallest least cut.
 struct Case {
+    name: &'static str,
     sources: &'static [u64],
     sinks: &'static [u64],
-    arcs: &'static [(u32, u32, u64)],
+    arcs: &'static [Row],
     value: u64,
     side: &'static [usize],
 }
 
 /// Two nodes of which both get more than the sink takes.
 const PAIR: Case = Case {
+    name: "PAIR",
     sources: &[4, 1],
     sinks: &[0, 3],
     arcs: &[(0, 1, 4)],
@@ -28,6 +31,7 @@ const PAIR: Case = Case {
 
 /// A chain of three nodes, and a fourth apart.
 const CHAIN: Case = Case {
+    name: "CHAIN",
     sources: &[4, 0, 0, 0],
     sinks: &[0, 0, 1, 0],
     arcs: &[(0, 1, 4), (1, 2, 4)],
@@ -38,6 +42,7 @@ const CHAIN: Case = Case {
 /// The first expansion of label 3 on a picture of 4 by 4 sites, whose sample is 3 in the second column and
 /// else 0: from all labels 0, data costs the distance to the sample, unequal neighbours cost 1.
 const STRIPES: Case = Case {
+    name: "STRIPES",
     sources: &[5, 0, 4, 3, 4, 0, 3, 2, 4, 0, 3, 2, 3, 0, 2, 1],
     sinks: &[0, 2, 0, 0, 0, 3, 0, 0, 0, 3, 0, 0, 0, 4, 0, 0],
     arcs: &[
@@ -71,10 +76,10 @@ const STRIPES: Case = Case {
 };
 
 /// In how many blocks each net is run.
-const BLOCKS: [usize; 4] = [1, 2, 3, 16];
+const BLOCKS: &[usize] = &[1, 2, 3, 16];
 
 /// Where the search for the next enabled event begins, in turn.
-const ORDERS: [&[usize]; 3] = [
+const ORDERS: &[&[usize]] = &[
     &[0],
     &[331, 970, 154, 404, 666, 49, 74, 840, 548, 96, 374, 596],
     &[59, 931, 519, 219, 38, 88, 444, 428, 71, 246, 92, 564, 434],
@@ -83,29 +88,8 @@ const ORDERS: [&[usize]; 3] = [
 /// How often an order is gone through at most.
 const ROUNDS: usize = 20_000;
 
-fn net_of(rt: &(impl Abort + AllocGlobal), case: &Case) -> Result<Net, Fail> {
-    let sources = case.sources.to_vec(rt.alloc())?;
-    let sinks = case.sinks.to_vec(rt.alloc())?;
-    let mut arcs = Vec::new(rt.alloc());
-    for (from, to, capacity) in case.arcs {
-        arcs.push(Arc {
-            from: *from,
-            to: *to,
-            capacity: *capacity,
-        })?;
-    }
-    assert!(rt; Net::fits(sources.as_slice(), sinks.as_slice(), arcs.as_slice()));
-    Ok(Net::new(sources, sinks, arcs))
-}
-
-/// All events that some state of the net in so many blocks may enable, but that which raises all labels.
-fn events_of(
-    alloc: Global,
-    arcs: usize,
-    nodes: u32,
-    blocks: u32,
-) -> Result<Vec<Event>, AllocError> {
-    let mut events = Vec::new(alloc);
+/// The events of arcs.
+fn push_arcs(events: &mut Vec<Event>, arcs: usize) -> Result<(), AllocError> {
     for arc in 0..arcs {
         for back in [false, true] {
             let direction = Direction { arc, back };
@@ -113,10 +97,20 @@ fn events_of(
             events.push(Event::Send { direction })?;
         }
     }
+    Ok(())
+}
+
+/// The events of nodes.
+fn push_nodes(events: &mut Vec<Event>, nodes: u32) -> Result<(), AllocError> {
     for node in 0..nodes {
         events.push(Event::PushSink { node })?;
         events.push(Event::Relabel { node })?;
     }
+    Ok(())
+}
+
+/// The events of two blocks.
+fn push_blocks(events: &mut Vec<Event>, blocks: u32) -> Result<(), AllocError> {
     for from in 0..blocks {
         for to in 0..blocks {
             events.push(Event::Accept { from, to })?;
@@ -124,22 +118,32 @@ fn events_of(
             events.push(Event::Settle { from, to })?;
         }
     }
+    Ok(())
+}
+
+/// All events that some state of the net in so many blocks may enable, but that which raises all labels.
+fn events_of(alloc: Global, net: &Net, blocks: u32) -> Result<Vec<Event>, AllocError> {
+    let mut events = Vec::new(alloc);
+    push_arcs(&mut events, net.arcs().len())?;
+    push_nodes(&mut events, net.nodes() as u32)?;
+    push_blocks(&mut events, blocks)?;
     Ok(events)
 }
 
-/// The first enabled event from a place on, and from the front on where there is none; whether there was one.
-fn step(core: &mut Core, events: &[Event], from: usize) -> bool {
-    for event in events.iter().skip(from) {
-        if core.apply(*event).is_ok() {
-            return true;
-        }
-    }
-    for event in events.iter().take(from) {
+/// Does the first enabled event; whether there was one.
+fn do_first(core: &mut Core, events: &[Event]) -> bool {
+    for event in events {
         if core.apply(*event).is_ok() {
             return true;
         }
     }
     false
+}
+
+/// The first enabled event from a place on, and from the front on where there is none; whether there was one.
+fn step(core: &mut Core, events: &[Event], from: usize) -> bool {
+    let (front, rest) = events.split_at(from.min(events.len()));
+    do_first(core, rest) || do_first(core, front)
 }
 
 /// Events until none is enabled; whether it came to that.
@@ -154,32 +158,57 @@ fn finish(core: &mut Core, events: &[Event], order: &[usize]) -> bool {
     false
 }
 
-/// A run in so many blocks ends with the value and the sink side of the case, as the plain solver does.
-fn expect(
-    rt: &(impl Abort + AllocGlobal),
-    case: &Case,
-    blocks: usize,
-    order: &[usize],
-) -> Result<(), Fail> {
-    let net = net_of(rt, case)?;
-    assert!(rt; 1 <= blocks);
-    assert!(rt; blocks <= BLOCK_LIMIT);
-    assert!(rt; net.arcs().len() <= ARC_LIMIT);
-    let mut core = Core::open(rt.alloc(), &net, blocks)?;
-    let nodes = net.nodes() as u32;
-    let events = events_of(rt.alloc(), net.arcs().len(), nodes, blocks as u32)?;
-    assert!(rt; finish(&mut core, events.as_slice(), order));
-    assert!(rt; core.apply(Event::RaiseAll).is_ok());
-    let solved = solve(rt.alloc(), &net)?;
-    let state = core.state();
-    assert_eq!(rt; state.got(), case.value);
-    assert_eq!(rt; solved.value, case.value);
-    assert_eq!(rt; state.nodes(), case.sources.len());
+/// Whether a state has the value and the sink side of a case.
+fn is_end(state: &State, case: &Case) -> bool {
     let nodes = state.nodes();
     for v in 0..nodes {
         let reaches = state.label(v) as usize <= nodes;
-        assert_eq!(rt; reaches, case.side.contains(&v));
-        assert_eq!(rt; solved.sink_side.get(v).copied(), Some(reaches));
+        if reaches != case.side.contains(&v) {
+            return false;
+        }
+    }
+    nodes == case.sources.len() && state.got() == case.value
+}
+
+/// Whether the plain solver finds the value and the sink side of a case.
+fn is_solved(solved: &Solved, case: &Case) -> bool {
+    for (v, reaches) in solved.sink_side.iter().enumerate() {
+        if *reaches != case.side.contains(&v) {
+            return false;
+        }
+    }
+    solved.sink_side.len() == case.sources.len() && solved.value == case.value
+}
+
+/// Whether a run in so many blocks ends as the case tells.
+fn ends(
+    rt: &(impl Abort + AllocGlobal),
+    case: &Case,
+    net: &Net,
+    blocks: usize,
+    order: &[usize],
+) -> Result<bool, AllocError> {
+    let mut core = core_of(rt, net, blocks)?;
+    assert!(rt; blocks <= 16);
+    let events = events_of(rt.alloc(), net, blocks as u32)?;
+    let is_done = finish(&mut core, events.as_slice(), order);
+    Ok(is_done && core.apply(Event::RaiseAll).is_ok() && is_end(core.state(), case))
+}
+
+/// Each run of a net ends as the case tells, and so does the plain solver.
+fn expect_case(rt: &(impl Abort + AllocGlobal), case: &Case) -> Result<(), AllocError> {
+    let net = net_of(rt, case.sources, case.sinks, case.arcs)?;
+    let solved = solve(rt.alloc(), &net)?;
+    expect(rt, case.name, 0, is_solved(&solved, case));
+    for blocks in BLOCKS {
+        for order in ORDERS {
+            expect(
+                rt,
+                case.name,
+                *blocks,
+                ends(rt, case, &net, *blocks, order)?,
+            );
+        }
     }
     Ok(())
 }
@@ -188,11 +217,7 @@ fn expect(
 #[test]
 fn core_orders(rt: HostRuntime) -> Result<(), Fail> {
     for case in [&PAIR, &CHAIN, &STRIPES] {
-        for blocks in BLOCKS {
-            for order in ORDERS {
-                expect(&rt, case, blocks, order)?;
-            }
-        }
+        expect_case(&rt, case)?;
     }
     Ok(())
 }

@@ -1,7 +1,8 @@
+use crate::building::{core_of, net_of};
+use crate::rows::expect;
 use block_core::{Core, State};
-use block_net::ARC_LIMIT;
-use flow_network::{Arc, Net};
 use parcel::{Direction, Event, Message};
+use std::alloc::AllocError;
 use std::process::Abort;
 use std::test::Fail;
 
@@ -13,19 +14,9 @@ const FORWARD: Direction = Direction {
 const BACKWARD: Direction = Direction { arc: 0, back: true };
 
 /// Two nodes in two blocks, one arc of capacity 4 between them: the sources are told.
-fn open(rt: &(impl Abort + AllocGlobal), sources: &[u64]) -> Result<Core, Fail> {
-    let sources = Vec::from_slice(rt.alloc(), sources)?;
-    let sinks = Vec::from_slice(rt.alloc(), &[0, 3])?;
-    let arc = Arc {
-        from: 0,
-        to: 1,
-        capacity: 4,
-    };
-    let arcs = Vec::from_slice(rt.alloc(), &[arc])?;
-    assert!(rt; Net::fits(sources.as_slice(), sinks.as_slice(), arcs.as_slice()));
-    let net = Net::new(sources, sinks, arcs);
-    assert!(rt; net.arcs().len() <= ARC_LIMIT);
-    Ok(Core::open(rt.alloc(), &net, 2)?)
+fn open(rt: &(impl Abort + AllocGlobal), sources: &[u64]) -> Result<Core, AllocError> {
+    let net = net_of(rt, sources, &[0, 3], &[(0, 1, 4)])?;
+    core_of(rt, &net, 2)
 }
 
 /// What a message counts for: four times its amount and label, less 1 for a parcel and 2 for a parcel
@@ -69,101 +60,100 @@ fn count(state: &State, total: u64) -> u64 {
         .saturating_add(messages)
 }
 
-/// Each event happens, and leaves the count that is told with it.
-fn run(rt: &impl Abort, core: &mut Core, total: u64, events: &[(Event, u64)]) {
-    for (event, left) in events {
-        assert!(rt; core.apply(*event).is_ok());
-        assert_eq!(rt; count(core.state(), total), *left);
+/// An event, and the count that it leaves; none where it is refused, and the count stays.
+type Step = (Event, Option<u64>);
+
+/// Whether an event happens and leaves this count, or is refused and leaves what was.
+fn goes(core: &mut Core, total: u64, event: Event, left: Option<u64>) -> bool {
+    let before = count(core.state(), total);
+    let happens = core.apply(event).is_ok();
+    let after = count(core.state(), total);
+    match left {
+        Some(wanted) => happens && after == wanted,
+        None => !happens && after == before,
     }
 }
 
-/// The event is refused, and the count stays.
-fn refuse(rt: &impl Abort, core: &mut Core, total: u64, event: Event) {
-    let before = count(core.state(), total);
-    assert!(rt; core.apply(event).is_err());
-    assert_eq!(rt; count(core.state(), total), before);
+/// From a count on each event happens or is refused.
+fn run(rt: &impl Abort, core: &mut Core, total: u64, opening: u64, steps: &[Step]) {
+    assert!(*rt; count(core.state(), total) == opening);
+    for (place, (event, left)) in steps.iter().enumerate() {
+        expect(rt, "event", place, goes(core, total, *event, *left));
+    }
 }
+
+/// Whether two nodes have these excesses and labels.
+fn stands(state: &State, excess: [u64; 2], labels: [u32; 2]) -> bool {
+    state.nodes() == 2
+        && [state.excess(0), state.excess(1)] == excess
+        && [state.label(0), state.label(1)] == labels
+}
+
+const REACHING: &[Step] = &[
+    (Event::Relabel { node: 0 }, Some(1021)),
+    (Event::Send { direction: FORWARD }, Some(1020)),
+    (Event::Accept { from: 0, to: 1 }, Some(939)),
+    (Event::Settle { from: 1, to: 0 }, Some(938)),
+    (Event::Relabel { node: 1 }, Some(887)),
+    (Event::PushSink { node: 1 }, Some(875)),
+    (Event::Relabel { node: 1 }, Some(812)),
+    (
+        Event::Send {
+            direction: BACKWARD,
+        },
+        Some(811),
+    ),
+    (Event::Accept { from: 1, to: 0 }, Some(675)),
+    (Event::Settle { from: 0, to: 1 }, Some(674)),
+    (Event::Relabel { node: 0 }, Some(548)),
+    (Event::Send { direction: FORWARD }, Some(547)),
+    (Event::Accept { from: 0, to: 1 }, Some(411)),
+    (Event::Settle { from: 1, to: 0 }, Some(410)),
+    (Event::Relabel { node: 1 }, Some(284)),
+];
 
 /// A flow of 3 to the sink; the unit that is left goes over and back until both labels are at the top.
 #[test]
 fn three_of_four_reach_the_sink(rt: HostRuntime) -> Result<(), Fail> {
     let mut core = open(&rt, &[4, 0])?;
-    assert_eq!(rt; count(core.state(), 4), 1072);
-    let events = [
-        (Event::Relabel { node: 0 }, 1021),
-        (Event::Send { direction: FORWARD }, 1020),
-        (Event::Accept { from: 0, to: 1 }, 939),
-        (Event::Settle { from: 1, to: 0 }, 938),
-        (Event::Relabel { node: 1 }, 887),
-        (Event::PushSink { node: 1 }, 875),
-        (Event::Relabel { node: 1 }, 812),
-        (
-            Event::Send {
-                direction: BACKWARD,
-            },
-            811,
-        ),
-        (Event::Accept { from: 1, to: 0 }, 675),
-        (Event::Settle { from: 0, to: 1 }, 674),
-        (Event::Relabel { node: 0 }, 548),
-        (Event::Send { direction: FORWARD }, 547),
-        (Event::Accept { from: 0, to: 1 }, 411),
-        (Event::Settle { from: 1, to: 0 }, 410),
-        (Event::Relabel { node: 1 }, 284),
-    ];
-    run(&rt, &mut core, 4, &events);
+    run(&rt, &mut core, 4, 1072, REACHING);
     let state = core.into_state();
-    assert_eq!(rt; state.got(), 3);
-    assert_eq!(rt; state.nodes(), 2);
-    if state.nodes() == 2 {
-        assert_eq!(rt; (state.excess(0), state.excess(1)), (0, 1));
-        assert_eq!(rt; (state.label(0), state.label(1)), (3, 4));
-        assert_eq!(rt; state.room(1), 0);
-    }
-    assert!(rt; state.is_quiet());
+    assert!(rt; state.got() == 3 && state.is_quiet());
+    assert!(rt; stands(&state, [0, 1], [3, 4]));
+    assert!(rt; state.nodes() == 2 && state.room(1) == 0);
     Ok(())
 }
+
+const COMING_BACK: &[Step] = &[
+    (Event::PushSink { node: 1 }, None),
+    (Event::Accept { from: 0, to: 1 }, None),
+    (Event::Relabel { node: 0 }, Some(1261)),
+    (Event::Send { direction: FORWARD }, Some(1260)),
+    (Event::RaiseAll, None),
+    (Event::Relabel { node: 1 }, Some(1181)),
+    (Event::Refuse { from: 0, to: 1 }, Some(1180)),
+    (Event::Settle { from: 1, to: 0 }, Some(1099)),
+];
+
+/// What follows, with no count.
+const SENT_AGAIN: &[Event] = &[
+    Event::Relabel { node: 0 },
+    Event::Send { direction: FORWARD },
+    Event::Accept { from: 0, to: 1 },
+];
 
 /// A parcel that meets a label above its own comes back, and is sent again from higher up.
 #[test]
 fn a_parcel_comes_back(rt: HostRuntime) -> Result<(), Fail> {
     let mut core = open(&rt, &[4, 1])?;
-    assert_eq!(rt; count(core.state(), 5), 1328);
-    refuse(&rt, &mut core, 5, Event::PushSink { node: 1 });
-    refuse(&rt, &mut core, 5, Event::Accept { from: 0, to: 1 });
-    run(
-        &rt,
-        &mut core,
-        5,
-        &[
-            (Event::Relabel { node: 0 }, 1261),
-            (Event::Send { direction: FORWARD }, 1260),
-        ],
-    );
-    refuse(&rt, &mut core, 5, Event::RaiseAll);
-    let told = [
-        (Event::Relabel { node: 1 }, 1181),
-        (Event::Refuse { from: 0, to: 1 }, 1180),
-        (Event::Settle { from: 1, to: 0 }, 1099),
-    ];
-    run(&rt, &mut core, 5, &told);
+    run(&rt, &mut core, 5, 1328, COMING_BACK);
     let state = core.state();
-    if state.nodes() == 2 && state.arcs() == 1 {
-        assert_eq!(rt; state.excess(0), 4);
-        assert_eq!(rt; state.known(FORWARD), 1);
+    assert!(rt; state.nodes() == 2 && state.arcs() == 1);
+    assert!(rt; state.excess(0) == 4 && state.known(FORWARD) == 1);
+    for event in SENT_AGAIN {
+        assert!(rt; core.apply(*event).is_ok());
     }
-    for event in [
-        Event::Relabel { node: 0 },
-        Event::Send { direction: FORWARD },
-        Event::Accept { from: 0, to: 1 },
-    ] {
-        assert!(rt; core.apply(event).is_ok());
-    }
-    let state = core.state();
-    if state.nodes() == 2 {
-        assert_eq!(rt; (state.label(0), state.label(1)), (2, 1));
-        assert_eq!(rt; (state.excess(0), state.excess(1)), (0, 5));
-    }
+    assert!(rt; stands(core.state(), [0, 5], [2, 1]));
     Ok(())
 }
 
@@ -173,10 +163,8 @@ fn labels_are_raised(rt: HostRuntime) -> Result<(), Fail> {
     let mut core = open(&rt, &[4, 0])?;
     assert!(rt; core.apply(Event::RaiseAll).is_ok());
     let state = core.state();
-    assert_eq!(rt; (state.nodes(), state.arcs()), (2, 1));
-    if state.nodes() == 2 && state.arcs() == 1 {
-        assert_eq!(rt; (state.label(0), state.label(1)), (2, 1));
-        assert_eq!(rt; (state.known(FORWARD), state.known(BACKWARD)), (1, 2));
-    }
+    assert!(rt; stands(state, [4, 0], [2, 1]));
+    assert!(rt; state.arcs() == 1);
+    assert!(rt; state.known(FORWARD) == 1 && state.known(BACKWARD) == 2);
     Ok(())
 }

@@ -1,5 +1,7 @@
+use crate::building::net_of;
+use crate::rows::expect;
 use block_net::{ARC_LIMIT, BLOCK_LIMIT, Parts};
-use flow_network::{Arc, Net};
+use std::alloc::AllocError;
 use std::process::Abort;
 use std::test::Fail;
 
@@ -7,56 +9,40 @@ use std::test::Fail;
 type Sizes = (usize, &'static [usize], &'static [usize]);
 
 /// The parts of a chain from node 0 over node 1 to node 2, with a fourth node apart.
-const SIZES: [Sizes; 4] = [
+const SIZES: &[Sizes] = &[
     (1, &[4], &[0]),
     (2, &[2, 2], &[1, 1]),
     (3, &[2, 1, 1], &[1, 1, 0]),
     (6, &[1, 1, 0, 1, 1, 0], &[1, 2, 0, 1, 0, 0]),
 ];
 
-fn chain(rt: &(impl Abort + AllocGlobal)) -> Result<Net, Fail> {
-    let sources = [4, 0, 0, 0].to_vec(rt.alloc())?;
-    let sinks = [0, 0, 1, 0].to_vec(rt.alloc())?;
-    let mut arcs = Vec::new(rt.alloc());
-    for from in 0..2 {
-        arcs.push(Arc {
-            from,
-            to: from + 1,
-            capacity: 4,
-        })?;
-    }
-    assert!(rt; Net::fits(sources.as_slice(), sinks.as_slice(), arcs.as_slice()));
-    Ok(Net::new(sources, sinks, arcs))
-}
-
-fn chain_in(rt: &(impl Abort + AllocGlobal), blocks: usize) -> Result<Parts, Fail> {
-    let net = chain(rt)?;
+/// The chain in so many blocks.
+fn chain_in(rt: &(impl Abort + AllocGlobal), blocks: usize) -> Result<Parts, AllocError> {
+    let net = net_of(rt, &[4, 0, 0, 0], &[0, 0, 1, 0], &[(0, 1, 4), (1, 2, 4)])?;
     assert!(rt; 1 <= blocks);
     assert!(rt; blocks <= BLOCK_LIMIT);
     assert!(rt; net.arcs().len() <= ARC_LIMIT);
-    Ok(Parts::split(rt.alloc(), &net, blocks)?)
+    Parts::split(rt.alloc(), &net, blocks)
 }
 
-fn expect(
-    rt: &(impl Abort + AllocGlobal),
-    blocks: usize,
-    nodes: &[usize],
-    borders: &[usize],
-) -> Result<(), Fail> {
-    let parts = chain_in(rt, blocks)?;
-    assert_eq!(rt; parts.blocks.len(), nodes.len());
-    assert_eq!(rt; parts.blocks.len(), borders.len());
-    for (index, block) in parts.blocks.iter().enumerate() {
-        assert_eq!(rt; block.len(), nodes[index]);
-        assert_eq!(rt; block.borders(), borders[index]);
+/// Whether the blocks have so many nodes and so many directions to other blocks.
+fn are_sizes(parts: &Parts, nodes: &[usize], borders: &[usize]) -> bool {
+    if parts.blocks.len() != nodes.len() || parts.blocks.len() != borders.len() {
+        return false;
     }
-    Ok(())
+    for (index, block) in parts.blocks.iter().enumerate() {
+        if block.len() != nodes[index] || block.borders() != borders[index] {
+            return false;
+        }
+    }
+    true
 }
 
 #[test]
 fn a_chain_in_blocks(rt: HostRuntime) -> Result<(), Fail> {
     for (blocks, nodes, borders) in SIZES {
-        expect(&rt, blocks, nodes, borders)?;
+        let parts = chain_in(&rt, *blocks)?;
+        expect(&rt, "SIZES", *blocks, are_sizes(&parts, nodes, borders));
     }
     Ok(())
 }
@@ -64,17 +50,13 @@ fn a_chain_in_blocks(rt: HostRuntime) -> Result<(), Fail> {
 #[test]
 fn the_border_of_two_blocks(rt: HostRuntime) -> Result<(), Fail> {
     let parts = chain_in(&rt, 2)?;
-    assert_eq!(rt; parts.firsts.as_slice(), [0, 2].as_slice());
-    assert_eq!(rt; parts.blocks.len(), 2);
+    assert!(rt; parts.firsts.as_slice() == [0, 2].as_slice());
+    assert!(rt; parts.blocks.len() == 2);
     let block = &parts.blocks[1];
-    assert_eq!(rt; block.borders(), 1);
+    assert!(rt; block.borders() == 1 && block.top() == 6);
     let border = block.border(0);
-    assert_eq!(rt; border.direction.arc, 1);
-    assert!(rt; border.direction.back);
-    assert_eq!(rt; border.near, 0);
-    assert_eq!(rt; border.to, 0);
-    assert_eq!(rt; border.capacity, 4);
-    assert_eq!(rt; border.residual, 0);
-    assert_eq!(rt; block.top(), 6);
+    assert!(rt; border.direction.arc == 1 && border.direction.back);
+    assert!(rt; border.near == 0 && border.to == 0);
+    assert!(rt; border.capacity == 4 && border.residual == 0);
     Ok(())
 }
