@@ -1,34 +1,47 @@
--- A command with one option more.
-use Rattle.std.proofs.Common.{◌≡◌, Bool, false, ◌||◌, List, [], ◌∷◌, ◌++◌, refl, ap, ap₂, sym, ◌∙◌, true, rules}
+-- A command with one option or one command more.
+use Rattle.std.proofs.Common.{◌≡◌, Bool, true, false, ◌||◌, ℕ, ◌+◌, ◌<◌, List, length, get_or, drop, ap, sym, ◌∙◌, rules}
 use Rattle.std.proofs.Math.Bool.{or-false}
-use Rattle.std.proofs.lemmas.Bool.{or_from}
-use Rattle.clap.specs.Words.{AddsArg, AddsSubcommand, App, Rule, app_of, rule_of, with_rule, with_subcommand}
+use Rattle.std.proofs.lemmas.List.{at_drop_more}
+use Rattle.clap.specs.Words.{AddsArg, AddsSubcommand, App, app_of, rule_of, with_rule, with_subcommand}
 use Rattle.clap.specs.declared.builder.arg.Arg.{Arg}
 use Rattle.clap.specs.declared.builder.command.Command.{Command}
 use Rattle.clap.specs.declared.builder.command.Command.TheViews.{out-Command}
 use Rattle.command_line.specs.App.{Makes, requiring_subcommand}
-use Rattle.command_line.specs.Rules.{Adds, with_rules}
+use Rattle.command_line.specs.Rules.{with_rules}
+use Rattle.command_line.specs.Tables.{app_for, rule_for, rules_for, with_chapters}
+use Rattle.command_line.specs.declared.app.Chapter.{Chapter}
+use Rattle.command_line.specs.declared.rules.Choice.{Choice}
 
-pub adds_one : (old new : Command) (a : Arg) (r : Rule) → rule_of a ≡ r → a.global ≡ false → AddsArg old a new → Adds old (r ∷ []) new
-adds_one old new a r is own adds = (
-  adds.shape own ∙ ap (with_rule (app_of old)) is,
-  adds.globals ∙ ap (λ (g : Bool). (out-Command old).has_globals || g) own ∙ or-false (out-Command old).has_globals,
-)
+-- the next option of a list
+pub next_option : (now new : Command) (a : Arg) (xs : List Choice) (i : ℕ) (d : Choice) → i < length xs
+    → rule_of a ≡ rule_for (get_or xs i d) → a.global ≡ false → AddsArg now a new
+    → with_rules (app_of new) (rules_for (drop (i + 1) xs)) ≡ with_rules (app_of now) (rules_for (drop i xs))
+next_option now new a xs i d small is own adds =
+    let rest : App → App = λ (b : App). with_rules b (rules_for (drop (i + 1) xs)) in
+    let left : with_rules (app_of now) (rules_for (drop i xs)) ≡ rest (with_rule (app_of now) (rule_for (get_or xs i d))) =
+    at_drop_more (λ (ys : List Choice). with_rules (app_of now) (rules_for ys)) xs i d small in
+    ap rest (adds.shape own ∙ ap (with_rule (app_of now)) is) ∙ sym left
 
-more : (a : App) (rs : List Rule) (r : Rule) → with_rules a (rs ++ r ∷ []) ≡ with_rule (with_rules a rs) r
-more a [] r = refl
-more a (x ∷ rs) r = more (with_rule a x) rs r
+-- and it is not global
+pub option_globals : (now new : Command) (a : Arg) → a.global ≡ false → AddsArg now a new
+    → (out-Command new).has_globals ≡ (out-Command now).has_globals
+option_globals now new a own adds =
+    adds.globals ∙ ap (λ (g : Bool). (out-Command now).has_globals || g) own ∙ or-false (out-Command now).has_globals
 
-pub adds_more : (old now new : Command) (rs : List Rule) (r : Rule) → Adds old rs now → Adds now (r ∷ []) new → Adds old (rs ++ r ∷ []) new
-adds_more old now new rs r before one =
-    (one.0 ∙ ap (λ (a : App). with_rule a r) before.0 ∙ sym (more (app_of old) rs r), one.1 ∙ before.1)
+-- the next command of a list
+pub next_chapter : (now sub new : Command) (xs : List Chapter) (i : ℕ) (d : Chapter) → i < length xs
+    → Makes (app_for (get_or xs i d)) sub → AddsSubcommand now sub new
+    → with_chapters (app_of new) (drop (i + 1) xs) ≡ with_chapters (app_of now) (drop i xs)
+next_chapter now sub new xs i d small is adds =
+    let rest : App → App = λ (b : App). with_chapters b (drop (i + 1) xs) in
+    let left : with_chapters (app_of now) (drop i xs) ≡ rest (with_subcommand (app_of now) (app_for (get_or xs i d)).top) =
+    at_drop_more (λ (ys : List Chapter). with_chapters (app_of now) ys) xs i d small in
+    ap rest (adds.shape is.1 ∙ ap (λ (b : App). with_subcommand (app_of now) b.top) is.0) ∙ sym left
 
--- a command with one subcommand more
-pub one_command : (old sub new : Command) (a s : App) → Makes a old → Makes s sub → AddsSubcommand old sub new → Makes (with_subcommand a s.top) new
-one_command old sub new a s is sub_is adds = (
-  adds.shape sub_is.1 ∙ ap₂ with_subcommand is.0 (ap (λ (b : App). b.top) sub_is.0),
-  adds.globals ∙ or_from (out-Command old).has_globals (out-Command sub).has_globals is.1 sub_is.1,
-)
+pub chapter_globals : (now sub new : Command) (a : App) → Makes a sub → AddsSubcommand now sub new
+    → (out-Command new).has_globals ≡ (out-Command now).has_globals
+chapter_globals now sub new a is adds =
+    adds.globals ∙ ap (λ (g : Bool). (out-Command now).has_globals || g) is.1 ∙ or-false (out-Command now).has_globals
 
 -- a command that has to have a subcommand
 pub requires_one : (old new : Command) (a : App) → Makes a old → out-Command new ≡ record (out-Command old) { subcommand_required = true }

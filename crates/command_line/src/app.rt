@@ -1,12 +1,55 @@
 //! The commands, as `clap` knows them.
-ghost use Rattle.std.specs.Prelude.{IfOk};
-ghost use Rattle.clap.specs.Words.{App, with_subcommand};
-ghost use Rattle.command_line.specs.App.{Makes, energy_app, gco_app, label_app, restore_app, segment_app, stereo_app};
+ghost use Rattle.std.specs.Prelude.{◌≡◌, IfOk};
+ghost use Rattle.command_line.specs.App.{Makes, gco_app};
+ghost use Rattle.command_line.specs.Tables.{AddsChapters, app_for};
 
 use crate::help;
-use crate::rules::{with_restore, with_segment, with_stereo};
+use crate::rules::{Choice, RESTORE, SEGMENT, STEREO, with_options};
 use clap::Command;
 use std::alloc::{AllocError, Global};
+
+/// A command under `gco`.
+pub(crate) struct Chapter {
+    pub(crate) name: &'static str,
+    pub(crate) about: &'static str,
+    /// What help says after the options.
+    pub(crate) after: &'static str,
+    pub(crate) options: &'static [Choice],
+}
+
+/// The commands, in the order in which help lists them.
+const CHAPTERS: &[Chapter] = &[
+    Chapter {
+        name: "restore",
+        about: help::RESTORE,
+        after: help::RESTORE_AFTER,
+        options: RESTORE,
+    },
+    Chapter {
+        name: "stereo",
+        about: help::STEREO,
+        after: help::STEREO_AFTER,
+        options: STEREO,
+    },
+    Chapter {
+        name: "segment",
+        about: help::SEGMENT,
+        after: help::SEGMENT_AFTER,
+        options: SEGMENT,
+    },
+    Chapter {
+        name: "energy",
+        about: help::ENERGY,
+        after: help::ENERGY_AFTER,
+        options: &[],
+    },
+    Chapter {
+        name: "label",
+        about: help::LABEL,
+        after: help::LABEL_AFTER,
+        options: &[],
+    },
+];
 
 /// The whole command line: a subcommand is required, and each command takes `--help`.
 pub fn gco_command<'a>(alloc: Global) -> Result<Command<'a>, AllocError>
@@ -16,87 +59,30 @@ pub fn gco_command<'a>(alloc: Global) -> Result<Command<'a>, AllocError>
         .about(help::GCO)
         .after_help(help::GCO_AFTER)
         .subcommand_required(true);
-    let command = with_pictures(alloc, command)?;
-    with_tables(alloc, command)
+    with_chapters(alloc, command, CHAPTERS)
 }
 
-// The commands on pictures.
-fn with_pictures<'a>(alloc: Global, command: Command<'a>) -> Result<Command<'a>, AllocError>
-    ensures { (a : App) → Makes a command.entry → IfOk result (Makes (with_subcommand (with_subcommand
-        (with_subcommand a restore_app.top) stereo_app.top) segment_app.top)) }
-{
-    let command = with_command(command, restore_command(alloc))?;
-    let command = with_command(command, stereo_command(alloc))?;
-    with_command(command, segment_command(alloc))
-}
-
-// The commands on tables.
-fn with_tables<'a>(alloc: Global, command: Command<'a>) -> Result<Command<'a>, AllocError>
-    ensures { (a : App) → Makes a command.entry → IfOk result (Makes (with_subcommand
-        (with_subcommand a energy_app.top) label_app.top)) }
-{
-    let command = command.subcommand(energy_command(alloc))?;
-    command.subcommand(label_command(alloc))
-}
-
-// A command with one more, where memory was had for that.
-fn with_command<'a>(
+// Adds the commands.
+fn with_chapters<'a>(
+    alloc: Global,
     command: Command<'a>,
-    part: Result<Command<'a>, AllocError>,
+    chapters: &[Chapter],
 ) -> Result<Command<'a>, AllocError>
-    ensures { (a b : App) → Makes a command.entry → IfOk part.entry (Makes b)
-        → IfOk result (Makes (with_subcommand a b.top)) }
+    ensures { IfOk result (AddsChapters command.entry chapters.now) }
 {
-    match part {
-        Ok(part) => command.subcommand(part),
-        Err(error) => Err(error),
+    let mut command = command;
+    for chapter in chapters {
+        let part = chapter_command(alloc, chapter)?;
+        command = command.subcommand(part)?;
     }
+    Ok(command)
 }
 
-#[tactic(auto, unfolding(crate::specs::App::restore_app))]
-fn restore_command<'a>(alloc: Global) -> Result<Command<'a>, AllocError>
-    ensures { IfOk result (Makes restore_app) }
+fn chapter_command<'a>(alloc: Global, chapter: &Chapter) -> Result<Command<'a>, AllocError>
+    ensures { IfOk result (Makes (app_for chapter.now)) }
 {
-    let command = Command::new(alloc, "restore")
-        .about(help::RESTORE)
-        .after_help(help::RESTORE_AFTER);
-    with_restore(alloc, command)
-}
-
-#[tactic(auto, unfolding(crate::specs::App::stereo_app))]
-fn stereo_command<'a>(alloc: Global) -> Result<Command<'a>, AllocError>
-    ensures { IfOk result (Makes stereo_app) }
-{
-    let command = Command::new(alloc, "stereo")
-        .about(help::STEREO)
-        .after_help(help::STEREO_AFTER);
-    with_stereo(alloc, with_restore(alloc, command)?)
-}
-
-#[tactic(auto, unfolding(crate::specs::App::segment_app))]
-fn segment_command<'a>(alloc: Global) -> Result<Command<'a>, AllocError>
-    ensures { IfOk result (Makes segment_app) }
-{
-    let command = Command::new(alloc, "segment")
-        .about(help::SEGMENT)
-        .after_help(help::SEGMENT_AFTER);
-    with_segment(alloc, command)
-}
-
-#[tactic(auto, unfolding(crate::specs::App::energy_app))]
-fn energy_command<'a>(alloc: Global) -> Command<'a>
-    ensures { Makes energy_app result }
-{
-    Command::new(alloc, "energy")
-        .about(help::ENERGY)
-        .after_help(help::ENERGY_AFTER)
-}
-
-#[tactic(auto, unfolding(crate::specs::App::label_app))]
-fn label_command<'a>(alloc: Global) -> Command<'a>
-    ensures { Makes label_app result }
-{
-    Command::new(alloc, "label")
-        .about(help::LABEL)
-        .after_help(help::LABEL_AFTER)
+    let command = Command::new(alloc, chapter.name)
+        .about(chapter.about)
+        .after_help(chapter.after);
+    with_options(alloc, command, chapter.options)
 }

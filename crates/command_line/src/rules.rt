@@ -1,6 +1,8 @@
 //! The options of the commands, as `clap` is told of them.
-ghost use Rattle.std.specs.Prelude.{[], ◌∷◌, IfOk};
-ghost use Rattle.command_line.specs.Rules.{Adds, defaulted_rule, required_rule, restore_rules, segment_rules, stereo_rules, text_rule};
+ghost use Rattle.std.specs.Prelude.{◌≡◌, false, IfOk};
+ghost use Rattle.clap.specs.Words.{rule_of};
+ghost use Rattle.command_line.specs.Rules.{Adds};
+ghost use Rattle.command_line.specs.Tables.{rule_for, rules_for, with_range};
 
 use crate::help;
 use clap::builder::ValueParser;
@@ -10,128 +12,149 @@ use label_field::{LABEL_LIMIT, WEIGHT_LIMIT};
 use run_options::{CYCLE_LIMIT, TRUNC_LIMIT};
 use std::alloc::{AllocError, Global};
 
-/// Adds the options of `restore`.
-pub(crate) fn with_restore<'a>(
-    alloc: Global,
-    command: Command<'a>,
-) -> Result<Command<'a>, AllocError>
-    ensures { IfOk result (Adds command.entry restore_rules) }
-{
-    let command = with_text(alloc, command, "smooth", "potts", help::SMOOTH)?;
-    let command = with_number(alloc, command, "trunc", 1, TRUNC_LIMIT, "1", help::TRUNC)?;
-    let command = with_number(alloc, command, "weight", 0, WEIGHT_LIMIT, "1", help::WEIGHT)?;
-    let command = with_number(alloc, command, "neighbours", 4, 8, "4", help::NEIGHBOURS)?;
-    let command = with_text(alloc, command, "moves", "expansion", help::MOVES)?;
-    with_number(
-        alloc,
-        command,
-        "cycles",
-        0,
-        CYCLE_LIMIT,
-        "100",
-        help::CYCLES,
-    )
+/// What the value of an option is.
+pub(crate) enum Value {
+    /// Any text, or else this one.
+    Text(&'static str),
+    /// A number from the first to the second, or else this one.
+    Number(u32, u32, &'static str),
+    /// A number from the first to the second, which has to be given.
+    Required(u32, u32),
 }
 
-/// Adds the options that `stereo` has beside those of `restore`.
-pub(crate) fn with_stereo<'a>(
-    alloc: Global,
-    command: Command<'a>,
-) -> Result<Command<'a>, AllocError>
-    ensures { IfOk result (Adds command.entry stereo_rules) }
-{
-    let command = with_number(alloc, command, "labels", 1, LABEL_LIMIT, "16", help::LABELS)?;
-    with_number(alloc, command, "cap", 0, CAP_LIMIT, "20", help::CAP)
+/// The option `--name`, which takes one value.
+pub(crate) struct Choice {
+    pub(crate) name: &'static str,
+    pub(crate) value: Value,
+    pub(crate) help: &'static str,
 }
 
-/// Adds the options of `segment`.
-pub(crate) fn with_segment<'a>(
+const SMOOTH: Choice = Choice {
+    name: "smooth",
+    value: Value::Text("potts"),
+    help: help::SMOOTH,
+};
+
+const TRUNC: Choice = Choice {
+    name: "trunc",
+    value: Value::Number(1, TRUNC_LIMIT, "1"),
+    help: help::TRUNC,
+};
+
+const WEIGHT: Choice = Choice {
+    name: "weight",
+    value: Value::Number(0, WEIGHT_LIMIT, "1"),
+    help: help::WEIGHT,
+};
+
+const NEIGHBOURS: Choice = Choice {
+    name: "neighbours",
+    value: Value::Number(4, 8, "4"),
+    help: help::NEIGHBOURS,
+};
+
+const MOVES: Choice = Choice {
+    name: "moves",
+    value: Value::Text("expansion"),
+    help: help::MOVES,
+};
+
+const CYCLES: Choice = Choice {
+    name: "cycles",
+    value: Value::Number(0, CYCLE_LIMIT, "100"),
+    help: help::CYCLES,
+};
+
+const LABELS: Choice = Choice {
+    name: "labels",
+    value: Value::Number(1, LABEL_LIMIT, "16"),
+    help: help::LABELS,
+};
+
+const CAP: Choice = Choice {
+    name: "cap",
+    value: Value::Number(0, CAP_LIMIT, "20"),
+    help: help::CAP,
+};
+
+const LOW: Choice = Choice {
+    name: "low",
+    value: Value::Required(0, MAXVAL_LIMIT),
+    help: help::LOW,
+};
+
+const HIGH: Choice = Choice {
+    name: "high",
+    value: Value::Required(0, MAXVAL_LIMIT),
+    help: help::HIGH,
+};
+
+const STRONG: Choice = Choice {
+    name: "strong",
+    value: Value::Number(0, WEIGHT_LIMIT, "20"),
+    help: help::STRONG,
+};
+
+const WEAK: Choice = Choice {
+    name: "weak",
+    value: Value::Number(0, WEIGHT_LIMIT, "5"),
+    help: help::WEAK,
+};
+
+const EDGE: Choice = Choice {
+    name: "edge",
+    value: Value::Number(0, MAXVAL_LIMIT, "5"),
+    help: help::EDGE,
+};
+
+/// The options of `restore`.
+pub(crate) const RESTORE: &[Choice] = &[SMOOTH, TRUNC, WEIGHT, NEIGHBOURS, MOVES, CYCLES];
+
+/// The options of `stereo`: those of `restore`, and two more.
+pub(crate) const STEREO: &[Choice] = &[
+    SMOOTH, TRUNC, WEIGHT, NEIGHBOURS, MOVES, CYCLES, LABELS, CAP,
+];
+
+/// The options of `segment`.
+pub(crate) const SEGMENT: &[Choice] = &[LOW, HIGH, STRONG, WEAK, EDGE, NEIGHBOURS, CYCLES];
+
+/// Adds the options to the command.
+pub(crate) fn with_options<'a>(
     alloc: Global,
     command: Command<'a>,
+    choices: &[Choice],
 ) -> Result<Command<'a>, AllocError>
-    ensures { IfOk result (Adds command.entry segment_rules) }
+    ensures { IfOk result (Adds command.entry (rules_for choices.now)) }
 {
-    let command = with_required(alloc, command, "low", 0, MAXVAL_LIMIT, help::LOW)?;
-    let command = with_required(alloc, command, "high", 0, MAXVAL_LIMIT, help::HIGH)?;
-    let command = with_number(
-        alloc,
-        command,
-        "strong",
-        0,
-        WEIGHT_LIMIT,
-        "20",
-        help::STRONG,
-    )?;
-    let command = with_number(alloc, command, "weak", 0, WEIGHT_LIMIT, "5", help::WEAK)?;
-    let command = with_number(alloc, command, "edge", 0, MAXVAL_LIMIT, "5", help::EDGE)?;
-    let command = with_number(alloc, command, "neighbours", 4, 8, "4", help::NEIGHBOURS)?;
-    with_number(
-        alloc,
-        command,
-        "cycles",
-        0,
-        CYCLE_LIMIT,
-        "100",
-        help::CYCLES,
-    )
+    let mut command = command;
+    for choice in choices {
+        command = command.arg(option_of(alloc, choice))?;
+    }
+    Ok(command)
 }
 
-// `--name` with any text.
-fn with_text<'a>(
-    alloc: Global,
-    command: Command<'a>,
-    name: &'a str,
-    default: &'a str,
-    help: &'a str,
-) -> Result<Command<'a>, AllocError>
-    ensures { IfOk result (Adds command.entry (text_rule name.entry.now default.entry.now ∷ [])) }
+fn option_of<'a>(alloc: Global, choice: &Choice) -> Arg<'a>
+    ensures rule { rule_of result ≡ rule_for choice.now }
+    ensures own { result.global ≡ false }
 {
-    let option = Arg::new(alloc, name)
-        .long(name)
-        .value_name("NAME")
-        .default_value(default)
-        .help(help);
-    command.arg(option)
+    let option = Arg::new(alloc, choice.name)
+        .long(choice.name)
+        .help(choice.help);
+    match choice.value {
+        Value::Text(default) => option.value_name("NAME").default_value(default),
+        Value::Number(least, most, default) => with_number(option, least, most).default_value(
+            default,
+        ),
+        Value::Required(least, most) => with_number(option, least, most).required(true),
+    }
 }
 
-// `--name` with a number from the least to the most.
-fn with_number<'a>(
-    alloc: Global,
-    command: Command<'a>,
-    name: &'a str,
-    least: u32,
-    most: u32,
-    default: &'a str,
-    help: &'a str,
-) -> Result<Command<'a>, AllocError>
-    ensures { IfOk result (Adds command.entry
-        (defaulted_rule name.entry.now least most default.entry.now ∷ [])) }
+// The option has a number as its value.
+fn with_number<'a>(option: Arg<'a>, least: u32, most: u32) -> Arg<'a>
+    ensures rule { rule_of result ≡ with_range (rule_of option.entry) least most }
+    ensures own { result.global ≡ option.entry.global }
 {
-    let option = Arg::new(alloc, name)
-        .long(name)
+    option
         .value_name("N")
         .value_parser(ValueParser::Signed(i64::from(least), i64::from(most)))
-        .default_value(default)
-        .help(help);
-    command.arg(option)
-}
-
-// `--name` with a number from the least to the most, which has to be given.
-fn with_required<'a>(
-    alloc: Global,
-    command: Command<'a>,
-    name: &'a str,
-    least: u32,
-    most: u32,
-    help: &'a str,
-) -> Result<Command<'a>, AllocError>
-    ensures { IfOk result (Adds command.entry (required_rule name.entry.now least most ∷ [])) }
-{
-    let option = Arg::new(alloc, name)
-        .long(name)
-        .value_name("N")
-        .value_parser(ValueParser::Signed(i64::from(least), i64::from(most)))
-        .required(true)
-        .help(help);
-    command.arg(option)
 }
