@@ -1,5 +1,5 @@
 -- What the options of a subcommand say, by its matches.
-use Rattle.std.specs.Prelude.{◌≡◌, ℕ, ◌≤◌, Option, Some, None, option_and_then, IsSomeAnd, List, codes}
+use Rattle.std.specs.Prelude.{◌≡◌, ◌≢◌, ℕ, ◌≤◌, Option, Some, None, option_and_then, IsSomeAnd, List, codes}
 use Rattle.std.specs.Str.Parse.{IsNumeral, digits_value, without_leading_plus}
 use Rattle.clap.specs.Words.{Row, Text, first_of, one_of}
 use Rattle.image_options.specs.Limits.{cap_limit, maxval_limit}
@@ -100,3 +100,9 @@ IsFirstBad rows option.Moves =
 -- of a command that has the second alone
 abbrev pub IsOnlyBad : List Row → OptionName → Type 0
 IsOnlyBad rows name = (name ≡ option.Neighbours) × IsBad rows option.Neighbours
+
+-- the value of this one is not there, and that of each before it is
+abbrev pub IsFirstNone : Option Shape → Option Neighbours → Option Moves → OptionName → Type 0
+IsFirstNone smooth neighbours moves option.Smooth = smooth ≡ None
+IsFirstNone smooth neighbours moves option.Neighbours = (smooth ≢ None) × (neighbours ≡ None)
+IsFirstNone smooth neighbours moves option.Moves = (smooth ≢ None) × (neighbours ≢ None) × (moves ≡ None)

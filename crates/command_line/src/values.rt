@@ -1,8 +1,8 @@
 //! The options of a subcommand, read from what `clap` matched.
-ghost use Rattle.std.specs.Prelude.{◌≡◌, ℕ, ◌<◌, ◌^◌, option_map, IfOk, IfErr, IfSome, IfNone};
+ghost use Rattle.std.specs.Prelude.{◌≡◌, ℕ, ◌≤◌, ◌<◌, ◌^◌, Some, option_map, IfOk, IfErr, IfSome, IfNone};
 ghost use Rattle.clap.specs.Words.{first_of, found_of, rows_of};
 ghost use Rattle.image_options.specs.declared.options.Neighbours.{Neighbours};
-ghost use Rattle.command_line.specs.Options.{AreNames, HasNeighbours, HasNumber, HasValue, IsFirstBad, IsOnlyBad, IsRestore, IsSegment, IsStereo, moves_of, smooth_of};
+ghost use Rattle.command_line.specs.Options.{AreNames, HasNeighbours, HasNumber, HasValue, IsFirstBad, IsFirstNone, IsOnlyBad, IsRestore, IsSegment, IsStereo, moves_of, smooth_of};
 ghost use Rattle.command_line.specs.Task.{HasNo};
 
 use crate::OptionName;
@@ -125,13 +125,30 @@ fn names_in(matches: &ArgMatches<'_>) -> Result<Names, OptionName>
         names.smooth names.neighbours names.moves) }
     ensures bad { IfErr result (IsFirstBad (rows_of (found_of matches.now))) }
 {
-    let Some(smooth) = smooth_in(matches) else {
+    names_of(
+        smooth_in(matches),
+        neighbours_in(matches),
+        moves_in(matches),
+    )
+}
+
+// These names, or the first that is not there.
+fn names_of(
+    smooth: Option<Shape>,
+    neighbours: Option<Neighbours>,
+    moves: Option<Moves>,
+) -> Result<Names, OptionName>
+    ensures names { IfOk result (λ names. (smooth ≡ Some names.smooth)
+        × (neighbours ≡ Some names.neighbours) × (moves ≡ Some names.moves)) }
+    ensures lacks { IfErr result (IsFirstNone smooth neighbours moves) }
+{
+    let Some(smooth) = smooth else {
         return Err(OptionName::Smooth);
     };
-    let Some(neighbours) = neighbours_in(matches) else {
+    let Some(neighbours) = neighbours else {
         return Err(OptionName::Neighbours);
     };
-    match moves_in(matches) {
+    match moves {
         Some(moves) => Ok(Names {
             smooth,
             neighbours,
@@ -184,7 +201,14 @@ fn number_in(matches: &ArgMatches<'_>, name: &str, least: u32, most: u32) -> Opt
     ensures none { IfNone result ((n : ℕ) →
         ¬ HasNumber (rows_of (found_of matches.now)) name.now least most n) }
 {
-    let number = value_in(matches, name)?;
+    within(value_in(matches, name)?, least, most)
+}
+
+// The number, if it is from the least to the most.
+fn within(number: u32, least: u32, most: u32) -> Option<u32>
+    ensures within { IfSome result (λ n. (n ≡ number) × (least ≤ number) × (number ≤ most)) }
+    ensures none { IfNone result (least ≤ number → most < number) }
+{
     if least <= number && number <= most {
         Some(number)
     } else {
