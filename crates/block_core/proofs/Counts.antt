@@ -11,7 +11,7 @@ use Rattle.flow_network.specs.Cut.{Network, IsNet}
 use Rattle.parcel.specs.declared.message.Message.{Message}
 use Rattle.parcel.specs.Soundness.{opened}
 use Rattle.parcel.proofs.Opening.{map_at, opened_sound}
-use Rattle.block_net.specs.Limits.{block_limit}
+use Rattle.block_net.specs.Split.{CanSplit}
 use Rattle.block_core.specs.Mails.{room_at, IsHeld}
 use Rattle.block_core.specs.Views.{BlocksView, first_of, state_of}
 use Rattle.block_core.specs.Counting.{put_room, IsSquareOf, joined, IsCounted}
@@ -134,8 +134,8 @@ empty_messages n rooms sq =
     let lb' : b < n = omega (arith, lb, sq.rows) in
     map_at f rooms b d [] lb ∙ (map_const none (get_or rooms b []) ∙ (ap (λ (m : ℕ). replicate m none) (sq.columns b lb') ∙ sym (get_or-replicate n b (replicate n none) d lb'))))
 
-pub opened_held : (net : Network) (blocks : ℕ) (rooms : List (List ℕ)) → IsNet net → 1 ≤ blocks → blocks ≤ block_limit → IsCounted (first_of net blocks) (length net.arcs) rooms → IsHeld rooms (opened net blocks)
-opened_held net blocks rooms is some few counted = record { sound = opened_sound net blocks is some; few = few; room = counted.enough }
+pub opened_held : (net : Network) (blocks : ℕ) (rooms : List (List ℕ)) → IsNet net → CanSplit net blocks → IsCounted (first_of net blocks) (length net.arcs) rooms → IsHeld rooms (opened net blocks)
+opened_held net blocks rooms is can counted = record { sound = opened_sound net blocks is can.some; few = can.few; arcs = can.arcs; room = counted.enough }
 
 pub opened_is : (net : Network) (n : ℕ) (b : BlocksView) (messages : List (List (List Message))) (rooms : List (List ℕ)) → b ≡ first_of net n → IsSquareOf n rooms
     → messages ≡ map (λ row. map (λ k. let none : List Message = [] in none) row) rooms → state_of b messages 0 ≡ opened net n

@@ -1,5 +1,5 @@
 -- What an event leaves is held again.
-use Rattle.std.proofs.Common.{◌≡◌, ℕ, List, [], ◌∷◌, refl, sym, subst, arith}
+use Rattle.std.proofs.Common.{◌≡◌, ◌≤◌, ℕ, List, length, [], ◌∷◌, refl, sym, subst, arith}
 use Rattle.parcel.specs.declared.message.Message.{Message}
 use Rattle.parcel.specs.declared.message.Message.TheVariants.{Parcel, Accepted, Refused}
 use Rattle.parcel.specs.declared.event.Event.{Event}
@@ -7,6 +7,7 @@ use Rattle.parcel.specs.declared.event.Event.TheVariants.{PushInner, PushSink, R
 use Rattle.parcel.specs.States.{State, way_at}
 use Rattle.parcel.specs.Events.{Enabled, effect, accepted, refused, settled}
 use Rattle.parcel.proofs.Kept.{effect_kept}
+use Rattle.block_net.specs.Limits.{arc_limit}
 use Rattle.block_core.specs.Mails.{HasRooms, IsHeld}
 
 -- same net and as many blocks
@@ -48,6 +49,7 @@ held_after {rooms} {s} e held on =
     record {
       sound = effect_kept s e held.sound on;
       few = omega (arith, same.blocks, held.few);
+      arcs = subst (λ n. length n.arcs ≤ arc_limit) (sym same.net) held.arcs;
       room = subst (λ n. HasRooms n (effect s e).blocks rooms) (sym same.net) (subst (λ n. HasRooms s.net n rooms) (sym same.blocks) held.room);
     }
 

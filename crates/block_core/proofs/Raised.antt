@@ -40,5 +40,5 @@ held_raised {rooms} {s} t held happens =
     let effect = happens.effect in
     let u = raised s effect.0 in
     let done : Happens s RaiseAll u = record { enabled = happens.enabled; effect = (effect.0, effect.1, refl) } in
-    let all : IsHeld rooms u = record { sound = kept s u RaiseAll held.sound done; few = held.few; room = held.room } in
+    let all : IsHeld rooms u = record { sound = kept s u RaiseAll held.sound done; few = held.few; arcs = held.arcs; room = held.room } in
     subst (IsHeld rooms) (sym effect.2) all

@@ -1,3 +1,4 @@
+pub mod Compact
 pub mod Views
 pub mod Mails
 pub mod Raising

@@ -1,10 +1,10 @@
 -- The ways between blocks, and for how many messages each has room.
-use Rattle.std.specs.Prelude.{ℕ, ◌≡◌, ◌<◌, ◌≤◌, List, [], slice_index, slice_index_or}
+use Rattle.std.specs.Prelude.{ℕ, ◌≡◌, ◌<◌, ◌≤◌, List, [], length, slice_index, slice_index_or}
 use Rattle.flow_network.specs.Cut.{Network}
 use Rattle.parcel.specs.declared.message.Message.{Message}
 use Rattle.parcel.specs.States.{State}
 use Rattle.parcel.specs.Soundness.{IsSound, room_between}
-use Rattle.block_net.specs.Limits.{block_limit}
+use Rattle.block_net.specs.Limits.{arc_limit, block_limit}
 
 pub record MailView : Type 0 where
   pub messages : List (List (List Message))
@@ -24,4 +24,5 @@ HasRooms net blocks rooms = (b c : ℕ) → b < blocks → c < blocks → (b ≡
 pub record IsHeld (rooms : List (List ℕ)) (s : State) : Type 0 where
   pub sound : IsSound s
   pub few : s.blocks ≤ block_limit
+  pub arcs : length s.net.arcs ≤ arc_limit
   pub room : HasRooms s.net s.blocks rooms

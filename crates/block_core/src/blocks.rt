@@ -21,9 +21,9 @@ use std::marker::Model;
 
 /// What the blocks of a net hold of its nodes and of its directions.
 ///
-/// Beside the net that is 36 bytes a node (excess and room 8 each, its two starts 8 each, the label 4), 40
-/// bytes an arc within a block (of each direction 16, and 4 for its place), and 24 bytes a block; the short
-/// list of the directions to other blocks takes 72 bytes each, and 4 for the place.
+/// Beside the net that is 28 bytes a node (excess and room 8 each, its two starts and the label 4 each), 40
+/// bytes an arc within a block (of each direction 16, and 4 for its place), and 104 bytes an arc between two
+/// blocks (of each direction 48, and 4 for its place).
 #[derive(Drop)]
 pub struct Blocks {
     net: Net,

@@ -7,6 +7,7 @@
 
 mod apply;
 mod blocks;
+mod compact;
 mod lane;
 mod mail;
 mod raise;

@@ -1,19 +1,22 @@
 ghost use Rattle.std.specs.Prelude.{IfOk, map, ◌≡◌, ◌↔◌, ◌<◌, ◌≤◌, ℕ, IsTrue, MatchOption, length, slice_index, slice_index_or, [], ◌∷◌, drop};
 ghost use Rattle.std.specs.VecDeque.{deque_capacity};
 ghost use Rattle.parcel.specs.States.{way_at, put_way, put_message};
-ghost use Rattle.parcel.specs.Soundness.{IsSquare};
+ghost use Rattle.parcel.specs.Soundness.{IsSquare, direction_of};
+ghost use Rattle.block_net.specs.Limits.{arc_limit};
 ghost use Rattle.block_core.specs.Mails.{MailView, room_at};
 
+use crate::compact::CompactMessage;
 use crate::rooms::Rooms;
 use parcel::Message;
 use std::alloc::{AllocError, Global};
 use std::collections::VecDeque;
 use std::marker::Model;
 
-/// The messages on the way from each block to each other, in room that was made once.
+/// The messages on the way from each block to each other, in room that was made once: 24 bytes a message, and
+/// of each arc between two blocks two messages each way.
 #[derive(Drop)]
 pub struct Mail {
-    rows: Vec<Vec<VecDeque<Message>>>,
+    rows: Vec<Vec<VecDeque<CompactMessage>>>,
 }
 
 impl Model for Mail {
@@ -28,7 +31,7 @@ impl Model for Mail {
 }
 
 /// Empty ways of one block, each with the room that is told.
-fn empty_ways(alloc: Global, rooms: &[usize]) -> Result<Vec<VecDeque<Message>>, AllocError>
+fn empty_ways(alloc: Global, rooms: &[usize]) -> Result<Vec<VecDeque<CompactMessage>>, AllocError>
     ensures messages { IfOk result (λ ways. map (λ way. way.items) ways.items ≡ map (λ n. []) rooms.now) }
     ensures rooms { IfOk result (λ ways. map (λ way. deque_capacity way) ways.items ≡ rooms.now) }
 {
@@ -60,7 +63,10 @@ impl Mail {
             (λ message. way_at self.now.messages from to
             ≡ message ∷ drop 1 (way_at self.now.messages from to)) }
     {
-        self.rows[from][to].front().copied()
+        match self.rows[from][to].front() {
+            Some(kept) => Some(kept.message()),
+            None => None,
+        }
     }
 
     /// The message in front leaves its way, if there is one.
@@ -79,10 +85,11 @@ impl Mail {
         requires from { from < length self.old.messages }
         requires to { to < length (slice_index_or self.old.messages from []) }
         requires room { length (way_at self.old.messages from to) < room_at self.old.rooms from to }
+        requires arc { (direction_of message).arc < arc_limit }
         ensures messages { self.new.messages ≡ put_message self.old.messages from to message }
         ensures rooms { self.new.rooms ≡ self.old.rooms }
     {
-        self.rows[from][to].push_back_reserved(message);
+        self.rows[from][to].push_back_reserved(CompactMessage::of(message));
     }
 
     /// Whether no message is on the way from a block to the first so many.

@@ -4,8 +4,9 @@ ghost use Rattle.flow_network.specs.Progress.{top_label};
 ghost use Rattle.block_net.specs.Split.{CanSplit, AreGrouped, block_made};
 ghost use Rattle.block_net.specs.Views.{BlockView, count, excess_in, label_in, room_in, lane_in, border_in, first_lane, first_border, out_of, pushed, given, labelled, sent, accepted, settled, returned, informed, lane_allows, border_allows, highest};
 
+use crate::compact::CompactBorder;
 use crate::ends::bounds;
-use crate::make::{borders_of, lanes_of, span, starts_from};
+use crate::opening::{inner_of, nodes_from, outer_of};
 use crate::{Border, ByNode, Lane};
 use flow_network::Net;
 use parcel::Flight;
@@ -19,10 +20,10 @@ pub struct Cells {
     excess: Vec<u64>,
     labels: Vec<u32>,
     rooms: Vec<u64>,
-    starts: Vec<usize>,
+    starts: Vec<u32>,
     lanes: Vec<Lane>,
-    border_starts: Vec<usize>,
-    borders: Vec<Border>,
+    border_starts: Vec<u32>,
+    borders: Vec<CompactBorder>,
 }
 
 impl Model for Cells {
@@ -68,18 +69,18 @@ impl Cells {
         ensures { IfOk result (λ cells. cells ≡ block_made net.now blocks rows.now block) }
     {
         let (first, next) = bounds(net, blocks, block);
-        let inner = span(&rows.inner, first, next);
-        let outer = span(&rows.outer, first, next);
-        let slots = rows.slots.as_slice();
+        let nodes = nodes_from(alloc, net, first, next)?;
+        let inner = inner_of(alloc, net, blocks, rows, block)?;
+        let outer = outer_of(alloc, net, blocks, rows, block)?;
         Ok(Cells {
             top: net.nodes() as u32 + 2,
-            excess: net.sources()[first..next].to_vec(alloc)?,
-            labels: vec![in alloc; 0; next - first]?,
-            rooms: net.sinks()[first..next].to_vec(alloc)?,
-            starts: starts_from(alloc, rows.inner.starts.as_slice(), first, next)?,
-            lanes: lanes_of(alloc, net, slots, first, inner)?,
-            border_starts: starts_from(alloc, rows.outer.starts.as_slice(), first, next)?,
-            borders: borders_of(alloc, net, blocks, slots, first, outer)?,
+            excess: nodes.excess,
+            labels: nodes.labels,
+            rooms: nodes.rooms,
+            starts: inner.starts,
+            lanes: inner.lanes,
+            border_starts: outer.starts,
+            borders: outer.borders,
         })
     }
 
@@ -132,7 +133,7 @@ impl Cells {
         ensures end { result.1 ≡ first_lane self.now (v + 1) }
         ensures limit { result.1 ≤ length self.now.lanes }
     {
-        (self.starts[v], self.starts[v + 1])
+        (self.starts[v] as usize, self.starts[v + 1] as usize)
     }
 
     /// The place of a node's first direction to another block, and that after its last.
@@ -142,7 +143,10 @@ impl Cells {
         ensures end { result.1 ≡ first_border self.now (v + 1) }
         ensures limit { result.1 ≤ length self.now.borders }
     {
-        (self.border_starts[v], self.border_starts[v + 1])
+        (
+            self.border_starts[v] as usize,
+            self.border_starts[v + 1] as usize,
+        )
     }
 
     /// The direction within the block at a place.
@@ -163,7 +167,7 @@ impl Cells {
         ensures known { result.known ≤ self.now.top }
         ensures small { result.known ≤ top_label node_limit }
     {
-        self.borders[j]
+        self.borders[j].border()
     }
 
     /// The highest label that a direction within the block allows the node that it leaves.
@@ -262,9 +266,9 @@ impl Cells {
     {
         let label = self.labels[v];
         self.excess[v] -= amount;
-        let border = &mut self.borders[j];
-        border.residual -= amount;
-        border.flight = Some(Flight { amount, label });
+        let border = self.borders[j].border();
+        let flight = Some(Flight { amount, label });
+        self.borders[j].set(border.residual - amount, border.known, flight);
     }
 
     /// How many directions lead to other blocks.
@@ -282,18 +286,14 @@ impl Cells {
         requires label { label ≤ self.old.top }
         ensures { self.new ≡ accepted self.old j amount label }
     {
-        let border = self.borders[j];
+        let border = self.borders[j].border();
         self.excess[border.near as usize] += amount;
         let known = if border.flight.is_some() {
             border.known
         } else {
             u32::max(border.known, label)
         };
-        self.borders[j] = Border {
-            residual: border.residual + amount,
-            known,
-            ..border
-        };
+        self.borders[j].set(border.residual + amount, known, border.flight);
     }
 
     /// A direction to another block knows a label of its far end.
@@ -302,7 +302,8 @@ impl Cells {
         requires limit { known ≤ self.old.top }
         ensures { self.new ≡ informed self.old j known }
     {
-        self.borders[j].known = known;
+        let border = self.borders[j].border();
+        self.borders[j].set(border.residual, known, border.flight);
     }
 
     /// The parcel of a direction was taken.
@@ -310,7 +311,8 @@ impl Cells {
         requires { j < length self.old.borders }
         ensures { self.new ≡ settled self.old j }
     {
-        self.borders[j].flight = None;
+        let border = self.borders[j].border();
+        self.borders[j].set(border.residual, border.known, None);
     }
 
     /// The parcel of a direction comes back.
@@ -320,13 +322,8 @@ impl Cells {
         requires told { told ≤ self.old.top }
         ensures { self.new ≡ returned self.old j amount told }
     {
-        let sent = self.borders[j];
+        let sent = self.borders[j].border();
         self.excess[sent.near as usize] += amount;
-        self.borders[j] = Border {
-            residual: sent.residual + amount,
-            known: told,
-            flight: None,
-            ..sent
-        };
+        self.borders[j].set(sent.residual + amount, told, None);
     }
 }

@@ -1,6 +1,6 @@
 ghost use Rattle.std.specs.Prelude.{◌≡◌, ◌+◌, ◌*◌, ◌<◌, ◌≤◌, length};
 ghost use Rattle.flow_network.specs.Limits.{node_limit};
-ghost use Rattle.flow_network.specs.Cut.{nodes};
+ghost use Rattle.flow_network.specs.Cut.{nodes, IsNet};
 ghost use Rattle.parcel.specs.Directions.{IsDirection, near, far};
 ghost use Rattle.parcel.specs.States.{block_of, is_border};
 ghost use Rattle.block_net.specs.Limits.{block_limit};
@@ -77,6 +77,7 @@ pub(crate) fn bounds(net: &Net, blocks: usize, block: usize) -> (usize, usize)
     ensures order { result.0 ≤ result.1 }
     ensures within { result.1 ≤ nodes net.now }
     ensures few { nodes net.now ≤ node_limit }
+    ensures limits { IsNet net.now }
     ensures same { length net.now.sinks ≡ nodes net.now }
 {
     let nodes = net.nodes();

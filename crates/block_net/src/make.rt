@@ -5,6 +5,7 @@ ghost use Rattle.parcel.specs.Soundness.{first_residual};
 ghost use Rattle.block_net.specs.Whole.{index_of};
 ghost use Rattle.block_net.specs.Split.{CanSplit, directions, direction_in, starts_from, lane_made, border_made, lanes_made, borders_made, span};
 
+use crate::compact::CompactBorder;
 use crate::ends::{block_of, direction_at, far, near};
 use crate::{Border, Lane};
 use flow_network::Net;
@@ -18,7 +19,7 @@ pub(crate) fn starts_from(
     starts: &[u32],
     first: usize,
     next: usize,
-) -> Result<Vec<usize>, AllocError>
+) -> Result<Vec<u32>, AllocError>
     requires order { first ≤ next }
     requires within { next < length starts.now }
     requires grow { (v : ℕ) → first ≤ v → v ≤ next → slice_index starts.now first ≤ slice_index starts.now v }
@@ -28,7 +29,7 @@ pub(crate) fn starts_from(
     let count = next - first + 1;
     let mut list = Vec::with_capacity(alloc, count)?;
     for node in 0..count {
-        list.push_reserved((starts[first + node] - starts[first]) as usize);
+        list.push_reserved(starts[first + node] - starts[first]);
     }
     Ok(list)
 }
@@ -84,14 +85,20 @@ fn lane_at(net: &Net, slots: &[u32], first: usize, direction: Direction) -> Lane
 }
 
 /// A direction to another block, of the block whose first node this is.
-fn border_at(net: &Net, blocks: usize, slots: &[u32], first: usize, direction: Direction) -> Border
+fn border_at(
+    net: &Net,
+    blocks: usize,
+    slots: &[u32],
+    first: usize,
+    direction: Direction,
+) -> CompactBorder
     requires split { CanSplit net.now blocks }
     requires direction { IsDirection net.now direction }
     requires room { length slots.now ≡ directions net.now }
     requires near { first ≤ near net.now direction }
     ensures { result ≡ border_made net.now blocks slots.now first direction }
 {
-    Border {
+    CompactBorder::of(Border {
         direction,
         near: (near(net, direction) as usize - first) as u32,
         to: block_of(net, blocks, far(net, direction)) as u32,
@@ -100,7 +107,7 @@ fn border_at(net: &Net, blocks: usize, slots: &[u32], first: usize, direction: D
         residual: first_residual(net, direction),
         known: 0,
         flight: None,
-    }
+    })
 }
 
 /// Directions within a block whose first node this is.
@@ -132,7 +139,7 @@ pub(crate) fn borders_of(
     slots: &[u32],
     first: usize,
     indices: &[u32],
-) -> Result<Vec<Border>, AllocError>
+) -> Result<Vec<CompactBorder>, AllocError>
     requires split { CanSplit net.now blocks }
     requires room { length slots.now ≡ directions net.now }
     requires small { All (λ i. i < directions net.now) indices.now }

@@ -1,5 +1,5 @@
 use Rattle.std.proofs.lemmas.Grind.{common_steps}
-use Rattle.std.proofs.Common.{drop, List, [], ◌∷◌, ◌++◌, refl, sym, ◌∙◌, ap, arith}
+use Rattle.std.proofs.Common.{drop, List, [], refl, ◌∙◌, ap, arith}
 use Rattle.std.specs.Vec.{with_item}
 use Rattle.std.specs.VecDeque.{deque_capacity}
 use Rattle.parcel.specs.declared.message.Message.{Message}

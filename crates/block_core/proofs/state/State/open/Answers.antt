@@ -11,7 +11,7 @@ invariant_of-result c =
     let first = c.in_ok-blocks.ensures.first in
     let counted = subst (λ (b : BlocksView). IsCounted b (length b.net.arcs) c.in_ok-rooms.rooms) first c.in_ok-rooms.ensures in
     let made = opened_is net n c.in_ok-blocks.blocks c.in_ok-ways.ways.messages c.in_ok-rooms.rooms first counted.square c.in_ok-ways.ensures.messages in
-    rw (c.in_ok-ways.ensures.rooms, made) (opened_held net n c.in_ok-rooms.rooms c.in_ok-blocks.ensures.limits c.requires.some c.requires.few counted)
+    rw (c.in_ok-ways.ensures.rooms, made) (opened_held net n c.in_ok-rooms.rooms c.in_ok-blocks.ensures.limits c.requires counted)
 
 pub returns : goal.returns
 returns c =

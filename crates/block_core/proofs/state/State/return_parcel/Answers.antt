@@ -5,7 +5,7 @@ use Rattle.parcel.specs.Directions.{far}
 use Rattle.parcel.specs.States as core
 use Rattle.block_core.specs.Views.{state_of}
 use Rattle.block_core.proofs.Keeping.{held_next}
-use Rattle.block_core.proofs.Fronts.{parcel_out, may_refuse, refuse_room, refuse_is}
+use Rattle.block_core.proofs.Fronts.{parcel_out, parcel_arc, may_refuse, refuse_room, refuse_is}
 use Rattle.block_core.proofs.state.State.return_parcel.Goals as goal
 
 pub far-requires : goal.far-requires
@@ -16,6 +16,15 @@ far-requires c =
     let s : core.State = state_of c.self.inside.blocks c.self.inside.ways.messages c.self.inside.got in
     let front : core.way_at s.ways b e ≡ Parcel x c.args.amount c.args.label ∷ drop 1 (core.way_at s.ways b e) = subst (λ (t : core.State). core.way_at t.ways b e ≡ Parcel x c.args.amount c.args.label ∷ drop 1 (core.way_at t.ways b e)) (sym c.self.view_is) c.requires.front in
     (parcel_out b e x c.args.amount c.args.label _ c.self.invariant front).direction
+
+pub put-requires-clause-arc : goal.put-requires-clause-arc
+put-requires-clause-arc c =
+    let b = c.args.from in
+    let e = c.args.to in
+    let x = c.args.direction in
+    let s : core.State = state_of c.self.inside.blocks c.self.inside.ways.messages c.self.inside.got in
+    let front : core.way_at s.ways b e ≡ Parcel x c.args.amount c.args.label ∷ drop 1 (core.way_at s.ways b e) = subst (λ (t : core.State). core.way_at t.ways b e ≡ Parcel x c.args.amount c.args.label ∷ drop 1 (core.way_at t.ways b e)) (sym c.self.view_is) c.requires.front in
+    parcel_arc b e x c.args.amount c.args.label _ c.self.invariant front
 
 pub put-requires-clause-room : goal.put-requires-clause-room
 put-requires-clause-room c =

@@ -5,7 +5,7 @@ use Rattle.parcel.specs.Directions.{far}
 use Rattle.parcel.specs.States as core
 use Rattle.block_core.specs.Views.{state_of}
 use Rattle.block_core.proofs.Keeping.{held_next}
-use Rattle.block_core.proofs.Fronts.{parcel_out, may_accept, accept_room, accept_amount, accept_label, accept_is}
+use Rattle.block_core.proofs.Fronts.{parcel_out, parcel_arc, may_accept, accept_room, accept_amount, accept_label, accept_is}
 use Rattle.block_core.proofs.state.State.take_parcel.Goals as goal
 
 pub accept-requires-clause-direction : goal.accept-requires-clause-direction
@@ -45,6 +45,15 @@ accept-requires-clause-label c =
     let front : core.way_at s.ways b e ≡ Parcel x c.args.amount c.args.label ∷ drop 1 (core.way_at s.ways b e) = subst (λ (t : core.State). core.way_at t.ways b e ≡ Parcel x c.args.amount c.args.label ∷ drop 1 (core.way_at t.ways b e)) (sym c.self.view_is) c.requires.front in
     let level = subst (λ (t : core.State). core.label_of t (far t.net x) + 1 ≡ c.args.label) (sym c.self.view_is) c.requires.label in
     accept_label b e x c.args.amount c.args.label _ c.self.invariant front level
+
+pub put-requires-clause-arc : goal.put-requires-clause-arc
+put-requires-clause-arc c =
+    let b = c.args.from in
+    let e = c.args.to in
+    let x = c.args.direction in
+    let s : core.State = state_of c.self.inside.blocks c.self.inside.ways.messages c.self.inside.got in
+    let front : core.way_at s.ways b e ≡ Parcel x c.args.amount c.args.label ∷ drop 1 (core.way_at s.ways b e) = subst (λ (t : core.State). core.way_at t.ways b e ≡ Parcel x c.args.amount c.args.label ∷ drop 1 (core.way_at t.ways b e)) (sym c.self.view_is) c.requires.front in
+    parcel_arc b e x c.args.amount c.args.label _ c.self.invariant front
 
 pub put-requires-clause-room : goal.put-requires-clause-room
 put-requires-clause-room c =

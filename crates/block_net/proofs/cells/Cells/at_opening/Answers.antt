@@ -1,111 +1,11 @@
-use Rattle.std.proofs.Common.{◌<◌, ◌≤◌, ℕ, All, slice_index, sym, subst, arith, rules, true, false}
+use Rattle.std.proofs.Common.{sym, subst, arith, rules}
 use Rattle.std.proofs.lemmas.Grind.{common_steps}
-use Rattle.parcel.specs.Directions.{near, far}
 use Rattle.block_net.specs.Views.{IsBlock}
-use Rattle.block_net.specs.Split.{directions, direction_in}
-use Rattle.block_net.proofs.Spots.{starts_grow}
-use Rattle.block_net.proofs.Spans.{all_in_span}
-use Rattle.block_net.proofs.Made.{far_in_block, block_from_is}
+use Rattle.block_net.proofs.Made.{block_from_is}
 use Rattle.block_net.proofs.cells.Cells.at_opening.Goals as goal
-
-pub span-inner-requires-clause-first : goal.span-inner-requires-clause-first
-span-inner-requires-clause-first c =
-    omega (arith, c.requires.rows.inner.starts_len, c.bounds-first.ensures.order, c.bounds-first.ensures.within)
-
-pub span-inner-requires-clause-next : goal.span-inner-requires-clause-next
-span-inner-requires-clause-next c =
-    omega (arith, c.requires.rows.inner.starts_len, c.bounds-first.ensures.within)
-
-pub span-inner-requires-clause-order : goal.span-inner-requires-clause-order
-span-inner-requires-clause-order c =
-    starts_grow c.args.net.now c.args.blocks false c.args.rows.now.inner c.requires.rows.inner c.bounds-first.result.0 c.bounds-first.result.1 c.bounds-first.ensures.order (omega (arith, c.bounds-first.ensures.within))
-
-pub span-inner-requires-clause-within : goal.span-inner-requires-clause-within
-span-inner-requires-clause-within c =
-    omega (arith, c.requires.rows.inner.places_len, c.requires.rows.inner.within c.bounds-first.result.1 c.bounds-first.ensures.within)
-
-pub span-outer-requires-clause-first : goal.span-outer-requires-clause-first
-span-outer-requires-clause-first c =
-    omega (arith, c.requires.rows.outer.starts_len, c.bounds-first.ensures.order, c.bounds-first.ensures.within)
-
-pub span-outer-requires-clause-next : goal.span-outer-requires-clause-next
-span-outer-requires-clause-next c =
-    omega (arith, c.requires.rows.outer.starts_len, c.bounds-first.ensures.within)
-
-pub span-outer-requires-clause-order : goal.span-outer-requires-clause-order
-span-outer-requires-clause-order c =
-    starts_grow c.args.net.now c.args.blocks true c.args.rows.now.outer c.requires.rows.outer c.bounds-first.result.0 c.bounds-first.result.1 c.bounds-first.ensures.order (omega (arith, c.bounds-first.ensures.within))
-
-pub span-outer-requires-clause-within : goal.span-outer-requires-clause-within
-span-outer-requires-clause-within c =
-    omega (arith, c.requires.rows.outer.places_len, c.requires.rows.outer.within c.bounds-first.result.1 c.bounds-first.ensures.within)
-
-pub slice_bounds-to_vec-start : goal.slice_bounds-to_vec-start
-slice_bounds-to_vec-start c =
-    c.bounds-first.ensures.order
-
-pub overflow_sub-next : goal.overflow_sub-next
-overflow_sub-next c =
-    c.bounds-first.ensures.order
-
-pub slice_bounds-to_vec-start-2 : goal.slice_bounds-to_vec-start-2
-slice_bounds-to_vec-start-2 c =
-    c.bounds-first.ensures.order
-
-pub starts_from-requires-clause-order : goal.starts_from-requires-clause-order
-starts_from-requires-clause-order c =
-    c.bounds-first.ensures.order
-
-pub starts_from-requires-2-clause-order : goal.starts_from-requires-2-clause-order
-starts_from-requires-2-clause-order c =
-    c.bounds-first.ensures.order
-
-pub starts_from-requires-clause-grow : goal.starts_from-requires-clause-grow
-starts_from-requires-clause-grow c =
-    λ v low high.
-    subst (λ xs. slice_index xs c.bounds-first.result.0 ≤ slice_index xs v) (sym c.as_slice.ensures.value)
-    (starts_grow c.args.net.now c.args.blocks false c.args.rows.now.inner c.requires.rows.inner c.bounds-first.result.0 v low (omega (arith, high, c.bounds-first.ensures.within)))
-
-pub starts_from-requires-2-clause-grow : goal.starts_from-requires-2-clause-grow
-starts_from-requires-2-clause-grow c =
-    λ v low high.
-    subst (λ xs. slice_index xs c.bounds-first.result.0 ≤ slice_index xs v) (sym c.as_slice-2.ensures.value)
-    (starts_grow c.args.net.now c.args.blocks true c.args.rows.now.outer c.requires.rows.outer c.bounds-first.result.0 v low (omega (arith, high, c.bounds-first.ensures.within)))
-
-pub lanes_of-requires-clause-small : goal.lanes_of-requires-clause-small
-lanes_of-requires-clause-small c =
-    let net = c.args.net.now in
-    let first = c.bounds-first.result.0 in
-    subst (All (λ (i : ℕ). i < directions net)) (sym c.span-inner.ensures)
-    (all_in_span (λ (i : ℕ). i < directions net) net c.args.blocks false c.args.rows.now.inner first c.bounds-first.result.1 c.requires.rows.inner
-    c.bounds-first.ensures.within c.bounds-first.ensures.order (λ p stands. stands.small))
-
-pub lanes_of-requires-clause-far : goal.lanes_of-requires-clause-far
-lanes_of-requires-clause-far c =
-    let net = c.args.net.now in
-    let first = c.bounds-first.result.0 in
-    subst (All (λ (i : ℕ). first ≤ far net (direction_in net i))) (sym c.span-inner.ensures)
-    (all_in_span (λ (i : ℕ). first ≤ far net (direction_in net i)) net c.args.blocks false c.args.rows.now.inner first c.bounds-first.result.1 c.requires.rows.inner
-    c.bounds-first.ensures.within c.bounds-first.ensures.order (λ p stands. (far_in_block net c.args.blocks c.args.block first c.bounds-first.result.1 c.args.rows.now.inner p c.bounds-first.ensures.first c.bounds-first.ensures.next c.bounds-first.ensures.within c.nodes.ensures.limits c.requires.split.some stands).0))
-
-pub borders_of-requires-clause-small : goal.borders_of-requires-clause-small
-borders_of-requires-clause-small c =
-    let net = c.args.net.now in
-    let first = c.bounds-first.result.0 in
-    subst (All (λ (i : ℕ). i < directions net)) (sym c.span-outer.ensures)
-    (all_in_span (λ (i : ℕ). i < directions net) net c.args.blocks true c.args.rows.now.outer first c.bounds-first.result.1 c.requires.rows.outer
-    c.bounds-first.ensures.within c.bounds-first.ensures.order (λ p stands. stands.small))
-
-pub borders_of-requires-clause-near : goal.borders_of-requires-clause-near
-borders_of-requires-clause-near c =
-    let net = c.args.net.now in
-    let first = c.bounds-first.result.0 in
-    subst (All (λ (i : ℕ). first ≤ near net (direction_in net i))) (sym c.span-outer.ensures)
-    (all_in_span (λ (i : ℕ). first ≤ near net (direction_in net i)) net c.args.blocks true c.args.rows.now.outer first c.bounds-first.result.1 c.requires.rows.outer
-    c.bounds-first.ensures.within c.bounds-first.ensures.order (λ p stands. stands.low))
 
 pub invariant_of-result : goal.invariant_of-result
 invariant_of-result c =
-    let kept = block_from_is c.args.net.now c.args.blocks c.args.rows.now c.args.block c.bounds-first.result.0 c.bounds-first.result.1 c.nodes.ensures.limits c.requires.split c.requires.rows
+    let kept = block_from_is c.args.net.now c.args.blocks c.args.rows.now c.args.block c.bounds-first.result.0 c.bounds-first.result.1 c.bounds-first.ensures.limits c.requires.split c.requires.rows
     c.bounds-first.ensures.first c.bounds-first.ensures.next c.bounds-first.ensures.order c.bounds-first.ensures.within in
     subst IsBlock (sym (first_of (search (rules, common_steps), grind (arith, common_steps)))) kept

@@ -1,4 +1,4 @@
-use Rattle.std.proofs.Common.{◌≡◌, ◌+◌, ◌-◌, ◌<◌, ◌≤◌, cond, nat_lt}
+use Rattle.std.proofs.Common.{◌≡◌, ◌+◌, ◌-◌, ◌≤◌, cond, nat_lt}
 use Rattle.block_net.specs.Views.{room_in, first_lane, first_border, lane_allows, border_allows, least_span}
 use Rattle.block_net.proofs.cells.Cells.highest_label.Given as goal
 
