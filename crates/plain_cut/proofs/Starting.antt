@@ -5,7 +5,7 @@ use Rattle.plain_cut.specs.declared.work.Work.{Work}
 use Rattle.flow_network.specs.Cut.{Network, nodes}
 use Rattle.flow_network.specs.Preflow.{Flow, inflow, outflow}
 use Rattle.flow_network.specs.Progress.{IsSound}
-use Rattle.plain_cut.specs.State.{IsWork}
+use Rattle.plain_cut.specs.State.{IsUnlabelled}
 use Rattle.sums.proofs.SumLemmas.{sum_below-none, counted-zero}
 
 pub zeros : (n i : ℕ) → slice_index (replicate n 0) i ≡ 0
@@ -39,5 +39,8 @@ start_sound net =
     }
 
 pub start_work : (net : Network) (w : Work) → w.arc_flow.items ≡ replicate (length net.arcs) 0 → w.sink_flow.items ≡ replicate (nodes net) 0
-    → w.excess.items ≡ net.sources → w.labels.items ≡ replicate (nodes net) 0 → All (λ v. v < nodes net) w.queue.items → IsWork net w
-start_work net w ea es ee el q = record { sound = rw (ea, es, ee, el) (start_sound net); queue = q }
+    → w.excess.items ≡ net.sources → w.labels.items ≡ replicate (nodes net) 0 → All (λ v. v < nodes net) w.queue.items → IsUnlabelled net w
+start_work net w ea es ee el q = record {
+  work = record { sound = rw (ea, es, ee, el) (start_sound net); queue = q };
+  labels = λ v. rw el (zeros (nodes net) v);
+}

@@ -13,6 +13,11 @@ pub record IsWork (net : Network) (w : Work) : Type 0 where
   pub sound : IsSound net (work_flow w) w.excess.items w.labels.items
   pub queue : All (λ v. v < nodes net) w.queue.items
 
+-- all labels are 0, which fit every preflow
+pub record IsUnlabelled (net : Network) (w : Work) : Type 0 where
+  pub work : IsWork net w
+  pub labels : (v : ℕ) → slice_index w.labels.items v ≡ 0
+
 -- what each push and each new label lowers
 abbrev pub left : Network → Work → ℕ
 left net w = work_left net w.excess.items w.labels.items

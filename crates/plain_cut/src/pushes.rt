@@ -12,6 +12,21 @@ use sink_distances::Adjacency;
 use std::alloc::{AllocError, Global};
 use std::collections::VecDeque;
 
+/// Takes an amount from the one node's excess and gives it to the other's.
+pub fn carry(excess: &mut [u64], from: u32, to: u32, amount: u64)
+    requires from { from < length excess.old }
+    requires to { to < length excess.old }
+    requires other { from ≢ to }
+    requires enough { amount ≤ slice_index excess.old from }
+    requires small { slice_index excess.old to + amount < 2 ^ 64 }
+    ensures { excess.new ≡
+        slice_set (slice_set excess.old from (slice_index excess.old from - amount))
+        to (slice_index excess.old to + amount) }
+{
+    excess[from as usize] -= amount;
+    excess[to as usize] += amount;
+}
+
 /// Takes an amount from the one node's excess and gives it to the other's, which is queued if it had none.
 fn shift(
     excess: &mut [u64],
@@ -34,8 +49,7 @@ fn shift(
     if excess[to as usize] == 0 {
         queue.push_back(to)?;
     }
-    excess[from as usize] -= amount;
-    excess[to as usize] += amount;
+    carry(excess, from, to, amount);
     Ok(())
 }
 
@@ -100,6 +114,7 @@ fn push_sink(net: &Net, work: &mut Work, v: usize)
     requires residual { slice_index work.old.sink_flow.items v < slice_index net.now.sinks v }
     requires some { 0 < slice_index work.old.excess.items v }
     ensures step { IsStep net.now v work.old work.new }
+    ensures labels { work.new.labels.items ≡ work.old.labels.items }
     ensures spent { 0 < slice_index work.new.excess.items v →
         slice_index net.now.sinks v ≤ slice_index work.new.sink_flow.items v }
 {
@@ -110,10 +125,11 @@ fn push_sink(net: &Net, work: &mut Work, v: usize)
 }
 
 /// Gives the sink what the node has, where its sink arc has room.
-fn try_push_sink(net: &Net, work: &mut Work, v: usize)
+pub fn try_push_sink(net: &Net, work: &mut Work, v: usize)
     requires work { IsWork net.now work.old }
     requires node { v < nodes net.now }
     ensures steps { IsSteps net.now v work.old work.new }
+    ensures labels { work.new.labels.items ≡ work.old.labels.items }
     ensures spent { 0 < slice_index work.new.excess.items v →
         slice_index net.now.sinks v ≤ slice_index work.new.sink_flow.items v }
 {

@@ -3,7 +3,7 @@ ghost use Rattle.flow_network.specs.Limits.{node_limit};
 ghost use Rattle.flow_network.specs.Cut.{nodes, IsNet};
 ghost use Rattle.sink_distances.specs.Adjacency.{IsAdjacency};
 ghost use Rattle.sink_distances.specs.Distances.{AreDistances};
-ghost use Rattle.plain_cut.specs.State.{work_flow, IsWork, IsRaised};
+ghost use Rattle.plain_cut.specs.State.{work_flow, IsWork, IsRaised, IsUnlabelled};
 
 use flow_network::Net;
 use sink_distances::{Adjacency, write_distances};
@@ -52,7 +52,7 @@ pub fn queue_again(
 
 /// The work at the start: no flow but that of the source, all labels 0, no node queued.
 pub fn start(alloc: Global, net: &Net) -> Result<Work, AllocError>
-    ensures work { IfOk result (λ w. IsWork net.now w) }
+    ensures work { IfOk result (λ w. IsUnlabelled net.now w) }
     ensures limits { IsNet net.now }
 {
     let nodes = net.nodes();

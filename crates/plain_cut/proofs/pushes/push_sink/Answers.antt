@@ -24,6 +24,7 @@ returns c =
       step = give_step net old _ v z c.requires.work c.requires.node
           (omega (arith, amount, kept)) (omega (arith, amount, kept, given, c.requires.some, c.requires.residual)) (omega (arith, amount, given, c.requires.residual))
           refl (ap (λ (f : ℕ). set old.sink_flow.items v (f + z)) given) (ap (λ (f : ℕ). set old.excess.items v (f - z)) again) refl refl refl;
+      labels = refl;
       spent = λ some. omega (arith, some, kept_set, given_set, amount, kept, again);
     }
 

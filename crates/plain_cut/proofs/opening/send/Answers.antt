@@ -1,0 +1,51 @@
+use Rattle.std.proofs.lemmas.Grind.{common_steps}
+use Rattle.std.proofs.Common.{arith, refl, ◌∙◌, ap, set, length, ◌≡◌, ◌-◌, ◌+◌, ℕ, slice_index}
+use Rattle.std.proofs.lemmas.List.{with_items_is, get_or_read, length-set}
+use Rattle.flow_network.specs.Preflow.{arc_at}
+use Rattle.flow_network.proofs.Push.{moved}
+use Rattle.flow_network.proofs.Duality.{arc_is}
+use Rattle.flow_network.proofs.Moves.{kept-le-total}
+use Rattle.plain_cut.specs.State.{work_flow}
+use Rattle.plain_cut.proofs.Unlabelled.{send_work}
+use Rattle.plain_cut.proofs.opening.send.Goals as goal
+
+pub carry-requires-clause-small : goal.carry-requires-clause-small
+carry-requires-clause-small c =
+    let net = c.args.net.now in
+    let old = c.args.work.now in
+    let u = (arc_at net c.args.k).from in
+    let w = (arc_at net c.args.k).to in
+    let h = c.arcs.ensures.limits in
+    let ends = arc_is net h c.args.k c.requires.arc in
+    let s = c.requires.work.work.sound in
+    let read = rw c.arcs.ensures.value at c.index.ensures in
+    let kept : c.index.result.now ≡ slice_index old.excess.items u = get_or_read old.excess.items u c.index.result.now (omega (arith, s.kept_len, ends.from)) read 0 in
+    let b1 = kept-le-total net (work_flow old) old.excess.items old.labels.items h s u ends.from in
+    let b2 = kept-le-total net (work_flow old) old.excess.items old.labels.items h s w ends.to in
+    rw (c.arcs.ensures.value, c.as_mut_slice.ensures.value) (omega (arith, b1, b2, h.total, kept, c.min-amount.ensures))
+
+pub returns : goal.returns
+returns c =
+    let net = c.args.net.now in
+    let old = c.args.work.now in
+    let k = c.args.k in
+    let u = (arc_at net k).from in
+    let w = (arc_at net k).to in
+    let z = c.min-amount.result in
+    let h = c.arcs.ensures.limits in
+    let ends = arc_is net h k c.requires.arc in
+    let s = c.requires.work.work.sound in
+    let read = rw c.arcs.ensures.value at c.index.ensures in
+    let kept : c.index.result.now ≡ slice_index old.excess.items u = get_or_read old.excess.items u c.index.result.now (omega (arith, s.kept_len, ends.from)) read 0 in
+    let flow : c.index-flow.result.now ≡ slice_index old.arc_flow.items k = get_or_read old.arc_flow.items k c.index-flow.result.now (omega (arith, s.preflow.arcs_len, c.requires.arc)) c.index-flow.ensures 0 in
+    let amount = rw c.arcs.ensures.value at c.min-amount.ensures in
+    let carried : c.carry.new.excess ≡ moved old.excess.items u w z = rw (c.arcs.ensures.value, c.as_mut_slice.ensures.value) at c.carry.ensures in
+    let long : length c.carry.new.excess ≡ old.excess.len =
+    ap (length {A = ℕ}) carried ∙ (length-set (set old.excess.items u (slice_index old.excess.items u - z)) w (slice_index old.excess.items w + z) ∙ (length-set old.excess.items u (slice_index old.excess.items u - z) ∙ omega (arith, old.excess.ok.0))) in
+    send_work net old _ k z h c.requires.work c.requires.arc c.requires.other
+    (omega (arith, amount, kept)) (omega (arith, amount, flow, c.requires.residual)) c.requires.residual
+    (ap (λ (f : ℕ). set old.arc_flow.items k (f + z)) flow) refl
+    (with_items_is old.excess c.carry.new.excess long ∙ carried) refl refl
+
+pub carry-requires-clause-enough : goal.carry-requires-clause-enough
+carry-requires-clause-enough c = grind (arith, common_steps)
