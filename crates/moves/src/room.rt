@@ -6,7 +6,7 @@ ghost use Rattle.regular.specs.Regularity.{IsRegular};
 ghost use Rattle.cost_store.specs.Limits.{data_limit};
 ghost use Rattle.cost_store.specs.Promises.{Keeps, KeepsSmooth};
 ghost use Rattle.move_energy.specs.Problems.{IsMeant};
-ghost use Rattle.deciding.specs.Decided.{AreBySite, IsDecidedMove};
+ghost use Rattle.deciding.specs.Decided.{AreBySite};
 ghost use Rattle.moves.specs.Building.{IsGroupedFor, IsBuiltMove};
 
 use crate::Problem;
@@ -53,40 +53,6 @@ impl Room {
 }
 
 impl<F: Fn(u32, u32) -> i64, V: Fn(u32, u32) -> i64> Problem<F, V> {
-    /// Decides the sites of a move. What is known of them then stands with the variables of its energy.
-    fn decide_sites(
-        &self,
-        alloc: Global,
-        room: &mut Room,
-        at: &[u8],
-        change: Move,
-    ) -> Result<(), BuildError>
-        requires sites { (length at.now ≡ self.now.pairs.sites)
-            × (self.now.data_cost.sites ≡ self.now.pairs.sites) }
-        requires labels { (self.now.smooth_cost.labels ≡ self.now.data_cost.labels)
-            × All (λ label. label < self.now.data_cost.labels) at.now }
-        requires change { IsMoveOf self.now.data_cost.labels change }
-        requires costs { Keeps (F.pre self.now.data_cost.f) (F.post self.now.data_cost.f)
-            self.now.data_cost.sites self.now.data_cost.labels data_limit }
-        requires smooth { KeepsSmooth (V.pre self.now.smooth_cost.v) (V.post self.now.smooth_cost.v)
-            self.now.smooth_cost.labels self.now.smooth_cost.by_metric }
-        requires by_site { IsGroupedFor self.now.pairs room.old }
-        ensures by_site { IsGroupedFor self.now.pairs room.new }
-        ensures choices { OnOk result (length room.new.built.variables.choices.items ≡ length at.now) }
-        ensures decided { (m : Instance) →
-            IsMeant (F.post self.now.data_cost.f) (V.post self.now.smooth_cost.v) self.now.pairs
-            self.now.data_cost.labels m →
-            IsDecidedMove m change at.now room.new.built.variables.choices.items result }
-    {
-        room.group(alloc, &self.pairs)?;
-        room.deciding.decide(&self.pairs, &self.data_cost, &self.smooth_cost, at, change)?;
-        swap(
-            &mut room.deciding.bounds.choices,
-            &mut room.built.variables.choices,
-        );
-        Ok(())
-    }
-
     /// The energy of a move whose sites were decided first.
     fn build_decided(
         &self,
@@ -115,7 +81,12 @@ impl<F: Fn(u32, u32) -> i64, V: Fn(u32, u32) -> i64> Problem<F, V> {
             IsBuiltMove m change at.now room.new.built result }
     {
         let _pairs = self.pairs.as_slice();
-        self.decide_sites(alloc, room, at, change)?;
+        room.group(alloc, &self.pairs)?;
+        room.deciding.decide(&self.pairs, &self.data_cost, &self.smooth_cost, at, change)?;
+        swap(
+            &mut room.deciding.bounds.choices,
+            &mut room.built.variables.choices,
+        );
         match room.built.build(&self.pairs, &self.data_cost, &self.smooth_cost, at, change) {
             Ok(()) => Ok(()),
             Err(_) => Err(BuildError::OutOfMemory),

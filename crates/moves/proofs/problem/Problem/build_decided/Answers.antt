@@ -1,4 +1,4 @@
-use Rattle.std.proofs.Common.{◌∙◌, List, length, ap, sym, subst}
+use Rattle.std.proofs.Common.{rules, ◌∙◌, List, ap, sym, subst}
 use Rattle.std.proofs.lemmas.Result.{err_from_is_err_and}
 use Rattle.pseudo_bool.specs.Formula.{assignment}
 use Rattle.labellings.specs.Energies.{labelling}
@@ -9,46 +9,80 @@ use Rattle.deciding.specs.Decided.{AreDecided}
 use Rattle.moves.proofs.Least.{decided_least}
 use Rattle.moves.proofs.problem.Problem.build_decided.Goals as goal
 
-pub decide_sites-requires-clause-sites : goal.decide_sites-requires-clause-sites
-decide_sites-requires-clause-sites g c = c.requires.sites
+pub returns-in_err-decide-clause-built : goal.returns-in_err-decide-clause-built
+returns-in_err-decide-clause-built g c = λ m meant.
+    let p = err_from_is_err_and c.from_residual-in_err-decide.result c.from_residual-in_err-decide.ensures.1 in
+    rw (p.1, p.2) (c.in_err-decide.ensures.decided m meant)
 
-pub decide_sites-requires-clause-labels : goal.decide_sites-requires-clause-labels
-decide_sites-requires-clause-labels g c = c.requires.labels
+pub returns-in-Ok-clause-built : goal.returns-in-Ok-clause-built
+returns-in-Ok-clause-built g c = λ m meant.
+    let decided = c.in_ok-decide.ensures.decided m meant in
+    let built = c.in-Ok.ensures.built m meant in
+    let pairs = pairs_meant _ _ _ _ m _ meant c.as_slice-pairs.ensures.value c.as_slice-pairs.ensures.pairs in
+    let P : List Choice → Type 0 = λ choices. AreDecided m c.args.change (labelling c.args.at.now) (choice_at choices) in
+    let same = c.in-Ok.ensures.kept ∙ ap (λ (v : _). v.items) c.swap.ensures.y_after in
+    let vs = c.build.new.self.variables in (
+      decided.0,
+      λ bits least. decided_least m c.args.change (labelling c.args.at.now) (choice_at vs.choices.items) c.build.new.self.energy (labelling vs.of_sites.items)
+          (labelling vs.sites.items) (assignment bits) pairs decided.0 (subst P (sym same) decided.1) built.1 least,
+    )
 
-pub decide_sites-requires-clause-change : goal.decide_sites-requires-clause-change
-decide_sites-requires-clause-change g c = c.requires.change
+pub returns-in_err-group-clause-by_site : goal.returns-in_err-group-clause-by_site
+returns-in_err-group-clause-by_site g c = c.in_err-group.ensures.by_site
 
-pub decide_sites-requires-clause-costs : goal.decide_sites-requires-clause-costs
-decide_sites-requires-clause-costs g c = c.requires.costs
-
-pub decide_sites-requires-clause-smooth : goal.decide_sites-requires-clause-smooth
-decide_sites-requires-clause-smooth g c = c.requires.smooth
-
-pub decide_sites-requires-clause-by_site : goal.decide_sites-requires-clause-by_site
-decide_sites-requires-clause-by_site g c = c.requires.by_site
-
-pub returns-in_err-decide_sites-clause-by_site : goal.returns-in_err-decide_sites-clause-by_site
-returns-in_err-decide_sites-clause-by_site g c = c.in_err-decide_sites.ensures.by_site
-
-pub returns-in_err-decide_sites-clause-choices : goal.returns-in_err-decide_sites-clause-choices
-returns-in_err-decide_sites-clause-choices g c =
+pub returns-in_err-group-clause-choices : goal.returns-in_err-group-clause-choices
+returns-in_err-group-clause-choices g c =
     let p = err_from_is_err_and c.from_residual.result c.from_residual.ensures.1 in
     rw (p.1) tt
 
-pub returns-in_err-decide_sites-clause-count : goal.returns-in_err-decide_sites-clause-count
-returns-in_err-decide_sites-clause-count g c =
+pub returns-in_err-group-clause-count : goal.returns-in_err-group-clause-count
+returns-in_err-group-clause-count g c =
     let p = err_from_is_err_and c.from_residual.result c.from_residual.ensures.1 in
     rw (p.1) tt
 
-pub returns-in_err-decide_sites-clause-regular : goal.returns-in_err-decide_sites-clause-regular
-returns-in_err-decide_sites-clause-regular g c =
+pub returns-in_err-group-clause-regular : goal.returns-in_err-group-clause-regular
+returns-in_err-group-clause-regular g c =
     let p = err_from_is_err_and c.from_residual.result c.from_residual.ensures.1 in
     rw (p.1) tt
 
-pub returns-in_err-decide_sites-clause-built : goal.returns-in_err-decide_sites-clause-built
-returns-in_err-decide_sites-clause-built g c = λ m meant.
-    let p = err_from_is_err_and c.from_residual.result c.from_residual.ensures.1 in
-    rw (p.1, p.2) (c.in_err-decide_sites.ensures.decided m meant)
+pub returns-in_err-group-clause-built : goal.returns-in_err-group-clause-built
+returns-in_err-group-clause-built g c = search rules
+
+pub decide-requires-clause-sites : goal.decide-requires-clause-sites
+decide-requires-clause-sites g c = c.requires.sites
+
+pub decide-requires-clause-labels : goal.decide-requires-clause-labels
+decide-requires-clause-labels g c = c.requires.labels
+
+pub decide-requires-clause-change : goal.decide-requires-clause-change
+decide-requires-clause-change g c = c.requires.change
+
+pub decide-requires-clause-costs : goal.decide-requires-clause-costs
+decide-requires-clause-costs g c = c.requires.costs
+
+pub decide-requires-clause-smooth : goal.decide-requires-clause-smooth
+decide-requires-clause-smooth g c = c.requires.smooth
+
+pub decide-requires-clause-by_site : goal.decide-requires-clause-by_site
+decide-requires-clause-by_site g c = c.in_ok-group.ensures.grouped
+
+pub returns-in_err-decide-clause-by_site : goal.returns-in_err-decide-clause-by_site
+returns-in_err-decide-clause-by_site g c = search rules
+
+pub returns-in_err-decide-clause-choices : goal.returns-in_err-decide-clause-choices
+returns-in_err-decide-clause-choices g c =
+    let p = err_from_is_err_and c.from_residual-in_err-decide.result c.from_residual-in_err-decide.ensures.1 in
+    rw (p.1) tt
+
+pub returns-in_err-decide-clause-count : goal.returns-in_err-decide-clause-count
+returns-in_err-decide-clause-count g c =
+    let p = err_from_is_err_and c.from_residual-in_err-decide.result c.from_residual-in_err-decide.ensures.1 in
+    rw (p.1) tt
+
+pub returns-in_err-decide-clause-regular : goal.returns-in_err-decide-clause-regular
+returns-in_err-decide-clause-regular g c =
+    let p = err_from_is_err_and c.from_residual-in_err-decide.result c.from_residual-in_err-decide.ensures.1 in
+    rw (p.1) tt
 
 pub build-requires-clause-sites : goal.build-requires-clause-sites
 build-requires-clause-sites g c = c.requires.sites
@@ -59,38 +93,29 @@ build-requires-clause-labels g c = c.requires.labels
 pub build-requires-clause-change : goal.build-requires-clause-change
 build-requires-clause-change g c = c.requires.change
 
+pub build-requires-clause-choices : goal.build-requires-clause-choices
+build-requires-clause-choices g c = search rules
+
 pub build-requires-clause-costs : goal.build-requires-clause-costs
 build-requires-clause-costs g c = c.requires.costs
 
 pub build-requires-clause-smooth : goal.build-requires-clause-smooth
 build-requires-clause-smooth g c = c.requires.smooth
 
-pub build-requires-clause-choices : goal.build-requires-clause-choices
-build-requires-clause-choices g c = c.in_ok-decide_sites.ensures.choices
-
 pub returns-in-Ok-clause-by_site : goal.returns-in-Ok-clause-by_site
-returns-in-Ok-clause-by_site g c = c.in_ok-decide_sites.ensures.by_site
+returns-in-Ok-clause-by_site g c = search rules
 
 pub returns-in-Ok-clause-choices : goal.returns-in-Ok-clause-choices
-returns-in-Ok-clause-choices g c = ap (λ (xs : List Choice). length xs) c.in-Ok.ensures.kept ∙ c.in_ok-decide_sites.ensures.choices
+returns-in-Ok-clause-choices g c = search rules
+
+pub returns-in-Ok-clause-count : goal.returns-in-Ok-clause-count
+returns-in-Ok-clause-count g c = search rules
 
 pub returns-in-Ok-clause-regular : goal.returns-in-Ok-clause-regular
 returns-in-Ok-clause-regular g c = c.in-Ok.ensures.regular
 
-pub returns-in-Ok-clause-built : goal.returns-in-Ok-clause-built
-returns-in-Ok-clause-built g c = λ m meant.
-    let decided = c.in_ok-decide_sites.ensures.decided m meant in
-    let built = c.in-Ok.ensures.built m meant in
-    let pairs = pairs_meant _ _ _ _ m _ meant c.as_slice-pairs.ensures.value c.as_slice-pairs.ensures.pairs in
-    let P : List Choice → Type 0 = λ choices. AreDecided m c.args.change (labelling c.args.at.now) (choice_at choices) in
-    let vs = c.build.new.self.variables in (
-      decided.0,
-      λ bits least. decided_least m c.args.change (labelling c.args.at.now) (choice_at vs.choices.items) c.build.new.self.energy (labelling vs.of_sites.items)
-          (labelling vs.sites.items) (assignment bits) pairs decided.0 (subst P (sym c.in-Ok.ensures.kept) decided.1) built.1 least,
-    )
-
 pub returns-in-Err-clause-by_site : goal.returns-in-Err-clause-by_site
-returns-in-Err-clause-by_site g c = c.in_ok-decide_sites.ensures.by_site
+returns-in-Err-clause-by_site g c = search rules
 
 pub returns-in-Err-clause-choices : goal.returns-in-Err-clause-choices
 returns-in-Err-clause-choices g c = tt

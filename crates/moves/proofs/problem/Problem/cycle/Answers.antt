@@ -1,11 +1,12 @@
-use Rattle.std.proofs.Common.{rules, ◌≡◌, ◌∙◌, ◌+◌, List, ℕ, length, Some, arith, sym, subst, take, drop, true, false, ap}
+use Rattle.std.proofs.Common.{rules, ◌≡◌, ◌∙◌, ◌+◌, List, ℕ, length, Some, arith, sym, subst, take, drop, true, false, ap, refl}
 use Rattle.std.specs.Prelude.{slice_get}
 use Rattle.std.proofs.lemmas.Result.{err_from_is_err_and}
+use Rattle.labellings.specs.Moves.{IsMoveOf}
 use Rattle.labellings.specs.Chains.{Leads}
 use Rattle.moves.specs.Problems.{IsRefusal}
 use Rattle.moves.specs.Cycles.{moves_of}
-use Rattle.moves.proofs.Answers.{sized_still}
-use Rattle.moves.proofs.Running.{so_far_more, moves_split, stopped_leads, ended_leads, ended_known}
+use Rattle.moves.proofs.Answers.{sized_still, run_may_come}
+use Rattle.moves.proofs.Running.{so_far_starts, so_far_more, moves_split, stopped_leads, ended_leads, ended_known}
 use Rattle.moves.proofs.problem.Problem.cycle.Goals.{then-branch, else-branch}
 use Rattle.moves.proofs.problem.Problem.cycle.Goals as goal
 
@@ -67,7 +68,12 @@ returns-in_err-make_move-clause-metric g c = λ stored m meant.
     rw (p.1, p.2) (c.in_err-make_move.ensures.metric stored m meant)
 
 pub loop-place-init : goal.loop-place-init
-loop-place-init g c = search rules
+loop-place-init g c = record {
+  by_site = c.requires.by_site;
+  labels = refl;
+  sites = refl;
+  so_far = λ m meant. so_far_starts m (moves_of c.args.kind c.args.self.now.data_cost.labels) c.args.labelling.now.at c.args.last.now (c.requires.known m meant);
+}
 
 pub returns-then-place-last-clause-by_site : goal.returns-then-place-last-clause-by_site
 returns-then-place-last-clause-by_site g c = c.loop-place.invariant.by_site
@@ -76,7 +82,9 @@ pub returns-then-place-last-clause-sizes : goal.returns-then-place-last-clause-s
 returns-then-place-last-clause-sizes g c = (c.loop-place.invariant.labels, c.loop-place.invariant.sites)
 
 pub returns-then-place-last-clause-known : goal.returns-then-place-last-clause-known
-returns-then-place-last-clause-known g c = search rules
+returns-then-place-last-clause-known g c = λ m meant i move from here.
+    let so_far = c.loop-place.invariant.so_far m meant in
+    so_far.known i move from (λ turned. (let l = so_far.passed turned in absurd (omega (arith, l, c.if-place-last.true)))) here
 
 pub returns-then-place-last-clause-refused : goal.returns-then-place-last-clause-refused
 returns-then-place-last-clause-refused g c = tt
@@ -111,7 +119,11 @@ returns-in_err-make_move-clause-known g c = λ m meant.
     rw (p.1) tt
 
 pub returns-in_err-make_move-clause-refused : goal.returns-in_err-make_move-clause-refused
-returns-in_err-make_move-clause-refused g c = search rules
+returns-in_err-make_move-clause-refused g c =
+    let P : ℕ → Type 0 = λ k. IsMoveOf k c.move_at.result in
+    let below = subst P (c.labels-labels.ensures.value ∙ sym c.loop-place.invariant.labels) c.move_at.ensures.below in
+    let p = err_from_is_err_and c.from_residual.result c.from_residual.ensures.1 in
+    rw (p.1, p.2) (run_may_come (g.H.How.refuses c.args.how.now) c.loop-place.labelling.labels c.move_at.result c.in_err-make_move.field-0.0 below c.in_err-make_move.ensures.refused)
 
 pub loop-place-smaller : goal.loop-place-smaller
 loop-place-smaller g c = search rules

@@ -1,4 +1,5 @@
-use Rattle.std.proofs.Common.{rules, ◌≡◌, ◌∙◌, ◌+◌, List, ℕ, suc, arith, sym, subst}
+use Rattle.std.proofs.Common.{rules, ◌≡◌, ◌∙◌, ◌+◌, List, ℕ, length, suc, arith, ap, refl, sym, subst}
+use Rattle.std.proofs.lemmas.Option.{slice_get_within}
 use Rattle.std.proofs.lemmas.Result.{err_from_is_err_and}
 use Rattle.labellings.specs.Chains.{Leads, Cycles}
 use Rattle.labellings.proofs.Chains.{cycles_more, chain_settles, chain_runs_out, chain_breaks}
@@ -108,3 +109,14 @@ returns-clause-refused g c = tt
 
 pub returns-clause-metric : goal.returns-clause-metric
 returns-clause-metric g c = λ stored m meant. tt
+
+pub loop-done-init : goal.loop-done-init
+loop-done-init g c = record {
+  by_site = c.requires.by_site;
+  labels = refl;
+  sites = refl;
+  so_far = λ m meant.
+      let moves = moves_of c.args.kind c.args.self.now.data_cost.labels in
+      let all = c.count-last.ensures ∙ ap (λ k. length (moves_of c.args.kind k)) (c.labels.ensures.value ∙ c.requires.sizes.field_labels) in
+      (refl, λ i move from here. (let within = slice_get_within moves i move here in absurd (omega (arith, within, from, all))));
+}
