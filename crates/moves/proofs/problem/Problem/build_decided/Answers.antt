@@ -1,11 +1,12 @@
-use Rattle.std.proofs.Common.{rules, ◌∙◌, List, ap, sym, subst}
+use Rattle.std.proofs.Common.{rules, ◌∙◌, List, length, ap, sym, subst}
 use Rattle.std.proofs.lemmas.Result.{err_from_is_err_and}
+use Rattle.grouping.specs.declared.Groups.{Groups}
 use Rattle.pseudo_bool.specs.Formula.{assignment}
 use Rattle.labellings.specs.Energies.{labelling}
 use Rattle.move_energy.specs.declared.choice.Choice.{Choice}
 use Rattle.move_energy.specs.Choices.{choice_at}
 use Rattle.move_energy.proofs.Whole.{pairs_meant}
-use Rattle.deciding.specs.Decided.{AreDecided}
+use Rattle.deciding.specs.Decided.{AreBySite, AreDecided}
 use Rattle.moves.proofs.Least.{decided_least}
 use Rattle.moves.proofs.problem.Problem.build_decided.Goals as goal
 
@@ -67,7 +68,9 @@ pub decide-requires-clause-by_site : goal.decide-requires-clause-by_site
 decide-requires-clause-by_site g c = c.in_ok-group.ensures.grouped
 
 pub returns-in_err-decide-clause-by_site : goal.returns-in_err-decide-clause-by_site
-returns-in_err-decide-clause-by_site g c = search rules
+returns-in_err-decide-clause-by_site g c = λ grouped.
+    let E : Groups → Type 0 = λ ends. AreBySite c.args.self.now.pairs ends in
+    subst E (sym c.decide.ensures.kept) (c.in_ok-group.ensures.by_site grouped)
 
 pub returns-in_err-decide-clause-choices : goal.returns-in_err-decide-clause-choices
 returns-in_err-decide-clause-choices g c =
@@ -94,7 +97,7 @@ pub build-requires-clause-change : goal.build-requires-clause-change
 build-requires-clause-change g c = c.requires.change
 
 pub build-requires-clause-choices : goal.build-requires-clause-choices
-build-requires-clause-choices g c = search rules
+build-requires-clause-choices g c = ap (λ (v : _). length v.items) c.swap.ensures.y_after ∙ c.in_ok-decide.ensures.count
 
 pub build-requires-clause-costs : goal.build-requires-clause-costs
 build-requires-clause-costs g c = c.requires.costs
@@ -103,19 +106,23 @@ pub build-requires-clause-smooth : goal.build-requires-clause-smooth
 build-requires-clause-smooth g c = c.requires.smooth
 
 pub returns-in-Ok-clause-by_site : goal.returns-in-Ok-clause-by_site
-returns-in-Ok-clause-by_site g c = search rules
+returns-in-Ok-clause-by_site g c = λ grouped.
+    let E : Groups → Type 0 = λ ends. AreBySite c.args.self.now.pairs ends in
+    subst E (sym c.decide.ensures.kept) (c.in_ok-group.ensures.by_site grouped)
 
 pub returns-in-Ok-clause-choices : goal.returns-in-Ok-clause-choices
-returns-in-Ok-clause-choices g c = search rules
+returns-in-Ok-clause-choices g c = ap (λ (xs : List Choice). length xs) c.in-Ok.ensures.kept ∙ ap (λ (v : _). length v.items) c.swap.ensures.y_after ∙ c.in_ok-decide.ensures.count
 
 pub returns-in-Ok-clause-count : goal.returns-in-Ok-clause-count
-returns-in-Ok-clause-count g c = search rules
+returns-in-Ok-clause-count g c = c.in-Ok.ensures.numbering.count ∙ ap (λ (xs : List Choice). length xs) c.in-Ok.ensures.kept ∙ ap (λ (v : _). length v.items) c.swap.ensures.y_after ∙ c.in_ok-decide.ensures.count
 
 pub returns-in-Ok-clause-regular : goal.returns-in-Ok-clause-regular
 returns-in-Ok-clause-regular g c = c.in-Ok.ensures.regular
 
 pub returns-in-Err-clause-by_site : goal.returns-in-Err-clause-by_site
-returns-in-Err-clause-by_site g c = search rules
+returns-in-Err-clause-by_site g c = λ grouped.
+    let E : Groups → Type 0 = λ ends. AreBySite c.args.self.now.pairs ends in
+    subst E (sym c.decide.ensures.kept) (c.in_ok-group.ensures.by_site grouped)
 
 pub returns-in-Err-clause-choices : goal.returns-in-Err-clause-choices
 returns-in-Err-clause-choices g c = tt
