@@ -1,5 +1,6 @@
 use Rattle.std.proofs.Common.{◌≡◌, true, refl}
 use Rattle.move_energy.proofs.Values.{both_add, ends_fit, table_regular}
+use Rattle.std.proofs.lemmas.Result.{err_from_is_err_and}
 use Rattle.move_energy.proofs.ends.add_both.Goals as goal
 
 pub returns-clause-adds : goal.returns-clause-adds
@@ -11,3 +12,28 @@ returns-clause-adds g c = λ cost answers.
     (c.is_regular_table.ensures.0 c.if-not-is_regular_table.false))
     (both_add a.energy.now c.add_two.new.energy a.change a.weight cost a.first a.second c.pair_table-table.result
     c.requires.opened.0 c.requires.opened.1 table c.in_ok-add_two.ensures)
+
+pub pair_table-table-requires-clause-smooth : goal.pair_table-table-requires-clause-smooth
+pair_table-table-requires-clause-smooth g c = c.requires.smooth
+
+pub pair_table-table-requires-clause-weight : goal.pair_table-table-requires-clause-weight
+pair_table-table-requires-clause-weight g c = c.requires.weight
+
+pub pair_table-table-requires-clause-inside : goal.pair_table-table-requires-clause-inside
+pair_table-table-requires-clause-inside g c = c.requires.inside
+
+pub pair_table-table-requires-clause-change : goal.pair_table-table-requires-clause-change
+pair_table-table-requires-clause-change g c = c.requires.change
+
+pub add_two-requires-clause-room : goal.add_two-requires-clause-room
+add_two-requires-clause-room g c = c.requires.room
+
+pub returns-in_err-add_two-clause-longer : goal.returns-in_err-add_two-clause-longer
+returns-in_err-add_two-clause-longer g c =
+    let p = err_from_is_err_and c.from_residual.result c.from_residual.ensures.1 in
+    rw (p.1) tt
+
+pub returns-in_err-add_two-clause-adds : goal.returns-in_err-add_two-clause-adds
+returns-in_err-add_two-clause-adds g c =
+    let p = err_from_is_err_and c.from_residual.result c.from_residual.ensures.1 in
+    rw (p.1) tt

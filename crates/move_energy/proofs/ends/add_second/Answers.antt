@@ -19,3 +19,18 @@ returns-clause-adds g c =
     (to_z-of_z w64 c.pair_cost-stays.result stays ∙ c.pair_cost-stays.ensures.cost cost answers ∙ ap (λ l. pos (a.weight * cost a.other l)) c.label.ensures)
     (to_z-of_z w64 c.pair_cost-turns.result turns ∙ c.pair_cost-turns.ensures.cost cost answers ∙ ap (λ l. pos (a.weight * cost a.other l)) c.label-2.ensures)
     is) c.add_one.ensures
+
+pub pair_cost-stays-requires-clause-smooth : goal.pair_cost-stays-requires-clause-smooth
+pair_cost-stays-requires-clause-smooth g c = c.requires.smooth
+
+pub pair_cost-stays-requires-clause-weight : goal.pair_cost-stays-requires-clause-weight
+pair_cost-stays-requires-clause-weight g c = c.requires.weight
+
+pub pair_cost-turns-requires-clause-smooth : goal.pair_cost-turns-requires-clause-smooth
+pair_cost-turns-requires-clause-smooth g c = c.requires.smooth
+
+pub pair_cost-turns-requires-clause-weight : goal.pair_cost-turns-requires-clause-weight
+pair_cost-turns-requires-clause-weight g c = c.requires.weight
+
+pub add_one-requires-clause-room : goal.add_one-requires-clause-room
+add_one-requires-clause-room g c = c.requires.room
