@@ -6,6 +6,7 @@ ghost use Rattle.parcel.specs.States.{IsWay, way_at, excess_of, label_of, room_o
 ghost use Rattle.parcel.specs.Reach.{AreExact};
 ghost use Rattle.parcel.specs.Soundness.{IsSound, opened};
 ghost use Rattle.parcel.specs.Events.{Happens, IsActive, IsQuiet, Enabled, effect};
+ghost use Rattle.block_net.specs.Limits.{block_limit};
 ghost use Rattle.block_net.specs.Split.{CanSplit};
 
 use crate::blocks::Blocks;
@@ -78,7 +79,9 @@ impl State {
 
     /// How many blocks the net is in.
     pub fn blocks(&self) -> usize
-        ensures { result ≡ self.now.blocks }
+        ensures value { result ≡ self.now.blocks }
+        ensures few { result ≤ block_limit }
+        ensures sound { IsSound self.now }
     {
         self.blocks.count()
     }
@@ -455,11 +458,13 @@ impl State {
         }
     }
 
-    /// The event happens; no where it is not enabled, and nothing changes.
-    pub(crate) fn perform(&mut self, event: Event) -> bool
-        ensures { MatchBool result (Happens self.old event self.new)
+    /// The event happens; no where it is not enabled, and nothing changes. Takes no memory.
+    pub fn perform(&mut self, event: Event) -> bool
+        ensures happens { MatchBool result (Happens self.old event self.new)
             ((¬ Enabled self.old event) × (self.new ≡ self.old)) }
+        ensures sound { IsSound self.old }
     {
+        let _ = &self.got;
         match event {
             Event::PushInner { direction } => self.push_inner(direction),
             Event::PushSink { node } => self.push_sink(node as usize),
