@@ -1,0 +1,5 @@
+pub mod Logs
+pub mod Seated
+pub mod Acts
+pub mod Takes
+pub mod Histories

@@ -1,0 +1,29 @@
+-- A block in its place among the others, and the state that it shows there.
+use Rattle.std.specs.Prelude.{◌≡◌, ℕ, ◌<◌, true, cond, ◌==◌, List, [], length}
+use Rattle.parcel.specs.declared.direction.Direction.{Direction}
+use Rattle.parcel.specs.declared.message.Message.{Message}
+use Rattle.parcel.specs.States.{State}
+use Rattle.block_net.specs.Views.{BlockView, count}
+use Rattle.block_net.specs.Whole.{Whole, table, put_block}
+use Rattle.block_core.specs.Views.{IsLaid, IsSpot, IsRow, blocks_in, state_of}
+use Rattle.discharge.specs.Steps.{Held}
+
+-- what went through the ends of the ways of block b: on the way from b to j what it put for j, and on the way
+-- from i to b what it took from i
+abbrev pub log_at : ℕ → (ℕ → List Message) → (ℕ → List Message) → ℕ → ℕ → List Message
+log_at b sent taken i j = cond (i == b) (sent j) (cond (j == b) (taken i) [])
+
+abbrev pub logs_of : ℕ → ℕ → (ℕ → List Message) → (ℕ → List Message) → List (List (List Message))
+logs_of n b sent taken = table n (λ i. table n (log_at b sent taken i))
+
+-- a block stands in the stead of block b, and each place of it is one of a node or of a direction of the net
+pub record IsSeated (w : Whole) (b : ℕ) (B : BlockView) : Type 0 where
+  pub laid : IsLaid (put_block w b B)
+  pub block : b < length w.blocks
+  pub labels : length B.labels ≡ count B
+  pub nodes : (p : ℕ) → p < count B → (v : ℕ) × IsSpot w v b p
+  pub borders : (j : ℕ) → j < length B.borders → (x : Direction) × IsRow w x true b j
+
+-- the state that block b shows among the others, with what it put and took as its ways
+abbrev pub shown_by : Whole → ℕ → Held → ℕ → State
+shown_by w b h got = state_of (blocks_in (put_block w b h.block)) (logs_of (length w.blocks) b h.sent h.taken) got

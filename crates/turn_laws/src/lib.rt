@@ -1,0 +1,8 @@
+//! Why a turn of a block is a history of events.
+//!
+//! `discharge` says what a block did in the block's own terms: places of its lists, and messages. The law here
+//! says the same in terms of the net: events of the core (`parcel`) that the block does by itself, one after
+//! another (`round_laws`).
+#![tactic(auto)]
+
+pub mod laws;
