@@ -1,0 +1,126 @@
+-- Fewer and fewer events lead on, until the state is finished.
+use Rattle.std.proofs.Common.{◌≡◌, ◌<◌, ◌≤◌, Bool, true, false, ◌||◌, IsFalse, MatchBool, List, [], refl, sym, ◌∙◌, ap, subst, inl, inr, arith}
+use Rattle.std.proofs.lemmas.Bool.{false≢true, true≢false}
+use Rattle.parcel.specs.declared.message.Message.{Message}
+use Rattle.parcel.specs.declared.event.Event.{Event}
+use Rattle.parcel.specs.declared.event.Event.TheVariants.{PushInner, PushSink, Relabel, Send, Accept, Refuse, Settle, RaiseAll}
+use Rattle.parcel.specs.States.{State, way_at}
+use Rattle.parcel.specs.Events.{IsQuiet, Enabled, Happens, MayAccept, MayRefuse, MaySettle}
+use Rattle.parcel.specs.Soundness.{IsSound, IsFinished, count}
+use Rattle.parcel.proofs.Lists.{lowers, never_raises}
+use Rattle.parcel.proofs.Progress.{progress}
+use Rattle.block_core.proofs.Keeping.{effect_net}
+use Rattle.block_cut.specs.Lowers.{IsAfter, Lowers, AreNodesStill, AreDirectionsStill}
+
+-- ---- one event
+
+happens_net : (s t : State) (e : Event) → Happens s e t → t.net ≡ s.net
+happens_net s t (PushInner x) h = ap (λ (q : State). q.net) h.effect ∙ (effect_net s (PushInner x)).net
+happens_net s t (PushSink v) h = ap (λ (q : State). q.net) h.effect ∙ (effect_net s (PushSink v)).net
+happens_net s t (Relabel v) h = ap (λ (q : State). q.net) h.effect ∙ (effect_net s (Relabel v)).net
+happens_net s t (Send x) h = ap (λ (q : State). q.net) h.effect ∙ (effect_net s (Send x)).net
+happens_net s t (Accept b c) h = ap (λ (q : State). q.net) h.effect ∙ (effect_net s (Accept b c)).net
+happens_net s t (Refuse b c) h = ap (λ (q : State). q.net) h.effect ∙ (effect_net s (Refuse b c)).net
+happens_net s t (Settle b c) h = ap (λ (q : State). q.net) h.effect ∙ (effect_net s (Settle b c)).net
+happens_net s t RaiseAll h = ap (λ (q : State). q.net) h.effect.2
+
+pub lowers_one : (s t : State) (e : Event) → IsSound s → (e ≡ RaiseAll → ⊥) → Happens s e t → Lowers s t true
+lowers_one s t e sound other h = record {
+  net = happens_net s t e h;
+  less = λ e'. lowers s t e sound h other;
+  still = λ off. absurd (true≢false off);
+}
+
+pub lowers_same : (s t : State) → t ≡ s → Lowers s t false
+lowers_same s t e = record { net = ap (λ (q : State). q.net) e; less = λ off. absurd (false≢true off); still = λ h. e }
+
+-- the exact labels
+pub raised_after : (s t : State) → IsSound s → Happens s RaiseAll t → IsAfter s t
+raised_after s t sound h = record { net = happens_net s t RaiseAll h; count = never_raises s t sound h }
+
+-- ---- one after another
+
+pub lowers_le : (s t : State) (some : Bool) → Lowers s t some → count t ≤ count s
+lowers_le s t true h = let less = h.less refl in omega arith
+lowers_le s t false h = let same = ap count (h.still refl) in omega arith
+
+-- something was done, before or now
+pub lowers_then : (s t u : State) (p : Bool) → Lowers s t p → Lowers t u true → Lowers s u true
+lowers_then s t u p h k = record {
+  net = k.net ∙ h.net;
+  less = λ e. let less = k.less refl in let le = lowers_le s t p h in omega arith;
+  still = λ off. absurd (true≢false off);
+}
+
+-- nothing was done now
+pub lowers_still : (s t u : State) (p : Bool) → Lowers s t p → Lowers t u false → Lowers s u p
+lowers_still s t u p h k = let P : State → Type 0 = λ q. Lowers s q p in subst P (sym (k.still refl)) h
+
+pub lowers_or : (s t u : State) (p q : Bool) → Lowers s t p → Lowers t u q → Lowers s u (p || q)
+lowers_or s t u true true h k = lowers_then s t u true h k
+lowers_or s t u true false h k = lowers_still s t u true h k
+lowers_or s t u false true h k = lowers_then s t u false h k
+lowers_or s t u false false h k = lowers_still s t u false h k
+
+-- ---- nothing left to do
+
+no_take : (s : State) (way : List Message) → way ≡ [] → (MayAccept s way → ⊥) × (MayRefuse s way → ⊥) × (MaySettle way → ⊥)
+no_take s way e =
+    let P : List Message → Type 0 = λ w. (MayAccept s w → ⊥) × (MayRefuse s w → ⊥) × (MaySettle w → ⊥) in
+    subst P (sym e) ((λ h. h), (λ h. h), (λ h. h))
+
+not_enabled : (s : State) (e : Event) → IsQuiet s → AreNodesStill s → AreDirectionsStill s → (e ≡ RaiseAll → ⊥) → Enabled s e → ⊥
+not_enabled s (PushInner x) quiet at_nodes at_directions other on = (at_directions x on.0).inner on
+not_enabled s (PushSink v) quiet at_nodes at_directions other on = (at_nodes v on.0.node).sink on
+not_enabled s (Relabel v) quiet at_nodes at_directions other on = (at_nodes v on.0.node).label on
+not_enabled s (Send x) quiet at_nodes at_directions other on = (at_directions x on.0).outer on
+not_enabled s (Accept b c) quiet at_nodes at_directions other on = (no_take s (way_at s.ways b c) (quiet b c on.0.0 on.0.1)).0 on.1
+not_enabled s (Refuse b c) quiet at_nodes at_directions other on = (no_take s (way_at s.ways b c) (quiet b c on.0.0 on.0.1)).1 on.1
+not_enabled s (Settle b c) quiet at_nodes at_directions other on = (no_take s (way_at s.ways b c) (quiet b c on.0.0 on.0.1)).2 on.1
+not_enabled s RaiseAll quiet at_nodes at_directions other on = other refl
+
+pub all_still : (s : State) → IsSound s → IsQuiet s → AreNodesStill s → AreDirectionsStill s → IsFinished s
+all_still s sound quiet at_nodes at_directions = elim (progress s sound) [
+  | inl event ↦ absurd (not_enabled s event.0 quiet at_nodes at_directions event.1 event.2)
+  | inr finished ↦ finished
+]
+
+-- ---- what the code tells
+
+abbrev pub Performed : State → Event → State → Bool → Type 0
+Performed s e t r = MatchBool r (Happens s e t) ((¬ Enabled s e) × (t ≡ s))
+
+pub lowers_by : (s t : State) (e : Event) (r : Bool) → IsSound s → (e ≡ RaiseAll → ⊥) → Performed s e t r → Lowers s t r
+lowers_by s t e true sound other h = lowers_one s t e sound other h
+lowers_by s t e false sound other h = lowers_same s t h.1
+
+-- ---- a round
+
+-- nothing was done with nodes and directions, and then messages were taken, or none
+pub done_last : (s2 s3 s4 s5 : State) (r : Bool) → Lowers s2 s3 false → AreNodesStill s3 → Lowers s3 s4 false → AreDirectionsStill s4
+    → Lowers s4 s5 r → (IsFalse r → IsQuiet s5) → IsSound s5 → MatchBool r (count s5 < count s2) (IsFinished s5)
+done_last s2 s3 s4 s5 true one at_nodes two at_directions three quiet sound5 =
+    (lowers_then s2 s4 s5 false (lowers_still s2 s3 s4 false one two) three).less refl
+done_last s2 s3 s4 s5 false one at_nodes two at_directions three quiet sound5 =
+    let e4 = three.still refl in
+    let e3 = e4 ∙ two.still refl in
+    all_still s5 sound5 (quiet refl) (subst AreNodesStill (sym e3) at_nodes) (subst AreDirectionsStill (sym e4) at_directions)
+
+-- ---- what was done before
+
+pub after_same : (s : State) → IsAfter s s
+after_same s = record { net = refl; count = omega arith }
+
+pub after_more : (s t u : State) → IsAfter s t → IsAfter t u → IsAfter s u
+after_more s t u h k = record { net = k.net ∙ h.net; count = omega (arith, h.count, k.count) }
+
+pub lowers_after : (s t : State) (r : Bool) → Lowers s t r → IsAfter s t
+lowers_after s t r h = record { net = h.net; count = lowers_le s t r h }
+
+-- a round goes on or ends
+pub round_done : (s0 s1 s2 s3 s4 : State) (r : Bool) → IsAfter s0 s1 → IsSound s1 → Happens s1 RaiseAll s2 → IsAfter s2 s3
+    → MatchBool r (count s4 < count s3) (IsFinished s4) → MatchBool r (count s4 < count s0) (IsFinished s4)
+round_done s0 s1 s2 s3 s4 true took sound raised worked done =
+    let after = raised_after s1 s2 sound raised in
+    omega (arith, done, worked.count, after.count, took.count)
+round_done s0 s1 s2 s3 s4 false took sound raised worked done = done

@@ -1,0 +1,7 @@
+use Rattle.block_cut.proofs.Lowering.{round_done}
+use Rattle.block_cut.proofs.solver.advance.Goals as goal
+
+pub returns-clause-done : goal.returns-clause-done
+returns-clause-done c =
+    round_done c.args.state.now c.take_in.new.state c.raise.new.state c.work.new.state c.try_all.new.state c.try_all.result c.take_in.ensures.after c.take_in.ensures.sound c.raise.ensures.raised
+    c.in_ok-work.ensures c.try_all.ensures.done

@@ -1,0 +1,10 @@
+use Rattle.std.proofs.Common.{Bool}
+use Rattle.parcel.specs.Soundness.{count}
+use Rattle.block_cut.specs.Takes.{Taken}
+use Rattle.block_cut.proofs.takes.take_in.Given as goal
+
+abbrev pub invariant-rounds : goal.invariant-rounds
+invariant-rounds l = (some : Bool) × Taken l.fn.state l.state some
+
+abbrev pub decreases-rounds : goal.decreases-rounds
+decreases-rounds l = count l.state

@@ -1,0 +1,2 @@
+pub mod Lowers
+pub mod Takes

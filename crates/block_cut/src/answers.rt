@@ -1,0 +1,35 @@
+ghost use Rattle.std.specs.Prelude.{◌≤◌, IfOk};
+ghost use Rattle.flow_network.specs.Limits.{capacity_limit};
+ghost use Rattle.flow_network.specs.Cut.{IsSmallestLeastCut};
+ghost use Rattle.flow_network.specs.Answer.{side_of, IsRightCut};
+ghost use Rattle.parcel.specs.Soundness.{IsFinished};
+ghost use Rattle.global_relabel.specs.Workspaces.{Serves};
+
+use block_core::State;
+use flow_network::Solved;
+use global_relabel::Workspace;
+use sink_distances::sink_side;
+use std::alloc::{AllocError, Global};
+
+/// The answer of a finished state: the nodes that reach the sink, and the flow that the state shows.
+pub(crate) fn answer_of(
+    alloc: Global,
+    state: &State,
+    workspace: Workspace,
+) -> Result<Solved, AllocError>
+    requires serves { Serves state.now.net workspace }
+    requires finished { IsFinished state.now }
+    ensures certified { IfOk result (λ s. IsRightCut state.now.net s) }
+    ensures smallest { IfOk result (λ s. IsSmallestLeastCut state.now.net (side_of s)) }
+    ensures bound { IfOk result (λ s. s.value ≤ capacity_limit) }
+{
+    let mut workspace = workspace;
+    workspace.find(state);
+    let side = sink_side(alloc, state.net(), workspace.labels.as_slice())?;
+    Ok(Solved {
+        arc_flow: workspace.arc_flow,
+        sink_flow: workspace.sink_flow,
+        sink_side: side,
+        value: state.got(),
+    })
+}

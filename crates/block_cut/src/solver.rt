@@ -1,0 +1,87 @@
+ghost use Rattle.std.specs.Prelude.{◌≡◌, ◌<◌, ◌≤◌, IfOk, MatchBool};
+ghost use Rattle.flow_network.specs.Limits.{capacity_limit};
+ghost use Rattle.flow_network.specs.Cut.{IsSmallestLeastCut};
+ghost use Rattle.flow_network.specs.Answer.{side_of, IsRightCut};
+ghost use Rattle.parcel.specs.Soundness.{IsFinished, count};
+ghost use Rattle.global_relabel.specs.Workspaces.{Serves};
+
+use crate::answers::answer_of;
+use crate::sweeps::{try_directions, try_nodes};
+use crate::takes::{take_all, take_in};
+use crate::visits::work;
+use crate::waiting::Waiting;
+use block_core::State;
+use block_net::ARC_LIMIT;
+use flow_network::{Net, Solved};
+use global_relabel::Workspace;
+use std::alloc::{AllocError, Global};
+
+/// Each event that is enabled happens, first those of the nodes; no where the state is finished, and nothing
+/// changes.
+fn try_all(state: &mut State) -> bool
+    ensures net { state.new.net ≡ state.old.net }
+    ensures done { MatchBool result (count state.new < count state.old) (IsFinished state.new) }
+{
+    if try_nodes(state) {
+        return true;
+    }
+    if try_directions(state) {
+        return true;
+    }
+    take_all(state)
+}
+
+/// The excess goes on from the exact labels; no where the state was finished, and nothing changes.
+fn advance(
+    state: &mut State,
+    workspace: &mut Workspace,
+    waiting: &mut Waiting,
+) -> Result<bool, AllocError>
+    requires { Serves state.old.net workspace.old }
+    ensures serves { IfOk result (λ more. Serves state.new.net workspace.new) }
+    ensures net { IfOk result (λ more. state.new.net ≡ state.old.net) }
+    ensures done { IfOk result (λ more. MatchBool more
+        (count state.new < count state.old)
+        (IsFinished state.new)) }
+{
+    take_in(state);
+    workspace.raise(state);
+    work(state, &workspace.adjacency, waiting)?;
+    Ok(try_all(state))
+}
+
+/// The least cut that a state of a net comes to, with the preflow that certifies it: of all least cuts the
+/// smallest, whatever the blocks did before. Messages may be on the way, and labels need not be exact.
+///
+/// Takes in what is on the way, and then works in rounds: each begins with exact labels and goes on as the
+/// preflow method does, first in, first out (Goldberg, Tarjan 1988, sections 2 to 4), for at most as many
+/// turns as there are nodes. Refuses only where memory runs out, and drops the state.
+pub fn finish(alloc: Global, state: State) -> Result<Solved, AllocError>
+    ensures certified { IfOk result (λ s. IsRightCut state.net s) }
+    ensures smallest { IfOk result (λ s. IsSmallestLeastCut state.net (side_of s)) }
+    ensures bound { IfOk result (λ s. s.value ≤ capacity_limit) }
+{
+    let mut state = state;
+    let mut workspace = Workspace::reserve(alloc, state.net())?;
+    let mut waiting = Waiting::new(alloc, state.nodes())?;
+    'rounds: while advance(&mut state, &mut workspace, &mut waiting)? {}
+    answer_of(alloc, &state, workspace)
+}
+
+/// A least cut of the net, with the preflow that certifies it. Of all least cuts it is the smallest: its sink side
+/// lies within that of every other. Its capacity, `value`, is at most `CAPACITY_LIMIT`.
+///
+/// The net is opened in one block, and `finish` does the rest. Takes every net, also of no nodes, with parallel
+/// and opposite arcs, and with arcs from a node to itself. Refuses only where memory runs out; a net of more than
+/// `ARC_LIMIT` arcs counts as that.
+pub fn solve(alloc: Global, net: &Net) -> Result<Solved, AllocError>
+    ensures certified { IfOk result (λ s. IsRightCut net.now s) }
+    ensures smallest { IfOk result (λ s. IsSmallestLeastCut net.now (side_of s)) }
+    ensures bound { IfOk result (λ s. s.value ≤ capacity_limit) }
+{
+    if net.arcs().len() > ARC_LIMIT {
+        return Err(AllocError);
+    }
+    let state = State::open(alloc, net, 1)?;
+    finish(alloc, state)
+}
