@@ -1,7 +1,7 @@
 use crate::building::{Row, core_of, net_of};
 use crate::rows::expect;
 use block_core::{Core, State};
-use flow_network::{Net, Solved};
+use flow_network::{Net, Solved, check_cut};
 use parcel::{Direction, Event};
 use plain_cut::solve;
 use std::alloc::{AllocError, Global};
@@ -195,12 +195,51 @@ fn ends(
     Ok(is_done && core.apply(Event::RaiseAll).is_ok() && is_end(core.state(), case))
 }
 
+/// After how many events of an order the rest is left to the solver.
+const MIDDLES: &[usize] = &[1, 5, 12];
+
+/// Whether the solver comes to what the case tells from the middle of a run in so many blocks.
+fn is_finished(
+    rt: &(impl Abort + AllocGlobal),
+    case: &Case,
+    net: &Net,
+    blocks: usize,
+    order: &[usize],
+) -> Result<bool, AllocError> {
+    let mut core = core_of(rt, net, blocks)?;
+    assert!(rt; blocks <= 16);
+    let events = events_of(rt.alloc(), net, blocks as u32)?;
+    for from in order {
+        step(&mut core, events.as_slice(), *from);
+    }
+    let solved = block_cut::finish(rt.alloc(), core.into_state())?;
+    Ok(check_cut(rt.alloc(), net, &solved)? && is_solved(&solved, case))
+}
+
+/// The solver goes on from states in the middle of runs of a net, in so many blocks.
+fn expect_finished(
+    rt: &(impl Abort + AllocGlobal),
+    case: &Case,
+    net: &Net,
+    blocks: usize,
+) -> Result<(), AllocError> {
+    for order in ORDERS {
+        for count in MIDDLES {
+            let begun = &order[..order.len().min(*count)];
+            let is_right = is_finished(rt, case, net, blocks, begun)?;
+            expect(rt, case.name, *count, is_right);
+        }
+    }
+    Ok(())
+}
+
 /// Each run of a net ends as the case tells, and so does the plain solver.
 fn expect_case(rt: &(impl Abort + AllocGlobal), case: &Case) -> Result<(), AllocError> {
     let net = net_of(rt, case.sources, case.sinks, case.arcs)?;
     let solved = solve(rt.alloc(), &net)?;
     expect(rt, case.name, 0, is_solved(&solved, case));
     for blocks in BLOCKS {
+        expect_finished(rt, case, &net, *blocks)?;
         for order in ORDERS {
             expect(
                 rt,

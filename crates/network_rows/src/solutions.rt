@@ -1,8 +1,11 @@
-//! Least cuts, by hand and from a script that tries every cut.
+//! Least cuts, by hand and from a script that tries every cut, of the plain solver and of that over blocks.
 use crate::building::{Row, net_of};
 use crate::rows::expect;
 use crate::small_nets::{COUNT, NUMBERS};
-use flow_network::{Net, check_cut};
+use block_core::State;
+use block_cut::finish;
+use block_net::{ARC_LIMIT, BLOCK_LIMIT};
+use flow_network::{Net, Solved, check_cut};
 use plain_cut::solve;
 use std::alloc::{AllocError, Global};
 use std::process::Abort;
@@ -63,13 +66,58 @@ fn bits_of(side: &[bool]) -> u32 {
     bits
 }
 
-/// Whether the net is solved by this value and the smallest least cut.
-fn is_solved(alloc: Global, net: &Net, value: u64, side: u32) -> Result<bool, AllocError> {
-    let solved = solve(alloc, net)?;
+/// In how many blocks a net that was worked by hand is opened and finished, and one of a script.
+const BLOCKS: &[usize] = &[2, 3, 256];
+
+const FEW_BLOCKS: &[usize] = &[3];
+
+/// Whether an answer is certified, and has this value and this side.
+fn is_answer(
+    alloc: Global,
+    net: &Net,
+    solved: &Solved,
+    value: u64,
+    side: u32,
+) -> Result<bool, AllocError> {
     Ok(
-        check_cut(alloc, net, &solved)?
+        check_cut(alloc, net, solved)?
             && solved.value == value
             && bits_of(solved.sink_side.as_slice()) == side,
+    )
+}
+
+/// The opening state of a net in so many blocks.
+fn state_of(
+    rt: &(impl Abort + AllocGlobal),
+    net: &Net,
+    blocks: usize,
+) -> Result<State, AllocError> {
+    assert!(rt; 1 <= blocks);
+    assert!(rt; blocks <= BLOCK_LIMIT);
+    assert!(rt; net.arcs().len() <= ARC_LIMIT);
+    State::open(rt.alloc(), net, blocks)
+}
+
+/// Whether the net is solved by this value and the smallest least cut, in one block and in several too.
+fn is_solved(
+    rt: &(impl Abort + AllocGlobal),
+    net: &Net,
+    several: &[usize],
+    value: u64,
+    side: u32,
+) -> Result<bool, AllocError> {
+    let alloc = rt.alloc();
+    for blocks in several {
+        let in_blocks = finish(alloc, state_of(rt, net, *blocks)?)?;
+        if !is_answer(alloc, net, &in_blocks, value, side)? {
+            return Ok(false);
+        }
+    }
+    let solved = solve(alloc, net)?;
+    let in_one_block = block_cut::solve(alloc, net)?;
+    Ok(
+        is_answer(alloc, net, &solved, value, side)?
+            && is_answer(alloc, net, &in_one_block, value, side)?,
     )
 }
 
@@ -77,7 +125,7 @@ fn is_solved(alloc: Global, net: &Net, value: u64, side: u32) -> Result<bool, Al
 fn solves_nets_worked_by_hand(rt: HostRuntime) -> Result<(), Fail> {
     for (place, (sources, sinks, rows, value, side)) in CASES.iter().enumerate() {
         let net = net_of(&rt, sources, sinks, rows)?;
-        let is_right = is_solved(rt.alloc(), &net, *value, *side)?;
+        let is_right = is_solved(&rt, &net, BLOCKS, *value, *side)?;
         expect(&rt, "CASES", place, is_right);
     }
     Ok(())
@@ -136,7 +184,7 @@ fn solves_nets_with_cuts_from_brute_force(rt: HostRuntime) -> Result<(), Fail> {
         let net = next_net(&rt, &mut numbers)?;
         let value = u64::from(next_number(&mut numbers));
         let side = next_number(&mut numbers);
-        let is_right = is_solved(rt.alloc(), &net, value, side)?;
+        let is_right = is_solved(&rt, &net, FEW_BLOCKS, value, side)?;
         expect(&rt, "NUMBERS", place, is_right);
     }
     assert!(rt; numbers.next().is_none());
