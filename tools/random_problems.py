@@ -4,7 +4,7 @@
 Writes the table of the problems in the tests of the crate `gco_rows`. To make it again, at the top of the
 repository:
 
-    python3 tools/random_problems.py > crates/gco_rows/src/problems.rt
+    python3 tools/random_problems.py > crates/gco_rows/src/labels/problems.rt
 
 It knows the definitions of tools/random_moves.py and of a run in tools/random_runs.py, the costs that the
 names of `smooth` stand for, and the lines that docs/LABEL.md tells. The fields of a problem stand in any

@@ -1,5 +1,6 @@
 //! Writers that stop and readers that fail, at each byte, of each command.
-use crate::streams::{CutWriter, ROOM, SlowReader, expect};
+use crate::rows::expect;
+use crate::streams::{CutWriter, ROOM, SlowReader, ends};
 use byte_streams::{Watched, WatchedReader};
 use gco_cli::{run, run_streams};
 use std::process::Abort;
@@ -22,7 +23,7 @@ terms = [
 
 const ANSWER: &[u8] = b"minimum 6\nassignment 00\n";
 
-const COMMANDS: [Command; 5] = [
+const COMMANDS: &[Command] = &[
     (&["gco", "energy"], FILE, ANSWER, ""),
     // Two sites that each want their own of two labels.
     (
@@ -53,125 +54,162 @@ const COMMANDS: [Command; 5] = [
     ),
 ];
 
-/// A run of a command whose writer and fault writer stop after so many bytes, of so many a call.
-fn expect_held(
-    rt: &(impl AllocGlobal + Abort),
+/// Whether a run of a command whose writer and fault writer stop after so many bytes, of so many a call, ends
+/// with this status, and writes and says this.
+fn is_held(
+    rt: &impl AllocGlobal,
     command: &Command,
-    writer: CutWriter,
-    faults: CutWriter,
+    writer: &mut CutWriter,
+    faults: &mut CutWriter,
     status: u8,
     written: &[u8],
     said: &[u8],
-) {
-    let mut writer = writer;
-    let mut faults = faults;
+) -> bool {
     let mut reader = SlowReader::new(command.1, ROOM, false);
-    let ended = run(rt, command.0, &mut reader, &mut writer, &mut faults);
-    let is_right = ended == status
+    run(rt, command.0, &mut reader, writer, faults) == status
         && writer.held.as_slice() == written
-        && faults.held.as_slice() == said;
-    assert!(*rt; is_right, "{command:?}");
+        && faults.held.as_slice() == said
 }
 
-// Each cut of the answer, by one byte a call, by three, and at once.
+/// Whether a run whose writer stops here tells so.
+fn is_cut(rt: &impl AllocGlobal, command: &Command, line: &[u8], room: usize, step: usize) -> bool {
+    let mut writer = CutWriter::new(room, step);
+    let mut faults = CutWriter::ample();
+    let written = &command.2[..room.min(command.2.len())];
+    is_held(rt, command, &mut writer, &mut faults, 1, written, line)
+}
+
+/// Each cut of the answer of a command, by one byte a call, by three, and at once.
+fn expect_cuts(rt: &(impl AllocGlobal + Abort), command: &Command, room: usize) {
+    let line = format!(in rt.alloc(); "refused 9 after {room}\n").expect(rt, "memory");
+    let line = line.as_bytes();
+    expect(
+        rt,
+        "a byte a call",
+        room,
+        is_cut(rt, command, line, room, 1),
+    );
+    expect(rt, "three bytes", room, is_cut(rt, command, line, room, 3));
+    expect(rt, "at once", room, is_cut(rt, command, line, room, ROOM));
+}
+
 #[test]
 fn writers_that_stop(rt: HostRuntime) {
-    for command in &COMMANDS {
-        for (room, _) in command.2.iter().enumerate() {
-            let line = format!(in rt.alloc(); "refused 9 after {room}\n").expect(&rt, "memory");
-            for step in [1, 3, ROOM] {
-                expect_held(
-                    &rt,
-                    command,
-                    CutWriter::new(room, step),
-                    CutWriter::ample(),
-                    1,
-                    &command.2[..room],
-                    line.as_bytes(),
-                );
-            }
+    for command in COMMANDS {
+        for room in 0..command.2.len() {
+            expect_cuts(&rt, command, room);
         }
     }
 }
 
-// The status stays where a fault writer stops: after an answer, and where the writer takes nothing.
+/// Whether an answer is written though the fault writer stops here.
+fn is_answered(rt: &impl AllocGlobal, command: &Command, room: usize, step: usize) -> bool {
+    let mut writer = CutWriter::new(command.2.len(), step);
+    let mut faults = CutWriter::new(room, step);
+    let said = command.3.as_bytes();
+    let said = &said[..room.min(said.len())];
+    is_held(rt, command, &mut writer, &mut faults, 0, command.2, said)
+}
+
+/// What is said where a writer takes nothing.
+const NOTHING: &[u8] = b"refused 9 after 0\n";
+
+/// Whether the run is refused, as its writer takes nothing, though the fault writer stops here.
+fn is_refused(rt: &impl AllocGlobal, command: &Command, room: usize, step: usize) -> bool {
+    let mut writer = CutWriter::new(512, 0);
+    let mut faults = CutWriter::new(room, step);
+    let said = &NOTHING[..room.min(NOTHING.len())];
+    is_held(rt, command, &mut writer, &mut faults, 1, b"", said)
+}
+
+/// Each cut of what a command says after an answer, and where its writer takes nothing.
+fn expect_status(rt: &(impl AllocGlobal + Abort), command: &Command, step: usize) {
+    for room in 0..command.3.len() + 1 {
+        expect(rt, "answered", room, is_answered(rt, command, room, step));
+    }
+    for room in 0..NOTHING.len() + 1 {
+        expect(rt, "refused", room, is_refused(rt, command, room, step));
+    }
+}
+
+// The status stays where a fault writer stops.
 #[test]
 fn fault_writers_that_stop(rt: HostRuntime) {
-    let line = b"refused 9 after 0\n";
-    for command in &COMMANDS {
-        let said = command.3.as_bytes();
-        for step in [1, ROOM] {
-            for room in 0..said.len() + 1 {
-                expect_held(
-                    &rt,
-                    command,
-                    CutWriter::new(command.2.len(), step),
-                    CutWriter::new(room, step),
-                    0,
-                    command.2,
-                    &said[..room],
-                );
-            }
-            for room in 0..line.len() + 1 {
-                expect_held(
-                    &rt,
-                    command,
-                    CutWriter::new(512, 0),
-                    CutWriter::new(room, step),
-                    1,
-                    b"",
-                    &line[..room],
-                );
-            }
-        }
+    for command in COMMANDS {
+        expect_status(&rt, command, 1);
+        expect_status(&rt, command, ROOM);
     }
 }
 
-// A fault before each byte of the input and behind the last, at once and by one byte a call; and none.
+/// Whether a fault of the reader before this byte of the input is told.
+fn fails_at(rt: &impl AllocGlobal, command: &Command, count: usize, step: usize) -> bool {
+    let input = &command.1[..count.min(command.1.len())];
+    let mut reader = SlowReader::new(input, step, true);
+    ends(rt, command.0, &mut reader, 1, b"", "refused 31\n")
+}
+
+/// Whether the whole input is answered.
+fn is_read(rt: &impl AllocGlobal, command: &Command, step: usize) -> bool {
+    let mut reader = SlowReader::new(command.1, step, false);
+    ends(rt, command.0, &mut reader, 0, command.2, command.3)
+}
+
+/// A fault before each byte of the input and behind the last; and none.
+fn expect_faults(rt: &(impl AllocGlobal + Abort), command: &Command, step: usize) {
+    expect(rt, "whole", step, is_read(rt, command, step));
+    for count in 0..command.1.len() + 1 {
+        expect(rt, "broken", count, fails_at(rt, command, count, step));
+    }
+}
+
+// At once and by one byte a call.
 #[test]
 fn readers_that_fail(rt: HostRuntime) {
-    for (words, input, written, said) in &COMMANDS {
-        for step in [1, ROOM] {
-            let mut reader = SlowReader::new(input, step, false);
-            expect(&rt, words, &mut reader, 0, written, said);
-            for count in 0..input.len() + 1 {
-                let mut reader = SlowReader::new(&input[..count], step, true);
-                expect(&rt, words, &mut reader, 1, b"", "refused 31\n");
-            }
-        }
-    }
-}
-
-// What the run remembers of each stream: whether it failed.
-#[test]
-fn streams_that_remember(rt: HostRuntime) {
-    for (room, is_broken, status, written) in &REMEMBERED {
-        let mut reader = SlowReader::new(FILE, 5, *is_broken);
-        let mut writer = CutWriter::new(*room, 5);
-        let mut faults = CutWriter::ample();
-        let mut source = WatchedReader {
-            reader: &mut reader,
-            has_failed: false,
-        };
-        let mut sink = Watched {
-            writer: &mut writer,
-            has_failed: false,
-        };
-        let mut fault_sink = Watched {
-            writer: &mut faults,
-            has_failed: false,
-        };
-        let words = ["gco", "energy"];
-        let ended = run_streams(&rt, &words, &mut source, &mut sink, &mut fault_sink);
-        assert!(rt; ended == *status && source.has_failed == *is_broken);
-        assert!(rt; sink.has_failed == (*room < 24) && !fault_sink.has_failed);
-        assert!(rt; writer.held.as_slice() == *written);
+    for command in COMMANDS {
+        expect_faults(&rt, command, 1);
+        expect_faults(&rt, command, ROOM);
     }
 }
 
 /// How many bytes the writer takes, whether the reader fails at its end, the status and what is written.
-const REMEMBERED: [(usize, bool, u8, &[u8]); 3] = [
+type Remembered = (usize, bool, u8, &'static [u8]);
+
+const REMEMBERED: &[Remembered] = &[
     (24, false, 0, ANSWER),
     (7, false, 1, b"minimum"),
     (24, true, 1, b""),
 ];
+
+/// Whether the run remembers of each stream if it failed.
+fn is_remembered(rt: &impl AllocGlobal, row: &Remembered) -> bool {
+    let (room, is_broken, status, written) = row;
+    let mut reader = SlowReader::new(FILE, 5, *is_broken);
+    let mut writer = CutWriter::new(*room, 5);
+    let mut faults = CutWriter::ample();
+    let mut source = WatchedReader {
+        reader: &mut reader,
+        has_failed: false,
+    };
+    let mut sink = Watched {
+        writer: &mut writer,
+        has_failed: false,
+    };
+    let mut fault_sink = Watched {
+        writer: &mut faults,
+        has_failed: false,
+    };
+    let words = ["gco", "energy"];
+    let ended = run_streams(rt, &words, &mut source, &mut sink, &mut fault_sink);
+    ended == *status
+        && source.has_failed == *is_broken
+        && sink.has_failed == (*room < 24)
+        && !fault_sink.has_failed
+        && writer.held.as_slice() == *written
+}
+
+#[test]
+fn streams_that_remember(rt: HostRuntime) {
+    for (place, row) in REMEMBERED.iter().enumerate() {
+        expect(&rt, "REMEMBERED", place, is_remembered(&rt, row));
+    }
+}

@@ -3,21 +3,15 @@
 #![tactic(auto)]
 
 #[cfg(test)]
-mod answers;
+mod energies;
 #[cfg(test)]
 mod faults;
 #[cfg(test)]
+mod images;
+#[cfg(test)]
 mod labels;
 #[cfg(test)]
-mod picture;
-#[cfg(test)]
-mod pictures;
-#[cfg(test)]
-mod problems;
-#[cfg(test)]
-mod random;
-#[cfg(test)]
-mod refusals;
+mod rows;
 #[cfg(test)]
 mod streams;
 #[cfg(test)]

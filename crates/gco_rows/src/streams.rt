@@ -5,7 +5,6 @@ use arrayvec::ArrayVec;
 use gco_cli::run;
 use std::io;
 use std::io::{Error, ErrorKind, Read, Write};
-use std::process::Abort;
 
 /// The most bytes that a writer holds.
 pub const ROOM: usize = 8192;
@@ -88,33 +87,18 @@ impl Read for SlowReader<'_> {
     }
 }
 
-/// A run with these words ends with this status, and writes and says this.
-pub fn expect(
-    rt: &(impl AllocGlobal + Abort),
+/// Whether a run with these words ends with this status, and writes and says this.
+pub fn ends(
+    rt: &impl AllocGlobal,
     words: &[&str],
     reader: &mut SlowReader<'_>,
     status: u8,
     written: &[u8],
     said: &str,
-) {
+) -> bool {
     let mut writer = CutWriter::ample();
     let mut faults = CutWriter::ample();
-    let ended = run(rt, words, reader, &mut writer, &mut faults);
-    let is_right = ended == status
+    run(rt, words, reader, &mut writer, &mut faults) == status
         && writer.held.as_slice() == written
-        && faults.held.as_slice() == said.as_bytes();
-    assert!(*rt; is_right, "{words:?} {said}");
-}
-
-/// A run of `gco energy` over this file ends with this status, and writes and says this.
-pub fn expect_energy(
-    rt: &(impl AllocGlobal + Abort),
-    file: &[u8],
-    status: u8,
-    written: &str,
-    said: &str,
-) {
-    let mut reader = SlowReader::new(file, ROOM, false);
-    let written = written.as_bytes();
-    expect(rt, &["gco", "energy"], &mut reader, status, written, said);
+        && faults.held.as_slice() == said.as_bytes()
 }

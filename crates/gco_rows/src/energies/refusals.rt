@@ -1,12 +1,16 @@
 //! Inputs that are refused, and the lines of faults.
-use crate::streams::{ROOM, SlowReader, expect, expect_energy};
+use crate::energies::is_minimised;
+use crate::rows::expect;
+use crate::streams::{SlowReader, ends};
 use byte_streams::{INPUT_LIMIT, ReadError, WatchedReader, WriteFailed, read_input};
 use fault_lines::{Fault, line_of};
 use problem_file::{Field, ProblemFault};
 use regular::{Fixed, NotRegular};
+use std::alloc::{AllocError, Global};
+use std::process::Abort;
 
 /// The terms of an energy of two variables, and the line that refuses it.
-const TERMS: [(&str, &str); 35] = [
+const TERMS: &[(&str, &str)] = &[
     // Each term is tested by itself: the sum of these two is regular.
     (
         "{ on = [0,1], values = [1,0,0,1] }, { on = [0,1], values = [0,5,5,0] }",
@@ -109,16 +113,21 @@ const TERMS: [(&str, &str); 35] = [
     ),
 ];
 
+/// Whether an energy of these terms is refused by this line.
+fn are_refused(rt: &(impl AllocGlobal + Abort), terms: &str, said: &str) -> bool {
+    let file = format!(in rt.alloc(); "variables = 2\nterms = [{terms}]").expect(rt, "memory");
+    is_minimised(rt, file.as_bytes(), 1, "", said)
+}
+
 #[test]
 fn terms(rt: HostRuntime) {
-    for (terms, said) in &TERMS {
-        let file = format!(in rt.alloc(); "variables = 2\nterms = [{terms}]").expect(&rt, "memory");
-        expect_energy(&rt, file.as_bytes(), 1, "", said);
+    for (place, (terms, said)) in TERMS.iter().enumerate() {
+        expect(&rt, "TERMS", place, are_refused(&rt, terms, said));
     }
 }
 
 /// Inputs, and the lines that refuse them.
-const INPUTS: [(&[u8], &str); 21] = [
+const INPUTS: &[(&[u8], &str)] = &[
     (b"", "refused 29 variables\n"),
     (b"variables = -1", "refused 29 variables\n"),
     (b"variables = 2097153", "refused 29 variables\n"),
@@ -171,47 +180,67 @@ const INPUTS: [(&[u8], &str); 21] = [
     (b"variables = 1 # \xc3", "refused 28\n"),
 ];
 
-#[test]
-fn inputs(rt: HostRuntime) {
-    for (input, said) in &INPUTS {
-        expect_energy(&rt, input, 1, "", said);
-    }
-    let mut deep = vec![in rt.alloc(); b'['; 10_004].expect(&rt, "memory");
+/// Arrays in one another, 10,002 deep.
+fn deep_input(alloc: Global) -> Result<Vec<u8>, AllocError> {
+    let mut deep = vec![in alloc; b'['; 10_004]?;
     deep[0] = b'a';
     deep[1] = b'=';
-    expect_energy(&rt, deep.as_slice(), 1, "", "refused 28\n");
+    Ok(deep)
+}
+
+#[test]
+fn inputs(rt: HostRuntime) {
+    for (place, (input, said)) in INPUTS.iter().enumerate() {
+        let is_right = is_minimised(&rt, input, 1, "", said);
+        expect(&rt, "INPUTS", place, is_right);
+    }
+    let deep = deep_input(rt.alloc()).expect(&rt, "memory");
+    let is_right = is_minimised(&rt, deep.as_slice(), 1, "", "refused 28\n");
+    assert!(rt; is_right);
+}
+
+/// A reader of so many bytes in large pieces.
+fn long_reader(more: usize, is_broken: bool) -> SlowReader<'static> {
+    SlowReader {
+        bytes: b"",
+        more,
+        step: INPUT_LIMIT,
+        is_broken,
+    }
+}
+
+/// Lengths of inputs that fail at their end, and the lines that refuse them.
+const LENGTHS: &[(usize, &str)] = &[
+    (0, "refused 31\n"),
+    (5000, "refused 31\n"),
+    (INPUT_LIMIT + 1, "refused 32\n"),
+];
+
+/// Whether an input of the greatest length is read whole.
+fn is_read_whole(alloc: Global) -> bool {
+    let mut reader = long_reader(INPUT_LIMIT, false);
+    let mut source = WatchedReader {
+        reader: &mut reader,
+        has_failed: false,
+    };
+    let Ok(input) = read_input(alloc, &mut source) else {
+        return false;
+    };
+    input.len() == INPUT_LIMIT && !source.has_failed
 }
 
 // An input of the greatest length is read whole, and one byte more is refused before a fault behind it is met.
 #[test]
 fn inputs_end_at_the_limit(rt: HostRuntime) {
-    for (more, said) in [
-        (0, "refused 31\n"),
-        (5000, "refused 31\n"),
-        (INPUT_LIMIT + 1, "refused 32\n"),
-    ] {
-        let mut reader = SlowReader {
-            bytes: b"",
-            more,
-            step: INPUT_LIMIT,
-            is_broken: true,
-        };
-        expect(&rt, &["gco", "energy"], &mut reader, 1, b"", said);
+    for (more, said) in LENGTHS {
+        let mut reader = long_reader(*more, true);
+        let is_right = ends(&rt, &["gco", "energy"], &mut reader, 1, b"", said);
+        expect(&rt, "LENGTHS", *more, is_right);
     }
-    let mut source = WatchedReader {
-        reader: &mut SlowReader {
-            bytes: b"",
-            more: INPUT_LIMIT,
-            step: INPUT_LIMIT,
-            is_broken: false,
-        },
-        has_failed: false,
-    };
-    let length = read_input(rt.alloc(), &mut source).map(|input| input.len());
-    assert!(rt; length == Ok(INPUT_LIMIT) && !source.has_failed);
+    assert!(rt; is_read_whole(rt.alloc()));
 }
 
-const LINES: [(Fault, &str); 16] = [
+const LINES: &[(Fault, &str)] = &[
     (Fault::OutOfMemory, "refused 0\n"),
     (Fault::Read(ReadError::OutOfMemory), "refused 0\n"),
     (Fault::Problem(ProblemFault::OutOfMemory), "refused 0\n"),
@@ -268,7 +297,7 @@ const LINES: [(Fault, &str); 16] = [
 
 #[test]
 fn lines(rt: HostRuntime) {
-    for (fault, line) in &LINES {
-        assert!(rt; line_of(*fault).as_str() == *line, "{line}");
+    for (place, (fault, line)) in LINES.iter().enumerate() {
+        expect(&rt, "LINES", place, line_of(*fault).as_str() == *line);
     }
 }

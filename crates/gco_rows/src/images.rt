@@ -1,12 +1,21 @@
 //! Pictures, and what the image commands make of them. The small ones were worked by hand.
-use crate::streams::{ROOM, SlowReader, expect};
+use crate::rows::expect;
+use crate::streams::{ROOM, SlowReader, ends};
 
 const RESTORED: &[u8] = b"P5\n3 1\n3\n\x00\x03\x00";
 
 const PARTED: &[u8] = b"P5\n3 1\n255\n\x0a\x0c\xc8P5\n3 1\n2\n\x01\x00\x02";
 
 /// Words, the input, the exit status, what is written and what is said.
-const ROWS: [(&[&str], &[u8], u8, &[u8], &str); 10] = [
+type Row = (
+    &'static [&'static str],
+    &'static [u8],
+    u8,
+    &'static [u8],
+    &'static str,
+);
+
+const ROWS: &[Row] = &[
     // Expanding 2 reaches 3 at best, a tie; expanding 3 reaches 2.
     (
         &["gco", "restore", "--weight", "1"],
@@ -86,8 +95,9 @@ const ROWS: [(&[&str], &[u8], u8, &[u8], &str); 10] = [
 
 #[test]
 fn pictures(rt: HostRuntime) {
-    for (words, input, status, written, said) in &ROWS {
+    for (place, (words, input, status, written, said)) in ROWS.iter().enumerate() {
         let mut reader = SlowReader::new(input, ROOM, false);
-        expect(&rt, words, &mut reader, *status, written, said);
+        let is_right = ends(&rt, words, &mut reader, *status, written, said);
+        expect(&rt, "ROWS", place, is_right);
     }
 }

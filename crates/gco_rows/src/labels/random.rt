@@ -1,0 +1,28 @@
+//! Small random problems against answers worked out over all labellings.
+use crate::labels::is_labelled;
+use crate::labels::problems::PROBLEMS;
+use crate::rows::expect;
+use std::process::Abort;
+
+/// Whether a run over the file of a problem says what its line tells.
+fn is_answered(rt: &(impl AllocGlobal + Abort), problem: &str) -> bool {
+    let lines = problem.replace(rt.alloc(), ';', "\n").expect(rt, "memory");
+    let Some((file, said)) = lines.split_once('|') else {
+        return false;
+    };
+    if said.starts_with("refused") {
+        is_labelled(rt, file, 1, "", said)
+    } else {
+        is_labelled(rt, file, 0, said, "")
+    }
+}
+
+#[test]
+fn random_problems(rt: HostRuntime) {
+    let mut count = 0usize;
+    for problem in PROBLEMS.lines() {
+        expect(&rt, "PROBLEMS", count, is_answered(&rt, problem));
+        count = count.saturating_add(1);
+    }
+    assert!(rt; count == 300);
+}

@@ -1,0 +1,158 @@
+//! What help writes. The texts were taken from the program and read.
+
+pub const GCO_HELP: &str = "\
+Labels pixels by minimum cuts. The answer is proved to be right.
+
+Usage: gco <COMMAND>
+
+Commands:
+  restore  Restores a picture: reads one PGM image, writes one
+  stereo   Matches two pictures: reads the left and the right PGM image, writes how far each pixel moved
+  segment  Parts a picture in two: reads a PGM image and one of seeds, writes one of 0 and 1
+  energy   The least value of an energy of yes-no variables, and where it stands
+  label    A labelling of low energy, by expansions of labels or swaps of two
+  help     Print this message or the help of the given subcommand(s)
+
+Options:
+  -h, --help  Print help
+
+Each command reads standard input and writes its answer to standard output.
+
+Exit status:
+  0  the answer, or help that was asked for, was written
+  1  the run was refused: standard error has one line `refused N ..`
+  2  the command line was refused: standard error says why
+
+Example:
+  gco restore --smooth linear --trunc 40 < noisy.pgm > restored.pgm
+
+`gco COMMAND --help` says what a command reads and writes.
+";
+
+pub const RESTORE_HELP: &str = "\
+Restores a picture: reads one PGM image, writes one
+
+Usage: gco restore [OPTIONS]
+
+Options:
+      --smooth <NAME>   Cost of two labels: potts (0 or 1), linear (their difference) or quadratic (its square) [default: potts]
+      --trunc <N>       Where the linear and the quadratic cost are cut off, 1 to 10000 [default: 1]
+      --weight <N>      Factor of the cost of two neighbours' labels, 0 to 1000 [default: 1]
+      --neighbours <N>  Neighbours of a pixel: 4 (by an edge) or 8 (by an edge or a corner) [default: 4]
+      --moves <NAME>    Moves to make: expansion (of one label) or swap (of two) [default: expansion]
+      --cycles <N>      Most cycles of moves, 0 to 1000; one that changes nothing is the last [default: 100]
+  -h, --help            Print help
+
+Reads a PGM image of at most 256 grey levels and writes one of the same size and levels: each pixel gets a
+level near its own, with few and small jumps between neighbours. The energy is the sum of the differences
+between old and new levels, plus the weight times the cost of each two neighbours' levels. It is made
+smaller by moves, each to the best picture that it reaches. Then standard error has the line
+`energy E data D smooth S`.
+
+Exit status: 0 answered, 1 refused (standard error has one line `refused N ..`), 2 not understood.
+
+Example:
+  gco restore --smooth linear --trunc 40 --weight 4 < noisy.pgm > restored.pgm
+";
+
+pub const STEREO_HELP: &str = "\
+Matches two pictures: reads the left and the right PGM image, writes how far each pixel moved
+
+Usage: gco stereo [OPTIONS]
+
+Options:
+      --smooth <NAME>   Cost of two labels: potts (0 or 1), linear (their difference) or quadratic (its square) [default: potts]
+      --trunc <N>       Where the linear and the quadratic cost are cut off, 1 to 10000 [default: 1]
+      --weight <N>      Factor of the cost of two neighbours' labels, 0 to 1000 [default: 1]
+      --neighbours <N>  Neighbours of a pixel: 4 (by an edge) or 8 (by an edge or a corner) [default: 4]
+      --moves <NAME>    Moves to make: expansion (of one label) or swap (of two) [default: expansion]
+      --cycles <N>      Most cycles of moves, 0 to 1000; one that changes nothing is the last [default: 100]
+      --labels <N>      How many labels, 1 to 256 [default: 16]
+      --cap <N>         Greatest cost of a label at a pixel, 0 to 10000000 [default: 20]
+  -h, --help            Print help
+
+Reads two PGM images of one size, the left one first, and writes an image with a label for each pixel of the
+left one: label l says that it stands l columns further left in the right one. A label costs the difference
+of the two samples, or the cap where that is less or no such column is there, plus the weight times the
+cost of each two neighbours' labels. Then standard error has the line `energy E data D smooth S`.
+
+Exit status: 0 answered, 1 refused (standard error has one line `refused N ..`), 2 not understood.
+
+Example:
+  cat left.pgm right.pgm | gco stereo --labels 16 --weight 10 > moved.pgm
+";
+
+pub const SEGMENT_HELP: &str = "\
+Parts a picture in two: reads a PGM image and one of seeds, writes one of 0 and 1
+
+Usage: gco segment [OPTIONS] --low <N> --high <N>
+
+Options:
+      --low <N>         Sample of label 0, 0 to 65535
+      --high <N>        Sample of label 1, 0 to 65535
+      --strong <N>      Cost of unlike labels where no edge runs, 0 to 1000 [default: 20]
+      --weak <N>        Cost of unlike labels across an edge, 0 to 1000 [default: 5]
+      --edge <N>        Greatest difference of samples that is no edge, 0 to 65535 [default: 5]
+      --neighbours <N>  Neighbours of a pixel: 4 (by an edge) or 8 (by an edge or a corner) [default: 4]
+      --cycles <N>      Most cycles of moves, 0 to 1000; one that changes nothing is the last [default: 100]
+  -h, --help            Print help
+
+Reads two PGM images of one size, the picture and then its seeds (0 free, 1 label 0, 2 label 1), and writes
+an image with the label of each pixel. A free pixel's label costs its difference from the low sample (label
+0) or the high one (label 1), a seed's other label 10000000. Two neighbours of unlike labels cost `strong`,
+or `weak` where an edge runs between them. Then standard error has the line `energy E data D smooth S`.
+
+Exit status: 0 answered, 1 refused (standard error has one line `refused N ..`), 2 not understood.
+
+Example:
+  cat picture.pgm seeds.pgm | gco segment --low 60 --high 170 > parts.pgm
+";
+
+pub const ENERGY_HELP: &str = "\
+The least value of an energy of yes-no variables, and where it stands
+
+Usage: gco energy
+
+Options:
+  -h, --help  Print help
+
+Reads a TOML file: the number of variables, a constant, and terms of one, two or three variables
+with the table of their values. Each term has to be regular.
+
+Writes two lines: `minimum M`, and `assignment` with one digit for each variable. Of the least
+assignments it is the one with the fewest ones.
+
+Exit status: 0 answered, 1 refused (standard error has one line `refused N ..`), 2 not understood.
+
+Example:
+  printf 'variables = 1\\nterms = [{ on = [0], values = [5, 2] }]' | gco energy
+prints
+  minimum 2
+  assignment 1
+";
+
+pub const LABEL_HELP: &str = "\
+A labelling of low energy, by expansions of labels or swaps of two
+
+Usage: gco label
+
+Options:
+  -h, --help  Print help
+
+Reads a TOML file: the numbers of sites and labels, the cost of each label at each site (data), the cost
+of two labels at the sites of a pair (smooth, trunc), the pairs with their weights (pairs), the
+labelling to start from (start), and the moves to make (moves, cycles). What is left out has a default,
+but for sites, labels and data.
+
+Makes cycles of moves, each to the best labelling that it reaches, until one changes nothing or as many
+as are allowed are done. Writes two lines: `energy E data D smooth S`, the energy and its two parts, and
+`labels` with the label of each site.
+
+Exit status: 0 answered, 1 refused (standard error has one line `refused N ..`), 2 not understood.
+
+Example:
+  printf 'sites = 2\\nlabels = 2\\ndata = [0, 3, 3, 0]\\npairs = [[0, 1, 3]]' | gco label
+prints
+  energy 3 data 3 smooth 0
+  labels 0 0
+";
