@@ -1,4 +1,4 @@
-use Rattle.std.proofs.Common.{◌≡◌, ◌∷◌, drop, sym, subst, arith}
+use Rattle.std.proofs.Common.{◌≡◌, ◌∷◌, drop, sym, subst, arith, rules}
 use Rattle.std.proofs.lemmas.Grind.{common_steps}
 use Rattle.parcel.specs.declared.message.Message.{Message}
 use Rattle.parcel.specs.declared.message.Message.TheVariants.{Parcel}
@@ -16,3 +16,7 @@ far-far-requires c =
     let now : core.way_at c.args.self.now.ways b e ≡ m ∷ drop 1 (core.way_at c.args.self.now.ways b e) = grind (arith, common_steps) in
     let front : core.way_at s.ways b e ≡ m ∷ drop 1 (core.way_at s.ways b e) = subst (λ (t : core.State). core.way_at t.ways b e ≡ m ∷ drop 1 (core.way_at t.ways b e)) (sym c.self.view_is) now in
     (parcel_out b e _ _ _ _ c.self.invariant front).direction
+
+-- found without help too: written so that a wrong step is refused at once
+pub take_parcel-requires-clause-label : goal.take_parcel-requires-clause-label
+take_parcel-requires-clause-label c = search rules
