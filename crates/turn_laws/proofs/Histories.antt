@@ -1,9 +1,6 @@
 -- Steps, one after another, are a history.
-use Rattle.std.proofs.Common.{◌≡◌, ℕ, ◌+◌, List, [], ◌∷◌, length, refl, sym, ◌∙◌, ap, subst, arith}
-use Rattle.parcel.specs.declared.event.Event.{Event}
-use Rattle.round_laws.specs.Workers.{IsHistory}
+use Rattle.std.proofs.Common.{ℕ, List, [], ◌∷◌, length, refl, sym, ap, subst, arith}
 use Rattle.block_net.specs.Whole.{Whole}
-use Rattle.block_net.specs.Views.{BlockView}
 use Rattle.discharge.specs.Steps.{Step, Push, Give, Rise, Send, Accept, Refuse, Settle, Held, Enabled, after, Run, DoesMany}
 use Rattle.turn_laws.specs.Seats.{IsSeated, shown_by}
 use Rattle.turn_laws.specs.Laws.{IsLed}

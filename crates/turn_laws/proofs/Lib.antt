@@ -3,3 +3,4 @@ pub mod Seated
 pub mod Acts
 pub mod Takes
 pub mod Histories
+pub mod Starts

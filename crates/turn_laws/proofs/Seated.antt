@@ -1,5 +1,5 @@
 -- A block in its place: what its places stand for, and what a step leaves.
-use Rattle.std.proofs.Common.{◌≡◌, ℕ, ◌+◌, ◌<◌, ◌≤◌, Bool, true, false, List, length, slice_index, refl, sym, ◌∙◌, ap, subst, arith}
+use Rattle.std.proofs.Common.{◌≡◌, ℕ, ◌+◌, ◌<◌, Bool, true, false, List, length, slice_index, refl, sym, ◌∙◌, ap, subst, arith}
 use Rattle.std.proofs.lemmas.List.{length-set, set-set}
 use Rattle.flow_network.specs.Cut.{nodes}
 use Rattle.parcel.specs.declared.direction.Direction.{Direction}
@@ -16,7 +16,7 @@ use Rattle.block_core.proofs.Writing.{spot_put, row_put, block_same}
 use Rattle.block_core.proofs.Steps.{IsAt, excess_read, label_read, top_read}
 use Rattle.discharge.specs.Steps as steps
 use Rattle.discharge.specs.Steps.{Held}
-use Rattle.turn_laws.specs.Seats.{IsSeated, logs_of, shown_by}
+use Rattle.turn_laws.specs.Seats.{IsSeated, shown_by}
 
 -- what the whole shows with the block in its place
 abbrev pub view_with : Whole → ℕ → BlockView → BlocksView
@@ -89,7 +89,7 @@ module _ (w : Whole) (v : BlocksView) (b : ℕ) (B : BlockView) (at : IsAt w v b
   with_is : (u p : ℕ) → IsSpot w u b p → block_with w u ≡ B
   with_is u p spot = ap (block_at w) spot.home ∙ at.is
 
-  read_at : (u p : ℕ) (f : BlockView → List ℕ) (g : ℕ → ℕ) → IsSpot w u b p → slice_index (f (block_with w u)) (g (place w u)) ≡ slice_index (f B) (g p)
+  pub read_at : (u p : ℕ) (f : BlockView → List ℕ) (g : ℕ → ℕ) → IsSpot w u b p → slice_index (f (block_with w u)) (g (place w u)) ≡ slice_index (f B) (g p)
   read_at u p f g spot = ap (λ q. slice_index (f (block_with w u)) (g q)) spot.place ∙ ap (λ (q : BlockView). slice_index (f q) (g p)) (with_is u p spot)
 
   row_of : (leaves : Bool) (u p j : ℕ) (x : Direction) → IsSpot w u b p → StandsAt w leaves u j x → IsRow w x leaves b j

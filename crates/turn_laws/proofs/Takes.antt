@@ -1,27 +1,25 @@
 -- A step of a block that takes a message is an event.
-use Rattle.std.proofs.Common.{◌≡◌, ℕ, ◌+◌, ◌<◌, ◌≤◌, true, false, List, [], ◌∷◌, ◌++◌, length, slice_index, Some, Option, refl, sym, ◌∙◌, ap, subst, arith}
+use Rattle.std.proofs.Common.{◌≡◌, ℕ, ◌+◌, ◌<◌, ◌≤◌, true, List, [], length, refl, sym, ◌∙◌, ap, subst, arith}
 use Rattle.std.proofs.lemmas.List.{length-set}
 use Rattle.flow_network.specs.Preflow.{arc_at}
 use Rattle.flow_network.specs.Progress.{top}
 use Rattle.parcel.specs.declared.direction.Direction.{Direction}
-use Rattle.parcel.specs.declared.flight.Flight.{Flight}
 use Rattle.parcel.specs.declared.message.Message.{Message}
 use Rattle.parcel.specs.declared.message.Message.TheVariants.{Parcel, Accepted, Refused}
 use Rattle.parcel.specs.declared.event.Event.TheVariants.{Accept, Refuse, Settle}
-use Rattle.parcel.specs.Directions.{near, far, opposite}
+use Rattle.parcel.specs.Directions.{far, opposite}
 use Rattle.parcel.specs.States as core
-use Rattle.parcel.specs.Events as events
 use Rattle.parcel.specs.Soundness.{amount_out}
 use Rattle.parcel.proofs.Ends.{far_in}
 use Rattle.parcel.proofs.Lanes.{opposite_twice, near_opposite, far_opposite, border_opposite}
-use Rattle.round_laws.specs.Workers.{IsBetween, IsFair, MayTake, FitsArc}
+use Rattle.round_laws.specs.Workers.{IsBetween}
 use Rattle.block_net.specs.declared.rows.Border.{Border}
 use Rattle.block_net.specs.Views as block
 use Rattle.block_net.specs.Views.{BlockView, label_in, border_in}
 use Rattle.block_net.specs.Whole.{Whole, home, put_block}
 use Rattle.block_core.specs.Views.{BlocksView, state_of, IsRow, accepted, settled, returned}
 use Rattle.block_core.proofs.Effects.{border_apart}
-use Rattle.block_core.proofs.Steps.{IsAt, label_read, top_read, border_read, border_capacity, border_spot, back_spot, out_same, accepted_at, settled_at, returned_at}
+use Rattle.block_core.proofs.Steps.{label_read, top_read, border_read, border_capacity, border_spot, back_spot, out_same, accepted_at, settled_at, returned_at}
 use Rattle.discharge.specs.Seen.{add_to}
 use Rattle.discharge.specs.Steps as steps
 use Rattle.discharge.specs.Steps.{Held, accepting, refusing, settling}
