@@ -57,8 +57,11 @@ pub(crate) fn take_all(state: &mut State) -> bool
     ensures none { IsFalse result → IsQuiet state.new }
     ensures sound { IsSound state.new }
 {
-    let mut some = false;
     let blocks = state.blocks();
+    if state.is_quiet() {
+        return false;
+    }
+    let mut some = false;
     'rows: for from in 0..blocks {
         if take_row(state, from as u32) {
             some = true;
