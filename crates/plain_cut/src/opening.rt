@@ -1,11 +1,13 @@
 ghost use Rattle.std.specs.Prelude.{◌≡◌, ◌≢◌, ◌<◌, IfOk, length, slice_index};
-ghost use Rattle.flow_network.specs.Cut.{IsNet};
+ghost use Rattle.flow_network.specs.Cut.{nodes, IsNet};
+ghost use Rattle.sink_distances.specs.Adjacency.{IsAdjacency};
 ghost use Rattle.flow_network.specs.Preflow.{arc_at};
 ghost use Rattle.plain_cut.specs.State.{IsWork, IsUnlabelled};
 
 use crate::pushes::{carry, try_push_sink};
 use crate::work::{Work, start};
 use flow_network::Net;
+use sink_distances::Adjacency;
 use std::alloc::{AllocError, Global};
 
 /// Sends along the arc what its first node has and the arc can still carry.
@@ -70,19 +72,51 @@ fn send_back(net: &Net, work: &mut Work, k: usize)
     }
 }
 
-/// The work after the first pushes, which ask for no labels: once along each arc in their order, and once back along
-/// each in the reverse order. Where each arc leads from a lower to a higher node, and the arcs stand by rising first
-/// nodes, all excess goes as far as it can in the one pass, and what no sink has taken comes back in the other.
-pub fn open(alloc: Global, net: &Net) -> Result<Work, AllocError>
+/// Sends the node's excess on along the arcs that leave it, the last first. What is no place or no arc is passed over.
+fn send_out(net: &Net, adjacency: &Adjacency, work: &mut Work, v: usize)
+    requires adjacency { IsAdjacency net.now adjacency.now }
+    requires work { IsUnlabelled net.now work.old }
+    requires node { v < nodes net.now }
+    ensures { IsUnlabelled net.now work.new }
+{
+    let places = adjacency.out.places.as_slice();
+    let arcs = net.arcs().len();
+    'out: for p in (adjacency.out.starts[v]..adjacency.out.starts[v + 1]).rev() {
+        if (p as usize) < places.len() {
+            let k = places[p as usize] as usize;
+            if k < arcs {
+                send_on(net, work, k);
+            }
+        }
+    }
+}
+
+/// Sends excess on along each arc in their order, and then back along each in the reverse order.
+fn pass_arcs(net: &Net, work: &mut Work)
+    requires { IsUnlabelled net.now work.old }
+    ensures { IsUnlabelled net.now work.new }
+{
+    'on: for k in 0..net.arcs().len() {
+        send_on(net, work, k);
+    }
+    'back: for k in (0..net.arcs().len()).rev() {
+        send_back(net, work, k);
+    }
+}
+
+/// The work after the first pushes, which ask for no labels: once along each arc in their order, once back along each
+/// in the reverse order, and once out of each node, along its last arc first. Where each arc leads from a lower to a
+/// higher node, and the arcs stand by rising first nodes, all excess goes as far as it can in the first pass, what no
+/// sink has taken comes back in the second, and goes other ways in the third.
+pub fn open(alloc: Global, net: &Net, adjacency: &Adjacency) -> Result<Work, AllocError>
+    requires { IsAdjacency net.now adjacency.now }
     ensures work { IfOk result (λ w. IsWork net.now w) }
     ensures limits { IsNet net.now }
 {
     let mut work = start(alloc, net)?;
-    'on: for k in 0..net.arcs().len() {
-        send_on(net, &mut work, k);
-    }
-    'back: for k in (0..net.arcs().len()).rev() {
-        send_back(net, &mut work, k);
+    pass_arcs(net, &mut work);
+    'nodes: for v in 0..net.nodes() {
+        send_out(net, adjacency, &mut work, v);
     }
     Ok(work)
 }

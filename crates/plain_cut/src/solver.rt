@@ -17,8 +17,8 @@ use std::alloc::{AllocError, Global};
 /// lies within that of every other. Its capacity, `value`, is at most `CAPACITY_LIMIT`.
 ///
 /// The preflow method with one queue, first in and first out (Goldberg, Tarjan 1988, "A new approach to the
-/// maximum-flow problem", sections 2 to 4). First excess goes once on along each arc and once back, with no labels
-/// yet; then come rounds: a round begins at the start and after each n / 32 new labels,
+/// maximum-flow problem", sections 2 to 4). First excess goes on along each arc, back along each, and on once
+/// more, with no labels yet; then come rounds: a round begins at the start and after each n / 32 new labels,
 /// where n is the number of nodes. It raises the labels to the exact distances (Cherkassky, Goldberg 1997, "On
 /// implementing the push-relabel method for the maximum flow problem") and pushes once at each node, the farthest
 /// from the sink first, so that excess moves down all the way in one pass. The method stops where no node that
@@ -34,7 +34,7 @@ pub fn solve(alloc: Global, net: &Net) -> Result<Solved, AllocError>
 {
     let adjacency = arcs_by_node(alloc, net)?;
     let mut order = vec![in alloc; 0; net.nodes()]?;
-    let mut work = open(alloc, net)?;
+    let mut work = open(alloc, net, &adjacency)?;
     begin_round(net, &adjacency, &mut work, order.as_mut_slice())?;
     run(net, &adjacency, &mut work, order.as_mut_slice())?;
     raise_all(net, &adjacency, &mut work, order.as_mut_slice());
