@@ -32,6 +32,3 @@ pair_cost-both-requires-clause-smooth g c = c.requires.smooth
 
 pub pair_cost-both-requires-clause-weight : goal.pair_cost-both-requires-clause-weight
 pair_cost-both-requires-clause-weight g c = c.requires.weight
-
-pub pair_cost-both-requires-clause-inside : goal.pair_cost-both-requires-clause-inside
-pair_cost-both-requires-clause-inside g c = (c.requires.first.1, c.requires.second.1)
