@@ -15,9 +15,11 @@ pub record IsSquareOf (n : ℕ) (rooms : List (List ℕ)) : Type 0 where
 
 -- how many directions of an arc lie between two blocks
 abbrev pub joined : BlocksView → ℕ → ℕ → ℕ → ℕ
-joined v b c k = counted (joins v.net v.blocks b c (forward k)) 1 + counted (joins v.net v.blocks b c (backward k)) 1
+joined v b c k =
+    counted (joins v.net v.blocks b c (forward k)) 1 + counted (joins v.net v.blocks b c (backward k)) 1
 
 -- each way between two blocks has room for the directions of the first so many arcs
 pub record IsCounted (v : BlocksView) (arcs : ℕ) (rooms : List (List ℕ)) : Type 0 where
   pub square : IsSquareOf v.blocks rooms
-  pub enough : (b c : ℕ) → b < v.blocks → c < v.blocks → (b ≡ c → ⊥) → sum_below arcs (joined v b c) ≤ room_at rooms b c
+  pub enough : (b c : ℕ) → b < v.blocks → c < v.blocks → (b ≡ c → ⊥)
+      → sum_below arcs (joined v b c) ≤ room_at rooms b c

@@ -16,7 +16,9 @@ bare b = state_of (record b { labels = [] }) [] 0
 
 -- each label is the top one, or below it and the length of a path to the sink
 pub record IsReached (b : BlocksView) : Type 0 where
-  pub each : (v : ℕ) → v < nodes b.net → (slice_index b.labels v ≡ top b.net) ⊎ ((slice_index b.labels v < top b.net) × LeadsIn (bare b) (slice_index b.labels v) v)
+  pub each : (v : ℕ) → v < nodes b.net
+      → (slice_index b.labels v ≡ top b.net)
+      ⊎ ((slice_index b.labels v < top b.net) × LeadsIn (bare b) (slice_index b.labels v) v)
 
 -- labels came down, where any did, and the rest is as it was
 pub record IsLowered (old new : BlocksView) (changed : Bool) : Type 0 where
@@ -32,7 +34,9 @@ IsStableAt b v = 0 < slice_index b.rooms v → slice_index b.labels v ≤ 1
 
 -- the label is at most 1 more than at the far end of a residual direction
 abbrev pub IsStableAlong : BlocksView → Direction → Type 0
-IsStableAlong b x = 0 < (core.lane_at b.lanes x).residual → slice_index b.labels (near b.net x) ≤ slice_index b.labels (far b.net x) + 1
+IsStableAlong b x =
+    0 < (core.lane_at b.lanes x).residual
+    → slice_index b.labels (near b.net x) ≤ slice_index b.labels (far b.net x) + 1
 
 pub record IsStable (b : BlocksView) : Type 0 where
   pub rooms : (v : ℕ) → v < nodes b.net → IsStableAt b v
@@ -47,7 +51,9 @@ told_one b x = record b { lanes = core.put_lane b.lanes x (told_lane (state_of b
 abbrev pub told : BlocksView → BlocksView
 told b = record b {
   lanes = record {
-    forth = map (λ k. told_lane (state_of b [] 0) b.labels (forward k)) (range_with_len 0 (length b.net.arcs));
-    back = map (λ k. told_lane (state_of b [] 0) b.labels (backward k)) (range_with_len 0 (length b.net.arcs));
+    forth =
+        map (λ k. told_lane (state_of b [] 0) b.labels (forward k)) (range_with_len 0 (length b.net.arcs));
+    back =
+        map (λ k. told_lane (state_of b [] 0) b.labels (backward k)) (range_with_len 0 (length b.net.arcs));
   };
 }

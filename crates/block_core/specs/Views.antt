@@ -102,10 +102,16 @@ labelled b v d = record b { labels = slice_set b.labels v d }
 abbrev pub pushed : BlocksView → Direction → ℕ → BlocksView
 pushed b x a =
     let less = slice_set b.excess (near b.net x) (slice_index b.excess (near b.net x) - a) in
-    let taken = core.put_lane b.lanes x (record (core.lane_at b.lanes x) { residual = (core.lane_at b.lanes x).residual - a }) in
+    let taken = core.put_lane b.lanes x
+    (record (core.lane_at b.lanes x) { residual = (core.lane_at b.lanes x).residual - a }) in
     record b {
       excess = slice_set less (far b.net x) (slice_index less (far b.net x) + a);
-      lanes = core.put_lane taken (opposite x) (record (core.lane_at taken (opposite x)) { residual = (core.lane_at taken (opposite x)).residual + a });
+      lanes =
+          core.put_lane taken (opposite x)
+          (record (core.lane_at taken (opposite x)) {
+            residual = (core.lane_at taken (opposite x)).residual
+                + a;
+          });
     }
 
 -- an amount leaves along a direction
@@ -133,14 +139,17 @@ settled b x = record b { lanes = core.put_lane b.lanes x (record (core.lane_at b
 abbrev pub returned : BlocksView → Direction → ℕ → ℕ → BlocksView
 returned b x a told = record b {
   excess = slice_set b.excess (near b.net x) (slice_index b.excess (near b.net x) + a);
-  lanes = core.put_lane b.lanes x (record { residual = (core.lane_at b.lanes x).residual + a; known = told; flight = None });
+  lanes =
+      core.put_lane b.lanes x
+      (record { residual = (core.lane_at b.lanes x).residual + a; known = told; flight = None });
 }
 
 -- ---- the opening
 
 -- the lanes of the arcs in one sense
 abbrev pub first_lanes : Bool → List Arc → List core.Lane
-first_lanes back arcs = map (λ arc. record { residual = cond back 0 arc.capacity; known = 0; flight = None }) arcs
+first_lanes back arcs =
+    map (λ arc. record { residual = cond back 0 arc.capacity; known = 0; flight = None }) arcs
 
 abbrev pub first_of : Network → ℕ → BlocksView
 first_of net blocks = record {

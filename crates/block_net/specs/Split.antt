@@ -45,16 +45,21 @@ key net blocks outer x = cond (alike (is_border net blocks x) outer) (near net x
 pub record AreRows (net : Network) (blocks : ℕ) (leaves : Bool) (rows : Groups) : Type 0 where
   pub starts_len : length rows.starts.items ≡ nodes net + 2
   pub places_len : length rows.places.items ≡ directions net
-  pub ordered : (v : ℕ) → v ≤ nodes net → slice_index rows.starts.items v ≤ slice_index rows.starts.items (v + 1)
+  pub ordered : (v : ℕ) → v ≤ nodes net
+      → slice_index rows.starts.items v ≤ slice_index rows.starts.items (v + 1)
   pub within : (v : ℕ) → v ≤ nodes net → slice_index rows.starts.items v ≤ directions net
-  pub small : (v p : ℕ) → v < nodes net → slice_index rows.starts.items v ≤ p → p < slice_index rows.starts.items (v + 1)
+  pub small : (v p : ℕ) → v < nodes net → slice_index rows.starts.items v ≤ p
+      → p < slice_index rows.starts.items (v + 1)
       → slice_index rows.places.items p < directions net
-  pub node : (v p : ℕ) → v < nodes net → slice_index rows.starts.items v ≤ p → p < slice_index rows.starts.items (v + 1)
+  pub node : (v p : ℕ) → v < nodes net → slice_index rows.starts.items v ≤ p
+      → p < slice_index rows.starts.items (v + 1)
       → near net (direction_in net (slice_index rows.places.items p)) ≡ v
-  pub outer : (v p : ℕ) → v < nodes net → slice_index rows.starts.items v ≤ p → p < slice_index rows.starts.items (v + 1)
+  pub outer : (v p : ℕ) → v < nodes net → slice_index rows.starts.items v ≤ p
+      → p < slice_index rows.starts.items (v + 1)
       → is_border net blocks (direction_in net (slice_index rows.places.items p)) ≡ leaves
   pub found : (x : Direction) → IsDirection net x → is_border net blocks x ≡ leaves
-      → (p : ℕ) × (slice_index rows.starts.items (near net x) ≤ p) × (p < slice_index rows.starts.items (near net x + 1))
+      → (p : ℕ) × (slice_index rows.starts.items (near net x) ≤ p)
+      × (p < slice_index rows.starts.items (near net x + 1))
       × (slice_index rows.places.items p ≡ index_of net x)
   pub apart : (p q : ℕ) → slice_index rows.starts.items 0 ≤ p → p < slice_index rows.starts.items (nodes net)
       → slice_index rows.starts.items 0 ≤ q → q < slice_index rows.starts.items (nodes net)
@@ -63,7 +68,8 @@ pub record AreRows (net : Network) (blocks : ℕ) (leaves : Bool) (rows : Groups
 -- the rows do not have the index
 abbrev pub IsNoPlace : Network → Groups → ℕ → Type 0
 IsNoPlace net rows i =
-    (p : ℕ) → slice_index rows.starts.items 0 ≤ p → p < slice_index rows.starts.items (nodes net) → slice_index rows.places.items p ≢ i
+    (p : ℕ) → slice_index rows.starts.items 0 ≤ p → p < slice_index rows.starts.items (nodes net)
+    → slice_index rows.places.items p ≢ i
 
 -- where the rows of a block begin
 abbrev pub base_of : Network → ℕ → Groups → ℕ → ℕ
@@ -72,7 +78,8 @@ base_of net blocks rows b = slice_index rows.starts.items (first_of (nodes net) 
 -- the slot of the direction that stands at a place of the rows: its place among those of its block
 abbrev pub slot_at : Network → ℕ → Groups → ℕ → ℕ
 slot_at net blocks rows p =
-    p - base_of net blocks rows (block_of net blocks (near net (direction_in net (slice_index rows.places.items p))))
+    p - base_of net blocks rows
+    (block_of net blocks (near net (direction_in net (slice_index rows.places.items p))))
 
 -- the table has the slot of each direction of the rows
 abbrev pub HasSlots : Network → ℕ → Groups → List ℕ → Type 0
@@ -92,7 +99,8 @@ pub record AreGrouped (net : Network) (blocks : ℕ) (rows : ByNode) : Type 0 wh
 
 -- the starts of the nodes from one on to another, counted from the first
 abbrev pub starts_from : List ℕ → ℕ → ℕ → List ℕ
-starts_from starts first next = table (next - first + 1) (λ i. slice_index starts (first + i) - slice_index starts first)
+starts_from starts first next =
+    table (next - first + 1) (λ i. slice_index starts (first + i) - slice_index starts first)
 
 abbrev pub lane_made : Network → List ℕ → ℕ → Direction → Lane
 lane_made net slots first x = record {
@@ -117,11 +125,13 @@ abbrev pub lanes_made : Network → List ℕ → ℕ → List ℕ → List Lane
 lanes_made net slots first indices = map (λ i. lane_made net slots first (direction_in net i)) indices
 
 abbrev pub borders_made : Network → ℕ → List ℕ → ℕ → List ℕ → List Border
-borders_made net blocks slots first indices = map (λ i. border_made net blocks slots first (direction_in net i)) indices
+borders_made net blocks slots first indices =
+    map (λ i. border_made net blocks slots first (direction_in net i)) indices
 
 -- the places of the rows that belong to the nodes from one on to another
 abbrev pub span : Groups → ℕ → ℕ → List ℕ
-span rows first next = slice_range rows.places.items (slice_index rows.starts.items first) (slice_index rows.starts.items next)
+span rows first next =
+    slice_range rows.places.items (slice_index rows.starts.items first) (slice_index rows.starts.items next)
 
 -- the nodes from one on to another as a block
 abbrev pub block_from : Network → ℕ → ByNode → ℕ → ℕ → BlockView
@@ -137,7 +147,8 @@ block_from net blocks rows first next = record {
 }
 
 abbrev pub block_made : Network → ℕ → ByNode → ℕ → BlockView
-block_made net blocks rows b = block_from net blocks rows (first_of (nodes net) blocks b) (first_of (nodes net) blocks (b + 1))
+block_made net blocks rows b =
+    block_from net blocks rows (first_of (nodes net) blocks b) (first_of (nodes net) blocks (b + 1))
 
 abbrev pub blocks_made : Network → ℕ → ByNode → List BlockView
 blocks_made net blocks rows = table blocks (block_made net blocks rows)
@@ -149,10 +160,12 @@ firsts_made net blocks = table blocks (first_of (nodes net) blocks)
 
 -- the parts with no message on the way
 abbrev pub whole_at_opening : Network → ℕ → List ℕ → List ℕ → List BlockView → Whole
-whole_at_opening net blocks firsts slots parts = whole_of net firsts slots parts (replicate blocks (replicate blocks [])) 0
+whole_at_opening net blocks firsts slots parts =
+    whole_of net firsts slots parts (replicate blocks (replicate blocks [])) 0
 
 -- the parts are a net in so many blocks, as it is at the opening
-pub record IsSplit (net : Network) (blocks : ℕ) (firsts slots : List ℕ) (parts : List BlockView) : Type 0 where
+pub record IsSplit (net : Network) (blocks : ℕ) (firsts slots : List ℕ)
+    (parts : List BlockView) : Type 0 where
   pub number : length parts ≡ blocks
   pub placed : IsPlaced (whole_at_opening net blocks firsts slots parts)
   pub opening : shown (whole_at_opening net blocks firsts slots parts) ≡ opened net blocks

@@ -23,7 +23,17 @@ abbrev pub no_row : Lane
 no_row = record { residual = 0; far = 0; opposite = 0 }
 
 abbrev pub no_border : Border
-no_border = record { direction = record { arc = 0; back = false }; near = 0; to = 0; opposite = 0; capacity = 0; residual = 0; known = 0; flight = None }
+no_border =
+    record {
+      direction = record { arc = 0; back = false };
+      near = 0;
+      to = 0;
+      opposite = 0;
+      capacity = 0;
+      residual = 0;
+      known = 0;
+      flight = None;
+    }
 
 abbrev pub count : BlockView → ℕ
 count b = length b.excess
@@ -95,12 +105,20 @@ pushed b v j a =
     let taken = slice_set b.lanes j (record (lane_in b j) { residual = (lane_in b j).residual - a }) in
     record b {
       excess = slice_set less w (slice_index less w + a);
-      lanes = slice_set taken o (record (slice_index_or taken o no_row) { residual = (slice_index_or taken o no_row).residual + a });
+      lanes =
+          slice_set taken o (record (slice_index_or taken o no_row) {
+            residual =
+                (slice_index_or taken o no_row).residual + a;
+          });
     }
 
 -- an amount goes to the sink
 abbrev pub given : BlockView → ℕ → ℕ → BlockView
-given b v a = record b { excess = slice_set b.excess v (excess_in b v - a); rooms = slice_set b.rooms v (room_in b v - a) }
+given b v a =
+    record b {
+      excess = slice_set b.excess v (excess_in b v - a);
+      rooms = slice_set b.rooms v (room_in b v - a);
+    }
 
 -- a label rises
 abbrev pub labelled : BlockView → ℕ → ℕ → BlockView
@@ -110,16 +128,24 @@ labelled b v d = record b { labels = slice_set b.labels v d }
 abbrev pub sent : BlockView → ℕ → ℕ → ℕ → BlockView
 sent b v j a = record b {
   excess = slice_set b.excess v (excess_in b v - a);
-  borders = slice_set b.borders j (record (border_in b j) { residual = (border_in b j).residual - a; flight = Some (record { amount = a; label = label_in b v }) });
+  borders =
+      slice_set b.borders j
+      (record (border_in b j) {
+        residual = (border_in b j).residual - a;
+        flight = Some (record { amount = a; label = label_in b v });
+      });
 }
 
--- an amount comes from another block: the direction learns the label, but not while a parcel of its own is out
+-- an amount comes from another block: the direction learns the label, but not while a parcel of its own is
+-- out
 abbrev pub accepted : BlockView → ℕ → ℕ → ℕ → BlockView
 accepted b j a d =
     let x = border_in b j in
     record b {
       excess = slice_set b.excess x.near (excess_in b x.near + a);
-      borders = slice_set b.borders j (record x { residual = x.residual + a; known = cond (is_some x.flight) x.known (max x.known d) });
+      borders =
+          slice_set b.borders j
+          (record x { residual = x.residual + a; known = cond (is_some x.flight) x.known (max x.known d) });
     }
 
 -- a direction to another block knows a label of its far end
@@ -150,7 +176,9 @@ abbrev pub lane_allows : BlockView → ℕ → ℕ
 lane_allows b j = cond (nat_lt 0 (lane_in b j).residual) (label_in b (lane_in b j).far + 1) b.top
 
 abbrev pub border_allows : BlockView → ℕ → ℕ
-border_allows b j = cond (nat_lt 0 (border_in b j).residual || is_some (border_in b j).flight) ((border_in b j).known + 1) b.top
+border_allows b j =
+    cond (nat_lt 0 (border_in b j).residual || is_some (border_in b j).flight)
+    ((border_in b j).known + 1) b.top
 
 -- the highest label that the node may have
 abbrev pub highest : BlockView → ℕ → ℕ

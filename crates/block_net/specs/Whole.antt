@@ -23,14 +23,25 @@ pub record Whole : Type 0 where
   pub got : ℕ
 
 abbrev pub whole_of : Network → List ℕ → List ℕ → List BlockView → List (List (List Message)) → ℕ → Whole
-whole_of net firsts slots blocks ways got = record { net = net; firsts = firsts; slots = slots; blocks = blocks; ways = ways; got = got }
+whole_of net firsts slots blocks ways got =
+    record { net = net; firsts = firsts; slots = slots; blocks = blocks; ways = ways; got = got }
 
 -- f 0, f 1, .., f (n - 1)
 abbrev pub table : {A : Type 0} → ℕ → (ℕ → A) → List A
 table n f = map f (range_with_len 0 n)
 
 abbrev pub no_block : BlockView
-no_block = record { top = 0; excess = []; labels = []; rooms = []; starts = []; lanes = []; border_starts = []; borders = [] }
+no_block =
+    record {
+      top = 0;
+      excess = [];
+      labels = [];
+      rooms = [];
+      starts = [];
+      lanes = [];
+      border_starts = [];
+      borders = [];
+    }
 
 abbrev pub block_at : Whole → ℕ → BlockView
 block_at w b = slice_index_or w.blocks b no_block
@@ -138,9 +149,11 @@ pub record IsPlaced (w : Whole) : Type 0 where
   pub apart : (x y : Direction) → IsDirection w.net x → IsDirection w.net y → is_outer w x ≡ is_outer w y
       → near_home w x ≡ near_home w y → slot w x ≡ slot w y → x ≡ y
   -- the ranges of a node hold nothing else
-  pub lanes : (v j : ℕ) → v < nodes w.net → first_lane (block_with w v) (place w v) ≤ j → j < first_lane (block_with w v) (place w v + 1)
+  pub lanes : (v j : ℕ) → v < nodes w.net → first_lane (block_with w v) (place w v) ≤ j
+      → j < first_lane (block_with w v) (place w v + 1)
       → (x : Direction) × StandsAt w false v j x
-  pub outers : (v j : ℕ) → v < nodes w.net → first_border (block_with w v) (place w v) ≤ j → j < first_border (block_with w v) (place w v + 1)
+  pub outers : (v j : ℕ) → v < nodes w.net → first_border (block_with w v) (place w v) ≤ j
+      → j < first_border (block_with w v) (place w v + 1)
       → (x : Direction) × StandsAt w true v j x
 
 -- another block in a block's stead

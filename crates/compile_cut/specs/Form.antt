@@ -22,7 +22,9 @@ pub record IsBounded (terms : ℕ) (q : Quadratic) : Type 0 where
 -- of the sets that are the same on the old nodes, the least new value is the old one and the term's
 pub record AddsTerm (old new : Quadratic) (term : Term) : Type 0 where
   pub lower : (x : ℕ → Bool) → (quadratic_value old x +ℤ term_value x term) ≤ℤ quadratic_value new x
-  pub reached : (x : ℕ → Bool) → (y : ℕ → Bool) × Shows (vec_len old.weights) x y × (quadratic_value new y ≡ quadratic_value old x +ℤ term_value x term)
+  pub reached : (x : ℕ → Bool)
+      → (y : ℕ → Bool) × Shows (vec_len old.weights) x y
+      × (quadratic_value new y ≡ quadratic_value old x +ℤ term_value x term)
 
 -- of the sets that show an assignment, the least value is the energy's
 pub record SaysValues (e : Formula) (q : Quadratic) : Type 0 where

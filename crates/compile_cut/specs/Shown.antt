@@ -18,7 +18,8 @@ pub record IsLeastShown (net : Network) (variables : ℕ) (x : ℕ → Bool) (le
 -- every assignment's value is the least capacity of the cuts that show it, plus the constant
 abbrev pub ShowsValues : Network → ℤ → Formula → Type 0
 ShowsValues net constant e =
-    (x : ℕ → Bool) → (least : ℕ) × IsLeastShown net e.variables x least × (value_at e x ≡ pos least +ℤ constant)
+    (x : ℕ → Bool) → (least : ℕ) × IsLeastShown net e.variables x least
+    × (value_at e x ≡ pos least +ℤ constant)
 
 -- 1 for a term of three variables
 abbrev pub three_digit : Term → ℕ

@@ -8,24 +8,29 @@ use Rattle.compile_cut.specs.declared.three.ThreePart.{ThreePart}
 -- the coefficient of the product of the three variables, in the polynomial that a table is
 abbrev pub cubic_weight : List ℤ → ℤ
 cubic_weight table =
-    (entry table 1 +ℤ entry table 2 -ℤ entry table 0 -ℤ entry table 3) +ℤ (entry table 4 +ℤ entry table 7 -ℤ entry table 5 -ℤ entry table 6)
+    (entry table 1 +ℤ entry table 2 -ℤ entry table 0 -ℤ entry table 3)
+    +ℤ (entry table 4 +ℤ entry table 7 -ℤ entry table 5 -ℤ entry table 6)
 
 -- the table over the complemented variables in the reverse order
 abbrev pub turned_table : List ℤ → List ℤ
 turned_table table =
-    entry table 7 ∷ entry table 3 ∷ entry table 5 ∷ entry table 1 ∷ entry table 6 ∷ entry table 2 ∷ entry table 4 ∷ entry table 0 ∷ []
+    entry table 7 ∷ entry table 3 ∷ entry table 5 ∷ entry table 1 ∷ entry table 6 ∷ entry table 2
+    ∷ entry table 4 ∷ entry table 0 ∷ []
 
 -- what the arcs between a hidden node of this weight and three others carry into a set:
 -- where the weight is above 0 they lead to the three, and where it is below 0 to the hidden node
 abbrev pub hidden_value : ℤ → Bool → Bool → Bool → Bool → ℕ
 hidden_value (pos n) w x y z = counted (x && not w) n + counted (y && not w) n + counted (z && not w) n
-hidden_value (negsuc n) w x y z = counted (w && not x) (suc n) + counted (w && not y) (suc n) + counted (w && not z) (suc n)
+hidden_value (negsuc n) w x y z =
+    counted (w && not x) (suc n) + counted (w && not y) (suc n) + counted (w && not z) (suc n)
 
 -- the value of the parts, where the hidden node's arcs carry this much
 abbrev pub part_sum : ThreePart → Bool → Bool → Bool → Bool → ℕ → ℤ
 part_sum p w x y z carried =
-    p.constant +ℤ int_counted x p.first +ℤ int_counted y p.second +ℤ int_counted z p.third +ℤ int_counted w p.hidden
-    +ℤ pos (counted (y && not x) p.arcs.first_second + counted (z && not x) p.arcs.first_third + counted (z && not y) p.arcs.second_third + carried)
+    p.constant +ℤ int_counted x p.first +ℤ int_counted y p.second +ℤ int_counted z p.third
+    +ℤ int_counted w p.hidden
+    +ℤ pos (counted (y && not x) p.arcs.first_second + counted (z && not x) p.arcs.first_third
+    + counted (z && not y) p.arcs.second_third + carried)
 
 -- the value of the parts, where the hidden node is in the set or not
 abbrev pub part_value : ThreePart → Bool → Bool → Bool → Bool → ℤ

@@ -12,12 +12,14 @@ move_value m move f x = pos (energy m (made move f x))
 
 -- how much more the label costs a site where its value turns from 0 to 1
 abbrev pub data_rise : Instance → Move → (ℕ → ℕ) → ℕ → ℤ
-data_rise m move f u = pos (m.data_cost u (label_in move (f u) true)) -ℤ pos (m.data_cost u (label_in move (f u) false))
+data_rise m move f u =
+    pos (m.data_cost u (label_in move (f u) true)) -ℤ pos (m.data_cost u (label_in move (f u) false))
 
 -- how much more a pair costs where the value of one site turns
 abbrev pub pair_rise : Instance → Move → (ℕ → ℕ) → ℕ → (ℕ → Bool) → Pair → ℤ
 pair_rise m move f u x pair =
-    pos (pair_cost m (made move f (set_bit x u true)) pair) -ℤ pos (pair_cost m (made move f (set_bit x u false)) pair)
+    pos (pair_cost m (made move f (set_bit x u true)) pair)
+    -ℤ pos (pair_cost m (made move f (set_bit x u false)) pair)
 
 -- what a pair costs at the values 00, 01, 10 and 11 of its ends
 abbrev pub term_of : Instance → Move → (ℕ → ℕ) → Pair → List ℤ

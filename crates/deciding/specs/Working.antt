@@ -26,7 +26,8 @@ ends_of (pair ∷ pairs) = pair.first ∷ pair.second ∷ ends_of pairs
 
 -- the two sites are the ends of the pair
 abbrev pub AreEnds : Pair → ℕ → ℕ → Type 0
-AreEnds pair site other = ((pair.first ≡ site) × (pair.second ≡ other)) ⊎ ((pair.first ≡ other) × (pair.second ≡ site))
+AreEnds pair site other =
+    ((pair.first ≡ site) × (pair.second ≡ other)) ⊎ ((pair.first ≡ other) × (pair.second ≡ site))
 
 -- the bound of a site
 abbrev pub bound_at : List ℤ → ℕ → ℤ
@@ -45,7 +46,8 @@ degree ends u = start_of ends (u + 1) - start_of ends u
 abbrev pub left : Groups → ℕ → List Choice → ℕ
 left ends n choices = sum_below n (λ u. counted (is_open (choice_at choices u)) (degree ends u))
 
--- how large a bound may be while so many ends are left: each end that is looked at changes one by at most a surplus
+-- how large a bound may be while so many ends are left: each end that is looked at changes one by at most a
+-- surplus
 abbrev pub room_of : ℕ → ℕ
 room_of n = bound_limit - surplus_limit * n
 
@@ -76,12 +78,15 @@ pub record AreUndecided (n : ℕ) (b : Bounds) : Type 0 where
 
 -- no bound is larger
 abbrev pub IsWithinRange : ℕ → Bounds → Type 0
-IsWithinRange most b = (u : ℕ) → (unsigned_abs (bound_at b.least.items u) ≤ most) × (unsigned_abs (bound_at b.greatest.items u) ≤ most)
+IsWithinRange most b =
+    (u : ℕ) → (unsigned_abs (bound_at b.least.items u) ≤ most)
+    × (unsigned_abs (bound_at b.greatest.items u) ≤ most)
 
 -- each open site whose bounds tell its value waits, but perhaps this one; and only sites wait
 pub record AreWaitingBut (n but : ℕ) (b : Bounds) : Type 0 where
   pub sites : All (λ u. u < n) b.waiting.items
-  pub each : (u : ℕ) → u < n → u ≢ but → choice_at b.choices.items u ≡ Open → CanDecide b u → Contains b.waiting.items u
+  pub each : (u : ℕ) → u < n → u ≢ but → choice_at b.choices.items u ≡ Open → CanDecide b u
+      → Contains b.waiting.items u
 
 -- each of them waits
 abbrev pub AreWaiting : ℕ → Bounds → Type 0
@@ -90,21 +95,25 @@ AreWaiting n b = AreWaitingBut n n b
 -- nothing is decided, and the bounds count the sites' own costs and the first k pairs
 pub record AreCounted (m : Instance) (move : Move) (f : ℕ → ℕ) (k : ℕ) (b : Bounds) : Type 0 where
   pub least : (u : ℕ) → u < m.sites
-      → bound_at b.least.items u ≡ data_rise m move f u +ℤ int_sum_by (pair_rise m move f u (λ v. true)) (take k m.pairs)
+      → bound_at b.least.items u
+      ≡ data_rise m move f u +ℤ int_sum_by (pair_rise m move f u (λ v. true)) (take k m.pairs)
   pub greatest : (u : ℕ) → u < m.sites
-      → bound_at b.greatest.items u ≡ data_rise m move f u +ℤ int_sum_by (pair_rise m move f u (λ v. false)) (take k m.pairs)
+      → bound_at b.greatest.items u
+      ≡ data_rise m move f u +ℤ int_sum_by (pair_rise m move f u (λ v. false)) (take k m.pairs)
 
 -- what the counting of all pairs answers: each term is regular, and all are counted; or the first that is not
 abbrev pub AreTermsCounted : Instance → Move → (ℕ → ℕ) → Bounds → Bounds → Result Unit BuildError → Type 0
-AreTermsCounted m move f old new (Ok done) = IsAllowed m move f × (AreCounted m move f 0 old → AreCounted m move f (length m.pairs) new)
+AreTermsCounted m move f old new (Ok done) =
+    IsAllowed m move f × (AreCounted m move f 0 old → AreCounted m move f (length m.pairs) new)
 AreTermsCounted m move f old new (Err e) = IsPrepareRefusal m move f e
 
--- the sites were decided one after another, each by the test, and the bounds of an open site are its rises with all
--- undecided sites at 1 and at 0
+-- the sites were decided one after another, each by the test, and the bounds of an open site are its rises
+-- with all undecided sites at 1 and at 0
 pub record ArePartlyDecided (m : Instance) (move : Move) (f : ℕ → ℕ) (b : Bounds) : Type 0 where
   pub decisions : List Decision
   pub passed : HavePassed (move_value m move f) decisions
-  pub shown : (x : ℕ → Bool) (p : ℕ) → p < m.sites → put decisions x p ≡ bit_of (choice_at b.choices.items p) (x p)
+  pub shown : (x : ℕ → Bool) (p : ℕ) → p < m.sites
+      → put decisions x p ≡ bit_of (choice_at b.choices.items p) (x p)
   pub least : (u : ℕ) → u < m.sites → choice_at b.choices.items u ≡ Open
       → bound_at b.least.items u ≡ rise (move_value m move f) u (put decisions (λ v. true))
   pub greatest : (u : ℕ) → u < m.sites → choice_at b.choices.items u ≡ Open
@@ -120,21 +129,32 @@ pub record IsMarked (site : ℕ) (value : Bool) (old new : Bounds) : Type 0 wher
   pub greatest : new.greatest ≡ old.greatest
   pub waiting : new.waiting ≡ old.waiting
 
--- a pair of this site is seen with the site's value: the bounds of each other open site change as the pair's rise does
-pub record SeesPair (m : Instance) (move : Move) (f : ℕ → ℕ) (site : ℕ) (value : Bool) (pair : Pair) (old new : Bounds) : Type 0 where
+-- a pair of this site is seen with the site's value: the bounds of each other open site change as the pair's
+-- rise does
+pub record SeesPair (m : Instance) (move : Move) (f : ℕ → ℕ) (site : ℕ) (value : Bool) (pair : Pair)
+    (old new : Bounds) : Type 0 where
   pub least : (x : ℕ → Bool) (u : ℕ) → x site ≡ true → u ≢ site → choice_at old.choices.items u ≡ Open
-      → bound_at new.least.items u ≡ bound_at old.least.items u +ℤ (pair_rise m move f u (set_bit x site value) pair -ℤ pair_rise m move f u x pair)
+      → bound_at new.least.items u
+      ≡ bound_at old.least.items u
+      +ℤ (pair_rise m move f u (set_bit x site value) pair -ℤ pair_rise m move f u x pair)
   pub greatest : (x : ℕ → Bool) (u : ℕ) → x site ≡ false → u ≢ site → choice_at old.choices.items u ≡ Open
-      → bound_at new.greatest.items u ≡ bound_at old.greatest.items u +ℤ (pair_rise m move f u (set_bit x site value) pair -ℤ pair_rise m move f u x pair)
+      → bound_at new.greatest.items u
+      ≡ bound_at old.greatest.items u
+      +ℤ (pair_rise m move f u (set_bit x site value) pair -ℤ pair_rise m move f u x pair)
 
 -- a pair with these costs is counted at both its ends
 pub record AddsTerm (pair : Pair) (table : List ℤ) (old new : Bounds) : Type 0 where
-  pub first_least : bound_at new.least.items pair.first ≡ bound_at old.least.items pair.first +ℤ (bound_at table 3 -ℤ bound_at table 1)
-  pub first_greatest : bound_at new.greatest.items pair.first ≡ bound_at old.greatest.items pair.first +ℤ (bound_at table 2 -ℤ bound_at table 0)
-  pub second_least : bound_at new.least.items pair.second ≡ bound_at old.least.items pair.second +ℤ (bound_at table 3 -ℤ bound_at table 2)
-  pub second_greatest : bound_at new.greatest.items pair.second ≡ bound_at old.greatest.items pair.second +ℤ (bound_at table 1 -ℤ bound_at table 0)
+  pub first_least : bound_at new.least.items pair.first
+      ≡ bound_at old.least.items pair.first +ℤ (bound_at table 3 -ℤ bound_at table 1)
+  pub first_greatest : bound_at new.greatest.items pair.first
+      ≡ bound_at old.greatest.items pair.first +ℤ (bound_at table 2 -ℤ bound_at table 0)
+  pub second_least : bound_at new.least.items pair.second
+      ≡ bound_at old.least.items pair.second +ℤ (bound_at table 3 -ℤ bound_at table 2)
+  pub second_greatest : bound_at new.greatest.items pair.second
+      ≡ bound_at old.greatest.items pair.second +ℤ (bound_at table 1 -ℤ bound_at table 0)
   pub others : (u : ℕ) → u ≢ pair.first → u ≢ pair.second
-      → (bound_at new.least.items u ≡ bound_at old.least.items u) × (bound_at new.greatest.items u ≡ bound_at old.greatest.items u)
+      → (bound_at new.least.items u ≡ bound_at old.least.items u)
+      × (bound_at new.greatest.items u ≡ bound_at old.greatest.items u)
 
 -- the other costs of a site whose neighbour is now 1, or now 0
 abbrev pub least_shift : Bool → ℤ → ℤ
@@ -148,9 +168,11 @@ greatest_shift false surplus = pos 0
 -- the bounds of a site are shifted, as the value of its neighbour wants it
 pub record Shifts (site : ℕ) (value : Bool) (surplus : ℤ) (old new : Bounds) : Type 0 where
   pub least : bound_at new.least.items site ≡ bound_at old.least.items site +ℤ least_shift value surplus
-  pub greatest : bound_at new.greatest.items site ≡ bound_at old.greatest.items site +ℤ greatest_shift value surplus
+  pub greatest : bound_at new.greatest.items site
+      ≡ bound_at old.greatest.items site +ℤ greatest_shift value surplus
   pub others : (u : ℕ) → u ≢ site
-      → (bound_at new.least.items u ≡ bound_at old.least.items u) × (bound_at new.greatest.items u ≡ bound_at old.greatest.items u)
+      → (bound_at new.least.items u ≡ bound_at old.least.items u)
+      × (bound_at new.greatest.items u ≡ bound_at old.greatest.items u)
 
 -- a site waits if its bounds tell its value, and all that waited still wait
 pub record CallsUp (site : ℕ) (old new : Bounds) : Type 0 where

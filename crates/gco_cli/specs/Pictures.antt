@@ -11,14 +11,17 @@ use Rattle.fault_lines.specs.declared.fault.Fault.TheVariants.{OutOfMemory, Writ
 -- the energy and its two parts
 abbrev pub energy_line : ℕ → ℕ → ℕ → List ℕ
 energy_line whole sites pairs =
-    codes "energy " ++ decimal whole ++ codes " data " ++ decimal sites ++ codes " smooth " ++ decimal pairs ++ codes "\n"
+    codes "energy " ++ decimal whole ++ codes " data " ++ decimal sites ++ codes " smooth " ++ decimal pairs
+    ++ codes "\n"
 
--- the text is the picture of the labels where the chain of the job ends, and what is said beside it tells their energy
+-- the text is the picture of the labels where the chain of the job ends, and what is said beside it tells
+-- their energy
 pub record AnswersJob (job : Job) (text said : List ℕ) : Type 0 where
   pub labels : List ℕ
   pub ends : EndsAt job labels
   pub is : text ≡ written (picture_of job labels)
-  pub says : said ≡ energy_line (energy job.problem (labelling labels)) (data_energy job.problem (labelling labels))
+  pub says : said ≡ energy_line (energy job.problem (labelling labels))
+      (data_energy job.problem (labelling labels))
       (smooth_energy job.problem (labelling labels))
 
 -- the text is the answer to the job that the pictures of the input name

@@ -16,8 +16,8 @@ abbrev pub IsDue : List (List ℕ) → Option (List ℕ) → List ℕ → List �
 IsDue words known text said = (AsksForHelp words × (said ≡ []))
     ⊎ ((task : Task) × Asks words task × IsDueFor task known text said)
 
--- the fault is one of a run of these words: memory may always be refused, the words may name a bad option, and a command has
--- its faults
+-- the fault is one of a run of these words: memory may always be refused, the words may name a bad option,
+-- and a command has its faults
 abbrev pub Stands : List (List ℕ) → Option (List ℕ) → Fault → Type 0
 Stands words known fault = (fault ≡ OutOfMemory)
     ⊎ (((option : OptionName) × NamesBadOption words option × (fault ≡ BadOption option))
@@ -59,7 +59,8 @@ abbrev pub TellsRead : {T : Type 0} → Bool → Bool → Result T Fault → Typ
 TellsRead old new (Ok x) = new ≡ old
 TellsRead old new (Err fault) = new ≡ (is_failed_read fault || old)
 
--- a refused run has failed to read exactly where its fault says so, and read nothing where an option was refused
+-- a refused run has failed to read exactly where its fault says so, and read nothing where an option was
+-- refused
 pub record Leaves (old new : Stream) (fault : Fault) : Type 0 where
   pub failed : new.has_failed ≡ (is_failed_read fault || old.has_failed)
   pub unread : is_bad_option fault ≡ true → new ≡ old
@@ -103,7 +104,8 @@ pub record IsRun (words : List (List ℕ)) (old new : Streams) (status : ℕ) : 
   pub range : status ≤ 2
 
 -- the same over streams of which only the bytes are seen: some such run was made
-abbrev pub IsSomeRun : List (List ℕ) → Option (List ℕ) → Option (List ℕ) → Option (List ℕ) → Option (List ℕ) → Option (List ℕ)
+abbrev pub IsSomeRun : List (List ℕ) → Option (List ℕ) → Option (List ℕ) → Option (List ℕ) → Option (List ℕ)
+    → Option (List ℕ)
     → ℕ → Type 0
 IsSomeRun words input old new said_old said_new status =
     (source : Stream) × (failed : Bool) × (failed_too : Bool)

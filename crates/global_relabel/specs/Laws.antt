@@ -8,4 +8,6 @@ use Rattle.parcel.specs.Soundness.{IsSound}
 
 -- exact labels are the distances over the flow that the state shows
 abbrev pub ExactAreDistances : Type 0
-ExactAreDistances = (s : State) (labels : List ℕ) → IsSound s → IsQuiet s → AreExact s labels ↔ AreDistances s.net (shown_flow s) labels
+ExactAreDistances =
+    (s : State) (labels : List ℕ) → IsSound s → IsQuiet s
+    → AreExact s labels ↔ AreDistances s.net (shown_flow s) labels

@@ -9,9 +9,11 @@ use Rattle.parcel.specs.States.{State, room_of, residual_of}
 
 -- an arc that can carry what its two directions can still carry together
 abbrev pub residual_arc : State → ℕ → Arc
-residual_arc s k = record (arc_at s.net k) { capacity = residual_of s (forward k) + residual_of s (backward k) }
+residual_arc s k =
+    record (arc_at s.net k) { capacity = residual_of s (forward k) + residual_of s (backward k) }
 
 -- these arcs, and of each node what it can still give the sink
 abbrev pub residual_net : State → Network
 residual_net s =
-    network_of (replicate (nodes s.net) 0) (map (room_of s) (range_with_len 0 (nodes s.net))) (map (residual_arc s) (range_with_len 0 (length s.net.arcs)))
+    network_of (replicate (nodes s.net) 0) (map (room_of s) (range_with_len 0 (nodes s.net)))
+    (map (residual_arc s) (range_with_len 0 (length s.net.arcs)))

@@ -27,8 +27,8 @@ Answers m moves cycles start (Ok run) =
 Answers m moves cycles start (Err e) =
     (reached : List ℕ) × IsRun m (cycle_of moves m.labels) cycles start reached (Err e)
 
--- the last labelling has the sizes of the first, and the parts of its energy are in their ranges: a pair costs
--- at most what a site does
+-- the last labelling has the sizes of the first, and the parts of its energy are in their ranges: a pair
+-- costs at most what a site does
 pub record IsSized (start : LabelField) (run : Run) : Type 0 where
   pub labels_are : run.labelling.labels ≡ start.labels
   pub sites_are : length run.labelling.at ≡ length start.at

@@ -27,23 +27,25 @@ pub record AreAllOpen (move : Move) (f : List ℕ) (choices : List Choice) : Typ
   pub opened : (p : ℕ) → p < length f → choice_at choices p ≡ Open ↔ Changes move (labelling f p)
   pub none : (p : ℕ) → p < length f → choice_at choices p ≢ One
 
--- each open site has a variable of its own, and each variable an open site: `variables` has the number of each
--- site's variable, which means something at open sites alone, and `sites` the site of each variable
+-- each open site has a variable of its own, and each variable an open site: `variables` has the number of
+-- each site's variable, which means something at open sites alone, and `sites` the site of each variable
 pub record IsNumbering (choices : List Choice) (variables sites : List ℕ) : Type 0 where
   pub count : length variables ≡ length choices
   pub most : length sites ≤ length choices
   pub covers : (p : ℕ) → p < length choices → choice_at choices p ≡ Open
       → (labelling variables p < length sites) × (labelling sites (labelling variables p) ≡ p)
-  pub opened : (i : ℕ) → i < length sites → (labelling sites i < length choices) × (choice_at choices (labelling sites i) ≡ Open)
+  pub opened : (i : ℕ) → i < length sites
+      → (labelling sites i < length choices) × (choice_at choices (labelling sites i) ≡ Open)
 
 -- the labelling that an assignment and what was decided make
 abbrev pub made_by : Move → (ℕ → ℕ) → (ℕ → Choice) → (ℕ → ℕ) → (ℕ → Bool) → ℕ → ℕ
 made_by move f choice variable x = made move f (λ p. bit_of (choice p) (x (variable p)))
 
--- the yes-no energy stands for the partly decided move from f: but for a fixed number, its value at each assignment is
--- the energy of the labelling that the assignment and what was decided make. `variable` is each site's variable, and
--- `site` each variable's site (Boykov, Veksler, Zabih 2001, section 4)
-pub record StandsFor (m : Instance) (move : Move) (f : ℕ → ℕ) (choice : ℕ → Choice) (e : Formula) (variable site : ℕ → ℕ) : Type 0 where
+-- the yes-no energy stands for the partly decided move from f: but for a fixed number, its value at each
+-- assignment is the energy of the labelling that the assignment and what was decided make. `variable` is each
+-- site's variable, and `site` each variable's site (Boykov, Veksler, Zabih 2001, section 4)
+pub record StandsFor (m : Instance) (move : Move) (f : ℕ → ℕ) (choice : ℕ → Choice) (e : Formula)
+    (variable site : ℕ → ℕ) : Type 0 where
   pub rest : ℤ
   pub value : (x : ℕ → Bool) → value_at e x +ℤ rest ≡ pos (energy m (made_by move f choice variable x))
   pub covers : (p : ℕ) → p < m.sites → choice p ≡ Open → (variable p < e.variables) × (site (variable p) ≡ p)

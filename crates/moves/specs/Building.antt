@@ -24,10 +24,12 @@ IsGroupedFor pairs room = IsTrue room.grouped → AreBySite pairs room.deciding.
 abbrev pub site_values : List Choice → List ℕ → List Bool → ℕ → Bool
 site_values choices variables bits p = bit_of (choice_at choices p) (assignment bits (labelling variables p))
 
--- the least assignment with the fewest ones makes, with what was decided, the least values of all sites with the fewest ones
+-- the least assignment with the fewest ones makes, with what was decided, the least values of all sites with
+-- the fewest ones
 abbrev pub MakesLeast : Instance → Move → List ℕ → MoveEnergy → Type 0
 MakesLeast m move f made = (bits : List Bool) → IsSmallestLeastAssignment made.energy (assignment bits)
-    → IsSmallestLeast m.sites (move_value m move (labelling f)) (site_values made.variables.choices.items made.variables.of_sites.items bits)
+    → IsSmallestLeast m.sites (move_value m move (labelling f))
+    (site_values made.variables.choices.items made.variables.of_sites.items bits)
 
 -- what the building of the energy of a move answers
 abbrev pub IsBuiltMove : Instance → Move → List ℕ → MoveEnergy → Result Unit BuildError → Type 0

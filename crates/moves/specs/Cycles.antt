@@ -14,4 +14,5 @@ moves_of Swap labels = swaps labels
 
 -- from this place on, each move of the list changes nothing where it is made from f
 abbrev pub AreBestFrom : Instance → List Move → ℕ → List ℕ → Type 0
-AreBestFrom m moves place f = (i : ℕ) (move : Move) → place ≤ i → slice_get moves i ≡ Some move → IsBest m move f f
+AreBestFrom m moves place f =
+    (i : ℕ) (move : Move) → place ≤ i → slice_get moves i ≡ Some move → IsBest m move f f

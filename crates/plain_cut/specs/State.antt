@@ -32,8 +32,8 @@ abbrev pub IsFinished : Network → Work → Type 0
 IsFinished net w =
     (v : ℕ) → v < nodes net → slice_index w.labels.items v < top net → slice_index w.excess.items v ≡ 0
 
--- a push or a new label at a node: less is left, also of what new labels lower and count; at most one more node is
--- queued, and none is forgotten
+-- a push or a new label at a node: less is left, also of what new labels lower and count; at most one more
+-- node is queued, and none is forgotten
 pub record IsStep (net : Network) (but : ℕ) (old new : Work) : Type 0 where
   pub work : IsWork net new
   pub lower : left net new < left net old
@@ -74,7 +74,8 @@ ChangesOnly k old new = (j : ℕ) → j ≢ k → slice_index new.arc_flow.items
 -- where its first node has excess left, the arc is full or does not lead down
 abbrev pub IsSpent : Network → Work → ℕ → Type 0
 IsSpent net w k =
-    0 < slice_index w.excess.items (arc_at net k).from → slice_index w.arc_flow.items k < (arc_at net k).capacity
+    0 < slice_index w.excess.items (arc_at net k).from
+    → slice_index w.arc_flow.items k < (arc_at net k).capacity
     → slice_index w.labels.items (arc_at net k).from ≤ slice_index w.labels.items (arc_at net k).to
 
 -- where its last node has excess left, the arc is empty or does not lead down on the way back

@@ -12,7 +12,8 @@ use Rattle.problem_file.specs.declared.fault.ProblemFault.TheVariants.{BadField,
 use Rattle.problem_file.specs.declared.fault.Field.TheVariants.{Variables, Constant, Terms}
 
 -- what is read next, unless there was a fault
-abbrev pub and_then : {A B : Type 0} → Result A ProblemFault → (A → Result B ProblemFault) → Result B ProblemFault
+abbrev pub and_then : {A B : Type 0} → Result A ProblemFault → (A → Result B ProblemFault)
+    → Result B ProblemFault
 and_then (Ok x) next = next x
 and_then (Err fault) next = Err fault
 
@@ -61,9 +62,11 @@ checked n i on values term =
 -- the term at place i, over n variables, that lists of integers name
 abbrev pub term_from : ℕ → ℕ → List ℤ → List ℤ → Result Term ProblemFault
 term_from n i (x ∷ []) (a ∷ b ∷ []) = checked n i (x ∷ []) (a ∷ b ∷ []) (One (unsigned_abs x) (a ∷ b ∷ []))
-term_from n i (x ∷ y ∷ []) (a ∷ b ∷ c ∷ d ∷ []) = checked n i (x ∷ y ∷ []) (a ∷ b ∷ c ∷ d ∷ []) (Two (unsigned_abs x) (unsigned_abs y) (a ∷ b ∷ c ∷ d ∷ []))
+term_from n i (x ∷ y ∷ []) (a ∷ b ∷ c ∷ d ∷ []) =
+    checked n i (x ∷ y ∷ []) (a ∷ b ∷ c ∷ d ∷ []) (Two (unsigned_abs x) (unsigned_abs y) (a ∷ b ∷ c ∷ d ∷ []))
 term_from n i (x ∷ y ∷ z ∷ []) (a ∷ b ∷ c ∷ d ∷ e ∷ f ∷ g ∷ h ∷ []) =
-    checked n i (x ∷ y ∷ z ∷ []) (a ∷ b ∷ c ∷ d ∷ e ∷ f ∷ g ∷ h ∷ []) (Three (unsigned_abs x) (unsigned_abs y) (unsigned_abs z) (a ∷ b ∷ c ∷ d ∷ e ∷ f ∷ g ∷ h ∷ []))
+    checked n i (x ∷ y ∷ z ∷ []) (a ∷ b ∷ c ∷ d ∷ e ∷ f ∷ g ∷ h ∷ [])
+    (Three (unsigned_abs x) (unsigned_abs y) (unsigned_abs z) (a ∷ b ∷ c ∷ d ∷ e ∷ f ∷ g ∷ h ∷ []))
 term_from n i _ _ = Err (BadElement Terms i)
 
 -- the integers of an array that has nothing else
@@ -86,7 +89,8 @@ term_at n i d = term_of n i (integers_at (codes "on") d) (integers_at (codes "va
 -- the terms that the items from place i on name
 abbrev pub terms_from : ℕ → ℕ → Items → Result (List Term) ProblemFault
 terms_from n i no_items = Ok []
-terms_from n i (item d ds) = and_then (term_at n i d) (λ term. and_then (terms_from n (i + 1) ds) (λ terms. Ok (term ∷ terms)))
+terms_from n i (item d ds) =
+    and_then (term_at n i d) (λ term. and_then (terms_from n (i + 1) ds) (λ terms. Ok (term ∷ terms)))
 
 abbrev pub item_count : Items → ℕ
 item_count no_items = zero

@@ -12,9 +12,15 @@ integers (z ∷ zs) = item (integer z) (integers zs)
 
 -- the item has the variables of the term under `on`, and its table under `values`
 abbrev pub StatesTerm : Data → Term → Type 0
-StatesTerm d (One x table) = (get (codes "on") d ≡ Some (array (integers (pos x ∷ [])))) × (get (codes "values") d ≡ Some (array (integers table)))
-StatesTerm d (Two x y table) = (get (codes "on") d ≡ Some (array (integers (pos x ∷ pos y ∷ [])))) × (get (codes "values") d ≡ Some (array (integers table)))
-StatesTerm d (Three x y z table) = (get (codes "on") d ≡ Some (array (integers (pos x ∷ pos y ∷ pos z ∷ [])))) × (get (codes "values") d ≡ Some (array (integers table)))
+StatesTerm d (One x table) =
+    (get (codes "on") d ≡ Some (array (integers (pos x ∷ []))))
+    × (get (codes "values") d ≡ Some (array (integers table)))
+StatesTerm d (Two x y table) =
+    (get (codes "on") d ≡ Some (array (integers (pos x ∷ pos y ∷ []))))
+    × (get (codes "values") d ≡ Some (array (integers table)))
+StatesTerm d (Three x y z table) =
+    (get (codes "on") d ≡ Some (array (integers (pos x ∷ pos y ∷ pos z ∷ []))))
+    × (get (codes "values") d ≡ Some (array (integers table)))
 
 -- the items have the terms, one each
 abbrev pub StatesTerms : Items → List Term → Type 0

@@ -16,7 +16,8 @@ digit b = cond b 1 0
 abbrev pub term_value : (ℕ → Bool) → Term → ℤ
 term_value x (One first table) = entry table (digit (x first))
 term_value x (Two first second table) = entry table (2 * digit (x first) + digit (x second))
-term_value x (Three first second third table) = entry table (4 * digit (x first) + 2 * digit (x second) + digit (x third))
+term_value x (Three first second third table) =
+    entry table (4 * digit (x first) + 2 * digit (x second) + digit (x third))
 
 -- an energy: a constant, how many variables there are, and the terms
 pub record Formula : Type 0 where
@@ -45,7 +46,8 @@ abbrev pub IsTerm : ℕ → Term → Type 0
 IsTerm n (One first table) = (first < n) × All IsValue table
 IsTerm n (Two first second table) = (first < n) × (second < n) × (first ≢ second) × All IsValue table
 IsTerm n (Three first second third table) =
-    (first < n) × (second < n) × (third < n) × (first ≢ second) × (first ≢ third) × (second ≢ third) × All IsValue table
+    (first < n) × (second < n) × (third < n) × (first ≢ second) × (first ≢ third) × (second ≢ third)
+    × All IsValue table
 
 -- what is true of every energy
 pub record IsEnergy (e : Formula) : Type 0 where

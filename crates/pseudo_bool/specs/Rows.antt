@@ -11,7 +11,8 @@ triple_term t = Three t.first t.second t.third t.table
 
 -- the triple at a place
 abbrev pub triple_at : List Triple → ℕ → Triple
-triple_at triples place = slice_index_or triples place (record { first = 0; second = 0; third = 0; table = [] })
+triple_at triples place =
+    slice_index_or triples place (record { first = 0; second = 0; third = 0; table = [] })
 
 -- the term that a row keeps
 abbrev pub term_of : List Triple → Row → Term

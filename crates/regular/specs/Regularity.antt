@@ -4,11 +4,13 @@ use Rattle.pseudo_bool.specs.declared.term.Term.TheVariants.{One, Two, Three}
 use Rattle.pseudo_bool.specs.Formula.{Formula, entry, digit}
 use Rattle.regular.specs.declared.fixed.Fixed.{Fixed}
 
--- a table of two variables: what it has at 00 and 11 is at most what it has at 01 and 10 (Kolmogorov and Zabih 2004, section 4.1)
+-- a table of two variables: what it has at 00 and 11 is at most what it has at 01 and 10 (Kolmogorov and
+-- Zabih 2004, section 4.1)
 abbrev pub IsRegularTable : List ℤ → Type 0
 IsRegularTable table = (entry table 0 +ℤ entry table 3) ≤ℤ (entry table 1 +ℤ entry table 2)
 
--- the place in a table of three variables where the one at a position has one digit, and the others, in order, have two more
+-- the place in a table of three variables where the one at a position has one digit, and the others, in
+-- order, have two more
 abbrev pub place_of : ℕ → ℕ → ℕ → ℕ → ℕ
 place_of zero fixed first second = 4 * fixed + 2 * first + second
 place_of (suc zero) fixed first second = 4 * first + 2 * fixed + second
@@ -24,12 +26,13 @@ projection table fixed =
 abbrev pub order_of : Fixed → ℕ
 order_of fixed = 2 * fixed.position + digit fixed.value
 
--- a term of one variable always is, one of two where its table is, and one of three where its six projections are
--- (Kolmogorov and Zabih 2004, section 4.2)
+-- a term of one variable always is, one of two where its table is, and one of three where its six projections
+-- are (Kolmogorov and Zabih 2004, section 4.2)
 abbrev pub IsRegularTerm : Term → Type 0
 IsRegularTerm (One first table) = Unit {0}
 IsRegularTerm (Two first second table) = IsRegularTable table
-IsRegularTerm (Three first second third table) = (fixed : Fixed) → fixed.position < 3 → IsRegularTable (projection table fixed)
+IsRegularTerm (Three first second third table) =
+    (fixed : Fixed) → fixed.position < 3 → IsRegularTable (projection table fixed)
 
 -- each term by itself
 abbrev pub IsRegular : Formula → Type 0
@@ -39,7 +42,8 @@ IsRegular e = All IsRegularTerm e.terms
 pub record IsFirstProjection (table : List ℤ) (fixed : Fixed) : Type 0 where
   pub position : fixed.position < 3
   pub fails : ¬ IsRegularTable (projection table fixed)
-  pub before : (earlier : Fixed) → order_of earlier < order_of fixed → IsRegularTable (projection table earlier)
+  pub before : (earlier : Fixed) → order_of earlier < order_of fixed
+      → IsRegularTable (projection table earlier)
 
 -- where a term first fails: in one of two variables nothing is fixed
 abbrev pub FailsFirst : Term → Option Fixed → Type 0

@@ -30,7 +30,8 @@ pub record IsOrder (found : Found) : Type 0 where
   pub places : (i : ℕ) → i < found.count → node_at found i < length found.labels
   pub short : (i : ℕ) → i < found.count → label_of found (node_at found i) ≤ i + 1
   pub listed : (v : ℕ) → v < length found.labels
-      → (label_of found v ≡ top_label (length found.labels)) ⊎ ((i : ℕ) × (i < found.count) × (node_at found i ≡ v))
+      → (label_of found v ≡ top_label (length found.labels))
+      ⊎ ((i : ℕ) × (i < found.count) × (node_at found i ≡ v))
   pub rising : (i j : ℕ) → i ≤ j → j < found.count
       → label_of found (node_at found i) ≤ label_of found (node_at found j)
 
@@ -65,6 +66,7 @@ pub record AreStarts (net : Network) (given : List ℕ) (v : ℕ) (found : Found
   pub order : IsOrder found
   pub below : IsAtMost 1 found
   pub leads : (u : ℕ) → u < nodes net
-      → (label_of found u ≡ top net) ⊎ ((label_of found u ≡ 1) × (slice_index given u < slice_index net.sinks u))
+      → (label_of found u ≡ top net)
+      ⊎ ((label_of found u ≡ 1) × (slice_index given u < slice_index net.sinks u))
   pub sinks : (u : ℕ) → u < v → u < nodes net → slice_index given u < slice_index net.sinks u
       → label_of found u ≤ 1

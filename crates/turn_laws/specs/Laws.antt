@@ -29,4 +29,5 @@ HasRoom w s = (c : ℕ) → c < length w.blocks → s.room c ≡ true
 abbrev pub StartIsStep : Type 0
 StartIsStep =
     (w : Whole) (b got : ℕ) (h : Held) (s : Seen) (e : Event)
-    → IsSeated w b h.block → HasRoom w s → MayStart b (shown_by w b h got) e → (step : Step) × IsSure h.block s step
+    → IsSeated w b h.block → HasRoom w s → MayStart b (shown_by w b h got) e
+    → (step : Step) × IsSure h.block s step

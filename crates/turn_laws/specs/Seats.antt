@@ -26,4 +26,5 @@ pub record IsSeated (w : Whole) (b : ℕ) (B : BlockView) : Type 0 where
 
 -- the state that block b shows among the others, with what it put and took as its ways
 abbrev pub shown_by : Whole → ℕ → Held → ℕ → State
-shown_by w b h got = state_of (blocks_in (put_block w b h.block)) (logs_of (length w.blocks) b h.sent h.taken) got
+shown_by w b h got =
+    state_of (blocks_in (put_block w b h.block)) (logs_of (length w.blocks) b h.sent h.taken) got

@@ -1,4 +1,5 @@
--- Why a command was refused: the first cause in the order first image, second image, sizes, seeds, levels, moves, writing.
+-- Why a command was refused: the first cause in the order first image, second image, sizes, seeds, levels,
+-- moves, writing.
 use Rattle.std.specs.Prelude.{◌≡◌, ℕ, ◌<◌, ◌⊎◌, ⊤, Bool, true, List, Option}
 use Rattle.moves.specs.declared.error.MoveError.{MoveError}
 use Rattle.moves.specs.declared.error.MoveError.TheVariants as move
@@ -73,14 +74,17 @@ HasStereoFault o input e = HasPairFault input e
 -- the first seed above 2 has this index
 abbrev pub HasSegmentFault : SegmentOptions → List ℕ → VisionError → Type 0
 HasSegmentFault o input (BadSeed i) =
-    (p : Picture) × (seeds : Picture) × HoldsTwo input p seeds × SameSizes p seeds × IsFirstAbove 2 seeds.samples i
+    (p : Picture) × (seeds : Picture) × HoldsTwo input p seeds × SameSizes p seeds
+    × IsFirstAbove 2 seeds.samples i
 HasSegmentFault o input (Move e) = (job : Job) × IsSegmentJob o input job × RefusesMove job e
 HasSegmentFault o input e = HasPairFault input e
 
--- a refusal leaves the writer as it was, unless the writer failed: then it took the first bytes of the picture's written form,
--- as many as are told
-abbrev pub Leaves : (Job → Type 0) → (VisionError → Type 0) → Option (List ℕ) → Option (List ℕ) → Bool → VisionError → Type 0
-Leaves IsJob HasFault old new failed (Write stop) = (job : Job) × IsJob job × StopsAfter job old new stop.count × (failed ≡ true)
+-- a refusal leaves the writer as it was, unless the writer failed: then it took the first bytes of the
+-- picture's written form, as many as are told
+abbrev pub Leaves : (Job → Type 0) → (VisionError → Type 0) → Option (List ℕ) → Option (List ℕ) → Bool
+    → VisionError → Type 0
+Leaves IsJob HasFault old new failed (Write stop) =
+    (job : Job) × IsJob job × StopsAfter job old new stop.count × (failed ≡ true)
 Leaves IsJob HasFault old new failed e = HasFault e
 
 abbrev pub IsWrite : VisionError → Type 0

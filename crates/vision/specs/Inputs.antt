@@ -22,7 +22,8 @@ pub record IsPastSpaces (input : List ℕ) (from at : ℕ) : Type 0 where
   pub spaces : (k : ℕ) → from ≤ k → k < at → is_space (slice_index input k) ≡ true
   pub stops : at < length input → is_space (slice_index input at) ≡ false
 
--- the input begins with this picture, and behind the white space after it a second one is to begin at this place
+-- the input begins with this picture, and behind the white space after it a second one is to begin at this
+-- place
 pub record BeginsSecond (input : List ℕ) (first : Picture) (at : ℕ) : Type 0 where
   pub used : ℕ
   pub front : Front input first used
@@ -62,7 +63,8 @@ IsRestoreJob o input job = (p : Picture) × HoldsPicture input p × (p.maxval �
 
 abbrev pub IsStereoJob : StereoOptions → List ℕ → Job → Type 0
 IsStereoJob o input job =
-    (left : Picture) × (right : Picture) × HoldsTwo input left right × SameSizes left right × (job ≡ stereo_job o left right)
+    (left : Picture) × (right : Picture) × HoldsTwo input left right × SameSizes left right
+    × (job ≡ stereo_job o left right)
 
 -- each seed is 0, 1 or 2
 abbrev pub AreSeeds : Picture → Type 0
@@ -70,4 +72,5 @@ AreSeeds seeds = All (λ seed. seed ≤ 2) seeds.samples
 
 abbrev pub IsSegmentJob : SegmentOptions → List ℕ → Job → Type 0
 IsSegmentJob o input job =
-    (p : Picture) × (seeds : Picture) × HoldsTwo input p seeds × SameSizes p seeds × AreSeeds seeds × (job ≡ segment_job o p seeds)
+    (p : Picture) × (seeds : Picture) × HoldsTwo input p seeds × SameSizes p seeds × AreSeeds seeds
+    × (job ≡ segment_job o p seeds)

@@ -71,7 +71,8 @@ pub record Tells (job : Job) (labels : List ℕ) (report : Report) : Type 0 wher
   pub data_is : report.data_part ≡ pos (data_energy job.problem (labelling labels))
   pub smooth_is : report.smooth_part ≡ pos (smooth_energy job.problem (labelling labels))
 
--- the writer took exactly the written form of the picture of the chain's last labels, of which the report tells
+-- the writer took exactly the written form of the picture of the chain's last labels, of which the report
+-- tells
 pub record Does (job : Job) (old new : Option (List ℕ)) (report : Report) : Type 0 where
   pub labels : List ℕ
   pub ends : EndsAt job labels

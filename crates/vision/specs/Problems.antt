@@ -1,4 +1,5 @@
--- The problems of labels that pictures and options name. A site is a pixel, row by row from the top, each row from the left.
+-- The problems of labels that pictures and options name. A site is a pixel, row by row from the top, each row
+-- from the left.
 use Rattle.std.specs.Prelude.{ℕ, ◌+◌, ◌-◌, ◌*◌, ◌==◌, nat_lt, nat_le, min, List, map, slice_index, if◌then◌else◌}
 use Rattle.label_field.specs.declared.pair.Pair.{Pair}
 use Rattle.label_field.specs.Grids.{grid, steps4, steps8, column, distance}
@@ -31,8 +32,9 @@ restore_problem o p = record {
   pairs = pairs_of o.neighbours o.weight p;
 }
 
--- what a shift to the left costs a pixel of the left picture: how far its sample is from the one so many columns to the left
--- of it in the right picture, at most the cap; the cap where the picture has no such column
+-- what a shift to the left costs a pixel of the left picture: how far its sample is from the one so many
+-- columns to the left of it in the right picture, at most the cap; the cap where the picture has no such
+-- column
 abbrev pub shift_cost : ℕ → Picture → Picture → ℕ → ℕ → ℕ
 shift_cost cap left right site shift =
     if nat_lt (column left.width site) shift then cap
@@ -52,8 +54,8 @@ stereo_problem o left right = record {
 abbrev pub seed_cost : ℕ
 seed_cost = 10000000
 
--- what a label costs a pixel of this sample and this seed: a free pixel (0) its distance from the label's sample, a seed of
--- label 0 (1) and one of label 1 (2) the seed's cost for the other label
+-- what a label costs a pixel of this sample and this seed: a free pixel (0) its distance from the label's
+-- sample, a seed of label 0 (1) and one of label 1 (2) the seed's cost for the other label
 abbrev pub part_cost : SegmentOptions → ℕ → ℕ → ℕ → ℕ
 part_cost o x seed label =
     if seed == 0 then distance x (if label == 0 then o.low else o.high)
@@ -62,7 +64,8 @@ part_cost o x seed label =
 
 -- the weight of a pair of pixels: strong where their samples differ by at most the edge, else weak
 abbrev pub edge_weight : SegmentOptions → Picture → Pair → ℕ
-edge_weight o p pair = if nat_le (distance (sample p pair.first) (sample p pair.second)) o.edge then o.strong else o.weak
+edge_weight o p pair =
+    if nat_le (distance (sample p pair.first) (sample p pair.second)) o.edge then o.strong else o.weak
 
 -- a pair with another weight
 abbrev pub weighted : (Pair → ℕ) → Pair → Pair
