@@ -464,6 +464,7 @@ impl State {
             ((¬ Enabled self.old event) × (self.new ≡ self.old)) }
         ensures sound { IsSound self.old }
     {
+        // Reading a field brings the state's soundness to hand.
         let _ = &self.got;
         match event {
             Event::PushInner { direction } => self.push_inner(direction),

@@ -8,12 +8,12 @@ use Rattle.parcel.specs.States.{State}
 use Rattle.parcel.specs.Events.{Enabled}
 use Rattle.parcel.specs.Soundness.{count}
 
--- a state of the same net, from which no more events lead on
+-- a state of the same net whose count is no higher
 pub record IsAfter (old new : State) : Type 0 where
   pub net : new.net ≡ old.net
   pub count : count new ≤ count old
 
--- where anything was done, fewer events lead on; else nothing is changed
+-- where anything was done, the count fell; else nothing is changed
 pub record Lowers (old new : State) (some : Bool) : Type 0 where
   pub net : new.net ≡ old.net
   pub less : some ≡ true → count new < count old

@@ -16,8 +16,8 @@ use flow_network::{Net, Solved};
 use global_relabel::Workspace;
 use std::alloc::{AllocError, Global};
 
-/// Each event that is enabled happens, first those of the nodes; no where the state is finished, and nothing
-/// changes.
+/// The events of the nodes happen where they are enabled; where none is, those of the directions; where none is,
+/// messages are taken. No where the state is finished, and nothing changes.
 fn try_all(state: &mut State) -> bool
     ensures net { state.new.net ≡ state.old.net }
     ensures done { MatchBool result (count state.new < count state.old) (IsFinished state.new) }
@@ -31,7 +31,7 @@ fn try_all(state: &mut State) -> bool
     take_all(state)
 }
 
-/// The excess goes on from the exact labels; no where the state was finished, and nothing changes.
+/// Messages are taken in, labels become exact, and excess goes on; no where the state is finished then.
 fn advance(
     state: &mut State,
     workspace: &mut Workspace,

@@ -1,5 +1,6 @@
 //! Tests of nets in blocks: the parts of small nets, worked by hand; two runs over two blocks, event by
-//! event; events that are refused; and runs in any order, whose end the plain solver knows.
+//! event; events that are refused; runs in any order, whose end the plain solver knows; and the solver over
+//! blocks from the middle of such runs.
 #![tactic(auto)]
 
 #[cfg(test)]

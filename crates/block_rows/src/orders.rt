@@ -1,5 +1,5 @@
 use crate::building::{Row, core_of, net_of};
-use crate::rows::expect;
+use crate::rows::expect_tried;
 use block_core::{Core, State};
 use flow_network::{Net, Solved, check_cut};
 use parcel::{Direction, Event};
@@ -227,7 +227,7 @@ fn expect_finished(
         for count in MIDDLES {
             let begun = &order[..order.len().min(*count)];
             let is_right = is_finished(rt, case, net, blocks, begun)?;
-            expect(rt, case.name, *count, is_right);
+            expect_tried(rt, case.name, "finished after", *count, is_right);
         }
     }
     Ok(())
@@ -237,16 +237,12 @@ fn expect_finished(
 fn expect_case(rt: &(impl Abort + AllocGlobal), case: &Case) -> Result<(), AllocError> {
     let net = net_of(rt, case.sources, case.sinks, case.arcs)?;
     let solved = solve(rt.alloc(), &net)?;
-    expect(rt, case.name, 0, is_solved(&solved, case));
+    expect_tried(rt, case.name, "solved", 0, is_solved(&solved, case));
     for blocks in BLOCKS {
         expect_finished(rt, case, &net, *blocks)?;
         for order in ORDERS {
-            expect(
-                rt,
-                case.name,
-                *blocks,
-                ends(rt, case, &net, *blocks, order)?,
-            );
+            let is_right = ends(rt, case, &net, *blocks, order)?;
+            expect_tried(rt, case.name, "run in blocks", *blocks, is_right);
         }
     }
     Ok(())

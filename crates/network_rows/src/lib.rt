@@ -1,4 +1,4 @@
-//! Tests of networks, their cuts and the solver: lists, groups, distances and cuts worked out by hand, or by a
+//! Tests of networks, their cuts and both solvers: lists, groups, distances and cuts worked out by hand, or by a
 //! script that tries every cut.
 #![tactic(auto)]
 

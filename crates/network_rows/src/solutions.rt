@@ -66,9 +66,10 @@ fn bits_of(side: &[bool]) -> u32 {
     bits
 }
 
-/// In how many blocks a net that was worked by hand is opened and finished, and one of a script.
+/// In how many blocks a net that was worked by hand is opened and finished.
 const BLOCKS: &[usize] = &[2, 3, 256];
 
+/// The same for a net of a script.
 const FEW_BLOCKS: &[usize] = &[3];
 
 /// Whether an answer is certified, and has this value and this side.

@@ -106,8 +106,8 @@ fn pass_arcs(net: &Net, work: &mut Work)
 
 /// The work after the first pushes, which ask for no labels: once along each arc in their order, once back along each
 /// in the reverse order, and once out of each node, along its last arc first. Where each arc leads from a lower to a
-/// higher node, and the arcs stand by rising first nodes, all excess goes as far as it can in the first pass, what no
-/// sink has taken comes back in the second, and goes other ways in the third.
+/// higher node, and the arcs stand by rising first nodes, all excess goes as far as it can in the first pass, what the
+/// sink has not taken comes back in the second, and goes other ways in the third.
 pub fn open(alloc: Global, net: &Net, adjacency: &Adjacency) -> Result<Work, AllocError>
     requires { IsAdjacency net.now adjacency.now }
     ensures work { IfOk result (λ w. IsWork net.now w) }

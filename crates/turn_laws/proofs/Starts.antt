@@ -1,5 +1,5 @@
 -- An event that takes no message, where the block may do it, is a step that is sure.
-use Rattle.std.proofs.Common.{◌≡◌, ℕ, ◌+◌, ◌<◌, true, false, List, length, refl, ◌∙◌, ap, arith}
+use Rattle.std.proofs.Common.{◌≡◌, ℕ, ◌+◌, ◌<◌, true, false, List, length, refl, sym, ◌∙◌, ap, arith}
 use Rattle.std.proofs.lemmas.List.{length-set}
 use Rattle.parcel.specs.declared.direction.Direction.{Direction}
 use Rattle.parcel.specs.declared.message.Message.{Message}
@@ -15,6 +15,7 @@ use Rattle.block_net.specs.Views.{BlockView, label_in, room_in, lane_in, border_
 use Rattle.block_net.specs.Whole.{Whole, home, place, slot, put_block}
 use Rattle.block_core.specs.Views.{BlocksView, state_of, IsSpot, IsRow}
 use Rattle.block_core.proofs.Allowing.{highest_is}
+use Rattle.block_core.proofs.Effects.{border_apart}
 use Rattle.block_core.proofs.Steps.{IsAt, node_below, excess_read, label_read, room_read, top_read, inner_read, border_read, far_spot}
 use Rattle.discharge.specs.Seen.{Seen}
 use Rattle.discharge.specs.Steps as steps
@@ -101,7 +102,7 @@ start_rise w b got h u seat may =
     let enabled : steps.Enabled B (steps.Rise p) = (still_active w1 v b B ways got u p at spot on.0, higher) in
     (steps.Rise p, enabled, (λ s. enabled))
 
-start_send : (w : Whole) (b got : ℕ) (h : Held) (x : Direction) (s : Seen) → IsSeated w b h.block → HasRoom w s → MayStart b (shown_by w b h got) (Send x) → (e : Step) × IsSure h.block s e
+start_send : (w : Whole) (b got : ℕ) (h : Held) (x : Direction) (s : Seen) → IsSeated w b h.block → HasRoom w b s → MayStart b (shown_by w b h got) (Send x) → (e : Step) × IsSure h.block s e
 start_send w b got h x s seat room may =
     let B = h.block in
     let w1 = put_block w b B in
@@ -132,9 +133,10 @@ start_send w b got h x s seat room may =
     let leads : (border_in B j).to ≡ home w1 (far w1.net x) = ap (λ (q : Border). q.to) (border_row w1 v b B x j at row) ∙ stands.to in
     let other : (border_in B j).to < length w.blocks = omega (arith, leads, at.laid.placed.homes (far w1.net x) (far_in w1.net x at.laid.net on.0), length-set w.blocks b B) in
     let enabled : steps.Enabled B (steps.Send p j) = (still_active w1 v b B ways got u p at spot on.2, of, may_send) in
-    (steps.Send p j, (enabled, room (border_in B j).to other))
+    let apart = λ (e : (border_in B j).to ≡ b). border_apart (state_of v ways got) x on.1 (may.0 ∙ (sym e ∙ leads)) in
+    (steps.Send p j, (enabled, room (border_in B j).to other apart))
 
-pub start_is_step : (w : Whole) (b got : ℕ) (h : Held) (s : Seen) (e : Event) → IsSeated w b h.block → HasRoom w s → MayStart b (shown_by w b h got) e → (step : Step) × IsSure h.block s step
+pub start_is_step : (w : Whole) (b got : ℕ) (h : Held) (s : Seen) (e : Event) → IsSeated w b h.block → HasRoom w b s → MayStart b (shown_by w b h got) e → (step : Step) × IsSure h.block s step
 start_is_step w b got h s (PushInner x) seat room may = let found = start_push w b got h x seat may in (found.0, found.2 s)
 start_is_step w b got h s (PushSink u) seat room may = let found = start_give w b got h u seat may in (found.0, found.2 s)
 start_is_step w b got h s (Relabel u) seat room may = let found = start_rise w b got h u seat may in (found.0, found.2 s)

@@ -1,5 +1,5 @@
 -- The laws of turns, over the definitions alone.
-use Rattle.std.specs.Prelude.{◌≡◌, ℕ, ◌<◌, true, List, length}
+use Rattle.std.specs.Prelude.{◌≡◌, ◌≢◌, ℕ, ◌<◌, true, List, length}
 use Rattle.parcel.specs.declared.event.Event.{Event}
 use Rattle.round_laws.specs.Workers.{IsHistory, MayStart}
 use Rattle.block_net.specs.Whole.{Whole}
@@ -21,13 +21,13 @@ TurnIsHistory =
     (w : Whole) (b got n : ℕ) (old new : Held)
     → IsSeated w b old.block → DoesMany old n new → IsLed w b got n old new
 
--- room is seen for a message to each block
-abbrev pub HasRoom : Whole → Seen → Type 0
-HasRoom w s = (c : ℕ) → c < length w.blocks → s.room c ≡ true
+-- room is seen for a message to each other block
+abbrev pub HasRoom : Whole → ℕ → Seen → Type 0
+HasRoom w b s = (c : ℕ) → c < length w.blocks → c ≢ b → s.room c ≡ true
 
 -- where an event of the block that takes no message is enabled, a step is sure
 abbrev pub StartIsStep : Type 0
 StartIsStep =
     (w : Whole) (b got : ℕ) (h : Held) (s : Seen) (e : Event)
-    → IsSeated w b h.block → HasRoom w s → MayStart b (shown_by w b h got) e
+    → IsSeated w b h.block → HasRoom w b s → MayStart b (shown_by w b h got) e
     → (step : Step) × IsSure h.block s step

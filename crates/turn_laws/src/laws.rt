@@ -9,8 +9,8 @@ pub fn turn_is_history()
     ensures { TurnIsHistory }
 {}
 
-/// Where an event of the block that takes no message is enabled, and room is seen for a message to each block, one of
-/// the block's steps is sure: then a turn does at least one.
+/// Where an event of the block that takes no message is enabled, and room is seen for a message to each other block,
+/// one of the block's steps is sure: then a turn does at least one.
 pub fn start_is_step()
     ensures { StartIsStep }
 {}
