@@ -39,7 +39,8 @@ pub(crate) fn edge_pairs(
     requires { AreSegmentOptions options.now }
     ensures { IfOk result (λ pairs. pairs ≡ record {
       sites = picture.now.width * picture.now.height;
-      list = map (weighted (edge_weight options.now picture.now)) (pairs_of options.now.neighbours 0 picture.now);
+      list = map (weighted (edge_weight options.now picture.now))
+          (pairs_of options.now.neighbours 0 picture.now);
     }) }
 {
     let mut pairs = pairs_of(alloc, picture, options.neighbours, 0)?;
