@@ -3,3 +3,4 @@ pub mod Views
 pub mod Mails
 pub mod Raising
 pub mod Counting
+pub mod Pieces

@@ -10,7 +10,7 @@ ghost use Rattle.parcel.specs.Events.{highest_label};
 ghost use Rattle.block_net.specs.Limits.{arc_limit, block_limit};
 ghost use Rattle.block_net.specs.Split.{CanSplit};
 ghost use Rattle.block_net.specs.Whole.{index_of, is_outer};
-ghost use Rattle.block_core.specs.Views.{whole_in, state_of, IsLaid, IsLong, IsSpot, IsRow, first_of, shown_lane, gave, labelled, pushed, sent, accepted, settled, returned};
+ghost use Rattle.block_core.specs.Views.{whole_in, blocks_in, state_of, IsLaid, IsLong, IsSpot, IsRow, first_of, shown_lane, gave, labelled, pushed, sent, accepted, settled, returned};
 
 use crate::lane::Lane;
 use block_net::Parts;
@@ -135,6 +135,25 @@ impl Blocks {
         let parts = Parts::split(alloc, net, blocks)?;
         let net = copy_of(alloc, net)?;
         Ok(Blocks { net, parts })
+    }
+
+    /// The blocks that a net and its parts are.
+    pub fn of(net: Net, parts: Parts) -> Blocks
+        requires { IsLaid (whole_in net parts.firsts.items parts.slots.items parts.blocks.items) }
+        ensures { result ≡ blocks_in
+            (whole_in net parts.firsts.items parts.slots.items parts.blocks.items) }
+    {
+        Blocks { net, parts }
+    }
+
+    /// The net and its parts, which the blocks give up.
+    pub fn into_parts(self) -> (Net, Parts)
+        ensures view { blocks_in (whole_in result.0 result.1.firsts.items result.1.slots.items
+            result.1.blocks.items) ≡ self }
+        ensures laid { IsLaid (whole_in result.0 result.1.firsts.items result.1.slots.items
+            result.1.blocks.items) }
+    {
+        (self.net, self.parts)
     }
 
     /// The net.

@@ -10,9 +10,12 @@ mod blocks;
 mod compact;
 mod lane;
 mod mail;
+mod pieces;
 mod raise;
 mod rooms;
 mod state;
 
 pub use apply::{Core, NotEnabled};
+pub use mail::Mail;
+pub use pieces::Pieces;
 pub use state::State;

@@ -92,6 +92,17 @@ impl Mail {
         self.rows[from][to].push_back_reserved(CompactMessage::of(message));
     }
 
+    /// Whether a way has room for one message more.
+    pub fn has_room(&self, from: usize, to: usize) -> bool
+        requires from { from < length self.now.messages }
+        requires to { to < length (slice_index_or self.now.messages from []) }
+        ensures { IsTrue result
+            ↔ (length (way_at self.now.messages from to) < room_at self.now.rooms from to) }
+    {
+        let way = &self.rows[from][to];
+        way.len() < way.capacity()
+    }
+
     /// Whether no message is on the way from a block to the first so many.
     fn is_row_quiet(&self, from: usize, count: usize) -> bool
         requires from { from < length self.now.messages }

@@ -8,9 +8,13 @@ ghost use Rattle.parcel.specs.Soundness.{IsSound, opened};
 ghost use Rattle.parcel.specs.Events.{Happens, IsActive, IsQuiet, Enabled, effect};
 ghost use Rattle.block_net.specs.Limits.{block_limit};
 ghost use Rattle.block_net.specs.Split.{CanSplit};
+ghost use Rattle.block_core.specs.Views.{IsLaid};
+ghost use Rattle.block_core.specs.Mails.{IsHeld};
+ghost use Rattle.block_core.specs.Pieces.{whole_within, state_in};
 
 use crate::blocks::Blocks;
 use crate::mail::Mail;
+use crate::pieces::Pieces;
 use crate::rooms::Rooms;
 use flow_network::Net;
 use parcel::{Direction, Event, Flight, Message};
@@ -52,6 +56,34 @@ impl State {
             ways,
             got: 0,
         })
+    }
+
+    /// The state in its pieces, which it gives up. Takes no memory.
+    pub fn into_pieces(self) -> Pieces
+        ensures state { state_in result ≡ self }
+        ensures laid { IsLaid (whole_within result) }
+        ensures held { IsHeld result.ways.rooms self }
+    {
+        let (net, parts) = self.blocks.into_parts();
+        Pieces {
+            net,
+            parts,
+            ways: self.ways,
+            got: self.got,
+        }
+    }
+
+    /// The state that the pieces make. Takes no memory.
+    pub(crate) fn of_pieces(pieces: Pieces) -> State
+        requires laid { IsLaid (whole_within pieces) }
+        requires held { IsHeld pieces.ways.rooms (state_in pieces) }
+        ensures { result ≡ state_in pieces }
+    {
+        State {
+            blocks: Blocks::of(pieces.net, pieces.parts),
+            ways: pieces.ways,
+            got: pieces.got,
+        }
     }
 
     /// The net.

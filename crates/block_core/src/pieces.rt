@@ -1,0 +1,36 @@
+ghost use Rattle.std.specs.Prelude.{◌≡◌};
+ghost use Rattle.block_core.specs.Views.{IsLaid};
+ghost use Rattle.block_core.specs.Mails.{IsHeld};
+ghost use Rattle.block_core.specs.Pieces.{whole_within, state_in};
+
+use crate::mail::Mail;
+use crate::state::State;
+use block_net::Parts;
+use flow_network::Net;
+
+/// A state in its pieces, so that each block can be worked on by itself, and the ways between them.
+///
+/// `State::into_pieces` takes a state apart, and `Pieces::into_state` puts together what is a state again.
+#[derive(Drop)]
+pub struct Pieces {
+    /// The net.
+    pub net: Net,
+    /// Its blocks, and where each node and each direction stands in them.
+    pub parts: Parts,
+    /// The messages on the way.
+    pub ways: Mail,
+    /// What the sink got.
+    pub got: u64,
+}
+
+impl Pieces {
+    /// The state that the pieces make, where each node and each direction has its place in them, and the state
+    /// is sound and its ways have room. Takes no memory.
+    pub fn into_state(self) -> State
+        requires laid { IsLaid (whole_within self) }
+        requires held { IsHeld self.ways.rooms (state_in self) }
+        ensures { result ≡ state_in self }
+    {
+        State::of_pieces(self)
+    }
+}
