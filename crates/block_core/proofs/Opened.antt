@@ -36,6 +36,11 @@ opened_laid net blocks firsts slots parts is can split = record {
     lanes = λ v j l low high. let found = split.placed.lanes v j l low high in (found.0, record { direction = found.1.direction; near = found.1.near; outer = found.1.outer; slot = found.1.slot });
     outers = λ v j l low high. let found = split.placed.outers v j l low high in (found.0, record { direction = found.1.direction; near = found.1.near; outer = found.1.outer; slot = found.1.slot });
   };
+  filled = record {
+    labels = split.filled.labels;
+    nodes = λ b p lb lp. let found = split.filled.nodes b p lb lp in (found.0, record { node = found.1.node; home = found.1.home; place = found.1.place });
+    borders = λ b j lb lj. let found = split.filled.borders b j lb lj in (found.0, found.1, record { direction = found.2.direction; near = found.2.near; outer = found.2.outer; slot = found.2.slot });
+  };
 }
 
 pub laid_long : (w : Whole) (v : BlocksView) → IsLaid w → blocks_in w ≡ v → IsLong v

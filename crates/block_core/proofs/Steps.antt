@@ -219,6 +219,7 @@ like_excess : (B : BlockView) (p e : ℕ) → IsLike B (record B { excess = set 
 like_excess B p e = record {
   top = refl;
   count = length-set B.excess p e;
+  labels_len = refl;
   starts = refl;
   border_starts = refl;
   lanes_len = refl;
@@ -232,10 +233,11 @@ like_excess B p e = record {
   capacity = λ j. refl;
 }
 
-like_numbers : (B : BlockView) (l r : List ℕ) → IsLike B (record B { labels = l; rooms = r })
-like_numbers B l r = record {
+like_numbers : (B : BlockView) (l r : List ℕ) → length l ≡ length B.labels → IsLike B (record B { labels = l; rooms = r })
+like_numbers B l r len = record {
   top = refl;
   count = refl;
+  labels_len = len;
   starts = refl;
   border_starts = refl;
   lanes_len = refl;
@@ -253,6 +255,7 @@ like_lane : (B : BlockView) (j : ℕ) (lane : Lane) → j < length B.lanes → l
 like_lane B j lane l far' opposite' = record {
   top = refl;
   count = refl;
+  labels_len = refl;
   starts = refl;
   border_starts = refl;
   lanes_len = length-set B.lanes j lane;
@@ -278,6 +281,7 @@ like_border : (B : BlockView) (j : ℕ) (border : Border) → j < length B.borde
 like_border B j border l same = record {
   top = refl;
   count = refl;
+  labels_len = refl;
   starts = refl;
   border_starts = refl;
   lanes_len = refl;
@@ -304,14 +308,14 @@ module _ (w : Whole) (v : BlocksView) (b : ℕ) (B : BlockView) (at : IsAt w v b
   labels_step : (u p d : ℕ) → IsSpot w u b p → p < length B.labels → IsAt (put_block w b (record B { labels = set B.labels p d })) (record v { labels = set v.labels u d }) b (record B { labels = set B.labels p d })
   labels_step u p d spot l =
       let new : BlockView = record B { labels = set B.labels p d } in
-      stepped w v b B at new (like_numbers B (set B.labels p d) B.rooms) v.excess (set v.labels u d) v.rooms v.lanes (keep_excess w v b B at new refl)
+      stepped w v b B at new (like_numbers B (set B.labels p d) B.rooms (length-set B.labels p d)) v.excess (set v.labels u d) v.rooms v.lanes (keep_excess w v b B at new refl)
       (put_numbers w v b B at new (λ (q : BlockView). q.labels) u p d spot l refl ∙ ap (λ (q : BlocksView). set q.labels u d) at.view)
       (keep_rooms w v b B at new refl) (keep_lanes w v b B at new refl refl)
 
   rooms_step : (u p r : ℕ) → IsSpot w u b p → p < length B.rooms → IsAt (put_block w b (record B { rooms = set B.rooms p r })) (record v { rooms = set v.rooms u r }) b (record B { rooms = set B.rooms p r })
   rooms_step u p r spot l =
       let new : BlockView = record B { rooms = set B.rooms p r } in
-      stepped w v b B at new (like_numbers B B.labels (set B.rooms p r)) v.excess v.labels (set v.rooms u r) v.lanes (keep_excess w v b B at new refl)
+      stepped w v b B at new (like_numbers B B.labels (set B.rooms p r) refl) v.excess v.labels (set v.rooms u r) v.lanes (keep_excess w v b B at new refl)
       (keep_labels w v b B at new refl)
       (put_numbers w v b B at new (λ (q : BlockView). q.rooms) u p r spot l refl ∙ ap (λ (q : BlocksView). set q.rooms u r) at.view)
       (keep_lanes w v b B at new refl refl)

@@ -9,7 +9,7 @@ use Rattle.parcel.specs.States as core
 use Rattle.block_net.specs.declared.rows.Lane.{Lane}
 use Rattle.block_net.specs.declared.rows.Border.{Border}
 use Rattle.block_net.specs.Views.{BlockView, no_row, no_border, count, lane_in, border_in}
-use Rattle.block_net.specs.Whole.{Whole, table, no_block, block_at, block_with, home, place, near_home, slot, is_outer, lane_of, border_of, shown_lane, shown_border, shown_of, IsInnerAt, IsBorderAt, StandsAt, IsPlaced, put_block}
+use Rattle.block_net.specs.Whole.{Whole, table, no_block, block_at, block_with, home, place, near_home, slot, is_outer, lane_of, border_of, shown_lane, shown_border, shown_of, IsInnerAt, IsBorderAt, StandsAt, IsPlaced, IsFilled, put_block}
 use Rattle.block_net.proofs.Tables.{length_table, table_at, table_is}
 use Rattle.block_core.specs.Views.{blocks_in, IsLaid, IsSpot, IsRow}
 
@@ -286,6 +286,7 @@ border_shown w x b j block border placed at lj made lanes =
 pub record IsLike (old new : BlockView) : Type 0 where
   pub top : new.top ≡ old.top
   pub count : length new.excess ≡ length old.excess
+  pub labels_len : length new.labels ≡ length old.labels
   pub starts : new.starts ≡ old.starts
   pub border_starts : new.border_starts ≡ old.border_starts
   pub lanes_len : length new.lanes ≡ length old.lanes
@@ -353,6 +354,25 @@ module _ (w : Whole) (b : ℕ) (block : BlockView) (placed : IsPlaced w) (l : b 
         (found.0, stands_put true v j found.0 found.1);
   }
 
+  -- and nothing else comes in
+  pub filled_put : IsFilled w → IsFilled (put_block w b block)
+  filled_put filled =
+      let w' = put_block w b block in
+      let len = length-set w.blocks b block in
+      let nodes_len = λ (c : ℕ). block_keeps w b block c count l like.count in
+      let borders_len = λ (c : ℕ). block_keeps w b block c (λ (q : BlockView). length q.borders) l like.borders_len in
+      record {
+        labels = λ c lc. block_keeps w b block c (λ (q : BlockView). length q.labels) l like.labels_len ∙ (filled.labels c (omega (arith, lc, len)) ∙ sym (nodes_len c));
+        nodes = λ c p lc lp.
+            let found = filled.nodes c p (omega (arith, lc, len)) (omega (arith, lp, nodes_len c)) in (
+              found.0,
+              record { node = found.1.node; home = home_put w b block found.0 ∙ found.1.home; place = place_put w b block found.0 ∙ found.1.place },
+            );
+        borders = λ c j lc lj.
+            let found = filled.borders c j (omega (arith, lc, len)) (omega (arith, lj, borders_len c)) in
+            (found.0, home_put w b block (near w.net found.0) ∙ found.1, stands_put true (near w.net found.0) j found.0 found.2);
+      }
+
 pub laid_put : (w : Whole) (b : ℕ) (block : BlockView) → IsLaid w → b < length w.blocks → IsLike (block_at w b) block → IsLaid (put_block w b block)
 laid_put w b block laid l like =
     let len = length-set w.blocks b block in
@@ -362,4 +382,5 @@ laid_put w b block laid l like =
       some = omega (arith, len, laid.some);
       few = omega (arith, len, laid.few);
       placed = placed_put w b block laid.placed l like;
+      filled = filled_put w b block laid.placed l like laid.filled;
     }

@@ -9,7 +9,7 @@ use Rattle.parcel.specs.States as core
 use Rattle.parcel.specs.Events.{learned}
 use Rattle.block_net.specs.Limits.{arc_limit, block_limit}
 use Rattle.block_net.specs.Views.{BlockView}
-use Rattle.block_net.specs.Whole.{Whole, whole_of, home, place, near_home, slot, is_outer, shown, IsPlaced}
+use Rattle.block_net.specs.Whole.{Whole, whole_of, home, place, near_home, slot, is_outer, shown, IsPlaced, IsFilled}
 use Rattle.block_core.specs.declared.lane.Lane.{Lane}
 
 pub record BlocksView : Type 0 where
@@ -45,6 +45,7 @@ pub record IsLaid (w : Whole) : Type 0 where
   pub some : 1 ≤ length w.blocks
   pub few : length w.blocks ≤ block_limit
   pub placed : IsPlaced w
+  pub filled : IsFilled w
 
 -- a node, its block and its place there
 pub record IsSpot (w : Whole) (v b p : ℕ) : Type 0 where

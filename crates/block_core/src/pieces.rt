@@ -24,7 +24,7 @@ pub struct Pieces {
 }
 
 impl Pieces {
-    /// The state that the pieces make, where each node and each direction has its place in them, and the state
+    /// The state that the pieces make, where each node and each direction has its place in them and the state
     /// is sound and its ways have room. Takes no memory.
     pub fn into_state(self) -> State
         requires laid { IsLaid (whole_within self) }

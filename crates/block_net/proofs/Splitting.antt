@@ -15,12 +15,12 @@ use Rattle.block_net.specs.declared.rows.Lane.{Lane}
 use Rattle.block_net.specs.declared.rows.Border.{Border}
 use Rattle.block_net.specs.declared.by_node.ByNode.{ByNode}
 use Rattle.block_net.specs.Views.{BlockView, count, excess_in, label_in, room_in, lane_in, border_in, no_row, no_border, first_lane, first_border}
-use Rattle.block_net.specs.Whole.{Whole, table, index_of, block_at, block_with, home, place, is_outer, lane_of, border_of, shown_lane, shown_border, shown_of, shown, no_block, IsInnerAt, IsBorderAt, StandsAt, IsPlaced}
+use Rattle.block_net.specs.Whole.{Whole, table, index_of, block_at, block_with, home, place, near_home, is_outer, lane_of, border_of, shown_lane, shown_border, shown_of, shown, no_block, IsInnerAt, IsBorderAt, StandsAt, IsPlaced, LiesAt, IsFilled}
 use Rattle.block_net.specs.Split.{CanSplit, direction_in, AreRows, AreGrouped, HasSlots, first_of, base_of, span, starts_from, lane_made, border_made, lanes_made, borders_made, block_made, blocks_made, firsts_made, whole_at_opening, IsSplit}
 use Rattle.block_net.proofs.Tables.{length_table, table_at}
-use Rattle.block_net.proofs.Numbers.{is_direction, index_is, index_forth, first_low, first_high, first_within, home_below}
+use Rattle.block_net.proofs.Numbers.{is_direction, index_is, index_forth, first_low, first_high, first_within, first_grows, home_below, home_is}
 use Rattle.block_net.proofs.Spots.{starts_grow}
-use Rattle.block_net.proofs.Spans.{length_range, range_at, slot_of, length_span}
+use Rattle.block_net.proofs.Spans.{length_range, range_at, slot_of, stands_in, length_span}
 use Rattle.block_net.proofs.Made.{inner_blocks}
 
 abbrev made : Network → ℕ → ByNode → Whole
@@ -307,6 +307,86 @@ placed net blocks rows ready =
       outers = λ v j l low high. stands_at net blocks rows true v j ready l (omega (arith, low, border_starts v l)) (omega (arith, high, border_ends v l));
     }
 
+-- ---- and nothing else is there
+
+block_is : (net : Network) (blocks : ℕ) (rows : ByNode) (b : ℕ) → b < blocks → block_at (made net blocks rows) b ≡ block_made net blocks rows b
+block_is net blocks rows b l = table_at blocks (block_made net blocks rows) b no_block l
+
+-- a node between the first of a block and the first of the next
+lies_in : (net : Network) (blocks : ℕ) (rows : ByNode) (b v : ℕ) → IsReady net blocks rows → b < blocks → first_of (nodes net) blocks b ≤ v
+    → v < first_of (nodes net) blocks (b + 1) → home (made net blocks rows) v ≡ b
+lies_in net blocks rows b v ready lb low high =
+    let n = nodes net in
+    let some = ready.split.some in
+    let within = first_within n blocks (b + 1) some (omega (arith, lb)) in
+    ap (λ k. (v * k) / n) (count_made net blocks rows) ∙ home_is n blocks b v some (omega (arith, high, within)) low high
+
+node_of : (net : Network) (blocks : ℕ) (rows : ByNode) (b p : ℕ) → IsReady net blocks rows → b < blocks → p < count (block_made net blocks rows b)
+    → (v : ℕ) × LiesAt (made net blocks rows) b p v
+node_of net blocks rows b p ready lb lp =
+    let n = nodes net in
+    let first = first_of n blocks b in
+    let within = first_within n blocks (b + 1) ready.split.some (omega (arith, lb)) in
+    let high : first + p < first_of n blocks (b + 1) = omega (arith, lp, length_range net.sources first (first_of n blocks (b + 1)) within) in
+    let here = lies_in net blocks rows b (first + p) ready lb (omega arith) high in (
+      first + p,
+      record {
+        node = omega (arith, high, within);
+        home = here;
+        place = omega (arith, ap (slice_index (firsts_made net blocks)) here, table_at blocks (first_of n blocks) b 0 lb);
+      },
+    )
+
+border_in_block : (net : Network) (blocks : ℕ) (rows : ByNode) (b j : ℕ) → IsReady net blocks rows → b < blocks → j < length (block_made net blocks rows b).borders
+    → (x : Direction) × (near_home (made net blocks rows) x ≡ b) × StandsAt (made net blocks rows) true (near net x) j x
+border_in_block net blocks rows b j ready lb lj =
+    let n = nodes net in
+    let some = ready.split.some in
+    let first = first_of n blocks b in
+    let next = first_of n blocks (b + 1) in
+    let within = first_within n blocks (b + 1) some (omega (arith, lb)) in
+    let group = rows.outer in
+    let is = ready.rows_are.outer in
+    let starts = group.starts.items in
+    let grow = starts_grow net blocks true group is in
+    let order = first_grows n blocks b some in
+    let p = slice_index starts first + j in
+    let long = length_borders net blocks rows.slots.items first (span group first next) ∙ length_span net blocks true group first next is within in
+    let high : p < slice_index starts next = omega (arith, lj, long) in
+    let stands = stands_in net blocks true group first next p is within order (omega arith) high in
+    let i = slice_index group.places.items p in
+    let x = direction_in net i in
+    let here = lies_in net blocks rows b (near net x) ready lb stands.low stands.high in
+    let home : core.block_of net blocks (near net x) ≡ b = sym (ap (λ k. (near net x * k) / n) (count_made net blocks rows)) ∙ here in
+    let slots = ready.rows_are.outer_slots p (omega (arith, grow 0 first (omega arith) (omega (arith, order, within)))) (omega (arith, high, grow next n within (omega arith))) in (
+      x,
+      here,
+      record {
+        direction = is_direction net i stands.small;
+        near = refl;
+        outer = outer_is net blocks rows x ∙ stands.outer;
+        slot = ap (slice_index rows.slots.items) (index_forth net i stands.small) ∙ (slots ∙ omega (arith, ap (base_of net blocks group) home));
+      },
+    )
+
+filled : (net : Network) (blocks : ℕ) (rows : ByNode) → IsReady net blocks rows → IsFilled (made net blocks rows)
+filled net blocks rows ready =
+    let n = nodes net in
+    let w = made net blocks rows in
+    let len = count_made net blocks rows in
+    let within = λ (b : ℕ) (l : b < blocks). first_within n blocks (b + 1) ready.split.some (omega (arith, l)) in
+    let below = λ (b : ℕ) (l : b < length w.blocks). subst (λ (k : ℕ). b < k) len l in
+    record {
+      labels = λ b l.
+          let first = first_of n blocks b in
+          let next = first_of n blocks (b + 1) in
+          let is = block_is net blocks rows b (below b l) in
+          ap (λ (q : BlockView). length q.labels) is ∙ (length-replicate (next - first) 0
+          ∙ (sym (length_range net.sources first next (within b (below b l))) ∙ sym (ap count is)));
+      nodes = λ b p l lp. node_of net blocks rows b p ready (below b l) (subst (λ (q : BlockView). p < count q) (block_is net blocks rows b (below b l)) lp);
+      borders = λ b j l lj. border_in_block net blocks rows b j ready (below b l) (subst (λ (q : BlockView). j < length q.borders) (block_is net blocks rows b (below b l)) lj);
+    }
+
 -- ---- the opening
 
 table_of : (n : ℕ) (f : ℕ → ℕ) (xs : List ℕ) → length xs ≡ n → ((v : ℕ) → v < n → get_or xs v 0 ≡ f v) → table n f ≡ xs
@@ -364,6 +444,6 @@ pub split_is : (net : Network) (blocks : ℕ) (rows : ByNode) (firsts : List ℕ
 split_is net blocks rows firsts parts h split is ef ep =
     let ready : IsReady net blocks rows = record { net_is = h; split = split; rows_are = is } in
     let whole : IsSplit net blocks (firsts_made net blocks) rows.slots.items (blocks_made net blocks rows) =
-    record { number = count_made net blocks rows; placed = placed net blocks rows ready; opening = opening net blocks rows ready } in
+    record { number = count_made net blocks rows; placed = placed net blocks rows ready; filled = filled net blocks rows ready; opening = opening net blocks rows ready } in
     let one = subst (λ (fs : List ℕ). IsSplit net blocks fs rows.slots.items (blocks_made net blocks rows)) (sym ef) whole in
     subst (λ (bs : List BlockView). IsSplit net blocks firsts rows.slots.items bs) (sym ep) one

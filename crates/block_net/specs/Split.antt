@@ -13,7 +13,7 @@ use Rattle.block_net.specs.declared.rows.Border.{Border}
 use Rattle.block_net.specs.declared.by_node.ByNode.{ByNode}
 use Rattle.block_net.specs.Limits.{arc_limit, block_limit}
 use Rattle.block_net.specs.Views.{BlockView}
-use Rattle.block_net.specs.Whole.{Whole, whole_of, table, index_of, shown, IsPlaced}
+use Rattle.block_net.specs.Whole.{Whole, whole_of, table, index_of, shown, IsPlaced, IsFilled}
 
 -- the net can be split into so many blocks
 pub record CanSplit (net : Network) (blocks : ℕ) : Type 0 where
@@ -168,4 +168,5 @@ pub record IsSplit (net : Network) (blocks : ℕ) (firsts slots : List ℕ)
     (parts : List BlockView) : Type 0 where
   pub number : length parts ≡ blocks
   pub placed : IsPlaced (whole_at_opening net blocks firsts slots parts)
+  pub filled : IsFilled (whole_at_opening net blocks firsts slots parts)
   pub opening : shown (whole_at_opening net blocks firsts slots parts) ≡ opened net blocks

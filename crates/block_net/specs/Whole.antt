@@ -156,6 +156,20 @@ pub record IsPlaced (w : Whole) : Type 0 where
       → j < first_border (block_with w v) (place w v + 1)
       → (x : Direction) × StandsAt w true v j x
 
+-- v is the node at a place of a block
+pub record LiesAt (w : Whole) (b p v : ℕ) : Type 0 where
+  pub node : v < nodes w.net
+  pub home : home w v ≡ b
+  pub place : place w v ≡ p
+
+-- each block has a label for each of its nodes, and holds no node and no direction to another block but those
+-- that have their places there
+pub record IsFilled (w : Whole) : Type 0 where
+  pub labels : (b : ℕ) → b < length w.blocks → length (block_at w b).labels ≡ count (block_at w b)
+  pub nodes : (b p : ℕ) → b < length w.blocks → p < count (block_at w b) → (v : ℕ) × LiesAt w b p v
+  pub borders : (b j : ℕ) → b < length w.blocks → j < length (block_at w b).borders
+      → (x : Direction) × (near_home w x ≡ b) × StandsAt w true (near w.net x) j x
+
 -- another block in a block's stead
 abbrev pub put_block : Whole → ℕ → BlockView → Whole
 put_block w b block = record w { blocks = slice_set w.blocks b block }

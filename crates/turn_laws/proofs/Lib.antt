@@ -4,3 +4,4 @@ pub mod Acts
 pub mod Takes
 pub mod Histories
 pub mod Starts
+pub mod Laid
