@@ -1,8 +1,11 @@
-ghost use Rattle.std.specs.Prelude.{◌≡◌};
+ghost use Rattle.std.specs.Prelude.{◌≡◌, ◌+◌, ◌<◌, ◌≤◌, ℕ, slice_index, sum};
+ghost use Rattle.flow_network.specs.Cut.{nodes};
+ghost use Rattle.parcel.specs.States.{room_of};
 ghost use Rattle.block_core.specs.Views.{IsLaid};
 ghost use Rattle.block_core.specs.Mails.{IsHeld};
 ghost use Rattle.block_core.specs.Pieces.{whole_within, state_in};
 
+use crate::blocks::room_in;
 use crate::mail::Mail;
 use crate::state::State;
 use block_net::Parts;
@@ -32,5 +35,21 @@ impl Pieces {
         ensures { result ≡ state_in self }
     {
         State::of_pieces(self)
+    }
+
+    /// What the sink got by what the blocks hold: of each node, what it could give the sink at the opening less
+    /// what it still can. In a sound state that is what the sink got. Takes time linear in the number of nodes.
+    pub fn given(&self) -> u64
+        requires laid { IsLaid (whole_within self.now) }
+        requires rooms { (v : ℕ) → v < nodes self.now.net
+            → room_of (state_in self.now) v ≤ slice_index self.now.net.sinks v }
+        ensures { result + sum (state_in self.now).rooms ≡ sum self.now.net.sinks }
+    {
+        let sinks = self.net.sinks();
+        let mut given = 0;
+        'nodes: for v in 0..self.net.nodes() {
+            given += sinks[v] - room_in(&self.net, &self.parts, v);
+        }
+        given
     }
 }
