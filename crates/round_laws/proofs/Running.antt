@@ -35,6 +35,9 @@ beside_put b n first logs ways c m sl sw lb lc off by = record {
       by.takes q ne
       ∙ (ap (λ (r : List Message). r ++ way_at ways q b) (sym (put_other n logs b c m q b sl lb (λ e f. ne (sym e))))
       ∙ ap (λ (r : List Message). way_at (put_message logs b c m) q b ++ r) (sym (put_other n ways b c m q b sw lb (λ e f. ne (sym e)))));
+  others = λ p q offp offq. put_other n ways b c m p q sw lb (λ e f. offp (sym e)) ∙ by.others p q offp offq;
+  own = put_other n ways b c m b b sw lb (λ e f. off f) ∙ by.own;
+  square = λ k sk. square_put k ways b c (way_at ways b c ++ m ∷ []) (by.square k sk);
 }
 
 beside_take : (b n : ℕ) (first logs ways : List (List (List Message))) (c : ℕ) (m : Message) (rest : List Message) → IsSquare n logs → IsSquare n ways → b < n → c < n → b ≢ c
@@ -54,6 +57,9 @@ beside_take b n first logs ways c m rest sl sw lb lc off front by = record {
         ∙ (ap (λ (r : List Message). r ++ way_at ways q b) (sym (put_other n logs c b m q b sl lc (λ e f. no' e)))
         ∙ ap (λ (r : List Message). way_at (put_message logs c b m) q b ++ r) (sym (way_other n ways c b rest q b sw lc (λ e f. no' e))))
   ];
+  others = λ p q offp offq. way_other n ways c b rest p q sw lc (λ e f. offq (sym f)) ∙ by.others p q offp offq;
+  own = way_other n ways c b rest b b sw lc (λ e f. off e) ∙ by.own;
+  square = λ k sk. square_put k ways c b rest (by.square k sk);
 }
 
 -- what is to be taken stands in front
@@ -315,5 +321,8 @@ history_runs b s t h left sound led fronts =
     let start : IsPassed b s.ways (no_messages n) s.ways = record {
       puts = λ c off. sym (append-nil (way_at s.ways b c)) ∙ ap (λ (r : List Message). way_at s.ways b c ++ r) (sym (no_way n b c));
       takes = λ c off. ap (λ (r : List Message). r ++ way_at s.ways c b) (sym (no_way n c b));
+      others = λ a c offa offc. refl;
+      own = refl;
+      square = λ k sk. sk;
     } in
     history_goes b s.ways h (with_ways s (no_messages n)) s.ways t sound (opened_square s.net n) start led (λ c off. (left c, fronts c off))

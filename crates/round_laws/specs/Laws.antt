@@ -5,7 +5,7 @@ use Rattle.parcel.specs.declared.event.Event.TheVariants.{PushInner, PushSink, R
 use Rattle.parcel.specs.declared.message.Message.{Message}
 use Rattle.parcel.specs.States.{State, way_at, block_of, near_block}
 use Rattle.parcel.specs.Events.{IsQuiet, Enabled, Run}
-use Rattle.parcel.specs.Soundness.{IsSound}
+use Rattle.parcel.specs.Soundness.{IsSound, IsSquare}
 use Rattle.round_laws.specs.Workers.{Does, IsHistory, MayStart}
 use Rattle.round_laws.specs.Rounds.{RoundOf}
 
@@ -33,11 +33,14 @@ no_messages n = replicate n (replicate n [])
 abbrev pub unmoved : State → State
 unmoved s = with_ways s (no_messages s.blocks)
 
--- what a history of block b makes of the ways: what it put stands at their ends, and what it took is gone
--- from their fronts
+-- what a history of block b makes of the ways: what it put stands at their ends, what it took is gone from
+-- their fronts, and the ways between two other blocks stay
 pub record IsPassed (b : ℕ) (before logs after : List (List (List Message))) : Type 0 where
   pub puts : (c : ℕ) → b ≢ c → way_at after b c ≡ way_at before b c ++ way_at logs b c
   pub takes : (c : ℕ) → b ≢ c → way_at before c b ≡ way_at logs c b ++ way_at after c b
+  pub others : (a c : ℕ) → b ≢ a → b ≢ c → way_at after a c ≡ way_at before a c
+  pub own : way_at after b b ≡ way_at before b b
+  pub square : (n : ℕ) → IsSquare n before → IsSquare n after
 
 -- a history of one block, which took the fronts of the ways of a sound state, is a run of the core
 abbrev pub HistoryRuns : Type 0
