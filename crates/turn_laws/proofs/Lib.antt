@@ -4,4 +4,5 @@ pub mod Acts
 pub mod Takes
 pub mod Histories
 pub mod Starts
+pub mod Runs
 pub mod Laid

@@ -38,13 +38,13 @@ put_table n F G p q m lp lq here others =
 
 -- ---- what was put, and what was taken
 
-own_row : (b : ℕ) (sent taken : ℕ → List Message) (j : ℕ) → log_at b sent taken b j ≡ sent j
+pub own_row : (b : ℕ) (sent taken : ℕ → List Message) (j : ℕ) → log_at b sent taken b j ≡ sent j
 own_row b sent taken j = ap (λ (t : Bool). cond t (sent j) (cond (eqb j b) (taken b) [])) (eq-eqb b b refl)
 
-other_row : (b : ℕ) (sent taken : ℕ → List Message) (i j : ℕ) → (i ≡ b → ⊥) → log_at b sent taken i j ≡ cond (eqb j b) (taken i) []
+pub other_row : (b : ℕ) (sent taken : ℕ → List Message) (i j : ℕ) → (i ≡ b → ⊥) → log_at b sent taken i j ≡ cond (eqb j b) (taken i) []
 other_row b sent taken i j off = ap (λ (t : Bool). cond t (sent j) (cond (eqb j b) (taken i) [])) (ne_eqb i b off)
 
-own_column : (b : ℕ) (sent taken : ℕ → List Message) (i : ℕ) → (i ≡ b → ⊥) → log_at b sent taken i b ≡ taken i
+pub own_column : (b : ℕ) (sent taken : ℕ → List Message) (i : ℕ) → (i ≡ b → ⊥) → log_at b sent taken i b ≡ taken i
 own_column b sent taken i off = other_row b sent taken i b off ∙ ap (λ (t : Bool). cond t (taken i) []) (eq-eqb b b refl)
 
 added : (logs : ℕ → List Message) (c : ℕ) (m : Message) → add_to logs c m c ≡ logs c ++ m ∷ []

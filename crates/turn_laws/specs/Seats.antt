@@ -25,7 +25,10 @@ pub record IsSeated (w : Whole) (b : ℕ) (B : BlockView) : Type 0 where
   pub nodes : (p : ℕ) → p < count B → (v : ℕ) × IsSpot w v b p
   pub borders : (j : ℕ) → j < length B.borders → (x : Direction) × IsRow w x true b j
 
+-- the state of the blocks with this one in the stead of block b
+abbrev pub state_with : Whole → ℕ → BlockView → List (List (List Message)) → ℕ → State
+state_with w b B ways got = state_of (blocks_in (put_block w b B)) ways got
+
 -- the state that block b shows among the others, with what it put and took as its ways
 abbrev pub shown_by : Whole → ℕ → Held → ℕ → State
-shown_by w b h got =
-    state_of (blocks_in (put_block w b h.block)) (logs_of (length w.blocks) b h.sent h.taken) got
+shown_by w b h got = state_with w b h.block (logs_of (length w.blocks) b h.sent h.taken) got
