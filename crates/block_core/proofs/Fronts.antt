@@ -1,5 +1,5 @@
 -- What the code knows of the message in front of a way, and what it leaves.
-use Rattle.std.proofs.Common.{◌≡◌, ℕ, ◌+◌, ◌<◌, ◌≤◌, List, ◌∷◌, length, slice_index, sym, ◌∙◌, ap, subst, arith}
+use Rattle.std.proofs.Common.{◌≡◌, ℕ, ◌+◌, ◌<◌, ◌^◌, ◌≤◌, List, ◌∷◌, length, slice_index, sym, ◌∙◌, ap, subst, arith}
 use Rattle.flow_network.specs.Progress.{top}
 use Rattle.flow_network.specs.Preflow.{arc_at}
 use Rattle.parcel.specs.declared.direction.Direction.{Direction}
@@ -14,7 +14,6 @@ use Rattle.parcel.proofs.Ends.{far_in}
 use Rattle.parcel.proofs.Owning.{accept_fits}
 use Rattle.parcel.proofs.Replies.{front_out}
 use Rattle.parcel.proofs.Ways.{square_put}
-use Rattle.block_net.specs.Limits.{arc_limit}
 use Rattle.block_core.specs.Views.{BlocksView, state_of, accepted, settled, returned}
 use Rattle.block_core.specs.Mails.{IsHeld, room_at}
 use Rattle.block_core.proofs.Effects.{room_after, border_apart}
@@ -24,9 +23,9 @@ pub parcel_out : {rooms : List (List ℕ)} {s : core.State} (b c : ℕ) (x : Dir
     → core.way_at s.ways b c ≡ Parcel x a d ∷ rest → IsOut s.net s.blocks s.lanes x a d b c
 parcel_out {rooms} {s} b c x a d rest held front = front_out s b c (Parcel x a d) rest held.sound front
 
--- its arc's place is within the limit
+-- its arc's place is a `u32`
 pub parcel_arc : {rooms : List (List ℕ)} {s : core.State} (b c : ℕ) (x : Direction) (a d : ℕ) (rest : List Message) → IsHeld rooms s
-    → core.way_at s.ways b c ≡ Parcel x a d ∷ rest → x.arc < arc_limit
+    → core.way_at s.ways b c ≡ Parcel x a d ∷ rest → x.arc < 2 ^ 32
 parcel_arc {rooms} {s} b c x a d rest held front = omega (arith, (parcel_out b c x a d rest held front).direction, held.arcs)
 
 -- the parcel whose answer is in front of a way is out

@@ -1,8 +1,7 @@
-ghost use Rattle.std.specs.Prelude.{IfOk, map, ◌≡◌, ◌↔◌, ◌<◌, ◌≤◌, ℕ, IsTrue, MatchOption, length, slice_index, slice_index_or, [], ◌∷◌, drop};
+ghost use Rattle.std.specs.Prelude.{IfOk, map, ◌≡◌, ◌↔◌, ◌^◌, ◌<◌, ◌≤◌, ℕ, IsTrue, MatchOption, length, slice_index, slice_index_or, [], ◌∷◌, drop};
 ghost use Rattle.std.specs.VecDeque.{deque_capacity};
 ghost use Rattle.parcel.specs.States.{way_at, put_way, put_message};
 ghost use Rattle.parcel.specs.Soundness.{IsSquare, direction_of};
-ghost use Rattle.block_net.specs.Limits.{arc_limit};
 ghost use Rattle.block_core.specs.Mails.{MailView, room_at};
 
 use crate::compact::CompactMessage;
@@ -85,7 +84,7 @@ impl Mail {
         requires from { from < length self.old.messages }
         requires to { to < length (slice_index_or self.old.messages from []) }
         requires room { length (way_at self.old.messages from to) < room_at self.old.rooms from to }
-        requires arc { (direction_of message).arc < arc_limit }
+        requires arc { (direction_of message).arc < 2 ^ 32 }
         ensures messages { self.new.messages ≡ put_message self.old.messages from to message }
         ensures rooms { self.new.rooms ≡ self.old.rooms }
     {

@@ -1,4 +1,4 @@
-ghost use Rattle.std.specs.Prelude.{◌≡◌, ◌≢◌, ◌+◌, ◌<◌, ◌≤◌, IfOk, None, length};
+ghost use Rattle.std.specs.Prelude.{◌≡◌, ◌≢◌, ◌+◌, ◌^◌, ◌<◌, ◌≤◌, IfOk, None, length};
 ghost use Rattle.flow_network.specs.Limits.{node_limit};
 ghost use Rattle.flow_network.specs.Progress.{top_label};
 ghost use Rattle.block_net.specs.Split.{CanSplit, AreGrouped, block_made};
@@ -162,6 +162,7 @@ impl Cells {
     pub fn border(&self, j: usize) -> Border
         requires { j < length self.now.borders }
         ensures value { result ≡ border_in self.now j }
+        ensures arc { result.direction.arc < 2 ^ 32 }
         ensures near { result.near < count self.now }
         ensures fits { result.residual + out_of result.flight ≤ result.capacity }
         ensures known { result.known ≤ self.now.top }

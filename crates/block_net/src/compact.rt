@@ -85,7 +85,8 @@ impl CompactBorder {
 
     /// The direction to another block that is kept.
     pub fn border(&self) -> Border
-        ensures { result ≡ self.now }
+        ensures value { result ≡ self.now }
+        ensures arc { result.direction.arc < 2 ^ 32 }
     {
         let flight = if self.is_out {
             Some(Flight {

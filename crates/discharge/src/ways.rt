@@ -1,4 +1,5 @@
-ghost use Rattle.std.specs.Prelude.{◌≡◌, ℕ, true, Some, is_some};
+ghost use Rattle.std.specs.Prelude.{◌≡◌, ◌<◌, ◌^◌, ℕ, true, Some, is_some};
+ghost use Rattle.parcel.specs.Soundness.{direction_of};
 ghost use Rattle.round_laws.specs.Workers.{IsFair};
 ghost use Rattle.discharge.specs.declared.letter.Letter.{Letter};
 ghost use Rattle.discharge.specs.Seen.{Seen, IsLook, IsPut, IsTake};
@@ -16,11 +17,12 @@ pub trait Ways {
         ensures look { IsLook (seen self.old) (seen self.new) }
         ensures value { result ≡ (seen self.new).room to };
 
-    /// Puts a message for another block, where room was seen. Amounts and labels are at least 1, and a label
-    /// told is at least the parcel's.
+    /// Puts a message for another block, where room was seen. Amounts and labels are at least 1, a label told
+    /// is at least the parcel's, and the arc's place is a `u32`.
     fn put(&mut self, to: u32, letter: Letter)
         requires room { (seen self.old).room to ≡ true }
         requires fair { IsFair letter.message }
+        requires arc { (direction_of letter.message).arc < 2 ^ 32 }
         ensures { IsPut to letter.message (seen self.old) (seen self.new) };
 
     /// The message from another block that is to be taken next, where one has come.

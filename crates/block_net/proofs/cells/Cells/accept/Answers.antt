@@ -14,7 +14,7 @@ overflow_add-border c =
     let is = All-get_or (IsBorder (length now.excess) now.top) now.borders c.args.j no_border c.requires.place k.borders in
     let l : c.args.j < length c.self.inside.borders.items = subst (λ (b : BlockView). c.args.j < length b.borders) (sym c.self.view_is) c.requires.place in
     let read : c.index.result.now ≡ border_in now c.args.j = get_or_read c.self.inside.borders.items c.args.j c.index.result.now l c.index.ensures no_border ∙ ap (λ (b : BlockView). border_in b c.args.j) c.self.view_is in
-    let residual = ap (λ (x : Border). x.residual) (c.border-border.ensures ∙ read) in
+    let residual = ap (λ (x : Border). x.residual) (c.border-border.ensures.value ∙ read) in
     let small = is.small in
     omega (arith, residual, small, c.requires.fits)
 
