@@ -1,0 +1,5 @@
+pub mod Starting
+pub mod Beside
+pub mod Laid
+pub mod Joined
+pub mod Rounds

@@ -1,0 +1,24 @@
+-- The laws of seats, over the definitions alone.
+use Rattle.std.specs.Prelude.{ℕ, ◌<◌, List, length}
+use Rattle.parcel.specs.declared.event.Event.{Event}
+use Rattle.parcel.specs.Soundness.{IsSound}
+use Rattle.round_laws.specs.Workers.{MayStart}
+use Rattle.block_net.specs.Views.{BlockView}
+use Rattle.block_net.specs.Whole.{Whole, block_at}
+use Rattle.discharge.specs.Seen.{Seen}
+use Rattle.discharge.specs.Steps.{Step, IsSure}
+use Rattle.turn_laws.specs.Laws.{HasRoom}
+use Rattle.seat_laws.specs.Rounds.{Ways, AreSeated, AreBack, IsRound, quiet_state}
+
+-- blocks that came back are a round
+abbrev pub SeatsMakeRound : Type 0
+SeatsMakeRound =
+    (w : Whole) (got : ℕ) (blocks : List BlockView) (left : Ways)
+    → AreSeated w → IsSound (quiet_state w got) → AreBack w got blocks left → IsRound w got blocks left
+
+-- where an event of block b that takes no message is enabled before the round, a step of it is sure
+abbrev pub StartIsSure : Type 0
+StartIsSure =
+    (w : Whole) (b got : ℕ) (s : Seen) (e : Event)
+    → AreSeated w → b < length w.blocks → HasRoom w b s → MayStart b (quiet_state w got) e
+    → (step : Step) × IsSure (block_at w b) s step

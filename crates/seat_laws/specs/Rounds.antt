@@ -1,0 +1,72 @@
+-- Blocks before a round, and as they come back from the workers that held them.
+use Rattle.std.specs.Prelude.{◌≡◌, ◌≢◌, ℕ, ◌-◌, ◌<◌, List, [], ◌++◌, length, sum}
+use Rattle.parcel.specs.declared.event.Event.{Event}
+use Rattle.parcel.specs.declared.message.Message.{Message}
+use Rattle.parcel.specs.States.{State, way_at}
+use Rattle.parcel.specs.Soundness.{IsSound, IsSquare}
+use Rattle.round_laws.specs.Workers.{MayStart}
+use Rattle.round_laws.specs.Rounds.{RoundOf}
+use Rattle.round_laws.specs.Laws.{no_messages}
+use Rattle.block_net.specs.Views.{BlockView}
+use Rattle.block_net.specs.Whole.{Whole, block_at}
+use Rattle.block_core.specs.Views.{IsLaid, blocks_in, state_of}
+use Rattle.discharge.specs.Steps.{Held, DoesMany}
+use Rattle.turn_laws.specs.Seats.{IsSeated}
+
+-- of each block and each block, the messages on the way from the one to the other
+abbrev pub Ways : Type 0
+Ways = List (List (List Message))
+
+-- the blocks of a net, each in its place
+pub record AreSeated (w : Whole) : Type 0 where
+  pub laid : IsLaid w
+  pub seats : (b : ℕ) → b < length w.blocks → IsSeated w b (block_at w b)
+
+-- the same net in other blocks
+abbrev pub with_blocks : Whole → List BlockView → Whole
+with_blocks w blocks = record w { blocks = blocks }
+
+-- ---- before a round
+
+-- a block that has put and taken nothing yet
+abbrev pub fresh : BlockView → Held
+fresh B = record { block = B; sent = λ c. []; taken = λ c. [] }
+
+-- the state that the blocks show where no message is on the way
+abbrev pub quiet_state : Whole → ℕ → State
+quiet_state w got = state_of (blocks_in w) (no_messages (length w.blocks)) got
+
+-- ---- after it
+
+-- the blocks came back from a round, and these messages are left on the way
+pub record AreBack (w : Whole) (got : ℕ) (blocks : List BlockView) (left : Ways) : Type 0 where
+  -- what block b put for c, what it took from c, and how many steps it did
+  pub sent : ℕ → ℕ → List Message
+  pub taken : ℕ → ℕ → List Message
+  pub steps : ℕ → ℕ
+  pub many : length blocks ≡ length w.blocks
+  pub does : (b : ℕ) → b < length w.blocks
+      → DoesMany (fresh (block_at w b)) (steps b)
+      (record { block = block_at (with_blocks w blocks) b; sent = sent b; taken = taken b })
+  -- what one block put for another is what the other took, followed by what is left on the way
+  pub square : IsSquare (length w.blocks) left
+  pub ways : (b c : ℕ) → b < length w.blocks → c < length w.blocks → b ≢ c
+      → sent b c ≡ taken c b ++ way_at left b c
+  pub none : (b : ℕ) → b < length w.blocks → way_at left b b ≡ []
+  -- a block that could do something without taking a message did something
+  pub busy : (b : ℕ) (e : Event) → b < length w.blocks → MayStart b (quiet_state w got) e → 0 < steps b
+
+-- what the rooms lack of what the nodes can send the sink
+abbrev pub lacking : Whole → ℕ
+lacking w = sum w.net.sinks - sum (blocks_in w).rooms
+
+-- the state that they show then: the sink got what the rooms lack
+abbrev pub state_after : Whole → List BlockView → Ways → State
+state_after w blocks left =
+    state_of (blocks_in (with_blocks w blocks)) left (lacking (with_blocks w blocks))
+
+-- a round led there, the state is sound, and each block stands in its place again
+pub record IsRound (w : Whole) (got : ℕ) (blocks : List BlockView) (left : Ways) : Type 0 where
+  pub round : RoundOf (quiet_state w got) (state_after w blocks left)
+  pub sound : IsSound (state_after w blocks left)
+  pub seated : AreSeated (with_blocks w blocks)

@@ -1,0 +1,16 @@
+//! Laws of seats. These functions do nothing: the contract of each is a law.
+
+ghost use Rattle.seat_laws.specs.Laws.{SeatsMakeRound, StartIsSure};
+
+/// Blocks that came back, each after steps of its own, are a round from the state that they showed before: what
+/// they show now, with the messages that are left on the way, is a sound state, whatever the schedule was, and
+/// each block stands in its seat again. What the sink got is what the rooms lack.
+pub fn seats_make_round()
+    ensures { SeatsMakeRound }
+{}
+
+/// Where no message is on the way, an event of a block that takes none is enabled, and room is seen for a
+/// message to each other block, one of the block's steps is sure: then its first turn does at least one.
+pub fn start_is_sure()
+    ensures { StartIsSure }
+{}
