@@ -2,34 +2,34 @@
 use Rattle.std.specs.Prelude.{◌≡◌, ℕ, ◌+◌, ◌≤◌, List, [], ◌∷◌, ◌++◌, Option, slice_get}
 use mathlib.Core.List.{IsPrefix}
 use Rattle.rtrb.specs.Ring.{sent, received, known_free, known_items, producer_capacity, IsPair, SameProducer, SameConsumer}
-use Rattle.parcel.specs.declared.message.Message.{Message}
+use Rattle.discharge.specs.declared.letter.Letter.{Letter}
 use Rattle.block_rings.specs.declared.port.Port.{Port}
 
 -- the block at the other ends
 abbrev pub other : Port → ℕ
 other p = p.other
 
--- all messages that were put so far, in order
-abbrev pub put : Port → List Message
+-- all letters that were put so far, in order
+abbrev pub put : Port → List Letter
 put p = sent p.to_ring
 
--- all messages that were taken so far, in order
-abbrev pub taken : Port → List Message
+-- all letters that were taken so far, in order
+abbrev pub taken : Port → List Letter
 taken p = received p.from_ring
 
--- for how many messages room was seen
+-- for how many letters room was seen
 abbrev pub free : Port → ℕ
 free p = known_free p.to_ring
 
--- the messages that were seen, in the order in which they are to be taken
-abbrev pub waiting : Port → List Message
+-- the letters that were seen, in the order in which they are to be taken
+abbrev pub waiting : Port → List Letter
 waiting p = known_items p.from_ring
 
--- the message that is to be taken next, where one was seen
-abbrev pub first : Port → Option Message
+-- the letter that is to be taken next, where one was seen
+abbrev pub first : Port → Option Letter
 first p = slice_get (waiting p) 0
 
--- how many messages the ring that is put into has room for
+-- how many letters the ring that is put into has room for
 abbrev pub capacity : Port → ℕ
 capacity p = producer_capacity p.to_ring
 
@@ -60,24 +60,24 @@ pub record Looks (old new : Port) : Type 0 where
   pub free : free old ≤ free new
   pub waiting : IsPrefix (waiting old) (waiting new)
 
--- one message was put
-pub record Puts (message : Message) (old new : Port) : Type 0 where
+-- one letter was put
+pub record Puts (letter : Letter) (old new : Port) : Type 0 where
   pub same : IsSamePort old new
-  pub put : put new ≡ put old ++ message ∷ []
+  pub put : put new ≡ put old ++ letter ∷ []
   pub taken : taken new ≡ taken old
   pub free : free old ≡ free new + 1
   pub waiting : waiting new ≡ waiting old
 
--- one message was taken
-pub record Takes (message : Message) (old new : Port) : Type 0 where
+-- one letter was taken
+pub record Takes (letter : Letter) (old new : Port) : Type 0 where
   pub same : IsSamePort old new
   pub put : put new ≡ put old
-  pub taken : taken new ≡ taken old ++ message ∷ []
+  pub taken : taken new ≡ taken old ++ letter ∷ []
   pub free : free new ≡ free old
-  pub waiting : waiting old ≡ message ∷ waiting new
+  pub waiting : waiting old ≡ letter ∷ waiting new
 
--- these messages were taken, one after another
-pub record TakesAll (messages : List Message) (old new : Port) : Type 0 where
+-- these letters were taken, one after another
+pub record TakesAll (letters : List Letter) (old new : Port) : Type 0 where
   pub same : IsSamePort old new
   pub put : put new ≡ put old
-  pub taken : taken new ≡ taken old ++ messages
+  pub taken : taken new ≡ taken old ++ letters

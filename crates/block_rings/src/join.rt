@@ -3,11 +3,11 @@ ghost use Rattle.block_rings.specs.Ports.{IsNewPort, LeadsTo, Looks, TakesAll, c
 
 use crate::port::Port;
 use crate::rule::Fair;
-use parcel::Message;
+use discharge::Letter;
 use rtrb::RingBuffer;
 use std::alloc::{AllocError, Global};
 
-/// Two new rings, one each way between two blocks, with room for so many messages each; the port of the first
+/// Two new rings, one each way between two blocks, with room for so many letters each; the port of the first
 /// block, and that of the second. The only error is that memory runs out.
 pub fn join_blocks(
     alloc: Global,
@@ -37,7 +37,7 @@ pub fn join_blocks(
 
 /// Takes all that is left in the ring from one port to another into a list with room for a full ring. What
 /// was put is then what was taken, followed by that list. Takes no memory.
-pub fn take_left(from: &mut Port, to: &mut Port, left: &mut Vec<Message>)
+pub fn take_left(from: &mut Port, to: &mut Port, left: &mut Vec<Letter>)
     requires joined { LeadsTo from.old to.old }
     requires empty { vec_len left.old ≡ 0 }
     requires room { capacity from.old ≤ vec_capacity left.old }

@@ -1,4 +1,4 @@
-//! The rings over which blocks exchange messages while each is worked on in a thread of its own.
+//! The rings over which blocks exchange letters while each is worked on in a thread of its own.
 //!
 //! Two blocks that share a border have two rings, one each way, and each block has a port to the other: the
 //! ring that it puts into, and the ring that it takes from. A port goes with its block from thread to thread.

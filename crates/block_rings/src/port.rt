@@ -2,7 +2,7 @@ ghost use Rattle.std.specs.Prelude.{◌≡◌, ◌<◌, ◌↔◌, IsSome, IsTru
 ghost use Rattle.round_laws.specs.Workers.{IsFair};
 
 use crate::rule::Fair;
-use parcel::Message;
+use discharge::Letter;
 use rtrb::{Consumer, Producer};
 use std::alloc::Global;
 
@@ -10,8 +10,8 @@ use std::alloc::Global;
 #[derive(Drop)]
 pub struct Port {
     pub(crate) other: u32,
-    pub(crate) to_ring: Producer<Message, Global, Fair>,
-    pub(crate) from_ring: Consumer<Message, Global, Fair>,
+    pub(crate) to_ring: Producer<Letter, Global, Fair>,
+    pub(crate) from_ring: Consumer<Letter, Global, Fair>,
 }
 
 impl Port {
@@ -24,7 +24,7 @@ impl Port {
         self.other
     }
 
-    /// Whether a message can be put. Room that was seen stays until a message is put.
+    /// Whether a letter can be put. Room that was seen stays until a letter is put.
     pub fn room(&mut self) -> bool
         ensures look { Looks self.old self.new }
         ensures value { IsTrue result ↔ (0 < free self.new) }
@@ -32,17 +32,17 @@ impl Port {
         self.to_ring.slots() > 0
     }
 
-    /// Puts a message, for which room was seen. Takes no memory.
-    pub fn put(&mut self, message: Message)
+    /// Puts a letter, for which room was seen. Takes no memory.
+    pub fn put(&mut self, letter: Letter)
         requires room { 0 < free self.old }
-        requires fair { IsFair message }
-        ensures { Puts message self.old self.new }
+        requires fair { IsFair letter.message }
+        ensures { Puts letter self.old self.new }
     {
-        self.to_ring.push_reserved(message);
+        self.to_ring.push_reserved(letter);
     }
 
-    /// The message that is to be taken next, where one is there. It stays in front until it is taken.
-    pub fn front(&mut self) -> Option<Message>
+    /// The letter that is to be taken next, where one is there. It stays in front until it is taken.
+    pub fn front(&mut self) -> Option<Letter>
         ensures look { Looks self.old self.new }
         ensures value { result ≡ first self.new }
     {
@@ -52,11 +52,11 @@ impl Port {
         Some(*self.from_ring.peek_known())
     }
 
-    /// Takes the message in front, which was seen there. Takes no memory.
-    pub fn take(&mut self) -> Message
+    /// Takes the letter in front, which was seen there. Takes no memory.
+    pub fn take(&mut self) -> Letter
         requires { IsSome (first self.old) }
         ensures taken { Takes result self.old self.new }
-        ensures fair { IsFair result }
+        ensures fair { IsFair result.message }
     {
         self.from_ring.pop_known()
     }

@@ -1,6 +1,9 @@
+ghost use Rattle.std.specs.Prelude.{◌≤◌};
+ghost use Rattle.round_laws.specs.Workers.{IsFair};
 ghost use Rattle.block_rings.specs.Ports.{IsSamePort};
 
 use block_rings::{Port, join_blocks, take_left};
+use discharge::Letter;
 use parcel::{Direction, Message};
 use std::alloc::{AllocError, Global};
 use std::process::Abort;
@@ -15,6 +18,22 @@ const RING: usize = 4;
 /// How many parcels go through a ring, or stay in it at the end.
 const PARCELS: u64 = 50_000;
 
+/// A parcel of so much.
+fn parcel_of(amount: u64) -> Letter
+    requires { 1 ≤ amount }
+    ensures { IsFair result.message }
+{
+    let message = Message::Parcel {
+        direction: Direction {
+            arc: 0,
+            back: false,
+        },
+        amount,
+        label: 1,
+    };
+    Letter { message, place: 0 }
+}
+
 /// Puts parcels whose amounts rise from 1, each once there is room for it.
 fn put_all<R: Wait>(rt: &R, port: Port) -> Port
     ensures { IsSamePort port result }
@@ -26,14 +45,7 @@ fn put_all<R: Wait>(rt: &R, port: Port) -> Port
             break;
         }
         if port.room() {
-            port.put(Message::Parcel {
-                direction: Direction {
-                    arc: 0,
-                    back: false,
-                },
-                amount,
-                label: 1,
-            });
+            port.put(parcel_of(amount));
             amount += 1;
         } else {
             thread::yield_now();
@@ -43,8 +55,8 @@ fn put_all<R: Wait>(rt: &R, port: Port) -> Port
 }
 
 /// The amount of a parcel, and 0 for any other message.
-fn amount_of(message: Message) -> u64 {
-    match message {
+fn amount_of(letter: Letter) -> u64 {
+    match letter.message {
         Message::Parcel { amount, .. } => amount,
         _ => 0,
     }
@@ -72,11 +84,11 @@ fn take_most<R: Wait>(rt: &R, port: Port) -> (Port, bool)
 }
 
 /// Whether these are the last parcels, in their order.
-fn are_last(left: &[Message]) -> bool {
+fn are_last(left: &[Letter]) -> bool {
     let mut next = PARCELS - RING as u64;
-    for message in left {
+    for letter in left {
         next = next.saturating_add(1);
-        if amount_of(*message) != next {
+        if amount_of(*letter) != next {
             return false;
         }
     }
