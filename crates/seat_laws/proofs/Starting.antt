@@ -48,7 +48,7 @@ is_quiet w got b c lb lc =
     let row : List (List Message) = replicate n [] in
     ap (λ (r : List (List Message)). get_or r c []) (get_or-replicate n b row [] lb) ∙ get_or-replicate {A = List Message} n c [] [] lc
 
-pub start_is_sure : (w : Whole) (b got : ℕ) (s : Seen) (e : Event) → AreSeated w → b < length w.blocks → HasRoom w b s → MayStart b (quiet_state w got) e
+pub start_is_sure : (w : Whole) (b got : ℕ) (s : Seen) (e : Event) → AreSeated w → b < length w.blocks → HasRoom (block_at w b) s → MayStart b (quiet_state w got) e
     → (step : Step) × IsSure (block_at w b) s step
 start_is_sure w b got s e seated lb room may =
     start_is_step w b got (fresh (block_at w b)) s e (seated.seats b lb) room (subst (λ (q : State). MayStart b q e) (sym (shows_all w b got)) may)

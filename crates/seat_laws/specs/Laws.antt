@@ -20,5 +20,5 @@ SeatsMakeRound =
 abbrev pub StartIsSure : Type 0
 StartIsSure =
     (w : Whole) (b got : ℕ) (s : Seen) (e : Event)
-    → AreSeated w → b < length w.blocks → HasRoom w b s → MayStart b (quiet_state w got) e
+    → AreSeated w → b < length w.blocks → HasRoom (block_at w b) s → MayStart b (quiet_state w got) e
     → (step : Step) × IsSure (block_at w b) s step

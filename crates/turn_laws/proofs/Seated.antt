@@ -86,7 +86,7 @@ module _ (w : Whole) (v : BlocksView) (b : ℕ) (B : BlockView) (at : IsAt w v b
     below = omega (arith, active.below, label_read w v b B u p at spot, top_read w v b B at);
   }
 
-  with_is : (u p : ℕ) → IsSpot w u b p → block_with w u ≡ B
+  pub with_is : (u p : ℕ) → IsSpot w u b p → block_with w u ≡ B
   with_is u p spot = ap (block_at w) spot.home ∙ at.is
 
   pub read_at : (u p : ℕ) (f : BlockView → List ℕ) (g : ℕ → ℕ) → IsSpot w u b p → slice_index (f (block_with w u)) (g (place w u)) ≡ slice_index (f B) (g p)

@@ -22,7 +22,7 @@ use Rattle.discharge.specs.Steps as steps
 use Rattle.discharge.specs.Steps.{Step, Held, IsSure}
 use Rattle.turn_laws.specs.Laws.{HasRoom}
 use Rattle.turn_laws.specs.Seats.{IsSeated, logs_of, shown_by}
-use Rattle.turn_laws.proofs.Seated.{view_with, at_seat, read_at}
+use Rattle.turn_laws.proofs.Seated.{view_with, at_seat, with_is, read_at}
 use Rattle.turn_laws.proofs.Acts.{border_row}
 
 -- the place of a node of the block
@@ -102,7 +102,7 @@ start_rise w b got h u seat may =
     let enabled : steps.Enabled B (steps.Rise p) = (still_active w1 v b B ways got u p at spot on.0, higher) in
     (steps.Rise p, enabled, (λ s. enabled))
 
-start_send : (w : Whole) (b got : ℕ) (h : Held) (x : Direction) (s : Seen) → IsSeated w b h.block → HasRoom w b s → MayStart b (shown_by w b h got) (Send x) → (e : Step) × IsSure h.block s e
+start_send : (w : Whole) (b got : ℕ) (h : Held) (x : Direction) (s : Seen) → IsSeated w b h.block → HasRoom h.block s → MayStart b (shown_by w b h got) (Send x) → (e : Step) × IsSure h.block s e
 start_send w b got h x s seat room may =
     let B = h.block in
     let w1 = put_block w b B in
@@ -130,13 +130,11 @@ start_send w b got h x s seat room may =
       low = omega (arith, stands.from, read_at w1 v b B at ways got u p (λ (q : BlockView). q.border_starts) (λ q. q) spot);
       high = omega (arith, stands.below, read_at w1 v b B at ways got u p (λ (q : BlockView). q.border_starts) (λ q. q + 1) spot);
     } in
-    let leads : (border_in B j).to ≡ home w1 (far w1.net x) = ap (λ (q : Border). q.to) (border_row w1 v b B x j at row) ∙ stands.to in
-    let other : (border_in B j).to < length w.blocks = omega (arith, leads, at.laid.placed.homes (far w1.net x) (far_in w1.net x at.laid.net on.0), length-set w.blocks b B) in
+    let within : j < length B.borders = omega (arith, stands.within, ap (λ (q : BlockView). length q.borders) (with_is w1 v b B at ways got u p spot)) in
     let enabled : steps.Enabled B (steps.Send p j) = (still_active w1 v b B ways got u p at spot on.2, of, may_send) in
-    let apart = λ (e : (border_in B j).to ≡ b). border_apart (state_of v ways got) x on.1 (may.0 ∙ (sym e ∙ leads)) in
-    (steps.Send p j, (enabled, room (border_in B j).to other apart))
+    (steps.Send p j, (enabled, room j within))
 
-pub start_is_step : (w : Whole) (b got : ℕ) (h : Held) (s : Seen) (e : Event) → IsSeated w b h.block → HasRoom w b s → MayStart b (shown_by w b h got) e → (step : Step) × IsSure h.block s step
+pub start_is_step : (w : Whole) (b got : ℕ) (h : Held) (s : Seen) (e : Event) → IsSeated w b h.block → HasRoom h.block s → MayStart b (shown_by w b h got) e → (step : Step) × IsSure h.block s step
 start_is_step w b got h s (PushInner x) seat room may = let found = start_push w b got h x seat may in (found.0, found.2 s)
 start_is_step w b got h s (PushSink u) seat room may = let found = start_give w b got h u seat may in (found.0, found.2 s)
 start_is_step w b got h s (Relabel u) seat room may = let found = start_rise w b got h u seat may in (found.0, found.2 s)

@@ -6,6 +6,7 @@ use Rattle.parcel.specs.States.{way_at}
 use Rattle.parcel.specs.Events.{Run}
 use Rattle.parcel.specs.Soundness.{IsSound, IsSquare, count}
 use Rattle.round_laws.specs.Workers.{IsHistory, MayStart}
+use Rattle.block_net.specs.Views.{BlockView, border_in}
 use Rattle.block_net.specs.Whole.{Whole}
 use Rattle.discharge.specs.Seen.{Seen}
 use Rattle.discharge.specs.Steps.{Step, Held, DoesMany, IsSure}
@@ -65,13 +66,13 @@ TurnIsRun =
 
 -- ---- what is sure
 
--- room is seen for a message to each other block
-abbrev pub HasRoom : Whole → ℕ → Seen → Type 0
-HasRoom w b s = (c : ℕ) → c < length w.blocks → c ≢ b → s.room c ≡ true
+-- room is seen for a message to each block that a direction leads to
+abbrev pub HasRoom : BlockView → Seen → Type 0
+HasRoom B s = (j : ℕ) → j < length B.borders → s.room (border_in B j).to ≡ true
 
 -- where an event of the block that takes no message is enabled, a step is sure
 abbrev pub StartIsStep : Type 0
 StartIsStep =
     (w : Whole) (b got : ℕ) (h : Held) (s : Seen) (e : Event)
-    → IsSeated w b h.block → HasRoom w b s → MayStart b (shown_by w b h got) e
+    → IsSeated w b h.block → HasRoom h.block s → MayStart b (shown_by w b h got) e
     → (step : Step) × IsSure h.block s step
