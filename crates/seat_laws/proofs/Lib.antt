@@ -3,3 +3,4 @@ pub mod Beside
 pub mod Laid
 pub mod Joined
 pub mod Rounds
+pub mod Places

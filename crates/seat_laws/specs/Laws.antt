@@ -1,10 +1,11 @@
 -- The laws of seats, over the definitions alone.
-use Rattle.std.specs.Prelude.{ℕ, ◌<◌, List, length}
+use Rattle.std.specs.Prelude.{◌≡◌, ℕ, ◌+◌, ◌<◌, List, length, sum, sum_by, All}
 use Rattle.parcel.specs.declared.event.Event.{Event}
 use Rattle.parcel.specs.Soundness.{IsSound}
 use Rattle.round_laws.specs.Workers.{MayStart}
-use Rattle.block_net.specs.Views.{BlockView}
+use Rattle.block_net.specs.Views.{BlockView, count}
 use Rattle.block_net.specs.Whole.{Whole, block_at}
+use Rattle.block_core.specs.Views.{blocks_in, state_of}
 use Rattle.discharge.specs.Seen.{Seen}
 use Rattle.discharge.specs.Steps.{Step, IsSure}
 use Rattle.turn_laws.specs.Laws.{HasRoom}
@@ -22,3 +23,10 @@ StartIsSure =
     (w : Whole) (b got : ℕ) (s : Seen) (e : Event)
     → AreSeated w → b < length w.blocks → HasRoom (block_at w b) s → MayStart b (quiet_state w got) e
     → (step : Step) × IsSure (block_at w b) s step
+
+-- in a sound state the rooms of all blocks lack what the sink got
+abbrev pub RoomsTellGot : Type 0
+RoomsTellGot =
+    (w : Whole) (got : ℕ) (ways : Ways)
+    → AreSeated w → All (λ B. length B.rooms ≡ count B) w.blocks → IsSound (state_of (blocks_in w) ways got)
+    → got + sum_by (λ B. sum B.rooms) w.blocks ≡ sum w.net.sinks

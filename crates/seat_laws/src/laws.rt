@@ -1,6 +1,6 @@
 //! Laws of seats. These functions do nothing: the contract of each is a law.
 
-ghost use Rattle.seat_laws.specs.Laws.{SeatsMakeRound, StartIsSure};
+ghost use Rattle.seat_laws.specs.Laws.{SeatsMakeRound, StartIsSure, RoomsTellGot};
 
 /// Blocks that came back, each after steps of its own, are a round from the state that they showed before: what
 /// they show now, with the messages that are left on the way, is a sound state, whatever the schedule was, and
@@ -13,4 +13,10 @@ pub fn seats_make_round()
 /// message to each other block, one of the block's steps is sure: then its first turn does at least one.
 pub fn start_is_sure()
     ensures { StartIsSure }
+{}
+
+/// In a sound state what the sink got, with the rooms of all blocks, is all that the nodes can send the sink: so
+/// the blocks alone tell what it got.
+pub fn rooms_tell_got()
+    ensures { RoomsTellGot }
 {}
