@@ -1,0 +1,119 @@
+ghost use Rattle.std.specs.Prelude.{◌≡◌, ◌≤◌, ◌<◌, ◌^◌, length, All, IfOk, MatchOption};
+ghost use Rattle.block_workers.specs.Seeing.{AreFound, AreRising, IsPlace, LeadNotTo};
+
+use block_rings::Port;
+use discharge::Letter;
+use std::alloc::{AllocError, Global};
+
+/// A block's ends of the rings to the other blocks.
+#[derive(Drop)]
+pub struct Ends {
+    pub(crate) ports: Vec<Port>,
+    places: Vec<u32>,
+    ghost found: { AreFound ports.items places.items },
+}
+
+/// The place of the port to a block, where there is one.
+fn place_of(ports: &Vec<Port>, places: &Vec<u32>, other: u32) -> Option<usize>
+    requires { AreFound ports.now.items places.now.items }
+    ensures { MatchOption result (LeadNotTo ports.now.items other) (λ k. IsPlace ports.now.items other k) }
+{
+    let c = other as usize;
+    if c >= places.len() {
+        return None;
+    }
+    let k = places[c] as usize;
+    if k < ports.len() && ports[k].other() == other {
+        Some(k)
+    } else {
+        None
+    }
+}
+
+/// Of each port its place, by the number of the block that it leads to.
+fn places_of(alloc: Global, ports: &Vec<Port>, blocks: u32) -> Result<Vec<u32>, AllocError>
+    requires { AreRising blocks ports.now.items }
+    ensures { IfOk result (λ places. AreFound ports.now.items places.items) }
+{
+    let mut places = vec![in alloc; 0; blocks as usize]?;
+    let mut next = 0;
+    for k in 0..ports.len() {
+        places[ports[k].other() as usize] = next;
+        next += 1;
+    }
+    Ok(places)
+}
+
+impl Ends {
+    ghost use Rattle.std.specs.Prelude.{Option, Some, is_some, true};
+    ghost use Rattle.round_laws.specs.Workers.{IsFair};
+    ghost use Rattle.discharge.specs.declared.letter.Letter.{Letter};
+    ghost use Rattle.discharge.specs.Seen.{IsLook, IsPut, IsTake};
+    ghost use Rattle.block_workers.specs.Ends.{ports};
+    ghost use Rattle.block_workers.specs.Seeing.{AreSame, seen};
+
+    /// The ends with these ports, which lead to blocks below `blocks` by rising numbers. The only error is that
+    /// memory runs out.
+    pub fn new(alloc: Global, ports: Vec<Port>, blocks: u32) -> Result<Ends, AllocError>
+        requires { AreRising blocks ports.items }
+        ensures { IfOk result (λ ends. ends.ports ≡ ports) }
+    {
+        let places = places_of(alloc, &ports, blocks)?;
+        Ok(Ends { ports, places })
+    }
+
+    /// The ports, by rising numbers of the blocks that they lead to.
+    pub fn into_ports(self) -> Vec<Port>
+        ensures { result ≡ self.ports }
+    {
+        self.ports
+    }
+
+    /// Whether there is room for a letter to another block. There is none where no port leads there.
+    pub(crate) fn room(&mut self, to: u32) -> bool
+        ensures look { IsLook (seen (ports self.old)) (seen (ports self.new)) }
+        ensures same { AreSame (ports self.old) (ports self.new) }
+        ensures value { result ≡ (seen (ports self.new)).room to }
+    {
+        let Some(k) = place_of(&self.ports, &self.places, to) else {
+            return false;
+        };
+        self.ports[k].room()
+    }
+
+    /// Puts a letter for another block, where room was seen. Takes no memory.
+    pub(crate) fn put(&mut self, to: u32, letter: Letter)
+        requires room { (seen (ports self.old)).room to ≡ true }
+        requires fair { IsFair letter.message }
+        ensures put { IsPut to letter.message (seen (ports self.old)) (seen (ports self.new)) }
+        ensures same { AreSame (ports self.old) (ports self.new) }
+    {
+        if let Some(k) = place_of(&self.ports, &self.places, to) {
+            self.ports[k].put(letter);
+        }
+    }
+
+    /// The letter from another block that is to be taken next, where one has come.
+    pub(crate) fn front(&mut self, from: u32) -> Option<Letter>
+        ensures look { IsLook (seen (ports self.old)) (seen (ports self.new)) }
+        ensures same { AreSame (ports self.old) (ports self.new) }
+        ensures value { result ≡ (seen (ports self.new)).front from }
+    {
+        let Some(k) = place_of(&self.ports, &self.places, from) else {
+            return None;
+        };
+        self.ports[k].front()
+    }
+
+    /// Takes the letter that was seen in front. Takes no memory.
+    pub(crate) fn take(&mut self, from: u32)
+        requires { is_some ((seen (ports self.old)).front from) ≡ true }
+        ensures take { (l : Letter) → (seen (ports self.old)).front from ≡ Some l
+            → IsTake from l.message (seen (ports self.old)) (seen (ports self.new)) }
+        ensures same { AreSame (ports self.old) (ports self.new) }
+    {
+        if let Some(k) = place_of(&self.ports, &self.places, from) {
+            self.ports[k].take();
+        }
+    }
+}
