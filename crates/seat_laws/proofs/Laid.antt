@@ -7,7 +7,7 @@ use Rattle.parcel.proofs.Ends.{near_in}
 use Rattle.block_net.specs.declared.rows.Lane.{Lane}
 use Rattle.block_net.specs.declared.rows.Border.{Border}
 use Rattle.block_net.specs.Views.{BlockView, count}
-use Rattle.block_net.specs.Whole.{Whole, block_at, home, is_outer, IsInnerAt, IsBorderAt, StandsAt, IsPlaced}
+use Rattle.block_net.specs.Whole.{Whole, block_at, home, is_outer, IsInnerAt, IsBorderAt, StandsAt, IsPlaced, IsFilled}
 use Rattle.block_core.specs.Views.{IsLaid, IsSpot, IsRow}
 use Rattle.block_core.proofs.Writing.{block_same}
 use Rattle.turn_laws.specs.Seats.{IsSeated}
@@ -92,6 +92,31 @@ module _ (w : Whole) (blocks : List BlockView) (many : length blocks ≡ length 
         (found.0, stands_all true b v j found.0 found.1);
   }
 
+  filled_all : IsFilled (with_blocks w blocks)
+  filled_all = record {
+    labels = λ b l.
+        let lb : b < length w.blocks = omega (arith, l, many) in
+        let B = block_at (with_blocks w blocks) b in
+        let same = block_same w b B lb in
+        sym (ap (λ (q : BlockView). length q.labels) same) ∙ ((each b lb).filled.labels b (omega (arith, lb, length-set w.blocks b B)) ∙ ap count same);
+    nodes = λ b p l lp.
+        let lb : b < length w.blocks = omega (arith, l, many) in
+        let B = block_at (with_blocks w blocks) b in
+        let same = block_same w b B lb in
+        let found = (each b lb).filled.nodes b p (omega (arith, lb, length-set w.blocks b B)) (omega (arith, lp, ap count same)) in
+        (found.0, record {
+          node = found.1.node;
+          home = home_one w blocks many b found.0 ∙ found.1.home;
+          place = place_one w blocks many b found.0 ∙ found.1.place;
+        });
+    borders = λ b j l lj.
+        let lb : b < length w.blocks = omega (arith, l, many) in
+        let B = block_at (with_blocks w blocks) b in
+        let same = block_same w b B lb in
+        let found = (each b lb).filled.borders b j (omega (arith, lb, length-set w.blocks b B)) (omega (arith, lj, ap (λ (q : BlockView). length q.borders) same)) in
+        (found.0, home_one w blocks many b (near w.net found.0) ∙ found.1, stands_all true b (near w.net found.0) j found.0 found.2);
+  }
+
   pub laid_all : IsLaid (with_blocks w blocks)
   laid_all = record {
     net = laid.net;
@@ -99,6 +124,7 @@ module _ (w : Whole) (blocks : List BlockView) (many : length blocks ≡ length 
     some = omega (arith, many, laid.some);
     few = omega (arith, many, laid.few);
     placed = placed_all;
+    filled = filled_all;
   }
 
 -- ---- seats
