@@ -1,3 +1,4 @@
 pub mod Taking
 pub mod Lowering
 pub mod Answering
+pub mod Ending

@@ -1,2 +1,3 @@
 pub mod Lowers
 pub mod Takes
+pub mod Ends

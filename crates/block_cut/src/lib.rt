@@ -6,6 +6,7 @@
 #![tactic(auto)]
 
 mod answers;
+mod ends;
 mod solver;
 mod sweeps;
 mod takes;

@@ -47,10 +47,10 @@ other_row b sent taken i j off = ap (λ (t : Bool). cond t (sent j) (cond (eqb j
 pub own_column : (b : ℕ) (sent taken : ℕ → List Message) (i : ℕ) → (i ≡ b → ⊥) → log_at b sent taken i b ≡ taken i
 own_column b sent taken i off = other_row b sent taken i b off ∙ ap (λ (t : Bool). cond t (taken i) []) (eq-eqb b b refl)
 
-added : (logs : ℕ → List Message) (c : ℕ) (m : Message) → add_to logs c m c ≡ logs c ++ m ∷ []
+pub added : (logs : ℕ → List Message) (c : ℕ) (m : Message) → add_to logs c m c ≡ logs c ++ m ∷ []
 added logs c m = ap (λ (t : Bool). cond t (logs c ++ m ∷ []) (logs c)) (eq-eqb c c refl)
 
-not_added : (logs : ℕ → List Message) (c : ℕ) (m : Message) (j : ℕ) → (j ≡ c → ⊥) → add_to logs c m j ≡ logs j
+pub not_added : (logs : ℕ → List Message) (c : ℕ) (m : Message) (j : ℕ) → (j ≡ c → ⊥) → add_to logs c m j ≡ logs j
 not_added logs c m j off = ap (λ (t : Bool). cond t (logs j ++ m ∷ []) (logs j)) (ne_eqb j c off)
 
 pub sent_log : (n b c : ℕ) (sent taken : ℕ → List Message) (m : Message) → b < n → c < n
