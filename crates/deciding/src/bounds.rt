@@ -28,7 +28,7 @@ fn add_at(numbers: &mut Vec<i64>, place: usize, by: i64)
 
 impl Bounds {
     /// No sites. It takes no memory.
-    pub(crate) fn new(alloc: Global) -> Bounds {
+    pub fn new(alloc: Global) -> Bounds {
         Bounds {
             choices: Vec::new(alloc),
             least: Vec::new(alloc),

@@ -10,12 +10,23 @@ ghost use Rattle.deciding.specs.Decided.{AreBySite};
 ghost use Rattle.moves.specs.Building.{IsGroupedFor, IsBuiltMove};
 
 use crate::Problem;
-use deciding::Deciding;
+use deciding::{Bounds, Deciding};
 use label_field::Pairs;
 use labellings::Move;
 use move_energy::{BuildError, MoveEnergy};
 use std::alloc::{AllocError, Global};
 use std::mem::swap;
+
+/// The most sites whose bounds keep their memory for the next move. Those of more sites, over 5 MB, are given back once the
+/// sites are decided, since the energy and the cut come then and nobody asks for a bound again.
+const KEPT_SITES: usize = 1 << 18;
+
+/// Gives the memory of the bounds of many sites back.
+fn give_back(alloc: Global, bounds: &mut Bounds) {
+    if bounds.least.len() > KEPT_SITES {
+        *bounds = Bounds::new(alloc);
+    }
+}
 
 /// The room of a run: what decides the sites of its moves, once the pairs were grouped by their sites, and the energy of
 /// its moves.
@@ -87,6 +98,7 @@ impl<F: Fn(u32, u32) -> i64, V: Fn(u32, u32) -> i64> Problem<F, V> {
             &mut room.deciding.bounds.choices,
             &mut room.built.variables.choices,
         );
+        give_back(alloc, &mut room.deciding.bounds);
         match room.built.build(&self.pairs, &self.data_cost, &self.smooth_cost, at, change) {
             Ok(()) => Ok(()),
             Err(_) => Err(BuildError::OutOfMemory),
