@@ -55,8 +55,8 @@ fn less_all(constant: i64, numbers: &[u64]) -> i64
     constant - total as i64
 }
 
-/// The net of a sum of terms: a weight above 0 is a capacity of the source, one below 0 a capacity of the
-/// sink and a constant.
+/// The net of a sum of terms, the second half of `compile`: a weight above 0 is a capacity of the source, one below 0 a
+/// capacity of the sink and a constant. Refuses only where memory runs out.
 pub fn net_of(alloc: Global, form: Quadratic) -> Result<Compiled, AllocError>
     requires bounded { IsBounded term_limit form }
     requires len { vec_len form.weights ≤ form_nodes }

@@ -23,8 +23,12 @@ use std::alloc::{AllocError, Global};
 /// A number, a weight for each node, and arcs: what the terms of an energy add up to.
 #[derive(Drop)]
 pub struct Quadratic {
+    /// What each assignment costs.
     pub constant: i64,
+    /// What each node costs where it is 1: a node for each variable, in their order, and then a hidden node for each
+    /// term of three variables.
     pub weights: Vec<i64>,
+    /// What a pair of nodes costs where the first is 0 and the second is 1.
     pub arcs: Vec<Arc>,
 }
 
@@ -118,7 +122,8 @@ impl Quadratic {
     }
 }
 
-/// The terms of a regular energy, added up.
+/// The terms of a regular energy, added up: the first half of `compile`. The energy is needed no more afterwards, so who
+/// owns it may give its memory back before `net_of` makes the net. Refuses only where memory runs out.
 pub fn quadratic_of(alloc: Global, energy: &Energy) -> Result<Quadratic, AllocError>
     requires { IsRegular energy.now }
     ensures values { IfOk result (λ form. SaysValues energy.now form) }

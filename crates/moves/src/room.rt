@@ -1,5 +1,5 @@
 //! The energy of a move, of which sites are decided before it is built.
-ghost use Rattle.std.specs.Prelude.{◌≡◌, ◌<◌, ℕ, All, length, false, OnOk};
+ghost use Rattle.std.specs.Prelude.{◌≡◌, ◌<◌, ℕ, All, length, false, OnOk, IsTrue};
 ghost use Rattle.labellings.specs.Energies.{Instance};
 ghost use Rattle.labellings.specs.Moves.{IsMoveOf};
 ghost use Rattle.regular.specs.Regularity.{IsRegular};
@@ -14,6 +14,7 @@ use deciding::{Bounds, Deciding};
 use label_field::Pairs;
 use labellings::Move;
 use move_energy::{BuildError, MoveEnergy};
+use pseudo_bool::Energy;
 use std::alloc::{AllocError, Global};
 use std::mem::swap;
 
@@ -21,8 +22,22 @@ use std::mem::swap;
 /// sites are decided, since the energy and the cut come then and nobody asks for a bound again.
 const KEPT_SITES: usize = 1 << 18;
 
+/// The most terms of an energy beside which the pairs stay grouped by their sites. Beside more, of over 48 MB, the groups are
+/// given back before the cut, and the next move makes them anew, which takes less than a twentieth of such a move's time.
+const GROUPED_TERMS: usize = 1 << 21;
+
+/// Gives the memory of the grouped pairs back where the energy of the move is large.
+pub fn give_groups_back(alloc: Global, grouped: &mut bool, deciding: &mut Deciding, energy: &Energy)
+    ensures kept { IsTrue grouped.new → IsTrue grouped.old × (deciding.new.ends ≡ deciding.old.ends) }
+{
+    if energy.term_count() > GROUPED_TERMS {
+        *grouped = false;
+        *deciding = Deciding::empty(alloc);
+    }
+}
+
 /// Gives the memory of the bounds of many sites back.
-fn give_back(alloc: Global, bounds: &mut Bounds) {
+fn give_bounds_back(alloc: Global, bounds: &mut Bounds) {
     if bounds.least.len() > KEPT_SITES {
         *bounds = Bounds::new(alloc);
     }
@@ -98,7 +113,7 @@ impl<F: Fn(u32, u32) -> i64, V: Fn(u32, u32) -> i64> Problem<F, V> {
             &mut room.deciding.bounds.choices,
             &mut room.built.variables.choices,
         );
-        give_back(alloc, &mut room.deciding.bounds);
+        give_bounds_back(alloc, &mut room.deciding.bounds);
         match room.built.build(&self.pairs, &self.data_cost, &self.smooth_cost, at, change) {
             Ok(()) => Ok(()),
             Err(_) => Err(BuildError::OutOfMemory),
