@@ -1,6 +1,7 @@
 //! The commands, as `clap` knows them.
-ghost use Rattle.std.specs.Prelude.{◌≡◌, IfOk};
-ghost use Rattle.command_line.specs.App.{Makes, gco_app};
+ghost use Rattle.std.specs.Prelude.{◌≡◌, IfOk, codes};
+ghost use Rattle.clap.specs.Words.{new_app};
+ghost use Rattle.command_line.specs.App.{Makes, gco_app, requiring_subcommand};
 ghost use Rattle.command_line.specs.Tables.{AddsChapters, app_for};
 
 use crate::help;
@@ -55,11 +56,17 @@ const CHAPTERS: &[Chapter] = &[
 pub fn gco_command<'a>(alloc: Global) -> Result<Command<'a>, AllocError>
     ensures { IfOk result (Makes gco_app) }
 {
-    let command = Command::new(alloc, "gco")
+    with_chapters(alloc, top_command(alloc), CHAPTERS)
+}
+
+// The command line without its commands.
+fn top_command<'a>(alloc: Global) -> Command<'a>
+    ensures { Makes (requiring_subcommand (new_app (codes "gco"))) result }
+{
+    Command::new(alloc, "gco")
         .about(help::GCO)
         .after_help(help::GCO_AFTER)
-        .subcommand_required(true);
-    with_chapters(alloc, command, CHAPTERS)
+        .subcommand_required(true)
 }
 
 // Adds the commands.
