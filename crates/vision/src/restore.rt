@@ -94,11 +94,7 @@ fn restore<H: How>(
     let maxval = picture.maxval();
     let smooth = smooth_costs(alloc, options.smooth, options.trunc, maxval + 1)?;
     let pairs = pairs_of(alloc, picture, options.neighbours, options.weight)?;
-    let plan = Plan {
-        moves: options.moves,
-        cycles: options.cycles,
-        maxval,
-    };
+    let plan = restore_plan(options, maxval);
     let data_cost = DataCost::new(
         |site: u32, label: u32| -> i64
             requires { (site < length samples.now) × (label < 256) }
@@ -116,4 +112,19 @@ fn restore<H: How>(
         smooth.as_slice(),
         how,
     )
+}
+
+/// The plan of a restoring that keeps this maxval.
+fn restore_plan(options: &RestoreOptions, maxval: u32) -> Plan
+    ensures { result ≡ record {
+      moves = options.now.moves;
+      cycles = options.now.cycles;
+      maxval = maxval;
+    } }
+{
+    Plan {
+        moves: options.moves,
+        cycles: options.cycles,
+        maxval,
+    }
 }

@@ -3,9 +3,11 @@ use Rattle.cost_store.specs.Promises.{IsTable}
 use Rattle.label_field.specs.Grids.{distance}
 use Rattle.label_field.specs.PairLists.{PairList}
 use Rattle.run_options.specs.Shapes.{shape_cost}
+use Rattle.run_options.specs.declared.moves.Moves.{Moves}
 use Rattle.vision.specs.Faults.{HasRunFault}
 use Rattle.vision.specs.Jobs.{IsFinished, job_of}
 use Rattle.vision.specs.Problems.{restore_problem}
+use Rattle.vision.specs.declared.job.Plan.{Plan}
 use Rattle.vision.proofs.Metrics.{shape_metric_table}
 use Rattle.vision.proofs.restore.restore.Goals as goal
 
@@ -14,15 +16,17 @@ returns-clause-run g c =
     let o = c.args.options.now in
     let p = c.args.picture.now in
     let maxval = c.maxval-maxval.ensures in
-    let J : ℕ → Type 0 = λ v. MatchResult c.run_job.result (IsFinished (job_of (restore_problem o p) o.moves o.cycles p v)) (HasRunFault (job_of (restore_problem o p) o.moves o.cycles p v)) in
+    let problem = restore_problem o p in
+    let M : Moves → ℕ → ℕ → Type 0 = λ m k v. MatchResult c.run_job.result (IsFinished (job_of problem m k p v)) (HasRunFault (job_of problem m k p v)) in
+    let J : Plan → Type 0 = λ q. M q.moves q.cycles q.maxval in
     let S : List ℤ → Type 0 = λ t. IsTable (c.maxval-maxval.result + 1) (c.maxval-maxval.result + 1) (shape_cost o.smooth o.trunc) t in
-    subst J maxval (c.run_job.ensures.run (restore_problem o p) (rw c.new-data_cost.ensures.stored (record {
+    subst (M o.moves o.cycles) maxval (subst J c.restore_plan-plan.ensures (c.run_job.ensures.run problem (rw c.new-data_cost.ensures.stored (record {
       sites_are = sym (ap (λ (l : PairList). l.sites) c.in_ok-pairs.ensures);
       labels_are = ap (λ v. v + 1) (sym maxval);
       pairs_are = sym (ap (λ (l : PairList). l.list) c.in_ok-pairs.ensures);
       data_are = λ a b z la lb is. is ∙ ap (λ xs. pos (distance (slice_index xs a) b)) c.samples-samples.ensures.value;
       smooth_are = subst S (sym c.as_slice.ensures.value) c.in_ok-smooth.ensures.table;
-    })))
+    }))))
 
 pub returns-clause-metric : goal.returns-clause-metric
 returns-clause-metric g c = λ apart.
