@@ -4,5 +4,6 @@ pub mod Images
 pub mod Finishing
 pub mod Refusing
 pub mod Weights
+pub mod Writing
 pub mod Parts
 pub mod Metrics

@@ -1,0 +1,69 @@
+-- From what is ready to be written to what a command did.
+use Rattle.std.proofs.Common.{◌≡◌, ℕ, Bool, true, List, Option, Result, Ok, Err, IfOk, IfErr, OnOk, OnErr, sym, subst}
+use Rattle.std.specs.Io.KnownBytes.{Appends}
+use Rattle.pgm_image.specs.Picture.{Picture}
+use Rattle.pgm_image.specs.Written.{written, Stops}
+use Rattle.vision.specs.Faults.{IsStop, IsWrite, Leaves}
+use Rattle.vision.specs.Jobs.{Job, Does, IsFinished, Tells}
+use Rattle.vision.specs.declared.error.VisionError.{VisionError}
+use Rattle.vision.specs.declared.error.VisionError.TheVariants.{OutOfMemory, Image, SizesDiffer, BadSeed, TooManyLevels, Move, Write}
+use Rattle.vision.specs.declared.job.Finished.{Finished}
+use Rattle.vision.specs.declared.report.Report.{Report}
+
+-- a picture that was written whole
+pub does : (IsJob : Job → Type 0) (f : Finished) (old new : Option (List ℕ)) (r : Result Report VisionError)
+    → ((job : Job) × IsJob job × IsFinished job f) → IfOk r (λ (report : Report). report ≡ f.report)
+    → OnOk r (Appends old new (written f.image)) → IfOk r (λ (report : Report). (job : Job) × IsJob job × Does job old new report)
+does IsJob f old new (Ok report) is told took = (
+  is.0,
+  is.1,
+  record {
+    labels = f.image.samples;
+    ends = is.2.ends;
+    took = subst (λ (p : Picture). Appends old new (written p)) is.2.image_is took;
+    tells = subst (λ (q : Report). Tells is.0 f.image.samples q) (sym told) is.2.tells;
+  },
+)
+does IsJob f old new (Err e) is told took = tt
+
+stop_leaves : (IsJob : Job → Type 0) (HasFault : VisionError → Type 0) (f : Finished) (old new : Option (List ℕ)) (failed : Bool) (e : VisionError)
+    → ((job : Job) × IsJob job × IsFinished job f) → IsStop (λ (count : ℕ). Stops old new 0 (written f.image) count) e → failed ≡ true
+    → Leaves IsJob HasFault old new failed e
+stop_leaves IsJob HasFault f old new failed OutOfMemory is stops only = absurd stops
+stop_leaves IsJob HasFault f old new failed (Image x) is stops only = absurd stops
+stop_leaves IsJob HasFault f old new failed SizesDiffer is stops only = absurd stops
+stop_leaves IsJob HasFault f old new failed (BadSeed i) is stops only = absurd stops
+stop_leaves IsJob HasFault f old new failed TooManyLevels is stops only = absurd stops
+stop_leaves IsJob HasFault f old new failed (Move x) is stops only = absurd stops
+stop_leaves IsJob HasFault f old new failed (Write stop) is stops only = (
+  is.0,
+  is.1,
+  record {
+    labels = f.image.samples;
+    ends = is.2.ends;
+    took = subst (λ (p : Picture). Stops old new 0 (written p) stop.count) is.2.image_is stops;
+  },
+  only,
+)
+
+-- a picture whose writing stopped
+pub leaves : (IsJob : Job → Type 0) (HasFault : VisionError → Type 0) (f : Finished) (old new : Option (List ℕ)) (failed : Bool) (r : Result Report VisionError)
+    → ((job : Job) × IsJob job × IsFinished job f) → IfErr r (IsStop (λ (count : ℕ). Stops old new 0 (written f.image) count))
+    → OnErr r (failed ≡ true) → IfErr r (Leaves IsJob HasFault old new failed)
+leaves IsJob HasFault f old new failed (Ok report) is stops only = tt
+leaves IsJob HasFault f old new failed (Err e) is stops only = stop_leaves IsJob HasFault f old new failed e is stops only
+
+stop_is_write : (After : ℕ → Type 0) (e : VisionError) → IsStop After e → IsWrite e
+stop_is_write After OutOfMemory stops = stops
+stop_is_write After (Image x) stops = stops
+stop_is_write After SizesDiffer stops = stops
+stop_is_write After (BadSeed i) stops = stops
+stop_is_write After TooManyLevels stops = stops
+stop_is_write After (Move x) stops = stops
+stop_is_write After (Write stop) stops = tt
+
+-- a writing that stopped is told as that
+pub told_as_write : (After : ℕ → Type 0) (Same : Type 0) (r : Result Report VisionError) → IfErr r (IsStop After)
+    → IfErr r (λ (e : VisionError). (¬ IsWrite e) → Same)
+told_as_write After Same (Ok report) stops = tt
+told_as_write After Same (Err e) stops = λ other. absurd (other (stop_is_write After e stops))
