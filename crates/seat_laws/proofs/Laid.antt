@@ -9,11 +9,11 @@ use Rattle.block_net.specs.declared.rows.Border.{Border}
 use Rattle.block_net.specs.Views.{BlockView, count}
 use Rattle.block_net.specs.Whole.{Whole, block_at, home, is_outer, IsInnerAt, IsBorderAt, StandsAt, IsPlaced, IsFilled}
 use Rattle.block_core.specs.Views.{IsLaid, IsSpot, IsRow}
-use Rattle.block_core.proofs.Writing.{block_same}
+use Rattle.block_core.proofs.Writing.{block_same, spot_put, row_put}
 use Rattle.turn_laws.specs.Seats.{IsSeated}
 use Rattle.seat_laws.specs.Rounds.{AreSeated, with_blocks}
 use Rattle.seat_laws.proofs.Starting.{put_same}
-use Rattle.seat_laws.proofs.Beside.{one, home_all, outer_all, place_all, home_one, outer_one, place_one, with_one, read_one, lane_one, border_one}
+use Rattle.seat_laws.proofs.Beside.{one, home_all, outer_all, home_one, outer_one, place_one, with_one, read_one, lane_one, border_one}
 
 module _ (w : Whole) (blocks : List BlockView) (many : length blocks ≡ length w.blocks) (laid : IsLaid w) (each : (b : ℕ) → b < length w.blocks → IsLaid (one w blocks many b)) where
   inner_all : (x : Direction) → IsDirection w.net x → is_outer (with_blocks w blocks) x ≡ false → IsInnerAt (with_blocks w blocks) x
@@ -130,21 +130,21 @@ module _ (w : Whole) (blocks : List BlockView) (many : length blocks ≡ length 
 -- ---- seats
 
 module _ (w : Whole) (blocks : List BlockView) (many : length blocks ≡ length w.blocks) where
-  spot_all : (v b p : ℕ) → IsSpot w v b p → IsSpot (with_blocks w blocks) v b p
-  spot_all v b p at = record {
+  spot_one : (b v c p : ℕ) → IsSpot (one w blocks many b) v c p → IsSpot (with_blocks w blocks) v c p
+  spot_one b v c p at = record {
     node = at.node;
-    home = home_all w blocks many v ∙ at.home;
-    place = place_all w blocks many v ∙ at.place;
-    block = omega (arith, at.block, many);
+    home = home_one w blocks many b v ∙ at.home;
+    place = place_one w blocks many b v ∙ at.place;
+    block = omega (arith, at.block, length-set w.blocks b (block_at (with_blocks w blocks) b), many);
   }
 
-  row_all : (x : Direction) (b j : ℕ) → IsRow w x true b j → IsRow (with_blocks w blocks) x true b j
-  row_all x b j at = record {
+  row_one : (b : ℕ) (x : Direction) (leaves : Bool) (c j : ℕ) → IsRow (one w blocks many b) x leaves c j → IsRow (with_blocks w blocks) x leaves c j
+  row_one b x leaves c j at = record {
     direction = at.direction;
-    outer = outer_all w blocks many x ∙ at.outer;
-    home = home_all w blocks many (near w.net x) ∙ at.home;
+    outer = outer_one w blocks many b x ∙ at.outer;
+    home = home_one w blocks many b (near w.net x) ∙ at.home;
     slot = at.slot;
-    block = omega (arith, at.block, many);
+    block = omega (arith, at.block, length-set w.blocks b (block_at (with_blocks w blocks) b), many);
   }
 
   seat_all : (b : ℕ) → IsLaid (with_blocks w blocks) → IsSeated w b (block_at (with_blocks w blocks) b) → IsSeated (with_blocks w blocks) b (block_at (with_blocks w blocks) b)
@@ -152,8 +152,8 @@ module _ (w : Whole) (blocks : List BlockView) (many : length blocks ≡ length 
     laid = subst (λ (q : Whole). IsLaid q) (sym (put_same (with_blocks w blocks) b)) laid;
     block = omega (arith, seat.block, many);
     labels = seat.labels;
-    nodes = λ p l. let found = seat.nodes p l in (found.0, spot_all found.0 b p found.1);
-    borders = λ j l. let found = seat.borders j l in (found.0, row_all found.0 b j found.1);
+    nodes = λ p l. let found = seat.nodes p l in (found.0, spot_one b found.0 b p (spot_put w found.0 b p b (block_at (with_blocks w blocks) b) found.1));
+    borders = λ j l. let found = seat.borders j l in (found.0, row_one b found.0 true b j (row_put w found.0 true b j b (block_at (with_blocks w blocks) b) found.1));
   }
 
   -- blocks that are seated among the blocks of old are seated among one another
