@@ -4,3 +4,4 @@ pub mod Laid
 pub mod Joined
 pub mod Rounds
 pub mod Places
+pub mod Example

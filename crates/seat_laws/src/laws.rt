@@ -1,10 +1,11 @@
 //! Laws of seats. These functions do nothing: the contract of each is a law.
 
+ghost use Rattle.seat_laws.specs.Rows.{RowBComesBack};
 ghost use Rattle.seat_laws.specs.Laws.{SeatsMakeRound, StartIsSure, RoomsTellGot};
 
-/// Blocks that came back, each after steps of its own, are a round from the state that they showed before: what
-/// they show now, with the messages that are left on the way, is a sound state, whatever the schedule was, and
-/// each block stands in its seat again. What the sink got is what the rooms lack.
+/// Blocks that came back, each after steps of its own, are a round from the state that they showed before:
+/// what they show now, with the messages that are left on the way, is a sound state, whatever the schedule
+/// was, and each block stands in its seat again. What the sink got is what the rooms lack.
 pub fn seats_make_round()
     ensures { SeatsMakeRound }
 {}
@@ -15,8 +16,13 @@ pub fn start_is_sure()
     ensures { StartIsSure }
 {}
 
-/// In a sound state what the sink got, with the rooms of all blocks, is all that the nodes can send the sink: so
-/// the blocks alone tell what it got.
+/// In a sound state what the sink got, with the rooms of all blocks, is all that the nodes can send the sink:
+/// so the blocks alone tell what it got.
 pub fn rooms_tell_got()
     ensures { RoomsTellGot }
+{}
+
+/// There are such blocks: of two nodes in two blocks one sends a parcel that the other does not take.
+pub fn row_b_comes_back()
+    ensures { RowBComesBack }
 {}

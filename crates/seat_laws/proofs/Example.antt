@@ -1,0 +1,159 @@
+-- Two blocks of one node each, before a round and after it.
+use Rattle.std.proofs.Common.{◌≡◌, ◌≢◌, ℕ, zero, suc, ◌+◌, ◌<◌, ◌≤◌, Bool, true, false, cond, eqb, List, [], ◌∷◌, ◌++◌, length, get_or, slice_index, refl, sym, arith}
+use Rattle.std.proofs.lemmas.Bool.{false≢true}
+use Rattle.flow_network.specs.Cut.{IsNet, IsArc}
+use Rattle.parcel.specs.declared.direction.Direction.{Direction}
+use Rattle.parcel.specs.declared.message.Message.{Message}
+use Rattle.parcel.specs.declared.message.Message.TheVariants.{Parcel}
+use Rattle.parcel.specs.Directions.{forward, backward}
+use Rattle.parcel.specs.States.{way_at}
+use Rattle.parcel.specs.Rows.{net_b}
+use Rattle.parcel.proofs.Opening.{opened_sound}
+use Rattle.block_net.specs.Views.{count, first_lane, first_border}
+use Rattle.block_net.specs.Whole.{block_at, block_with, home, place, near_home, slot, is_outer, IsInnerAt, IsBorderAt, StandsAt, IsPlaced}
+use Rattle.block_core.specs.Views.{IsLaid, IsSpot, IsRow}
+use Rattle.discharge.specs.Steps.{Held, Rise, Send, DoesMany}
+use Rattle.turn_laws.specs.Seats.{IsSeated}
+use Rattle.seat_laws.specs.Rounds.{with_blocks, fresh}
+use Rattle.seat_laws.specs.Rows.{whole_b, blocks_b, left_b, RowBComesBack}
+
+by_node : (P : ℕ → Type 0) → P 0 → P 1 → (v : ℕ) → v < 2 → P v
+by_node P p q zero l = p
+by_node P p q (suc zero) l = q
+by_node P p q (suc (suc v)) l = absurd (omega (arith, l))
+
+by_one : (P : ℕ → Type 0) → P 0 → (v : ℕ) → v < 1 → P v
+by_one P p zero l = p
+by_one P p (suc v) l = absurd (omega (arith, l))
+
+by_way : (P : Direction → Type 0) → P (forward 0) → P (backward 0) → (k : ℕ) (b : Bool) → k < 1 → P (record { arc = k; back = b })
+by_way P p q zero true l = q
+by_way P p q zero false l = p
+by_way P p q (suc k) b l = absurd (omega (arith, l))
+
+net : IsNet net_b
+net = record {
+  same = refl;
+  count = omega arith;
+  arcs = λ k d l. by_one (λ k. IsArc 2 (get_or net_b.arcs k d)) (record { from = omega arith; to = omega arith }) k l;
+  total = omega arith;
+}
+
+border0 : IsBorderAt whole_b (forward 0)
+border0 = record { from = omega arith; below = omega arith; within = omega arith; direction = refl; near = refl; to = refl; opposite = refl; capacity = refl }
+
+border1 : IsBorderAt whole_b (backward 0)
+border1 = record { from = omega arith; below = omega arith; within = omega arith; direction = refl; near = refl; to = refl; opposite = refl; capacity = refl }
+
+stands0 : (j : ℕ) → 0 ≤ j → j < 1 → (x : Direction) × StandsAt whole_b true 0 j x
+stands0 j from below = (forward 0, record { direction = omega arith; near = refl; outer = refl; slot = omega (arith, from, below) })
+
+stands1 : (j : ℕ) → 0 ≤ j → j < 1 → (x : Direction) × StandsAt whole_b true 1 j x
+stands1 j from below = (backward 0, record { direction = omega arith; near = refl; outer = refl; slot = omega (arith, from, below) })
+
+abbrev Apart : Direction → Direction → Type 0
+Apart x y = is_outer whole_b x ≡ is_outer whole_b y → near_home whole_b x ≡ near_home whole_b y → slot whole_b x ≡ slot whole_b y → x ≡ y
+
+placed : IsPlaced whole_b
+placed = record {
+  firsts_len = refl;
+  slots_len = refl;
+  homes = λ v lv. by_node (λ v. home whole_b v < 2) (omega arith) (omega arith) v lv;
+  firsts = λ v lv. by_node (λ v. slice_index whole_b.firsts (home whole_b v) ≤ v) (omega arith) (omega arith) v lv;
+  places = λ v lv. by_node (λ v. place whole_b v < count (block_with whole_b v)) (omega arith) (omega arith) v lv;
+  tops = λ b lb. by_node (λ b. (block_at whole_b b).top ≡ 4) refl refl b lb;
+  inner = λ x d e. by_way (λ x. is_outer whole_b x ≡ false → IsInnerAt whole_b x) (λ e. absurd (false≢true (sym e))) (λ e. absurd (false≢true (sym e))) x.arc x.back d e;
+  borders = λ x d e. by_way (λ x. IsBorderAt whole_b x) border0 border1 x.arc x.back d;
+  apart = λ x y dx dy. by_way (λ x. Apart x y)
+      (by_way (λ y. Apart (forward 0) y) (λ o h s. refl) (λ o h s. absurd (omega (arith, h))) y.arc y.back dy)
+      (by_way (λ y. Apart (backward 0) y) (λ o h s. absurd (omega (arith, h))) (λ o h s. refl) y.arc y.back dy) x.arc x.back dx;
+  lanes = λ v j lv. by_node
+      (λ v. first_lane (block_with whole_b v) (place whole_b v) ≤ j → j < first_lane (block_with whole_b v) (place whole_b v + 1) → (x : Direction) × StandsAt whole_b false v j x)
+      (λ from below. absurd (omega (arith, below))) (λ from below. absurd (omega (arith, below))) v lv;
+  outers = λ v j lv. by_node
+      (λ v. first_border (block_with whole_b v) (place whole_b v) ≤ j → j < first_border (block_with whole_b v) (place whole_b v + 1) → (x : Direction) × StandsAt whole_b true v j x)
+      (stands0 j) (stands1 j) v lv;
+}
+
+laid : IsLaid whole_b
+laid = record { net = net; arcs = omega arith; some = omega arith; few = omega arith; placed = placed }
+
+seat0 : IsSeated whole_b 0 (block_at whole_b 0)
+seat0 = record {
+  laid = laid;
+  block = omega arith;
+  labels = refl;
+  nodes = by_one (λ p. (v : ℕ) × IsSpot whole_b v 0 p) (0, record { node = omega arith; home = refl; place = refl; block = omega arith });
+  borders = by_one (λ j. (x : Direction) × IsRow whole_b x true 0 j) (forward 0, record { direction = omega arith; outer = refl; home = refl; slot = refl; block = omega arith });
+}
+
+seat1 : IsSeated whole_b 1 (block_at whole_b 1)
+seat1 = record {
+  laid = laid;
+  block = omega arith;
+  labels = refl;
+  nodes = by_one (λ p. (v : ℕ) × IsSpot whole_b v 1 p) (1, record { node = omega arith; home = refl; place = refl; block = omega arith });
+  borders = by_one (λ j. (x : Direction) × IsRow whole_b x true 1 j) (backward 0, record { direction = omega arith; outer = refl; home = refl; slot = refl; block = omega arith });
+}
+
+-- ---- what each did
+
+abbrev sent : ℕ → ℕ → List Message
+sent b c = cond (eqb b 0) (cond (eqb c 1) (Parcel (forward 0) 4 1 ∷ []) []) []
+
+abbrev taken : ℕ → ℕ → List Message
+taken b c = []
+
+abbrev steps : ℕ → ℕ
+steps b = cond (eqb b 0) 2 1
+
+-- what block b came to
+abbrev came : ℕ → Held
+came b = record { block = block_at (with_blocks whole_b blocks_b) b; sent = sent b; taken = taken b }
+
+does0 : DoesMany (fresh (block_at whole_b 0)) 2 (came 0)
+does0 = (
+  Rise 0 ∷ Send 0 0 ∷ [],
+  (
+    (record { node = omega arith; excess = omega arith; below = omega arith }, omega arith),
+    (
+      (
+        record { node = omega arith; excess = omega arith; below = omega arith },
+        record { low = omega arith; high = omega arith },
+        record { residual = omega arith; level = refl; idle = refl },
+      ),
+      refl,
+    ),
+  ),
+  refl,
+)
+
+does1 : DoesMany (fresh (block_at whole_b 1)) 1 (came 1)
+does1 = (
+  Rise 0 ∷ [],
+  ((record { node = omega arith; excess = omega arith; below = omega arith }, omega arith), refl),
+  refl,
+)
+
+abbrev Joins : ℕ → ℕ → Type 0
+Joins b c = b ≢ c → sent b c ≡ taken c b ++ way_at left_b b c
+
+pub row_b : RowBComesBack
+row_b = record {
+  seated = record { laid = laid; seats = by_node (λ b. IsSeated whole_b b (block_at whole_b b)) seat0 seat1 };
+  sound = opened_sound net_b 2 net (omega arith);
+  back = record {
+    sent = sent;
+    taken = taken;
+    steps = steps;
+    many = refl;
+    does = by_node (λ b. DoesMany (fresh (block_at whole_b b)) (steps b) (came b)) does0 does1;
+    square = record { rows = refl; columns = by_node (λ b. length (get_or left_b b []) ≡ 2) refl refl };
+    ways = λ b c lb lc.
+        by_node (λ b. (c : ℕ) → c < 2 → Joins b c)
+        (by_node (λ c. Joins 0 c) (λ off. absurd (off refl)) (λ off. refl))
+        (by_node (λ c. Joins 1 c) (λ off. refl) (λ off. absurd (off refl))) b lb c lc;
+    none = by_node (λ b. way_at left_b b b ≡ []) refl refl;
+    busy = λ b e lb may. by_node (λ b. 0 < steps b) (omega arith) (omega arith) b lb;
+  };
+}

@@ -1,0 +1,68 @@
+-- Two nodes in two blocks, joined by an arc of capacity 4: in one round the first block sends a parcel, which
+-- the other leaves on the way.
+use Rattle.std.specs.Prelude.{ℕ, List, [], ◌∷◌, Option, Some, None}
+use Rattle.parcel.specs.declared.flight.Flight.{Flight}
+use Rattle.parcel.specs.declared.message.Message.TheVariants.{Parcel}
+use Rattle.parcel.specs.Directions.{forward, backward}
+use Rattle.parcel.specs.Soundness.{IsSound}
+use Rattle.parcel.specs.Rows.{net_b}
+use Rattle.block_net.specs.declared.rows.Border.{Border}
+use Rattle.block_net.specs.Views.{BlockView}
+use Rattle.block_net.specs.Whole.{Whole}
+use Rattle.block_core.specs.Views.{whole_in}
+use Rattle.seat_laws.specs.Rounds.{Ways, AreSeated, AreBack, quiet_state}
+
+-- a block of one node with one direction to the other block
+abbrev pub part : ℕ → ℕ → ℕ → Border → BlockView
+part excess label room border = record {
+  top = 4;
+  excess = excess ∷ [];
+  labels = label ∷ [];
+  rooms = room ∷ [];
+  starts = 0 ∷ 0 ∷ [];
+  lanes = [];
+  border_starts = 0 ∷ 1 ∷ [];
+  borders = border ∷ [];
+}
+
+abbrev pub border_there : ℕ → Option Flight → Border
+border_there residual flight = record {
+  direction = forward 0;
+  near = 0;
+  to = 1;
+  opposite = 0;
+  capacity = 4;
+  residual = residual;
+  known = 0;
+  flight = flight;
+}
+
+abbrev pub border_back : Border
+border_back = record {
+  direction = backward 0;
+  near = 0;
+  to = 0;
+  opposite = 0;
+  capacity = 4;
+  residual = 0;
+  known = 0;
+  flight = None;
+}
+
+abbrev pub whole_b : Whole
+whole_b =
+    whole_in net_b (0 ∷ 1 ∷ []) (0 ∷ 0 ∷ [])
+    (part 4 0 0 (border_there 4 None) ∷ part 1 0 3 border_back ∷ [])
+
+-- the first node is relabelled and sends all it has, the other is relabelled
+abbrev pub blocks_b : List BlockView
+blocks_b = part 0 1 0 (border_there 0 (Some (record { amount = 4; label = 1 }))) ∷ part 1 1 3 border_back ∷ []
+
+abbrev pub left_b : Ways
+left_b = ([] ∷ (Parcel (forward 0) 4 1 ∷ []) ∷ []) ∷ ([] ∷ [] ∷ []) ∷ []
+
+-- they are seated, show a sound state, and are back
+pub record RowBComesBack : Type 0 where
+  pub seated : AreSeated whole_b
+  pub sound : IsSound (quiet_state whole_b 0)
+  pub back : AreBack whole_b 0 blocks_b left_b
