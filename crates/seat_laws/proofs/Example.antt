@@ -5,12 +5,12 @@ use Rattle.flow_network.specs.Cut.{IsNet, IsArc}
 use Rattle.parcel.specs.declared.direction.Direction.{Direction}
 use Rattle.parcel.specs.declared.message.Message.{Message}
 use Rattle.parcel.specs.declared.message.Message.TheVariants.{Parcel}
-use Rattle.parcel.specs.Directions.{forward, backward}
+use Rattle.parcel.specs.Directions.{forward, backward, near}
 use Rattle.parcel.specs.States.{way_at}
 use Rattle.parcel.specs.Rows.{net_b}
 use Rattle.parcel.proofs.Opening.{opened_sound}
 use Rattle.block_net.specs.Views.{count, first_lane, first_border}
-use Rattle.block_net.specs.Whole.{block_at, block_with, home, place, near_home, slot, is_outer, IsInnerAt, IsBorderAt, StandsAt, IsPlaced}
+use Rattle.block_net.specs.Whole.{block_at, block_with, home, place, near_home, slot, is_outer, IsInnerAt, IsBorderAt, StandsAt, LiesAt, IsPlaced, IsFilled}
 use Rattle.block_core.specs.Views.{IsLaid, IsSpot, IsRow}
 use Rattle.discharge.specs.Steps.{Held, Rise, Send, DoesMany}
 use Rattle.turn_laws.specs.Seats.{IsSeated}
@@ -75,8 +75,31 @@ placed = record {
       (stands0 j) (stands1 j) v lv;
 }
 
+-- what lies in block b, and what leaves it
+abbrev Lies : ℕ → ℕ → Type 0
+Lies b p = (v : ℕ) × LiesAt whole_b b p v
+
+abbrev Leaves : ℕ → ℕ → Type 0
+Leaves b j = (x : Direction) × (near_home whole_b x ≡ b) × StandsAt whole_b true (near net_b x) j x
+
+leaves0 : Leaves 0 0
+leaves0 = (forward 0, refl, record { direction = omega arith; near = refl; outer = refl; slot = refl })
+
+leaves1 : Leaves 1 0
+leaves1 = (backward 0, refl, record { direction = omega arith; near = refl; outer = refl; slot = refl })
+
+filled : IsFilled whole_b
+filled = record {
+  labels = λ b lb. by_node (λ b. length (block_at whole_b b).labels ≡ count (block_at whole_b b)) refl refl b lb;
+  nodes = λ b p lb. by_node (λ b. p < count (block_at whole_b b) → Lies b p)
+      (by_one (Lies 0) (0, record { node = omega arith; home = refl; place = refl }) p)
+      (by_one (Lies 1) (1, record { node = omega arith; home = refl; place = refl }) p) b lb;
+  borders = λ b j lb. by_node (λ b. j < length (block_at whole_b b).borders → Leaves b j)
+      (by_one (Leaves 0) leaves0 j) (by_one (Leaves 1) leaves1 j) b lb;
+}
+
 laid : IsLaid whole_b
-laid = record { net = net; arcs = omega arith; some = omega arith; few = omega arith; placed = placed }
+laid = record { net = net; arcs = omega arith; some = omega arith; few = omega arith; placed = placed; filled = filled }
 
 seat0 : IsSeated whole_b 0 (block_at whole_b 0)
 seat0 = record {
