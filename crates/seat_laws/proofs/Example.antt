@@ -11,9 +11,8 @@ use Rattle.parcel.specs.Rows.{net_b}
 use Rattle.parcel.proofs.Opening.{opened_sound}
 use Rattle.block_net.specs.Views.{count, first_lane, first_border}
 use Rattle.block_net.specs.Whole.{block_at, block_with, home, place, near_home, slot, is_outer, IsInnerAt, IsBorderAt, StandsAt, LiesAt, IsPlaced, IsFilled}
-use Rattle.block_core.specs.Views.{IsLaid, IsSpot, IsRow}
+use Rattle.block_core.specs.Views.{IsLaid}
 use Rattle.discharge.specs.Steps.{Held, Rise, Send, DoesMany}
-use Rattle.turn_laws.specs.Seats.{IsSeated}
 use Rattle.seat_laws.specs.Rounds.{with_blocks, fresh}
 use Rattle.seat_laws.specs.Rows.{whole_b, blocks_b, left_b, RowBComesBack}
 
@@ -101,24 +100,6 @@ filled = record {
 laid : IsLaid whole_b
 laid = record { net = net; arcs = omega arith; some = omega arith; few = omega arith; placed = placed; filled = filled }
 
-seat0 : IsSeated whole_b 0 (block_at whole_b 0)
-seat0 = record {
-  laid = laid;
-  block = omega arith;
-  labels = refl;
-  nodes = by_one (λ p. (v : ℕ) × IsSpot whole_b v 0 p) (0, record { node = omega arith; home = refl; place = refl; block = omega arith });
-  borders = by_one (λ j. (x : Direction) × IsRow whole_b x true 0 j) (forward 0, record { direction = omega arith; outer = refl; home = refl; slot = refl; block = omega arith });
-}
-
-seat1 : IsSeated whole_b 1 (block_at whole_b 1)
-seat1 = record {
-  laid = laid;
-  block = omega arith;
-  labels = refl;
-  nodes = by_one (λ p. (v : ℕ) × IsSpot whole_b v 1 p) (1, record { node = omega arith; home = refl; place = refl; block = omega arith });
-  borders = by_one (λ j. (x : Direction) × IsRow whole_b x true 1 j) (backward 0, record { direction = omega arith; outer = refl; home = refl; slot = refl; block = omega arith });
-}
-
 -- ---- what each did
 
 abbrev sent : ℕ → ℕ → List Message
@@ -163,7 +144,7 @@ Joins b c = b ≢ c → sent b c ≡ taken c b ++ way_at left_b b c
 
 pub row_b : RowBComesBack
 row_b = record {
-  seated = record { laid = laid; seats = by_node (λ b. IsSeated whole_b b (block_at whole_b b)) seat0 seat1 };
+  laid = laid;
   sound = opened_sound net_b 2 net (omega arith);
   back = record {
     sent = sent;

@@ -1,5 +1,5 @@
 -- What is kept of each block by itself is kept of all.
-use Rattle.std.proofs.Common.{◌≡◌, ℕ, ◌+◌, ◌<◌, Bool, true, false, List, length, slice_index, refl, sym, ◌∙◌, ap, subst, arith}
+use Rattle.std.proofs.Common.{◌≡◌, ℕ, ◌+◌, ◌<◌, Bool, true, false, List, length, slice_index, refl, sym, ◌∙◌, ap, arith}
 use Rattle.std.proofs.lemmas.List.{length-set}
 use Rattle.parcel.specs.declared.direction.Direction.{Direction}
 use Rattle.parcel.specs.Directions.{IsDirection, near, far}
@@ -7,12 +7,11 @@ use Rattle.parcel.proofs.Ends.{near_in}
 use Rattle.block_net.specs.declared.rows.Lane.{Lane}
 use Rattle.block_net.specs.declared.rows.Border.{Border}
 use Rattle.block_net.specs.Views.{BlockView, count}
-use Rattle.block_net.specs.Whole.{Whole, block_at, home, is_outer, IsInnerAt, IsBorderAt, StandsAt, IsPlaced, IsFilled}
-use Rattle.block_core.specs.Views.{IsLaid, IsSpot, IsRow}
-use Rattle.block_core.proofs.Writing.{block_same, spot_put, row_put}
-use Rattle.turn_laws.specs.Seats.{IsSeated}
-use Rattle.seat_laws.specs.Rounds.{AreSeated, with_blocks}
-use Rattle.seat_laws.proofs.Starting.{put_same}
+use Rattle.block_net.specs.Whole.{Whole, block_at, home, is_outer, IsInnerAt, IsBorderAt, StandsAt, IsPlaced}
+use Rattle.block_core.specs.Views.{IsLaid}
+use Rattle.block_core.proofs.Writing.{block_same}
+use Rattle.turn_laws.proofs.Laid.{filled_together}
+use Rattle.seat_laws.specs.Rounds.{with_blocks}
 use Rattle.seat_laws.proofs.Beside.{one, home_all, outer_all, home_one, outer_one, place_one, with_one, read_one, lane_one, border_one}
 
 module _ (w : Whole) (blocks : List BlockView) (many : length blocks ≡ length w.blocks) (laid : IsLaid w) (each : (b : ℕ) → b < length w.blocks → IsLaid (one w blocks many b)) where
@@ -92,31 +91,6 @@ module _ (w : Whole) (blocks : List BlockView) (many : length blocks ≡ length 
         (found.0, stands_all true b v j found.0 found.1);
   }
 
-  filled_all : IsFilled (with_blocks w blocks)
-  filled_all = record {
-    labels = λ b l.
-        let lb : b < length w.blocks = omega (arith, l, many) in
-        let B = block_at (with_blocks w blocks) b in
-        let same = block_same w b B lb in
-        sym (ap (λ (q : BlockView). length q.labels) same) ∙ ((each b lb).filled.labels b (omega (arith, lb, length-set w.blocks b B)) ∙ ap count same);
-    nodes = λ b p l lp.
-        let lb : b < length w.blocks = omega (arith, l, many) in
-        let B = block_at (with_blocks w blocks) b in
-        let same = block_same w b B lb in
-        let found = (each b lb).filled.nodes b p (omega (arith, lb, length-set w.blocks b B)) (omega (arith, lp, ap count same)) in
-        (found.0, record {
-          node = found.1.node;
-          home = home_one w blocks many b found.0 ∙ found.1.home;
-          place = place_one w blocks many b found.0 ∙ found.1.place;
-        });
-    borders = λ b j l lj.
-        let lb : b < length w.blocks = omega (arith, l, many) in
-        let B = block_at (with_blocks w blocks) b in
-        let same = block_same w b B lb in
-        let found = (each b lb).filled.borders b j (omega (arith, lb, length-set w.blocks b B)) (omega (arith, lj, ap (λ (q : BlockView). length q.borders) same)) in
-        (found.0, home_one w blocks many b (near w.net found.0) ∙ found.1, stands_all true b (near w.net found.0) j found.0 found.2);
-  }
-
   pub laid_all : IsLaid (with_blocks w blocks)
   laid_all = record {
     net = laid.net;
@@ -124,40 +98,5 @@ module _ (w : Whole) (blocks : List BlockView) (many : length blocks ≡ length 
     some = omega (arith, many, laid.some);
     few = omega (arith, many, laid.few);
     placed = placed_all;
-    filled = filled_all;
+    filled = filled_together w blocks many (λ b l. (each b (omega (arith, l, many))).filled);
   }
-
--- ---- seats
-
-module _ (w : Whole) (blocks : List BlockView) (many : length blocks ≡ length w.blocks) where
-  spot_one : (b v c p : ℕ) → IsSpot (one w blocks many b) v c p → IsSpot (with_blocks w blocks) v c p
-  spot_one b v c p at = record {
-    node = at.node;
-    home = home_one w blocks many b v ∙ at.home;
-    place = place_one w blocks many b v ∙ at.place;
-    block = omega (arith, at.block, length-set w.blocks b (block_at (with_blocks w blocks) b), many);
-  }
-
-  row_one : (b : ℕ) (x : Direction) (leaves : Bool) (c j : ℕ) → IsRow (one w blocks many b) x leaves c j → IsRow (with_blocks w blocks) x leaves c j
-  row_one b x leaves c j at = record {
-    direction = at.direction;
-    outer = outer_one w blocks many b x ∙ at.outer;
-    home = home_one w blocks many b (near w.net x) ∙ at.home;
-    slot = at.slot;
-    block = omega (arith, at.block, length-set w.blocks b (block_at (with_blocks w blocks) b), many);
-  }
-
-  seat_all : (b : ℕ) → IsLaid (with_blocks w blocks) → IsSeated w b (block_at (with_blocks w blocks) b) → IsSeated (with_blocks w blocks) b (block_at (with_blocks w blocks) b)
-  seat_all b laid seat = record {
-    laid = subst (λ (q : Whole). IsLaid q) (sym (put_same (with_blocks w blocks) b)) laid;
-    block = omega (arith, seat.block, many);
-    labels = seat.labels;
-    nodes = λ p l. let found = seat.nodes p l in (found.0, spot_one b found.0 b p (spot_put w found.0 b p b (block_at (with_blocks w blocks) b) found.1));
-    borders = λ j l. let found = seat.borders j l in (found.0, row_one b found.0 true b j (row_put w found.0 true b j b (block_at (with_blocks w blocks) b) found.1));
-  }
-
-  -- blocks that are seated among the blocks of old are seated among one another
-  pub seated_all : IsLaid w → ((b : ℕ) → b < length w.blocks → IsSeated w b (block_at (with_blocks w blocks) b)) → AreSeated (with_blocks w blocks)
-  seated_all laid each =
-      let all = laid_all w blocks many laid (λ b lb. (each b lb).laid) in
-      record { laid = all; seats = λ b lb. seat_all b all (each b (omega (arith, lb, many))) }

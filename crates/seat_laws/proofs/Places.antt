@@ -9,9 +9,10 @@ use Rattle.parcel.specs.Soundness.{IsSound}
 use Rattle.block_net.specs.Views.{BlockView, count}
 use Rattle.block_net.specs.Whole.{Whole, no_block, block_at, block_with, home, place}
 use Rattle.block_net.proofs.Tables.{length_table, table_at}
-use Rattle.block_core.specs.Views.{blocks_in, state_of}
+use Rattle.block_core.specs.Views.{IsLaid, blocks_in, state_of}
+use Rattle.turn_laws.proofs.Laid.{seated}
 use Rattle.block_core.proofs.Writing.{numbers, same_spot}
-use Rattle.seat_laws.specs.Rounds.{Ways, AreSeated}
+use Rattle.seat_laws.specs.Rounds.{Ways}
 
 -- ---- counting one of them
 
@@ -22,7 +23,7 @@ counted_same false x y same = refl
 counted_both : (a b c d z : ℕ) → a ≡ b → c ≡ d → counted (eqb a b) (counted (eqb c d) z) ≡ z
 counted_both a b c d z e f = counted-true (eqb a b) (counted (eqb c d) z) (eq-eqb a b e) ∙ counted-true (eqb c d) z (eq-eqb c d f)
 
-module _ (w : Whole) (seated : AreSeated w) (F : ℕ → ℕ → ℕ) where
+module _ (w : Whole) (laid : IsLaid w) (F : ℕ → ℕ → ℕ) where
   -- the number at a place, where the node is at that place
   abbrev there : ℕ → ℕ → ℕ → ℕ
   there v b p = counted (eqb (home w v) b) (counted (eqb (place w v) p) (F b p))
@@ -37,17 +38,17 @@ module _ (w : Whole) (seated : AreSeated w) (F : ℕ → ℕ → ℕ) where
       sym (sum_below-counted (count (block_at w b)) (eqb (home w v) b) at)
       ∙ counted_same (eqb (home w v) b) (over b at) (F b (place w v)) (λ t.
       let size = ap (λ c. count (block_at w c)) (eqb-true (home w v) b t) in
-      sum_below-pick (count (block_at w b)) (place w v) (F b) (omega (arith, size, seated.laid.placed.places v lv)))
+      sum_below-pick (count (block_at w b)) (place w v) (F b) (omega (arith, size, laid.placed.places v lv)))
 
   node_once : (v : ℕ) → v < nodes w.net → F (home w v) (place w v) ≡ sum_below (length w.blocks) (λ b. over b (there v b))
   node_once v lv =
       let n = length w.blocks in
       sym (sum_below-same n (λ b. over b (there v b)) (λ b. counted (eqb (home w v) b) (F b (place w v))) (λ b lb. node_in_block v b lv)
-      ∙ sum_below-pick n (home w v) (λ b. F b (place w v)) (seated.laid.placed.homes v lv))
+      ∙ sum_below-pick n (home w v) (λ b. F b (place w v)) (laid.placed.homes v lv))
 
   place_once : (b p : ℕ) → b < length w.blocks → p < count (block_at w b) → sum_below (nodes w.net) (λ v. there v b p) ≡ F b p
   place_once b p lb lp =
-      let found = (seated.seats b lb).nodes p lp in
+      let found = (seated w b laid lb).nodes p lp in
       let u = found.0 in
       let spot = found.1 in
       sum_below-same (nodes w.net) (λ v. there v b p) (λ v. counted (eqb u v) (F b p)) (λ v lv.
@@ -58,7 +59,7 @@ module _ (w : Whole) (seated : AreSeated w) (F : ℕ → ℕ → ℕ) where
         | inr off ↦
             counted-zero (eqb (home w v) b) (counted (eqb (place w v) p) (F b p)) (λ t.
             counted-zero (eqb (place w v) p) (F b p) (λ t'.
-            absurd (off (same_spot w v u b p seated.laid.placed (record { node = lv; home = eqb-true (home w v) b t; place = eqb-true (place w v) p t'; block = lb }) spot))))
+            absurd (off (same_spot w v u b p laid.placed (record { node = lv; home = eqb-true (home w v) b t; place = eqb-true (place w v) p t'; block = lb }) spot))))
             ∙ sym (counted-other u v (F b p) off)
       ])
       ∙ sum_below-pick (nodes w.net) u (λ v. F b p) spot.node
@@ -76,9 +77,9 @@ module _ (w : Whole) (seated : AreSeated w) (F : ℕ → ℕ → ℕ) where
 
 -- ---- the rooms
 
-pub rooms_tell_got : (w : Whole) (got : ℕ) (ways : Ways) → AreSeated w → All (λ B. length B.rooms ≡ count B) w.blocks → IsSound (state_of (blocks_in w) ways got)
+pub rooms_tell_got : (w : Whole) (got : ℕ) (ways : Ways) → IsLaid w → All (λ B. length B.rooms ≡ count B) w.blocks → IsSound (state_of (blocks_in w) ways got)
     → got + sum_by (λ B. sum B.rooms) w.blocks ≡ sum w.net.sinks
-rooms_tell_got w got ways seated long sound =
+rooms_tell_got w got ways laid long sound =
     let m = nodes w.net in
     let n = length w.blocks in
     let room = λ (v : ℕ). slice_index (block_with w v).rooms (place w v) in
@@ -87,7 +88,7 @@ rooms_tell_got w got ways seated long sound =
     sum_by-sum_below (λ (x : ℕ). x) (numbers rooms w) 0
     ∙ (ap (λ k. sum_below k (slice_index (numbers rooms w))) (length_table m room)
     ∙ sum_below-same m (slice_index (numbers rooms w)) room (λ v lv. table_at m room v 0 lv)) in
-    let turn = over_places w seated (λ b p. slice_index (block_at w b).rooms p) in
+    let turn = over_places w laid (λ b p. slice_index (block_at w b).rooms p) in
     let each : sum_by (λ (q : BlockView). sum q.rooms) w.blocks ≡ sum_below n (λ b. sum_below (count (block_at w b)) (slice_index (block_at w b).rooms)) =
     sum_by-sum_below (λ (q : BlockView). sum q.rooms) w.blocks no_block
     ∙ sum_below-same n (λ b. sum (block_at w b).rooms) (λ b. sum_below (count (block_at w b)) (slice_index (block_at w b).rooms)) (λ b lb.

@@ -14,14 +14,15 @@ use Rattle.round_laws.proofs.Keeping.{round_kept}
 use Rattle.block_net.specs.Views.{BlockView}
 use Rattle.block_net.specs.Whole.{Whole, table, block_at}
 use Rattle.block_net.proofs.Tables.{table_at}
-use Rattle.block_core.specs.Views.{blocks_in, state_of}
+use Rattle.block_core.specs.Views.{IsLaid, blocks_in, state_of}
 use Rattle.discharge.specs.Steps.{Held}
 use Rattle.turn_laws.specs.Seats.{log_at, logs_of, shown_by}
 use Rattle.turn_laws.specs.Laws.{IsLed}
 use Rattle.turn_laws.proofs.Histories.{turn_is_history}
-use Rattle.seat_laws.specs.Rounds.{AreSeated, AreBack, IsRound, with_blocks, fresh, quiet_state, lacking, state_after}
+use Rattle.turn_laws.proofs.Laid.{seated}
+use Rattle.seat_laws.specs.Rounds.{AreBack, IsRound, with_blocks, fresh, quiet_state, lacking, state_after}
 use Rattle.seat_laws.proofs.Starting.{shows_all, is_quiet}
-use Rattle.seat_laws.proofs.Laid.{seated_all}
+use Rattle.seat_laws.proofs.Laid.{laid_all}
 use Rattle.seat_laws.proofs.Joined.{blocks_join}
 
 -- ---- the ways, told by the logs of both ends
@@ -53,13 +54,13 @@ unfolding picked
 picked_is n P each b (inl l) lb = (each b l).1
 picked_is n P each b (inr past) lb = absurd (omega (arith, past, lb))
 
-module _ (w : Whole) (got : ℕ) (blocks : List BlockView) (left : List (List (List Message))) (seated : AreSeated w) (sound : IsSound (quiet_state w got)) (back : AreBack w got blocks left) where
+module _ (w : Whole) (got : ℕ) (blocks : List BlockView) (left : List (List (List Message))) (laid : IsLaid w) (sound : IsSound (quiet_state w got)) (back : AreBack w got blocks left) where
   -- the block, with what it put and took
   abbrev came_to : ℕ → Held
   came_to b = record { block = block_at (with_blocks w blocks) b; sent = back.sent b; taken = back.taken b }
 
   led : (b : ℕ) → b < length w.blocks → IsLed w b got (back.steps b) (fresh (block_at w b)) (came_to b)
-  led b lb = turn_is_history w b got (back.steps b) (fresh (block_at w b)) (came_to b) (seated.seats b lb) (back.does b lb)
+  led b lb = turn_is_history w b got (back.steps b) (fresh (block_at w b)) (came_to b) (seated w b laid lb) (back.does b lb)
 
   -- so many events led there, and the sink got so much by then
   record HasCome (b got' : ℕ) : Type 0 where
@@ -117,7 +118,7 @@ module _ (w : Whole) (got : ℕ) (blocks : List BlockView) (left : List (List (L
     ends = λ b. shown_by w b (came_to b) (gots b);
     count = histories.1;
     led = λ b lb. (histories.2 b lb).1;
-    joined = blocks_join w blocks back.many seated.laid got (λ b. logs_of (length w.blocks) b (back.sent b) (back.taken b)) gots left;
+    joined = blocks_join w blocks back.many laid got (λ b. logs_of (length w.blocks) b (back.sent b) (back.taken b)) gots left;
     square = back.square;
     ways = joins;
     busy = λ b e lb may none. omega (arith, ap length none, (histories.2 b lb).0, back.busy b e lb may);
@@ -127,16 +128,26 @@ module _ (w : Whole) (got : ℕ) (blocks : List BlockView) (left : List (List (L
   got_is : counted.got ≡ lacking (with_blocks w blocks)
   got_is = omega (arith, (round_kept (quiet_state w got) counted sound (is_quiet w got) round).got)
 
-  pub seats_are_round : IsRound w got blocks left
+  -- the round to a state where the sink got so much, and how long its histories are
+  abbrev Numbered : ℕ → Type 0
+  Numbered g =
+      (r : RoundOf (quiet_state w got) (state_of (blocks_in (with_blocks w blocks)) left g))
+      × ((b : ℕ) → b < length w.blocks → length (get_or r.histories b []) ≡ back.steps b)
+
+  numbered : Numbered counted.got
+  unfolding round
+  numbered = (round, λ b lb. (histories.2 b lb).0)
+
+  pub seats_are_round : IsRound w got blocks left back.steps
   seats_are_round =
-      let is : RoundOf (quiet_state w got) (state_after w blocks left) =
-      subst (λ g. RoundOf (quiet_state w got) (state_of (blocks_in (with_blocks w blocks)) left g)) got_is round in
+      let is : Numbered (lacking (with_blocks w blocks)) = subst Numbered got_is numbered in
       record {
-        round = is;
-        sound = round_kept (quiet_state w got) (state_after w blocks left) sound (is_quiet w got) is;
-        seated = seated_all w blocks back.many seated.laid (λ b lb. (led b lb).seated);
+        round = is.0;
+        numbers = is.1;
+        sound = round_kept (quiet_state w got) (state_after w blocks left) sound (is_quiet w got) is.0;
+        laid = laid_all w blocks back.many laid (λ b lb. (led b lb).seated.laid);
       }
 
-pub seats_make_round : (w : Whole) (got : ℕ) (blocks : List BlockView) (left : List (List (List Message))) → AreSeated w → IsSound (quiet_state w got) → AreBack w got blocks left
-    → IsRound w got blocks left
-seats_make_round w got blocks left seated sound back = seats_are_round w got blocks left seated sound back
+pub seats_make_round : (w : Whole) (got : ℕ) (blocks : List BlockView) (left : List (List (List Message))) → IsLaid w → IsSound (quiet_state w got) → (back : AreBack w got blocks left)
+    → IsRound w got blocks left back.steps
+seats_make_round w got blocks left laid sound back = seats_are_round w got blocks left laid sound back

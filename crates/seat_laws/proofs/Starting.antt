@@ -9,13 +9,14 @@ use Rattle.round_laws.specs.Workers.{MayStart}
 use Rattle.round_laws.specs.Laws.{no_messages}
 use Rattle.block_net.specs.Whole.{Whole, table, no_block, block_at, put_block}
 use Rattle.block_net.proofs.Tables.{table_is}
-use Rattle.block_core.specs.Views.{blocks_in, state_of}
+use Rattle.block_core.specs.Views.{IsLaid, blocks_in, state_of}
 use Rattle.discharge.specs.Seen.{Seen}
 use Rattle.discharge.specs.Steps.{Step, IsSure}
 use Rattle.turn_laws.specs.Laws.{HasRoom}
 use Rattle.turn_laws.specs.Seats.{log_at, logs_of, shown_by}
+use Rattle.turn_laws.proofs.Laid.{seated}
 use Rattle.turn_laws.proofs.Starts.{start_is_step}
-use Rattle.seat_laws.specs.Rounds.{AreSeated, fresh, quiet_state}
+use Rattle.seat_laws.specs.Rounds.{fresh, quiet_state}
 
 -- no message at all
 abbrev none : ℕ → List Message
@@ -48,7 +49,7 @@ is_quiet w got b c lb lc =
     let row : List (List Message) = replicate n [] in
     ap (λ (r : List (List Message)). get_or r c []) (get_or-replicate n b row [] lb) ∙ get_or-replicate {A = List Message} n c [] [] lc
 
-pub start_is_sure : (w : Whole) (b got : ℕ) (s : Seen) (e : Event) → AreSeated w → b < length w.blocks → HasRoom (block_at w b) s → MayStart b (quiet_state w got) e
+pub start_is_sure : (w : Whole) (b got : ℕ) (s : Seen) (e : Event) → IsLaid w → b < length w.blocks → HasRoom (block_at w b) s → MayStart b (quiet_state w got) e
     → (step : Step) × IsSure (block_at w b) s step
-start_is_sure w b got s e seated lb room may =
-    start_is_step w b got (fresh (block_at w b)) s e (seated.seats b lb) room (subst (λ (q : State). MayStart b q e) (sym (shows_all w b got)) may)
+start_is_sure w b got s e laid lb room may =
+    start_is_step w b got (fresh (block_at w b)) s e (seated w b laid lb) room (subst (λ (q : State). MayStart b q e) (sym (shows_all w b got)) may)

@@ -5,28 +5,29 @@ use Rattle.parcel.specs.Soundness.{IsSound}
 use Rattle.round_laws.specs.Workers.{MayStart}
 use Rattle.block_net.specs.Views.{BlockView, count}
 use Rattle.block_net.specs.Whole.{Whole, block_at}
-use Rattle.block_core.specs.Views.{blocks_in, state_of}
+use Rattle.block_core.specs.Views.{IsLaid, blocks_in, state_of}
 use Rattle.discharge.specs.Seen.{Seen}
 use Rattle.discharge.specs.Steps.{Step, IsSure}
 use Rattle.turn_laws.specs.Laws.{HasRoom}
-use Rattle.seat_laws.specs.Rounds.{Ways, AreSeated, AreBack, IsRound, quiet_state}
+use Rattle.seat_laws.specs.Rounds.{Ways, AreBack, IsRound, quiet_state}
 
 -- blocks that came back are a round
 abbrev pub SeatsMakeRound : Type 0
 SeatsMakeRound =
     (w : Whole) (got : ℕ) (blocks : List BlockView) (left : Ways)
-    → AreSeated w → IsSound (quiet_state w got) → AreBack w got blocks left → IsRound w got blocks left
+    → IsLaid w → IsSound (quiet_state w got) → (back : AreBack w got blocks left)
+    → IsRound w got blocks left back.steps
 
 -- where an event of block b that takes no message is enabled before the round, a step of it is sure
 abbrev pub StartIsSure : Type 0
 StartIsSure =
     (w : Whole) (b got : ℕ) (s : Seen) (e : Event)
-    → AreSeated w → b < length w.blocks → HasRoom (block_at w b) s → MayStart b (quiet_state w got) e
+    → IsLaid w → b < length w.blocks → HasRoom (block_at w b) s → MayStart b (quiet_state w got) e
     → (step : Step) × IsSure (block_at w b) s step
 
 -- in a sound state the rooms of all blocks lack what the sink got
 abbrev pub RoomsTellGot : Type 0
 RoomsTellGot =
     (w : Whole) (got : ℕ) (ways : Ways)
-    → AreSeated w → All (λ B. length B.rooms ≡ count B) w.blocks → IsSound (state_of (blocks_in w) ways got)
+    → IsLaid w → All (λ B. length B.rooms ≡ count B) w.blocks → IsSound (state_of (blocks_in w) ways got)
     → got + sum_by (λ B. sum B.rooms) w.blocks ≡ sum w.net.sinks

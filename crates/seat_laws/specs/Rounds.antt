@@ -1,5 +1,5 @@
 -- Blocks before a round, and as they come back from the workers that held them.
-use Rattle.std.specs.Prelude.{◌≡◌, ◌≢◌, ℕ, ◌-◌, ◌<◌, List, [], ◌++◌, length, sum}
+use Rattle.std.specs.Prelude.{◌≡◌, ◌≢◌, ℕ, ◌-◌, ◌<◌, List, [], ◌++◌, length, slice_index_or, sum}
 use Rattle.parcel.specs.declared.event.Event.{Event}
 use Rattle.parcel.specs.declared.message.Message.{Message}
 use Rattle.parcel.specs.States.{State, way_at}
@@ -11,16 +11,10 @@ use Rattle.block_net.specs.Views.{BlockView}
 use Rattle.block_net.specs.Whole.{Whole, block_at}
 use Rattle.block_core.specs.Views.{IsLaid, blocks_in, state_of}
 use Rattle.discharge.specs.Steps.{Held, DoesMany}
-use Rattle.turn_laws.specs.Seats.{IsSeated}
 
 -- of each block and each block, the messages on the way from the one to the other
 abbrev pub Ways : Type 0
 Ways = List (List (List Message))
-
--- the blocks of a net, each in its place
-pub record AreSeated (w : Whole) : Type 0 where
-  pub laid : IsLaid w
-  pub seats : (b : ℕ) → b < length w.blocks → IsSeated w b (block_at w b)
 
 -- the same net in other blocks
 abbrev pub with_blocks : Whole → List BlockView → Whole
@@ -65,8 +59,10 @@ abbrev pub state_after : Whole → List BlockView → Ways → State
 state_after w blocks left =
     state_of (blocks_in (with_blocks w blocks)) left (lacking (with_blocks w blocks))
 
--- a round led there, the state is sound, and each block stands in its place again
-pub record IsRound (w : Whole) (got : ℕ) (blocks : List BlockView) (left : Ways) : Type 0 where
+-- a round of so many events of each block led there, the state is sound, and everything has its place again
+pub record IsRound (w : Whole) (got : ℕ) (blocks : List BlockView) (left : Ways) (steps : ℕ → ℕ)
+    : Type 0 where
   pub round : RoundOf (quiet_state w got) (state_after w blocks left)
+  pub numbers : (b : ℕ) → b < length w.blocks → length (slice_index_or round.histories b []) ≡ steps b
   pub sound : IsSound (state_after w blocks left)
-  pub seated : AreSeated (with_blocks w blocks)
+  pub laid : IsLaid (with_blocks w blocks)

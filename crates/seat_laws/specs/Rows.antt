@@ -9,8 +9,8 @@ use Rattle.parcel.specs.Rows.{net_b}
 use Rattle.block_net.specs.declared.rows.Border.{Border}
 use Rattle.block_net.specs.Views.{BlockView}
 use Rattle.block_net.specs.Whole.{Whole}
-use Rattle.block_core.specs.Views.{whole_in}
-use Rattle.seat_laws.specs.Rounds.{Ways, AreSeated, AreBack, quiet_state}
+use Rattle.block_core.specs.Views.{IsLaid, whole_in}
+use Rattle.seat_laws.specs.Rounds.{Ways, AreBack, quiet_state}
 
 -- a block of one node with one direction to the other block
 abbrev pub part : ℕ → ℕ → ℕ → Border → BlockView
@@ -61,8 +61,8 @@ blocks_b = part 0 1 0 (border_there 0 (Some (record { amount = 4; label = 1 })))
 abbrev pub left_b : Ways
 left_b = ([] ∷ (Parcel (forward 0) 4 1 ∷ []) ∷ []) ∷ ([] ∷ [] ∷ []) ∷ []
 
--- they are seated, show a sound state, and are back
+-- they have their places, show a sound state, and are back
 pub record RowBComesBack : Type 0 where
-  pub seated : AreSeated whole_b
+  pub laid : IsLaid whole_b
   pub sound : IsSound (quiet_state whole_b 0)
   pub back : AreBack whole_b 0 blocks_b left_b
