@@ -57,7 +57,8 @@ abbrev pub letter_of : EndsView → List Message → Option Letter
 letter_of e [] = None
 letter_of e (m ∷ rest) = Some (record { message = m; place = place_in e (leaving m) })
 
--- what was put beyond the ways as they were, what they lost in front, where room is left, and what is in front
+-- what was put beyond the ways as they were, what they lost in front, where room is left, and what is in
+-- front
 abbrev pub seen_by : EndsView → Seen
 seen_by e = record {
   sent = λ c. drop (length (first_to e c)) (now_to e c);
