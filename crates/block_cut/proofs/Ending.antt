@@ -17,11 +17,11 @@ use Rattle.block_cut.specs.Ends.{EndsView, ends_view, first_to, now_to, first_fr
 -- ---- lists
 
 -- what stands beyond a beginning
-beyond : (first more now : List Message) → now ≡ first ++ more → drop (length first) now ≡ more
+pub beyond : (first more now : List Message) → now ≡ first ++ more → drop (length first) now ≡ more
 beyond first more now is = ap (drop (length first)) is ∙ drop-append_seam first more
 
 -- what stands before an end
-before : (all more rest : List Message) → all ≡ more ++ rest → take (length all - length rest) all ≡ more
+pub before : (all more rest : List Message) → all ≡ more ++ rest → take (length all - length rest) all ≡ more
 before all more rest is =
     let long : length all - length rest ≡ length more = omega (arith, ap length is, length-append more rest) in
     ap (λ n. take n all) long ∙ (ap (take (length more)) is ∙ take-append_seam more rest)
@@ -29,7 +29,7 @@ before all more rest is =
 -- ---- another block
 
 -- the ends with other ways
-abbrev with_now : EndsView → MailView → EndsView
+abbrev pub with_now : EndsView → MailView → EndsView
 with_now e now = ends_view e.block e.blocks e.first now e.slots e.arcs
 
 other_below : (e : EndsView) (c : ℕ) → is_other e c ≡ true → c < e.blocks

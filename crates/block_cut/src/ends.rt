@@ -1,7 +1,7 @@
 ghost use Rattle.std.specs.Prelude.{◌≡◌, ◌*◌, ◌≤◌, ◌<◌, ◌↔◌, IsTrue, true, length};
 ghost use Rattle.parcel.specs.Soundness.{IsSquare};
 ghost use Rattle.block_net.specs.Limits.{arc_limit};
-ghost use Rattle.block_cut.specs.Ends.{seen_by, is_other, place_in, leaving, ends_view};
+ghost use Rattle.block_cut.specs.Ends.{IsEnds, seen_by, is_other, place_in, leaving, ends_view};
 
 use block_core::Mail;
 use discharge::{Letter, Ways};
@@ -73,6 +73,13 @@ impl Ends {
         (self.ways, self.slots)
     }
 
+    /// Does nothing: says what is kept of all ends.
+    pub fn are_ends(&self)
+        ensures { IsEnds self.now }
+    {
+        let _block = self.block;
+    }
+
     /// Whether it is the number of another block.
     fn is_other(&self, c: u32) -> bool
         ensures { result ≡ is_other self.now c }
@@ -98,6 +105,10 @@ impl Ends {
 }
 
 impl Ways for Ends {
+    type Fixed = Ends;
+
+    ghost fixed = { λ e. record e { now = e.first } };
+
     ghost seen = { λ e. seen_by e };
 
     fn room(&mut self, to: u32) -> bool {

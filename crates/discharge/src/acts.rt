@@ -61,6 +61,7 @@ pub(crate) fn try_send<W: Ways>(cells: &mut Cells, ways: &mut W, v: usize, j: us
     requires active { IsActive cells.old v }
     requires border { IsBorderOfNode cells.old v j }
     requires place { j < length cells.old.borders }
+    ensures fixed { W.fixed ways.new ≡ W.fixed ways.old }
     ensures few { result ≤ 1 }
     ensures does { Does cells.old (W.seen ways.old) result cells.new (W.seen ways.new) }
     ensures idle { result ≡ 0 → ¬ IsSure cells.old (W.seen ways.old) (Send v j) }

@@ -78,6 +78,7 @@ impl Block {
 /// First the messages that came are taken, as long as they are enabled; then the nodes that wait are
 /// discharged, each in turn (Goldberg, Tarjan 1988, section 4).
 pub fn turn<W: Ways>(block: &mut Block, ways: &mut W, limit: u32) -> u32
+    ensures fixed { W.fixed ways.new ≡ W.fixed ways.old }
     ensures few { result ≤ limit }
     ensures does { DoesMany (held block.old (W.seen ways.old)) result (held block.new (W.seen ways.new)) }
     ensures some { 0 < limit → (e : Step) → IsSure block.old (W.seen ways.old) e → 0 < result }

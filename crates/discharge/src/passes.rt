@@ -25,6 +25,7 @@ pub(crate) fn wait_if_active(cells: &Cells, queue: &mut Queue, v: usize)
 fn pass<W: Ways>(cells: &mut Cells, queue: &mut Queue, ways: &mut W, limit: u32) -> u32
     requires size { queue.old.size ≡ count cells.old }
     requires queued { IsQueued cells.old queue.old.order }
+    ensures fixed { W.fixed ways.new ≡ W.fixed ways.old }
     ensures few { result ≤ limit }
     ensures does { Does cells.old (W.seen ways.old) result cells.new (W.seen ways.new) }
     ensures size { queue.new.size ≡ queue.old.size }
@@ -50,6 +51,7 @@ fn pass<W: Ways>(cells: &mut Cells, queue: &mut Queue, ways: &mut W, limit: u32)
 pub(crate) fn work<W: Ways>(cells: &mut Cells, queue: &mut Queue, ways: &mut W, limit: u32) -> u32
     requires size { queue.old.size ≡ count cells.old }
     requires queued { IsQueued cells.old queue.old.order }
+    ensures fixed { W.fixed ways.new ≡ W.fixed ways.old }
     ensures few { result ≤ limit }
     ensures does { Does cells.old (W.seen ways.old) result cells.new (W.seen ways.new) }
     ensures size { queue.new.size ≡ queue.old.size }

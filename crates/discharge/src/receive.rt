@@ -83,6 +83,7 @@ fn receive_parcel<W: Ways>(
     requires front { (W.seen ways.old).front from
         ≡ Some (record { message = Parcel direction amount label; place = place }) }
     requires size { queue.old.size ≡ count cells.old }
+    ensures fixed { W.fixed ways.new ≡ W.fixed ways.old }
     ensures few { result ≤ 1 }
     ensures does { Does cells.old (W.seen ways.old) result cells.new (W.seen ways.new) }
     ensures queued { IsQueued cells.old queue.old.order → IsQueued cells.new queue.new.order }
@@ -192,6 +193,7 @@ fn receive_accepted<W: Ways>(
 ) -> u32
     requires front { (W.seen ways.old).front from
         ≡ Some (record { message = Accepted direction amount; place = place }) }
+    ensures fixed { W.fixed ways.new ≡ W.fixed ways.old }
     ensures few { result ≤ 1 }
     ensures does { Does cells.old (W.seen ways.old) result cells.new (W.seen ways.new) }
     ensures queued { (q : List ℕ) → IsQueued cells.old q → IsQueued cells.new q }
@@ -219,6 +221,7 @@ fn receive_refused<W: Ways>(
     requires front { (W.seen ways.old).front from
         ≡ Some (record { message = Refused direction flight.amount flight.label told; place = place }) }
     requires size { queue.old.size ≡ count cells.old }
+    ensures fixed { W.fixed ways.new ≡ W.fixed ways.old }
     ensures few { result ≤ 1 }
     ensures does { Does cells.old (W.seen ways.old) result cells.new (W.seen ways.new) }
     ensures queued { IsQueued cells.old queue.old.order → IsQueued cells.new queue.new.order }
@@ -239,6 +242,7 @@ fn receive_refused<W: Ways>(
 /// Takes the message in front from a block, where that is enabled: one event or none.
 fn receive<W: Ways>(cells: &mut Cells, queue: &mut Queue, ways: &mut W, from: u32) -> u32
     requires size { queue.old.size ≡ count cells.old }
+    ensures fixed { W.fixed ways.new ≡ W.fixed ways.old }
     ensures few { result ≤ 1 }
     ensures does { Does cells.old (W.seen ways.old) result cells.new (W.seen ways.new) }
     ensures queued { IsQueued cells.old queue.old.order → IsQueued cells.new queue.new.order }
@@ -296,6 +300,7 @@ fn receive_from<W: Ways>(
     limit: u32,
 ) -> u32
     requires size { queue.old.size ≡ count cells.old }
+    ensures fixed { W.fixed ways.new ≡ W.fixed ways.old }
     ensures few { result ≤ limit }
     ensures does { Does cells.old (W.seen ways.old) result cells.new (W.seen ways.new) }
     ensures queued { IsQueued cells.old queue.old.order → IsQueued cells.new queue.new.order }
@@ -320,6 +325,7 @@ pub(crate) fn receive_all<W: Ways>(
     limit: u32,
 ) -> u32
     requires size { queue.old.size ≡ count cells.old }
+    ensures fixed { W.fixed ways.new ≡ W.fixed ways.old }
     ensures few { result ≤ limit }
     ensures does { Does cells.old (W.seen ways.old) result cells.new (W.seen ways.new) }
     ensures queued { IsQueued cells.old queue.old.order → IsQueued cells.new queue.new.order }

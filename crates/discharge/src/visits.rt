@@ -65,6 +65,7 @@ fn push_all(cells: &mut Cells, queue: &mut Queue, v: usize, limit: u32) -> u32
 /// most `limit` events.
 fn send_all<W: Ways>(cells: &mut Cells, ways: &mut W, v: usize, limit: u32) -> u32
     requires { v < count cells.old }
+    ensures fixed { W.fixed ways.new ≡ W.fixed ways.old }
     ensures few { result ≤ limit }
     ensures does { Does cells.old (W.seen ways.old) result cells.new (W.seen ways.new) }
     ensures queue { (w : ℕ) → IsActive cells.new w → ¬ (w ≡ v) → IsActive cells.old w }
@@ -95,6 +96,7 @@ pub(crate) fn visit<W: Ways>(
 ) -> u32
     requires node { v < count cells.old }
     requires size { queue.old.size ≡ count cells.old }
+    ensures fixed { W.fixed ways.new ≡ W.fixed ways.old }
     ensures few { result ≤ limit }
     ensures does { Does cells.old (W.seen ways.old) result cells.new (W.seen ways.new) }
     ensures waits { Waits v cells.old queue.old.order cells.new queue.new.order }

@@ -17,4 +17,4 @@ returns-clause-does g c =
     let none : x.flight ≡ None = grind (arith, common_steps) in
     does_send now c.send.new.self _ _ _ c.args.v c.args.j c.min-amount.result c.label-label.result x c.requires.active c.requires.border
     (record { residual = some; level = level; idle = sym flight ∙ none }) c.border-border.ensures.value c.label-label.ensures.value
-    (omega arith) c.send.ensures c.room.ensures.look c.put.ensures
+    (omega arith) c.send.ensures c.room.ensures.look c.put.ensures.put

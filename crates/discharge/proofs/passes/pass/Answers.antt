@@ -20,6 +20,7 @@ nodes-preserved g c =
     λ none. pass_rest c.args.queue.now.order c.nodes.queue.order c.pop.new.self.order c.visit-count.new.queue.order c.wait_if_active.new.queue.order c.nodes.i v
     (omega arith) (inv.rest (omega arith)) popped.1 (told.still (omega arith)) c.wait_if_active.ensures.longer in
     record {
+      fixed = told.fixed ∙ inv.fixed;
       few = omega arith;
       does = does_more old c.nodes.cells b was seen (g.W.Ways.seen c.visit-count.new.ways) c.nodes.count c.visit-count.result inv.does told.does;
       size = omega (arith, c.wait_if_active.ensures.size, told.size, c.in-Some.ensures.size, inv.size);

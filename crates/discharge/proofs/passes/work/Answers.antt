@@ -9,6 +9,7 @@ passes-preserved g c =
     let inv = c.passes.invariant in
     let told = c.pass-did.ensures in
     record {
+      fixed = told.fixed ∙ inv.fixed;
       few = omega arith;
       more = omega arith;
       does = does_more c.args.cells.now c.passes.cells c.pass-did.new.cells (g.W.Ways.seen c.args.ways.now) (g.W.Ways.seen c.passes.ways) (g.W.Ways.seen c.pass-did.new.ways)

@@ -12,6 +12,7 @@ others-preserved g c =
     let was = g.W.Ways.seen c.args.ways.now in
     let seen = g.W.Ways.seen c.others.ways in
     record {
+      fixed = told.fixed ∙ inv.fixed;
       few = omega arith;
       does = does_more c.args.cells.now c.others.cells c.receive_from-count.new.cells was seen (g.W.Ways.seen c.receive_from-count.new.ways) c.others.count c.receive_from-count.result inv.does told.does;
       queued = λ h. told.queued (inv.queued h);

@@ -4,6 +4,7 @@ use Rattle.discharge.proofs.receive.receive_all.Given as goal
 
 abbrev pub invariant-others : goal.invariant-others
 invariant-others g l = record {
+  fixed : g.W.Ways.fixed l.ways ≡ g.W.Ways.fixed l.fn.ways;
   few : l.count ≤ l.limit;
   does : Does l.fn.cells (g.W.Ways.seen l.fn.ways) l.count l.cells (g.W.Ways.seen l.ways);
   queued : IsQueued l.fn.cells l.fn.queue.order → IsQueued l.cells l.queue.order;

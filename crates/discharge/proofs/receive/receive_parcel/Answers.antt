@@ -8,9 +8,9 @@ use Rattle.discharge.proofs.receive.receive_parcel.Goals as goal
 pub returns-then-accepts-clause-does : goal.returns-then-accepts-clause-does
 returns-then-accepts-clause-does g c =
     let may = c.may_accept-accepts.ensures.0 c.if-accepts.true in
-    let took = c.take.ensures _ (c.put.ensures.front _ _ (c.room.ensures.look.front _ _ c.requires.front)) in
+    let took = c.take.ensures.take _ (c.put.ensures.put.front _ _ (c.room.ensures.look.front _ _ c.requires.front)) in
     does_accept c.args.cells.now c.accept.new.self _ _ _ _ c.args.from c.args.direction c.args.amount c.args.label c.args.place
-    may c.accept.ensures c.room.ensures.look c.put.ensures took
+    may c.accept.ensures c.room.ensures.look c.put.ensures.put took
 
 pub returns-then-accepts-clause-queued : goal.returns-then-accepts-clause-queued
 returns-then-accepts-clause-queued g c =
@@ -22,6 +22,6 @@ returns-else-accepts-clause-does g c =
     let on : c.may_refuse-refuses.result ≡ true = grind (arith, common_steps) in
     let may = c.may_refuse-refuses.ensures.0 on in
     let told = c.label-told.ensures.value ∙ ap (λ (x : Border). label_in c.args.cells.now x.near) c.border-border.ensures.value in
-    let took = c.take-else-accepts.ensures _ (c.put-else-accepts.ensures.front _ _ (c.room.ensures.look.front _ _ c.requires.front)) in
+    let took = c.take-else-accepts.ensures.take _ (c.put-else-accepts.ensures.put.front _ _ (c.room.ensures.look.front _ _ c.requires.front)) in
     does_refuse c.args.cells.now _ _ _ _ c.args.from c.args.direction c.args.amount c.args.label c.args.place c.label-told.result
-    may told c.room.ensures.look c.put-else-accepts.ensures took
+    may told c.room.ensures.look c.put-else-accepts.ensures.put took

@@ -6,7 +6,7 @@ use Rattle.discharge.proofs.receive.receive_refused.Goals as goal
 pub returns-clause-does : goal.returns-clause-does
 returns-clause-does g c =
     does_return c.args.cells.now c.take_back.new.self _ _ c.args.from c.args.direction c.args.flight.amount c.args.flight.label c.args.told c.args.place
-    (c.may_return.ensures.0 c.if-not-may_return.false) c.take_back.ensures (c.take.ensures _ c.requires.front)
+    (c.may_return.ensures.0 c.if-not-may_return.false) c.take_back.ensures (c.take.ensures.take _ c.requires.front)
 
 pub returns-clause-queued : goal.returns-clause-queued
 returns-clause-queued g c =

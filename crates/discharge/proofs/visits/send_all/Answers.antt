@@ -1,4 +1,4 @@
-use Rattle.std.proofs.Common.{◌≡◌, ℕ, inl, inr, sym, subst, arith}
+use Rattle.std.proofs.Common.{◌≡◌, ℕ, inl, inr, sym, ◌∙◌, subst, arith}
 use Rattle.std.proofs.lemmas.Bool.{cases_lt}
 use Rattle.block_net.specs.Views.{BlockView}
 use Rattle.discharge.specs.Steps.{IsSure, Send}
@@ -13,6 +13,7 @@ borders-preserved g c =
     let was = g.W.Ways.seen c.args.ways.now in
     let seen = g.W.Ways.seen c.borders.ways in
     record {
+      fixed = told.fixed ∙ inv.fixed;
       few = omega arith;
       does = does_more old c.borders.cells c.try_send-count.new.cells was seen (g.W.Ways.seen c.try_send-count.new.ways) c.borders.count c.try_send-count.result inv.does told.does;
       queue = λ w active. inv.queue w (told.queue w active);

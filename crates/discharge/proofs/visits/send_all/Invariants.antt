@@ -6,6 +6,7 @@ use Rattle.discharge.proofs.visits.send_all.Given as goal
 
 abbrev pub invariant-borders : goal.invariant-borders
 invariant-borders g l = record {
+  fixed : g.W.Ways.fixed l.ways ≡ g.W.Ways.fixed l.fn.ways;
   few : l.count ≤ l.limit;
   does : Does l.fn.cells (g.W.Ways.seen l.fn.ways) l.count l.cells (g.W.Ways.seen l.ways);
   queue : (w : ℕ) → IsActive l.cells w → IsActive l.fn.cells w;

@@ -13,8 +13,8 @@ invariant_of-self c =
     let on = (and_parts (is_other e c.args.to) (nat_lt (length (now_to e c.args.to)) (room_at e.now.rooms e.block c.args.to)) room).0 in
     put_kept e c.put.new.self c.args.to c.args.letter.message c.self.invariant on c.put.ensures.messages c.put.ensures.rooms
 
-pub returns : goal.returns
-returns c =
+pub returns-clause-put : goal.returns-clause-put
+returns-clause-put c =
     let e = ends_view c.self.inside.block c.self.inside.blocks c.self.inside.first.value c.self.inside.ways c.self.inside.slots.items c.self.inside.arcs in
     let room : (seen_by e).room c.args.to ≡ true = subst (λ (q : EndsView). (seen_by q).room c.args.to ≡ true) (sym c.self.view_is) c.requires.room in
     let on = (and_parts (is_other e c.args.to) (nat_lt (length (now_to e c.args.to)) (room_at e.now.rooms e.block c.args.to)) room).0 in

@@ -12,8 +12,8 @@ invariant_of-self c =
     let found = front_some e c.args.from some in
     take_kept e c.take.new.self c.args.from found.0 c.self.invariant found.1 c.take.ensures.messages c.take.ensures.rooms
 
-pub returns : goal.returns
-returns c =
+pub returns-clause-take : goal.returns-clause-take
+returns-clause-take c =
     let e = ends_view c.self.inside.block c.self.inside.blocks c.self.inside.first.value c.self.inside.ways c.self.inside.slots.items c.self.inside.arcs in
     let e' = ends_view c.self.inside.block c.self.inside.blocks c.self.inside.first.value c.take.new.self c.self.inside.slots.items c.self.inside.arcs in
     subst (λ (q : EndsView). (l : Letter) → (seen_by q).front c.args.from ≡ Some l → IsTake c.args.from l.message (seen_by q) (seen_by e')) c.self.view_is
