@@ -2,3 +2,4 @@ pub mod Taking
 pub mod Lowering
 pub mod Answering
 pub mod Ending
+pub mod Turned

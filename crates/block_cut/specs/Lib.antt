@@ -1,3 +1,4 @@
 pub mod Lowers
 pub mod Takes
 pub mod Ends
+pub mod Turns

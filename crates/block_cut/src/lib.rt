@@ -10,6 +10,7 @@ mod ends;
 mod solver;
 mod sweeps;
 mod takes;
+mod turns;
 mod visits;
 mod waiting;
 
