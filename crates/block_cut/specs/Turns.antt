@@ -8,8 +8,8 @@ use Rattle.block_net.specs.Views.{BlockView}
 use Rattle.block_net.specs.Whole.{Whole}
 use Rattle.turn_laws.specs.Seats.{IsSeated, state_with}
 
--- n events of the core lead from the state with the one block and ways to that with the other, which is sound,
--- and the count falls by at least as much
+-- n events of the core lead from the state with the one block and ways to that with the other, which is
+-- sound, and the count falls by at least as much
 pub record IsReached
     (w : Whole) (b got n : ℕ) (old new : BlockView) (before after : List (List (List Message)))
     : Type 0 where
@@ -26,5 +26,6 @@ pub record IsReached
 abbrev pub ReachesFrom
     : ℕ → ℕ → ℕ → BlockView → BlockView → List (List (List Message)) → List (List (List Message)) → Type 0
 ReachesFrom blocks b n old new before after =
-    (w : Whole) (got : ℕ) → length w.blocks ≡ blocks → IsSeated w b old → IsSound (state_with w b old before got)
+    (w : Whole) (got : ℕ)
+    → length w.blocks ≡ blocks → IsSeated w b old → IsSound (state_with w b old before got)
     → IsReached w b got n old new before after
