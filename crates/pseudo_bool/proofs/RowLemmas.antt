@@ -18,10 +18,10 @@ use Rattle.pseudo_bool.specs.Rows.{triple_term, triple_at, term_of, terms_of, Is
 
 -- the row at a place keeps a term of the energy
 pub row_is_term : (n : ℕ) (ts : List Triple) (rows : List Row) (i : ℕ) → i < length rows → All (IsTerm n) (terms_of ts rows)
-    → IsTerm n (term_of ts (get_or rows i (RowOne 0 [])))
+    → IsTerm n (term_of ts (get_or rows i (RowOne [] [])))
 row_is_term n ts rows i l h =
     let here = h i (One 0 []) (rw (length-map rows (term_of ts)) l) in
-    rw (get_or-map (term_of ts) rows i (RowOne 0 []) (One 0 []) l) at here
+    rw (get_or-map (term_of ts) rows i (RowOne [] []) (One 0 []) l) at here
 
 -- the same of a row that was read
 pub read_is_term : (n : ℕ) (ts : List Triple) (rows : List Row) (i : ℕ) (row : Row) → i < length rows → row ≡ get_or rows i row
@@ -109,13 +109,13 @@ pub record IsStep (start total value : ℤ) (f : Row → ℤ) (rows : List Row) 
 pub sum_step : (start total value : ℤ) (f : Row → ℤ) (rows : List Row) (i : ℕ)
     → i < length rows → length rows ≤ 8388608
     → total ≡ start +ℤ int_sum_by f (take i rows) → unsigned_abs total ≤ 1000000000000000 + 1000000000 * i
-    → value ≡ f (get_or rows i (RowOne 0 [])) → unsigned_abs value ≤ 1000000000
+    → value ≡ f (get_or rows i (RowOne [] [])) → unsigned_abs value ≤ 1000000000
     → IsStep start total value f rows i
 sum_step start total value f rows i l count sum small is within =
     let next : unsigned_abs (total +ℤ value) ≤ 1000000000000000 + 1000000000 * (i + 1) = omega (arith, abs-add total value) in
     record {
       fits = within_fits 10000000000000000 (total +ℤ value) (omega arith) (omega arith);
-      sum = omega (arith, ints, int_sum_by_more f rows i (RowOne 0 []) l);
+      sum = omega (arith, ints, int_sum_by_more f rows i (RowOne [] []) l);
       small = next;
     }
 

@@ -1,4 +1,4 @@
-use Rattle.std.specs.Prelude.{ℕ, ◌<◌, ◌≤◌, List, [], All, length, map, slice_index_or}
+use Rattle.std.specs.Prelude.{ℕ, ◌+◌, ◌*◌, ◌<◌, ◌≤◌, List, [], All, length, map, slice_index, slice_index_or}
 use Rattle.pseudo_bool.specs.declared.term.Term.{Term}
 use Rattle.pseudo_bool.specs.declared.term.Term.TheVariants.{One, Two, Three}
 use Rattle.pseudo_bool.specs.declared.row.Row.{Row}
@@ -14,10 +14,14 @@ abbrev pub triple_at : List Triple → ℕ → Triple
 triple_at triples place =
     slice_index_or triples place (record { first = 0; second = 0; third = 0; table = [] })
 
+-- the number that three bytes keep, the lowest first
+unfoldable pub number_of : List ℕ → ℕ
+number_of bytes = slice_index bytes 0 + 256 * slice_index bytes 1 + 65536 * slice_index bytes 2
+
 -- the term that a row keeps
 abbrev pub term_of : List Triple → Row → Term
-term_of triples (RowOne first table) = One first table
-term_of triples (RowTwo first second table) = Two first second table
+term_of triples (RowOne first table) = One (number_of first) table
+term_of triples (RowTwo first second table) = Two (number_of first) (number_of second) table
 term_of triples (RowThree place) = triple_term (triple_at triples place)
 
 -- the terms that the rows keep

@@ -4,7 +4,7 @@ ghost use Rattle.pseudo_bool.specs.Formula.{IsEnergy, IsTerm, IsWithin, IsValue,
 ghost use Rattle.pseudo_bool.specs.Refusals.{IsAccepted, IsAdded, IsRefusal};
 ghost use Rattle.pseudo_bool.specs.Rows.{term_of, triple_term, IsKept};
 
-use crate::row::{Row, Triple, narrow};
+use crate::row::{Row, Triple, narrow, shorten};
 use crate::{CONSTANT_LIMIT, EnergyError, TERM_LIMIT, Term, VALUE_LIMIT, VARIABLE_LIMIT};
 use std::alloc::Global;
 use std::marker::Model;
@@ -160,7 +160,7 @@ impl Energy {
         if !are_values(&table) {
             return Err(EnergyError::ValueRange);
         }
-        self.add_row(Row::One(first, narrow(&table)))
+        self.add_row(Row::One(shorten(first), narrow(&table)))
     }
 
     /// Adds a term of two variables at the end of the list: its numbers at 00, 01, 10 and 11, where the
@@ -181,7 +181,7 @@ impl Energy {
         if !are_values(&table) {
             return Err(EnergyError::ValueRange);
         }
-        self.add_row(Row::Two(first, second, narrow(&table)))
+        self.add_row(Row::Two(shorten(first), shorten(second), narrow(&table)))
     }
 
     /// Adds a term of three variables at the end of the list: its numbers at 000, 001, 010, 011, 100, 101,

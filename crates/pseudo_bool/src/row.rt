@@ -1,16 +1,38 @@
-ghost use Rattle.std.specs.Prelude.{◌≡◌, All, length};
+ghost use Rattle.std.specs.Prelude.{◌≡◌, ◌<◌, ◌^◌, All, length};
 ghost use Rattle.pseudo_bool.specs.Formula.{term_value, assignment, IsTerm, IsValue};
-ghost use Rattle.pseudo_bool.specs.Rows.{term_of, triple_term, IsKept};
+ghost use Rattle.pseudo_bool.specs.Rows.{number_of, term_of, triple_term, IsKept};
 
 use crate::Term;
 
 /// A term of one or two variables as the energy keeps it, or the place of one of three in a list of its own,
-/// so that the rows of shorter terms stay small. A number of a table fits 32 bits.
+/// so that the rows of shorter terms stay small: 24 bytes. A number of a table fits 32 bits, that of a variable three bytes,
+/// the lowest first.
 #[derive(Clone, Copy)]
 pub enum Row {
-    One(u32, [i32; 2]),
-    Two(u32, u32, [i32; 4]),
+    One([u8; 3], [i32; 2]),
+    Two([u8; 3], [u8; 3], [i32; 4]),
     Three(u32),
+}
+
+/// The number of a variable in three bytes.
+#[tactic(auto, unfolding(crate::specs::Rows::number_of))]
+pub fn shorten(variable: u32) -> [u8; 3]
+    requires { variable < 2 ^ 24 }
+    ensures { number_of result ≡ variable }
+{
+    [
+        (variable % 256) as u8,
+        (variable / 256 % 256) as u8,
+        (variable / 65536) as u8,
+    ]
+}
+
+/// The number of a variable that was kept in three bytes.
+#[tactic(auto, unfolding(crate::specs::Rows::number_of))]
+fn number(bytes: &[u8; 3]) -> u32
+    ensures { result ≡ number_of bytes.now }
+{
+    u32::from(bytes[0]) + 256 * u32::from(bytes[1]) + 65536 * u32::from(bytes[2])
 }
 
 /// A term of three variables.
@@ -76,8 +98,10 @@ impl Row {
         ensures { result ≡ term_of triples.now self.now }
     {
         match self {
-            Row::One(first, table) => Term::One(*first, widen(table)),
-            Row::Two(first, second, table) => Term::Two(*first, *second, widen(table)),
+            Row::One(first, table) => Term::One(number(first), widen(table)),
+            Row::Two(first, second, table) => {
+                Term::Two(number(first), number(second), widen(table))
+            }
             Row::Three(place) => {
                 let it = &triples[*place as usize];
                 Term::Three(it.first, it.second, it.third, widen(&it.table))
@@ -93,8 +117,10 @@ impl Row {
         ensures within { IsValue result }
     {
         match self {
-            Row::One(first, table) => i64::from(table[usize::from(bits[*first as usize])]),
-            Row::Two(first, second, table) => pair_value(*first, *second, table, bits),
+            Row::One(first, table) => i64::from(table[usize::from(bits[number(first) as usize])]),
+            Row::Two(first, second, table) => {
+                pair_value(number(first), number(second), table, bits)
+            }
             Row::Three(place) => triples[*place as usize].value(bits),
         }
     }
