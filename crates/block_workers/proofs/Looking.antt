@@ -5,6 +5,7 @@ use mathlib.Core.List.{IsPrefix}
 use Rattle.std.proofs.lemmas.Bool.{cases_eq, eq-eqb, ne_eqb}
 use Rattle.std.proofs.lemmas.List.{length-set, map-append}
 use Rattle.std.proofs.lemmas.Grind.{common_steps}
+use Rattle.std.proofs.lemmas.Slice.Zip.{AllZip-long}
 use Rattle.parcel.specs.declared.message.Message.{Message}
 use Rattle.discharge.specs.declared.letter.Letter.{Letter}
 use Rattle.discharge.specs.Seen.{Seen, IsLook, IsPut, IsTake, add_to}
@@ -42,6 +43,16 @@ others_set : (ports : List Port) (k : ℕ) (q d : Port) → k < length ports →
 others_set [] k q d below leads = absurd (omega arith)
 others_set (p ∷ ports) zero q d below leads = ap (λ (n : ℕ). n ∷ others ports) leads
 others_set (p ∷ ports) (suc k) q d below leads = ap (λ (ns : List ℕ). other p ∷ ns) (others_set ports k q d (omega (arith, below)) leads)
+
+same_others : (a b : List Port) → AreSame a b → others b ≡ others a
+same_others [] [] same = refl
+same_others [] (q ∷ b) same = absurd same
+same_others (p ∷ a) [] same = absurd same
+same_others (p ∷ a) (q ∷ b) same = rw (same.0.other, same_others a b same.1) refl
+
+pub found_same : (a b : List Port) (places : List ℕ) → AreSame a b → AreFound a places → AreFound b places
+found_same a b places same found j low =
+    subst (λ (ns : List ℕ). slice_get places (slice_index ns j) ≡ Some j) (sym (same_others a b same)) (found j (omega (arith, AllZip-long IsSamePort a b same)))
 
 pub found_set : (ports : List Port) (places : List ℕ) (k : ℕ) (q d : Port) → AreFound ports places → k < length ports → other q ≡ other (get_or ports k d) → AreFound (set ports k q) places
 found_set ports places k q d found below leads j low =
@@ -88,7 +99,7 @@ put_set ports c k q d l at puts = record {
   sent = logs_set (λ (p : Port). messages (put p)) ports c k q d l.message at puts.same.other (ap messages puts.put ∙ map-append (λ (x : Letter). x.message) (put (get_or ports k d)) (l ∷ []));
   taken = read_more [] (λ (p : Port). messages (taken p)) (λ x y. y ≡ x) (λ x. refl) ports k q d at.place puts.same.other (ap messages puts.taken);
   front = read_more None (λ (p : Port). first p) (λ x y. (l : Letter) → x ≡ Some l → y ≡ Some l) (λ x l h. h) ports k q d at.place puts.same.other
-    (λ m h. ap (λ (w : List Letter). slice_get w 0) puts.waiting ∙ h);
+      (λ m h. ap (λ (w : List Letter). slice_get w 0) puts.waiting ∙ h);
 }
 
 pub take_set : (ports : List Port) (c k : ℕ) (q d : Port) (l : Letter) → IsPlace ports c k → Takes l (get_or ports k d) q → IsTake c l.message (seen ports) (seen (set ports k q))
@@ -148,4 +159,4 @@ take_there ports c k p q r at is takes l front =
     let one : first p ≡ Some r = ap (λ (w : List Letter). slice_get w 0) takes.waiting in
     let same : r ≡ l = some_is l r (sym one ∙ (sym (front_there ports c k p at is) ∙ front)) in
     subst (λ (x : Letter). IsTake c x.message (seen ports) (seen (set ports k q))) same
-      (take_set ports c k q p r at (subst (λ (x : Port). Takes r x q) is takes))
+    (take_set ports c k q p r at (subst (λ (x : Port). Takes r x q) is takes))

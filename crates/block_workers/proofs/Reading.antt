@@ -61,7 +61,7 @@ pub read_more : {X : Type 0} (none : X) (read : Port → X) (R : X → X → Typ
 read_more none read R same [] k q d below leads step c = absurd (omega arith)
 read_more none read R same (p ∷ ports) zero q d below leads step c =
     subst (λ (n : ℕ). R (cond (eqb c (other p)) (read p) (read_at none read ports c)) (cond (eqb c n) (read q) (read_at none read ports c))) (sym leads)
-      (cond_both R (eqb c (other p)) (read p) (read q) _ _ step (same _))
+    (cond_both R (eqb c (other p)) (read p) (read q) _ _ step (same _))
 read_more none read R same (p ∷ ports) (suc k) q d below leads step c =
     cond_both R (eqb c (other p)) (read p) (read p) _ _ (same _) (read_more none read R same ports k q d (omega (arith, below)) leads step c)
 

@@ -1,9 +1,11 @@
 ghost use Rattle.std.specs.Prelude.{◌≡◌, ◌≤◌, ◌<◌, ◌^◌, length, All, IfOk, MatchOption};
-ghost use Rattle.block_workers.specs.Seeing.{AreFound, AreRising, IsPlace, LeadNotTo};
+ghost use Rattle.discharge.specs.Seen.{IsLook};
+ghost use Rattle.block_workers.specs.Seeing.{AreFound, AreRising, AreSame, IsPlace, LeadNotTo, seen};
 
 use block_rings::Port;
 use discharge::Letter;
 use std::alloc::{AllocError, Global};
+use std::mem::replace;
 
 /// A block's ends of the rings to the other blocks.
 #[derive(Drop)]
@@ -44,13 +46,25 @@ fn places_of(alloc: Global, ports: &Vec<Port>, blocks: u32) -> Result<Vec<u32>, 
     Ok(places)
 }
 
+/// Whether a letter is in front of one of the ports.
+fn has_letter(ports: &mut Vec<Port>) -> bool
+    ensures look { IsLook (seen ports.old.items) (seen ports.new.items) }
+    ensures same { AreSame ports.old.items ports.new.items }
+{
+    for k in 0..ports.len() {
+        if ports[k].front().is_some() {
+            return true;
+        }
+    }
+    false
+}
+
 impl Ends {
     ghost use Rattle.std.specs.Prelude.{Option, Some, is_some, true};
     ghost use Rattle.round_laws.specs.Workers.{IsFair};
     ghost use Rattle.discharge.specs.declared.letter.Letter.{Letter};
-    ghost use Rattle.discharge.specs.Seen.{IsLook, IsPut, IsTake};
+    ghost use Rattle.discharge.specs.Seen.{IsPut, IsTake};
     ghost use Rattle.block_workers.specs.Ends.{ports};
-    ghost use Rattle.block_workers.specs.Seeing.{AreSame, seen};
 
     /// The ends with these ports, which lead to blocks below `blocks` by rising numbers. The only error is that
     /// memory runs out.
@@ -67,6 +81,18 @@ impl Ends {
         ensures { result ≡ self.ports }
     {
         self.ports
+    }
+
+    /// Takes the ends out, and leaves none.
+    pub(crate) fn taken(&mut self) -> Ends
+        ensures { result ≡ self.old }
+    {
+        let alloc = *self.ports.allocator();
+        let none = Ends {
+            ports: Vec::new(alloc),
+            places: Vec::new(alloc),
+        };
+        replace(self, none)
     }
 
     /// Whether there is room for a letter to another block. There is none where no port leads there.
@@ -115,5 +141,12 @@ impl Ends {
         if let Some(k) = place_of(&self.ports, &self.places, from) {
             self.ports[k].take();
         }
+    }
+    /// Whether a letter is in front of one of the rings.
+    pub(crate) fn has_letter(&mut self) -> bool
+        ensures look { IsLook (seen (ports self.old)) (seen (ports self.new)) }
+        ensures same { AreSame (ports self.old) (ports self.new) }
+    {
+        has_letter(&mut self.ports)
     }
 }

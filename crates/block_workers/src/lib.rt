@@ -6,5 +6,8 @@
 #![tactic(auto)]
 
 mod ends;
+mod seat;
+mod turn_ends;
 
 pub use ends::Ends;
+pub use seat::Seat;

@@ -82,13 +82,15 @@ impl<J: Job> TurnBook<J> {
         true
     }
 
-    /// Marks a block idle or busy, and answers whether some block is marked busy. Takes no memory.
+    /// Marks a block idle or busy, and answers whether some block is marked busy. A number that is no block's
+    /// changes no mark. Takes no memory.
     pub fn mark(&mut self, block: u32, idle: bool) -> bool
-        requires { block < length self.old.busy }
         ensures book { self.new ≡ marked self.old block idle }
         ensures answer { IsTrue result ↔ HasBusy self.new }
     {
-        self.busy[block as usize] = !idle;
+        if (block as usize) < self.busy.len() {
+            self.busy[block as usize] = !idle;
+        }
         self.busy.iter().any(|busy| *busy)
     }
 

@@ -1,0 +1,5 @@
+use Rattle.block_workers.proofs.Looking.{same_more}
+use Rattle.block_workers.proofs.turn_ends.TurnEndsWays.front.Goals as goal
+
+pub invariant_of-self : goal.invariant_of-self
+invariant_of-self g c = same_more _ _ _ c.self.invariant c.front.ensures.same

@@ -1,0 +1,93 @@
+ghost use Rattle.std.specs.Prelude.{◌≡◌, ◌<◌, ◌≤◌};
+ghost use Rattle.discharge.specs.Steps.{DoesMany, IsSure, Step, held};
+ghost use Rattle.block_workers.specs.Ends.{ports};
+ghost use Rattle.block_workers.specs.Seeing.{AreSame, seen};
+
+use crate::Ends;
+use discharge::{Block, Letter, Ways, turn};
+use std::marker::{Brand, Model, PhantomData};
+
+/// The ports with which a turn begins.
+trait Start {
+    ghost use Rattle.std.specs.Prelude.{List};
+    ghost use Rattle.block_rings.specs.declared.port.Port.{Port};
+
+    ghost start: { List Port };
+}
+
+impl Start for Brand {
+    ghost use Rattle.std.specs.Prelude.{[]};
+
+    ghost start = { [] };
+}
+
+/// Ends of which each port is the one with which the turn began.
+#[derive(Drop)]
+struct TurnEnds<N: Start> {
+    ends: Ends,
+    of: PhantomData<N>,
+}
+
+impl<N: Start> Model for TurnEnds<N> {
+    ghost use Rattle.std.specs.Prelude.{List};
+    ghost use Rattle.block_rings.specs.declared.port.Port.{Port};
+    ghost use Rattle.block_workers.specs.Ends.{ports};
+    ghost use Rattle.block_workers.specs.Seeing.{AreSame};
+
+    ghost Value = { List Port };
+
+    ghost view = { λ ways. ports ways.ends };
+
+    ghost invariant = { λ ways. AreSame N.start (ports ways.ends) };
+}
+
+impl<N: Start> Ways for TurnEnds<N> {
+    ghost seen = { λ ways. seen ways };
+
+    fn room(&mut self, to: u32) -> bool {
+        self.ends.room(to)
+    }
+
+    fn put(&mut self, to: u32, letter: Letter) {
+        self.ends.put(to, letter);
+    }
+
+    fn front(&mut self, from: u32) -> Option<Letter> {
+        self.ends.front(from)
+    }
+
+    fn take(&mut self, from: u32) {
+        self.ends.take(from);
+    }
+}
+
+/// A turn that begins with these ports.
+fn turn_from<N: Start>(block: &mut Block, ends: Ends, limit: u32) -> (Ends, u32)
+    requires { N.start ≡ ports ends }
+    ensures few { result.1 ≤ limit }
+    ensures does { DoesMany
+        (held block.old (seen (ports ends))) result.1 (held block.new (seen (ports result.0))) }
+    ensures some { 0 < limit → (e : Step) → IsSure block.old (seen (ports ends)) e → 0 < result.1 }
+    ensures same { AreSame (ports ends) (ports result.0) }
+{
+    let mut ways = TurnEnds::<N> {
+        ends,
+        of: PhantomData,
+    };
+    let count = turn(block, &mut ways, limit);
+    (ways.ends, count)
+}
+
+/// A turn of a block with its ends: a list of the block's own enabled events, at most `limit`, and at least
+/// one where one is sure. Answers how many. Takes no memory.
+pub(crate) fn turn_with(block: &mut Block, ends: &mut Ends, limit: u32) -> u32
+    ensures few { result ≤ limit }
+    ensures does { DoesMany
+        (held block.old (seen (ports ends.old))) result (held block.new (seen (ports ends.new))) }
+    ensures some { 0 < limit → (e : Step) → IsSure block.old (seen (ports ends.old)) e → 0 < result }
+    ensures same { AreSame (ports ends.old) (ports ends.new) }
+{
+    let (back, count) = turn_from::<Brand>(block, ends.taken(), limit);
+    *ends = back;
+    count
+}
