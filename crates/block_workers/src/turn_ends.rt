@@ -1,4 +1,4 @@
-ghost use Rattle.std.specs.Prelude.{◌≡◌, ◌<◌, ◌≤◌};
+ghost use Rattle.std.specs.Prelude.{◌≡◌, ◌<◌, ◌≤◌, true};
 ghost use Rattle.discharge.specs.Steps.{DoesMany, IsSure, Step, held};
 ghost use Rattle.block_workers.specs.Ends.{ports};
 ghost use Rattle.block_workers.specs.Seeing.{AreSame, seen};
@@ -42,6 +42,10 @@ impl<N: Start> Model for TurnEnds<N> {
 }
 
 impl<N: Start> Ways for TurnEnds<N> {
+    type Fixed = bool;
+
+    ghost fixed = { λ ways. true };
+
     ghost seen = { λ ways. seen ways };
 
     fn room(&mut self, to: u32) -> bool {
