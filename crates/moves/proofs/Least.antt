@@ -4,7 +4,7 @@ use Rattle.std.proofs.lemmas.Int.{ints}
 use Rattle.std.proofs.lemmas.Bool.{cases_Bool}
 use Rattle.std.proofs.lemmas.Bool.Decides.{nat_tests}
 use Rattle.labellings.specs.declared.change.Move.{Move}
-use Rattle.labellings.specs.declared.change.Move.TheVariants.{Expand, Swap}
+use Rattle.labellings.specs.declared.change.Move.TheVariants.{Expand}
 use Rattle.labellings.specs.Energies.{Instance, IsInstance, energy, labelling, Agrees}
 use Rattle.labellings.specs.Moves.{label_in, made, favoured, IsReached, IsBest, IsAllowed, LabelsWithin}
 use Rattle.labellings.proofs.Energy.{energy-same}

@@ -1,7 +1,7 @@
 -- The energy of a move, and what its least assignment says of the sites.
-use Rattle.std.specs.Prelude.{◌≡◌, ℕ, Bool, List, length, IsTrue, Result, Ok, Err}
+use Rattle.std.specs.Prelude.{ℕ, Bool, List, IsTrue, Result, Ok, Err}
 use Rattle.labellings.specs.declared.change.Move.{Move}
-use Rattle.labellings.specs.Energies.{Instance, IsInstance, labelling}
+use Rattle.labellings.specs.Energies.{Instance, labelling}
 use Rattle.labellings.specs.Moves.{IsAllowed}
 use Rattle.pseudo_bool.specs.Formula.{assignment}
 use Rattle.compile_cut.specs.Shown.{IsSmallestLeastAssignment}

@@ -1,5 +1,5 @@
 -- What an addition answers, cause by cause.
-use Rattle.std.proofs.Common.{◌≡◌, ℕ, ◌<◌, ◌≤◌, All, length, Result, Ok, Err, OnOk, IfErr, inl, inr, refl, arith, rules}
+use Rattle.std.proofs.Common.{◌≡◌, ℕ, ◌<◌, length, Result, Ok, Err, OnOk, IfErr, inl, inr, refl, arith, rules}
 use Rattle.std.specs.Prelude.{IsOkUnless}
 use Rattle.pseudo_bool.specs.declared.error.EnergyError.{EnergyError}
 use Rattle.pseudo_bool.specs.declared.error.EnergyError.TheVariants.{NoSuchVariable, SameVariable, ValueRange, TooManyTerms, OutOfMemory}

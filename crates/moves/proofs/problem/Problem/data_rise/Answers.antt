@@ -1,4 +1,4 @@
-use Rattle.std.proofs.Common.{◌≡◌, ◌≤◌, ◌∙◌, ℕ, pos, ◌-ℤ◌, ap, arith, w64, to_z}
+use Rattle.std.proofs.Common.{◌≡◌, ◌≤◌, ◌∙◌, pos, ◌-ℤ◌, ap, arith, w64, to_z}
 use Rattle.sums.specs.Sums.{sum_below}
 use Rattle.labellings.specs.Energies.{labelling}
 use Rattle.labellings.specs.Moves.{made}
