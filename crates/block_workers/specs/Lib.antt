@@ -1,3 +1,4 @@
 pub mod Seeing
 pub mod Ends
 pub mod Turns
+pub mod Workers

@@ -8,6 +8,8 @@
 mod ends;
 mod seat;
 mod turn_ends;
+mod worker;
 
 pub use ends::Ends;
 pub use seat::Seat;
+pub use worker::Worker;
