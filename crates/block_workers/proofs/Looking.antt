@@ -1,6 +1,5 @@
 -- What a block sees after a change of one port.
-use Rattle.std.proofs.Common.{◌≡◌, ℕ, zero, suc, ◌+◌, ◌<◌, ◌≤◌, ◌↔◌, Bool, true, false, cond, eqb, nat_lt, List, [], ◌∷◌, ◌++◌, length, set, get_or, slice_index, slice_get, Option, Some, None, IsTrue, map, refl, sym, ◌∙◌, ap, subst, inl, inr, arith}
-use Rattle.std.specs.List.{AllZip}
+use Rattle.std.proofs.Common.{◌≡◌, ℕ, zero, suc, ◌<◌, ◌≤◌, ◌↔◌, Bool, true, false, cond, eqb, nat_lt, List, [], ◌∷◌, ◌++◌, length, set, get_or, slice_index, slice_get, Some, None, IsTrue, refl, sym, ◌∙◌, ap, subst, inl, inr, arith}
 use mathlib.Core.List.{IsPrefix}
 use Rattle.std.proofs.lemmas.Bool.{cases_eq, eq-eqb, ne_eqb}
 use Rattle.std.proofs.lemmas.List.{length-set, map-append}
@@ -8,10 +7,10 @@ use Rattle.std.proofs.lemmas.Grind.{common_steps}
 use Rattle.std.proofs.lemmas.Slice.Zip.{AllZip-long}
 use Rattle.parcel.specs.declared.message.Message.{Message}
 use Rattle.discharge.specs.declared.letter.Letter.{Letter}
-use Rattle.discharge.specs.Seen.{Seen, IsLook, IsPut, IsTake, add_to}
+use Rattle.discharge.specs.Seen.{IsLook, IsPut, IsTake, add_to}
 use Rattle.block_rings.specs.declared.port.Port.{Port}
-use Rattle.block_rings.specs.Ports.{other, put, taken, free, first, waiting, IsSamePort, Looks, Puts, Takes}
-use Rattle.block_workers.specs.Seeing.{messages, others, read_at, seen, AreSame, AreFound, IsPlace, LeadNotTo}
+use Rattle.block_rings.specs.Ports.{other, put, taken, free, first, IsSamePort, Looks, Puts, Takes}
+use Rattle.block_workers.specs.Seeing.{messages, others, read_at, seen, AreSame, AreFound, IsPlace}
 use Rattle.block_workers.proofs.Reading.{other_at, read_more, read_set, read_here}
 
 -- ---- the same ports

@@ -1,13 +1,10 @@
 -- The blocks of a worker, one turn after another.
 use Rattle.std.proofs.Common.{◌≡◌, ℕ, ◌+◌, ◌*◌, ◌≤◌, ◌<◌, List, length, set, get_or, refl, sym, ◌∙◌, ap, subst, inl, inr, arith, get_or-set_other}
 use Rattle.std.proofs.Math.Nat.{suc-mul}
-use Rattle.std.proofs.lemmas.Bool.{cases_eq, cases_lt}
+use Rattle.std.proofs.lemmas.Bool.{cases_eq}
 use Rattle.std.proofs.lemmas.List.{length-set}
 use Rattle.std.proofs.lemmas.Grind.{common_steps, get_or-set_at}
-use Rattle.discharge.specs.Steps.{Step, IsSure}
 use Rattle.block_workers.specs.declared.seat.Seat.{Seat}
-use Rattle.block_workers.specs.Ends.{ports}
-use Rattle.block_workers.specs.Seeing.{seen}
 use Rattle.block_workers.specs.Turns.{Went, WentOn, most, Worked as WorkedFor}
 use Rattle.block_workers.specs.Workers.{Advanced, Worked, AllAdvanced, AllWorked, AreNew}
 use Rattle.block_workers.proofs.Working.{went_none, went_more}

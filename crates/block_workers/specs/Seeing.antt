@@ -1,5 +1,5 @@
 -- What a block sees of its ports.
-use Rattle.std.specs.Prelude.{◌≡◌, ℕ, ◌<◌, ◌==◌, nat_lt, Bool, false, cond, List, [], ◌∷◌, length, map, slice_index, slice_get, Some, None}
+use Rattle.std.specs.Prelude.{◌≡◌, ℕ, ◌<◌, ◌==◌, nat_lt, false, cond, List, [], ◌∷◌, length, map, slice_index, slice_get, Some, None}
 use Rattle.std.specs.List.{AllZip}
 use Rattle.parcel.specs.declared.message.Message.{Message}
 use Rattle.discharge.specs.declared.letter.Letter.{Letter}

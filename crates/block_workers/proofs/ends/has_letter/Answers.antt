@@ -1,4 +1,4 @@
-use Rattle.std.proofs.Common.{◌≡◌, ◌<◌, arith}
+use Rattle.std.proofs.Common.{arith}
 use Rattle.std.proofs.lemmas.Grind.{common_steps}
 use Rattle.discharge.proofs.Runs.{look_same, look_more}
 use Rattle.block_workers.specs.Seeing.{seen}

@@ -1,4 +1,4 @@
-use Rattle.std.proofs.Common.{◌≡◌, ◌≤◌, ◌<◌, ℕ, length, Some, slice_get, slice_index, vec_len}
+use Rattle.std.proofs.Common.{◌≡◌, ◌<◌, ℕ, Some, slice_get, slice_index, vec_len}
 use Rattle.block_workers.specs.Seeing.{others}
 use Rattle.block_workers.proofs.ends.places_of.Given as goal
 

@@ -1,10 +1,8 @@
-use Rattle.std.proofs.Common.{◌≡◌, ◌<◌, nat_lt, Some, None, false, true, sym, ◌∙◌, ap, arith}
-use Rattle.std.specs.Option.{is_some}
-use Rattle.std.proofs.lemmas.Grind.{common_steps}
+use Rattle.std.proofs.Common.{None, sym, ◌∙◌}
 use Rattle.block_rings.specs.declared.port.Port.{Port}
-use Rattle.block_rings.specs.Ports.{free, first}
+use Rattle.block_rings.specs.Ports.{first}
 use Rattle.block_workers.proofs.Reading.{read_none}
-use Rattle.block_workers.proofs.Looking.{same_ports, looked, kept, found_kept, room_seen, front_seen, room_there, front_there, put_there, take_there}
+use Rattle.block_workers.proofs.Looking.{same_ports, looked, kept, found_kept, front_seen}
 use Rattle.block_workers.proofs.ends.Ends.front.Goals as goal
 
 pub returns-in_default-clause-same : goal.returns-in_default-clause-same

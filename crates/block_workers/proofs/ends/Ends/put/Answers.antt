@@ -1,10 +1,8 @@
-use Rattle.std.proofs.Common.{◌≡◌, ◌<◌, nat_lt, Some, None, false, true, sym, ◌∙◌, ap, arith}
-use Rattle.std.specs.Option.{is_some}
-use Rattle.std.proofs.lemmas.Grind.{common_steps}
+use Rattle.std.proofs.Common.{◌≡◌, nat_lt, false, true, sym, ◌∙◌}
 use Rattle.block_rings.specs.declared.port.Port.{Port}
-use Rattle.block_rings.specs.Ports.{free, first}
+use Rattle.block_rings.specs.Ports.{free}
 use Rattle.block_workers.proofs.Reading.{read_none}
-use Rattle.block_workers.proofs.Looking.{no_truth, same_ports, looked, kept, found_kept, room_seen, front_seen, room_there, front_there, put_there, take_there}
+use Rattle.block_workers.proofs.Looking.{no_truth, same_ports, kept, found_kept, room_there, put_there}
 use Rattle.block_workers.proofs.ends.Ends.put.Goals as goal
 
 pub put-requires-clause-room : goal.put-requires-clause-room

@@ -1,4 +1,4 @@
-use Rattle.std.proofs.Common.{◌≡◌, ◌<◌, length, ◌∙◌, arith}
+use Rattle.std.proofs.Common.{◌<◌, length, ◌∙◌, arith}
 use Rattle.std.proofs.lemmas.List.{length-set}
 use Rattle.std.proofs.lemmas.Grind.{common_steps}
 use Rattle.block_workers.proofs.Passing.{begun_done, begun_rest}

@@ -1,4 +1,3 @@
-use Rattle.std.proofs.Common.{◌<◌}
 use Rattle.std.proofs.Common.{arith}
 use Rattle.std.proofs.lemmas.Grind.{common_steps}
 use Rattle.block_workers.proofs.Passing.{all_stay, all_set, advanced_turn}
