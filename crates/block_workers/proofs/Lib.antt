@@ -2,3 +2,4 @@ pub mod Reading
 pub mod Looking
 pub mod Working
 pub mod Passing
+pub mod Places

@@ -5,11 +5,13 @@
 //! and takes is what its ports have put and taken.
 #![tactic(auto)]
 
+mod crew;
 mod ends;
 mod seat;
 mod turn_ends;
 mod worker;
 
+pub use crew::{CrewError, all_work};
 pub use ends::Ends;
 pub use seat::Seat;
 pub use worker::Worker;

@@ -173,4 +173,14 @@ impl<J: Job> Worker<J> {
             }
         }
     }
+
+    /// The same for a worker that is moved into a thread and comes back.
+    pub fn worked<R: Wait, G: Gate>(self, rt: &R, book: &Mutex<TurnBook<J>>, gate: &G) -> Worker<J>
+        requires { AreNew self.seats.items }
+        ensures { AllWorked self.seats.items result.seats.items }
+    {
+        let mut worker = self;
+        worker.work(rt, book, gate);
+        worker
+    }
 }

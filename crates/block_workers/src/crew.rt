@@ -1,0 +1,83 @@
+ghost use Rattle.std.specs.Prelude.{◌≡◌, ◌<◌, ℕ, IfOk, slice_index_or, vec_capacity, vec_len};
+ghost use Rattle.block_workers.specs.Workers.{AllWorked, AreNew};
+
+use crate::Worker;
+use std::alloc::{AllocError, Global};
+use std::snapshot::Snapshot;
+use std::sync::{Mutex, Wait};
+use std::thread;
+use std::thread::{Promise, Threads};
+use turn_book::{Job, TurnBook};
+use worker_options::Gate;
+
+/// Why no round of workers came about.
+#[derive(Clone, Copy, PartialEq, Eq, Debug)]
+pub enum CrewError {
+    /// Memory ran out, before the first worker started.
+    OutOfMemory,
+    /// A worker was refused by the system. Those that had started were joined.
+    Workers,
+}
+
+impl From<AllocError> for CrewError {
+    fn from(_: AllocError) -> CrewError {
+        CrewError::OutOfMemory
+    }
+}
+
+/// The worker that comes back worked on the blocks of this one.
+#[derive(Drop)]
+struct WorkedOn<J: Job>(Snapshot<Worker<J>>);
+
+impl<J: Job> Promise<Worker<J>> for WorkedOn<J> {
+    ghost kept_by = { λ promise worker. AllWorked promise.0.value.seats.items worker.seats.items };
+}
+
+/// Each worker moved with its blocks into a thread of its own, and back. All growths come before the first
+/// worker starts.
+pub fn all_work<J: Job + Sync, R: Threads + Wait + Sync, G: Gate>(
+    rt: &R,
+    alloc: Global,
+    workers: Vec<Worker<J>>,
+    book: &Mutex<TurnBook<J>>,
+    gate: &G,
+) -> Result<Vec<Worker<J>>, CrewError>
+    requires { (i : ℕ) (d : _) → i < vec_len workers
+        → AreNew (slice_index_or workers.items i d).seats.items }
+    ensures len { IfOk result (λ v. vec_len v ≡ vec_len workers) }
+    ensures each { IfOk result (λ v. (i : ℕ) (d : _) → i < vec_len workers
+        → AllWorked (slice_index_or workers.items i d).seats.items (slice_index_or v.items i d).seats.items) }
+{
+    let mut handles = Vec::with_capacity(alloc, workers.len())?;
+    let mut back = Vec::with_capacity(alloc, workers.len())?;
+    thread::scope(
+        thread::scope_env(),
+        rt,
+        |scope| -> Result<Vec<Worker<J>>, CrewError>
+            requires new { (i : ℕ) (d : _) → i < vec_len workers
+                → AreNew (slice_index_or workers.items i d).seats.items }
+            requires handles { (vec_len handles ≡ 0) × (vec_capacity handles ≡ vec_len workers) }
+            requires back { (vec_len back ≡ 0) × (vec_capacity back ≡ vec_len workers) }
+            ensures len { IfOk result (λ v. vec_len v ≡ vec_len workers) }
+            ensures each { IfOk result (λ v. (i : ℕ) (d : _) → i < vec_len workers
+                → AllWorked (slice_index_or workers.items i d).seats.items
+                    (slice_index_or v.items i d).seats.items) }
+        {
+            for worker in workers {
+                let promise = WorkedOn(Snapshot::of(&worker));
+                let work = move || -> Worker<J>
+                    requires { AreNew worker.seats.items }
+                    ensures { AllWorked worker.seats.items result.seats.items }
+                { worker.worked(rt, book, gate) };
+                match scope.spawn_with(promise, work) {
+                    Ok(handle) => handles.push_reserved(handle),
+                    Err(_) => return Err(CrewError::Workers),
+                }
+            }
+            for handle in handles {
+                back.push_reserved(handle.join(rt));
+            }
+            Ok(back)
+        },
+    )
+}
