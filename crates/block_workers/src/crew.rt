@@ -61,7 +61,7 @@ pub fn all_work<J: Job + Sync, R: Threads + Wait + Sync, G: Gate>(
             ensures len { IfOk result (λ v. vec_len v ≡ vec_len workers) }
             ensures each { IfOk result (λ v. (i : ℕ) (d : _) → i < vec_len workers
                 → AllWorked (slice_index_or workers.items i d).seats.items
-                    (slice_index_or v.items i d).seats.items) }
+                (slice_index_or v.items i d).seats.items) }
         {
             for worker in workers {
                 let promise = WorkedOn(Snapshot::of(&worker));
