@@ -69,6 +69,13 @@ impl Block {
             others,
         })
     }
+
+    /// The block alone. Takes no memory.
+    pub fn into_cells(self) -> Cells
+        ensures { result ≡ self }
+    {
+        self.cells
+    }
 }
 
 /// Does a list of the block's own enabled events and answers how many: at most `limit`, and at least one

@@ -1,7 +1,9 @@
-//! Tests of what workers are told and share: the ranges of their options, a book from which two threads draw,
-//! and a ring between two threads.
+//! Tests of what workers are told, share and do: the ranges of their options, a book from which two threads draw,
+//! a ring between two threads, and two blocks at one worker and at two.
 #![tactic(auto)]
 
+#[cfg(test)]
+mod crews;
 #[cfg(test)]
 mod drawing;
 #[cfg(test)]
