@@ -198,6 +198,15 @@ fn ends(
 /// After how many events of an order the rest is left to the solver.
 const MIDDLES: &[usize] = &[1, 5, 12];
 
+/// The state taken apart and put together again; none where its pieces tell another amount that the sink got.
+fn put_together(state: State) -> Option<State> {
+    let pieces = state.into_pieces();
+    if pieces.given() != pieces.got {
+        return None;
+    }
+    Some(pieces.into_state())
+}
+
 /// Whether the solver comes to what the case tells from the middle of a run in so many blocks.
 fn is_finished(
     rt: &(impl Abort + AllocGlobal),
@@ -212,7 +221,10 @@ fn is_finished(
     for from in order {
         step(&mut core, events.as_slice(), *from);
     }
-    let solved = block_cut::finish(rt.alloc(), core.into_state())?;
+    let Some(state) = put_together(core.into_state()) else {
+        return Ok(false);
+    };
+    let solved = block_cut::finish(rt.alloc(), state)?;
     Ok(check_cut(rt.alloc(), net, &solved)? && is_solved(&solved, case))
 }
 
