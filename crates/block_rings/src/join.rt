@@ -1,5 +1,5 @@
-ghost use Rattle.std.specs.Prelude.{◌≡◌, ◌≤◌, ◌++◌, IfOk, vec_len, vec_capacity};
-ghost use Rattle.block_rings.specs.Ports.{IsNewPort, LeadsTo, Looks, TakesAll, capacity, put, taken};
+ghost use Rattle.std.specs.Prelude.{◌≡◌, ◌≤◌, ◌++◌, IfOk, length, vec_len, vec_capacity};
+ghost use Rattle.block_rings.specs.Ports.{IsNewPort, LeadsTo, Looks, TakesAll, capacity, put, taken, waiting};
 
 use crate::port::Port;
 use crate::rule::Fair;
@@ -35,6 +35,20 @@ pub fn join_blocks(
     Ok((first_port, second_port))
 }
 
+/// Looks at what is left in the ring from one port to another, once neither is in use elsewhere: how many
+/// letters wait there. What was put is then what was taken, followed by what was seen. Takes no memory.
+pub fn see_left(from: &mut Port, to: &mut Port) -> usize
+    requires joined { LeadsTo from.old to.old }
+    ensures left { put from.old ≡ taken to.old ++ waiting to.new }
+    ensures count { result ≡ length (waiting to.new) }
+    ensures room { result ≤ capacity from.old }
+    ensures from { Looks from.old from.new }
+    ensures to { Looks to.old to.new }
+{
+    from.to_ring.slots_beside(&mut to.from_ring);
+    to.from_ring.slots_beside(&mut from.to_ring)
+}
+
 /// Takes all that is left in the ring from one port to another into a list with room for a full ring. What
 /// was put is then what was taken, followed by that list. Takes no memory.
 pub fn take_left(from: &mut Port, to: &mut Port, left: &mut Vec<Letter>)
@@ -45,8 +59,7 @@ pub fn take_left(from: &mut Port, to: &mut Port, left: &mut Vec<Letter>)
     ensures from { Looks from.old from.new }
     ensures to { TakesAll left.new.items to.old to.new }
 {
-    from.to_ring.slots_beside(&mut to.from_ring);
-    let count = to.from_ring.slots_beside(&mut from.to_ring);
+    let count = see_left(from, to);
     for _ in 0..count {
         left.push_reserved(to.from_ring.pop_known());
     }

@@ -9,6 +9,6 @@ mod join;
 mod port;
 mod rule;
 
-pub use join::{join_blocks, take_left};
+pub use join::{join_blocks, see_left, take_left};
 pub use port::Port;
 pub use rule::Fair;
