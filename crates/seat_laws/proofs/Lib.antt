@@ -5,3 +5,4 @@ pub mod Joined
 pub mod Rounds
 pub mod Places
 pub mod Example
+pub mod Quiet

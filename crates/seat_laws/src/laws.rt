@@ -1,7 +1,7 @@
 //! Laws of seats. These functions do nothing: the contract of each is a law.
 
 ghost use Rattle.seat_laws.specs.Rows.{RowBComesBack};
-ghost use Rattle.seat_laws.specs.Laws.{SeatsMakeRound, StartIsSure, RoomsTellGot};
+ghost use Rattle.seat_laws.specs.Laws.{SeatsMakeRound, StartIsSure, RoomsTellGot, QuietIsStart, RoundIsHeld};
 
 /// Blocks that came back, each after steps of its own, are a round from the state that they showed before:
 /// what they show now, with the messages that are left on the way, is a sound state, whatever the schedule
@@ -25,4 +25,15 @@ pub fn rooms_tell_got()
 /// There are such blocks: of two nodes in two blocks one sends a parcel that the other does not take.
 pub fn row_b_comes_back()
     ensures { RowBComesBack }
+{}
+
+/// A sound and quiet state of blocks is a state before a round: no message is on the way.
+pub fn quiet_is_start()
+    ensures { QuietIsStart }
+{}
+
+/// After a round, ways with a room for each direction between their blocks have room for what is left on them, and
+/// the state is one that the pieces can be put together to.
+pub fn round_is_held()
+    ensures { RoundIsHeld }
 {}
