@@ -2,7 +2,7 @@
 ghost use Rattle.std.specs.Prelude.{◌≡◌, IfOk, codes};
 ghost use Rattle.clap.specs.Words.{new_app};
 ghost use Rattle.command_line.specs.App.{Makes, gco_app, requiring_subcommand};
-ghost use Rattle.command_line.specs.Tables.{AddsChapters, app_for};
+ghost use Rattle.command_line.specs.Tables.{AddsChapters, app_for, with_chapters};
 
 use crate::help;
 use crate::rules::{Choice, RESTORE, SEGMENT, STEREO, with_options};
@@ -56,7 +56,14 @@ const CHAPTERS: &[Chapter] = &[
 pub fn gco_command<'a>(alloc: Global) -> Result<Command<'a>, AllocError>
     ensures { IfOk result (Makes gco_app) }
 {
-    with_chapters(alloc, top_command(alloc), CHAPTERS)
+    with_chapters(alloc, top_command(alloc), chapters())
+}
+
+// The commands, which make the command line whole.
+fn chapters() -> &'static [Chapter]
+    ensures { with_chapters (requiring_subcommand (new_app (codes "gco"))) result.now ≡ gco_app }
+{
+    CHAPTERS
 }
 
 // The command line without its commands.
