@@ -1,0 +1,293 @@
+-- Two blocks get a port to one another more.
+use Rattle.std.proofs.Common.{◌≡◌, ℕ, zero, suc, ◌+◌, ◌<◌, ◌≤◌, Bool, true, false, cond, eqb, ◌||◌, List, [], ◌∷◌, ◌++◌, length, map, set, replicate, get_or, slice_index, Option, Some, None, is_some, refl, sym, ◌∙◌, ap, subst, inl, inr, arith, get_or-set_same, get_or-set_other}
+use Rattle.std.proofs.Math.Seq.{get_or-append_seam}
+use Rattle.std.proofs.lemmas.Bool.{cases_eq, cases_lt, eq-eqb, ne_eqb}
+use Rattle.std.proofs.lemmas.List.{length-set, length-replicate, get_or-map}
+use Rattle.block_net.specs.Views.{BlockView, border_in}
+use Rattle.block_rings.specs.declared.port.Port.{Port}
+use Rattle.block_rings.specs.Ports.{other, IsNewPort}
+use Rattle.block_workers.specs.Seeing.{others, read_at, AreRising}
+use Rattle.rounds.specs.Joined.{port_to, IsPaired, AreJoined}
+use Rattle.rounds.specs.Joining.{HasPair, AreBegun, AreScanned, flag}
+use Rattle.rounds.proofs.Pushing.{each_more, rising_more, read_push}
+
+-- ---- rows
+
+pub row_at : {R X : Type 0} (items : R → List X) (rows : List R) (b : ℕ) (row : R) → b < length rows → row ≡ get_or rows b row → get_or (map items rows) b [] ≡ items row
+row_at items rows b row low is = get_or-map items rows b row [] low ∙ sym (ap items is)
+
+pub row_here : (done rest all : List (List Port)) (l : List Port) → done ++ l ∷ rest ≡ all → get_or all (length done) [] ≡ l
+row_here done rest all l e = ap (λ x. get_or x (length done) []) (sym e) ∙ get_or-append_seam done l rest []
+
+row_none : (n x : ℕ) → get_or {A = List Port} (replicate n []) x [] ≡ []
+row_none zero zero = refl
+row_none zero (suc x) = refl
+row_none (suc n) zero = refl
+row_none (suc n) (suc x) = row_none n x
+
+-- ---- choices
+
+no_truth : false ≡ true → ⊥
+no_truth e = cc
+
+or_first : (a c : Bool) → a ≡ true → a || c ≡ true
+or_first true c e = refl
+or_first false c e = absurd (no_truth e)
+
+or_second : (a c : Bool) → c ≡ true → a || c ≡ true
+or_second true c e = refl
+or_second false c e = e
+
+nothing : (p : Port) → None ≡ Some p → ⊥
+nothing p e = cc
+
+some_is : (p r : Port) → Some p ≡ Some r → p ≡ r
+some_is p r e = cc
+
+mirrored : (o m : Option Port) → ((p : Port) → o ≡ Some p → IsPaired p m) → is_some o ≡ true → is_some m ≡ true
+mirrored None m pair some = absurd (no_truth some)
+mirrored (Some p) m pair some = ap (λ (x : Option Port). is_some x) (pair p refl).is
+
+-- ---- the beginning, the next block, and the end
+
+pub begun_none : (ring n : ℕ) (rows : List (List Bool)) (lists : List (List Port)) → lists ≡ replicate n [] → AreBegun ring n 0 1 rows lists
+begun_none ring n rows lists none =
+    let empty : (x : ℕ) → get_or lists x [] ≡ [] = λ x. ap (λ l. get_or l x []) none ∙ row_none n x in
+    let no_port : (x y : ℕ) (p : Port) → port_to lists x y ≡ Some p → ⊥ =
+    λ x y p is. nothing p (sym (ap (λ l. read_at None (λ (q : Port). Some q) l y) (empty x)) ∙ is) in
+    record {
+      len = ap length none ∙ length-replicate n [];
+      rising = λ x. subst (AreRising n) (sym (empty x)) (record { below = λ k lt. absurd (omega (arith, lt)); rising = λ j k less lt. absurd (omega (arith, lt)) });
+      low_here = λ x k lt h. let e = ap length (empty x) in absurd (omega (arith, lt, e));
+      low_above = λ x k lt h. let e = ap length (empty x) in absurd (omega (arith, lt, e));
+      low_beyond = λ x k lt h g. let e = ap length (empty x) in absurd (omega (arith, lt, e));
+      fresh = λ x y p is. absurd (no_port x y p is);
+      paired = λ x y p is. absurd (no_port x y p is);
+      led_before = λ x y h g f e. absurd (omega (arith, h));
+      led_here = λ y h g f e. absurd (omega (arith, h, g));
+    }
+
+pub begun_next : (ring n b c : ℕ) (rows : List (List Bool)) (lists : List (List Port)) → n ≤ c → AreBegun ring n b c rows lists → AreBegun ring n (b + 1) (b + 2) rows lists
+begun_next ring n b c rows lists all was = record {
+  len = was.len;
+  rising = was.rising;
+  low_here = λ x k lt h. omega (arith, was.low_above x k lt (omega (arith, h)));
+  low_above = λ x k lt h. omega (arith, was.low_above x k lt (omega (arith, h)));
+  low_beyond = λ x k lt h g. omega (arith, was.low_above x k lt (omega (arith, h)));
+  fresh = was.fresh;
+  paired = was.paired;
+  led_before = λ x y h g f e. elim (cases_lt x b) [
+    | inl low ↦ was.led_before x y low g f e
+    | inr high ↦
+        let is : b ≡ x = omega (arith, h, high) in
+        subst (λ i. is_some (port_to lists i y) ≡ true) is
+        (was.led_here y (omega (arith, is, g)) (omega (arith, f, all)) f (subst (λ i. flag rows i y || flag rows y i ≡ true) (sym is) e))
+  ];
+  led_here = λ y h g f e. absurd (omega (arith, h, g));
+}
+
+unflagged : (a : Bool) → a ≡ false → a ≡ true → ⊥
+unflagged a off on = no_truth (sym off ∙ on)
+
+pub begun_pass : (ring n b c : ℕ) (rows : List (List Bool)) (lists : List (List Port)) → flag rows b c || flag rows c b ≡ false
+    → AreBegun ring n b c rows lists → AreBegun ring n b (c + 1) rows lists
+begun_pass ring n b c rows lists off was = record {
+  len = was.len;
+  rising = was.rising;
+  low_here = λ x k lt h. omega (arith, was.low_here x k lt h);
+  low_above = was.low_above;
+  low_beyond = λ x k lt h g. was.low_beyond x k lt h (omega (arith, g));
+  fresh = was.fresh;
+  paired = was.paired;
+  led_before = was.led_before;
+  led_here = λ y h g f e. elim (cases_lt y c) [
+    | inl low ↦ was.led_here y h low f e
+    | inr high ↦
+        let is : y ≡ c = omega (arith, g, high) in
+        absurd (unflagged (flag rows b c || flag rows c b) off (subst (λ i. flag rows b i || flag rows i b ≡ true) is e))
+  ];
+}
+
+pub all_joined : (ring n b c : ℕ) (cells : List BlockView) (rows : List (List Bool)) (lists : List (List Port)) → length cells ≡ n → n ≤ b
+    → AreScanned cells rows → AreBegun ring n b c rows lists → AreJoined ring cells lists
+all_joined ring n b c cells rows lists is all scan was = record {
+  len = was.len ∙ sym is;
+  rising = λ x. subst (λ m. AreRising m (get_or lists x [])) (sym is) (was.rising x);
+  fresh = was.fresh;
+  paired = was.paired;
+  led = λ x j d low at below off.
+      let y : ℕ = (border_in (get_or cells x d) j).to in
+      let set : flag rows x y ≡ true = (scan.each x d low).set j at below in
+      elim (cases_lt x y) [
+        | inl less ↦ was.led_before x y (omega (arith, low, is, all)) less (omega (arith, below, is)) (or_first (flag rows x y) (flag rows y x) set)
+        | inr more ↦
+            let less : y < x = (let apart : y ≡ x → ⊥ = off in omega (arith, more, apart)) in
+            mirrored (port_to lists y x) (port_to lists x y) (λ p e. was.paired y x p e)
+            (was.led_before y x (omega (arith, below, is, all)) less (omega (arith, low, is)) (or_second (flag rows y x) (flag rows x y) set))
+      ];
+}
+
+-- ---- one pair more
+
+module _ (ring n b c : ℕ) (rows : List (List Bool)) (old new : List (List Port)) (order : b < c) (below : c < n) (was : AreBegun ring n b c rows old) (h : HasPair ring b c old new) where
+  abbrev p : Port
+  p = h.first
+
+  abbrev q : Port
+  q = h.second
+
+  abbrev first_row : List Port
+  first_row = get_or old b [] ++ h.first ∷ []
+
+  abbrev second_row : List Port
+  second_row = get_or old c [] ++ h.second ∷ []
+
+  at_first : get_or new b [] ≡ first_row
+  at_first =
+      let long : b < length old = omega (arith, was.len, order, below) in
+      ap (λ l. get_or l b []) h.lists
+      ∙ (get_or-set_other (set old b first_row) c b second_row [] (omega (arith, order)) ∙ get_or-set_same old b first_row [] long)
+
+  at_second : get_or new c [] ≡ second_row
+  at_second =
+      let long : c < length (set old b first_row) = omega (arith, was.len, below, length-set old b first_row) in
+      ap (λ l. get_or l c []) h.lists ∙ get_or-set_same (set old b first_row) c second_row [] long
+
+  at_else : (x : ℕ) → (x ≡ b → ⊥) → (x ≡ c → ⊥) → get_or new x [] ≡ get_or old x []
+  at_else x off_b off_c =
+      ap (λ l. get_or l x []) h.lists
+      ∙ (get_or-set_other (set old b first_row) c x second_row [] off_c ∙ get_or-set_other old b x first_row [] off_b)
+
+  rows_case : (P : ℕ → List Port → Type 0) → P b first_row → P c second_row → ((x : ℕ) → (x ≡ b → ⊥) → (x ≡ c → ⊥) → P x (get_or old x [])) → (x : ℕ) → P x (get_or new x [])
+  rows_case P at_b at_c at_x x = elim (cases_eq x b) [
+    | inl is ↦ subst (λ i. P i (get_or new i [])) (sym is) (subst (P b) (sym at_first) at_b)
+    | inr off_b ↦ elim (cases_eq x c) [
+      | inl is ↦ subst (λ i. P i (get_or new i [])) (sym is) (subst (P c) (sym at_second) at_c)
+      | inr off_c ↦ subst (P x) (sym (at_else x off_b off_c)) (at_x x off_b off_c)
+    ]
+  ]
+
+  low_first : (k : ℕ) → k < length (get_or old b []) → slice_index (others (get_or old b [])) k < other p
+  low_first k lt = omega (arith, was.low_here b k lt (omega arith), h.of_first.other)
+
+  low_second : (k : ℕ) → k < length (get_or old c []) → slice_index (others (get_or old c [])) k < other q
+  low_second k lt = omega (arith, was.low_beyond c k lt order (omega arith), h.of_second.other)
+
+  port_first : (y : ℕ) → port_to new b y ≡ cond (eqb y c) (Some p) (port_to old b y)
+  port_first y =
+      ap (λ l. read_at None (λ (r : Port). Some r) l y) at_first
+      ∙ (read_push None (λ (r : Port). Some r) (get_or old b []) p y low_first ∙ ap (λ i. cond (eqb y i) (Some p) (port_to old b y)) h.of_first.other)
+
+  port_second : (y : ℕ) → port_to new c y ≡ cond (eqb y b) (Some q) (port_to old c y)
+  port_second y =
+      ap (λ l. read_at None (λ (r : Port). Some r) l y) at_second
+      ∙ (read_push None (λ (r : Port). Some r) (get_or old c []) q y low_second ∙ ap (λ i. cond (eqb y i) (Some q) (port_to old c y)) h.of_second.other)
+
+  hit_first : port_to new b c ≡ Some p
+  hit_first = port_first c ∙ ap (λ t. cond t (Some p) (port_to old b c)) (eq-eqb c c refl)
+
+  hit_second : port_to new c b ≡ Some q
+  hit_second = port_second b ∙ ap (λ t. cond t (Some q) (port_to old c b)) (eq-eqb b b refl)
+
+  miss : (x y : ℕ) → (x ≡ b → y ≡ c → ⊥) → (x ≡ c → y ≡ b → ⊥) → port_to new x y ≡ port_to old x y
+  miss x y off_first off_second = elim (cases_eq x b) [
+    | inl is ↦ subst (λ i. port_to new i y ≡ port_to old i y) (sym is) (port_first y ∙ ap (λ t. cond t (Some p) (port_to old b y)) (ne_eqb y c (off_first is)))
+    | inr off_b ↦ elim (cases_eq x c) [
+      | inl is ↦ subst (λ i. port_to new i y ≡ port_to old i y) (sym is) (port_second y ∙ ap (λ t. cond t (Some q) (port_to old c y)) (ne_eqb y b (off_second is)))
+      | inr off_c ↦ ap (λ l. read_at None (λ (r : Port). Some r) l y) (at_else x off_b off_c)
+    ]
+  ]
+
+  ports_case : (P : ℕ → ℕ → Option Port → Type 0) → P b c (Some p) → P c b (Some q)
+      → ((x y : ℕ) → (x ≡ b → y ≡ c → ⊥) → (x ≡ c → y ≡ b → ⊥) → P x y (port_to old x y)) → (x y : ℕ) → P x y (port_to new x y)
+  ports_case P first second rest x y =
+      let apart : x ≡ b → x ≡ c → ⊥ = λ e f. absurd (omega (arith, e, f, order)) in
+      let missed : (x ≡ b → y ≡ c → ⊥) → (x ≡ c → y ≡ b → ⊥) → P x y (port_to new x y) =
+      λ o1 o2. subst (P x y) (sym (miss x y o1 o2)) (rest x y o1 o2) in
+      elim (cases_eq x b) [
+        | inl xb ↦ elim (cases_eq y c) [
+          | inl yc ↦ subst (λ i. P i y (port_to new i y)) (sym xb) (subst (λ j. P b j (port_to new b j)) (sym yc) (subst (P b c) (sym hit_first) first))
+          | inr off ↦ missed (λ e. off) (λ e f. apart xb e)
+        ]
+        | inr off_b ↦ elim (cases_eq x c) [
+          | inl xc ↦ elim (cases_eq y b) [
+            | inl yb ↦ subst (λ i. P i y (port_to new i y)) (sym xc) (subst (λ j. P c j (port_to new c j)) (sym yb) (subst (P c b) (sym hit_second) second))
+            | inr off ↦ missed (λ e f. off_b e) (λ e. off)
+          ]
+          | inr off_c ↦ missed (λ e f. off_b e) (λ e f. off_c e)
+        ]
+      ]
+
+  new_len : length new ≡ n
+  new_len = ap length h.lists ∙ (length-set (set old b first_row) c second_row ∙ (length-set old b first_row ∙ was.len))
+
+  new_rising : (x : ℕ) → AreRising n (get_or new x [])
+  new_rising =
+      rows_case (λ x l. AreRising n l) (rising_more n (get_or old b []) p (was.rising b) low_first (omega (arith, h.of_first.other, below)))
+      (rising_more n (get_or old c []) q (was.rising c) low_second (omega (arith, h.of_second.other, order, below))) (λ x o1 o2. was.rising x)
+
+  new_low_here : (x k : ℕ) → k < length (get_or new x []) → b ≤ x → slice_index (others (get_or new x [])) k < c + 1
+  new_low_here =
+      rows_case (λ x l. (k : ℕ) → k < length l → b ≤ x → slice_index (others l) k < c + 1)
+      (λ k lt g. each_more (λ m. m < c + 1) (get_or old b []) p (λ j low. omega (arith, low_first j low, h.of_first.other)) (omega (arith, h.of_first.other)) k lt)
+      (λ k lt g. each_more (λ m. m < c + 1) (get_or old c []) q (λ j low. omega (arith, low_second j low, h.of_second.other, order)) (omega (arith, h.of_second.other, order)) k lt)
+      (λ x o1 o2 k lt g. omega (arith, was.low_here x k lt g))
+
+  new_low_above : (x k : ℕ) → k < length (get_or new x []) → b < x → slice_index (others (get_or new x [])) k ≤ b
+  new_low_above =
+      rows_case (λ x l. (k : ℕ) → k < length l → b < x → slice_index (others l) k ≤ b)
+      (λ k lt g. absurd (omega (arith, g)))
+      (λ k lt g. each_more (λ m. m ≤ b) (get_or old c []) q (λ j low. omega (arith, low_second j low, h.of_second.other)) (omega (arith, h.of_second.other)) k lt)
+      (λ x o1 o2 k lt g. was.low_above x k lt g)
+
+  new_low_beyond : (x k : ℕ) → k < length (get_or new x []) → b < x → c + 1 ≤ x → slice_index (others (get_or new x [])) k < b
+  new_low_beyond =
+      rows_case (λ x l. (k : ℕ) → k < length l → b < x → c + 1 ≤ x → slice_index (others l) k < b)
+      (λ k lt g f. absurd (omega (arith, g)))
+      (λ k lt g f. absurd (omega (arith, f)))
+      (λ x o1 o2 k lt g f. was.low_beyond x k lt g (omega (arith, f)))
+
+  new_fresh : (x y : ℕ) (r : Port) → port_to new x y ≡ Some r → IsNewPort y ring r
+  new_fresh =
+      ports_case (λ x y o. (r : Port) → o ≡ Some r → IsNewPort y ring r)
+      (λ r e. subst (IsNewPort c ring) (some_is p r e) h.of_first)
+      (λ r e. subst (IsNewPort b ring) (some_is q r e) h.of_second)
+      (λ x y o1 o2. was.fresh x y)
+
+  new_paired : (x y : ℕ) (r : Port) → port_to new x y ≡ Some r → IsPaired r (port_to new y x)
+  new_paired =
+      ports_case (λ x y o. (r : Port) → o ≡ Some r → IsPaired r (port_to new y x))
+      (λ r e. subst (λ s. IsPaired s (port_to new c b)) (some_is p r e) (record { mate = q; is = hit_second; there = h.there; back = h.back }))
+      (λ r e. subst (λ s. IsPaired s (port_to new b c)) (some_is q r e) (record { mate = p; is = hit_first; there = h.back; back = h.there }))
+      (λ x y o1 o2 r e.
+      let pair = was.paired x y r e in
+      record { mate = pair.mate; is = miss y x (λ yb xc. o2 xc yb) (λ yc xb. o1 xb yc) ∙ pair.is; there = pair.there; back = pair.back })
+
+  new_led_before : (x y : ℕ) → x < b → x < y → y < n → flag rows x y || flag rows y x ≡ true → is_some (port_to new x y) ≡ true
+  new_led_before =
+      ports_case (λ x y o. x < b → x < y → y < n → flag rows x y || flag rows y x ≡ true → is_some o ≡ true)
+      (λ g f e d. refl) (λ g f e d. refl) (λ x y o1 o2. was.led_before x y)
+
+  new_led_here : (y : ℕ) → b < y → y < c + 1 → y < n → flag rows b y || flag rows y b ≡ true → is_some (port_to new b y) ≡ true
+  new_led_here y more less low e = elim (cases_lt y c) [
+    | inl l ↦
+        let o1 : b ≡ b → y ≡ c → ⊥ = λ s t. absurd (omega (arith, l, t)) in
+        let o2 : b ≡ c → y ≡ b → ⊥ = λ s t. absurd (omega (arith, order, s)) in
+        ap (λ (o : Option Port). is_some o) (miss b y o1 o2) ∙ was.led_here y more l low e
+    | inr g ↦
+        let is : c ≡ y = omega (arith, g, less) in
+        subst (λ i. is_some (port_to new b i) ≡ true) is (ap (λ (o : Option Port). is_some o) hit_first)
+  ]
+
+  pub begun_more : AreBegun ring n b (c + 1) rows new
+  begun_more = record {
+    len = new_len;
+    rising = new_rising;
+    low_here = new_low_here;
+    low_above = new_low_above;
+    low_beyond = new_low_beyond;
+    fresh = new_fresh;
+    paired = new_paired;
+    led_before = new_led_before;
+    led_here = new_led_here;
+  }

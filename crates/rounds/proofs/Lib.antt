@@ -1,0 +1,4 @@
+pub mod Pairs
+pub mod Pushing
+pub mod Joining
+pub mod Scanning

@@ -1,0 +1,40 @@
+-- Flags of the blocks that directions lead to.
+use Rattle.std.proofs.Common.{◌≡◌, ℕ, zero, suc, ◌+◌, ◌<◌, Bool, List, [], ◌∷◌, ◌++◌, length, get_or, refl, sym, ◌∙◌, ap, subst, inl, inr, arith}
+use Rattle.std.proofs.Math.Seq.{get_or-append_seam}
+use Rattle.std.proofs.lemmas.Bool.{cases_eq}
+use Rattle.std.proofs.lemmas.List.{get_or_append_left}
+use Rattle.block_net.specs.Views.{BlockView}
+use Rattle.rounds.specs.Joining.{AreScanned, IsScanned}
+
+any_default : {X : Type 0} (xs : List X) (k : ℕ) (d e : X) → k < length xs → get_or xs k d ≡ get_or xs k e
+any_default [] k d e low = absurd (omega (arith, low))
+any_default (x ∷ xs) zero d e low = refl
+any_default (x ∷ xs) (suc k) d e low = any_default xs k d e (omega (arith, low))
+
+pub scans_more : (cells : List BlockView) (rows : List (List Bool)) (row : List Bool) (block : BlockView) (k : ℕ) → length rows ≡ k → k < length cells
+    → block ≡ get_or cells k block → IsScanned (length cells) block row
+    → ((i : ℕ) (d : BlockView) → i < k → IsScanned (length cells) (get_or cells i d) (get_or rows i []))
+    → (i : ℕ) (d : BlockView) → i < k + 1 → IsScanned (length cells) (get_or cells i d) (get_or (rows ++ row ∷ []) i [])
+scans_more cells rows row block k long low is last before i d less = elim (cases_eq i k) [
+  | inl same ↦
+      let at : get_or (rows ++ row ∷ []) i [] ≡ row = ap (λ m. get_or (rows ++ row ∷ []) m []) (same ∙ sym long) ∙ get_or-append_seam rows row [] [] in
+      let one : block ≡ get_or cells i d = is ∙ (any_default cells k block d low ∙ ap (λ m. get_or cells m d) (sym same)) in
+      subst (λ r. IsScanned (length cells) (get_or cells i d) r) (sym at) (subst (λ b. IsScanned (length cells) b row) one last)
+  | inr off ↦
+      let i_low : i < length rows = omega (arith, long, less, off) in
+      subst (λ r. IsScanned (length cells) (get_or cells i d) r) (sym (get_or_append_left rows (row ∷ []) [] i i_low)) (before i d (omega (arith, less, off)))
+]
+
+at_place : {X : Type 0} → (xs : List X) (k : ℕ) → k < length xs → X
+at_place [] k below = absurd (omega (arith, below))
+at_place (x ∷ xs) k below = x
+
+pub all_scans : (cells : List BlockView) (rows : List (List Bool)) (k : ℕ) → length rows ≡ k → k ≡ length cells
+    → ((i : ℕ) (d : BlockView) → i < k → IsScanned (length cells) (get_or cells i d) (get_or rows i [])) → AreScanned cells rows
+all_scans cells rows k long all before = record {
+  square = record {
+    len = long ∙ all;
+    each = λ b low. (before b (at_place cells b low) (omega (arith, low, all))).len;
+  };
+  each = λ b d low. before b d (omega (arith, low, all));
+}

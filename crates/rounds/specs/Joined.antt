@@ -1,0 +1,30 @@
+-- Ports of blocks to one another.
+use Rattle.std.specs.Prelude.{◌≡◌, ℕ, ◌<◌, true, List, [], length, slice_index_or}
+use Rattle.std.specs.Prelude.{Option, Some, None, is_some}
+use Rattle.block_net.specs.Views.{BlockView, border_in}
+use Rattle.block_rings.specs.declared.port.Port.{Port}
+use Rattle.block_rings.specs.Ports.{IsNewPort, LeadsTo}
+use Rattle.block_workers.specs.Seeing.{read_at, AreRising}
+
+-- the port of block b to block c, where it has one
+abbrev pub port_to : List (List Port) → ℕ → ℕ → Option Port
+port_to lists b c = read_at None (λ (p : Port). Some p) (slice_index_or lists b []) c
+
+-- the port p leads to the other port, and that port leads back to it
+pub record IsPaired (p : Port) (other : Option Port) : Type 0 where
+  pub mate : Port
+  pub is : other ≡ Some mate
+  pub there : LeadsTo p mate
+  pub back : LeadsTo mate p
+
+-- of each block the ports to others: new ends of rings, by rising numbers of the others, joined in pairs, and
+-- one to each other block to which a direction of the block leads
+pub record AreJoined (ring : ℕ) (cells : List BlockView) (lists : List (List Port)) : Type 0 where
+  pub len : length lists ≡ length cells
+  pub rising : (b : ℕ) → AreRising (length cells) (slice_index_or lists b [])
+  pub fresh : (b c : ℕ) (p : Port) → port_to lists b c ≡ Some p → IsNewPort c ring p
+  pub paired : (b c : ℕ) (p : Port) → port_to lists b c ≡ Some p → IsPaired p (port_to lists c b)
+  pub led : (b j : ℕ) (d : BlockView) → b < length cells → j < length (slice_index_or cells b d).borders
+      → (border_in (slice_index_or cells b d) j).to < length cells
+      → ¬ ((border_in (slice_index_or cells b d) j).to ≡ b)
+      → is_some (port_to lists b (border_in (slice_index_or cells b d) j).to) ≡ true

@@ -1,0 +1,7 @@
+//! Rounds of running workers: rings between blocks.
+#![tactic(auto)]
+
+mod flags;
+mod rings;
+
+pub use rings::join_all;
