@@ -1,12 +1,11 @@
 ghost use Rattle.std.specs.Prelude.{◌≡◌, ◌<◌, ℕ, IfOk, slice_index_or, vec_len};
-ghost use Rattle.block_rings.specs.Ports.{other};
 ghost use Rattle.block_workers.specs.Workers.{AreNew};
 
 use block_net::{ARC_LIMIT, Cells, Parts};
-use block_rings::{Port, join_blocks};
 use block_workers::{CrewError, Ends, Seat, Worker, all_work};
 use discharge::Block;
 use flow_network::{Arc, NODE_LIMIT, Net};
+use rounds::join_all;
 use std::alloc::{AllocError, Global};
 use std::marker::Brand;
 use std::process::Abort;
@@ -34,7 +33,7 @@ impl Gate for Open {
 
 /// Two nodes, of which the first gets 4 and the second 1, the second can give the sink 3, and an arc of capacity 4
 /// leads from the first to the second; each in a block of its own.
-fn two_blocks(rt: &impl Abort, alloc: Global) -> Result<(Cells, Cells), AllocError> {
+fn two_blocks(rt: &impl Abort, alloc: Global) -> Result<Vec<Cells>, AllocError> {
     let sources = Vec::from_slice(alloc, &[4, 1])?;
     let sinks = Vec::from_slice(alloc, &[0, 3])?;
     let arc = Arc {
@@ -47,32 +46,24 @@ fn two_blocks(rt: &impl Abort, alloc: Global) -> Result<(Cells, Cells), AllocErr
     let net = Net::new(sources, sinks, arcs);
     assert!(*rt; net.arcs().len() <= ARC_LIMIT);
     let parts = Parts::split(alloc, &net, 2)?;
-    let mut blocks = parts.blocks;
-    let Some(second) = blocks.pop() else {
-        rt.abort()
-    };
-    let Some(first) = blocks.pop() else {
-        rt.abort()
-    };
-    Ok((first, second))
+    Ok(parts.blocks)
 }
 
-/// A block of two, with a port to the other.
+/// A block with its ends of the rings.
 fn seat_of(
     rt: &impl Abort,
     alloc: Global,
     number: u32,
-    cells: Cells,
-    port: Port,
+    cells: Option<Cells>,
+    ends: Option<Ends>,
 ) -> Result<Seat, AllocError>
-    requires { other port < 2 }
     ensures { IfOk result (λ seat. seat.turn ≡ 0) }
 {
+    let (Some(cells), Some(ends)) = (cells, ends) else {
+        rt.abort()
+    };
     let nodes = cells.len();
     assert!(*rt; nodes <= NODE_LIMIT);
-    let mut ports = Vec::new(alloc);
-    ports.push(port)?;
-    let ends = Ends::new(alloc, ports, 2)?;
     let block = Block::new(alloc, cells)?;
     Ok(Seat::new(number, block, nodes as u32, ends))
 }
@@ -82,10 +73,12 @@ fn two_seats(rt: &impl Abort, alloc: Global) -> Result<(Seat, Seat), AllocError>
     ensures first { IfOk result (λ seats. seats.0.turn ≡ 0) }
     ensures second { IfOk result (λ seats. seats.1.turn ≡ 0) }
 {
-    let (first, second) = two_blocks(rt, alloc)?;
-    let (to_second, to_first) = join_blocks(alloc, 0, 1, RING)?;
-    let one = seat_of(rt, alloc, 0, first, to_second)?;
-    let two = seat_of(rt, alloc, 1, second, to_first)?;
+    let mut blocks = two_blocks(rt, alloc)?;
+    assert!(*rt; blocks.len() == 2);
+    let mut ends = join_all(alloc, blocks.as_slice(), RING)?;
+    assert!(*rt; ends.len() == 2);
+    let two = seat_of(rt, alloc, 1, blocks.pop(), ends.pop())?;
+    let one = seat_of(rt, alloc, 0, blocks.pop(), ends.pop())?;
     Ok((one, two))
 }
 
