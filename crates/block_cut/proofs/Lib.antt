@@ -3,3 +3,4 @@ pub mod Lowering
 pub mod Answering
 pub mod Ending
 pub mod Turned
+mod Going

@@ -2,3 +2,4 @@ pub mod Lowers
 pub mod Takes
 pub mod Ends
 pub mod Turns
+pub mod Passes

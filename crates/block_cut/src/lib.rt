@@ -7,12 +7,11 @@
 
 mod answers;
 mod ends;
+mod passes;
 mod solver;
 mod sweeps;
 mod takes;
 mod turns;
-mod visits;
-mod waiting;
 
 pub use solver::{finish, solve};
 pub use takes::take_in;

@@ -6,10 +6,9 @@ ghost use Rattle.parcel.specs.Soundness.{IsFinished, count};
 ghost use Rattle.global_relabel.specs.Workspaces.{Serves};
 
 use crate::answers::answer_of;
+use crate::passes::work;
 use crate::sweeps::{try_directions, try_nodes};
 use crate::takes::{take_all, take_in};
-use crate::visits::work;
-use crate::waiting::Waiting;
 use block_core::State;
 use block_net::ARC_LIMIT;
 use flow_network::{Net, Solved};
@@ -33,29 +32,31 @@ fn try_all(state: &mut State) -> bool
 
 /// Messages are taken in, labels become exact, and excess goes on; no where the state is finished then.
 fn advance(
-    state: &mut State,
+    alloc: Global,
+    state: State,
     workspace: &mut Workspace,
-    waiting: &mut Waiting,
-) -> Result<bool, AllocError>
-    requires { Serves state.old.net workspace.old }
-    ensures serves { IfOk result (λ more. Serves state.new.net workspace.new) }
-    ensures net { IfOk result (λ more. state.new.net ≡ state.old.net) }
-    ensures done { IfOk result (λ more. MatchBool more
-        (count state.new < count state.old)
-        (IsFinished state.new)) }
+) -> Result<(State, bool), AllocError>
+    requires { Serves state.net workspace.old }
+    ensures serves { IfOk result (λ r. Serves r.0.net workspace.new) }
+    ensures net { IfOk result (λ r. r.0.net ≡ state.net) }
+    ensures done { IfOk result (λ r. MatchBool r.1
+        (count r.0 < count state)
+        (IsFinished r.0)) }
 {
-    take_in(state);
-    workspace.raise(state);
-    work(state, &workspace.adjacency, waiting)?;
-    Ok(try_all(state))
+    let mut state = state;
+    take_in(&mut state);
+    workspace.raise(&mut state);
+    let mut state = work(alloc, state)?;
+    let more = try_all(&mut state);
+    Ok((state, more))
 }
 
 /// The least cut that a state of a net comes to, with the preflow that certifies it: of all least cuts the
 /// smallest, whatever the blocks did before. Messages may be on the way, and labels need not be exact.
 ///
-/// Takes in what is on the way, and then works in rounds: each begins with exact labels and goes on as the
-/// preflow method does, first in, first out (Goldberg, Tarjan 1988, sections 2 to 4), for at most as many
-/// turns as there are nodes. Refuses only where memory runs out, and drops the state.
+/// Takes in what is on the way, and then works in rounds: each begins with exact labels, and goes on with turns of
+/// the blocks, in each of which the nodes with excess are discharged one after another (Goldberg, Tarjan 1988,
+/// sections 2 to 4). Refuses only where memory runs out, and drops the state.
 pub fn finish(alloc: Global, state: State) -> Result<Solved, AllocError>
     ensures certified { IfOk result (λ s. IsRightCut state.net s) }
     ensures smallest { IfOk result (λ s. IsSmallestLeastCut state.net (side_of s)) }
@@ -63,9 +64,13 @@ pub fn finish(alloc: Global, state: State) -> Result<Solved, AllocError>
 {
     let mut state = state;
     let mut workspace = Workspace::reserve(alloc, state.net())?;
-    let mut waiting = Waiting::new(alloc, state.nodes())?;
-    'rounds: while advance(&mut state, &mut workspace, &mut waiting)? {}
-    answer_of(alloc, &state, workspace)
+    'rounds: loop {
+        let (next, more) = advance(alloc, state, &mut workspace)?;
+        state = next;
+        if !more {
+            return answer_of(alloc, &state, workspace);
+        }
+    }
 }
 
 /// A least cut of the net, with the preflow that certifies it. Of all least cuts it is the smallest: its sink side

@@ -1,7 +1,10 @@
-ghost use Rattle.std.specs.Prelude.{◌≡◌, ◌≤◌};
+ghost use Rattle.std.specs.Prelude.{◌≡◌, ◌*◌, ◌<◌, ◌≤◌, length};
+ghost use Rattle.parcel.specs.Soundness.{IsSquare};
+ghost use Rattle.block_net.specs.Limits.{arc_limit};
 ghost use Rattle.block_cut.specs.Turns.{ReachesFrom};
 
 use crate::ends::Ends;
+use block_core::Mail;
 use discharge::{Block, turn};
 
 /// One turn of a block over the core's ways, by ends that were just made: it does a list of at most `limit` events,
@@ -10,10 +13,37 @@ pub(crate) fn turn_over(block: &mut Block, ends: &mut Ends, limit: u32) -> u32
     requires { ends.old.now ≡ ends.old.first }
     ensures few { result ≤ limit }
     ensures same { ends.new ≡ record ends.old { now = ends.new.now } }
+    ensures rooms { ends.new.now.rooms ≡ ends.old.now.rooms }
     ensures run { ReachesFrom ends.old.blocks ends.old.block result block.old block.new
         ends.old.now.messages ends.new.now.messages }
 {
     let count = turn(block, ends, limit);
     ends.are_ends();
     count
+}
+
+/// One turn of block `b` of so many over the ways that are given, with the table of the directions' places: the
+/// ways and the table afterwards, and how many events it did. Takes no memory.
+pub(crate) fn turn_of(
+    block: &mut Block,
+    ways: Mail,
+    slots: Vec<u32>,
+    b: usize,
+    blocks: usize,
+    arcs: usize,
+    limit: u32,
+) -> (Mail, Vec<u32>, u32)
+    requires block { b < blocks }
+    requires square { IsSquare blocks ways.messages }
+    requires slots { length slots.items ≡ 2 * arcs }
+    requires arcs { arcs ≤ arc_limit }
+    ensures rooms { result.0.rooms ≡ ways.rooms }
+    ensures slots { result.1.items ≡ slots.items }
+    ensures few { result.2 ≤ limit }
+    ensures run { ReachesFrom blocks b result.2 block.old block.new ways.messages result.0.messages }
+{
+    let mut ends = Ends::new(b, blocks, ways, slots, arcs);
+    let count = turn_over(block, &mut ends, limit);
+    let (ways, slots) = ends.into_ways();
+    (ways, slots, count)
 }

@@ -1,0 +1,84 @@
+-- What a turn of a block keeps of the pieces of a state, and the state that they make in the end.
+use Rattle.std.proofs.Common.{◌≡◌, ℕ, ◌+◌, ◌<◌, List, length, slice_set, slice_index_or, sum, refl, sym, ◌∙◌, ap, subst, arith}
+use Rattle.std.proofs.lemmas.List.{length-set, get_or_read_under}
+use Rattle.flow_network.specs.Cut.{Network}
+use Rattle.parcel.specs.Soundness.{IsSound, count}
+use Rattle.block_net.specs.Views.{BlockView}
+use Rattle.block_net.specs.Whole.{Whole, no_block, block_at}
+use Rattle.block_core.specs.Views.{IsLaid, whole_in, blocks_in, state_of}
+use Rattle.block_core.specs.Mails.{MailView, HasRooms, IsHeld}
+use Rattle.block_core.specs.declared.pieces.Pieces.{Pieces}
+use Rattle.block_core.specs.Pieces.{whole_within, state_in}
+use Rattle.turn_laws.proofs.Laid.{put_own, seated}
+use Rattle.block_cut.specs.Lowers.{IsAfter}
+use Rattle.block_cut.specs.Turns.{ReachesFrom}
+use Rattle.block_cut.specs.Passes.{whole_with, state_at, IsGoing}
+
+pub goes_on : (p : Pieces) (blocks : List BlockView) (before after : MailView) (b n : ℕ) (new : BlockView)
+    → IsGoing p blocks before → b < length blocks → after.rooms ≡ before.rooms
+    → ReachesFrom (length blocks) b n (block_at (whole_with p blocks) b) new before.messages after.messages
+    → IsGoing p (slice_set blocks b new) after
+goes_on p blocks before after b n new going l rooms reaches =
+    let w = whole_with p blocks in
+    let own = put_own w b in
+    let sound = subst (λ (q : Whole). IsSound (state_of (blocks_in q) before.messages going.got)) (sym own) going.sound in
+    let same = ap (λ (q : Whole). count (state_of (blocks_in q) before.messages going.got)) own in
+    let r = reaches w going.got refl (seated w b going.laid l) sound in
+    record {
+      got = r.got';
+      size = length-set blocks b new ∙ going.size;
+      rooms = rooms ∙ going.rooms;
+      laid = r.seated.laid;
+      sound = r.sound;
+      lower = omega (arith, same, r.lower, going.lower);
+    }
+
+-- the same by the number of blocks and the block as the code has them
+pub turn_goes_on : (p : Pieces) (blocks : List BlockView) (before after : MailView) (k b n : ℕ) (old new : BlockView)
+    → IsGoing p blocks before → k ≡ length blocks → b < k → old ≡ slice_index_or blocks b old → after.rooms ≡ before.rooms
+    → ReachesFrom k b n old new before.messages after.messages
+    → IsGoing p (slice_set blocks b new) after
+turn_goes_on p blocks before after k b n old new going size l is rooms reaches =
+    goes_on p blocks before after b n new going (omega (arith, size, l)) rooms
+    (subst (λ m. ReachesFrom m b n (block_at (whole_with p blocks) b) new before.messages after.messages) size
+    (subst (λ (q : BlockView). ReachesFrom k b n q new before.messages after.messages) (get_or_read_under blocks b k old no_block is l size) reaches))
+
+pub goes_from : (p : Pieces) → IsLaid (whole_within p) → IsHeld p.ways.rooms (state_in p) → IsGoing p p.parts.blocks.items p.ways
+goes_from p laid held = record { got = p.got; size = refl; rooms = refl; laid = laid; sound = held.sound; lower = omega arith }
+
+-- ---- in the end
+
+module _ (p q : Pieces) (net : q.net ≡ p.net) (firsts : q.parts.firsts.items ≡ p.parts.firsts.items) (slots : q.parts.slots.items ≡ p.parts.slots.items) (going : IsGoing p q.parts.blocks.items q.ways) where
+  pub whole_same : whole_within q ≡ whole_with p q.parts.blocks.items
+  whole_same =
+      ap (λ (n : Network). whole_in n q.parts.firsts.items q.parts.slots.items q.parts.blocks.items) net
+      ∙ (ap (λ (f : List ℕ). whole_in p.net f q.parts.slots.items q.parts.blocks.items) firsts
+      ∙ ap (λ (s : List ℕ). whole_in p.net p.parts.firsts.items s q.parts.blocks.items) slots)
+
+  pub laid_again : IsLaid (whole_within q)
+  laid_again = subst IsLaid (sym whole_same) going.laid
+
+  pub sound_given : IsSound (state_of (blocks_in (whole_within q)) q.ways.messages going.got)
+  sound_given = subst (λ (w : Whole). IsSound (state_of (blocks_in w) q.ways.messages going.got)) (sym whole_same) going.sound
+
+  module _ (given : q.got + sum (state_in q).rooms ≡ sum q.net.sinks) where
+    got_same : going.got ≡ q.got
+    got_same = omega (arith, sound_given.got, given)
+
+    pub held_again : IsHeld p.ways.rooms (state_in p) → IsHeld q.ways.rooms (state_in q)
+    held_again held = record {
+      sound = subst (λ g. IsSound (state_of (blocks_in (whole_within q)) q.ways.messages g)) got_same sound_given;
+      few = laid_again.few;
+      arcs = laid_again.arcs;
+      room = subst (λ (n : Network). HasRooms n (length q.parts.blocks.items) q.ways.rooms) (sym net)
+          (subst (λ k. HasRooms p.net k q.ways.rooms) (sym going.size) (subst (HasRooms p.net (length p.parts.blocks.items)) (sym going.rooms) held.room));
+    }
+
+    pub after_all : IsAfter (state_in p) (state_in q)
+    after_all = record {
+      net = net;
+      count =
+          let whole = ap (λ (w : Whole). count (state_of (blocks_in w) q.ways.messages q.got)) whole_same in
+          let got = ap (λ g. count (state_at p q.parts.blocks.items q.ways.messages g)) got_same in
+          omega (arith, whole, got, going.lower);
+    }

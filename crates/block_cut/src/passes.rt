@@ -1,0 +1,152 @@
+ghost use Rattle.std.specs.Prelude.{◌≡◌, IfOk, length};
+ghost use Rattle.block_core.specs.Mails.{IsHeld};
+ghost use Rattle.block_core.specs.Pieces.{state_in};
+ghost use Rattle.block_cut.specs.Lowers.{IsAfter};
+ghost use Rattle.block_cut.specs.Passes.{IsGoing};
+
+use crate::turns::turn_of;
+use block_core::{Mail, Pieces, State};
+use block_net::{Cells, Parts};
+use discharge::Block;
+use flow_network::Net;
+use std::alloc::{AllocError, Global};
+use std::snapshot::Snapshot;
+
+/// How often at most each block has a turn before labels become exact again.
+const PASSES: usize = 64;
+
+/// A turn of each block over the ways: the ways and the table of places afterwards, and whether some block did an
+/// event. Takes no memory.
+fn pass(
+    old: &Snapshot<Pieces>,
+    blocks: &mut Vec<Block>,
+    ways: Mail,
+    slots: Vec<u32>,
+    arcs: usize,
+    limit: u32,
+) -> (Mail, Vec<u32>, bool)
+    requires going { IsGoing old.now.value blocks.old.items ways }
+    requires slots { slots.items ≡ old.now.value.parts.slots.items }
+    requires arcs { arcs ≡ length old.now.value.net.arcs }
+    ensures going { IsGoing old.now.value blocks.new.items result.0 }
+    ensures slots { result.1.items ≡ old.now.value.parts.slots.items }
+{
+    let mut ways = ways;
+    let mut slots = slots;
+    let mut some = false;
+    let count = blocks.len();
+    'turns: for b in 0..count {
+        let (after, table, events) = turn_of(&mut blocks[b], ways, slots, b, count, arcs, limit);
+        ways = after;
+        slots = table;
+        if events > 0 {
+            some = true;
+        }
+    }
+    (ways, slots, some)
+}
+
+/// Passes over the blocks until one does no event, at most so many. Takes no memory.
+fn passes(
+    old: &Snapshot<Pieces>,
+    blocks: &mut Vec<Block>,
+    ways: Mail,
+    slots: Vec<u32>,
+    arcs: usize,
+    limit: u32,
+) -> (Mail, Vec<u32>)
+    requires going { IsGoing old.now.value blocks.old.items ways }
+    requires slots { slots.items ≡ old.now.value.parts.slots.items }
+    requires arcs { arcs ≡ length old.now.value.net.arcs }
+    ensures going { IsGoing old.now.value blocks.new.items result.0 }
+    ensures slots { result.1.items ≡ old.now.value.parts.slots.items }
+{
+    let mut ways = ways;
+    let mut slots = slots;
+    'rounds: for _ in 0..PASSES {
+        let (after, table, some) = pass(old, blocks, ways, slots, arcs, limit);
+        ways = after;
+        slots = table;
+        if !some {
+            break;
+        }
+    }
+    (ways, slots)
+}
+
+/// The blocks, in each of which the nodes that have excess and are not cut off wait. The only error is that
+/// memory runs out.
+fn blocks_of(alloc: Global, cells: Vec<Cells>) -> Result<Vec<Block>, AllocError>
+    ensures { IfOk result (λ blocks. blocks.items ≡ cells.items) }
+{
+    let mut blocks = Vec::with_capacity(alloc, cells.len())?;
+    'filling: for each in cells {
+        blocks.push(Block::new(alloc, each)?)?;
+    }
+    Ok(blocks)
+}
+
+/// The blocks alone. The only error is that memory runs out.
+fn cells_of(alloc: Global, blocks: Vec<Block>) -> Result<Vec<Cells>, AllocError>
+    ensures { IfOk result (λ cells. cells.items ≡ blocks.items) }
+{
+    let mut cells = Vec::with_capacity(alloc, blocks.len())?;
+    'emptying: for block in blocks {
+        cells.push(block.into_cells())?;
+    }
+    Ok(cells)
+}
+
+/// The state that the pieces make with what the sink got by what the blocks hold. Takes no memory.
+fn state_of(old: &Snapshot<Pieces>, net: Net, parts: Parts, ways: Mail) -> State
+    requires held { IsHeld old.now.value.ways.rooms (state_in old.now.value) }
+    requires net { net ≡ old.now.value.net }
+    requires firsts { parts.firsts.items ≡ old.now.value.parts.firsts.items }
+    requires slots { parts.slots.items ≡ old.now.value.parts.slots.items }
+    requires going { IsGoing old.now.value parts.blocks.items ways }
+    ensures { IsAfter (state_in old.now.value) result }
+{
+    let mut pieces = Pieces {
+        net,
+        parts,
+        ways,
+        got: 0,
+    };
+    pieces.got = pieces.given();
+    pieces.into_state()
+}
+
+/// Turns of the blocks, in passes, each turn of at most as many events as there are nodes, and 16. The only error
+/// is that memory runs out.
+pub(crate) fn work(alloc: Global, state: State) -> Result<State, AllocError>
+    ensures { IfOk result (λ s. IsAfter state s) }
+{
+    let limit = state.nodes() as u32 + 16;
+    let arcs = state.arcs();
+    let pieces = state.into_pieces();
+    let old = Snapshot::of(&pieces);
+    let Pieces {
+        net,
+        parts,
+        ways,
+        ..
+    } = pieces;
+    let Parts {
+        blocks,
+        firsts,
+        slots,
+    } = parts;
+    let mut blocks = blocks_of(alloc, blocks)?;
+    let (ways, slots) = passes(&old, &mut blocks, ways, slots, arcs, limit);
+    let blocks = cells_of(alloc, blocks)?;
+    Ok(state_of(
+        &old,
+        net,
+        Parts {
+            blocks,
+            firsts,
+            slots,
+        },
+        ways,
+    ))
+}
