@@ -1,9 +1,11 @@
--- What is known of a move's variables before its energy is built, and how the open ones are numbered.
-use Rattle.std.specs.Prelude.{◌≡◌, ◌≢◌, ◌↔◌, ℕ, ◌<◌, ◌≤◌, Bool, true, false, List, length, slice_index_or, ℤ, pos, ◌+ℤ◌}
+-- What is known of a move's variables before its energy is built, how the open ones are numbered, and what is
+-- known of them once the energy is least.
+use Rattle.std.specs.Prelude.{◌≡◌, ◌≢◌, ◌↔◌, ℕ, ◌<◌, Bool, true, false, List, length, slice_index_or, ℤ, pos, ◌+ℤ◌}
+use Rattle.sums.specs.Sums.{sum_below}
 use Rattle.labellings.specs.declared.change.Move.{Move}
 use Rattle.labellings.specs.Energies.{Instance, labelling, energy}
 use Rattle.labellings.specs.Moves.{label_in, made}
-use Rattle.pseudo_bool.specs.Formula.{Formula, value_at}
+use Rattle.pseudo_bool.specs.Formula.{Formula, value_at, assignment}
 use Rattle.move_energy.specs.declared.choice.Choice.{Choice}
 use Rattle.move_energy.specs.declared.choice.Choice.TheVariants.{Open, Zero, One}
 
@@ -27,15 +29,38 @@ pub record AreAllOpen (move : Move) (f : List ℕ) (choices : List Choice) : Typ
   pub opened : (p : ℕ) → p < length f → choice_at choices p ≡ Open ↔ Changes move (labelling f p)
   pub none : (p : ℕ) → p < length f → choice_at choices p ≢ One
 
--- each open site has a variable of its own, and each variable an open site: `variables` has the number of
--- each site's variable, which means something at open sites alone, and `sites` the site of each variable
-pub record IsNumbering (choices : List Choice) (variables sites : List ℕ) : Type 0 where
+-- 1 for an open choice, else 0
+abbrev pub openness : Choice → ℕ
+openness Open = 1
+openness Zero = 0
+openness One = 0
+
+-- how many of the first n choices are open
+abbrev pub rank : List Choice → ℕ → ℕ
+rank choices n = sum_below n (λ p. openness (choice_at choices p))
+
+-- how many choices are open
+abbrev pub open_count : List Choice → ℕ
+open_count choices = rank choices (length choices)
+
+-- the variable of a site is the number of the open sites before it, which means something at open sites alone
+pub record IsNumbering (choices : List Choice) (variables : List ℕ) : Type 0 where
   pub count : length variables ≡ length choices
-  pub most : length sites ≤ length choices
-  pub covers : (p : ℕ) → p < length choices → choice_at choices p ≡ Open
-      → (labelling variables p < length sites) × (labelling sites (labelling variables p) ≡ p)
-  pub opened : (i : ℕ) → i < length sites
-      → (labelling sites i < length choices) × (choice_at choices (labelling sites i) ≡ Open)
+  pub each : (p : ℕ) → p < length choices → labelling variables p ≡ rank choices p
+
+-- the choice that has a value
+abbrev pub choice_of : Bool → Choice
+choice_of true = One
+choice_of false = Zero
+
+-- the value of each site's variable: what was decided, else the bit of its rank
+abbrev pub value_of : List Choice → List Bool → ℕ → Bool
+value_of choices bits p = bit_of (choice_at choices p) (assignment bits (rank choices p))
+
+-- each choice has its value, and none is open
+pub record AreSettled (old : List Choice) (bits : List Bool) (new : List Choice) : Type 0 where
+  pub count : length new ≡ length old
+  pub each : (p : ℕ) → p < length old → choice_at new p ≡ choice_of (value_of old bits p)
 
 -- the labelling that an assignment and what was decided make
 abbrev pub made_by : Move → (ℕ → ℕ) → (ℕ → Choice) → (ℕ → ℕ) → (ℕ → Bool) → ℕ → ℕ
@@ -45,7 +70,8 @@ made_by move f choice variable x = made move f (λ p. bit_of (choice p) (x (vari
 -- assignment is the energy of the labelling that the assignment and what was decided make. `variable` is each
 -- site's variable, and `site` each variable's site (Boykov, Veksler, Zabih 2001, section 4)
 pub record StandsFor (m : Instance) (move : Move) (f : ℕ → ℕ) (choice : ℕ → Choice) (e : Formula)
-    (variable site : ℕ → ℕ) : Type 0 where
+    (variable : ℕ → ℕ) : Type 0 where
   pub rest : ℤ
+  pub site : ℕ → ℕ
   pub value : (x : ℕ → Bool) → value_at e x +ℤ rest ≡ pos (energy m (made_by move f choice variable x))
   pub covers : (p : ℕ) → p < m.sites → choice p ≡ Open → (variable p < e.variables) × (site (variable p) ≡ p)

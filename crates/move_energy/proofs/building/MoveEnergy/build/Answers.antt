@@ -3,6 +3,8 @@ use Rattle.std.proofs.lemmas.Result.{on_ok_weaker}
 use Rattle.cost_store.specs.Promises.{Answers}
 use Rattle.pseudo_bool.specs.Formula.{Formula}
 use Rattle.move_energy.specs.declared.choice.Choice.{Choice}
+use Rattle.move_energy.specs.Choices.{open_count}
+use Rattle.move_energy.proofs.Numbers.{rank_most}
 use Rattle.move_energy.proofs.Joins.{empty_regular, built_of}
 use Rattle.std.proofs.lemmas.Result.{err_from_is_err_and}
 use Rattle.labellings.specs.Moves.{IsMoveOf}
@@ -20,27 +22,27 @@ returns-clause-built g c = λ m meant.
     let sites = c.in_ok-add_sites.ensures.built m (subst D (sym c.requires.sites.1) meant.data_are) in
     let pairs = c.add_pairs.ensures.built m (subst S (sym c.requires.labels.0) meant.smooth_are) meant.pairs_are in
     let kept = c.in_ok-add_sites.ensures.longer.variables in
-    let cleared = ap (λ (e : Formula). e.variables) c.clear.ensures ∙ c.len.ensures in
+    let cleared = ap (λ (e : Formula). e.variables) c.clear.ensures in
     built_of m c.args.change c.args.at.now (record { energy = c.add_pairs.new.energy; variables = c.number.new.self }) c.add_sites.new.energy
     (length c.args.pairs.now.list) c.add_pairs.result (c.requires.sites.0 ∙ sym meant.sites_are)
-    (ap (λ (xs : List Choice). length xs) c.number.ensures.kept ∙ c.requires.choices) c.in_ok-number.ensures.numbering
-    (omega (arith, kept, cleared, c.number.new.self.sites.ok.0)) c.add_pairs.ensures.longer sites pairs
+    (ap (λ (xs : List Choice). length xs) c.number.ensures.kept ∙ c.requires.choices)
+    (omega (arith, kept, cleared, c.in_ok-count.ensures.count, ap open_count c.number.ensures.kept)) c.add_pairs.ensures.longer sites pairs
 
-pub returns-in_err-number-clause-kept : goal.returns-in_err-number-clause-kept
-returns-in_err-number-clause-kept g c = c.number.ensures.kept
+pub returns-in_err-count-clause-kept : goal.returns-in_err-count-clause-kept
+returns-in_err-count-clause-kept g c = c.number.ensures.kept
 
-pub returns-in_err-number-clause-regular : goal.returns-in_err-number-clause-regular
-returns-in_err-number-clause-regular g c =
+pub returns-in_err-count-clause-regular : goal.returns-in_err-count-clause-regular
+returns-in_err-count-clause-regular g c =
     let p = err_from_is_err_and c.from_residual.result c.from_residual.ensures.1 in
     rw (p.1) tt
 
-pub returns-in_err-number-clause-numbering : goal.returns-in_err-number-clause-numbering
-returns-in_err-number-clause-numbering g c =
+pub returns-in_err-count-clause-numbering : goal.returns-in_err-count-clause-numbering
+returns-in_err-count-clause-numbering g c =
     let p = err_from_is_err_and c.from_residual.result c.from_residual.ensures.1 in
     rw (p.1) tt
 
-pub returns-in_err-number-clause-variables : goal.returns-in_err-number-clause-variables
-returns-in_err-number-clause-variables g c =
+pub returns-in_err-count-clause-variables : goal.returns-in_err-count-clause-variables
+returns-in_err-count-clause-variables g c =
     let p = err_from_is_err_and c.from_residual.result c.from_residual.ensures.1 in
     rw (p.1) tt
 
@@ -54,7 +56,7 @@ pub add_sites-requires-clause-change : goal.add_sites-requires-clause-change
 add_sites-requires-clause-change g c = c.requires.change
 
 pub add_sites-requires-clause-numbering : goal.add_sites-requires-clause-numbering
-add_sites-requires-clause-numbering g c = c.in_ok-number.ensures.numbering
+add_sites-requires-clause-numbering g c = c.in_ok-count.ensures.numbering
 
 pub add_sites-requires-clause-choices : goal.add_sites-requires-clause-choices
 add_sites-requires-clause-choices g c = ap (λ (xs : List Choice). length xs) c.number.ensures.kept ∙ c.requires.choices
@@ -94,10 +96,16 @@ add_pairs-requires-clause-change g c =
     subst C (sym c.requires.labels.0) c.requires.change
 
 pub add_pairs-requires-clause-numbering : goal.add_pairs-requires-clause-numbering
-add_pairs-requires-clause-numbering g c = c.in_ok-number.ensures.numbering
+add_pairs-requires-clause-numbering g c = c.in_ok-count.ensures.numbering
 
 pub add_pairs-requires-clause-choices : goal.add_pairs-requires-clause-choices
 add_pairs-requires-clause-choices g c = ap (λ (xs : List Choice). length xs) c.number.ensures.kept ∙ c.requires.choices
 
 pub returns-clause-kept : goal.returns-clause-kept
 returns-clause-kept g c = c.number.ensures.kept
+
+pub clear-requires : goal.clear-requires
+clear-requires g c =
+    let choices = c.number.new.self.choices.items in
+    let size = ap (λ (xs : List Choice). length xs) c.number.ensures.kept ∙ c.requires.choices in
+    omega (arith, c.in_ok-count.ensures.count, rank_most choices (length choices), size, c.requires.sites.0, c.sites-sites.ensures)
