@@ -1,5 +1,5 @@
 -- A move of which nothing is decided.
-use Rattle.std.proofs.Common.{◌≡◌, ◌≢◌, ℕ, ◌+◌, ◌*◌, ◌<◌, ◌≤◌, true, false, IsTrue, Result, Ok, Err, List, [], ◌∷◌, ◌++◌, length, take, get_or, All, ℤ, sym, ap, ◌∙◌, subst, inl, inr, arith}
+use Rattle.std.proofs.Common.{◌≡◌, ◌≢◌, ℕ, ◌+◌, ◌*◌, ◌<◌, true, false, Result, Ok, Err, List, [], ◌∷◌, ◌++◌, length, All, ℤ, sym, ap, ◌∙◌, subst, inl, inr, arith}
 use Rattle.std.specs.Prelude.{◌↔◌}
 use Rattle.std.proofs.lemmas.Bool.{cases_lt}
 use Rattle.std.proofs.lemmas.List.{get_or_push, get_or_append_left, length-append}
@@ -8,7 +8,7 @@ use Rattle.label_field.specs.declared.pair.Pair.{Pair}
 use Rattle.label_field.specs.PairLists.{IsPair, PairList}
 use Rattle.labellings.specs.declared.change.Move.{Move}
 use Rattle.labellings.specs.Energies.{Instance, IsInstance, labelling}
-use Rattle.labellings.specs.Moves.{label_in, IsRegularPair, IsAllowed, IsFirstIrregular}
+use Rattle.labellings.specs.Moves.{label_in, IsRegularPair}
 use Rattle.labellings.proofs.Reaching.{cases_label_in}
 use Rattle.move_energy.specs.declared.building.MoveEnergy.{MoveEnergy}
 use Rattle.move_energy.specs.declared.choice.Choice.{Choice}
@@ -16,7 +16,7 @@ use Rattle.move_energy.specs.declared.choice.Choice.TheVariants.{Open, One}
 use Rattle.move_energy.specs.declared.error.BuildError.{BuildError}
 use Rattle.move_energy.specs.declared.error.BuildError.TheVariants.{PairNotRegular, OutOfMemory}
 use Rattle.move_energy.specs.Choices.{choice_at, Changes, AreAllOpen}
-use Rattle.move_energy.specs.Problems.{IsFitPair, IsFirstUnfit, IsMeant, IsBuildOf, IsPrepared}
+use Rattle.move_energy.specs.Problems.{IsFitPair, IsMeant, IsBuildOf, IsPrepared}
 
 -- as AreAllOpen, of the sites below n
 pub record AreOpenBelow (move : Move) (f : List ℕ) (choices : List Choice) (n : ℕ) : Type 0 where

@@ -14,7 +14,8 @@ use Rattle.pseudo_bool.specs.Formula.{Formula, value_at}
 use Rattle.compile_cut.specs.Shown.{IsSmallestLeastAssignment}
 use Rattle.move_energy.specs.declared.choice.Choice.{Choice}
 use Rattle.move_energy.specs.declared.choice.Choice.TheVariants.{Open, Zero as DecidedZero, One as DecidedOne}
-use Rattle.move_energy.specs.Choices.{bit_of, choice_at, made_by, AreAllOpen, StandsFor}
+use Rattle.move_energy.specs.Choices.{bit_of, choice_at, choice_of, value_of, made_by, AreAllOpen, AreSettled, StandsFor}
+use Rattle.moves.specs.Building.{site_values}
 use Rattle.deciding.specs.Decisions.{put, IsSmallestLeast, IsRest}
 use Rattle.deciding.specs.MoveValues.{move_value}
 use Rattle.deciding.specs.Decided.{AreDecided}
@@ -127,44 +128,56 @@ smallest_along n E x y value same least = record {
 }
 
 -- the least assignment of the open sites and what was decided make the least values of all sites
-pub decided_least : (m : Instance) (move : Move) (f : ℕ → ℕ) (choice : ℕ → Choice) (e : Formula) (variable site : ℕ → ℕ) (y : ℕ → Bool)
-    → IsInstance m → IsAllowed m move f → AreDecided m move f choice → StandsFor m move f choice e variable site → IsSmallestLeastAssignment e y
+pub decided_least : (m : Instance) (move : Move) (f : ℕ → ℕ) (choice : ℕ → Choice) (e : Formula) (variable : ℕ → ℕ) (y : ℕ → Bool)
+    → IsInstance m → IsAllowed m move f → AreDecided m move f choice → StandsFor m move f choice e variable → IsSmallestLeastAssignment e y
     → IsSmallestLeast m.sites (move_value m move f) (λ p. bit_of (choice p) (y (variable p)))
-decided_least m move f choice e variable site y pairs allowed decided stands least =
+decided_least m move f choice e variable y pairs allowed decided stands least =
     let ds = decided.decisions in
     let over = move_over m move f pairs in
     let forced = passed_forced (move_value m move f) ds (move_falls m move f pairs allowed) decided.passed in
-    let rest : IsRest m.sites (move_value m move f) ds e.variables (value_at e) variable site = record {
+    let rest : IsRest m.sites (move_value m move f) ds e.variables (value_at e) variable stands.site = record {
       offset = stands.rest;
       value = λ z. stands.value z ∙ sym (over (put ds (λ i. z (variable i))) (λ p. bit_of (choice p) (z (variable p))) (λ p l. decided.shown (λ i. z (variable i)) p l));
       covers = λ p l free. stands.covers p l (open_of (choice p) (sym (decided.shown (λ i. true) p l) ∙ free (λ i. true)) (sym (decided.shown (λ i. false) p l) ∙ free (λ i. false)));
     } in
     let own : IsSmallestLeast e.variables (value_at e) y = record { least = least.least; smallest = least.smallest } in
-    let whole = rest_least m.sites (move_value m move f) ds e.variables (value_at e) variable site y over forced rest own in
+    let whole = rest_least m.sites (move_value m move f) ds e.variables (value_at e) variable stands.site y over forced rest own in
     smallest_along m.sites (move_value m move f) (put ds (λ i. y (variable i))) (λ p. bit_of (choice p) (y (variable p)))
     (over (λ p. bit_of (choice p) (y (variable p))) (put ds (λ i. y (variable i))) (λ p l. sym (decided.shown (λ i. y (variable i)) p l)))
     (λ p l. sym (decided.shown (λ i. y (variable i)) p l)) whole
 
+-- the values that the settled choices tell are those
+bit_of_choice : (b : Bool) → bit_of (choice_of b) false ≡ b
+bit_of_choice true = refl
+bit_of_choice false = refl
+
+pub settled_least : (m : Instance) (move : Move) (f : ℕ → ℕ) (old new : List Choice) (bits : List Bool) → IsInstance m → length old ≡ m.sites
+    → AreSettled old bits new → IsSmallestLeast m.sites (move_value m move f) (value_of old bits) → IsSmallestLeast m.sites (move_value m move f) (site_values new)
+settled_least m move f old new bits pairs size settled least =
+    let told : (p : ℕ) → p < m.sites → site_values new p ≡ value_of old bits p =
+    λ p l. ap (λ (c : Choice). bit_of c false) (settled.each p (omega (arith, l, size))) ∙ bit_of_choice (value_of old bits p) in
+    smallest_along m.sites (move_value m move f) (value_of old bits) (site_values new) (move_over m move f pairs (site_values new) (value_of old bits) told) told least
+
 -- ---- where nothing was decided
 
 -- the values of all sites that the variables of the open ones make
-whole_made : (m : Instance) (move : Move) (f : List ℕ) (choices : List Choice) (e : Formula) (variable site : ℕ → ℕ) (z : ℕ → Bool) → length f ≡ m.sites → AreAllOpen move f choices
-    → StandsFor m move (labelling f) (choice_at choices) e variable site
-    → Agrees m.sites (made_by move (labelling f) (choice_at choices) variable (λ i. z (site i))) (made move (labelling f) z)
-whole_made m move f choices e variable site z size whole stands p l = elim (cases_label_in move (labelling f p)) [
-  | inl fixed ↦ label_in-fixed move (labelling f p) (bit_of (choice_at choices p) (z (site (variable p)))) (z p) fixed
+whole_made : (m : Instance) (move : Move) (f : List ℕ) (choices : List Choice) (e : Formula) (variable : ℕ → ℕ) (z : ℕ → Bool) → length f ≡ m.sites → AreAllOpen move f choices
+    → (stands : StandsFor m move (labelling f) (choice_at choices) e variable)
+    → Agrees m.sites (made_by move (labelling f) (choice_at choices) variable (λ i. z (stands.site i))) (made move (labelling f) z)
+whole_made m move f choices e variable z size whole stands p l = elim (cases_label_in move (labelling f p)) [
+  | inl fixed ↦ label_in-fixed move (labelling f p) (bit_of (choice_at choices p) (z (stands.site (variable p)))) (z p) fixed
   | inr changes ↦
       let opened = (whole.opened p (omega (arith, l, size))).1 changes in
-      ap (λ (c : Choice). label_in move (labelling f p) (bit_of c (z (site (variable p))))) opened
+      ap (λ (c : Choice). label_in move (labelling f p) (bit_of c (z (stands.site (variable p))))) opened
       ∙ ap (λ q. label_in move (labelling f p) (z q)) ((stands.covers p l opened).1)
 ]
 
-whole_value : (m : Instance) (move : Move) (f : List ℕ) (choices : List Choice) (e : Formula) (variable site : ℕ → ℕ) (z : ℕ → Bool) → IsInstance m → length f ≡ m.sites → AreAllOpen move f choices
-    → (stands : StandsFor m move (labelling f) (choice_at choices) e variable site)
-    → value_at e (λ i. z (site i)) +ℤ stands.rest ≡ move_value m move (labelling f) z
-whole_value m move f choices e variable site z pairs size whole stands =
-    stands.value (λ i. z (site i)) ∙ ap pos (energy-same m (made_by move (labelling f) (choice_at choices) variable (λ i. z (site i))) (made move (labelling f) z) pairs
-    (whole_made m move f choices e variable site z size whole stands))
+whole_value : (m : Instance) (move : Move) (f : List ℕ) (choices : List Choice) (e : Formula) (variable : ℕ → ℕ) (z : ℕ → Bool) → IsInstance m → length f ≡ m.sites → AreAllOpen move f choices
+    → (stands : StandsFor m move (labelling f) (choice_at choices) e variable)
+    → value_at e (λ i. z (stands.site i)) +ℤ stands.rest ≡ move_value m move (labelling f) z
+whole_value m move f choices e variable z pairs size whole stands =
+    stands.value (λ i. z (stands.site i)) ∙ ap pos (energy-same m (made_by move (labelling f) (choice_at choices) variable (λ i. z (stands.site i))) (made move (labelling f) z) pairs
+    (whole_made m move f choices e variable z size whole stands))
 
 one_of : (c : Choice) (b : Bool) → c ≢ DecidedOne → bit_of c b ≡ true → (c ≡ Open) × (b ≡ true)
 one_of Open b none one = (refl, one)
@@ -177,14 +190,14 @@ least_by a b c d r h k l = omega (arith, ints, h, k, l)
 level_by : (a b c d r : ℤ) → a +ℤ r ≡ c → b +ℤ r ≡ d → d ≡ c → b ≡ a
 level_by a b c d r h k l = omega (arith, ints, h, k, l)
 
-pub open_least : (m : Instance) (move : Move) (f : List ℕ) (choices : List Choice) (e : Formula) (variable site : ℕ → ℕ) (y : ℕ → Bool)
-    → IsInstance m → length f ≡ m.sites → AreAllOpen move f choices → StandsFor m move (labelling f) (choice_at choices) e variable site → IsSmallestLeastAssignment e y
+pub open_least : (m : Instance) (move : Move) (f : List ℕ) (choices : List Choice) (e : Formula) (variable : ℕ → ℕ) (y : ℕ → Bool)
+    → IsInstance m → length f ≡ m.sites → AreAllOpen move f choices → StandsFor m move (labelling f) (choice_at choices) e variable → IsSmallestLeastAssignment e y
     → IsSmallestLeast m.sites (move_value m move (labelling f)) (λ p. bit_of (choice_at choices p) (y (variable p)))
-open_least m move f choices e variable site y pairs size whole stands least = record {
-  least = λ z. least_by _ _ _ _ stands.rest (stands.value y) (whole_value m move f choices e variable site z pairs size whole stands) (least.least (λ i. z (site i)));
+open_least m move f choices e variable y pairs size whole stands least = record {
+  least = λ z. least_by _ _ _ _ stands.rest (stands.value y) (whole_value m move f choices e variable z pairs size whole stands) (least.least (λ i. z (stands.site i)));
   smallest = λ z level p l one.
       let own = one_of (choice_at choices p) (y (variable p)) (whole.none p (omega (arith, l, size))) one in
       let covered = stands.covers p l own.0 in
-      let equal = level_by _ _ _ _ stands.rest (stands.value y) (whole_value m move f choices e variable site z pairs size whole stands) level in
-      ap z (sym covered.1) ∙ least.smallest (λ i. z (site i)) equal (variable p) covered.0 own.1;
+      let equal = level_by _ _ _ _ stands.rest (stands.value y) (whole_value m move f choices e variable z pairs size whole stands) level in
+      ap z (sym covered.1) ∙ least.smallest (λ i. z (stands.site i)) equal (variable p) covered.0 own.1;
 }

@@ -1,5 +1,5 @@
 -- The energy of a move, and what its least assignment says of the sites.
-use Rattle.std.specs.Prelude.{ℕ, Bool, List, IsTrue, Result, Ok, Err}
+use Rattle.std.specs.Prelude.{ℕ, Bool, false, List, IsTrue, Result, Ok, Err}
 use Rattle.labellings.specs.declared.change.Move.{Move}
 use Rattle.labellings.specs.Energies.{Instance, labelling}
 use Rattle.labellings.specs.Moves.{IsAllowed}
@@ -8,7 +8,7 @@ use Rattle.compile_cut.specs.Shown.{IsSmallestLeastAssignment}
 use Rattle.move_energy.specs.declared.choice.Choice.{Choice}
 use Rattle.move_energy.specs.declared.building.MoveEnergy.{MoveEnergy}
 use Rattle.move_energy.specs.declared.error.BuildError.{BuildError}
-use Rattle.move_energy.specs.Choices.{bit_of, choice_at}
+use Rattle.move_energy.specs.Choices.{bit_of, choice_at, value_of}
 use Rattle.move_energy.specs.Problems.{IsPrepareRefusal}
 use Rattle.label_field.specs.PairLists.{PairList}
 use Rattle.deciding.specs.Decided.{AreBySite}
@@ -20,16 +20,15 @@ use Rattle.moves.specs.declared.room.Room.{Room}
 abbrev pub IsGroupedFor : PairList → Room → Type 0
 IsGroupedFor pairs room = IsTrue room.grouped → AreBySite pairs room.deciding.ends
 
--- the value of each site's variable: what was decided, else that in the assignment
-abbrev pub site_values : List Choice → List ℕ → List Bool → ℕ → Bool
-site_values choices variables bits p = bit_of (choice_at choices p) (assignment bits (labelling variables p))
+-- the value of each site's variable, once its choice is settled
+abbrev pub site_values : List Choice → ℕ → Bool
+site_values choices p = bit_of (choice_at choices p) false
 
 -- the least assignment with the fewest ones makes, with what was decided, the least values of all sites with
 -- the fewest ones
 abbrev pub MakesLeast : Instance → Move → List ℕ → MoveEnergy → Type 0
 MakesLeast m move f made = (bits : List Bool) → IsSmallestLeastAssignment made.energy (assignment bits)
-    → IsSmallestLeast m.sites (move_value m move (labelling f))
-    (site_values made.variables.choices.items made.variables.of_sites.items bits)
+    → IsSmallestLeast m.sites (move_value m move (labelling f)) (value_of made.variables.choices.items bits)
 
 -- what the building of the energy of a move answers
 abbrev pub IsBuiltMove : Instance → Move → List ℕ → MoveEnergy → Result Unit BuildError → Type 0

@@ -15,20 +15,15 @@ use crate::Problem;
 use crate::taking::value_of;
 use label_field::Pair;
 use labellings::Move;
-use move_energy::{Variables, pair_cost};
+use move_energy::{Choice, pair_cost};
 
 /// The label that a site's value makes.
-fn made_label(at: &[u8], change: Move, variables: &Variables, bits: &[bool], site: u32) -> u32
+fn made_label(at: &[u8], change: Move, choices: &[Choice], site: u32) -> u32
     requires site { site < length at.now }
-    requires choices { length variables.now.choices.items ≡ length at.now }
-    requires count { length variables.now.of_sites.items ≡ length at.now }
-    ensures { result ≡ made change (labelling at.now) (site_values variables.now.choices.items
-        variables.now.of_sites.items bits.now) site }
+    requires choices { length choices.now ≡ length at.now }
+    ensures { result ≡ made change (labelling at.now) (site_values choices.now) site }
 {
-    change.label(
-        u32::from(at[site as usize]),
-        value_of(variables, bits, site),
-    )
+    change.label(u32::from(at[site as usize]), value_of(choices, site))
 }
 
 /// Whether a rise is a fall.
@@ -40,29 +35,21 @@ fn is_negative(rise: i64) -> bool
 
 impl<F: Fn(u32, u32) -> i64, V: Fn(u32, u32) -> i64> Problem<F, V> {
     /// By how much more the label that a site's value makes costs it.
-    fn site_rise(
-        &self,
-        at: &[u8],
-        change: Move,
-        variables: &Variables,
-        bits: &[bool],
-        site: u32,
-    ) -> i64
+    fn site_rise(&self, at: &[u8], change: Move, choices: &[Choice], site: u32) -> i64
         requires costs { Keeps (F.pre self.now.data_cost.f) (F.post self.now.data_cost.f)
             self.now.data_cost.sites self.now.data_cost.labels data_limit }
         requires site { (site < length at.now) × (length at.now ≡ self.now.data_cost.sites) }
         requires labels { All (λ label. label < self.now.data_cost.labels) at.now }
         requires change { IsMoveOf self.now.data_cost.labels change }
-        requires choices { length variables.now.choices.items ≡ length at.now }
-        requires count { length variables.now.of_sites.items ≡ length at.now }
+        requires choices { length choices.now ≡ length at.now }
         ensures rise { (cost : ℕ → ℕ → ℕ) →
             Answers (F.post self.now.data_cost.f) cost self.now.data_cost.sites self.now.data_cost.labels →
-            result ≡ pos (cost site (made change (labelling at.now) (site_values variables.now.choices.items
-            variables.now.of_sites.items bits.now) site)) -ℤ pos (cost site (labelling at.now site)) }
+            result ≡ pos (cost site (made change (labelling at.now) (site_values choices.now) site))
+            -ℤ pos (cost site (labelling at.now site)) }
         ensures range { unsigned_abs result ≤ site_cost_limit }
     {
         let old = u32::from(at[site as usize]);
-        let new = made_label(at, change, variables, bits, site);
+        let new = made_label(at, change, choices, site);
         if new == old {
             return 0;
         }
@@ -70,57 +57,46 @@ impl<F: Fn(u32, u32) -> i64, V: Fn(u32, u32) -> i64> Problem<F, V> {
     }
 
     /// By how much more the labels that the values make cost the sites.
-    fn data_rise(&self, at: &[u8], change: Move, variables: &Variables, bits: &[bool]) -> i64
+    fn data_rise(&self, at: &[u8], change: Move, choices: &[Choice]) -> i64
         requires costs { Keeps (F.pre self.now.data_cost.f) (F.post self.now.data_cost.f)
             self.now.data_cost.sites self.now.data_cost.labels data_limit }
         requires sites { (length at.now ≡ self.now.data_cost.sites) × (length at.now ≤ site_limit) }
         requires labels { All (λ label. label < self.now.data_cost.labels) at.now }
         requires change { IsMoveOf self.now.data_cost.labels change }
-        requires choices { length variables.now.choices.items ≡ length at.now }
-        requires count { length variables.now.of_sites.items ≡ length at.now }
+        requires choices { length choices.now ≡ length at.now }
         ensures rise { (m : Instance) → m.sites ≡ length at.now →
             Answers (F.post self.now.data_cost.f) m.data_cost self.now.data_cost.sites
             self.now.data_cost.labels →
-            result ≡ pos (data_energy m (made change (labelling at.now) (site_values
-            variables.now.choices.items variables.now.of_sites.items bits.now)))
+            result ≡ pos (data_energy m (made change (labelling at.now) (site_values choices.now)))
             -ℤ pos (data_energy m (labelling at.now)) }
         ensures range { unsigned_abs result ≤ data_energy_limit }
     {
         let mut total = 0i64;
         for site in 0..at.len() {
-            total += self.site_rise(at, change, variables, bits, site as u32);
+            total += self.site_rise(at, change, choices, site as u32);
         }
         total
     }
 
     /// By how much more the labels that the values make cost a pair.
-    fn pair_rise(
-        &self,
-        at: &[u8],
-        change: Move,
-        variables: &Variables,
-        bits: &[bool],
-        pair: Pair,
-    ) -> i64
+    fn pair_rise(&self, at: &[u8], change: Move, choices: &[Choice], pair: Pair) -> i64
         requires smooth { KeepsSmooth (V.pre self.now.smooth_cost.v) (V.post self.now.smooth_cost.v)
             self.now.smooth_cost.labels self.now.smooth_cost.by_metric }
         requires pair { IsPair (length at.now) pair }
         requires labels { All (λ label. label < self.now.smooth_cost.labels) at.now }
         requires change { IsMoveOf self.now.smooth_cost.labels change }
-        requires choices { length variables.now.choices.items ≡ length at.now }
-        requires count { length variables.now.of_sites.items ≡ length at.now }
+        requires choices { length choices.now ≡ length at.now }
         ensures rise { (m : Instance) →
             Answers (V.post self.now.smooth_cost.v) m.smooth_cost self.now.smooth_cost.labels
             self.now.smooth_cost.labels →
-            result ≡ pos (cost_of_pair m (made change (labelling at.now) (site_values
-            variables.now.choices.items variables.now.of_sites.items bits.now)) pair)
+            result ≡ pos (cost_of_pair m (made change (labelling at.now) (site_values choices.now)) pair)
             -ℤ pos (cost_of_pair m (labelling at.now) pair) }
         ensures range { unsigned_abs result ≤ pair_cost_limit }
     {
         let first = u32::from(at[pair.first as usize]);
         let second = u32::from(at[pair.second as usize]);
-        let new_first = made_label(at, change, variables, bits, pair.first);
-        let new_second = made_label(at, change, variables, bits, pair.second);
+        let new_first = made_label(at, change, choices, pair.first);
+        let new_second = made_label(at, change, choices, pair.second);
         if new_first == first && new_second == second {
             return 0;
         }
@@ -130,37 +106,29 @@ impl<F: Fn(u32, u32) -> i64, V: Fn(u32, u32) -> i64> Problem<F, V> {
     }
 
     /// By how much more the labels that the values make cost the pairs.
-    fn smooth_rise(&self, at: &[u8], change: Move, variables: &Variables, bits: &[bool]) -> i64
+    fn smooth_rise(&self, at: &[u8], change: Move, choices: &[Choice]) -> i64
         requires smooth { KeepsSmooth (V.pre self.now.smooth_cost.v) (V.post self.now.smooth_cost.v)
             self.now.smooth_cost.labels self.now.smooth_cost.by_metric }
         requires sites { length at.now ≡ self.now.pairs.sites }
         requires labels { All (λ label. label < self.now.smooth_cost.labels) at.now }
         requires change { IsMoveOf self.now.smooth_cost.labels change }
-        requires choices { length variables.now.choices.items ≡ length at.now }
-        requires count { length variables.now.of_sites.items ≡ length at.now }
+        requires choices { length choices.now ≡ length at.now }
         ensures rise { (m : Instance) → m.pairs ≡ self.now.pairs.list →
             Answers (V.post self.now.smooth_cost.v) m.smooth_cost self.now.smooth_cost.labels
             self.now.smooth_cost.labels →
-            result ≡ pos (smooth_energy m (made change (labelling at.now) (site_values
-            variables.now.choices.items variables.now.of_sites.items bits.now)))
+            result ≡ pos (smooth_energy m (made change (labelling at.now) (site_values choices.now)))
             -ℤ pos (smooth_energy m (labelling at.now)) }
         ensures range { unsigned_abs result ≤ smooth_energy_limit }
     {
         let mut total = 0i64;
         for index in 0..self.pairs.len() {
-            total += self.pair_rise(at, change, variables, bits, self.pairs.get(index));
+            total += self.pair_rise(at, change, choices, self.pairs.get(index));
         }
         total
     }
 
     /// Whether the labels that the values make have a lower energy than the labels as they are.
-    pub(crate) fn lowers(
-        &self,
-        at: &[u8],
-        change: Move,
-        variables: &Variables,
-        bits: &[bool],
-    ) -> bool
+    pub(crate) fn lowers(&self, at: &[u8], change: Move, choices: &[Choice]) -> bool
         requires costs { Keeps (F.pre self.now.data_cost.f) (F.post self.now.data_cost.f)
             self.now.data_cost.sites self.now.data_cost.labels data_limit }
         requires smooth { KeepsSmooth (V.pre self.now.smooth_cost.v) (V.post self.now.smooth_cost.v)
@@ -170,17 +138,15 @@ impl<F: Fn(u32, u32) -> i64, V: Fn(u32, u32) -> i64> Problem<F, V> {
         requires labels { (self.now.smooth_cost.labels ≡ self.now.data_cost.labels)
             × All (λ label. label < self.now.data_cost.labels) at.now }
         requires change { IsMoveOf self.now.data_cost.labels change }
-        requires choices { length variables.now.choices.items ≡ length at.now }
-        requires count { length variables.now.of_sites.items ≡ length at.now }
+        requires choices { length choices.now ≡ length at.now }
         ensures { (m : Instance) →
             IsMeant (F.post self.now.data_cost.f) (V.post self.now.smooth_cost.v) self.now.pairs
             self.now.data_cost.labels m →
-            IsTrue result ↔ energy m (made change (labelling at.now) (site_values
-            variables.now.choices.items variables.now.of_sites.items bits.now))
+            IsTrue result ↔ energy m (made change (labelling at.now) (site_values choices.now))
             < energy m (labelling at.now) }
     {
         let _sites = self.pairs.sites();
-        let rise = self.data_rise(at, change, variables, bits);
-        is_negative(rise + self.smooth_rise(at, change, variables, bits))
+        let rise = self.data_rise(at, change, choices);
+        is_negative(rise + self.smooth_rise(at, change, choices))
     }
 }

@@ -18,8 +18,10 @@ use pseudo_bool::Energy;
 use std::alloc::{AllocError, Global};
 use std::mem::swap;
 
-/// The most sites whose bounds keep their memory for the next move. Those of more sites, over 5 MB, are given back once the
-/// sites are decided, since the energy and the cut come then and nobody asks for a bound again.
+/// The most sites whose bounds and whose variables' numbers keep their memory for the next move. The bounds of more sites,
+/// over 5 MB, are given back once the sites are decided, since the energy and the cut come then and nobody asks for a bound
+/// again; the numbers, over 1 MB, once the energy is built, since the cut comes then and its values are taken in the order of
+/// the sites.
 const KEPT_SITES: usize = 1 << 18;
 
 /// The most terms of an energy beside which the pairs stay grouped by their sites. Beside more, of over 48 MB, the groups are
@@ -40,6 +42,13 @@ pub fn give_groups_back(alloc: Global, grouped: &mut bool, deciding: &mut Decidi
 fn give_bounds_back(alloc: Global, bounds: &mut Bounds) {
     if bounds.least.len() > KEPT_SITES {
         *bounds = Bounds::new(alloc);
+    }
+}
+
+/// Gives the memory of the numbers of many sites' variables back.
+pub fn give_numbers_back(alloc: Global, of_sites: &mut Vec<u32>) {
+    if of_sites.len() > KEPT_SITES {
+        *of_sites = Vec::new(alloc);
     }
 }
 
@@ -99,7 +108,6 @@ impl<F: Fn(u32, u32) -> i64, V: Fn(u32, u32) -> i64> Problem<F, V> {
         requires by_site { IsGroupedFor self.now.pairs room.old }
         ensures by_site { IsGroupedFor self.now.pairs room.new }
         ensures choices { OnOk result (length room.new.built.variables.choices.items ≡ length at.now) }
-        ensures count { OnOk result (length room.new.built.variables.of_sites.items ≡ length at.now) }
         ensures regular { OnOk result (IsRegular room.new.built.energy) }
         ensures built { (m : Instance) →
             IsMeant (F.post self.now.data_cost.f) (V.post self.now.smooth_cost.v) self.now.pairs
@@ -134,7 +142,6 @@ impl<F: Fn(u32, u32) -> i64, V: Fn(u32, u32) -> i64> Problem<F, V> {
         requires by_site { IsGroupedFor self.now.pairs room.old }
         ensures by_site { IsGroupedFor self.now.pairs room.new }
         ensures choices { OnOk result (length room.new.built.variables.choices.items ≡ length at.now) }
-        ensures count { OnOk result (length room.new.built.variables.of_sites.items ≡ length at.now) }
         ensures regular { OnOk result (IsRegular room.new.built.energy) }
         ensures built { (m : Instance) →
             IsMeant (F.post self.now.data_cost.f) (V.post self.now.smooth_cost.v) self.now.pairs
@@ -166,7 +173,6 @@ impl<F: Fn(u32, u32) -> i64, V: Fn(u32, u32) -> i64> Problem<F, V> {
         requires by_site { IsGroupedFor self.now.pairs room.old }
         ensures by_site { IsGroupedFor self.now.pairs room.new }
         ensures choices { OnOk result (length room.new.built.variables.choices.items ≡ length at.now) }
-        ensures count { OnOk result (length room.new.built.variables.of_sites.items ≡ length at.now) }
         ensures regular { OnOk result (IsRegular room.new.built.energy) }
         ensures built { (m : Instance) →
             IsMeant (F.post self.now.data_cost.f) (V.post self.now.smooth_cost.v) self.now.pairs

@@ -1,8 +1,7 @@
 //! The labels that the values of a move's sites make.
-ghost use Rattle.std.specs.Prelude.{◌≡◌, ◌≢◌, ◌≤◌, ◌<◌, ◌↔◌, ℕ, length, IsTrue, IsFalse, false, slice_index, slice_index_or, slice_set};
+ghost use Rattle.std.specs.Prelude.{◌≡◌, ◌≢◌, ◌≤◌, ◌<◌, ◌↔◌, ℕ, length, IsTrue, IsFalse, slice_index, slice_set};
 ghost use Rattle.labellings.specs.Energies.{Instance, labelling};
 ghost use Rattle.labellings.specs.Moves.{IsBest, IsMoveOf, label_in};
-ghost use Rattle.pseudo_bool.specs.Formula.{assignment};
 ghost use Rattle.cost_store.specs.Limits.{data_limit};
 ghost use Rattle.cost_store.specs.Promises.{Keeps, KeepsSmooth};
 ghost use Rattle.move_energy.specs.Problems.{AreSized, IsMeant};
@@ -13,18 +12,12 @@ ghost use Rattle.moves.specs.Building.{site_values};
 use crate::Problem;
 use label_field::Labelling;
 use labellings::Move;
-use move_energy::Variables;
+use move_energy::Choice;
 
 impl<F: Fn(u32, u32) -> i64, V: Fn(u32, u32) -> i64> Problem<F, V> {
     /// Takes the labels that the least values of the sites with the fewest ones make. Where no labels are better, an
     /// expansion makes the labels as they are; a swap need not, so it takes them only where their energy is lower.
-    pub(crate) fn take_best(
-        &self,
-        field: &mut Labelling,
-        change: Move,
-        variables: &Variables,
-        bits: &[bool],
-    ) -> bool
+    pub(crate) fn take_best(&self, field: &mut Labelling, change: Move, choices: &[Choice]) -> bool
         requires sizes { AreSized self.now.pairs self.now.data_cost.sites self.now.data_cost.labels
             self.now.smooth_cost.labels field.old }
         requires costs { Keeps (F.pre self.now.data_cost.f) (F.post self.now.data_cost.f)
@@ -32,46 +25,42 @@ impl<F: Fn(u32, u32) -> i64, V: Fn(u32, u32) -> i64> Problem<F, V> {
         requires smooth { KeepsSmooth (V.pre self.now.smooth_cost.v) (V.post self.now.smooth_cost.v)
             self.now.smooth_cost.labels self.now.smooth_cost.by_metric }
         requires below { IsMoveOf field.old.labels change }
-        requires choices { length variables.now.choices.items ≡ length field.old.at }
-        requires count { length variables.now.of_sites.items ≡ length field.old.at }
+        requires choices { length choices.now ≡ length field.old.at }
         ensures sizes { (field.new.labels ≡ field.old.labels) × (length field.new.at ≡ length field.old.at) }
         ensures best { (m : Instance) →
             IsMeant (F.post self.now.data_cost.f) (V.post self.now.smooth_cost.v) self.now.pairs
             self.now.data_cost.labels m →
-            IsSmallestLeast m.sites (move_value m change (labelling field.old.at)) (site_values
-            variables.now.choices.items variables.now.of_sites.items bits.now) →
+            IsSmallestLeast m.sites (move_value m change (labelling field.old.at)) (site_values choices.now) →
             (IsBest m change field.old.at field.new.at × ((IsTrue result → field.new.at ≢ field.old.at)
             × (IsFalse result → field.new.at ≡ field.old.at))) }
     {
         let _pairs = self.pairs.as_slice();
         match change {
-            Move::Expand(_) => relabel(field, variables, bits, change),
+            Move::Expand(_) => relabel(field, choices, change),
             Move::Swap(_, _) => {
-                if !self.lowers(field.as_slice(), change, variables, bits) {
+                if !self.lowers(field.as_slice(), change, choices) {
                     return false;
                 }
-                relabel(field, variables, bits, change)
+                relabel(field, choices, change)
             }
         }
     }
 }
 
 /// Gives each site the label that its value makes. It answers whether a label changed.
-fn relabel(labelling: &mut Labelling, variables: &Variables, bits: &[bool], change: Move) -> bool
+fn relabel(labelling: &mut Labelling, choices: &[Choice], change: Move) -> bool
     requires below { IsMoveOf labelling.old.labels change }
-    requires choices { length variables.now.choices.items ≡ length labelling.old.at }
-    requires count { length variables.now.of_sites.items ≡ length labelling.old.at }
+    requires choices { length choices.now ≡ length labelling.old.at }
     ensures sizes { (labelling.new.labels ≡ labelling.old.labels)
         × (length labelling.new.at ≡ length labelling.old.at) }
     ensures each { (p : ℕ) → p < length labelling.old.at →
-        slice_index labelling.new.at p ≡ label_in change (slice_index labelling.old.at p) (site_values
-        variables.now.choices.items variables.now.of_sites.items bits.now p) }
+        slice_index labelling.new.at p ≡ label_in change (slice_index labelling.old.at p) (site_values choices.now p) }
     ensures changed { (IsTrue result → labelling.new.at ≢ labelling.old.at) × (IsFalse result →
         labelling.new.at ≡ labelling.old.at) }
 {
     let mut changed = false;
     for site in 0..labelling.sites() {
-        let bit = value_of(variables, bits, site);
+        let bit = value_of(choices, site);
         if relabel_site(labelling, site, bit, change) {
             changed = true;
         }
@@ -79,21 +68,12 @@ fn relabel(labelling: &mut Labelling, variables: &Variables, bits: &[bool], chan
     changed
 }
 
-/// The value of a site's variable: what was decided, or that in the assignment.
-pub(crate) fn value_of(variables: &Variables, bits: &[bool], site: u32) -> bool
-    requires choices { site < length variables.now.choices.items }
-    requires variables { site < length variables.now.of_sites.items }
-    ensures { result ≡ site_values variables.now.choices.items variables.now.of_sites.items bits.now site }
+/// The value of a site's variable, once its choice is settled.
+pub(crate) fn value_of(choices: &[Choice], site: u32) -> bool
+    requires choices { site < length choices.now }
+    ensures { result ≡ site_values choices.now site }
 {
-    let variable = variables.of_sites[site as usize] as usize;
-    variables.choices[site as usize].bit(bit_at(bits, variable))
-}
-
-/// The value of a variable, no where there is none of this number.
-fn bit_at(bits: &[bool], variable: usize) -> bool
-    ensures { result ≡ slice_index_or bits.now variable false }
-{
-    variable < bits.len() && bits[variable]
+    choices[site as usize].bit(false)
 }
 
 /// Gives a site the label that this value makes. It answers whether that is another.

@@ -1,4 +1,4 @@
-use Rattle.std.proofs.Common.{◌≡◌, true, refl}
+use Rattle.std.proofs.Common.{true, refl}
 use Rattle.move_energy.proofs.Values.{both_add, ends_fit, table_regular}
 use Rattle.std.proofs.lemmas.Result.{err_from_is_err_and}
 use Rattle.move_energy.proofs.ends.add_both.Goals as goal

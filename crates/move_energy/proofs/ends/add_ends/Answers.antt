@@ -1,4 +1,4 @@
-use Rattle.std.proofs.Common.{rules, ◌≡◌, ◌∙◌, ap, true, refl}
+use Rattle.std.proofs.Common.{rules, ◌∙◌, ap, true, refl}
 use Rattle.labellings.specs.Moves.{label_in}
 use Rattle.move_energy.proofs.Values.{first_adds, second_adds, none_adds, ends_fit}
 use Rattle.std.proofs.lemmas.Result.{err_from_is_err_and}

@@ -1,4 +1,4 @@
-use Rattle.std.proofs.Common.{◌≡◌, ◌*◌, ◌∙◌, ap, pos, Bool, w64, FitsSigned, to_z, of_z}
+use Rattle.std.proofs.Common.{◌*◌, ◌∙◌, ap, pos, Bool, w64, FitsSigned}
 use Rattle.std.proofs.lemmas.Int.{to_z-of_z}
 use Rattle.std.proofs.lemmas.Result.{on_ok_weaker}
 use Rattle.labellings.specs.Moves.{label_in}

@@ -4,7 +4,7 @@ use Rattle.grouping.specs.declared.Groups.{Groups}
 use Rattle.pseudo_bool.specs.Formula.{assignment}
 use Rattle.labellings.specs.Energies.{labelling}
 use Rattle.move_energy.specs.declared.choice.Choice.{Choice}
-use Rattle.move_energy.specs.Choices.{choice_at}
+use Rattle.move_energy.specs.Choices.{choice_at, rank}
 use Rattle.move_energy.proofs.Whole.{pairs_meant}
 use Rattle.deciding.specs.Decided.{AreBySite, AreDecided}
 use Rattle.moves.proofs.Least.{decided_least}
@@ -24,8 +24,8 @@ returns-in-Ok-clause-built g c = λ m meant.
     let same = c.in-Ok.ensures.kept ∙ ap (λ (v : _). v.items) c.swap.ensures.y_after in
     let vs = c.build.new.self.variables in (
       decided.0,
-      λ bits least. decided_least m c.args.change (labelling c.args.at.now) (choice_at vs.choices.items) c.build.new.self.energy (labelling vs.of_sites.items)
-          (labelling vs.sites.items) (assignment bits) pairs decided.0 (subst P (sym same) decided.1) built.1 least,
+      λ bits least. decided_least m c.args.change (labelling c.args.at.now) (choice_at vs.choices.items) c.build.new.self.energy (rank vs.choices.items)
+          (assignment bits) pairs decided.0 (subst P (sym same) decided.1) built.1 least,
     )
 
 pub returns-in_err-group-clause-by_site : goal.returns-in_err-group-clause-by_site
@@ -33,11 +33,6 @@ returns-in_err-group-clause-by_site g c = c.in_err-group.ensures.by_site
 
 pub returns-in_err-group-clause-choices : goal.returns-in_err-group-clause-choices
 returns-in_err-group-clause-choices g c =
-    let p = err_from_is_err_and c.from_residual.result c.from_residual.ensures.1 in
-    rw (p.1) tt
-
-pub returns-in_err-group-clause-count : goal.returns-in_err-group-clause-count
-returns-in_err-group-clause-count g c =
     let p = err_from_is_err_and c.from_residual.result c.from_residual.ensures.1 in
     rw (p.1) tt
 
@@ -77,11 +72,6 @@ returns-in_err-decide-clause-choices g c =
     let p = err_from_is_err_and c.from_residual-in_err-decide.result c.from_residual-in_err-decide.ensures.1 in
     rw (p.1) tt
 
-pub returns-in_err-decide-clause-count : goal.returns-in_err-decide-clause-count
-returns-in_err-decide-clause-count g c =
-    let p = err_from_is_err_and c.from_residual-in_err-decide.result c.from_residual-in_err-decide.ensures.1 in
-    rw (p.1) tt
-
 pub returns-in_err-decide-clause-regular : goal.returns-in_err-decide-clause-regular
 returns-in_err-decide-clause-regular g c =
     let p = err_from_is_err_and c.from_residual-in_err-decide.result c.from_residual-in_err-decide.ensures.1 in
@@ -113,9 +103,6 @@ returns-in-Ok-clause-by_site g c = λ grouped.
 pub returns-in-Ok-clause-choices : goal.returns-in-Ok-clause-choices
 returns-in-Ok-clause-choices g c = ap (λ (xs : List Choice). length xs) c.in-Ok.ensures.kept ∙ ap (λ (v : _). length v.items) c.swap.ensures.y_after ∙ c.in_ok-decide.ensures.count
 
-pub returns-in-Ok-clause-count : goal.returns-in-Ok-clause-count
-returns-in-Ok-clause-count g c = c.in-Ok.ensures.numbering.count ∙ ap (λ (xs : List Choice). length xs) c.in-Ok.ensures.kept ∙ ap (λ (v : _). length v.items) c.swap.ensures.y_after ∙ c.in_ok-decide.ensures.count
-
 pub returns-in-Ok-clause-regular : goal.returns-in-Ok-clause-regular
 returns-in-Ok-clause-regular g c = c.in-Ok.ensures.regular
 
@@ -126,9 +113,6 @@ returns-in-Err-clause-by_site g c = λ grouped.
 
 pub returns-in-Err-clause-choices : goal.returns-in-Err-clause-choices
 returns-in-Err-clause-choices g c = tt
-
-pub returns-in-Err-clause-count : goal.returns-in-Err-clause-count
-returns-in-Err-clause-count g c = tt
 
 pub returns-in-Err-clause-regular : goal.returns-in-Err-clause-regular
 returns-in-Err-clause-regular g c = tt

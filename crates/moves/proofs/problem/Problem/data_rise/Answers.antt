@@ -15,7 +15,7 @@ loop-site-preserved g c =
       so_far = λ m answers.
           rise_sum (to_z w64 c.loop-site.total-bits) c.site_rise-total.result c.loop-site.site c.loop-site.invariant.small c.site_rise-total.ensures.range few
           ∙ rise_next c.loop-site.site
-          (λ p. m.data_cost p (made a.change (labelling a.at.now) (site_values a.variables.now.choices.items a.variables.now.of_sites.items a.bits.now) p))
+          (λ p. m.data_cost p (made a.change (labelling a.at.now) (site_values a.choices.now) p))
           (λ p. m.data_cost p (labelling a.at.now p)) _ _ (c.loop-site.invariant.so_far m answers) (c.site_rise-total.ensures.rise m.data_cost answers);
     }
 
@@ -24,5 +24,5 @@ returns-clause-rise g c = λ m sites answers.
     let a = c.args in
     let end : c.loop-site.site ≡ m.sites = omega (arith, c.loop-site-test.false, c.loop-site.auto.site-end, sites) in
     c.loop-site.invariant.so_far m answers
-    ∙ ap (λ n. pos (sum_below n (λ p. m.data_cost p (made a.change (labelling a.at.now) (site_values a.variables.now.choices.items a.variables.now.of_sites.items a.bits.now) p)))
+    ∙ ap (λ n. pos (sum_below n (λ p. m.data_cost p (made a.change (labelling a.at.now) (site_values a.choices.now) p)))
     -ℤ pos (sum_below n (λ p. m.data_cost p (labelling a.at.now p)))) end

@@ -10,6 +10,6 @@ abbrev pub invariant-loop-site : goal.invariant-loop-site
 invariant-loop-site g l = record {
   small : unsigned_abs l.total ≤ 10000000 * l.site;
   so_far : (m : Instance) → Answers (goal.F-post g l.self.data_cost.f) m.data_cost l.self.data_cost.sites l.self.data_cost.labels →
-      l.total ≡ pos (sum_below l.site (λ p. m.data_cost p (made l.change (labelling l.at) (site_values l.variables.choices.items l.variables.of_sites.items l.bits) p)))
+      l.total ≡ pos (sum_below l.site (λ p. m.data_cost p (made l.change (labelling l.at) (site_values l.choices) p)))
       -ℤ pos (sum_below l.site (λ p. m.data_cost p (labelling l.at p)));
 }

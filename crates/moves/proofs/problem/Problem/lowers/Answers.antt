@@ -24,9 +24,6 @@ data_rise-rise-requires-clause-change g c = c.requires.change
 pub data_rise-rise-requires-clause-choices : goal.data_rise-rise-requires-clause-choices
 data_rise-rise-requires-clause-choices g c = c.requires.choices
 
-pub data_rise-rise-requires-clause-count : goal.data_rise-rise-requires-clause-count
-data_rise-rise-requires-clause-count g c = c.requires.count
-
 pub smooth_rise-requires-clause-smooth : goal.smooth_rise-requires-clause-smooth
 smooth_rise-requires-clause-smooth g c = c.requires.smooth
 
@@ -41,9 +38,6 @@ smooth_rise-requires-clause-change g c = search rules
 
 pub smooth_rise-requires-clause-choices : goal.smooth_rise-requires-clause-choices
 smooth_rise-requires-clause-choices g c = c.requires.choices
-
-pub smooth_rise-requires-clause-count : goal.smooth_rise-requires-clause-count
-smooth_rise-requires-clause-count g c = c.requires.count
 
 pub overflow_add-rise : goal.overflow_add-rise
 overflow_add-rise g c = search rules

@@ -3,14 +3,8 @@ use Rattle.moves.proofs.problem.Problem.pair_rise.Goals as goal
 pub made_label-new_first-requires-clause-choices : goal.made_label-new_first-requires-clause-choices
 made_label-new_first-requires-clause-choices g c = c.requires.choices
 
-pub made_label-new_first-requires-clause-count : goal.made_label-new_first-requires-clause-count
-made_label-new_first-requires-clause-count g c = c.requires.count
-
 pub made_label-new_second-requires-clause-choices : goal.made_label-new_second-requires-clause-choices
 made_label-new_second-requires-clause-choices g c = c.requires.choices
-
-pub made_label-new_second-requires-clause-count : goal.made_label-new_second-requires-clause-count
-made_label-new_second-requires-clause-count g c = c.requires.count
 
 pub pair_cost-new-requires-clause-smooth : goal.pair_cost-new-requires-clause-smooth
 pair_cost-new-requires-clause-smooth g c = c.requires.smooth

@@ -14,7 +14,7 @@ loop-index-preserved g c =
       small = rise_small (to_z w64 c.loop-index.total-bits) c.pair_rise-total.result c.loop-index.index c.loop-index.invariant.small c.pair_rise-total.ensures.range few;
       so_far = λ m same answers.
           rise_sum (to_z w64 c.loop-index.total-bits) c.pair_rise-total.result c.loop-index.index c.loop-index.invariant.small c.pair_rise-total.ensures.range few
-          ∙ list_rise_next (pair_cost m (made a.change (labelling a.at.now) (site_values a.variables.now.choices.items a.variables.now.of_sites.items a.bits.now)))
+          ∙ list_rise_next (pair_cost m (made a.change (labelling a.at.now) (site_values a.choices.now)))
           (pair_cost m (labelling a.at.now)) a.self.now.pairs.list m.pairs c.loop-index.index _ _ c.get.result same inside c.get.ensures.value
           (c.loop-index.invariant.so_far m same answers) (c.pair_rise-total.ensures.rise m answers);
     }
@@ -22,6 +22,6 @@ loop-index-preserved g c =
 pub returns-clause-rise : goal.returns-clause-rise
 returns-clause-rise g c = λ m same answers.
     let a = c.args in
-    list_rise_all (pair_cost m (made a.change (labelling a.at.now) (site_values a.variables.now.choices.items a.variables.now.of_sites.items a.bits.now)))
+    list_rise_all (pair_cost m (made a.change (labelling a.at.now) (site_values a.choices.now)))
     (pair_cost m (labelling a.at.now)) a.self.now.pairs.list m.pairs c.loop-index.index _ same
     (omega (arith, c.loop-index-test.false, c.len-index-end.ensures.value)) (c.loop-index.invariant.so_far m same answers)

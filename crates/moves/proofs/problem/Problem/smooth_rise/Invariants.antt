@@ -9,6 +9,6 @@ abbrev pub invariant-loop-index : goal.invariant-loop-index
 invariant-loop-index g l = record {
   small : unsigned_abs l.total ≤ 10000000 * l.index;
   so_far : (m : Instance) → m.pairs ≡ l.self.pairs.list → Answers (goal.V-post g l.self.smooth_cost.v) m.smooth_cost l.self.smooth_cost.labels l.self.smooth_cost.labels →
-      l.total ≡ pos (sum_by (pair_cost m (made l.change (labelling l.at) (site_values l.variables.choices.items l.variables.of_sites.items l.bits))) (take l.index m.pairs))
+      l.total ≡ pos (sum_by (pair_cost m (made l.change (labelling l.at) (site_values l.choices))) (take l.index m.pairs))
       -ℤ pos (sum_by (pair_cost m (labelling l.at)) (take l.index m.pairs));
 }

@@ -8,10 +8,9 @@ use Rattle.moves.proofs.problem.Problem.take_best.Goals as goal
 pub returns-in-Expand-clause-best : goal.returns-in-Expand-clause-best
 returns-in-Expand-clause-best g c = λ m meant least.
     let a = c.args in
-    let vs = a.variables.now in
     let pairs = pairs_meant _ _ _ _ m _ meant c.as_slice-pairs.ensures.value c.as_slice-pairs.ensures.pairs in
     let size = c.requires.sizes.field_sites ∙ sym meant.sites_are in (
-      expanded_best m a.change _ a.field.now.at c.relabel.new.labelling.at (site_values vs.choices.items vs.of_sites.items a.bits.now) c.in-Expand.is pairs least size
+      expanded_best m a.change _ a.field.now.at c.relabel.new.labelling.at (site_values a.choices.now) c.in-Expand.is pairs least size
           c.relabel.ensures.sizes.1 (λ p l. c.relabel.ensures.each p (omega (arith, l, size))),
       c.relabel.ensures.changed,
     )
@@ -19,21 +18,19 @@ returns-in-Expand-clause-best g c = λ m meant least.
 pub returns-then-not-lowers-clause-best : goal.returns-then-not-lowers-clause-best
 returns-then-not-lowers-clause-best g c = λ m meant least.
     let a = c.args in
-    let vs = a.variables.now in
     let pairs = pairs_meant _ _ _ _ m _ meant c.as_slice-pairs.ensures.value c.as_slice-pairs.ensures.pairs in
     let told = rw (c.as_slice.ensures.value) at (c.lowers.ensures m meant) in (
-      kept_best m a.change a.field.now.at (site_values vs.choices.items vs.of_sites.items a.bits.now) pairs least (not_lower _ _ c.lowers.result told.1 c.if-not-lowers.true),
+      kept_best m a.change a.field.now.at (site_values a.choices.now) pairs least (not_lower _ _ c.lowers.result told.1 c.if-not-lowers.true),
       ((λ yes. absurd (cc yes)), λ still. refl),
     )
 
 pub returns-else-not-lowers-clause-best : goal.returns-else-not-lowers-clause-best
 returns-else-not-lowers-clause-best g c = λ m meant least.
     let a = c.args in
-    let vs = a.variables.now in
     let pairs = pairs_meant _ _ _ _ m _ meant c.as_slice-pairs.ensures.value c.as_slice-pairs.ensures.pairs in
     let size = c.requires.sizes.field_sites ∙ sym meant.sites_are in
     let told = rw (c.as_slice.ensures.value) at (c.lowers.ensures m meant) in (
-      lower_best m a.change a.field.now.at c.relabel-in-Swap.new.labelling.at (site_values vs.choices.items vs.of_sites.items a.bits.now) pairs least
+      lower_best m a.change a.field.now.at c.relabel-in-Swap.new.labelling.at (site_values a.choices.now) pairs least
           c.relabel-in-Swap.ensures.sizes.1 (λ p l. c.relabel-in-Swap.ensures.each p (omega (arith, l, size))) (told.0 c.if-not-lowers.false),
       c.relabel-in-Swap.ensures.changed,
     )
@@ -43,9 +40,6 @@ relabel-requires-clause-below g c = c.requires.below
 
 pub relabel-requires-clause-choices : goal.relabel-requires-clause-choices
 relabel-requires-clause-choices g c = c.requires.choices
-
-pub relabel-requires-clause-count : goal.relabel-requires-clause-count
-relabel-requires-clause-count g c = c.requires.count
 
 pub lowers-requires-clause-costs : goal.lowers-requires-clause-costs
 lowers-requires-clause-costs g c = c.requires.costs
@@ -65,9 +59,6 @@ lowers-requires-clause-change g c = search rules
 pub lowers-requires-clause-choices : goal.lowers-requires-clause-choices
 lowers-requires-clause-choices g c = c.requires.choices ∙ sym (ap (λ (xs : List ℕ). length xs) c.as_slice.ensures.value)
 
-pub lowers-requires-clause-count : goal.lowers-requires-clause-count
-lowers-requires-clause-count g c = c.requires.count ∙ sym (ap (λ (xs : List ℕ). length xs) c.as_slice.ensures.value)
-
 pub returns-then-not-lowers-clause-sizes : goal.returns-then-not-lowers-clause-sizes
 returns-then-not-lowers-clause-sizes g c = (refl, refl)
 
@@ -76,9 +67,6 @@ relabel-requires-in-Swap-clause-below g c = c.requires.below
 
 pub relabel-requires-in-Swap-clause-choices : goal.relabel-requires-in-Swap-clause-choices
 relabel-requires-in-Swap-clause-choices g c = c.requires.choices
-
-pub relabel-requires-in-Swap-clause-count : goal.relabel-requires-in-Swap-clause-count
-relabel-requires-in-Swap-clause-count g c = c.requires.count
 
 pub returns-in-Expand-clause-sizes : goal.returns-in-Expand-clause-sizes
 returns-in-Expand-clause-sizes g c = c.relabel.ensures.sizes
