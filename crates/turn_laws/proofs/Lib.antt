@@ -6,3 +6,4 @@ pub mod Histories
 pub mod Starts
 pub mod Runs
 pub mod Laid
+pub mod Loosely
