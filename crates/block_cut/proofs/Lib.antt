@@ -4,3 +4,4 @@ pub mod Answering
 pub mod Ending
 pub mod Turned
 mod Going
+pub mod Opened

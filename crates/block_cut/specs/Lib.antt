@@ -3,3 +3,4 @@ pub mod Takes
 pub mod Ends
 pub mod Turns
 pub mod Passes
+pub mod Opening

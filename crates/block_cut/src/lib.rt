@@ -7,6 +7,7 @@
 
 mod answers;
 mod ends;
+mod opening;
 mod passes;
 mod solver;
 mod sweeps;

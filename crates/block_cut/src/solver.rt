@@ -6,6 +6,7 @@ ghost use Rattle.parcel.specs.Soundness.{IsFinished, count};
 ghost use Rattle.global_relabel.specs.Workspaces.{Serves};
 
 use crate::answers::answer_of;
+use crate::opening::open;
 use crate::passes::work;
 use crate::sweeps::{try_directions, try_nodes};
 use crate::takes::{take_all, take_in};
@@ -88,5 +89,5 @@ pub fn solve(alloc: Global, net: &Net) -> Result<Solved, AllocError>
         return Err(AllocError);
     }
     let state = State::open(alloc, net, 1)?;
-    finish(alloc, state)
+    finish(alloc, open(state))
 }

@@ -1,0 +1,135 @@
+-- What the first pushes keep of a block and of the blocks of a net.
+use Rattle.std.proofs.Common.{◌≡◌, ℕ, ◌+◌, ◌-◌, ◌<◌, ◌≤◌, List, length, set, slice_set, slice_index, slice_index_or, sum, refl, sym, ◌∙◌, ap, subst, inl, inr, arith, get_or-set_other}
+use Rattle.std.proofs.lemmas.Bool.{cases_eq}
+use Rattle.std.proofs.lemmas.List.{length-set, get_or_read_under, get_or-replicate}
+use Rattle.flow_network.specs.Cut.{Network, nodes}
+use Rattle.parcel.specs.declared.message.Message.{Message}
+use Rattle.parcel.specs.States.{State}
+use Rattle.parcel.specs.Soundness.{IsSound, opened}
+use Rattle.block_net.specs.Views.{BlockView, count, excess_in, room_in, lane_in, pushed, given}
+use Rattle.block_net.specs.Whole.{Whole, no_block, block_at}
+use Rattle.block_core.specs.Views.{IsLaid, IsSpot, blocks_in, state_of}
+use Rattle.block_core.specs.Mails.{HasRooms, IsHeld}
+use Rattle.block_core.specs.declared.pieces.Pieces.{Pieces}
+use Rattle.block_core.specs.Pieces.{whole_within, state_in}
+use Rattle.block_core.proofs.Steps.{label_read}
+use Rattle.block_core.proofs.Writing.{block_same}
+use Rattle.discharge.specs.Steps.{IsOfNode}
+use Rattle.turn_laws.specs.Loose.{IsStanding}
+use Rattle.turn_laws.proofs.Laid.{put_own, seated}
+use Rattle.turn_laws.proofs.Loosely.{loose_push_keeps, loose_give_keeps}
+use Rattle.block_cut.specs.Passes.{whole_with, state_at}
+use Rattle.block_cut.specs.Opening.{IsFlat, AreLabelsZero, Opens, AreOpening}
+
+-- ---- one block
+
+pub opens_none : (B : BlockView) → Opens B B
+opens_none B = record { nodes = refl; starts = refl; lanes = refl; labels = refl; stands = λ w b ways got flat stands. (got, stands) }
+
+flat_again : (A B : BlockView) → count B ≡ count A → B.labels ≡ A.labels → IsFlat A → IsFlat B
+flat_again A B size labels flat v l = ap (λ (q : List ℕ). slice_index q v) labels ∙ flat v (omega (arith, l, size))
+
+pub opens_more : (A B C : BlockView) → Opens A B → Opens B C → Opens A C
+opens_more A B C p q = record {
+  nodes = q.nodes ∙ p.nodes;
+  starts = q.starts ∙ p.starts;
+  lanes = q.lanes ∙ p.lanes;
+  labels = q.labels ∙ p.labels;
+  stands = λ w b ways got flat stands.
+      let first = p.stands w b ways got flat stands in
+      q.stands w b ways first.0 (flat_again A B p.nodes p.labels flat) first.1;
+}
+
+pub given_opens : (B : BlockView) (p a : ℕ) → p < count B → p < length B.rooms → a ≤ excess_in B p → a ≤ room_in B p → Opens B (given B p a)
+given_opens B p a lp lr enough fits = record {
+  nodes = length-set B.excess p _;
+  starts = refl;
+  lanes = refl;
+  labels = refl;
+  stands = λ w b ways got flat stands. (got + a, loose_give_keeps w b B ways got p a stands lp lr enough fits);
+}
+
+pub pushed_opens : (B : BlockView) (p j a : ℕ) → p < count B → IsOfNode B p j → a ≤ excess_in B p → a ≤ (lane_in B j).residual → (lane_in B j).far < count B → Opens B (pushed B p j a)
+pushed_opens B p j a lp of enough fits lf = record {
+  nodes = length-set (set B.excess p (excess_in B p - a)) (lane_in B j).far _ ∙ length-set B.excess p _;
+  starts = refl;
+  lanes = length-set (set B.lanes j _) (lane_in B j).opposite _ ∙ length-set B.lanes j _;
+  labels = refl;
+  stands = λ w b ways got flat stands. (got, loose_push_keeps w b B ways got p j a stands lp of enough fits (omega (arith, flat (lane_in B j).far lf)));
+}
+
+-- ---- the blocks of a net
+
+module _ (p : Pieces) (blocks : List BlockView) (opening : AreOpening p blocks) where
+  standing : (b : ℕ) → b < length blocks → IsStanding (whole_with p blocks) b (block_at (whole_with p blocks) b) p.ways.messages opening.got
+  standing b l = record {
+    seated = seated (whole_with p blocks) b opening.laid l;
+    sound = subst (λ (q : Whole). IsSound (state_of (blocks_in q) p.ways.messages opening.got)) (sym (put_own (whole_with p blocks) b)) opening.sound;
+  }
+
+  flat_put : (b : ℕ) (new : BlockView) → b < length blocks → Opens (block_at (whole_with p blocks) b) new → (c : ℕ) → c < length (set blocks b new) → IsFlat (block_at (whole_with p (set blocks b new)) c)
+  flat_put b new l opens c lc = elim (cases_eq c b) [
+    | inl e ↦
+        let w = whole_with p blocks in
+        let flat = flat_again (block_at w b) new opens.nodes opens.labels (opening.flat b l) in
+        rw e (subst IsFlat (sym (block_same w b new l)) flat)
+    | inr off ↦ subst IsFlat (sym (get_or-set_other blocks b c new no_block off)) (opening.flat c (omega (arith, lc, length-set blocks b new)))
+  ]
+
+  pub block_opened : (b : ℕ) (new : BlockView) → b < length blocks → Opens (block_at (whole_with p blocks) b) new → AreOpening p (slice_set blocks b new)
+  block_opened b new l opens =
+      let then' = opens.stands (whole_with p blocks) b p.ways.messages opening.got (opening.flat b l) (standing b l) in
+      record {
+        got = then'.0;
+        size = length-set blocks b new ∙ opening.size;
+        laid = then'.1.seated.laid;
+        sound = then'.1.sound;
+        flat = flat_put b new l opens;
+      }
+
+-- the same by the number of blocks and the block as the code has them
+pub turn_opened : (p : Pieces) (blocks : List BlockView) (k b : ℕ) (old new : BlockView) → AreOpening p blocks → k ≡ length blocks → b < k → old ≡ slice_index_or blocks b old
+    → Opens old new → AreOpening p (slice_set blocks b new)
+turn_opened p blocks k b old new opening size l is opens =
+    block_opened p blocks opening b new (omega (arith, size, l))
+    (subst (λ (q : BlockView). Opens q new) (get_or_read_under blocks b k old no_block is l size) opens)
+
+-- ---- at first
+
+-- a block shows the labels of its nodes
+flat_at : (w : Whole) (ways : List (List (List Message))) (got b : ℕ) → IsLaid w → AreLabelsZero (state_of (blocks_in w) ways got) → b < length w.blocks → IsFlat (block_at w b)
+flat_at w ways got b laid zeros l p lp =
+    let found = laid.filled.nodes b p l lp in
+    let spot : IsSpot w found.0 b p = record { node = found.1.node; home = found.1.home; place = found.1.place; block = l } in
+    label_read w (blocks_in w) b (block_at w b) found.0 p (record { laid = laid; view = refl; block = l; is = refl }) spot ∙ zeros found.0 found.1.node
+
+pub opening_from : (p : Pieces) (s : State) → state_in p ≡ s → IsLaid (whole_within p) → IsHeld p.ways.rooms s → AreLabelsZero s → AreOpening p p.parts.blocks.items
+opening_from p s is laid held zeros = record {
+  got = p.got;
+  size = refl;
+  laid = laid;
+  sound = subst IsSound (sym is) held.sound;
+  flat = λ b l. flat_at (whole_within p) p.ways.messages p.got b laid (subst AreLabelsZero (sym is) zeros) l;
+}
+
+pub zeros_at_first : (net : Network) (blocks : ℕ) → AreLabelsZero (opened net blocks)
+zeros_at_first net blocks v l = get_or-replicate (nodes net) v 0 0 l
+
+-- ---- in the end
+
+held_by : (p : Pieces) (blocks : List BlockView) (got : ℕ) → AreOpening p blocks → IsHeld p.ways.rooms (state_in p) → got + sum (state_at p blocks p.ways.messages got).rooms ≡ sum p.net.sinks
+    → IsHeld p.ways.rooms (state_at p blocks p.ways.messages got)
+held_by p blocks got opening held given' =
+    let same : opening.got ≡ got = omega (arith, opening.sound.got, given') in
+    record {
+      sound = subst (λ g. IsSound (state_at p blocks p.ways.messages g)) same opening.sound;
+      few = opening.laid.few;
+      arcs = opening.laid.arcs;
+      room = subst (λ k. HasRooms p.net k p.ways.rooms) (sym opening.size) held.room;
+    }
+
+pub held_after : (p q : Pieces) (got : ℕ) → q ≡ record p { parts = record p.parts { blocks = q.parts.blocks } } → AreOpening p q.parts.blocks.items → IsHeld p.ways.rooms (state_in p)
+    → got + sum (state_in q).rooms ≡ sum q.net.sinks → IsHeld q.ways.rooms (state_in (record q { got = got }))
+held_after p q got same opening held given' =
+    let given'' = subst (λ (z : Pieces). got + sum (state_in z).rooms ≡ sum z.net.sinks) same given' in
+    subst (λ (z : Pieces). IsHeld z.ways.rooms (state_in (record z { got = got }))) (sym same) (held_by p q.parts.blocks.items got opening held given'')

@@ -1,0 +1,11 @@
+use Rattle.block_cut.specs.Opening.{Opens}
+use Rattle.block_cut.proofs.opening.open_block.Given as goal
+
+abbrev pub invariant-up : goal.invariant-up
+invariant-up l = Opens l.fn.cells l.cells
+
+abbrev pub invariant-down : goal.invariant-down
+invariant-down l = Opens l.fn.cells l.cells
+
+abbrev pub invariant-out : goal.invariant-out
+invariant-out l = Opens l.fn.cells l.cells

@@ -1,0 +1,38 @@
+-- What the first pushes make of the blocks.
+use Rattle.std.specs.Prelude.{◌≡◌, ℕ, ◌<◌, List, length}
+use Rattle.parcel.specs.declared.message.Message.{Message}
+use Rattle.parcel.specs.States.{State, label_of}
+use Rattle.parcel.specs.Soundness.{IsSound}
+use Rattle.flow_network.specs.Cut.{nodes}
+use Rattle.block_net.specs.Views.{BlockView, count, label_in}
+use Rattle.block_net.specs.Whole.{Whole, block_at}
+use Rattle.block_core.specs.Views.{IsLaid}
+use Rattle.block_core.specs.declared.pieces.Pieces.{Pieces}
+use Rattle.turn_laws.specs.Loose.{IsStanding}
+use Rattle.block_cut.specs.Passes.{whole_with, state_at}
+
+-- all labels of a block are 0
+abbrev pub IsFlat : BlockView → Type 0
+IsFlat B = (v : ℕ) → v < count B → label_in B v ≡ 0
+
+-- all labels of a state are 0
+abbrev pub AreLabelsZero : State → Type 0
+AreLabelsZero s = (v : ℕ) → v < nodes s.net → label_of s v ≡ 0
+
+-- the same nodes with the same labels and as many directions; where all labels are 0 and the one block stands
+-- in its place in a sound state, so does the other, by another amount that the sink got
+pub record Opens (old new : BlockView) : Type 0 where
+  pub nodes : count new ≡ count old
+  pub starts : new.starts ≡ old.starts
+  pub lanes : length new.lanes ≡ length old.lanes
+  pub labels : new.labels ≡ old.labels
+  pub stands : (w : Whole) (b : ℕ) (ways : List (List (List Message))) (got : ℕ)
+      → IsFlat old → IsStanding w b old ways got → (got' : ℕ) × IsStanding w b new ways got'
+
+-- as many blocks make a sound state of the pieces' net with the pieces' ways, and all their labels are 0
+pub record AreOpening (p : Pieces) (blocks : List BlockView) : Type 0 where
+  pub got : ℕ
+  pub size : length blocks ≡ length p.parts.blocks.items
+  pub laid : IsLaid (whole_with p blocks)
+  pub sound : IsSound (state_at p blocks p.ways.messages got)
+  pub flat : (b : ℕ) → b < length blocks → IsFlat (block_at (whole_with p blocks) b)

@@ -1,0 +1,133 @@
+ghost use Rattle.std.specs.Prelude.{◌≡◌, ◌<◌, length};
+ghost use Rattle.block_core.specs.Mails.{IsHeld};
+ghost use Rattle.block_core.specs.Pieces.{whole_within, state_in};
+ghost use Rattle.block_core.specs.Views.{IsLaid};
+ghost use Rattle.block_net.specs.Views.{count};
+ghost use Rattle.discharge.specs.Steps.{IsOfNode};
+ghost use Rattle.block_cut.specs.Opening.{Opens, AreOpening, AreLabelsZero};
+
+use block_core::{Pieces, State};
+use block_net::Cells;
+use std::snapshot::Snapshot;
+
+/// Gives the sink what it can take of the node's excess.
+fn give(cells: &mut Cells, v: usize)
+    requires { v < count cells.old }
+    ensures { Opens cells.old cells.new }
+{
+    let amount = u64::min(cells.excess(v), cells.room(v));
+    cells.give(v, amount);
+}
+
+/// Sends along the direction at a place what its node has and the direction can still carry.
+fn send(cells: &mut Cells, v: usize, j: usize)
+    requires node { v < count cells.old }
+    requires place { j < length cells.old.lanes }
+    requires lane { IsOfNode cells.old v j }
+    ensures { Opens cells.old cells.new }
+{
+    let lane = cells.lane(j);
+    let amount = u64::min(cells.excess(v), lane.residual);
+    if amount > 0 && lane.far as usize != v {
+        cells.push(v, j, amount);
+    }
+}
+
+/// Gives the sink what it can take of the node's excess, and sends the rest to higher nodes.
+fn send_up(cells: &mut Cells, v: usize)
+    requires { v < count cells.old }
+    ensures { Opens cells.old cells.new }
+{
+    if cells.excess(v) == 0 {
+        return;
+    }
+    give(cells, v);
+    let (first, end) = cells.range(v);
+    'lanes: for j in first..end {
+        if cells.lane(j).far as usize > v {
+            send(cells, v, j);
+        }
+    }
+}
+
+/// Gives the sink what it can take of the node's excess, and sends the rest to lower nodes.
+fn send_down(cells: &mut Cells, v: usize)
+    requires { v < count cells.old }
+    ensures { Opens cells.old cells.new }
+{
+    if cells.excess(v) == 0 {
+        return;
+    }
+    give(cells, v);
+    let (first, end) = cells.range(v);
+    'lanes: for j in first..end {
+        if (cells.lane(j).far as usize) < v {
+            send(cells, v, j);
+        }
+    }
+}
+
+/// Gives the sink what it can take of the node's excess, and sends the rest on, along its last direction first.
+fn send_out(cells: &mut Cells, v: usize)
+    requires { v < count cells.old }
+    ensures { Opens cells.old cells.new }
+{
+    if cells.excess(v) == 0 {
+        return;
+    }
+    give(cells, v);
+    let (first, end) = cells.range(v);
+    'lanes: for j in (first..end).rev() {
+        send(cells, v, j);
+    }
+}
+
+/// Three passes over the nodes of a block: by rising nodes, each sends on to higher ones; by falling nodes, each to
+/// lower ones; by rising nodes, each along all its directions. Takes no memory.
+fn open_block(cells: &mut Cells)
+    ensures { Opens cells.old cells.new }
+{
+    'up: for v in 0..cells.len() {
+        send_up(cells, v);
+    }
+    'down: for v in (0..cells.len()).rev() {
+        send_down(cells, v);
+    }
+    'out: for v in 0..cells.len() {
+        send_out(cells, v);
+    }
+}
+
+/// The passes over each of the blocks.
+fn open_blocks(old: &Snapshot<Pieces>, blocks: &mut Vec<Cells>)
+    requires { AreOpening old.now.value blocks.old.items }
+    ensures { AreOpening old.now.value blocks.new.items }
+{
+    'each: for b in 0..blocks.len() {
+        open_block(&mut blocks[b]);
+    }
+}
+
+/// The state that the pieces make with what the sink got by what the blocks hold. Takes no memory.
+fn state_of(old: &Snapshot<Pieces>, pieces: Pieces) -> State
+    requires held { IsHeld old.now.value.ways.rooms (state_in old.now.value) }
+    requires same { pieces ≡ record old.now.value { parts = record old.now.value.parts { blocks = pieces.parts.blocks } } }
+    requires opening { AreOpening old.now.value pieces.parts.blocks.items }
+    ensures { result.net ≡ old.now.value.net }
+{
+    let mut pieces = pieces;
+    pieces.got = pieces.given();
+    pieces.into_state()
+}
+
+/// The state after the first pushes within its blocks, which ask for no exact labels: while all labels are 0, they fit
+/// every flow. Takes no memory.
+pub(crate) fn open(state: State) -> State
+    requires { AreLabelsZero state }
+    ensures { result.net ≡ state.net }
+{
+    let mut pieces = state.into_pieces();
+    let old = Snapshot::of(&pieces);
+    open_blocks(&old, &mut pieces.parts.blocks);
+    state_of(&old, pieces)
+}
