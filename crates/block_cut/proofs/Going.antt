@@ -1,8 +1,8 @@
 -- What a turn of a block keeps of the pieces of a state, and the state that they make in the end.
-use Rattle.std.proofs.Common.{◌≡◌, ℕ, ◌+◌, ◌<◌, List, length, slice_set, slice_index_or, sum, refl, sym, ◌∙◌, ap, subst, arith}
+use Rattle.std.proofs.Common.{◌≡◌, ℕ, ◌+◌, ◌<◌, ◌≤◌, List, length, slice_set, slice_index_or, sum, refl, sym, ◌∙◌, ap, subst, arith}
 use Rattle.std.proofs.lemmas.List.{length-set, get_or_read_under}
 use Rattle.flow_network.specs.Cut.{Network}
-use Rattle.parcel.specs.Soundness.{IsSound, count}
+use Rattle.parcel.specs.Soundness.{IsSound, IsFinished, count}
 use Rattle.block_net.specs.Views.{BlockView}
 use Rattle.block_net.specs.Whole.{Whole, no_block, block_at}
 use Rattle.block_core.specs.Views.{IsLaid, whole_in, blocks_in, state_of}
@@ -10,15 +10,15 @@ use Rattle.block_core.specs.Mails.{MailView, HasRooms, IsHeld}
 use Rattle.block_core.specs.declared.pieces.Pieces.{Pieces}
 use Rattle.block_core.specs.Pieces.{whole_within, state_in}
 use Rattle.turn_laws.proofs.Laid.{put_own, seated}
-use Rattle.block_cut.specs.Lowers.{IsAfter}
 use Rattle.block_cut.specs.Turns.{ReachesFrom}
-use Rattle.block_cut.specs.Passes.{whole_with, state_at, IsGoing}
+use Rattle.block_cut.specs.Passes.{whole_with, state_at, IsGoing, IsReady, IsStill}
+use Rattle.block_cut.proofs.Lowering.{none_starts}
 
-pub goes_on : (p : Pieces) (blocks : List BlockView) (before after : MailView) (b n : ℕ) (new : BlockView)
-    → IsGoing p blocks before → b < length blocks → after.rooms ≡ before.rooms
+pub goes_on : (p : Pieces) (blocks : List BlockView) (before after : MailView) (b n m : ℕ) (new : BlockView)
+    → IsGoing p blocks before m → b < length blocks → after.rooms ≡ before.rooms
     → ReachesFrom (length blocks) b n (block_at (whole_with p blocks) b) new before.messages after.messages
-    → IsGoing p (slice_set blocks b new) after
-goes_on p blocks before after b n new going l rooms reaches =
+    → IsGoing p (slice_set blocks b new) after (m + n)
+goes_on p blocks before after b n m new going l rooms reaches =
     let w = whole_with p blocks in
     let own = put_own w b in
     let sound = subst (λ (q : Whole). IsSound (state_of (blocks_in q) before.messages going.got)) (sym own) going.sound in
@@ -33,52 +33,77 @@ goes_on p blocks before after b n new going l rooms reaches =
       lower = omega (arith, same, r.lower, going.lower);
     }
 
--- the same by the number of blocks and the block as the code has them
-pub turn_goes_on : (p : Pieces) (blocks : List BlockView) (before after : MailView) (k b n : ℕ) (old new : BlockView)
-    → IsGoing p blocks before → k ≡ length blocks → b < k → old ≡ slice_index_or blocks b old → after.rooms ≡ before.rooms
-    → ReachesFrom k b n old new before.messages after.messages
-    → IsGoing p (slice_set blocks b new) after
-turn_goes_on p blocks before after k b n old new going size l is rooms reaches =
-    goes_on p blocks before after b n new going (omega (arith, size, l)) rooms
-    (subst (λ m. ReachesFrom m b n (block_at (whole_with p blocks) b) new before.messages after.messages) size
-    (subst (λ (q : BlockView). ReachesFrom k b n q new before.messages after.messages) (get_or_read_under blocks b k old no_block is l size) reaches))
+-- less is known of the count
+pub goes_less : (p : Pieces) (blocks : List BlockView) (ways : MailView) (n m : ℕ) → IsGoing p blocks ways n → m ≤ n → IsGoing p blocks ways m
+goes_less p blocks ways n m going l = record {
+  got = going.got;
+  size = going.size;
+  rooms = going.rooms;
+  laid = going.laid;
+  sound = going.sound;
+  lower = omega (arith, going.lower, l);
+}
 
-pub goes_from : (p : Pieces) → IsLaid (whole_within p) → IsHeld p.ways.rooms (state_in p) → IsGoing p p.parts.blocks.items p.ways
+-- the block as the code has it
+pub reaches_at : (p : Pieces) (blocks : List BlockView) (before after : MailView) (k b n : ℕ) (old new : BlockView)
+    → k ≡ length blocks → b < k → old ≡ slice_index_or blocks b old
+    → ReachesFrom k b n old new before.messages after.messages
+    → ReachesFrom (length blocks) b n (block_at (whole_with p blocks) b) new before.messages after.messages
+reaches_at p blocks before after k b n old new size l is reaches =
+    subst (λ m. ReachesFrom m b n (block_at (whole_with p blocks) b) new before.messages after.messages) size
+    (subst (λ (q : BlockView). ReachesFrom k b n q new before.messages after.messages) (get_or_read_under blocks b k old no_block is l size) reaches)
+
+pub goes_from : (p : Pieces) → IsLaid (whole_within p) → IsHeld p.ways.rooms (state_in p) → IsGoing p p.parts.blocks.items p.ways 0
 goes_from p laid held = record { got = p.got; size = refl; rooms = refl; laid = laid; sound = held.sound; lower = omega arith }
+
+pub still_from : (p : Pieces) → IsStill p p.parts.blocks.items p.ways 0
+still_from p = record { same = refl; none = λ b l. absurd (omega (arith, l)) }
 
 -- ---- in the end
 
-module _ (p q : Pieces) (net : q.net ≡ p.net) (firsts : q.parts.firsts.items ≡ p.parts.firsts.items) (slots : q.parts.slots.items ≡ p.parts.slots.items) (going : IsGoing p q.parts.blocks.items q.ways) where
+module _ (p q : Pieces) (net : q.net ≡ p.net) (firsts : q.parts.firsts.items ≡ p.parts.firsts.items) (slots : q.parts.slots.items ≡ p.parts.slots.items) where
   pub whole_same : whole_within q ≡ whole_with p q.parts.blocks.items
   whole_same =
       ap (λ (n : Network). whole_in n q.parts.firsts.items q.parts.slots.items q.parts.blocks.items) net
       ∙ (ap (λ (f : List ℕ). whole_in p.net f q.parts.slots.items q.parts.blocks.items) firsts
       ∙ ap (λ (s : List ℕ). whole_in p.net p.parts.firsts.items s q.parts.blocks.items) slots)
 
-  pub laid_again : IsLaid (whole_within q)
-  laid_again = subst IsLaid (sym whole_same) going.laid
+  module _ (n : ℕ) (going : IsGoing p q.parts.blocks.items q.ways n) where
+    pub laid_again : IsLaid (whole_within q)
+    laid_again = subst IsLaid (sym whole_same) going.laid
 
-  pub sound_given : IsSound (state_of (blocks_in (whole_within q)) q.ways.messages going.got)
-  sound_given = subst (λ (w : Whole). IsSound (state_of (blocks_in w) q.ways.messages going.got)) (sym whole_same) going.sound
+    pub sound_given : IsSound (state_of (blocks_in (whole_within q)) q.ways.messages going.got)
+    sound_given = subst (λ (w : Whole). IsSound (state_of (blocks_in w) q.ways.messages going.got)) (sym whole_same) going.sound
 
-  module _ (given : q.got + sum (state_in q).rooms ≡ sum q.net.sinks) where
-    got_same : going.got ≡ q.got
-    got_same = omega (arith, sound_given.got, given)
+    module _ (given : q.got + sum (state_in q).rooms ≡ sum q.net.sinks) where
+      got_same : going.got ≡ q.got
+      got_same = omega (arith, sound_given.got, given)
 
-    pub held_again : IsHeld p.ways.rooms (state_in p) → IsHeld q.ways.rooms (state_in q)
-    held_again held = record {
-      sound = subst (λ g. IsSound (state_of (blocks_in (whole_within q)) q.ways.messages g)) got_same sound_given;
-      few = laid_again.few;
-      arcs = laid_again.arcs;
-      room = subst (λ (n : Network). HasRooms n (length q.parts.blocks.items) q.ways.rooms) (sym net)
-          (subst (λ k. HasRooms p.net k q.ways.rooms) (sym going.size) (subst (HasRooms p.net (length p.parts.blocks.items)) (sym going.rooms) held.room));
-    }
+      pub held_again : IsHeld p.ways.rooms (state_in p) → IsHeld q.ways.rooms (state_in q)
+      held_again held = record {
+        sound = subst (λ g. IsSound (state_of (blocks_in (whole_within q)) q.ways.messages g)) got_same sound_given;
+        few = laid_again.few;
+        arcs = laid_again.arcs;
+        room = subst (λ (n : Network). HasRooms n (length q.parts.blocks.items) q.ways.rooms) (sym net)
+            (subst (λ k. HasRooms p.net k q.ways.rooms) (sym going.size) (subst (HasRooms p.net (length p.parts.blocks.items)) (sym going.rooms) held.room));
+      }
 
-    pub after_all : IsAfter (state_in p) (state_in q)
-    after_all = record {
-      net = net;
-      count =
+      pub lower_all : count (state_in q) + n ≤ count (state_in p)
+      lower_all =
           let whole = ap (λ (w : Whole). count (state_of (blocks_in w) q.ways.messages q.got)) whole_same in
           let got = ap (λ g. count (state_at p q.parts.blocks.items q.ways.messages g)) got_same in
-          omega (arith, whole, got, going.lower);
-    }
+          omega (arith, whole, got, going.lower)
+
+  -- where nothing was done, the state is finished
+  pub still_finished : q.got + sum (state_in q).rooms ≡ sum q.net.sinks → IsReady p → length q.parts.blocks.items ≡ length p.parts.blocks.items
+      → IsStill p q.parts.blocks.items q.ways (length q.parts.blocks.items) → IsFinished (state_in q)
+  still_finished given ready size still =
+      let blocks = q.parts.blocks.items in
+      let sound : IsSound (state_at p blocks q.ways.messages p.got) = subst IsSound (sym still.same) ready.held.sound in
+      let sound' : IsSound (state_of (blocks_in (whole_within q)) q.ways.messages p.got) =
+      subst (λ (w : Whole). IsSound (state_of (blocks_in w) q.ways.messages p.got)) (sym whole_same) sound in
+      let got : q.got ≡ p.got = omega (arith, sound'.got, given) in
+      let same : state_in q ≡ state_in p =
+      ap (λ (w : Whole). state_of (blocks_in w) q.ways.messages q.got) whole_same
+      ∙ (ap (λ g. state_at p blocks q.ways.messages g) got ∙ still.same) in
+      subst IsFinished (sym same) (none_starts (state_in p) ready.held.sound ready.quiet (λ b l. still.none b (omega (arith, l, size))))

@@ -5,3 +5,5 @@ pub mod Ending
 pub mod Turned
 mod Going
 pub mod Opened
+mod Still
+mod Passing

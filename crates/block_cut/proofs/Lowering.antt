@@ -1,16 +1,18 @@
 -- Fewer and fewer events lead on, until the state is finished.
-use Rattle.std.proofs.Common.{◌≡◌, ◌<◌, ◌≤◌, Bool, true, false, ◌||◌, IsFalse, MatchBool, List, [], refl, sym, ◌∙◌, ap, subst, inl, inr, arith}
+use Rattle.std.proofs.Common.{◌≡◌, ℕ, ◌<◌, ◌≤◌, Bool, true, false, ◌||◌, MatchBool, List, [], refl, sym, ◌∙◌, ap, subst, inl, inr, arith}
 use Rattle.std.proofs.lemmas.Bool.{false≢true, true≢false}
 use Rattle.parcel.specs.declared.message.Message.{Message}
 use Rattle.parcel.specs.declared.event.Event.{Event}
 use Rattle.parcel.specs.declared.event.Event.TheVariants.{PushInner, PushSink, Relabel, Send, Accept, Refuse, Settle, RaiseAll}
-use Rattle.parcel.specs.States.{State, way_at}
+use Rattle.parcel.specs.States.{State, way_at, block_of, near_block}
 use Rattle.parcel.specs.Events.{IsQuiet, Enabled, Happens, MayAccept, MayRefuse, MaySettle}
 use Rattle.parcel.specs.Soundness.{IsSound, IsFinished, count}
 use Rattle.parcel.proofs.Lists.{lowers, never_raises}
+use Rattle.parcel.proofs.Ends.{block_in, near_block_in}
 use Rattle.parcel.proofs.Progress.{progress}
+use Rattle.round_laws.specs.Workers.{MayStart}
 use Rattle.block_core.proofs.Keeping.{effect_net}
-use Rattle.block_cut.specs.Lowers.{IsAfter, Lowers, AreNodesStill, AreDirectionsStill}
+use Rattle.block_cut.specs.Lowers.{IsAfter, Lowers}
 
 -- ---- one event
 
@@ -69,19 +71,21 @@ no_take s way e =
     let P : List Message → Type 0 = λ w. (MayAccept s w → ⊥) × (MayRefuse s w → ⊥) × (MaySettle w → ⊥) in
     subst P (sym e) ((λ h. h), (λ h. h), (λ h. h))
 
-not_enabled : (s : State) (e : Event) → IsQuiet s → AreNodesStill s → AreDirectionsStill s → (e ≡ RaiseAll → ⊥) → Enabled s e → ⊥
-not_enabled s (PushInner x) quiet at_nodes at_directions other on = (at_directions x on.0).inner on
-not_enabled s (PushSink v) quiet at_nodes at_directions other on = (at_nodes v on.0.node).sink on
-not_enabled s (Relabel v) quiet at_nodes at_directions other on = (at_nodes v on.0.node).label on
-not_enabled s (Send x) quiet at_nodes at_directions other on = (at_directions x on.0).outer on
-not_enabled s (Accept b c) quiet at_nodes at_directions other on = (no_take s (way_at s.ways b c) (quiet b c on.0.0 on.0.1)).0 on.1
-not_enabled s (Refuse b c) quiet at_nodes at_directions other on = (no_take s (way_at s.ways b c) (quiet b c on.0.0 on.0.1)).1 on.1
-not_enabled s (Settle b c) quiet at_nodes at_directions other on = (no_take s (way_at s.ways b c) (quiet b c on.0.0 on.0.1)).2 on.1
-not_enabled s RaiseAll quiet at_nodes at_directions other on = other refl
+-- an enabled event takes a message that is there, or the block of its node may start it
+not_enabled : (s : State) (e : Event) → IsSound s → IsQuiet s → ((b : ℕ) → b < s.blocks → (e : Event) → ¬ MayStart b s e) → (e ≡ RaiseAll → ⊥) → Enabled s e → ⊥
+not_enabled s (PushInner x) sound quiet none other on = none (near_block s.net s.blocks x) (near_block_in s x sound.sized on.0) (PushInner x) (refl, on)
+not_enabled s (PushSink v) sound quiet none other on = none (block_of s.net s.blocks v) (block_in s.net s.blocks v on.0.node sound.sized.blocks) (PushSink v) (refl, on)
+not_enabled s (Relabel v) sound quiet none other on = none (block_of s.net s.blocks v) (block_in s.net s.blocks v on.0.node sound.sized.blocks) (Relabel v) (refl, on)
+not_enabled s (Send x) sound quiet none other on = none (near_block s.net s.blocks x) (near_block_in s x sound.sized on.0) (Send x) (refl, on)
+not_enabled s (Accept b c) sound quiet none other on = (no_take s (way_at s.ways b c) (quiet b c on.0.0 on.0.1)).0 on.1
+not_enabled s (Refuse b c) sound quiet none other on = (no_take s (way_at s.ways b c) (quiet b c on.0.0 on.0.1)).1 on.1
+not_enabled s (Settle b c) sound quiet none other on = (no_take s (way_at s.ways b c) (quiet b c on.0.0 on.0.1)).2 on.1
+not_enabled s RaiseAll sound quiet none other on = other refl
 
-pub all_still : (s : State) → IsSound s → IsQuiet s → AreNodesStill s → AreDirectionsStill s → IsFinished s
-all_still s sound quiet at_nodes at_directions = elim (progress s sound) [
-  | inl event ↦ absurd (not_enabled s event.0 quiet at_nodes at_directions event.1 event.2)
+-- a quiet state in which no block may start an event is finished
+pub none_starts : (s : State) → IsSound s → IsQuiet s → ((b : ℕ) → b < s.blocks → (e : Event) → ¬ MayStart b s e) → IsFinished s
+none_starts s sound quiet none = elim (progress s sound) [
+  | inl event ↦ absurd (not_enabled s event.0 sound quiet none event.1 event.2)
   | inr finished ↦ finished
 ]
 
@@ -93,18 +97,6 @@ Performed s e t r = MatchBool r (Happens s e t) ((¬ Enabled s e) × (t ≡ s))
 pub lowers_by : (s t : State) (e : Event) (r : Bool) → IsSound s → (e ≡ RaiseAll → ⊥) → Performed s e t r → Lowers s t r
 lowers_by s t e true sound other h = lowers_one s t e sound other h
 lowers_by s t e false sound other h = lowers_same s t h.1
-
--- ---- a round
-
--- nothing was done with nodes and directions, and then messages were taken, or none
-pub done_last : (s2 s3 s4 s5 : State) (r : Bool) → Lowers s2 s3 false → AreNodesStill s3 → Lowers s3 s4 false → AreDirectionsStill s4
-    → Lowers s4 s5 r → (IsFalse r → IsQuiet s5) → IsSound s5 → MatchBool r (count s5 < count s2) (IsFinished s5)
-done_last s2 s3 s4 s5 true one at_nodes two at_directions three quiet sound5 =
-    (lowers_then s2 s4 s5 false (lowers_still s2 s3 s4 false one two) three).less refl
-done_last s2 s3 s4 s5 false one at_nodes two at_directions three quiet sound5 =
-    let e4 = three.still refl in
-    let e3 = e4 ∙ two.still refl in
-    all_still s5 sound5 (quiet refl) (subst AreNodesStill (sym e3) at_nodes) (subst AreDirectionsStill (sym e4) at_directions)
 
 -- ---- what was done before
 
@@ -118,9 +110,13 @@ pub lowers_after : (s t : State) (r : Bool) → Lowers s t r → IsAfter s t
 lowers_after s t r h = record { net = h.net; count = lowers_le s t r h }
 
 -- a round goes on or ends
-pub round_done : (s0 s1 s2 s3 s4 : State) (r : Bool) → IsAfter s0 s1 → IsSound s1 → Happens s1 RaiseAll s2 → IsAfter s2 s3
-    → MatchBool r (count s4 < count s3) (IsFinished s4) → MatchBool r (count s4 < count s0) (IsFinished s4)
-round_done s0 s1 s2 s3 s4 true took sound raised worked done =
+pub round_done : (s0 s1 s2 s3 : State) (r : Bool) → IsAfter s0 s1 → IsSound s1 → Happens s1 RaiseAll s2
+    → MatchBool r (count s3 < count s2) (IsFinished s3) → MatchBool r (count s3 < count s0) (IsFinished s3)
+round_done s0 s1 s2 s3 true took sound raised done =
     let after = raised_after s1 s2 sound raised in
-    omega (arith, done, worked.count, after.count, took.count)
-round_done s0 s1 s2 s3 s4 false took sound raised worked done = done
+    omega (arith, done, after.count, took.count)
+round_done s0 s1 s2 s3 false took sound raised done = done
+
+-- no message is on the way after the exact labels
+pub raised_quiet : (s t : State) → IsQuiet s → Happens s RaiseAll t → IsQuiet t
+raised_quiet s t quiet raised = subst IsQuiet (sym raised.effect.2) quiet

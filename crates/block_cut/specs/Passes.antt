@@ -1,12 +1,15 @@
 -- What passes over the blocks make of the pieces of a state.
-use Rattle.std.specs.Prelude.{◌≡◌, ℕ, ◌≤◌, List, length}
+use Rattle.std.specs.Prelude.{◌≡◌, ℕ, ◌+◌, ◌<◌, ◌≤◌, List, length}
+use Rattle.parcel.specs.declared.event.Event.{Event}
 use Rattle.parcel.specs.declared.message.Message.{Message}
 use Rattle.parcel.specs.States.{State}
+use Rattle.parcel.specs.Events.{IsQuiet}
+use Rattle.round_laws.specs.Workers.{MayStart}
 use Rattle.parcel.specs.Soundness.{IsSound, count}
 use Rattle.block_net.specs.Views.{BlockView}
 use Rattle.block_net.specs.Whole.{Whole}
 use Rattle.block_core.specs.Views.{IsLaid, whole_in, blocks_in, state_of}
-use Rattle.block_core.specs.Mails.{MailView}
+use Rattle.block_core.specs.Mails.{MailView, IsHeld}
 use Rattle.block_core.specs.declared.pieces.Pieces.{Pieces}
 use Rattle.block_core.specs.Pieces.{state_in}
 
@@ -18,12 +21,22 @@ whole_with p blocks = whole_in p.net p.parts.firsts.items p.parts.slots.items bl
 abbrev pub state_at : Pieces → List BlockView → List (List (List Message)) → ℕ → State
 state_at p blocks messages got = state_of (blocks_in (whole_with p blocks)) messages got
 
--- as many blocks and ways with the same rooms make a sound state of the pieces' net, whose count is no higher
--- than that of the state in the pieces
-pub record IsGoing (p : Pieces) (blocks : List BlockView) (ways : MailView) : Type 0 where
+-- as many blocks and ways with the same rooms make a sound state of the pieces' net, whose count is lower by n
+-- at least than that of the state in the pieces
+pub record IsGoing (p : Pieces) (blocks : List BlockView) (ways : MailView) (n : ℕ) : Type 0 where
   pub got : ℕ
   pub size : length blocks ≡ length p.parts.blocks.items
   pub rooms : ways.rooms ≡ p.ways.rooms
   pub laid : IsLaid (whole_with p blocks)
   pub sound : IsSound (state_at p blocks ways.messages got)
-  pub lower : count (state_at p blocks ways.messages got) ≤ count (state_in p)
+  pub lower : count (state_at p blocks ways.messages got) + n ≤ count (state_in p)
+
+-- a held state with no message on the way
+pub record IsReady (p : Pieces) : Type 0 where
+  pub quiet : IsQuiet (state_in p)
+  pub held : IsHeld p.ways.rooms (state_in p)
+
+-- the state is as it was, and none of the first so many blocks may do an event that takes no message
+pub record IsStill (p : Pieces) (blocks : List BlockView) (ways : MailView) (first : ℕ) : Type 0 where
+  pub same : state_at p blocks ways.messages p.got ≡ state_in p
+  pub none : (b : ℕ) → b < first → (e : Event) → ¬ MayStart b (state_in p) e

@@ -10,7 +10,6 @@ mod ends;
 mod opening;
 mod passes;
 mod solver;
-mod sweeps;
 mod takes;
 mod turns;
 

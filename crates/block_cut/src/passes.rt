@@ -1,8 +1,9 @@
-ghost use Rattle.std.specs.Prelude.{◌≡◌, IfOk, length};
-ghost use Rattle.block_core.specs.Mails.{IsHeld};
+ghost use Rattle.std.specs.Prelude.{◌≡◌, ◌+◌, ◌<◌, ◌≤◌, ℕ, IfOk, IsFalse, MatchBool, length};
+ghost use Rattle.sums.specs.Sums.{counted};
+ghost use Rattle.parcel.specs.Events.{IsQuiet};
+ghost use Rattle.parcel.specs.Soundness.{IsFinished, count};
 ghost use Rattle.block_core.specs.Pieces.{state_in};
-ghost use Rattle.block_cut.specs.Lowers.{IsAfter};
-ghost use Rattle.block_cut.specs.Passes.{IsGoing};
+ghost use Rattle.block_cut.specs.Passes.{IsGoing, IsReady, IsStill};
 
 use crate::turns::turn_of;
 use block_core::{Mail, Pieces, State};
@@ -25,10 +26,15 @@ fn pass(
     arcs: usize,
     limit: u32,
 ) -> (Mail, Vec<u32>, bool)
-    requires going { IsGoing old.now.value blocks.old.items ways }
+    requires going { IsGoing old.now.value blocks.old.items ways 0 }
+    requires ready { IsReady old.now.value }
     requires slots { slots.items ≡ old.now.value.parts.slots.items }
     requires arcs { arcs ≡ length old.now.value.net.arcs }
-    ensures going { IsGoing old.now.value blocks.new.items result.0 }
+    requires some { 0 < limit }
+    ensures going { (n : ℕ) → IsGoing old.now.value blocks.old.items ways n
+        → IsGoing old.now.value blocks.new.items result.0 (n + counted result.2 1) }
+    ensures still { IsFalse result.2 → IsStill old.now.value blocks.old.items ways 0
+        → IsStill old.now.value blocks.new.items result.0 (length blocks.new.items) }
     ensures slots { result.1.items ≡ old.now.value.parts.slots.items }
 {
     let mut ways = ways;
@@ -39,14 +45,13 @@ fn pass(
         let (after, table, events) = turn_of(&mut blocks[b], ways, slots, b, count, arcs, limit);
         ways = after;
         slots = table;
-        if events > 0 {
-            some = true;
-        }
+        some = some | (events > 0);
     }
     (ways, slots, some)
 }
 
-/// Passes over the blocks until one does no event, at most so many. Takes no memory.
+/// Passes over the blocks until one does no event, at most so many: the ways and the table of places afterwards,
+/// and whether some block did an event. Takes no memory.
 fn passes(
     old: &Snapshot<Pieces>,
     blocks: &mut Vec<Block>,
@@ -54,21 +59,50 @@ fn passes(
     slots: Vec<u32>,
     arcs: usize,
     limit: u32,
-) -> (Mail, Vec<u32>)
-    requires going { IsGoing old.now.value blocks.old.items ways }
+) -> (Mail, Vec<u32>, bool)
+    requires going { IsGoing old.now.value blocks.old.items ways 0 }
+    requires ready { IsReady old.now.value }
     requires slots { slots.items ≡ old.now.value.parts.slots.items }
     requires arcs { arcs ≡ length old.now.value.net.arcs }
-    ensures going { IsGoing old.now.value blocks.new.items result.0 }
+    requires some { 0 < limit }
+    ensures going { IsGoing old.now.value blocks.new.items result.0 (counted result.2 1) }
+    ensures still { IsFalse result.2 → IsStill old.now.value blocks.old.items ways 0
+        → IsStill old.now.value blocks.new.items result.0 (length blocks.new.items) }
+    ensures slots { result.1.items ≡ old.now.value.parts.slots.items }
+{
+    let (ways, slots, some) = pass(old, blocks, ways, slots, arcs, limit);
+    if !some {
+        return (ways, slots, false);
+    }
+    let (ways, slots) = more_passes(old, blocks, ways, slots, arcs, limit);
+    (ways, slots, true)
+}
+
+/// Passes over the blocks until one does no event, all but the first. Takes no memory.
+fn more_passes(
+    old: &Snapshot<Pieces>,
+    blocks: &mut Vec<Block>,
+    ways: Mail,
+    slots: Vec<u32>,
+    arcs: usize,
+    limit: u32,
+) -> (Mail, Vec<u32>)
+    requires going { IsGoing old.now.value blocks.old.items ways 1 }
+    requires ready { IsReady old.now.value }
+    requires slots { slots.items ≡ old.now.value.parts.slots.items }
+    requires arcs { arcs ≡ length old.now.value.net.arcs }
+    requires some { 0 < limit }
+    ensures going { IsGoing old.now.value blocks.new.items result.0 1 }
     ensures slots { result.1.items ≡ old.now.value.parts.slots.items }
 {
     let mut ways = ways;
     let mut slots = slots;
-    'rounds: for _ in 0..PASSES {
+    'rounds: for _ in 1..PASSES {
         let (after, table, some) = pass(old, blocks, ways, slots, arcs, limit);
         ways = after;
         slots = table;
         if !some {
-            break;
+            return (ways, slots);
         }
     }
     (ways, slots)
@@ -99,12 +133,16 @@ fn cells_of(alloc: Global, blocks: Vec<Block>) -> Result<Vec<Cells>, AllocError>
 
 /// The state that the pieces make with what the sink got by what the blocks hold. Takes no memory.
 fn state_of(old: &Snapshot<Pieces>, net: Net, parts: Parts, ways: Mail) -> State
-    requires held { IsHeld old.now.value.ways.rooms (state_in old.now.value) }
+    requires ready { IsReady old.now.value }
     requires net { net ≡ old.now.value.net }
     requires firsts { parts.firsts.items ≡ old.now.value.parts.firsts.items }
     requires slots { parts.slots.items ≡ old.now.value.parts.slots.items }
-    requires going { IsGoing old.now.value parts.blocks.items ways }
-    ensures { IsAfter (state_in old.now.value) result }
+    requires going { IsGoing old.now.value parts.blocks.items ways 0 }
+    ensures net { result.net ≡ old.now.value.net }
+    ensures lower { (n : ℕ) → IsGoing old.now.value parts.blocks.items ways n
+        → count result + n ≤ count (state_in old.now.value) }
+    ensures still { IsStill old.now.value parts.blocks.items ways (length parts.blocks.items)
+        → IsFinished result }
 {
     let mut pieces = Pieces {
         net,
@@ -116,10 +154,12 @@ fn state_of(old: &Snapshot<Pieces>, net: Net, parts: Parts, ways: Mail) -> State
     pieces.into_state()
 }
 
-/// Turns of the blocks, in passes, each turn of at most as many events as there are nodes, and 16. The only error
-/// is that memory runs out.
-pub(crate) fn work(alloc: Global, state: State) -> Result<State, AllocError>
-    ensures { IfOk result (λ s. IsAfter state s) }
+/// Turns of the blocks, in passes, each turn of at most as many events as there are nodes, and 16. Whether some
+/// block did an event: else the state is finished. The only error is that memory runs out.
+pub(crate) fn work(alloc: Global, state: State) -> Result<(State, bool), AllocError>
+    requires { IsQuiet state }
+    ensures net { IfOk result (λ r. r.0.net ≡ state.net) }
+    ensures done { IfOk result (λ r. MatchBool r.1 (count r.0 < count state) (IsFinished r.0)) }
 {
     let limit = state.nodes() as u32 + 16;
     let arcs = state.arcs();
@@ -137,16 +177,12 @@ pub(crate) fn work(alloc: Global, state: State) -> Result<State, AllocError>
         slots,
     } = parts;
     let mut blocks = blocks_of(alloc, blocks)?;
-    let (ways, slots) = passes(&old, &mut blocks, ways, slots, arcs, limit);
+    let (ways, slots, some) = passes(&old, &mut blocks, ways, slots, arcs, limit);
     let blocks = cells_of(alloc, blocks)?;
-    Ok(state_of(
-        &old,
-        net,
-        Parts {
-            blocks,
-            firsts,
-            slots,
-        },
-        ways,
-    ))
+    let parts = Parts {
+        blocks,
+        firsts,
+        slots,
+    };
+    Ok((state_of(&old, net, parts, ways), some))
 }

@@ -8,28 +8,12 @@ ghost use Rattle.global_relabel.specs.Workspaces.{Serves};
 use crate::answers::answer_of;
 use crate::opening::open;
 use crate::passes::work;
-use crate::sweeps::{try_directions, try_nodes};
-use crate::takes::{take_all, take_in};
+use crate::takes::take_in;
 use block_core::State;
 use block_net::ARC_LIMIT;
 use flow_network::{Net, Solved};
 use global_relabel::Workspace;
 use std::alloc::{AllocError, Global};
-
-/// The events of the nodes happen where they are enabled; where none is, those of the directions; where none is,
-/// messages are taken. No where the state is finished, and nothing changes.
-fn try_all(state: &mut State) -> bool
-    ensures net { state.new.net ≡ state.old.net }
-    ensures done { MatchBool result (count state.new < count state.old) (IsFinished state.new) }
-{
-    if try_nodes(state) {
-        return true;
-    }
-    if try_directions(state) {
-        return true;
-    }
-    take_all(state)
-}
 
 /// Messages are taken in, labels become exact, and excess goes on; no where the state is finished then.
 fn advance(
@@ -47,8 +31,7 @@ fn advance(
     let mut state = state;
     take_in(&mut state);
     workspace.raise(&mut state);
-    let mut state = work(alloc, state)?;
-    let more = try_all(&mut state);
+    let (state, more) = work(alloc, state)?;
     Ok((state, more))
 }
 

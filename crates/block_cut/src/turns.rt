@@ -1,6 +1,8 @@
 ghost use Rattle.std.specs.Prelude.{◌≡◌, ◌*◌, ◌<◌, ◌≤◌, length};
 ghost use Rattle.parcel.specs.Soundness.{IsSquare};
 ghost use Rattle.block_net.specs.Limits.{arc_limit};
+ghost use Rattle.discharge.specs.Steps.{Step, IsSure};
+ghost use Rattle.block_cut.specs.Ends.{seen_by, ends_view};
 ghost use Rattle.block_cut.specs.Turns.{ReachesFrom};
 
 use crate::ends::Ends;
@@ -12,6 +14,7 @@ use discharge::{Block, turn};
 pub(crate) fn turn_over(block: &mut Block, ends: &mut Ends, limit: u32) -> u32
     requires { ends.old.now ≡ ends.old.first }
     ensures few { result ≤ limit }
+    ensures some { 0 < limit → (e : Step) → IsSure block.old (seen_by ends.old) e → 0 < result }
     ensures same { ends.new ≡ record ends.old { now = ends.new.now } }
     ensures rooms { ends.new.now.rooms ≡ ends.old.now.rooms }
     ensures run { ReachesFrom ends.old.blocks ends.old.block result block.old block.new
@@ -40,6 +43,8 @@ pub(crate) fn turn_of(
     ensures rooms { result.0.rooms ≡ ways.rooms }
     ensures slots { result.1.items ≡ slots.items }
     ensures few { result.2 ≤ limit }
+    ensures some { 0 < limit → (e : Step)
+        → IsSure block.old (seen_by (ends_view b blocks ways ways slots.items arcs)) e → 0 < result.2 }
     ensures run { ReachesFrom blocks b result.2 block.old block.new ways.messages result.0.messages }
 {
     let mut ends = Ends::new(b, blocks, ways, slots, arcs);

@@ -1,0 +1,72 @@
+-- What the turns of a pass keep, one block after another.
+use Rattle.std.proofs.Common.{◌≡◌, ℕ, ◌+◌, ◌<◌, ◌≤◌, Bool, true, false, ◌||◌, nat_lt, IsFalse, MatchBool, List, length, slice_set, slice_index_or, refl, sym, ◌∙◌, ap, subst, inl, inr, arith}
+use Rattle.std.proofs.lemmas.Bool.{true≢false, lt-ltb, cases_lt}
+use Rattle.std.proofs.lemmas.List.{get_or_read_under}
+use Rattle.sums.specs.Sums.{counted}
+use Rattle.sums.proofs.SumLemmas.{counted-le}
+use Rattle.parcel.specs.States.{State}
+use Rattle.parcel.specs.Soundness.{IsFinished, count}
+use Rattle.block_net.specs.Views.{BlockView}
+use Rattle.block_net.specs.Whole.{no_block, block_at}
+use Rattle.block_core.specs.Mails.{MailView}
+use Rattle.block_core.specs.declared.pieces.Pieces.{Pieces}
+use Rattle.block_core.specs.Pieces.{state_in}
+use Rattle.discharge.specs.Steps.{Step, IsSure}
+use Rattle.block_cut.specs.Ends.{ends_view, seen_by}
+use Rattle.block_cut.specs.Turns.{ReachesFrom}
+use Rattle.block_cut.specs.Passes.{whole_with, IsGoing, IsReady, IsStill}
+use Rattle.block_cut.proofs.Going.{goes_on, goes_less, reaches_at}
+use Rattle.block_cut.proofs.Still.{still_on}
+
+counted_or : (some : Bool) (n : ℕ) → counted (some || nat_lt 0 n) 1 ≤ counted some 1 + n
+counted_or true n = omega arith
+counted_or false n = elim (cases_lt 0 n) [
+  | inl l ↦ omega (arith, counted-le (nat_lt 0 n) 1, l)
+  | inr h ↦
+      let zero' : n ≡ 0 = omega (arith, h) in
+      subst (λ k. counted (nat_lt 0 k) 1 ≤ 0 + k) (sym zero') (omega arith)
+]
+
+neither : (some : Bool) (n : ℕ) → IsFalse (some || nat_lt 0 n) → IsFalse some × (n ≡ 0)
+neither true n is = absurd (true≢false is)
+neither false n is = elim (cases_lt 0 n) [
+  | inl l ↦ absurd (true≢false (sym (lt-ltb 0 n l) ∙ is))
+  | inr h ↦ (refl, omega (arith, h))
+]
+
+module _ (p : Pieces) (blocks0 blocks : List BlockView) (ways0 before after : MailView) (k b events : ℕ) (old new : BlockView) (some : Bool) (size : k ≡ length blocks) (lb : b < k) (is : old ≡ slice_index_or blocks b old) (reaches : ReachesFrom k b events old new before.messages after.messages) where
+  reached : ReachesFrom (length blocks) b events (block_at (whole_with p blocks) b) new before.messages after.messages
+  reached = reaches_at p blocks before after k b events old new size lb is reaches
+
+  -- no step of the block, as the whole has it, is sure where the turn did no event
+  none_sure : (slots : List ℕ) (arcs : ℕ) → ((e : Step) → IsSure old (seen_by (ends_view b k before before slots arcs)) e → 0 < events) → events ≡ 0
+      → (e : Step) → ¬ IsSure (block_at (whole_with p blocks) b) (seen_by (ends_view b (length blocks) before before slots arcs)) e
+  none_sure slots arcs sure none e = λ on.
+      let at : old ≡ block_at (whole_with p blocks) b = get_or_read_under blocks b k old no_block is lb size in
+      let on' = subst (λ (q : BlockView). IsSure q (seen_by (ends_view b (length blocks) before before slots arcs)) e) (sym at) on in
+      let some = sure e (subst (λ n. IsSure old (seen_by (ends_view b n before before slots arcs)) e) (sym size) on') in
+      absurd (omega (arith, some, none))
+
+  pub turn_goes : after.rooms ≡ before.rooms → ((n : ℕ) → IsGoing p blocks0 ways0 n → IsGoing p blocks before (n + counted some 1))
+      → (n : ℕ) → IsGoing p blocks0 ways0 n → IsGoing p (slice_set blocks b new) after (n + counted (some || nat_lt 0 events) 1)
+  turn_goes rooms was n from =
+      let now = goes_on p blocks before after b events (n + counted some 1) new (was n from) (omega (arith, lb, size)) rooms reached in
+      goes_less p (slice_set blocks b new) after _ _ now (omega (arith, counted_or some events))
+
+  pub turn_still : (m : ℕ) → IsReady p → IsGoing p blocks before m → (slots : List ℕ) (arcs : ℕ) → ((e : Step) → IsSure old (seen_by (ends_view b k before before slots arcs)) e → 0 < events)
+      → (IsFalse some → IsStill p blocks0 ways0 0 → IsStill p blocks before b) → IsFalse (some || nat_lt 0 events) → IsStill p blocks0 ways0 0 → IsStill p (slice_set blocks b new) after (b + 1)
+  turn_still m ready going slots arcs sure was off from =
+      let both = neither some events off in
+      let l : b < length blocks = omega (arith, lb, size) in
+      still_on p blocks before b m ready going l (was both.0 from) after slots arcs new
+      (subst (λ n. ReachesFrom (length blocks) b n (block_at (whole_with p blocks) b) new before.messages after.messages) both.1 reached)
+      (none_sure slots arcs sure both.1)
+
+-- ---- the whole work
+
+-- some block did an event, and the count fell, or none did, and the state is finished
+pub work_done : (p : Pieces) (blocks : List BlockView) (ways : MailView) (s t : State) (r : Bool) → s ≡ state_in p → IsGoing p blocks ways (counted r 1)
+    → ((n : ℕ) → IsGoing p blocks ways n → count t + n ≤ count (state_in p)) → (IsFalse r → IsFinished t)
+    → MatchBool r (count t < count s) (IsFinished t)
+work_done p blocks ways s t true is going lower still = omega (arith, lower 1 going, ap count is)
+work_done p blocks ways s t false is going lower still = still refl
