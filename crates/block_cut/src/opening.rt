@@ -44,6 +44,9 @@ fn send_up(cells: &mut Cells, v: usize)
     give(cells, v);
     let (first, end) = cells.range(v);
     'lanes: for j in first..end {
+        if cells.excess(v) == 0 {
+            return;
+        }
         if cells.lane(j).far as usize > v {
             send(cells, v, j);
         }
@@ -61,29 +64,17 @@ fn send_down(cells: &mut Cells, v: usize)
     give(cells, v);
     let (first, end) = cells.range(v);
     'lanes: for j in first..end {
+        if cells.excess(v) == 0 {
+            return;
+        }
         if (cells.lane(j).far as usize) < v {
             send(cells, v, j);
         }
     }
 }
 
-/// Gives the sink what it can take of the node's excess, and sends the rest on, along its last direction first.
-fn send_out(cells: &mut Cells, v: usize)
-    requires { v < count cells.old }
-    ensures { Opens cells.old cells.new }
-{
-    if cells.excess(v) == 0 {
-        return;
-    }
-    give(cells, v);
-    let (first, end) = cells.range(v);
-    'lanes: for j in (first..end).rev() {
-        send(cells, v, j);
-    }
-}
-
-/// Three passes over the nodes of a block: by rising nodes, each sends on to higher ones; by falling nodes, each to
-/// lower ones; by rising nodes, each along all its directions. Takes no memory.
+/// Two passes over the nodes of a block: by rising nodes, each sends on to higher ones, and then by falling nodes, each
+/// to lower ones. So excess goes as far as it can one way, and what the sink has not taken then the other way.
 fn open_block(cells: &mut Cells)
     ensures { Opens cells.old cells.new }
 {
@@ -92,9 +83,6 @@ fn open_block(cells: &mut Cells)
     }
     'down: for v in (0..cells.len()).rev() {
         send_down(cells, v);
-    }
-    'out: for v in 0..cells.len() {
-        send_out(cells, v);
     }
 }
 
@@ -120,8 +108,8 @@ fn state_of(old: &Snapshot<Pieces>, pieces: Pieces) -> State
     pieces.into_state()
 }
 
-/// The state after the first pushes within its blocks, which ask for no exact labels: while all labels are 0, they fit
-/// every flow. Takes no memory.
+/// The state after the first pushes within its blocks, in which excess goes on without regard to labels: while all of
+/// them are 0, they fit every flow. Takes no memory.
 pub(crate) fn open(state: State) -> State
     requires { AreLabelsZero state }
     ensures { result.net ≡ state.net }

@@ -6,6 +6,3 @@ up-preserved c = opens_more c.args.cells.now c.up.cells c.send_up.new.cells c.up
 
 pub down-preserved : goal.down-preserved
 down-preserved c = opens_more c.args.cells.now c.down.cells c.send_down.new.cells c.down.invariant c.send_down.ensures
-
-pub out-preserved : goal.out-preserved
-out-preserved c = opens_more c.args.cells.now c.out.cells c.send_out.new.cells c.out.invariant c.send_out.ensures

@@ -6,6 +6,3 @@ invariant-up l = Opens l.fn.cells l.cells
 
 abbrev pub invariant-down : goal.invariant-down
 invariant-down l = Opens l.fn.cells l.cells
-
-abbrev pub invariant-out : goal.invariant-out
-invariant-out l = Opens l.fn.cells l.cells
