@@ -4,3 +4,4 @@ pub mod Certificate
 pub mod Smallest
 pub mod Push
 pub mod Moves
+pub mod Given

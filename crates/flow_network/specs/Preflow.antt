@@ -1,6 +1,7 @@
 -- Preflows, residual directions and certified cuts (Goldberg, Tarjan 1988, "A new approach to the
 -- maximum-flow problem", section 2).
 use Rattle.std.specs.Prelude.{◌≡◌, ℕ, zero, suc, ◌+◌, ◌-◌, ◌<◌, ◌≤◌, ◌⊎◌, Bool, true, ◌==◌, List, length, slice_index, slice_index_or}
+use Rattle.std.specs.Simd.Lanes.{zip2}
 use Rattle.sums.specs.Sums.{sum_below, counted}
 use Rattle.flow_network.specs.declared.arc.Arc.{Arc}
 use Rattle.flow_network.specs.Cut.{Network, nodes, capacity_of}
@@ -25,6 +26,15 @@ IsWithinArcs net flow = (k : ℕ) → k < length net.arcs → slice_index flow k
 -- no node gives the sink more than it can
 abbrev pub IsWithinSinks : Network → List ℕ → Type 0
 IsWithinSinks net flow = (v : ℕ) → v < nodes net → slice_index flow v ≤ slice_index net.sinks v
+
+-- of each node what it can still give the sink, at most what it can at all
+pub record AreRooms (net : Network) (rooms : List ℕ) : Type 0 where
+  pub len : length rooms ≡ nodes net
+  pub within : (v : ℕ) → v < nodes net → slice_index rooms v ≤ slice_index net.sinks v
+
+-- what each node gives the sink, told by what it can still give it
+abbrev pub given : Network → List ℕ → List ℕ
+given net rooms = zip2 (λ sink room. sink - room) net.sinks rooms
 
 -- what comes to a node by arcs
 abbrev pub inflow : Network → Flow → ℕ → ℕ

@@ -8,6 +8,7 @@
 
 mod arc;
 mod check;
+mod graph;
 pub mod laws;
 mod limits;
 mod net;
@@ -15,6 +16,7 @@ mod solved;
 
 pub use arc::Arc;
 pub use check::{check_cut, cut_capacity};
+pub use graph::Graph;
 pub use limits::{CAPACITY_LIMIT, NODE_LIMIT};
 pub use net::Net;
 pub use solved::Solved;

@@ -1,7 +1,7 @@
 ghost use Rattle.std.specs.Prelude.{◌≡◌, ◌↔◌, ◌+◌, ◌<◌, IsTrue, length, sum, sum_by, All, MatchOption};
 ghost use Rattle.flow_network.specs.Cut.{network_of, nodes, IsArc, IsNet};
 
-use crate::{Arc, CAPACITY_LIMIT, NODE_LIMIT};
+use crate::{Arc, CAPACITY_LIMIT, Graph, NODE_LIMIT};
 use std::marker::Model;
 
 /// A net with a source and a sink: what the source can send each node, what each node can send
@@ -13,19 +13,23 @@ use std::marker::Model;
 /// numbers for sources and sinks, their n-links the arcs).
 #[derive(Drop)]
 pub struct Net {
+    graph: Graph,
     sources: Vec<u64>,
     sinks: Vec<u64>,
-    arcs: Vec<Arc>,
 }
 
 impl Model for Net {
-    ghost use Rattle.flow_network.specs.Cut.{Network, network_of, IsNet};
+    ghost use Rattle.std.specs.Prelude.{◌≡◌};
+    ghost use Rattle.flow_network.specs.Cut.{Network};
 
     ghost Value = { Network };
 
-    ghost view = { λ n. network_of n.sources.items n.sinks.items n.arcs.items };
+    ghost view = { λ n. n.graph };
 
-    ghost invariant = { λ n. IsNet (network_of n.sources.items n.sinks.items n.arcs.items) };
+    ghost invariant = { λ n. record {
+      sources : n.sources.items ≡ n.graph.sources;
+      sinks : n.sinks.items ≡ n.graph.sinks;
+    } };
 }
 
 /// Whether each arc leads between nodes.
@@ -97,11 +101,28 @@ impl Net {
         requires { IsNet (network_of sources.items sinks.items arcs.items) }
         ensures { result ≡ network_of sources.items sinks.items arcs.items }
     {
+        let graph = Graph::of(&sources, &sinks, arcs);
         Net {
+            graph,
             sources,
             sinks,
-            arcs,
         }
+    }
+
+    /// The arcs, and how many nodes the net has.
+    pub fn graph(&self) -> &Graph
+        ensures { result.now ≡ self.now }
+    {
+        &self.graph
+    }
+
+    /// The graph, what the source can send each node, and what each node can send the sink.
+    pub fn into_parts(self) -> (Graph, Vec<u64>, Vec<u64>)
+        ensures graph { result.0 ≡ self }
+        ensures sources { result.1.items ≡ self.sources }
+        ensures sinks { result.2.items ≡ self.sinks }
+    {
+        (self.graph, self.sources, self.sinks)
     }
 
     /// How many nodes the net has. They are numbered from 0.
@@ -109,7 +130,7 @@ impl Net {
         ensures value { result ≡ nodes self.now }
         ensures limits { IsNet self.now }
     {
-        self.sources.len()
+        self.graph.nodes()
     }
 
     /// What the source can send each node, in the order of the nodes.
@@ -117,6 +138,7 @@ impl Net {
         ensures value { result.now ≡ self.now.sources }
         ensures limits { IsNet self.now }
     {
+        let _nodes = self.graph.nodes();
         self.sources.as_slice()
     }
 
@@ -125,6 +147,7 @@ impl Net {
         ensures value { result.now ≡ self.now.sinks }
         ensures limits { IsNet self.now }
     {
+        let _nodes = self.graph.nodes();
         self.sinks.as_slice()
     }
 
@@ -133,6 +156,6 @@ impl Net {
         ensures value { result.now ≡ self.now.arcs }
         ensures limits { IsNet self.now }
     {
-        self.arcs.as_slice()
+        self.graph.arcs()
     }
 }

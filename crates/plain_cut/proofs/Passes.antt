@@ -1,5 +1,5 @@
 -- What a push leaves at its arc, and what pushes along other arcs keep.
-use Rattle.std.proofs.Common.{◌≡◌, ◌≢◌, ℕ, ◌+◌, ◌-◌, ◌<◌, ◌≤◌, inl, inr, List, length, set, slice_index, ◌∙◌, ap, arith, get_or-set_same, get_or-set_other}
+use Rattle.std.proofs.Common.{◌≡◌, ◌≢◌, ℕ, ◌+◌, ◌-◌, ◌<◌, inl, inr, List, length, set, slice_index, ◌∙◌, ap, arith, get_or-set_same, get_or-set_other}
 use Rattle.std.proofs.lemmas.Bool.{cases_eq}
 use Rattle.flow_network.specs.Cut.{Network}
 use Rattle.flow_network.specs.Preflow.{arc_at}
@@ -14,7 +14,7 @@ moved_at kept u w z ne l =
 -- ---- a push along an arc
 
 pub arc_push : (old new : Work) (u w z : ℕ) → u ≢ w → u < length old.excess.items
-    → new.labels.items ≡ old.labels.items → new.sink_flow.items ≡ old.sink_flow.items → new.excess.items ≡ moved old.excess.items u w z
+    → new.labels.items ≡ old.labels.items → new.rooms.items ≡ old.rooms.items → new.excess.items ≡ moved old.excess.items u w z
     → IsPush u old new
 arc_push old new u w z ne l el es ee =
     record { labels = el; sinks = es; excess = omega (arith, ap (λ (xs : List ℕ). slice_index xs u) ee, moved_at old.excess.items u w z ne l) }
@@ -75,7 +75,7 @@ spent_back_more net old new v k j end p only here before = elim (cases_eq j k) [
 -- ---- all pushes of the node are made
 
 pub pass_stuck : (net : Network) (given out into : Work) (v : ℕ)
-    → (0 < slice_index given.excess.items v → slice_index net.sinks v ≤ slice_index given.sink_flow.items v)
+    → (0 < slice_index given.excess.items v → slice_index given.rooms.items v ≡ 0)
     → IsPush v given out → ((k : ℕ) → k < length net.arcs → (arc_at net k).from ≡ v → IsSpent net out k)
     → IsPush v out into → ((j : ℕ) → (arc_at net j).to ≢ v → slice_index into.arc_flow.items j ≡ slice_index out.arc_flow.items j)
     → ((k : ℕ) → k < length net.arcs → (arc_at net k).to ≡ v → IsSpentBack net into k)

@@ -62,19 +62,20 @@ raise_sound net flow kept labels new s fits low = record {
 -- ---- over the work
 
 pub raise_work : (net : Network) (old new : Work) → IsNet net → IsWork net old
-    → new.arc_flow.items ≡ old.arc_flow.items → new.sink_flow.items ≡ old.sink_flow.items
+    → new.arc_flow.items ≡ old.arc_flow.items → new.rooms.items ≡ old.rooms.items
     → new.excess.items ≡ old.excess.items → new.queue.items ≡ old.queue.items
-    → AreDistances net (work_flow old) new.labels.items → IsRaised net old new
+    → AreDistances net (work_flow net old) new.labels.items → IsRaised net old new
 raise_work net old new h s ea es ee eq exact =
-    let up = distances_rise net (work_flow old) old.labels.items new.labels.items s.sound.labelling s.sound.below_top exact in
-    let low = distances-le-top net (work_flow old) new.labels.items exact in
+    let up = distances_rise net (work_flow net old) old.labels.items new.labels.items s.sound.labelling s.sound.below_top exact in
+    let low = distances-le-top net (work_flow net old) new.labels.items exact in
     record {
       work = record {
-        sound = rw (ea, es, ee) (raise_sound net (work_flow old) old.excess.items old.labels.items new.labels.items s.sound
-            (distances_label net (work_flow old) new.labels.items h exact) low);
+        sound = rw (ea, es, ee) (raise_sound net (work_flow net old) old.excess.items old.labels.items new.labels.items s.sound
+            (distances_label net (work_flow net old) new.labels.items h exact) low);
+        rooms = rw es s.rooms;
         queue = rw eq s.queue;
       };
-      fall = rw ee (raise_lowers net (work_flow old) old.excess.items old.labels.items new.labels.items h s.sound up low);
+      fall = rw ee (raise_lowers net (work_flow net old) old.excess.items old.labels.items new.labels.items h s.sound up low);
       labels = up;
       excess = ee;
       queue = eq;

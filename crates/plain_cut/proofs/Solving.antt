@@ -9,22 +9,22 @@ use Rattle.plain_cut.specs.declared.work.Work.{Work}
 use Rattle.plain_cut.specs.State.{work_flow, IsWork, IsFinished}
 
 no_excess : (net : Network) (w : Work) (side : ℕ → Bool) → IsWork net w → IsFinished net w
-    → AreDistances net (work_flow w) w.labels.items → IsReach net (work_flow w) side
-    → (v : ℕ) → v < nodes net → side v ≡ true → excess net (work_flow w) v ≡ 0
+    → AreDistances net (work_flow net w) w.labels.items → IsReach net (work_flow net w) side
+    → (v : ℕ) → v < nodes net → side v ≡ true → excess net (work_flow net w) v ≡ 0
 no_excess net w side s done exact reach v l inside =
-    let near = distances-le-nodes net (work_flow w) w.labels.items exact v l (reach.sound v l inside) in
+    let near = distances-le-nodes net (work_flow net w) w.labels.items exact v l (reach.sound v l inside) in
     sym (s.sound.told v l) ∙ done v l (omega (arith, near))
 
 pub solved_certified : (net : Network) (w : Work) (side : ℕ → Bool) (value : ℕ) → IsNet net → IsWork net w → IsFinished net w
-    → AreDistances net (work_flow w) w.labels.items → IsReach net (work_flow w) side
-    → value ≡ capacity_of net side → IsCertified net (work_flow w) side value
+    → AreDistances net (work_flow net w) w.labels.items → IsReach net (work_flow net w) side
+    → value ≡ capacity_of net side → IsCertified net (work_flow net w) side value
 solved_certified net w side value h s done exact reach told = record {
   preflow = s.sound.preflow;
-  full = capacity_of_reach net (work_flow w) side h s.sound.preflow reach (no_excess net w side s done exact reach);
+  full = capacity_of_reach net (work_flow net w) side h s.sound.preflow reach (no_excess net w side s done exact reach);
   told = told;
 }
 
 pub solved_smallest : (net : Network) (w : Work) (side : ℕ → Bool) → IsNet net → IsWork net w → IsFinished net w
-    → AreDistances net (work_flow w) w.labels.items → IsReach net (work_flow w) side → IsSmallestLeastCut net side
+    → AreDistances net (work_flow net w) w.labels.items → IsReach net (work_flow net w) side → IsSmallestLeastCut net side
 solved_smallest net w side h s done exact reach =
-    smallest_least net (work_flow w) side h s.sound.preflow reach (no_excess net w side s done exact reach)
+    smallest_least net (work_flow net w) side h s.sound.preflow reach (no_excess net w side s done exact reach)

@@ -9,6 +9,7 @@ use Rattle.flow_network.specs.Preflow.{arc_at}
 use Rattle.flow_network.specs.Progress.{top, IsSound}
 use Rattle.plain_cut.specs.State.{work_flow, IsWork, left, IsStep, IsSteps, IsWave, IsLowest}
 use Rattle.flow_network.proofs.Duality.{arc_is}
+use Rattle.flow_network.proofs.Given.{given_at, given_set, rooms_set, left_room}
 use Rattle.flow_network.proofs.Push.{moved, move_lowers, give_lowers}
 use Rattle.flow_network.proofs.Moves.{forward_sound, back_sound, give_sound, relabel_sound, relabel_lowers_all}
 
@@ -36,15 +37,15 @@ queue_gains queue w false h = h refl
 -- ---- a push
 
 pub push_step : (net : Network) (old new : Work) (u w z : ℕ) → IsWork net old
-    → IsSound net (work_flow new) new.excess.items new.labels.items → left net new < left net old
-    → u ≢ w → w < nodes net
+    → IsSound net (work_flow net new) new.excess.items new.labels.items → left net new < left net old
+    → u ≢ w → w < nodes net → new.rooms.items ≡ old.rooms.items
     → new.excess.items ≡ moved old.excess.items u w z → new.labels.items ≡ old.labels.items
     → new.queue.items ≡ queued_after old.queue.items (slice_index old.excess.items w) w → new.relabels ≡ old.relabels
     → IsStep net u old new
-push_step net old new u w z h sound lower ne lw ee el eq er =
+push_step net old new u w z h sound lower ne lw es ee el eq er =
     let b = eqb (slice_index old.excess.items w) 0 in
     record {
-      work = record { sound = sound; queue = rw eq (queue_all (nodes net) old.queue.items w b lw h.queue) };
+      work = record { sound = sound; rooms = rw es h.rooms; queue = rw eq (queue_all (nodes net) old.queue.items w b lw h.queue) };
       lower = lower;
       counted = omega (arith, lower, er);
       queue = rw eq (queue_length old.queue.items w b);
@@ -68,7 +69,7 @@ push_step net old new u w z h sound lower ne lw ee el eq er =
 pub forward_step : (net : Network) (old new : Work) (k z : ℕ) → IsNet net → IsWork net old → k < length net.arcs
     → z ≤ slice_index old.excess.items (arc_at net k).from → 0 < z → slice_index old.arc_flow.items k + z ≤ (arc_at net k).capacity
     → slice_index old.labels.items (arc_at net k).from ≡ slice_index old.labels.items (arc_at net k).to + 1
-    → new.arc_flow.items ≡ set old.arc_flow.items k (slice_index old.arc_flow.items k + z) → new.sink_flow.items ≡ old.sink_flow.items
+    → new.arc_flow.items ≡ set old.arc_flow.items k (slice_index old.arc_flow.items k + z) → new.rooms.items ≡ old.rooms.items
     → new.excess.items ≡ moved old.excess.items (arc_at net k).from (arc_at net k).to z → new.labels.items ≡ old.labels.items
     → new.queue.items ≡ queued_after old.queue.items (slice_index old.excess.items (arc_at net k).to) (arc_at net k).to
     → new.relabels ≡ old.relabels → IsStep net (arc_at net k).from old new
@@ -78,14 +79,14 @@ forward_step net old new k z h s l le some fits down ea es ee el eq er =
     let ne : u ≢ w = λ e. (let same = ap (slice_index old.labels.items) e in omega (arith, same, down)) in
     let ends = arc_is net h k l in
     push_step net old new u w z s
-    (rw (ea, es, ee, el) (forward_sound net (work_flow old) old.excess.items old.labels.items k z h s.sound l le fits (omega (arith, fits, some)) down))
+    (rw (ea, es, ee, el) (forward_sound net (work_flow net old) old.excess.items old.labels.items k z h s.sound l le fits (omega (arith, fits, some)) down))
     (rw (ee, el) (move_lowers net old.excess.items old.labels.items u w z ends.from ends.to ne s.sound.kept_len le some down))
-    ne ends.to ee el eq er
+    ne ends.to es ee el eq er
 
 pub back_step : (net : Network) (old new : Work) (k z : ℕ) → IsNet net → IsWork net old → k < length net.arcs
     → z ≤ slice_index old.excess.items (arc_at net k).to → 0 < z → z ≤ slice_index old.arc_flow.items k
     → slice_index old.labels.items (arc_at net k).to ≡ slice_index old.labels.items (arc_at net k).from + 1
-    → new.arc_flow.items ≡ set old.arc_flow.items k (slice_index old.arc_flow.items k - z) → new.sink_flow.items ≡ old.sink_flow.items
+    → new.arc_flow.items ≡ set old.arc_flow.items k (slice_index old.arc_flow.items k - z) → new.rooms.items ≡ old.rooms.items
     → new.excess.items ≡ moved old.excess.items (arc_at net k).to (arc_at net k).from z → new.labels.items ≡ old.labels.items
     → new.queue.items ≡ queued_after old.queue.items (slice_index old.excess.items (arc_at net k).from) (arc_at net k).from
     → new.relabels ≡ old.relabels → IsStep net (arc_at net k).to old new
@@ -95,18 +96,24 @@ back_step net old new k z h s l le some fits down ea es ee el eq er =
     let ne : u ≢ w = λ e. (let same = ap (slice_index old.labels.items) e in omega (arith, same, down)) in
     let ends = arc_is net h k l in
     push_step net old new u w z s
-    (rw (ea, es, ee, el) (back_sound net (work_flow old) old.excess.items old.labels.items k z h s.sound l le fits (omega (arith, fits, some)) down))
+    (rw (ea, es, ee, el) (back_sound net (work_flow net old) old.excess.items old.labels.items k z h s.sound l le fits (omega (arith, fits, some)) down))
     (rw (ee, el) (move_lowers net old.excess.items old.labels.items u w z ends.to ends.from ne s.sound.kept_len le some down))
-    ne ends.from ee el eq er
+    ne ends.from es ee el eq er
 
-pub give_step : (net : Network) (old new : Work) (u z : ℕ) → IsWork net old → u < nodes net
-    → z ≤ slice_index old.excess.items u → 0 < z → slice_index old.sink_flow.items u + z ≤ slice_index net.sinks u
-    → new.arc_flow.items ≡ old.arc_flow.items → new.sink_flow.items ≡ set old.sink_flow.items u (slice_index old.sink_flow.items u + z)
+pub give_step : (net : Network) (old new : Work) (u z : ℕ) → IsNet net → IsWork net old → u < nodes net
+    → z ≤ slice_index old.excess.items u → 0 < z → z ≤ slice_index old.rooms.items u
+    → new.arc_flow.items ≡ old.arc_flow.items → new.rooms.items ≡ set old.rooms.items u (slice_index old.rooms.items u - z)
     → new.excess.items ≡ set old.excess.items u (slice_index old.excess.items u - z) → new.labels.items ≡ old.labels.items
     → new.queue.items ≡ old.queue.items → new.relabels ≡ old.relabels
     → IsStep net u old new
-give_step net old new u z s l le some fits ea es ee el eq er = record {
-  work = record { sound = rw (ea, es, ee, el) (give_sound net (work_flow old) old.excess.items old.labels.items u z s.sound l le fits); queue = rw eq s.queue };
+give_step net old new u z h s l le some fits ea es ee el eq er = record {
+  work = record {
+    sound = rw (ea, es, ee, el, given_set net old.rooms.items u z h s.rooms l fits)
+        (give_sound net (work_flow net old) old.excess.items old.labels.items u z s.sound l le
+        (omega (arith, given_at net old.rooms.items u h s.rooms l, s.rooms.within u l, fits)));
+    rooms = rw es (rooms_set net old.rooms.items u (slice_index old.rooms.items u - z) s.rooms l (omega arith));
+    queue = rw eq s.queue;
+  };
   lower = rw (ee, el) (give_lowers net old.excess.items old.labels.items u z l s.sound.kept_len le some);
   counted = rw (ee, el) (omega (arith, er, give_lowers net old.excess.items old.labels.items u z l s.sound.kept_len le some));
   queue = rw eq (omega arith);
@@ -118,14 +125,14 @@ give_step net old new u z s l le some fits ea es ee el eq er = record {
 
 pub relabel_step : (net : Network) (old new : Work) (u j : ℕ) → IsNet net → IsWork net old → u < nodes net
     → slice_index old.labels.items u < j → IsLowest net old u j
-    → new.arc_flow.items ≡ old.arc_flow.items → new.sink_flow.items ≡ old.sink_flow.items
+    → new.arc_flow.items ≡ old.arc_flow.items → new.rooms.items ≡ old.rooms.items
     → new.excess.items ≡ old.excess.items → new.labels.items ≡ set old.labels.items u j
     → new.queue.items ≡ old.queue.items → new.relabels ≤ old.relabels + 1
     → IsStep net u old new
 relabel_step net old new u j h s l up low ea es ee el eq er = record {
-  work = record { sound = rw (ea, es, ee, el) (relabel_sound net (work_flow old) old.excess.items old.labels.items u j s.sound l (omega (arith, up)) low.fits low.sinks low.arcs); queue = rw eq s.queue };
-  lower = rw (ee, el) (relabel_lowers_all net (work_flow old) old.excess.items old.labels.items u j h s.sound l up low.fits);
-  counted = rw (ee, el) (omega (arith, er, relabel_lowers_all net (work_flow old) old.excess.items old.labels.items u j h s.sound l up low.fits));
+  work = record { sound = rw (ea, es, ee, el) (relabel_sound net (work_flow net old) old.excess.items old.labels.items u j s.sound l (omega (arith, up)) low.fits (λ room. low.sinks (left_room net old.rooms.items u h s.rooms l room)) low.arcs); rooms = rw es s.rooms; queue = rw eq s.queue };
+  lower = rw (ee, el) (relabel_lowers_all net (work_flow net old) old.excess.items old.labels.items u j h s.sound l up low.fits);
+  counted = rw (ee, el) (omega (arith, er, relabel_lowers_all net (work_flow net old) old.excess.items old.labels.items u j h s.sound l up low.fits));
   queue = rw eq (omega arith);
   queued = λ before v lv off positive below.
       let kept = ap (λ (xs : List ℕ). slice_index xs v) ee in

@@ -40,7 +40,7 @@ down labels u w l ne flat =
 pub send_work : (net : Network) (old new : Work) (k z : ℕ) → IsNet net → IsUnlabelled net old → k < length net.arcs
     → (arc_at net k).from ≢ (arc_at net k).to → z ≤ slice_index old.excess.items (arc_at net k).from
     → slice_index old.arc_flow.items k + z ≤ (arc_at net k).capacity → slice_index old.arc_flow.items k < (arc_at net k).capacity
-    → new.arc_flow.items ≡ set old.arc_flow.items k (slice_index old.arc_flow.items k + z) → new.sink_flow.items ≡ old.sink_flow.items
+    → new.arc_flow.items ≡ set old.arc_flow.items k (slice_index old.arc_flow.items k + z) → new.rooms.items ≡ old.rooms.items
     → new.excess.items ≡ moved old.excess.items (arc_at net k).from (arc_at net k).to z → new.labels.items ≡ old.labels.items
     → new.queue.items ≡ old.queue.items → IsUnlabelled net new
 send_work net old new k z h o l ne le fits room ea es ee el eq =
@@ -48,12 +48,13 @@ send_work net old new k z h o l ne le fits room ea es ee el eq =
     let u = (arc_at net k).from in
     let w = (arc_at net k).to in
     let ends = arc_is net h k l in
-    let up = one_sound net (work_flow old) old.excess.items old.labels.items u s ends.from o.labels in
+    let up = one_sound net (work_flow net old) old.excess.items old.labels.items u s ends.from o.labels in
     let at = down old.labels.items u w (omega (arith, s.labelling.len, ends.from)) ne o.labels in
-    let sent = forward_sound net (work_flow old) old.excess.items (set old.labels.items u 1) k z h up l le fits room at in
+    let sent = forward_sound net (work_flow net old) old.excess.items (set old.labels.items u 1) k z h up l le fits room at in
     record {
       work = record {
         sound = rw (ea, es, ee, el) (flat_sound net _ _ (set old.labels.items u 1) old.labels.items sent s.labelling.len o.labels);
+        rooms = rw es o.work.rooms;
         queue = rw eq o.work.queue;
       };
       labels = λ v. rw el (o.labels v);
@@ -62,7 +63,7 @@ send_work net old new k z h o l ne le fits room ea es ee el eq =
 pub back_work : (net : Network) (old new : Work) (k z : ℕ) → IsNet net → IsUnlabelled net old → k < length net.arcs
     → (arc_at net k).from ≢ (arc_at net k).to → z ≤ slice_index old.excess.items (arc_at net k).to
     → z ≤ slice_index old.arc_flow.items k → 0 < slice_index old.arc_flow.items k
-    → new.arc_flow.items ≡ set old.arc_flow.items k (slice_index old.arc_flow.items k - z) → new.sink_flow.items ≡ old.sink_flow.items
+    → new.arc_flow.items ≡ set old.arc_flow.items k (slice_index old.arc_flow.items k - z) → new.rooms.items ≡ old.rooms.items
     → new.excess.items ≡ moved old.excess.items (arc_at net k).to (arc_at net k).from z → new.labels.items ≡ old.labels.items
     → new.queue.items ≡ old.queue.items → IsUnlabelled net new
 back_work net old new k z h o l ne le fits some ea es ee el eq =
@@ -70,12 +71,13 @@ back_work net old new k z h o l ne le fits some ea es ee el eq =
     let u = (arc_at net k).to in
     let w = (arc_at net k).from in
     let ends = arc_is net h k l in
-    let up = one_sound net (work_flow old) old.excess.items old.labels.items u s ends.to o.labels in
+    let up = one_sound net (work_flow net old) old.excess.items old.labels.items u s ends.to o.labels in
     let at = down old.labels.items u w (omega (arith, s.labelling.len, ends.to)) (λ e. ne (sym e)) o.labels in
-    let sent = back_sound net (work_flow old) old.excess.items (set old.labels.items u 1) k z h up l le fits some at in
+    let sent = back_sound net (work_flow net old) old.excess.items (set old.labels.items u 1) k z h up l le fits some at in
     record {
       work = record {
         sound = rw (ea, es, ee, el) (flat_sound net _ _ (set old.labels.items u 1) old.labels.items sent s.labelling.len o.labels);
+        rooms = rw es o.work.rooms;
         queue = rw eq o.work.queue;
       };
       labels = λ v. rw el (o.labels v);

@@ -1,16 +1,17 @@
 use Rattle.std.specs.Prelude.{◌≡◌, ◌≢◌, ℕ, ◌+◌, ◌<◌, ◌≤◌, length, slice_index, All, Contains}
 use Rattle.flow_network.specs.Cut.{Network, nodes}
-use Rattle.flow_network.specs.Preflow.{Flow, arc_at, IsResidual}
+use Rattle.flow_network.specs.Preflow.{Flow, flow_by, given, arc_at, AreRooms, IsResidual}
 use Rattle.flow_network.specs.Progress.{top, IsSound, work_left}
 use Rattle.plain_cut.specs.declared.work.Work.{Work}
 
 -- the flow of the work
-abbrev pub work_flow : Work → Flow
-work_flow w = record { arcs = w.arc_flow.items; sinks = w.sink_flow.items }
+abbrev pub work_flow : Network → Work → Flow
+work_flow net w = flow_by w.arc_flow.items (given net w.rooms.items)
 
--- a preflow with its excess, labels that fit it, and a queue of nodes
+-- a preflow with its excess, rooms for what the sink can still get, labels that fit it, and a queue of nodes
 pub record IsWork (net : Network) (w : Work) : Type 0 where
-  pub sound : IsSound net (work_flow w) w.excess.items w.labels.items
+  pub sound : IsSound net (work_flow net w) w.excess.items w.labels.items
+  pub rooms : AreRooms net w.rooms.items
   pub queue : All (λ v. v < nodes net) w.queue.items
 
 -- all labels are 0, which fit every preflow
@@ -52,19 +53,19 @@ pub record IsSteps (net : Network) (but : ℕ) (old new : Work) : Type 0 where
 -- no residual direction of the node leads to a lower label
 pub record IsLowest (net : Network) (w : Work) (v least : ℕ) : Type 0 where
   pub fits : least ≤ top net
-  pub sinks : slice_index w.sink_flow.items v < slice_index net.sinks v → least ≤ 1
-  pub arcs : (b : ℕ) → IsResidual net (work_flow w) v b → least ≤ slice_index w.labels.items b + 1
+  pub sinks : 0 < slice_index w.rooms.items v → least ≤ 1
+  pub arcs : (b : ℕ) → IsResidual net (work_flow net w) v b → least ≤ slice_index w.labels.items b + 1
 
 -- no residual direction of the node leads down
 pub record IsStuck (net : Network) (w : Work) (v : ℕ) : Type 0 where
-  pub sinks : slice_index net.sinks v ≤ slice_index w.sink_flow.items v
-  pub arcs : (b : ℕ) → IsResidual net (work_flow w) v b
+  pub sinks : slice_index w.rooms.items v ≡ 0
+  pub arcs : (b : ℕ) → IsResidual net (work_flow net w) v b
       → slice_index w.labels.items v ≤ slice_index w.labels.items b
 
 -- pushes of a node along arcs: the labels and the gifts to the sink stay, and its excess does not grow
 pub record IsPush (v : ℕ) (old new : Work) : Type 0 where
   pub labels : new.labels.items ≡ old.labels.items
-  pub sinks : new.sink_flow.items ≡ old.sink_flow.items
+  pub sinks : new.rooms.items ≡ old.rooms.items
   pub excess : slice_index new.excess.items v ≤ slice_index old.excess.items v
 
 -- no arc but k carries more or less than before

@@ -12,4 +12,4 @@ mod solver;
 mod turns;
 mod work;
 
-pub use solver::solve;
+pub use solver::{smallest_side, solve};

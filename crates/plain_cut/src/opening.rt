@@ -6,12 +6,12 @@ ghost use Rattle.plain_cut.specs.State.{IsWork, IsUnlabelled};
 
 use crate::pushes::{carry, try_push_sink};
 use crate::work::{Work, start};
-use flow_network::Net;
+use flow_network::Graph;
 use sink_distances::Adjacency;
 use std::alloc::{AllocError, Global};
 
 /// Sends along the arc what its first node has and the arc can still carry.
-fn send(net: &Net, work: &mut Work, k: usize)
+fn send(net: &Graph, work: &mut Work, k: usize)
     requires work { IsUnlabelled net.now work.old }
     requires arc { k < length net.now.arcs }
     requires other { (arc_at net.now k).from ≢ (arc_at net.now k).to }
@@ -26,7 +26,7 @@ fn send(net: &Net, work: &mut Work, k: usize)
 }
 
 /// Takes back along the arc what its last node has and the arc carries.
-fn take_back(net: &Net, work: &mut Work, k: usize)
+fn take_back(net: &Graph, work: &mut Work, k: usize)
     requires work { IsUnlabelled net.now work.old }
     requires arc { k < length net.now.arcs }
     requires other { (arc_at net.now k).from ≢ (arc_at net.now k).to }
@@ -41,7 +41,7 @@ fn take_back(net: &Net, work: &mut Work, k: usize)
 }
 
 /// Gives the sink what it can of the excess of the arc's first node, and sends the rest along the arc.
-fn send_on(net: &Net, work: &mut Work, k: usize)
+fn send_on(net: &Graph, work: &mut Work, k: usize)
     requires work { IsUnlabelled net.now work.old }
     requires arc { k < length net.now.arcs }
     ensures { IsUnlabelled net.now work.new }
@@ -57,7 +57,7 @@ fn send_on(net: &Net, work: &mut Work, k: usize)
 }
 
 /// Gives the sink what it can of the excess of the arc's last node, and takes the rest back along the arc.
-fn send_back(net: &Net, work: &mut Work, k: usize)
+fn send_back(net: &Graph, work: &mut Work, k: usize)
     requires work { IsUnlabelled net.now work.old }
     requires arc { k < length net.now.arcs }
     ensures { IsUnlabelled net.now work.new }
@@ -73,7 +73,7 @@ fn send_back(net: &Net, work: &mut Work, k: usize)
 }
 
 /// Sends the node's excess on along the arcs that leave it, the last first. What is no place or no arc is passed over.
-fn send_out(net: &Net, adjacency: &Adjacency, work: &mut Work, v: usize)
+fn send_out(net: &Graph, adjacency: &Adjacency, work: &mut Work, v: usize)
     requires adjacency { IsAdjacency net.now adjacency.now }
     requires work { IsUnlabelled net.now work.old }
     requires node { v < nodes net.now }
@@ -92,7 +92,7 @@ fn send_out(net: &Net, adjacency: &Adjacency, work: &mut Work, v: usize)
 }
 
 /// Sends excess on along each arc in their order, and then back along each in the reverse order.
-fn pass_arcs(net: &Net, work: &mut Work)
+fn pass_arcs(net: &Graph, work: &mut Work)
     requires { IsUnlabelled net.now work.old }
     ensures { IsUnlabelled net.now work.new }
 {
@@ -108,12 +108,22 @@ fn pass_arcs(net: &Net, work: &mut Work)
 /// in the reverse order, and once out of each node, along its last arc first. Where each arc leads from a lower to a
 /// higher node, and the arcs stand by rising first nodes, all excess goes as far as it can in the first pass, what the
 /// sink has not taken comes back in the second, and goes other ways in the third.
-pub fn open(alloc: Global, net: &Net, adjacency: &Adjacency) -> Result<Work, AllocError>
-    requires { IsAdjacency net.now adjacency.now }
+///
+/// It takes the net's sources and sinks over.
+pub fn open(
+    alloc: Global,
+    net: &Graph,
+    sources: Vec<u64>,
+    sinks: Vec<u64>,
+    adjacency: &Adjacency,
+) -> Result<Work, AllocError>
+    requires sources { sources.items ≡ net.now.sources }
+    requires sinks { sinks.items ≡ net.now.sinks }
+    requires adjacency { IsAdjacency net.now adjacency.now }
     ensures work { IfOk result (λ w. IsWork net.now w) }
     ensures limits { IsNet net.now }
 {
-    let mut work = start(alloc, net)?;
+    let mut work = start(alloc, net, sources, sinks)?;
     pass_arcs(net, &mut work);
     'nodes: for v in 0..net.nodes() {
         send_out(net, adjacency, &mut work, v);

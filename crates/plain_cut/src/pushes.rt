@@ -7,7 +7,7 @@ ghost use Rattle.plain_cut.specs.State.{IsWork, IsStep, IsSteps, IsPush, Changes
 ghost use Rattle.plain_cut.specs.State.{IsSpent, IsSpentBack, IsStuck};
 
 use crate::work::Work;
-use flow_network::Net;
+use flow_network::Graph;
 use sink_distances::Adjacency;
 use std::alloc::{AllocError, Global};
 use std::collections::VecDeque;
@@ -54,7 +54,7 @@ fn shift(
 }
 
 /// Pushes along the arc what its first node has and the arc can still carry.
-fn push_forward(net: &Net, work: &mut Work, k: usize) -> Result<(), AllocError>
+fn push_forward(net: &Graph, work: &mut Work, k: usize) -> Result<(), AllocError>
     requires work { IsWork net.now work.old }
     requires arc { k < length net.now.arcs }
     requires residual { slice_index work.old.arc_flow.items k < (arc_at net.now k).capacity }
@@ -81,7 +81,7 @@ fn push_forward(net: &Net, work: &mut Work, k: usize) -> Result<(), AllocError>
 }
 
 /// Pushes back along the arc what its last node has and the arc carries.
-fn push_back(net: &Net, work: &mut Work, k: usize) -> Result<(), AllocError>
+fn push_back(net: &Graph, work: &mut Work, k: usize) -> Result<(), AllocError>
     requires work { IsWork net.now work.old }
     requires arc { k < length net.now.arcs }
     requires residual { 0 < slice_index work.old.arc_flow.items k }
@@ -108,38 +108,36 @@ fn push_back(net: &Net, work: &mut Work, k: usize) -> Result<(), AllocError>
 }
 
 /// Gives the sink what the node has and its sink arc can still carry.
-fn push_sink(net: &Net, work: &mut Work, v: usize)
+fn push_sink(net: &Graph, work: &mut Work, v: usize)
     requires work { IsWork net.now work.old }
     requires node { v < nodes net.now }
-    requires residual { slice_index work.old.sink_flow.items v < slice_index net.now.sinks v }
+    requires residual { 0 < slice_index work.old.rooms.items v }
     requires some { 0 < slice_index work.old.excess.items v }
     ensures step { IsStep net.now v work.old work.new }
     ensures labels { work.new.labels.items ≡ work.old.labels.items }
-    ensures spent { 0 < slice_index work.new.excess.items v →
-        slice_index net.now.sinks v ≤ slice_index work.new.sink_flow.items v }
+    ensures spent { 0 < slice_index work.new.excess.items v → slice_index work.new.rooms.items v ≡ 0 }
 {
-    let given = work.sink_flow[v];
-    let amount = u64::min(work.excess[v], net.sinks()[v] - given);
+    let _nodes = net.nodes();
+    let amount = u64::min(work.excess[v], work.rooms[v]);
     work.excess[v] -= amount;
-    work.sink_flow[v] = given + amount;
+    work.rooms[v] -= amount;
 }
 
 /// Gives the sink what the node has, where its sink arc has room.
-pub fn try_push_sink(net: &Net, work: &mut Work, v: usize)
+pub fn try_push_sink(net: &Graph, work: &mut Work, v: usize)
     requires work { IsWork net.now work.old }
     requires node { v < nodes net.now }
     ensures steps { IsSteps net.now v work.old work.new }
     ensures labels { work.new.labels.items ≡ work.old.labels.items }
-    ensures spent { 0 < slice_index work.new.excess.items v →
-        slice_index net.now.sinks v ≤ slice_index work.new.sink_flow.items v }
+    ensures spent { 0 < slice_index work.new.excess.items v → slice_index work.new.rooms.items v ≡ 0 }
 {
-    if work.sink_flow[v] < net.sinks()[v] && work.excess[v] > 0 {
+    if work.rooms[v] > 0 && work.excess[v] > 0 {
         push_sink(net, work, v);
     }
 }
 
 /// Pushes along the arc, where its first node has excess, it has room, and it leads down.
-fn try_push_forward(net: &Net, work: &mut Work, k: usize) -> Result<(), AllocError>
+fn try_push_forward(net: &Graph, work: &mut Work, k: usize) -> Result<(), AllocError>
     requires work { IsWork net.now work.old }
     requires arc { k < length net.now.arcs }
     ensures steps { OnOk result (IsSteps net.now (arc_at net.now k).from work.old work.new) }
@@ -159,7 +157,7 @@ fn try_push_forward(net: &Net, work: &mut Work, k: usize) -> Result<(), AllocErr
 }
 
 /// Pushes back along the arc, where its last node has excess, it carries something, and it leads down.
-fn try_push_back(net: &Net, work: &mut Work, k: usize) -> Result<(), AllocError>
+fn try_push_back(net: &Graph, work: &mut Work, k: usize) -> Result<(), AllocError>
     requires work { IsWork net.now work.old }
     requires arc { k < length net.now.arcs }
     ensures steps { OnOk result (IsSteps net.now (arc_at net.now k).to work.old work.new) }
@@ -179,7 +177,7 @@ fn try_push_back(net: &Net, work: &mut Work, k: usize) -> Result<(), AllocError>
 }
 
 /// Pushes along the arcs that leave the node, while it has excess.
-fn push_out(net: &Net, adjacency: &Adjacency, work: &mut Work, v: usize) -> Result<(), AllocError>
+fn push_out(net: &Graph, adjacency: &Adjacency, work: &mut Work, v: usize) -> Result<(), AllocError>
     requires adjacency { IsAdjacency net.now adjacency.now }
     requires work { IsWork net.now work.old }
     requires node { v < nodes net.now }
@@ -198,7 +196,12 @@ fn push_out(net: &Net, adjacency: &Adjacency, work: &mut Work, v: usize) -> Resu
 }
 
 /// Pushes back along the arcs that enter the node, while it has excess.
-fn push_into(net: &Net, adjacency: &Adjacency, work: &mut Work, v: usize) -> Result<(), AllocError>
+fn push_into(
+    net: &Graph,
+    adjacency: &Adjacency,
+    work: &mut Work,
+    v: usize,
+) -> Result<(), AllocError>
     requires adjacency { IsAdjacency net.now adjacency.now }
     requires work { IsWork net.now work.old }
     requires node { v < nodes net.now }
@@ -220,7 +223,7 @@ fn push_into(net: &Net, adjacency: &Adjacency, work: &mut Work, v: usize) -> Res
 
 /// Pushes along each direction of the node that leads down, while it has excess.
 pub fn push_all(
-    net: &Net,
+    net: &Graph,
     adjacency: &Adjacency,
     work: &mut Work,
     v: usize,

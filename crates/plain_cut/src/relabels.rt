@@ -6,11 +6,11 @@ ghost use Rattle.sink_distances.specs.Adjacency.{IsAdjacency};
 ghost use Rattle.plain_cut.specs.State.{IsWork, IsStep, IsStuck, IsLowest};
 
 use crate::work::Work;
-use flow_network::Net;
+use flow_network::Graph;
 use sink_distances::{Adjacency, top_label};
 
 /// The lesser of a label and one more than that to which the arc leads, where it has room.
-fn lower_forward(net: &Net, work: &Work, k: usize, least: u32) -> u32
+fn lower_forward(net: &Graph, work: &Work, k: usize, least: u32) -> u32
     requires work { IsWork net.now work.now }
     requires arc { k < length net.now.arcs }
     ensures lower { result ≤ least }
@@ -29,7 +29,7 @@ fn lower_forward(net: &Net, work: &Work, k: usize, least: u32) -> u32
 }
 
 /// The lesser of a label and one more than that to which the arc leads back, where it carries something.
-fn lower_back(net: &Net, work: &Work, k: usize, least: u32) -> u32
+fn lower_back(net: &Graph, work: &Work, k: usize, least: u32) -> u32
     requires work { IsWork net.now work.now }
     requires arc { k < length net.now.arcs }
     ensures lower { result ≤ least }
@@ -48,7 +48,7 @@ fn lower_back(net: &Net, work: &Work, k: usize, least: u32) -> u32
 }
 
 /// The highest label that fits a node from which no residual direction leads down.
-fn highest_label(net: &Net, adjacency: &Adjacency, work: &Work, v: usize) -> u32
+fn highest_label(net: &Graph, adjacency: &Adjacency, work: &Work, v: usize) -> u32
     requires adjacency { IsAdjacency net.now adjacency.now }
     requires work { IsWork net.now work.now }
     requires node { v < nodes net.now }
@@ -69,7 +69,7 @@ fn highest_label(net: &Net, adjacency: &Adjacency, work: &Work, v: usize) -> u32
 }
 
 /// Gives the node the highest label that fits.
-pub fn relabel(net: &Net, adjacency: &Adjacency, work: &mut Work, v: usize)
+pub fn relabel(net: &Graph, adjacency: &Adjacency, work: &mut Work, v: usize)
     requires adjacency { IsAdjacency net.now adjacency.now }
     requires work { IsWork net.now work.old }
     requires node { v < nodes net.now }

@@ -5,13 +5,13 @@ ghost use Rattle.plain_cut.specs.State.{IsWork, IsWave, IsRound};
 
 use crate::pushes::push_all;
 use crate::work::{Work, queue_again, raise_all};
-use flow_network::Net;
+use flow_network::Graph;
 use sink_distances::{Adjacency, top_label};
 use std::alloc::AllocError;
 
 /// Pushes at each node of the order once, the last first. What is no node is passed over.
 fn push_wave(
-    net: &Net,
+    net: &Graph,
     adjacency: &Adjacency,
     work: &mut Work,
     order: &[u32],
@@ -33,7 +33,7 @@ fn push_wave(
 /// Begins a round: raises all labels to the exact distances, pushes at each node once, the farthest from the sink
 /// first, and queues anew the nodes that still have excess and reach the sink.
 pub fn begin_round(
-    net: &Net,
+    net: &Graph,
     adjacency: &Adjacency,
     work: &mut Work,
     order: &mut [u32],

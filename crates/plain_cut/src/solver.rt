@@ -1,6 +1,8 @@
-ghost use Rattle.std.specs.Prelude.{◌≤◌, IfOk};
+ghost use Rattle.std.specs.Prelude.{◌≡◌, ◌-◌, ◌<◌, ◌≤◌, ℕ, IfOk, length, slice_index};
+ghost use Rattle.std.specs.Simd.Lanes.{zip2};
 ghost use Rattle.flow_network.specs.Limits.{capacity_limit};
-ghost use Rattle.flow_network.specs.Cut.{IsNet, IsSmallestLeastCut};
+ghost use Rattle.flow_network.specs.Cut.{nodes, set_of, IsNet, IsSmallestLeastCut};
+ghost use Rattle.flow_network.specs.Preflow.{IsReach};
 ghost use Rattle.flow_network.specs.Answer.{side_of, IsRightCut};
 ghost use Rattle.sink_distances.specs.Distances.{AreDistances};
 ghost use Rattle.plain_cut.specs.State.{work_flow, IsWork, IsFinished};
@@ -9,9 +11,33 @@ use crate::opening::open;
 use crate::rounds::begin_round;
 use crate::turns::run;
 use crate::work::{Work, raise_all};
-use flow_network::{Net, Solved, cut_capacity};
+use flow_network::{Graph, Net, Solved, cut_capacity};
 use sink_distances::{arcs_by_node, sink_side};
 use std::alloc::{AllocError, Global};
+
+/// The work at its end, whose labels are the exact distances. It takes the net's sources and sinks over.
+fn finish(
+    alloc: Global,
+    net: &Graph,
+    sources: Vec<u64>,
+    sinks: Vec<u64>,
+) -> Result<Work, AllocError>
+    requires sources { sources.items ≡ net.now.sources }
+    requires sinks { sinks.items ≡ net.now.sinks }
+    ensures limits { IsNet net.now }
+    ensures work { IfOk result (λ w. IsWork net.now w) }
+    ensures finished { IfOk result (λ w. IsFinished net.now w) }
+    ensures exact { IfOk result (λ w. AreDistances net.now (work_flow net.now w) w.labels.items) }
+{
+    let nodes = net.nodes();
+    let adjacency = arcs_by_node(alloc, net)?;
+    let mut order = vec![in alloc; 0; nodes]?;
+    let mut work = open(alloc, net, sources, sinks, &adjacency)?;
+    begin_round(net, &adjacency, &mut work, order.as_mut_slice())?;
+    run(net, &adjacency, &mut work, order.as_mut_slice())?;
+    raise_all(net, &adjacency, &mut work, order.as_mut_slice());
+    Ok(work)
+}
 
 /// A least cut of the net, with the preflow that certifies it. Of all least cuts it is the smallest: its sink side
 /// lies within that of every other. Its capacity, `value`, is at most `CAPACITY_LIMIT`.
@@ -32,13 +58,48 @@ pub fn solve(alloc: Global, net: &Net) -> Result<Solved, AllocError>
     ensures smallest { IfOk result (λ s. IsSmallestLeastCut net.now (side_of s)) }
     ensures bound { IfOk result (λ s. s.value ≤ capacity_limit) }
 {
-    let adjacency = arcs_by_node(alloc, net)?;
-    let mut order = vec![in alloc; 0; net.nodes()]?;
-    let mut work = open(alloc, net, &adjacency)?;
-    begin_round(net, &adjacency, &mut work, order.as_mut_slice())?;
-    run(net, &adjacency, &mut work, order.as_mut_slice())?;
-    raise_all(net, &adjacency, &mut work, order.as_mut_slice());
+    let sources = Vec::from_slice(alloc, net.sources())?;
+    let sinks = Vec::from_slice(alloc, net.sinks())?;
+    let work = finish(alloc, net.graph(), sources, sinks)?;
     answer_of(alloc, net, work)
+}
+
+/// The sink side of the smallest least cut of the net, one bit for each node: that which `solve` answers, found in
+/// the same way and refused for the same reasons.
+///
+/// It takes the net over: the net's own lists of sources and sinks become what the solver changes, so it needs 16
+/// bytes a node less than `solve`.
+pub fn smallest_side(alloc: Global, net: Net) -> Result<Vec<bool>, AllocError>
+    ensures bits { IfOk result (λ side. length side.items ≡ nodes net) }
+    ensures smallest { IfOk result (λ side. IsSmallestLeastCut net (set_of side.items)) }
+{
+    let (graph, sources, sinks) = net.into_parts();
+    let work = finish(alloc, &graph, sources, sinks)?;
+    least_side(alloc, &graph, &work)
+}
+
+/// The nodes that reach the sink, of work that is finished, whose labels are the exact distances.
+fn least_side(alloc: Global, net: &Graph, work: &Work) -> Result<Vec<bool>, AllocError>
+    requires limits { IsNet net.now }
+    requires work { IsWork net.now work.now }
+    requires finished { IsFinished net.now work.now }
+    requires exact { AreDistances net.now (work_flow net.now work.now) work.now.labels.items }
+    ensures bits { IfOk result (λ side. length side.items ≡ nodes net.now) }
+    ensures reach { IfOk result (λ side. IsReach net.now (work_flow net.now work.now) (set_of side.items)) }
+    ensures smallest { IfOk result (λ side. IsSmallestLeastCut net.now (set_of side.items)) }
+{
+    sink_side(alloc, net, work.labels.as_slice())
+}
+
+/// Turns what each node can still give the sink into what it gives.
+fn turn_to_given(sinks: &[u64], rooms: &mut [u64])
+    requires len { length rooms.old ≡ length sinks.now }
+    requires within { (v : ℕ) → v < length sinks.now → slice_index rooms.old v ≤ slice_index sinks.now v }
+    ensures { rooms.new ≡ zip2 (λ sink room. sink - room) sinks.now rooms.old }
+{
+    'nodes: for v in 0..sinks.len() {
+        rooms[v] = sinks[v] - rooms[v];
+    }
 }
 
 /// The answer of work that is finished, whose labels are the exact distances: the nodes that reach the sink, and
@@ -47,16 +108,18 @@ fn answer_of(alloc: Global, net: &Net, work: Work) -> Result<Solved, AllocError>
     requires limits { IsNet net.now }
     requires work { IsWork net.now work }
     requires finished { IsFinished net.now work }
-    requires exact { AreDistances net.now (work_flow work) work.labels.items }
+    requires exact { AreDistances net.now (work_flow net.now work) work.labels.items }
     ensures certified { IfOk result (λ s. IsRightCut net.now s) }
     ensures smallest { IfOk result (λ s. IsSmallestLeastCut net.now (side_of s)) }
     ensures bound { IfOk result (λ s. s.value ≤ capacity_limit) }
 {
-    let side = sink_side(alloc, net, work.labels.as_slice())?;
+    let side = least_side(alloc, net.graph(), &work)?;
     let value = cut_capacity(net, side.as_slice());
+    let mut sink_flow = work.rooms;
+    turn_to_given(net.sinks(), sink_flow.as_mut_slice());
     Ok(Solved {
         arc_flow: work.arc_flow,
-        sink_flow: work.sink_flow,
+        sink_flow,
         sink_side: side,
         value,
     })

@@ -8,13 +8,13 @@ use crate::pushes::push_all;
 use crate::relabels::relabel;
 use crate::rounds::begin_round;
 use crate::work::Work;
-use flow_network::Net;
+use flow_network::Graph;
 use sink_distances::{Adjacency, top_label};
 use std::alloc::{AllocError, Global};
 
 /// Pushes and new labels until the node has no excess, or its label says that it has no path to the sink.
 pub fn discharge(
-    net: &Net,
+    net: &Graph,
     adjacency: &Adjacency,
     work: &mut Work,
     v: usize,
@@ -38,7 +38,7 @@ pub fn discharge(
 /// Discharges the nodes in the order of the queue, until no node below the top label has excess. A new round begins
 /// once there were more than n / 32 new labels in this one, where n is the number of nodes.
 pub fn run(
-    net: &Net,
+    net: &Graph,
     adjacency: &Adjacency,
     work: &mut Work,
     order: &mut [u32],

@@ -5,7 +5,7 @@ ghost use Rattle.sink_distances.specs.Adjacency.{IsAdjacency};
 ghost use Rattle.sink_distances.specs.Distances.{AreDistances};
 ghost use Rattle.plain_cut.specs.State.{work_flow, IsWork, IsRaised, IsUnlabelled};
 
-use flow_network::Net;
+use flow_network::Graph;
 use sink_distances::{Adjacency, write_distances};
 use std::alloc::{AllocError, Global};
 use std::collections::VecDeque;
@@ -15,8 +15,8 @@ use std::collections::VecDeque;
 pub struct Work {
     /// What each arc carries.
     pub arc_flow: Vec<u64>,
-    /// What each node gives the sink.
-    pub sink_flow: Vec<u64>,
+    /// What each node can still give the sink.
+    pub rooms: Vec<u64>,
     /// What each node has got and not passed on.
     pub excess: Vec<u64>,
     /// Of each node at most the number of residual directions that lead to the sink, or `top_label`.
@@ -50,18 +50,25 @@ pub fn queue_again(
     Ok(())
 }
 
-/// The work at the start: no flow but that of the source, all labels 0, no node queued.
-pub fn start(alloc: Global, net: &Net) -> Result<Work, AllocError>
+/// The work at the start: no flow but that of the source, all labels 0, no node queued. It takes the net's sources
+/// and sinks over: what the source sends each node is what the node has, and what it can send the sink its room.
+pub fn start(
+    alloc: Global,
+    net: &Graph,
+    sources: Vec<u64>,
+    sinks: Vec<u64>,
+) -> Result<Work, AllocError>
+    requires sources { sources.items ≡ net.now.sources }
+    requires sinks { sinks.items ≡ net.now.sinks }
     ensures work { IfOk result (λ w. IsUnlabelled net.now w) }
     ensures limits { IsNet net.now }
 {
     let nodes = net.nodes();
-    let excess = Vec::from_slice(alloc, net.sources())?;
     let queue = VecDeque::with_capacity(alloc, nodes)?;
     Ok(Work {
         arc_flow: vec![in alloc; 0; net.arcs().len()]?,
-        sink_flow: vec![in alloc; 0; nodes]?,
-        excess,
+        rooms: sinks,
+        excess: sources,
         labels: vec![in alloc; 0; nodes]?,
         queue,
         relabels: 0,
@@ -70,20 +77,20 @@ pub fn start(alloc: Global, net: &Net) -> Result<Work, AllocError>
 
 /// Raises all labels to the exact distances. `order` has one place for each node: the search leaves there the nodes
 /// that reach the sink, the nearest first.
-pub fn raise_all(net: &Net, adjacency: &Adjacency, work: &mut Work, order: &mut [u32])
+pub fn raise_all(net: &Graph, adjacency: &Adjacency, work: &mut Work, order: &mut [u32])
     requires limits { IsNet net.now }
     requires adjacency { IsAdjacency net.now adjacency.now }
     requires work { IsWork net.now work.old }
     requires order { length order.old ≡ nodes net.now }
     ensures raised { IsRaised net.now work.old work.new }
-    ensures exact { AreDistances net.now (work_flow work.new) work.new.labels.items }
+    ensures exact { AreDistances net.now (work_flow net.now work.new) work.new.labels.items }
     ensures counted { work.new.relabels ≡ 0 }
 {
     write_distances(
         net,
         adjacency,
         work.arc_flow.as_slice(),
-        work.sink_flow.as_slice(),
+        work.rooms.as_slice(),
         work.labels.as_mut_slice(),
         order,
     );

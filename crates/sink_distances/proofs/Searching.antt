@@ -1,11 +1,12 @@
 -- The search keeps what makes its labels distances.
-use Rattle.std.proofs.Common.{◌≡◌, ℕ, zero, suc, ◌+◌, ◌<◌, ◌≤◌, ◌⊎◌, inl, inr, length, slice_index, ◌∙◌, ap, subst, arith}
+use Rattle.std.proofs.Common.{◌≡◌, ℕ, zero, suc, ◌+◌, ◌<◌, ◌≤◌, ◌⊎◌, inl, inr, List, length, slice_index, sym, ◌∙◌, ap, subst, arith}
 use Rattle.std.proofs.lemmas.Bool.{cases_lt}
 use Rattle.flow_network.specs.Cut.{Network, nodes, IsNet}
-use Rattle.flow_network.specs.Preflow.{Flow, IsResidual, ReachesIn}
+use Rattle.flow_network.specs.Preflow.{Flow, flow_by, given, AreRooms, IsResidual, ReachesIn}
 use Rattle.flow_network.specs.Progress.{top_label, top}
 use Rattle.sink_distances.specs.Distances.{AreDistances}
-use Rattle.sink_distances.specs.Search.{Found, label_of, node_at, IsOrder, IsAtMost, Grows}
+use Rattle.flow_network.proofs.Given.{room_left, left_room}
+use Rattle.sink_distances.specs.Search.{Found, label_of, node_at, IsOrder, IsAtMost, Grows, AreStarts}
 use Rattle.sink_distances.proofs.Laws.{residual_nodes, reaches_one_more}
 use Rattle.sink_distances.proofs.Order.{count-le-length, label-le-count, listed_labelled, grows_falls, grows_stays}
 
@@ -20,6 +21,24 @@ pub record IsSearched (net : Network) (flow : Flow) (next : ℕ) (found : Found)
   pub leads : (v : ℕ) → v < nodes net → (label_of found v ≡ top net) ⊎ ReachesIn net flow (label_of found v) v
   pub sinks : (v : ℕ) → v < nodes net → slice_index flow.sinks v < slice_index net.sinks v → label_of found v ≤ 1
   pub closed : (i : ℕ) → i < next → (v : ℕ) → IsResidual net flow v (node_at found i) → label_of found v ≤ label_of found (node_at found i) + 1
+
+-- the nodes that can still give the sink begin it
+pub searched_begins : (net : Network) (carried rooms : List ℕ) (s : Found) → IsNet net → AreRooms net rooms
+    → AreStarts net rooms (nodes net) s → IsSearched net (flow_by carried (given net rooms)) 0 s
+searched_begins net carried rooms s net_is r h = record {
+  len = h.len;
+  order = h.order;
+  within = omega arith;
+  span = λ some i li. omega (arith, h.below i li);
+  leads = λ v lv. elim (h.leads v lv) [
+    | inl none ↦ inl none
+    | inr one ↦
+        let P : ℕ → Type 0 = λ d. ReachesIn net (flow_by carried (given net rooms)) d v in
+        inr (subst P (sym one.0) (lv, room_left net rooms v net_is r lv one.1))
+  ];
+  sinks = λ v lv room. h.sinks v lv lv (left_room net rooms v net_is r lv room);
+  closed = λ i li. absurd (omega (arith, li));
+}
 
 -- a node in the order has a path as long as its label
 searched_leads : (net : Network) (flow : Flow) (next : ℕ) (s : Found) → IsSearched net flow next s

@@ -61,12 +61,12 @@ abbrev pub IsBefore : Network → List ℕ → ℕ → ℕ → Type 0
 IsBefore net carried w v = IsResidual net (record { arcs = carried; sinks = [] }) v w
 
 -- of the nodes that can give the sink more those below v have label 1, and some of the others
-pub record AreStarts (net : Network) (given : List ℕ) (v : ℕ) (found : Found) : Type 0 where
+pub record AreStarts (net : Network) (rooms : List ℕ) (v : ℕ) (found : Found) : Type 0 where
   pub len : length found.labels ≡ nodes net
   pub order : IsOrder found
   pub below : IsAtMost 1 found
   pub leads : (u : ℕ) → u < nodes net
       → (label_of found u ≡ top net)
-      ⊎ ((label_of found u ≡ 1) × (slice_index given u < slice_index net.sinks u))
-  pub sinks : (u : ℕ) → u < v → u < nodes net → slice_index given u < slice_index net.sinks u
+      ⊎ ((label_of found u ≡ 1) × (0 < slice_index rooms u))
+  pub sinks : (u : ℕ) → u < v → u < nodes net → 0 < slice_index rooms u
       → label_of found u ≤ 1

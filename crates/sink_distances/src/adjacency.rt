@@ -1,7 +1,7 @@
 ghost use Rattle.std.specs.Prelude.{◌≡◌, IfOk, map};
 ghost use Rattle.sink_distances.specs.Adjacency.{IsAdjacency};
 
-use flow_network::{Arc, Net};
+use flow_network::{Arc, Graph};
 use grouping::{Groups, group};
 use std::alloc::{AllocError, Global};
 
@@ -31,7 +31,7 @@ fn heads(alloc: Global, arcs: &[Arc]) -> Result<Vec<u32>, AllocError>
 /// The arcs of the net by the node that each leaves, and by the node that each enters.
 ///
 /// Refuses only where memory runs out; a net of 2^32 arcs or more counts as that.
-pub fn arcs_by_node(alloc: Global, net: &Net) -> Result<Adjacency, AllocError>
+pub fn arcs_by_node(alloc: Global, net: &Graph) -> Result<Adjacency, AllocError>
     ensures { IfOk result (λ adjacency. IsAdjacency net.now adjacency) }
 {
     let tails = tails(alloc, net.arcs())?;

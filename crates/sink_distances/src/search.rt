@@ -1,17 +1,17 @@
 ghost use Rattle.std.specs.Prelude.{◌≡◌, ◌+◌, ◌<◌, ◌≤◌, ℕ, length, slice_index};
 ghost use Rattle.flow_network.specs.Cut.{nodes, IsNet};
-ghost use Rattle.flow_network.specs.Preflow.{arc_at};
+ghost use Rattle.flow_network.specs.Preflow.{arc_at, flow_by, given, AreRooms};
 ghost use Rattle.sink_distances.specs.Adjacency.{IsAdjacency};
 ghost use Rattle.sink_distances.specs.Distances.{AreDistances};
 ghost use Rattle.sink_distances.specs.Search.{found_of, AreStarts, IsBefore, IsReady, Grows};
 
 use crate::{Adjacency, top_label};
-use flow_network::Net;
+use flow_network::Graph;
 
 /// A net, its arcs by node, and what each arc carries.
 #[derive(Clone, Copy)]
 struct Carried<'a> {
-    net: &'a Net,
+    net: &'a Graph,
     adjacency: &'a Adjacency,
     arc_flow: &'a [u64],
 }
@@ -33,18 +33,17 @@ fn mark(labels: &mut [u32], order: &mut [u32], count: usize, v: u32, label: u32)
 }
 
 /// Labels the nodes that can give the sink more.
-fn mark_starts(net: &Net, sink_flow: &[u64], labels: &mut [u32], order: &mut [u32]) -> usize
+fn mark_starts(net: &Graph, rooms: &[u64], labels: &mut [u32], order: &mut [u32]) -> usize
     requires len { length labels.old ≡ nodes net.now }
     requires order_len { length order.old ≡ nodes net.now }
-    requires sinks_len { length sink_flow.now ≡ nodes net.now }
+    requires rooms_len { length rooms.now ≡ nodes net.now }
     ensures limits { IsNet net.now }
-    ensures starts { AreStarts net.now sink_flow.now (nodes net.now) (found_of labels.new order.new result) }
+    ensures starts { AreStarts net.now rooms.now (nodes net.now) (found_of labels.new order.new result) }
 {
     labels.fill(top_label(net));
-    let sinks = net.sinks();
     let mut count = 0;
     for v in 0..net.nodes() {
-        if sink_flow[v] < sinks[v] {
+        if rooms[v] > 0 {
             count = mark(labels, order, count, v as u32, 1);
         }
     }
@@ -201,30 +200,30 @@ fn mark_before(
 /// Writes the exact distance of each node to the sink over residual directions, or `top_label` where no path
 /// leads there: a breadth-first search backwards from the sink (Goldberg, Tarjan 1988, section 3).
 ///
-/// `arc_flow` is what each arc carries and `sink_flow` what each node gives the sink; they need be no preflow.
+/// `arc_flow` is what each arc carries and `rooms` what each node can still give the sink; they need be no preflow.
 /// `labels` takes the answer, one number for each node. `order` is room for the search: one place for each node,
 /// whose values before and after mean nothing. Takes no memory.
 pub fn write_distances(
-    net: &Net,
+    net: &Graph,
     adjacency: &Adjacency,
     arc_flow: &[u64],
-    sink_flow: &[u64],
+    rooms: &[u64],
     labels: &mut [u32],
     order: &mut [u32],
 )
     requires adjacency { IsAdjacency net.now adjacency.now }
     requires arcs_len { length arc_flow.now ≡ length net.now.arcs }
-    requires sinks_len { length sink_flow.now ≡ nodes net.now }
+    requires rooms { AreRooms net.now rooms.now }
     requires labels_len { length labels.old ≡ nodes net.now }
     requires order_len { length order.old ≡ nodes net.now }
-    ensures { AreDistances net.now (record { arcs = arc_flow.now; sinks = sink_flow.now }) labels.new }
+    ensures { AreDistances net.now (flow_by arc_flow.now (given net.now rooms.now)) labels.new }
 {
     let carried = Carried {
         net,
         adjacency,
         arc_flow,
     };
-    let mut count = mark_starts(net, sink_flow, labels, order);
+    let mut count = mark_starts(net, rooms, labels, order);
     let mut next = 0;
     'search: while next < count {
         let w = order[next] as usize;

@@ -1,11 +1,10 @@
 ghost use Rattle.std.specs.Prelude.{◌≡◌, ℕ, IfOk, length, map, nat_lt, slice_index_or, false};
-ghost use Rattle.flow_network.specs.Cut.{nodes};
-ghost use Rattle.flow_network.specs.Preflow.{Flow, IsReach};
+ghost use Rattle.flow_network.specs.Preflow.{Flow, flow_by, given, AreRooms, IsReach};
 ghost use Rattle.flow_network.specs.Progress.{top};
 ghost use Rattle.sink_distances.specs.Distances.{AreDistances};
 
 use crate::{arcs_by_node, top_label, write_distances};
-use flow_network::Net;
+use flow_network::Graph;
 use std::alloc::{AllocError, Global};
 
 /// The exact distance of each node to the sink over residual directions, as `write_distances` writes it.
@@ -13,14 +12,14 @@ use std::alloc::{AllocError, Global};
 /// Refuses only where memory runs out; a net of 2^32 arcs or more counts as that.
 pub fn distances(
     alloc: Global,
-    net: &Net,
+    net: &Graph,
     arc_flow: &[u64],
-    sink_flow: &[u64],
+    rooms: &[u64],
 ) -> Result<Vec<u32>, AllocError>
     requires arcs_len { length arc_flow.now ≡ length net.now.arcs }
-    requires sinks_len { length sink_flow.now ≡ nodes net.now }
+    requires rooms { AreRooms net.now rooms.now }
     ensures { IfOk result (λ labels.
-        AreDistances net.now (record { arcs = arc_flow.now; sinks = sink_flow.now }) labels.items) }
+        AreDistances net.now (flow_by arc_flow.now (given net.now rooms.now)) labels.items) }
 {
     let adjacency = arcs_by_node(alloc, net)?;
     let mut labels = vec![in alloc; 0u32; net.nodes()]?;
@@ -29,7 +28,7 @@ pub fn distances(
         net,
         &adjacency,
         arc_flow,
-        sink_flow,
+        rooms,
         labels.as_mut_slice(),
         order.as_mut_slice(),
     );
@@ -40,7 +39,7 @@ pub fn distances(
 /// answer has one bit for each number of `labels`.
 ///
 /// Refuses only where memory runs out.
-pub fn sink_side(alloc: Global, net: &Net, labels: &[u32]) -> Result<Vec<bool>, AllocError>
+pub fn sink_side(alloc: Global, net: &Graph, labels: &[u32]) -> Result<Vec<bool>, AllocError>
     ensures bits { IfOk result (λ side. side.items ≡ map (λ label. nat_lt label (top net.now)) labels.now) }
     ensures reach { IfOk result (λ side. (flow : Flow) → AreDistances net.now flow labels.now →
         IsReach net.now flow (λ v. slice_index_or side.items v false)) }

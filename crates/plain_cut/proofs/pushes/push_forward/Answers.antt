@@ -21,8 +21,8 @@ shift-requires-clause-small c =
     let s = c.requires.work.sound in
     let read = rw c.arcs.ensures.value at c.index.ensures in
     let kept : c.index.result.now ≡ slice_index old.excess.items u = get_or_read old.excess.items u c.index.result.now (omega (arith, s.kept_len, ends.from)) read 0 in
-    let b1 = kept-le-total net (work_flow old) old.excess.items old.labels.items h s u ends.from in
-    let b2 = kept-le-total net (work_flow old) old.excess.items old.labels.items h s w ends.to in
+    let b1 = kept-le-total net (work_flow net old) old.excess.items old.labels.items h s u ends.from in
+    let b2 = kept-le-total net (work_flow net old) old.excess.items old.labels.items h s w ends.to in
     rw (c.arcs.ensures.value, c.as_mut_slice.ensures.value) (omega (arith, b1, b2, h.total, kept, c.min-amount.ensures))
 
 pub returns : goal.returns

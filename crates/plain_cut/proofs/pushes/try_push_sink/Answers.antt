@@ -8,5 +8,5 @@ push_sink-requires-clause-residual c = grind (arith, common_steps)
 pub push_sink-requires-clause-some : goal.push_sink-requires-clause-some
 push_sink-requires-clause-some c = grind (arith, common_steps)
 
-pub returns-else-index-sinks-clause-spent : goal.returns-else-index-sinks-clause-spent
-returns-else-index-sinks-clause-spent c = grind (arith, common_steps)
+pub returns-else-index-gt0-clause-spent : goal.returns-else-index-gt0-clause-spent
+returns-else-index-gt0-clause-spent c = grind (arith, common_steps)

@@ -1,31 +1,29 @@
-use Rattle.std.proofs.lemmas.Grind.{common_steps}
-use Rattle.std.proofs.Common.{ℕ, Bool, false, slice_index_or, nat_lt, ap, ◌∙◌, length, arith}
-use Rattle.std.proofs.lemmas.List.{length-map}
-use Rattle.flow_network.specs.Progress.{top}
+use Rattle.std.proofs.Common.{◌≡◌, ◌∙◌, ap, arith, sym, length, ℕ}
+use Rattle.std.proofs.lemmas.List.{with_items_is}
+use Rattle.flow_network.specs.Cut.{set_of}
+use Rattle.flow_network.specs.Preflow.{given}
 use Rattle.flow_network.proofs.Bounds.{capacity-le-total}
-use Rattle.plain_cut.specs.State.{work_flow}
-use Rattle.plain_cut.proofs.Solving.{solved_certified, solved_smallest}
+use Rattle.flow_network.proofs.Given.{length-given}
+use Rattle.plain_cut.proofs.Solving.{solved_certified}
 use Rattle.plain_cut.proofs.solver.answer_of.Goals as goal
 
 pub returns : goal.returns
 returns c =
     let net = c.args.net.now in
     let w = c.args.work in
-    let side = λ (v : ℕ). slice_index_or c.in_ok-side.side.items v false in
     let h = c.requires.limits in
-    let s = c.requires.work in
-    let done = c.requires.finished in
-    let exact = c.requires.exact in
-    let reach = c.in_ok-side.ensures.reach (work_flow w) (rw c.as_slice.ensures.value exact) in
-    let told = rw c.as_slice-2.ensures.value at c.cut_capacity-value.ensures in
+    let known = rw c.graph.ensures at c.in_ok-side.ensures in
+    let side = set_of c.in_ok-side.side.items in
+    let told = rw c.as_slice.ensures.value at c.cut_capacity-value.ensures in
+    let turned : c.turn_to_given.new.rooms ≡ given net w.rooms.items = rw (c.sinks.ensures.value, c.as_mut_slice.ensures.value) at c.turn_to_given.ensures in
+    let long : length c.turn_to_given.new.rooms ≡ w.rooms.len =
+    ap (length {A = ℕ}) turned ∙ (length-given net w.rooms.items h c.requires.work.rooms ∙ (sym c.requires.work.rooms.len ∙ omega (arith, w.rooms.ok.0))) in
     record {
       certified = record {
-        bits = ap (length {A = Bool}) c.in_ok-side.ensures.bits ∙ (length-map c.as_slice.result.now (λ label. nat_lt label (top net)) ∙ (ap (length {A = ℕ}) c.as_slice.ensures.value ∙ exact.len));
-        certified = solved_certified net w side c.cut_capacity-value.result h s done exact reach told;
+        bits = known.bits;
+        certified = rw (with_items_is w.rooms c.turn_to_given.new.rooms long ∙ turned)
+            (solved_certified net w side c.cut_capacity-value.result h c.requires.work c.requires.finished c.requires.exact known.reach told);
       };
-      smallest = solved_smallest net w side h s done exact reach;
+      smallest = known.smallest;
       bound = omega (arith, told, capacity-le-total net side h, h.total);
     }
-
-pub cut_capacity-value-requires : goal.cut_capacity-value-requires
-cut_capacity-value-requires c = grind (arith, common_steps)

@@ -1,11 +1,16 @@
-use Rattle.flow_network.specs.Preflow.{Flow}
+use Rattle.flow_network.specs.Preflow.{Flow, flow_by, given}
 use Rattle.sink_distances.specs.Search.{found_of}
-use Rattle.sink_distances.proofs.Searching.{searched_more, searched_exact}
+use Rattle.sink_distances.proofs.Searching.{searched_begins, searched_more, searched_exact}
 use Rattle.sink_distances.proofs.search.write_distances.Goals as goal
+
+pub search-init : goal.search-init
+search-init c =
+    searched_begins c.args.net.now c.args.arc_flow.now c.args.rooms.now (found_of c.mark_starts-count.new.labels c.mark_starts-count.new.order c.mark_starts-count.result)
+    c.mark_starts-count.ensures.limits c.requires.rooms c.mark_starts-count.ensures.starts
 
 pub search-preserved : goal.search-preserved
 search-preserved c =
-    let flow : Flow = record { arcs = c.args.arc_flow.now; sinks = c.args.sink_flow.now } in
+    let flow : Flow = flow_by c.args.arc_flow.now (given c.args.net.now c.args.rooms.now) in
     let s = found_of c.search.labels c.search.order c.search.count in
     let t = found_of c.mark_before-count.new.labels c.mark_before-count.new.order c.mark_before-count.result in
     searched_more c.args.net.now flow c.search.next s t c.search.invariant c.search-test.true
@@ -13,6 +18,6 @@ search-preserved c =
 
 pub returns : goal.returns
 returns c =
-    let flow : Flow = record { arcs = c.args.arc_flow.now; sinks = c.args.sink_flow.now } in
+    let flow : Flow = flow_by c.args.arc_flow.now (given c.args.net.now c.args.rooms.now) in
     searched_exact c.args.net.now flow c.search.next (found_of c.search.labels c.search.order c.search.count)
     c.mark_starts-count.ensures.limits c.search.invariant c.search-test.false
