@@ -25,10 +25,11 @@ pub(crate) fn answer_of(
 {
     let mut workspace = workspace;
     workspace.find(state);
-    let side = sink_side(alloc, state.net(), workspace.labels.as_slice())?;
+    let side = sink_side(alloc, state.net().graph(), workspace.labels.as_slice())?;
+    let (arc_flow, sink_flow) = workspace.into_flow(state);
     Ok(Solved {
-        arc_flow: workspace.arc_flow,
-        sink_flow: workspace.sink_flow,
+        arc_flow,
+        sink_flow,
         sink_side: side,
         value: state.got(),
     })

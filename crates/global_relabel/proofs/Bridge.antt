@@ -4,8 +4,9 @@ use Rattle.std.proofs.lemmas.Bool.Decides.{nat_tests}
 use Rattle.std.proofs.lemmas.List.{ext_get_or, length-map}
 use Rattle.std.proofs.lemmas.List.FromFn.{length-map-range_with_len}
 use Rattle.flow_network.specs.Cut.{Network, nodes, set_of}
-use Rattle.flow_network.specs.Preflow.{Flow, flow_by}
+use Rattle.flow_network.specs.Preflow.{Flow, flow_by, given, AreRooms}
 use Rattle.flow_network.specs.Progress.{top}
+use Rattle.flow_network.proofs.Given.{length-given, given_at}
 use Rattle.sink_distances.specs.Distances.{IsExactLabel, AreDistances}
 use Rattle.parcel.specs.Directions.{backward}
 use Rattle.parcel.specs.States.{State, residual_of, room_of}
@@ -57,6 +58,21 @@ flow_shown s xs ys sound lx ly arcs sinks =
     let e : xs ≡ f.arcs = ext_get_or 0 xs f.arcs (lx ∙ sym la) (λ k l. let lk : k < length s.net.arcs = omega (arith, l, lx) in arcs k lk ∙ sym (flow_arc s k sound lk)) in
     let g : ys ≡ f.sinks = ext_get_or 0 ys f.sinks (ly ∙ sym ls) (λ v l. let lv : v < nodes s.net = omega (arith, l, ly) in sinks v lv ∙ sym (flow_sink s v lv)) in
     ap (λ (zs : List ℕ). flow_by zs ys) e ∙ ap (λ (zs : List ℕ). flow_by f.arcs zs) g
+
+-- ---- the rooms of a state, in a list
+
+pub rooms_are : (s : State) (rooms : List ℕ) → IsSound s → length rooms ≡ nodes s.net
+    → ((v : ℕ) → v < nodes s.net → slice_index rooms v ≡ room_of s v) → AreRooms s.net rooms
+rooms_are s rooms sound len at = record { len = len; within = λ v l. omega (arith, at v l, sound.rooms v l) }
+
+pub rooms_shown : (s : State) (xs rooms : List ℕ) → IsSound s → length xs ≡ length s.net.arcs → length rooms ≡ nodes s.net
+    → ((k : ℕ) → k < length s.net.arcs → slice_index xs k ≡ residual_of s (backward k))
+    → ((v : ℕ) → v < nodes s.net → slice_index rooms v ≡ room_of s v)
+    → flow_by xs (given s.net rooms) ≡ shown_flow s
+rooms_shown s xs rooms sound lx lr arcs at =
+    let are = rooms_are s rooms sound lr at in
+    flow_shown s xs (given s.net rooms) sound lx (length-given s.net rooms sound.sized.net are) arcs
+    (λ v l. omega (arith, given_at s.net rooms v sound.sized.net are l, at v l))
 
 -- ---- the nodes whose exact label is below the top one reach the sink
 

@@ -9,9 +9,10 @@ use Rattle.sums.specs.Sums.{sum_below}
 use Rattle.sums.proofs.SumLemmas.{sum_below-le, sum_by-sum_below}
 use Rattle.flow_network.specs.declared.arc.Arc.{Arc}
 use Rattle.flow_network.specs.Cut.{network_of, nodes, total_capacity, IsArc, IsNet}
-use Rattle.flow_network.specs.Preflow.{flow_by, arc_at}
+use Rattle.flow_network.specs.Preflow.{flow_by, given, arc_at}
 use Rattle.flow_network.proofs.Bounds.{sum-le-sum}
 use Rattle.flow_network.proofs.Duality.{arc_is}
+use Rattle.flow_network.proofs.Given.{given_none}
 use Rattle.parcel.specs.Directions.{forward, backward}
 use Rattle.parcel.specs.States.{State, residual_of, room_of}
 use Rattle.parcel.specs.Soundness.{IsSound}
@@ -81,14 +82,14 @@ residual_within s k sound l =
     omega (arith, sound.arcs k l, get_or-le-sum_by (λ (arc : Arc). arc.capacity) s.net.arcs k no_arc l)
 
 -- where each arc carries what can be taken back, and no node gives the sink anything
-pub residual_shown : (s : State) (carried : List ℕ) → ((k : ℕ) → k < length s.net.arcs → slice_index carried k ≡ residual_of s (backward k))
-    → IsShown s (residual_net s) (flow_by carried (replicate (nodes s.net) 0))
-residual_shown s carried taken = record {
+pub residual_shown : (s : State) (carried : List ℕ) → IsNet (residual_net s) → ((k : ℕ) → k < length s.net.arcs → slice_index carried k ≡ residual_of s (backward k))
+    → IsShown s (residual_net s) (flow_by carried (given (residual_net s) (residual_net s).sinks))
+residual_shown s carried net taken = record {
   count = count_shown s;
   arcs = arcs_len s;
   from = λ k l. ap (λ (arc : Arc). arc.from) (arc_shown s k l);
   to = λ k l. ap (λ (arc : Arc). arc.to) (arc_shown s k l);
   carried = taken;
   full = λ k l. sym (ap (λ (arc : Arc). arc.capacity) (arc_shown s k l));
-  rooms = λ v l. omega (arith, sink_shown s v l, get_or-replicate {A = ℕ} (nodes s.net) v 0 0 l);
+  rooms = λ v l. omega (arith, sink_shown s v l, given_none (residual_net s) v net);
 }

@@ -7,6 +7,6 @@ use Rattle.global_relabel.specs.declared.workspace.Workspace.{Workspace}
 pub record Serves (net : Network) (workspace : Workspace) : Type 0 where
   pub adjacency : IsAdjacency net workspace.adjacency
   pub arc_flow : length workspace.arc_flow.items ≡ length net.arcs
-  pub sink_flow : length workspace.sink_flow.items ≡ nodes net
+  pub rooms : length workspace.rooms.items ≡ nodes net
   pub labels : length workspace.labels.items ≡ nodes net
   pub order : length workspace.order.items ≡ nodes net

@@ -19,8 +19,7 @@ pub fn distances(alloc: Global, state: &State) -> Result<Vec<u32>, AllocError>
 {
     let net = residual_net(alloc, state)?;
     let arc_flow = taken_back(alloc, state)?;
-    let sink_flow = vec![in alloc; 0u64; state.nodes()]?;
-    sink_distances::distances(alloc, &net, arc_flow.as_slice(), sink_flow.as_slice())
+    sink_distances::distances(alloc, net.graph(), arc_flow.as_slice(), net.sinks())
 }
 
 /// The nodes that reach the sink over residual directions, one bit for each node. Messages may be on the way.
@@ -31,7 +30,7 @@ pub fn sink_side(alloc: Global, state: &State) -> Result<Vec<bool>, AllocError>
     ensures reach { IfOk result (λ side. IsReachOf state.now (set_of side.items)) }
 {
     let labels = distances(alloc, state)?;
-    sink_distances::sink_side(alloc, state.net(), labels.as_slice())
+    sink_distances::sink_side(alloc, state.net().graph(), labels.as_slice())
 }
 
 /// Each label becomes the exact one, and each direction to another block knows that of its far end, where no

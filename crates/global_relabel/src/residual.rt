@@ -46,6 +46,17 @@ pub(crate) fn write_sink_flow(state: &State, sink_flow: &mut [u64])
     }
 }
 
+/// Writes what each node can still give the sink.
+pub(crate) fn write_rooms(state: &State, rooms: &mut [u64])
+    requires { length rooms.old ≡ nodes state.now.net }
+    ensures sound { IsSound state.now }
+    ensures rooms { (v : ℕ) → v < nodes state.now.net → slice_index rooms.new v ≡ room_of state.now v }
+{
+    'nodes: for v in 0..state.nodes() {
+        rooms[v] = state.room(v);
+    }
+}
+
 /// What each node can still give the sink.
 fn rooms(alloc: Global, state: &State) -> Result<Vec<u64>, AllocError>
     ensures { IfOk result (λ rooms. rooms.items

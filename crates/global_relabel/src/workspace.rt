@@ -8,7 +8,7 @@ ghost use Rattle.parcel.specs.Flows.{shown_flow};
 ghost use Rattle.parcel.specs.Events.{IsQuiet, Happens};
 ghost use Rattle.global_relabel.specs.Workspaces.{Serves};
 
-use crate::residual::{write_arc_flow, write_sink_flow};
+use crate::residual::{write_arc_flow, write_rooms, write_sink_flow};
 use block_core::State;
 use flow_network::Net;
 use sink_distances::{Adjacency, arcs_by_node, write_distances};
@@ -22,35 +22,42 @@ pub struct Workspace {
     pub adjacency: Adjacency,
     /// What each arc carried in the last state that was looked at.
     pub arc_flow: Vec<u64>,
-    /// What each node had given the sink there.
-    pub sink_flow: Vec<u64>,
+    /// What each node could still give the sink there.
+    pub rooms: Vec<u64>,
     /// The exact label of each node there.
     pub labels: Vec<u32>,
     /// Room for the search; what stands there means nothing.
     pub order: Vec<u32>,
 }
 
-/// Writes the flow that the state shows, and the exact label of each node. `order` is room for the search.
+/// Writes what the arcs carry and the nodes can still give the sink, and the exact label of each node. `order` is room
+/// for the search.
 fn write_exact(
     state: &State,
     adjacency: &Adjacency,
     arc_flow: &mut [u64],
-    sink_flow: &mut [u64],
+    rooms: &mut [u64],
     labels: &mut [u32],
     order: &mut [u32],
 )
     requires quiet { IsQuiet state.now }
     requires adjacency { IsAdjacency state.now.net adjacency.now }
     requires arcs_len { length arc_flow.old ≡ length state.now.net.arcs }
-    requires sinks_len { length sink_flow.old ≡ nodes state.now.net }
+    requires rooms_len { length rooms.old ≡ nodes state.now.net }
     requires labels_len { length labels.old ≡ nodes state.now.net }
     requires order_len { length order.old ≡ nodes state.now.net }
-    ensures flow { flow_by arc_flow.new sink_flow.new ≡ shown_flow state.now }
-    ensures exact { AreExact state.now labels.new }
+    ensures { AreExact state.now labels.new }
 {
     write_arc_flow(state, arc_flow);
-    write_sink_flow(state, sink_flow);
-    write_distances(state.net(), adjacency, arc_flow, sink_flow, labels, order);
+    write_rooms(state, rooms);
+    write_distances(
+        state.net().graph(),
+        adjacency,
+        arc_flow,
+        rooms,
+        labels,
+        order,
+    );
 }
 
 impl Workspace {
@@ -60,30 +67,42 @@ impl Workspace {
     {
         let nodes = net.nodes();
         Ok(Workspace {
-            adjacency: arcs_by_node(alloc, net)?,
+            adjacency: arcs_by_node(alloc, net.graph())?,
             arc_flow: vec![in alloc; 0; net.arcs().len()]?,
-            sink_flow: vec![in alloc; 0; nodes]?,
+            rooms: vec![in alloc; 0; nodes]?,
             labels: vec![in alloc; 0; nodes]?,
             order: vec![in alloc; 0; nodes]?,
         })
     }
 
-    /// Finds the exact label of each node, and the flow that the state shows. Takes no memory.
+    /// Finds the exact label of each node. Takes no memory.
     pub fn find(&mut self, state: &State)
         requires serves { Serves state.now.net self.old }
         requires quiet { IsQuiet state.now }
         ensures serves { Serves state.now.net self.new }
-        ensures flow { flow_by self.new.arc_flow.items self.new.sink_flow.items ≡ shown_flow state.now }
         ensures exact { AreExact state.now self.new.labels.items }
     {
         write_exact(
             state,
             &self.adjacency,
             self.arc_flow.as_mut_slice(),
-            self.sink_flow.as_mut_slice(),
+            self.rooms.as_mut_slice(),
             self.labels.as_mut_slice(),
             self.order.as_mut_slice(),
         );
+    }
+
+    /// The flow that the state shows, where no message is on the way: what each arc carries, and what each node gave
+    /// the sink. Takes no memory.
+    pub fn into_flow(self, state: &State) -> (Vec<u64>, Vec<u64>)
+        requires { Serves state.now.net self }
+        ensures { flow_by result.0.items result.1.items ≡ shown_flow state.now }
+    {
+        let mut arc_flow = self.arc_flow;
+        let mut sink_flow = self.rooms;
+        write_arc_flow(state, arc_flow.as_mut_slice());
+        write_sink_flow(state, sink_flow.as_mut_slice());
+        (arc_flow, sink_flow)
     }
 
     /// Each label of the state becomes the exact one, and each direction to another block knows that of its far

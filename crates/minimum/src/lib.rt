@@ -7,7 +7,7 @@ ghost use Rattle.pseudo_bool.specs.Formula.{assignment, value_at};
 ghost use Rattle.compile_cut.specs.Shown.{IsSmallestLeastAssignment};
 
 use compile_cut::compile;
-use plain_cut::solve;
+use plain_cut::smallest_side;
 use regular::Regular;
 use std::alloc::{AllocError, Global};
 
@@ -29,8 +29,7 @@ pub fn minimise(alloc: Global, energy: Regular<'_>) -> Result<Minimum, AllocErro
 {
     let formula = energy.energy();
     let compiled = compile(alloc, energy)?;
-    let solved = solve(alloc, &compiled.net)?;
-    let mut assignment = solved.sink_side;
+    let mut assignment = smallest_side(alloc, compiled.net)?;
     assignment.truncate(formula.variables() as usize);
     let value = formula.value(assignment.as_slice());
     Ok(Minimum { value, assignment })

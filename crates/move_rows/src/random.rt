@@ -9,7 +9,7 @@ ghost use Rattle.moves.specs.declared.error.SolveError.TheVariants.{OutOfMemory}
 use crate::cases::MOVES;
 use crate::chains::RUNS;
 use cost_store::{DataCost, SmoothCost};
-use flow_network::{Net, Solved};
+use flow_network::Net;
 use label_field::{Labelling, Pairs};
 use moves::{Alone, How, MoveError, Problem, SolveError};
 use std::alloc::Global;
@@ -39,7 +39,7 @@ impl How for CutAlone {
 
     ghost refuses = { λ _ e. e ≡ OutOfMemory };
 
-    fn solve(&self, alloc: Global, net: &Net) -> Result<Solved, SolveError> {
+    fn solve(&self, alloc: Global, net: Net) -> Result<Vec<bool>, SolveError> {
         Alone.solve(alloc, net)
     }
 

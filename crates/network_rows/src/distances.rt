@@ -1,15 +1,15 @@
 //! Distances to the sink, and the nodes that reach it.
 use crate::building::{Row, net_of};
 use crate::rows::expect;
-use sink_distances::{arcs_by_node, distances, sink_side};
+use sink_distances::{arcs_by_node, are_rooms, distances, sink_side};
 use std::alloc::AllocError;
 use std::process::Abort;
 use std::test::Fail;
 
-/// What each node can give the sink and gives it, the arcs and what each carries, and each node's distance.
+/// What each node can give the sink and can still give it, the arcs and what each carries, and each node's distance.
 struct Case {
     sinks: &'static [u64],
-    sink_flow: &'static [u64],
+    rooms: &'static [u64],
     arcs: &'static [Row],
     arc_flow: &'static [u64],
     labels: &'static [u32],
@@ -26,7 +26,7 @@ const RING_FLOW: &[u64] = &[2, 3, 0];
 const CASES: &[Case] = &[
     Case {
         sinks: &[],
-        sink_flow: &[],
+        rooms: &[],
         arcs: &[],
         arc_flow: &[],
         labels: &[],
@@ -34,7 +34,7 @@ const CASES: &[Case] = &[
     // A chain without flow.
     Case {
         sinks: &[0, 0, 1, 0],
-        sink_flow: &[0, 0, 0, 0],
+        rooms: &[0, 0, 1, 0],
         arcs: &[(0, 1, 4), (1, 2, 4)],
         arc_flow: &[0, 0],
         labels: &[3, 2, 1, 6],
@@ -42,7 +42,7 @@ const CASES: &[Case] = &[
     // Arcs from a node to itself.
     Case {
         sinks: &[1, 0],
-        sink_flow: &[0, 0],
+        rooms: &[1, 0],
         arcs: &[(0, 0, 5), (1, 1, 5)],
         arc_flow: &[0, 2],
         labels: &[1, 4],
@@ -50,28 +50,28 @@ const CASES: &[Case] = &[
     // Full arcs lead back alone, and what a node gives the sink closes its arc to it.
     Case {
         sinks: RING_SINKS,
-        sink_flow: &[1, 0, 1],
+        rooms: &[0, 0, 2],
         arcs: RING,
         arc_flow: RING_FLOW,
         labels: &[5, 5, 1],
     },
     Case {
         sinks: RING_SINKS,
-        sink_flow: &[0, 0, 1],
+        rooms: &[1, 0, 2],
         arcs: RING,
         arc_flow: RING_FLOW,
         labels: &[1, 2, 1],
     },
     Case {
         sinks: RING_SINKS,
-        sink_flow: &[0, 0, 3],
+        rooms: &[1, 0, 0],
         arcs: RING,
         arc_flow: RING_FLOW,
         labels: &[1, 2, 2],
     },
     Case {
         sinks: RING_SINKS,
-        sink_flow: &[1, 0, 3],
+        rooms: &[0, 0, 0],
         arcs: RING,
         arc_flow: RING_FLOW,
         labels: &[5, 5, 5],
@@ -79,7 +79,7 @@ const CASES: &[Case] = &[
     // These distances were found by relaxing each direction until nothing changed.
     Case {
         sinks: &[0, 2, 0, 2, 0, 0, 1, 0],
-        sink_flow: &[0, 2, 0, 1, 0, 0, 0, 0],
+        rooms: &[0, 0, 0, 1, 0, 0, 1, 0],
         arcs: &[
             (5, 2, 3),
             (0, 1, 0),
@@ -115,9 +115,9 @@ fn is_found(rt: &(impl Abort + AllocGlobal), case: &Case) -> Result<bool, AllocE
     assert!(rt; nodes <= NO_SOURCES.len());
     let net = net_of(rt, &NO_SOURCES[..nodes], case.sinks, case.arcs)?;
     assert!(rt; case.arc_flow.len() == net.arcs().len());
-    assert!(rt; case.sink_flow.len() == net.nodes());
-    let labels = distances(rt.alloc(), &net, case.arc_flow, case.sink_flow)?;
-    let side = sink_side(rt.alloc(), &net, labels.as_slice())?;
+    assert!(rt; are_rooms(&net, case.rooms));
+    let labels = distances(rt.alloc(), net.graph(), case.arc_flow, case.rooms)?;
+    let side = sink_side(rt.alloc(), net.graph(), labels.as_slice())?;
     Ok(labels.as_slice() == case.labels && is_near(side.as_slice(), case.labels))
 }
 
@@ -137,7 +137,7 @@ fn finds_arcs_of_each_node(rt: HostRuntime) -> Result<(), Fail> {
         &[0, 0, 0],
         &[(2, 0, 1), (0, 2, 1), (2, 2, 1)],
     )?;
-    let adjacency = arcs_by_node(rt.alloc(), &net)?;
+    let adjacency = arcs_by_node(rt.alloc(), net.graph())?;
     assert!(rt; adjacency.out.starts.as_slice() == [0, 1, 1, 3].as_slice());
     assert!(rt; adjacency.out.places.as_slice() == [1, 0, 2].as_slice());
     assert!(rt; adjacency.into.starts.as_slice() == [0, 1, 1, 3].as_slice());

@@ -6,7 +6,7 @@ use block_core::State;
 use block_cut::finish;
 use block_net::{ARC_LIMIT, BLOCK_LIMIT};
 use flow_network::{Net, Solved, check_cut};
-use plain_cut::solve;
+use plain_cut::{smallest_side, solve};
 use std::alloc::{AllocError, Global};
 use std::process::Abort;
 use std::slice::Iter;
@@ -99,26 +99,28 @@ fn state_of(
     State::open(rt.alloc(), net, blocks)
 }
 
-/// Whether the net is solved by this value and the smallest least cut, in one block and in several too.
+/// Whether the net is solved by this value and the smallest least cut, in one block and in several too, and where the
+/// solver takes it over.
 fn is_solved(
     rt: &(impl Abort + AllocGlobal),
-    net: &Net,
+    net: Net,
     several: &[usize],
     value: u64,
     side: u32,
 ) -> Result<bool, AllocError> {
     let alloc = rt.alloc();
     for blocks in several {
-        let in_blocks = finish(alloc, state_of(rt, net, *blocks)?)?;
-        if !is_answer(alloc, net, &in_blocks, value, side)? {
+        let in_blocks = finish(alloc, state_of(rt, &net, *blocks)?)?;
+        if !is_answer(alloc, &net, &in_blocks, value, side)? {
             return Ok(false);
         }
     }
-    let solved = solve(alloc, net)?;
-    let in_one_block = block_cut::solve(alloc, net)?;
+    let solved = solve(alloc, &net)?;
+    let in_one_block = block_cut::solve(alloc, &net)?;
     Ok(
-        is_answer(alloc, net, &solved, value, side)?
-            && is_answer(alloc, net, &in_one_block, value, side)?,
+        is_answer(alloc, &net, &solved, value, side)?
+            && is_answer(alloc, &net, &in_one_block, value, side)?
+            && bits_of(smallest_side(alloc, net)?.as_slice()) == side,
     )
 }
 
@@ -126,7 +128,7 @@ fn is_solved(
 fn solves_nets_worked_by_hand(rt: HostRuntime) -> Result<(), Fail> {
     for (place, (sources, sinks, rows, value, side)) in CASES.iter().enumerate() {
         let net = net_of(&rt, sources, sinks, rows)?;
-        let is_right = is_solved(&rt, &net, BLOCKS, *value, *side)?;
+        let is_right = is_solved(&rt, net, BLOCKS, *value, *side)?;
         expect(&rt, "CASES", place, is_right);
     }
     Ok(())
@@ -185,7 +187,7 @@ fn solves_nets_with_cuts_from_brute_force(rt: HostRuntime) -> Result<(), Fail> {
         let net = next_net(&rt, &mut numbers)?;
         let value = u64::from(next_number(&mut numbers));
         let side = next_number(&mut numbers);
-        let is_right = is_solved(&rt, &net, FEW_BLOCKS, value, side)?;
+        let is_right = is_solved(&rt, net, FEW_BLOCKS, value, side)?;
         expect(&rt, "NUMBERS", place, is_right);
     }
     assert!(rt; numbers.next().is_none());

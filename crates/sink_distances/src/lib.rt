@@ -13,11 +13,13 @@ ghost use Rattle.sink_distances.specs.Distances.{AreDistances, is_below_top};
 
 mod adjacency;
 mod labels;
+mod rooms;
 mod search;
 mod side;
 
 pub use adjacency::{Adjacency, arcs_by_node};
 pub use labels::top_label;
+pub use rooms::are_rooms;
 pub use search::write_distances;
 pub use side::{distances, sink_side};
 

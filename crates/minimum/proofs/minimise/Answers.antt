@@ -1,5 +1,5 @@
 use Rattle.std.proofs.Common.{◌∙◌, ap, arith, rules}
-use Rattle.flow_network.specs.Answer.{side_of}
+use Rattle.flow_network.specs.Cut.{set_of}
 use Rattle.pseudo_bool.specs.Formula.{Formula, assignment}
 use Rattle.compile_cut.proofs.Best.{best_of_cut, front_shows}
 use Rattle.minimum.proofs.minimise.Goals as goal
@@ -7,9 +7,9 @@ use Rattle.minimum.proofs.minimise.Goals as goal
 pub returns-clause-best : goal.returns-clause-best
 returns-clause-best c =
     let count = c.variables.ensures.value ∙ ap (λ (e : Formula). e.variables) c.energy-formula.ensures.value in
-    best_of_cut c.args.energy c.in_ok-compiled.compiled.net c.in_ok-compiled.compiled.constant (side_of c.in_ok-solved.solved)
+    best_of_cut c.args.energy c.in_ok-compiled.compiled.net c.in_ok-compiled.compiled.constant (set_of c.in_ok-assignment.assignment.items)
     (assignment c.truncate.new.self.items) c.in_ok-compiled.ensures.variables c.in_ok-compiled.ensures.shown
-    c.in_ok-solved.ensures.smallest
+    c.in_ok-assignment.ensures.smallest
     (λ i l. front_shows _ _ _ c.truncate.ensures.items i (omega (arith, l, count)))
 
 pub returns-clause-count : goal.returns-clause-count

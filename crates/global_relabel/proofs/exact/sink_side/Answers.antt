@@ -16,5 +16,5 @@ returns-clause-reach c =
     let labels = c.in_ok-labels.labels.items in
     if_ok _ _ c.sink_side.result c.sink_side.ensures.bits
     (λ side bits. reach_of s labels side.items c.in_ok-labels.ensures
-    (bits ∙ (ap (λ (xs : List ℕ). map (λ label. nat_lt label (top c.net.result.now)) xs) c.as_slice.ensures.value
-    ∙ ap (λ (n : Network). map (λ label. nat_lt label (top n)) labels) c.net.ensures.value)))
+    (bits ∙ (ap (λ (xs : List ℕ). map (λ label. nat_lt label (top c.graph.result.now)) xs) c.as_slice.ensures.value
+    ∙ ap (λ (n : Network). map (λ label. nat_lt label (top n)) labels) (c.graph.ensures ∙ c.net.ensures.value))))
