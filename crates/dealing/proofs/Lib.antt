@@ -1,0 +1,3 @@
+pub mod Dealing
+pub mod Filling
+pub mod Seats
