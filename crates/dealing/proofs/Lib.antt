@@ -1,3 +1,4 @@
 pub mod Dealing
 pub mod Filling
 pub mod Seats
+pub mod Gathering

@@ -1,6 +1,8 @@
 //! Seats are dealt to workers one after another, as cards, and collected again in their order.
 #![tactic(auto)]
 
+mod back;
 mod hands;
 
+pub use back::{Room, collect};
 pub use hands::deal;
