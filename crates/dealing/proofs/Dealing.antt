@@ -44,6 +44,7 @@ module _ {X : Type 0} where
 
   pub hands_more : (t n q w : ℕ) (hands : List (List X)) (h : List X) → AreHands t n hands → n ≡ q * t + w → w < t → length h ≡ q + 1 → AreHands t (n + 1) (set hands w h)
   hands_more t n q w hands h are is below long = record {
+    some = are.some;
     len = length-set hands w h ∙ are.len;
     places = λ p v low.
         elim (cases_eq v w) [
@@ -100,9 +101,10 @@ module _ {X : Type 0} where
       }
 
   -- no card yet
-  pub dealt_none : (t : ℕ) (hands : List (List X)) → length hands ≡ t → ((w : ℕ) → hand hands w ≡ []) → AreDealt t [] hands
-  dealt_none t hands len none = record {
+  pub dealt_none : (t : ℕ) (hands : List (List X)) → 0 < t → length hands ≡ t → ((w : ℕ) → hand hands w ≡ []) → AreDealt t [] hands
+  dealt_none t hands some len none = record {
     shape = record {
+      some = some;
       len = len;
       places = λ q w low. rw (none w) ((λ less. absurd (omega (arith, less))), (λ less. absurd (omega (arith, less))));
     };

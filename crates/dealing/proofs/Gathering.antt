@@ -15,8 +15,8 @@ module _ {X : Type 0} where
   none_in (suc t) zero = refl
   none_in (suc t) (suc w) = none_in t w
 
-  pub none_taken : (t : ℕ) → AreDealt {X = X} t [] (replicate t [])
-  none_taken t = dealt_none t (replicate t []) (length-replicate t []) (none_in t)
+  pub none_taken : (t : ℕ) → 0 < t → AreDealt {X = X} t [] (replicate t [])
+  none_taken t some = dealt_none t (replicate t []) some (length-replicate t []) (none_in t)
 
   pub all_left : (t w : ℕ) (whole : List (List X)) → hand (replicate t []) w ++ hand whole w ≡ hand whole w
   all_left t w whole = ap (λ l. l ++ hand whole w) (none_in t w)
@@ -32,9 +32,9 @@ module _ {X : Type 0} where
       elim (cases_lt p q) [
         | inl less ↦ absurd (omega (arith, (one.places p w low).1 ((two.places p w low).0 less)))
         | inr upto ↦ elim (cases_lt q p) [
-            | inl more ↦ absurd (omega (arith, (two.places q w low).1 ((one.places q w low).0 more)))
-            | inr least ↦ omega (arith, upto, least)
-          ]
+          | inl more ↦ absurd (omega (arith, (two.places q w low).1 ((one.places q w low).0 more)))
+          | inr least ↦ omega (arith, upto, least)
+        ]
       ]
 
   -- where all is taken
@@ -47,9 +47,9 @@ module _ {X : Type 0} where
       let same : hand parts w ≡ hand whole w = sym (append-nil (hand parts w)) ∙ (ap (λ l. hand parts w ++ l) (sym none) ∙ both w low) in
       get_or_default parts w d [] below ∙ (same ∙ get_or_default whole w [] d (omega (arith, low, are.len))))
 
-  module _ (t n : ℕ) (cards : List X) (parts : List (List X)) (some : 0 < t) (dealt : AreDealt t cards parts) (count : length cards ≡ n) where
+  module _ (t n : ℕ) (cards : List X) (parts : List (List X)) (dealt : AreDealt t cards parts) (count : length cards ≡ n) where
     low : n % t < t
-    low = mod-lt n some
+    low = mod-lt n dealt.shape.some
 
     at_round : length cards ≡ n / t * t + n % t
     at_round = count ∙ round_and_turn n t
@@ -84,11 +84,11 @@ module _ {X : Type 0} where
             let h = hand parts (n % t) in
             let taken : hand (set parts (n % t) (h ++ x ∷ [])) (n % t) ≡ h ++ x ∷ [] = get_or-set_same parts (n % t) (h ++ x ∷ []) [] (omega (arith, low, dealt.shape.len)) in
             let left : hand (map f (set vs (n % t) v')) (n % t) ≡ f v' =
-                ap (λ l. hand l (n % t)) (map-set f vs (n % t) v') ∙ get_or-set_same (map f vs) (n % t) (f v') [] (omega (arith, low, long, length-map vs f)) in
+            ap (λ l. hand l (n % t)) (map-set f vs (n % t) v') ∙ get_or-set_same (map f vs) (n % t) (f v') [] (omega (arith, low, long, length-map vs f)) in
             rw (same, taken, left) (append_assoc h (x ∷ []) (f v') ∙ (ap (λ l. h ++ l) (sym step ∙ sym left_here) ∙ both (n % t) low))
         | inr off ↦
             let taken = get_or-set_other parts (n % t) w (hand parts (n % t) ++ x ∷ []) [] off in
             let left : hand (map f (set vs (n % t) v')) w ≡ hand (map f vs) w =
-                ap (λ l. hand l w) (map-set f vs (n % t) v') ∙ get_or-set_other (map f vs) (n % t) w (f v') [] off in
+            ap (λ l. hand l w) (map-set f vs (n % t) v') ∙ get_or-set_other (map f vs) (n % t) w (f v') [] off in
             rw (taken, left) (both w below)
       ]

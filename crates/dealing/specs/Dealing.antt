@@ -7,6 +7,7 @@ hand hands w = slice_index_or hands w []
 
 -- hands for so many cards: hand w has a place q just where there is a card q * threads + w
 pub record AreHands {X : Type 0} (threads cards : ℕ) (hands : List (List X)) : Type 0 where
+  pub some : 0 < threads
   pub len : length hands ≡ threads
   pub places : (q w : ℕ) → w < threads → q < length (hand hands w) ↔ (q * threads + w < cards)
 

@@ -56,7 +56,6 @@ fn open_all<J: Job>(
 
 /// So many seats, one after another, each from the hand whose turn it is.
 fn gather(hands: &mut Vec<IntoIter<Seat>>, seats: &mut Vec<Seat>, count: usize)
-    requires some { 0 < vec_len hands.old }
     requires hands { AreHands (vec_len hands.old) count (map (λ h. into_iter_items h) hands.old.items) }
     requires none { vec_len seats.old ≡ 0 }
     requires room { count ≤ vec_capacity seats.old }
@@ -81,7 +80,6 @@ pub fn collect<J: Job>(
     room: Room,
     share: &mut Share<J::Drawn>,
 ) -> Vec<Seat>
-    requires some { 0 < vec_len workers }
     requires hands { AreHands (vec_len workers) room.count (map (λ w. w.seats.items) workers.items) }
     requires room { vec_len workers ≤ vec_capacity room.hands }
     ensures dealt { AreDealt (vec_len workers) result.items (map (λ w. w.seats.items) workers.items) }

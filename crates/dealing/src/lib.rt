@@ -3,6 +3,7 @@
 
 mod back;
 mod hands;
+pub mod laws;
 
 pub use back::{Room, collect};
 pub use hands::deal;

@@ -17,7 +17,7 @@ loop-b-init c =
       len = grind (arith, common_steps);
       room = grind (arith, common_steps);
       count = grind (arith, common_steps);
-      dealt = rw none (none_taken t);
+      dealt = rw none (none_taken t (grind (arith, common_steps)));
       turns = rw none (sum_none (λ (s : Seat). s.turn) t);
       whole = λ w low. all_left t w (map (λ h. into_iter_items h) c.args.hands.now.items);
     }
@@ -31,7 +31,7 @@ unwrap-seat-requires c =
     let whole = map (λ (h : IntoIter Seat Global). into_iter_items h) c.args.hands.now.items in
     let are : AreHands t c.args.count whole = subst (λ k. AreHands k c.args.count whole) t_is c.requires.hands in
     let some : 0 < length (into_iter_items v) =
-        has_next t c.loop-b.b c.loop-b.seats.items inv.parts (grind (arith, common_steps)) inv.dealt inv.count (λ (h : IntoIter Seat Global). into_iter_items h) c.args.count c.loop-b.hands.items v whole (grind (arith, common_steps)) c.index_mut.ensures.value inv.whole are (grind (arith, common_steps)) in
+    has_next t c.loop-b.b c.loop-b.seats.items inv.parts inv.dealt inv.count (λ (h : IntoIter Seat Global). into_iter_items h) c.args.count c.loop-b.hands.items v whole (grind (arith, common_steps)) c.index_mut.ensures.value inv.whole are (grind (arith, common_steps)) in
     grind (arith, common_steps)
 
 pub loop-b-preserved : goal.loop-b-preserved
@@ -42,7 +42,6 @@ loop-b-preserved c =
     let cards = c.loop-b.seats.items in
     let v = c.index_mut.result.now in
     let x = c.unwrap-seat.result in
-    let some : 0 < t = grind (arith, common_steps) in
     let long : length c.loop-b.hands.items ≡ t = grind (arith, common_steps) in
     let step : into_iter_items v ≡ x ∷ into_iter_items c.next.new.self = grind (arith, common_steps) in
     let whole = map (λ (h : IntoIter Seat Global). into_iter_items h) c.args.hands.now.items in
@@ -52,9 +51,9 @@ loop-b-preserved c =
       len = inv.len;
       room = grind (arith, common_steps);
       count = grind (arith, common_steps);
-      dealt = rw is (taken_more t n cards inv.parts some inv.dealt inv.count x);
-      turns = rw is (sum_more t n cards inv.parts some inv.dealt inv.count (λ (s : Seat). s.turn) x inv.turns);
-      whole = left_less t n cards inv.parts some inv.dealt inv.count (λ (h : IntoIter Seat Global). into_iter_items h) c.args.count c.loop-b.hands.items v whole long c.index_mut.ensures.value inv.whole c.next.new.self x step;
+      dealt = rw is (taken_more t n cards inv.parts inv.dealt inv.count x);
+      turns = rw is (sum_more t n cards inv.parts inv.dealt inv.count (λ (s : Seat). s.turn) x inv.turns);
+      whole = left_less t n cards inv.parts inv.dealt inv.count (λ (h : IntoIter Seat Global). into_iter_items h) c.args.count c.loop-b.hands.items v whole long c.index_mut.ensures.value inv.whole c.next.new.self x step;
     }
 
 pub returns-clause-turns : goal.returns-clause-turns

@@ -16,7 +16,7 @@ push_reserved-requires c =
     grind (arith, common_steps) in
     let head : into_iter_items c.loop-seat.seat-iterator ≡ c.in-Some.seat ∷ into_iter_items c.next.new.self = grind (arith, common_steps) in
     let more : c.loop-seat.dealt < c.args.room * t = grind (arith, common_steps) in
-    let less = room_here items t c.loop-seat.dealt inv.done c.loop-seat.hands.items v (grind (arith, common_steps)) (grind (arith, common_steps)) inv.dealt inv.count c.index_mut.ensures.value (λ h. vec_capacity h) c.args.room inv.room more in
+    let less = room_here items t c.loop-seat.dealt inv.done c.loop-seat.hands.items v (grind (arith, common_steps)) inv.dealt inv.count c.index_mut.ensures.value (λ h. vec_capacity h) c.args.room inv.room more in
     grind (arith, common_steps)
 
 pub loop-seat-preserved : goal.loop-seat-preserved
@@ -28,7 +28,6 @@ loop-seat-preserved c =
     let vs = c.loop-seat.hands.items in
     let v = c.index_mut.result.now in
     let x = c.in-Some.seat in
-    let some : 0 < t = grind (arith, common_steps) in
     let long : length vs ≡ t = grind (arith, common_steps) in
     let head : into_iter_items c.loop-seat.seat-iterator ≡ x ∷ into_iter_items c.next.new.self = grind (arith, common_steps) in
     record {
@@ -36,6 +35,6 @@ loop-seat-preserved c =
       all = append_assoc inv.done (x ∷ []) (into_iter_items c.next.new.self) ∙ (ap (λ r. inv.done ++ r) (sym head) ∙ inv.all);
       count = length-append inv.done (x ∷ []) ∙ ap (λ k. k + 1) inv.count;
       len = inv.len;
-      room = rooms_stay items t n inv.done vs v some long inv.dealt inv.count c.index_mut.ensures.value (λ h. vec_capacity h) c.args.room c.push_reserved.new.self inv.room c.push_reserved.ensures.capacity;
-      dealt = dealt_here items t n inv.done vs v some long inv.dealt inv.count c.index_mut.ensures.value c.push_reserved.new.self x c.push_reserved.ensures.items;
+      room = rooms_stay items t n inv.done vs v long inv.dealt inv.count c.index_mut.ensures.value (λ h. vec_capacity h) c.args.room c.push_reserved.new.self inv.room c.push_reserved.ensures.capacity;
+      dealt = dealt_here items t n inv.done vs v long inv.dealt inv.count c.index_mut.ensures.value c.push_reserved.new.self x c.push_reserved.ensures.items;
     }
