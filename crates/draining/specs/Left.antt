@@ -1,0 +1,23 @@
+-- What blocks left in the rings between them.
+use Rattle.std.specs.Prelude.{◌≡◌, ◌≢◌, ℕ, ◌<◌, ◌≤◌, ◌^◌, List, [], ◌++◌, length, All}
+use Rattle.parcel.specs.declared.message.Message.{Message}
+use Rattle.parcel.specs.States.{way_at}
+use Rattle.parcel.specs.Soundness.{IsSquare, direction_of}
+use Rattle.block_core.specs.Mails.{room_at}
+
+-- what one block put for another is what the other took from it, followed by what is left on the way
+pub record AreLeft (blocks : ℕ) (sent taken : ℕ → ℕ → List Message) (left : List (List (List Message)))
+    : Type 0 where
+  pub square : IsSquare blocks left
+  pub none : (b : ℕ) → b < blocks → way_at left b b ≡ []
+  pub ways : (b c : ℕ) → b < blocks → c < blocks → b ≢ c → sent b c ≡ taken c b ++ way_at left b c
+
+-- each way between two blocks has room for what is left there, and keeps each of these messages
+pub record AreFitting (blocks : ℕ) (rooms : List (List ℕ)) (left : List (List (List Message))) : Type 0 where
+  pub room : (b c : ℕ) → b < blocks → c < blocks → b ≢ c → length (way_at left b c) ≤ room_at rooms b c
+  pub arcs : (b c : ℕ) → b < blocks → c < blocks → b ≢ c
+      → All (λ m. (direction_of m).arc < 2 ^ 32) (way_at left b c)
+
+-- no message is on the way
+abbrev pub AreEmpty : List (List (List Message)) → Type 0
+AreEmpty ways = (b c : ℕ) → way_at ways b c ≡ []

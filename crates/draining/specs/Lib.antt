@@ -1,0 +1,4 @@
+pub mod Mated
+pub mod Left
+pub mod Links
+pub mod Pairing

@@ -1,0 +1,71 @@
+-- What is seen of the rings between blocks.
+use Rattle.std.specs.Prelude.{◌≡◌, ℕ, ◌<◌, ◌==◌, ◌&&◌, Bool, cond, List, [], ◌∷◌, ◌++◌, Option, Some, None}
+use Rattle.parcel.specs.declared.message.Message.{Message}
+use Rattle.block_rings.specs.declared.port.Port.{Port}
+use Rattle.block_rings.specs.Ports.{other, put, taken}
+use Rattle.block_workers.specs.Seeing.{messages}
+use Rattle.draining.specs.declared.pair.Pair.{Pair}
+
+-- what was put into a port and taken from it so far
+pub record Traffic : Type 0 where
+  pub sent : List Message
+  pub taken : List Message
+
+abbrev pub traffic : Port → Traffic
+traffic p = record { sent = messages (put p); taken = messages (taken p) }
+
+-- what went through a port; nothing where there is none
+abbrev pub traffic_of : Option Traffic → Traffic
+traffic_of None = record { sent = []; taken = [] }
+traffic_of (Some t) = t
+
+-- two blocks that have ports to one another, and what went through the port of each
+pub record Link : Type 0 where
+  pub first : ℕ
+  pub second : ℕ
+  pub of_first : Traffic
+  pub of_second : Traffic
+
+-- each port leads to the other one's block
+abbrev pub link : Pair → Link
+link p = record {
+  first = other p.second;
+  second = other p.first;
+  of_first = traffic p.first;
+  of_second = traffic p.second;
+}
+
+abbrev pub joins : Link → ℕ → ℕ → Bool
+joins l b c = (b == l.first) && (c == l.second)
+
+-- what went through the port of block b to block c, where there is one
+abbrev pub link_in : List Link → ℕ → ℕ → Option Traffic
+link_in [] b c = None
+link_in (l ∷ links) b c =
+    cond (joins l b c) (Some l.of_first) (cond (joins l c b) (Some l.of_second) (link_in links b c))
+
+-- each link is of two blocks below `blocks`, the higher number first, and no two links are of the same blocks
+abbrev pub AreLinks : ℕ → List Link → Type 0
+AreLinks blocks [] = Unit {0}
+AreLinks blocks (l ∷ links) =
+    (l.second < l.first) × (l.first < blocks) × (link_in links l.first l.second ≡ None) × AreLinks blocks links
+
+-- what is left in the rings of a link: from the first block to the second, and back
+pub record IsSeen (l : Link) : Type 0 where
+  pub down : List Message
+  pub up : List Message
+  pub is_down : l.of_first.sent ≡ l.of_second.taken ++ down
+  pub is_up : l.of_second.sent ≡ l.of_first.taken ++ up
+
+-- the rings between so many blocks
+pub record RingsView : Type 0 where
+  pub blocks : ℕ
+  pub links : List Link
+
+-- what block b put for block c so far
+abbrev pub sent_in : RingsView → ℕ → ℕ → List Message
+sent_in rings b c = (traffic_of (link_in rings.links b c)).sent
+
+-- what block b took from block c so far
+abbrev pub taken_in : RingsView → ℕ → ℕ → List Message
+taken_in rings b c = (traffic_of (link_in rings.links b c)).taken

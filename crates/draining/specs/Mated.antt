@@ -1,0 +1,25 @@
+-- Ports of blocks to one another, after a round.
+use Rattle.std.specs.Prelude.{◌≡◌, ℕ, List, [], length, slice_index_or, sum_by, Option, Some, None}
+use Rattle.parcel.specs.declared.message.Message.{Message}
+use Rattle.block_rings.specs.declared.port.Port.{Port}
+use Rattle.block_workers.specs.Seeing.{seen, AreRising}
+use Rattle.rounds.specs.Joined.{port_to, IsPaired}
+
+-- what block b put for block c so far
+abbrev pub sent : List (List Port) → ℕ → ℕ → List Message
+sent lists b c = (seen (slice_index_or lists b [])).sent c
+
+-- what block b took from block c so far
+abbrev pub taken : List (List Port) → ℕ → ℕ → List Message
+taken lists b c = (seen (slice_index_or lists b [])).taken c
+
+-- how many ports the blocks have
+abbrev pub ports_in : List (List Port) → ℕ
+ports_in lists = sum_by (λ (ports : List Port). length ports) lists
+
+-- of each block the ports to others, by rising numbers of the others: each port belongs to one that leads back
+pub record AreMated (blocks : ℕ) (lists : List (List Port)) : Type 0 where
+  pub len : length lists ≡ blocks
+  pub rising : (b : ℕ) → AreRising blocks (slice_index_or lists b [])
+  pub paired : (b c : ℕ) (p : Port) → port_to lists b c ≡ Some p → IsPaired p (port_to lists c b)
+  pub none : (b : ℕ) → port_to lists b b ≡ None

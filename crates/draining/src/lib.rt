@@ -1,0 +1,8 @@
+//! What is left in the rings between blocks after a round goes to the core's ways.
+#![tactic(auto)]
+
+mod pair;
+mod rings;
+
+pub use pair::Pair;
+pub use rings::Rings;

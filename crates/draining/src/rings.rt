@@ -1,0 +1,48 @@
+ghost use Rattle.std.specs.Prelude.{◌≡◌, ◌<◌, ◌≤◌, ◌*◌, ◌+◌, length, map, vec_len, vec_capacity, All, slice_index_or, [], ◌++◌, ◌∷◌};
+ghost use Rattle.draining.specs.Mated.{AreMated, ports_in, sent, taken};
+ghost use Rattle.draining.specs.Left.{AreLeft, AreFitting, AreEmpty};
+ghost use Rattle.draining.specs.Links.{link, IsSeen, sent_in, taken_in};
+ghost use Rattle.draining.specs.Pairing.{ArePairing, LeadBelow};
+
+use crate::pair::Pair;
+use block_core::Mail;
+use block_rings::Port;
+use std::marker::Model;
+
+/// The rings between blocks: both ends of each.
+#[derive(Drop)]
+pub struct Rings {
+    blocks: usize,
+    pairs: Vec<Pair>,
+}
+
+impl Model for Rings {
+    ghost use Rattle.std.specs.Prelude.{map};
+    ghost use Rattle.draining.specs.Links.{RingsView, link, AreLinks};
+
+    ghost Value = { RingsView };
+
+    ghost view = { λ r. record { blocks = r.blocks; links = map (λ p. link p) r.pairs.items } };
+
+    ghost invariant = { λ r. AreLinks r.blocks (map (λ p. link p) r.pairs.items) };
+}
+
+/// Looks at what is left in the rings of all pairs. Takes no memory.
+fn see_all(pairs: &mut Vec<Pair>)
+    ensures same { map (λ p. link p) pairs.new.items ≡ map (λ p. link p) pairs.old.items }
+    ensures seen { All IsSeen (map (λ p. link p) pairs.old.items) }
+{
+    for k in 0..pairs.len() {
+        pairs[k].see();
+    }
+}
+
+impl Rings {
+    /// Looks at what is left in the rings. Takes no memory.
+    pub fn see(&mut self)
+        ensures same { self.new ≡ self.old }
+        ensures left { (left : _) × AreLeft self.old.blocks (sent_in self.old) (taken_in self.old) left }
+    {
+        see_all(&mut self.pairs);
+    }
+}
