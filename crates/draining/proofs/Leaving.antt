@@ -1,0 +1,139 @@
+-- What is left in the rings that were looked at, as ways.
+use Rattle.std.proofs.Common.{◌≡◌, ◌≢◌, ℕ, zero, suc, ◌+◌, ◌<◌, ◌&&◌, Bool, true, false, cond, eqb, List, [], ◌∷◌, ◌++◌, length, map, set, get_or, drop, All, Option, Some, None, refl, sym, ◌∙◌, ap, subst, inl, inr, arith}
+use Rattle.std.proofs.lemmas.Bool.{cases_eq, eq-eqb, ne_eqb}
+use Rattle.std.proofs.lemmas.List.{drop_at, append_cancel_left}
+use Rattle.parcel.specs.declared.message.Message.{Message}
+use Rattle.parcel.specs.States.{way_at}
+use Rattle.parcel.specs.Soundness.{IsSquare}
+use Rattle.draining.specs.Left.{AreLeft}
+use Rattle.draining.specs.Links.{Traffic, Link, traffic_of, link_in, joins, AreLinks, IsSeen, RingsView, sent_in, taken_in}
+
+-- ---- tables
+
+-- the values of f below n
+abbrev pub table : {X : Type 0} → ℕ → (ℕ → X) → List X
+table zero f = []
+table (suc n) f = f zero ∷ table n (λ i. f (suc i))
+
+table_long : {X : Type 0} (n : ℕ) (f : ℕ → X) → length (table n f) ≡ n
+table_long zero f = refl
+table_long (suc n) f = ap suc (table_long n (λ i. f (suc i)))
+
+table_at : {X : Type 0} (n : ℕ) (f : ℕ → X) (i : ℕ) (d : X) → i < n → get_or (table n f) i d ≡ f i
+table_at zero f i d low = absurd (omega (arith, low))
+table_at (suc n) f zero d low = refl
+table_at (suc n) f (suc i) d low = table_at n (λ j. f (suc j)) i d (omega (arith, low))
+
+-- ---- one link
+
+-- what is left of what was put, where so much of it was taken
+abbrev pub rest_of : List Message → List Message → List Message
+rest_of sent taken = drop (length taken) sent
+
+pub rest_is : (sent taken left : List Message) → sent ≡ taken ++ left → rest_of sent taken ≡ left
+rest_is sent taken left is = ap (drop (length taken)) is ∙ drop_at taken left (length taken) refl
+
+-- what is left on the way from block b to block c
+abbrev pub left_in : List Link → ℕ → ℕ → List Message
+left_in links b c = rest_of (traffic_of (link_in links b c)).sent (traffic_of (link_in links c b)).taken
+
+joins_not : (l : Link) (b c : ℕ) → (l.first ≡ b → l.second ≡ c → ⊥) → joins l b c ≡ false
+joins_not l b c off = elim (cases_eq b l.first) [
+  | inl same ↦ rw (eq-eqb b l.first same) (ne_eqb c l.second (λ e. off (sym same) (sym e)))
+  | inr apart ↦ rw (ne_eqb b l.first apart) refl
+]
+
+joins_is : (l : Link) (b c : ℕ) → l.first ≡ b → l.second ≡ c → joins l b c ≡ true
+joins_is l b c at_b at_c = rw (eq-eqb b l.first (sym at_b)) (eq-eqb c l.second (sym at_c))
+
+-- the blocks of a link, in either order, or not
+pub link_cases : (P : Type 0) (l : Link) (b c : ℕ) → (l.first ≡ b → l.second ≡ c → P) → (l.first ≡ c → l.second ≡ b → P)
+    → ((l.first ≡ b → l.second ≡ c → ⊥) → (l.first ≡ c → l.second ≡ b → ⊥) → P) → P
+link_cases P l b c there back off = elim (cases_eq l.first b) [
+  | inl at_b ↦ elim (cases_eq l.second c) [
+    | inl at_c ↦ there at_b at_c
+    | inr no_c ↦ elim (cases_eq l.first c) [
+      | inl is_c ↦ elim (cases_eq l.second b) [
+        | inl is_b ↦ back is_c is_b
+        | inr no_b ↦ off (λ e f. no_c f) (λ e f. no_b f)
+      ]
+      | inr not_c ↦ off (λ e f. no_c f) (λ e f. not_c e)
+    ]
+  ]
+  | inr no_b ↦ elim (cases_eq l.first c) [
+    | inl is_c ↦ elim (cases_eq l.second b) [
+      | inl is_b ↦ back is_c is_b
+      | inr not_b ↦ off (λ e f. no_b e) (λ e f. not_b f)
+    ]
+    | inr not_c ↦ off (λ e f. no_b e) (λ e f. not_c e)
+  ]
+]
+
+pub link_there : (l : Link) (links : List Link) (b c : ℕ) → l.first ≡ b → l.second ≡ c → link_in (l ∷ links) b c ≡ Some l.of_first
+link_there l links b c at_b at_c = rw (joins_is l b c at_b at_c) refl
+
+pub link_back : (l : Link) (links : List Link) (b c : ℕ) → l.second < l.first → l.first ≡ c → l.second ≡ b → link_in (l ∷ links) b c ≡ Some l.of_second
+link_back l links b c order at_c at_b =
+    rw (joins_not l b c (λ e f. absurd (omega (arith, order, e, f, at_c, at_b))), joins_is l c b at_c at_b) refl
+
+pub link_off : (l : Link) (links : List Link) (b c : ℕ) → (l.first ≡ b → l.second ≡ c → ⊥) → (l.first ≡ c → l.second ≡ b → ⊥)
+    → link_in (l ∷ links) b c ≡ link_in links b c
+link_off l links b c off_there off_back = rw (joins_not l b c off_there, joins_not l c b off_back) refl
+
+-- ---- all links
+
+-- what was put is what was taken, followed by what is left
+pub splits : (blocks : ℕ) (links : List Link) → AreLinks blocks links → All IsSeen links → (b c : ℕ)
+    → (traffic_of (link_in links b c)).sent ≡ (traffic_of (link_in links c b)).taken ++ left_in links b c
+splits blocks [] are seen b c = refl
+splits blocks (l ∷ links) are seen b c =
+    let all = l ∷ links in
+    let one : IsSeen l = seen zero l (omega arith) in
+    let fits : (s t : Option Traffic) (left : List Message) → link_in all b c ≡ s → link_in all c b ≡ t → (traffic_of s).sent ≡ (traffic_of t).taken ++ left
+    → (traffic_of (link_in all b c)).sent ≡ (traffic_of (link_in all c b)).taken ++ left_in all b c =
+    λ s t left is_s is_t e. rw (is_s, is_t) (e ∙ ap (λ (x : List Message). (traffic_of t).taken ++ x) (sym (rest_is (traffic_of s).sent (traffic_of t).taken left e))) in
+    link_cases _ l b c
+    (λ at_b at_c. fits (Some l.of_first) (Some l.of_second) one.down (link_there l links b c at_b at_c) (link_back l links c b are.0 at_b at_c) one.is_down)
+    (λ at_c at_b. fits (Some l.of_second) (Some l.of_first) one.up (link_back l links b c are.0 at_c at_b) (link_there l links c b at_c at_b) one.is_up)
+    (λ off_there off_back.
+    fits (link_in links b c) (link_in links c b) (left_in links b c) (link_off l links b c off_there off_back) (link_off l links c b off_back off_there)
+    (splits blocks links are.3 (λ k d low. seen (suc k) d (omega (arith, low))) b c))
+
+-- no block has a link to itself
+pub link_none : (blocks : ℕ) (links : List Link) → AreLinks blocks links → (b : ℕ) → link_in links b b ≡ None
+link_none blocks [] are b = refl
+link_none blocks (l ∷ links) are b =
+    link_off l links b b (λ e f. absurd (omega (arith, e, f, are.0))) (λ e f. absurd (omega (arith, e, f, are.0))) ∙ link_none blocks links are.3 b
+
+pub left_none : (blocks : ℕ) (links : List Link) → AreLinks blocks links → (b : ℕ) → left_in links b b ≡ []
+left_none blocks links are b = rw (link_none blocks links are b) refl
+
+-- ways with what is left
+abbrev pub ways_of : ℕ → List Link → List (List (List Message))
+ways_of n links = table n (λ b. table n (λ c. left_in links b c))
+
+ways_at : (n : ℕ) (links : List Link) (b c : ℕ) → b < n → c < n → way_at (ways_of n links) b c ≡ left_in links b c
+ways_at n links b c low_b low_c =
+    ap (λ (row : List (List Message)). get_or row c []) (table_at n (λ x. table n (λ y. left_in links x y)) b [] low_b)
+    ∙ table_at n (λ y. left_in links b y) c [] low_c
+
+ways_square : (n : ℕ) (links : List Link) → IsSquare n (ways_of n links)
+ways_square n links = record {
+  rows = table_long n (λ b. table n (λ c. left_in links b c));
+  columns = λ b low.
+      ap (λ (row : List (List Message)). length row) (table_at n (λ x. table n (λ y. left_in links x y)) b [] low)
+      ∙ table_long n (λ y. left_in links b y);
+}
+
+-- something is left, as ways
+abbrev pub AnyLeft : RingsView → Type 0
+AnyLeft v = (left : List (List (List Message))) × AreLeft v.blocks (sent_in v) (taken_in v) left
+
+pub left_ways : (v : RingsView) → AreLinks v.blocks v.links → All IsSeen v.links → AnyLeft v
+left_ways v are seen = (ways_of v.blocks v.links, record {
+  square = ways_square v.blocks v.links;
+  none = λ b low. ways_at v.blocks v.links b b low low ∙ left_none v.blocks v.links are b;
+  ways = λ b c low_b low_c off.
+      splits v.blocks v.links are seen b c
+      ∙ ap (λ (x : List Message). (traffic_of (link_in v.links c b)).taken ++ x) (sym (ways_at v.blocks v.links b c low_b low_c));
+})
