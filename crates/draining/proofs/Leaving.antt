@@ -5,7 +5,7 @@ use Rattle.std.proofs.lemmas.List.{drop_at, append_cancel_left}
 use Rattle.parcel.specs.declared.message.Message.{Message}
 use Rattle.parcel.specs.States.{way_at}
 use Rattle.parcel.specs.Soundness.{IsSquare}
-use Rattle.draining.specs.Left.{AreLeft}
+use Rattle.draining.specs.Left.{AreLeft, rest_of}
 use Rattle.draining.specs.Links.{Traffic, Link, traffic_of, link_in, joins, AreLinks, IsSeen, RingsView, sent_in, taken_in}
 
 -- ---- tables
@@ -25,10 +25,6 @@ table_at (suc n) f zero d low = refl
 table_at (suc n) f (suc i) d low = table_at n (λ j. f (suc j)) i d (omega (arith, low))
 
 -- ---- one link
-
--- what is left of what was put, where so much of it was taken
-abbrev pub rest_of : List Message → List Message → List Message
-rest_of sent taken = drop (length taken) sent
 
 pub rest_is : (sent taken left : List Message) → sent ≡ taken ++ left → rest_of sent taken ≡ left
 rest_is sent taken left is = ap (drop (length taken)) is ∙ drop_at taken left (length taken) refl

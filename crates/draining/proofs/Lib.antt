@@ -1,2 +1,3 @@
 pub mod Seeing
 pub mod Leaving
+pub mod Moving

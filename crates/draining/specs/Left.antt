@@ -1,5 +1,5 @@
 -- What blocks left in the rings between them.
-use Rattle.std.specs.Prelude.{◌≡◌, ◌≢◌, ℕ, ◌<◌, ◌≤◌, ◌^◌, List, [], ◌++◌, length, All}
+use Rattle.std.specs.Prelude.{◌≡◌, ◌≢◌, ℕ, ◌<◌, ◌≤◌, ◌^◌, List, [], ◌++◌, length, drop, All}
 use Rattle.parcel.specs.declared.message.Message.{Message}
 use Rattle.parcel.specs.States.{way_at}
 use Rattle.parcel.specs.Soundness.{IsSquare, direction_of}
@@ -12,11 +12,19 @@ pub record AreLeft (blocks : ℕ) (sent taken : ℕ → ℕ → List Message) (l
   pub none : (b : ℕ) → b < blocks → way_at left b b ≡ []
   pub ways : (b c : ℕ) → b < blocks → c < blocks → b ≢ c → sent b c ≡ taken c b ++ way_at left b c
 
+-- what is left of what was put, where so much of it was taken
+abbrev pub rest_of : List Message → List Message → List Message
+rest_of sent taken = drop (length taken) sent
+
+-- messages that ways keep
+abbrev pub AreKept : List Message → Type 0
+AreKept messages = All (λ m. (direction_of m).arc < 2 ^ 32) messages
+
 -- each way between two blocks has room for what is left there, and keeps each of these messages
 pub record AreFitting (blocks : ℕ) (rooms : List (List ℕ)) (left : List (List (List Message))) : Type 0 where
   pub room : (b c : ℕ) → b < blocks → c < blocks → b ≢ c → length (way_at left b c) ≤ room_at rooms b c
   pub arcs : (b c : ℕ) → b < blocks → c < blocks → b ≢ c
-      → All (λ m. (direction_of m).arc < 2 ^ 32) (way_at left b c)
+      → AreKept (way_at left b c)
 
 -- no message is on the way
 abbrev pub AreEmpty : List (List (List Message)) → Type 0

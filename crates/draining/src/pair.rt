@@ -1,6 +1,12 @@
-ghost use Rattle.std.specs.Prelude.{◌≡◌};
-ghost use Rattle.block_rings.specs.Ports.{LeadsTo};
+ghost use Rattle.std.specs.Prelude.{◌≡◌, ◌<◌, ◌≤◌, ◌+◌, ◌++◌, [], length, slice_index_or};
+ghost use Rattle.parcel.specs.States.{way_at, put_way};
+ghost use Rattle.parcel.specs.Soundness.{IsSquare};
+ghost use Rattle.block_core.specs.Mails.{room_at};
+ghost use Rattle.block_rings.specs.Ports.{IsSamePort, LeadsTo, Looks, put, taken};
+ghost use Rattle.block_workers.specs.Seeing.{messages};
+ghost use Rattle.draining.specs.Left.{AreKept, rest_of};
 
+use block_core::Mail;
 use block_rings::{Port, see_left};
 
 /// Two blocks' ports to one another: what the one puts the other takes.
@@ -10,6 +16,28 @@ pub struct Pair {
     pub(crate) second: Port,
     ghost there: { LeadsTo first second },
     ghost back: { LeadsTo second first },
+}
+
+/// What is left in the ring from one port to another goes to the end of a way that has room. Takes no memory.
+fn move_left(from: &mut Port, to: &mut Port, ways: &mut Mail, b: usize, c: usize)
+    requires joined { LeadsTo from.old to.old }
+    requires square { IsSquare (length ways.old.messages) ways.old.messages }
+    requires first { b < length ways.old.messages }
+    requires second { c < length ways.old.messages }
+    requires room { length (way_at ways.old.messages b c)
+        + length (rest_of (messages (put from.old)) (messages (taken to.old))) ≤ room_at ways.old.rooms b c }
+    requires arcs { AreKept (rest_of (messages (put from.old)) (messages (taken to.old))) }
+    ensures messages { ways.new.messages ≡ put_way ways.old.messages b c (way_at ways.old.messages b c
+        ++ rest_of (messages (put from.old)) (messages (taken to.old))) }
+    ensures rooms { ways.new.rooms ≡ ways.old.rooms }
+    ensures from { Looks from.old from.new }
+    ensures to { IsSamePort to.old to.new }
+    ensures put { put to.new ≡ put to.old }
+{
+    let count = see_left(from, to);
+    for _ in 0..count {
+        ways.put(b, c, to.take().message);
+    }
 }
 
 impl Pair {
