@@ -6,7 +6,7 @@ use Rattle.parcel.specs.declared.message.Message.{Message}
 use Rattle.parcel.specs.States.{way_at}
 use Rattle.parcel.specs.Soundness.{IsSquare}
 use Rattle.draining.specs.Left.{AreLeft, rest_of}
-use Rattle.draining.specs.Links.{Traffic, Link, traffic_of, link_in, joins, AreLinks, IsSeen, RingsView, sent_in, taken_in}
+use Rattle.draining.specs.Links.{Traffic, Link, traffic_of, link_in, left_in, joins, AreLinks, IsSeen, RingsView, sent_in, taken_in}
 
 -- ---- tables
 
@@ -28,10 +28,6 @@ table_at (suc n) f (suc i) d low = table_at n (λ j. f (suc j)) i d (omega (arit
 
 pub rest_is : (sent taken left : List Message) → sent ≡ taken ++ left → rest_of sent taken ≡ left
 rest_is sent taken left is = ap (drop (length taken)) is ∙ drop_at taken left (length taken) refl
-
--- what is left on the way from block b to block c
-abbrev pub left_in : List Link → ℕ → ℕ → List Message
-left_in links b c = rest_of (traffic_of (link_in links b c)).sent (traffic_of (link_in links c b)).taken
 
 joins_not : (l : Link) (b c : ℕ) → (l.first ≡ b → l.second ≡ c → ⊥) → joins l b c ≡ false
 joins_not l b c off = elim (cases_eq b l.first) [
@@ -126,10 +122,13 @@ abbrev pub AnyLeft : RingsView → Type 0
 AnyLeft v = (left : List (List (List Message))) × AreLeft v.blocks (sent_in v) (taken_in v) left
 
 pub left_ways : (v : RingsView) → AreLinks v.blocks v.links → All IsSeen v.links → AnyLeft v
-left_ways v are seen = (ways_of v.blocks v.links, record {
-  square = ways_square v.blocks v.links;
-  none = λ b low. ways_at v.blocks v.links b b low low ∙ left_none v.blocks v.links are b;
-  ways = λ b c low_b low_c off.
-      splits v.blocks v.links are seen b c
-      ∙ ap (λ (x : List Message). (traffic_of (link_in v.links c b)).taken ++ x) (sym (ways_at v.blocks v.links b c low_b low_c));
-})
+left_ways v are seen = (
+  ways_of v.blocks v.links,
+  record {
+    square = ways_square v.blocks v.links;
+    none = λ b low. ways_at v.blocks v.links b b low low ∙ left_none v.blocks v.links are b;
+    ways = λ b c low_b low_c off.
+        splits v.blocks v.links are seen b c
+        ∙ ap (λ (x : List Message). (traffic_of (link_in v.links c b)).taken ++ x) (sym (ways_at v.blocks v.links b c low_b low_c));
+  },
+)

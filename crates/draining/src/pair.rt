@@ -41,7 +41,7 @@ fn move_left(from: &mut Port, to: &mut Port, ways: &mut Mail, b: usize, c: usize
 }
 
 impl Pair {
-    ghost use Rattle.draining.specs.Links.{link, IsSeen};
+    ghost use Rattle.draining.specs.Links.{link, drained, IsFitting, IsSeen};
 
     /// Looks at what is left in both rings. Takes no memory.
     pub(crate) fn see(&mut self)
@@ -50,5 +50,22 @@ impl Pair {
     {
         see_left(&mut self.first, &mut self.second);
         see_left(&mut self.second, &mut self.first);
+    }
+
+    /// What is left in both rings goes to the ends of the ways between the two blocks. Takes no memory.
+    pub(crate) fn drain(self, ways: &mut Mail)
+        requires square { IsSquare (length ways.old.messages) ways.old.messages }
+        requires order { (link self).second < (link self).first }
+        requires blocks { (link self).first < length ways.old.messages }
+        requires room { IsFitting ways.old.rooms ways.old.messages (link self) }
+        ensures messages { ways.new.messages ≡ drained (link self) ways.old.messages }
+        ensures rooms { ways.new.rooms ≡ ways.old.rooms }
+    {
+        let mut first = self.first;
+        let mut second = self.second;
+        let b = second.other() as usize;
+        let c = first.other() as usize;
+        move_left(&mut first, &mut second, ways, b, c);
+        move_left(&mut second, &mut first, ways, c, b);
     }
 }

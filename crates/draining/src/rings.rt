@@ -1,7 +1,8 @@
 ghost use Rattle.std.specs.Prelude.{◌≡◌, ◌<◌, ◌≤◌, ◌*◌, ◌+◌, length, map, vec_len, vec_capacity, All, slice_index_or, [], ◌++◌, ◌∷◌};
 ghost use Rattle.draining.specs.Mated.{AreMated, ports_in, sent, taken};
 ghost use Rattle.draining.specs.Left.{AreLeft, AreFitting, AreEmpty};
-ghost use Rattle.draining.specs.Links.{link, IsSeen, sent_in, taken_in};
+ghost use Rattle.draining.specs.Links.{link, AreDraining, AreLinks, HaveRoom, IsSeen, sent_in, taken_in};
+ghost use Rattle.parcel.specs.Soundness.{IsSquare};
 ghost use Rattle.draining.specs.Pairing.{ArePairing, LeadBelow};
 
 use crate::pair::Pair;
@@ -37,6 +38,20 @@ fn see_all(pairs: &mut Vec<Pair>)
     }
 }
 
+/// What is left in the rings of all pairs goes to the ways, which are empty. Takes no memory.
+fn drain_all(pairs: Vec<Pair>, ways: &mut Mail)
+    requires links { AreLinks (length ways.old.messages) (map (λ p. link p) pairs.items) }
+    requires square { IsSquare (length ways.old.messages) ways.old.messages }
+    requires empty { AreEmpty ways.old.messages }
+    requires room { HaveRoom (length ways.old.messages) ways.old.rooms (map (λ p. link p) pairs.items) }
+    ensures messages { AreDraining (length ways.old.messages) (map (λ p. link p) pairs.items) [] ways.new.messages }
+    ensures rooms { ways.new.rooms ≡ ways.old.rooms }
+{
+    for pair in pairs {
+        pair.drain(ways);
+    }
+}
+
 impl Rings {
     /// Looks at what is left in the rings. Takes no memory.
     pub fn see(&mut self)
@@ -44,5 +59,18 @@ impl Rings {
         ensures left { (left : _) × AreLeft self.old.blocks (sent_in self.old) (taken_in self.old) left }
     {
         see_all(&mut self.pairs);
+    }
+
+    /// What is left in the rings goes to the ways, which are empty. Takes no memory.
+    pub fn drain(mut self, ways: &mut Mail)
+        requires square { IsSquare self.blocks ways.old.messages }
+        requires empty { AreEmpty ways.old.messages }
+        requires room { (left : _) → AreLeft self.blocks (sent_in self) (taken_in self) left
+            → AreFitting self.blocks ways.old.rooms left }
+        ensures left { AreLeft self.blocks (sent_in self) (taken_in self) ways.new.messages }
+        ensures rooms { ways.new.rooms ≡ ways.old.rooms }
+    {
+        self.see();
+        drain_all(self.pairs, ways);
     }
 }

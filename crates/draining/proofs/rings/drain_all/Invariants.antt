@@ -1,0 +1,10 @@
+use Rattle.std.proofs.Common.{◌≡◌, length, map}
+use Rattle.std.specs.Vec.Iter.{into_iter_items}
+use Rattle.draining.specs.Links.{link, AreDraining}
+use Rattle.draining.proofs.rings.drain_all.Given as goal
+
+abbrev pub invariant-loop-pair : goal.invariant-loop-pair
+invariant-loop-pair l = record {
+  draining : AreDraining (length l.initial.ways.messages) (map (λ p. link p) (into_iter_items l.initial.pair-iterator)) (map (λ p. link p) (into_iter_items l.pair-iterator)) l.ways.messages;
+  rooms : l.ways.rooms ≡ l.initial.ways.rooms;
+}
