@@ -1,3 +1,4 @@
 pub mod Seeing
 pub mod Leaving
 pub mod Moving
+pub mod Draining

@@ -1,6 +1,6 @@
 -- A message more leaves a ring for its way.
-use Rattle.std.proofs.Common.{◌≡◌, ℕ, suc, ◌+◌, ◌<◌, ◌≤◌, List, [], ◌∷◌, ◌++◌, length, set, get_or, sym, ◌∙◌, ap, subst, arith, get_or-set_same}
-use Rattle.std.proofs.lemmas.List.{set-set, append_assoc, length-append, length_push}
+use Rattle.std.proofs.Common.{◌≡◌, ℕ, suc, ◌+◌, ◌<◌, List, [], ◌∷◌, ◌++◌, length, set, get_or, sym, ◌∙◌, ap, subst, arith, get_or-set_same}
+use Rattle.std.proofs.lemmas.List.{set-set, append_assoc, length_push}
 use Rattle.parcel.specs.declared.message.Message.{Message}
 use Rattle.parcel.specs.States.{way_at, put_way, put_message}
 use Rattle.parcel.specs.Soundness.{IsSquare}

@@ -1,7 +1,7 @@
 -- Rings that were looked at, one pair after another.
-use Rattle.std.proofs.Common.{◌≡◌, ℕ, ◌+◌, ◌<◌, List, [], ◌∷◌, length, map, set, get_or, refl, sym, ◌∙◌, ap, subst, inl, inr, arith}
+use Rattle.std.proofs.Common.{◌≡◌, ℕ, ◌+◌, ◌<◌, List, length, map, set, get_or, sym, ◌∙◌, ap, subst, inl, inr, arith}
 use Rattle.std.proofs.lemmas.Bool.{cases_eq}
-use Rattle.std.proofs.lemmas.List.{length-map, map-set, set-get_or, get_or-map}
+use Rattle.std.proofs.lemmas.List.{map-set, set-get_or, get_or-map}
 use Rattle.draining.specs.declared.pair.Pair.{Pair}
 use Rattle.draining.specs.Links.{Link, link, IsSeen}
 

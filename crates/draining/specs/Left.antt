@@ -26,6 +26,6 @@ pub record AreFitting (blocks : ℕ) (rooms : List (List ℕ)) (left : List (Lis
   pub arcs : (b c : ℕ) → b < blocks → c < blocks → b ≢ c
       → AreKept (way_at left b c)
 
--- no message is on the way
-abbrev pub AreEmpty : List (List (List Message)) → Type 0
-AreEmpty ways = (b c : ℕ) → way_at ways b c ≡ []
+-- no message is on the way between so many blocks
+abbrev pub AreEmpty : ℕ → List (List (List Message)) → Type 0
+AreEmpty blocks ways = (b c : ℕ) → b < blocks → c < blocks → way_at ways b c ≡ []

@@ -42,7 +42,7 @@ fn see_all(pairs: &mut Vec<Pair>)
 fn drain_all(pairs: Vec<Pair>, ways: &mut Mail)
     requires links { AreLinks (length ways.old.messages) (map (λ p. link p) pairs.items) }
     requires square { IsSquare (length ways.old.messages) ways.old.messages }
-    requires empty { AreEmpty ways.old.messages }
+    requires empty { AreEmpty (length ways.old.messages) ways.old.messages }
     requires room { HaveRoom (length ways.old.messages) ways.old.rooms (map (λ p. link p) pairs.items) }
     ensures messages { AreDraining (length ways.old.messages) (map (λ p. link p) pairs.items) [] ways.new.messages }
     ensures rooms { ways.new.rooms ≡ ways.old.rooms }
@@ -64,7 +64,7 @@ impl Rings {
     /// What is left in the rings goes to the ways, which are empty. Takes no memory.
     pub fn drain(mut self, ways: &mut Mail)
         requires square { IsSquare self.blocks ways.old.messages }
-        requires empty { AreEmpty ways.old.messages }
+        requires empty { AreEmpty self.blocks ways.old.messages }
         requires room { (left : _) → AreLeft self.blocks (sent_in self) (taken_in self) left
             → AreFitting self.blocks ways.old.rooms left }
         ensures left { AreLeft self.blocks (sent_in self) (taken_in self) ways.new.messages }

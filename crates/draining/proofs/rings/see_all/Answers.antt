@@ -1,8 +1,8 @@
-use Rattle.std.proofs.Common.{◌≡◌, ◌<◌, length, sym, ◌∙◌, ap, subst, map, arith}
+use Rattle.std.proofs.Common.{◌<◌, length, ◌∙◌, ap, arith}
 use Rattle.std.proofs.lemmas.Grind.{common_steps}
 use Rattle.std.proofs.lemmas.List.{length-map}
 use Rattle.draining.specs.declared.pair.Pair.{Pair}
-use Rattle.draining.specs.Links.{link, IsSeen}
+use Rattle.draining.specs.Links.{link}
 use Rattle.draining.proofs.Seeing.{links_kept, seen_more}
 use Rattle.draining.proofs.rings.see_all.Goals as goal
 

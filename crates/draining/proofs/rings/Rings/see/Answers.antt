@@ -1,4 +1,4 @@
-use Rattle.std.proofs.Common.{◌≡◌, subst}
+use Rattle.std.proofs.Common.{subst}
 use Rattle.draining.proofs.Leaving.{left_ways, AnyLeft}
 use Rattle.draining.proofs.rings.Rings.see.Goals as goal
 
