@@ -1,6 +1,6 @@
 -- What is seen of the rings between blocks.
 use Rattle.std.specs.Prelude.{◌≡◌, ◌≢◌, ℕ, ◌+◌, ◌<◌, ◌≤◌, ◌==◌, ◌&&◌, Bool, cond}
-use Rattle.std.specs.Prelude.{List, [], ◌∷◌, ◌++◌, length, Option, Some, None}
+use Rattle.std.specs.Prelude.{List, [], ◌∷◌, ◌++◌, length, map, Option, Some, None}
 use Rattle.parcel.specs.declared.message.Message.{Message}
 use Rattle.parcel.specs.States.{way_at, put_way}
 use Rattle.parcel.specs.Soundness.{IsSquare}
@@ -39,6 +39,9 @@ link p = record {
   of_first = traffic p.first;
   of_second = traffic p.second;
 }
+
+abbrev pub links_of : List Pair → List Link
+links_of pairs = map (λ (p : Pair). link p) pairs
 
 abbrev pub joins : Link → ℕ → ℕ → Bool
 joins l b c = (b == l.first) && (c == l.second)

@@ -1,9 +1,8 @@
 ghost use Rattle.std.specs.Prelude.{◌≡◌, ◌<◌, ◌≤◌, ◌*◌, ◌+◌, length, map, vec_len, vec_capacity, All, slice_index_or, [], ◌++◌, ◌∷◌};
 ghost use Rattle.draining.specs.Mated.{AreMated, ports_in, sent, taken};
 ghost use Rattle.draining.specs.Left.{AreLeft, AreFitting, AreEmpty};
-ghost use Rattle.draining.specs.Links.{link, AreDraining, AreLinks, HaveRoom, IsSeen, sent_in, taken_in};
+ghost use Rattle.draining.specs.Links.{links_of, AreDraining, AreLinks, HaveRoom, IsSeen, sent_in, taken_in};
 ghost use Rattle.parcel.specs.Soundness.{IsSquare};
-ghost use Rattle.draining.specs.Pairing.{ArePairing, LeadBelow};
 
 use crate::pair::Pair;
 use block_core::Mail;
@@ -18,20 +17,19 @@ pub struct Rings {
 }
 
 impl Model for Rings {
-    ghost use Rattle.std.specs.Prelude.{map};
-    ghost use Rattle.draining.specs.Links.{RingsView, link, AreLinks};
+    ghost use Rattle.draining.specs.Links.{RingsView, links_of, AreLinks};
 
     ghost Value = { RingsView };
 
-    ghost view = { λ r. record { blocks = r.blocks; links = map (λ p. link p) r.pairs.items } };
+    ghost view = { λ r. record { blocks = r.blocks; links = links_of r.pairs.items } };
 
-    ghost invariant = { λ r. AreLinks r.blocks (map (λ p. link p) r.pairs.items) };
+    ghost invariant = { λ r. AreLinks r.blocks (links_of r.pairs.items) };
 }
 
 /// Looks at what is left in the rings of all pairs. Takes no memory.
 fn see_all(pairs: &mut Vec<Pair>)
-    ensures same { map (λ p. link p) pairs.new.items ≡ map (λ p. link p) pairs.old.items }
-    ensures seen { All IsSeen (map (λ p. link p) pairs.old.items) }
+    ensures same { links_of pairs.new.items ≡ links_of pairs.old.items }
+    ensures seen { All IsSeen (links_of pairs.old.items) }
 {
     for k in 0..pairs.len() {
         pairs[k].see();
@@ -40,11 +38,11 @@ fn see_all(pairs: &mut Vec<Pair>)
 
 /// What is left in the rings of all pairs goes to the ways, which are empty. Takes no memory.
 fn drain_all(pairs: Vec<Pair>, ways: &mut Mail)
-    requires links { AreLinks (length ways.old.messages) (map (λ p. link p) pairs.items) }
+    requires links { AreLinks (length ways.old.messages) (links_of pairs.items) }
     requires square { IsSquare (length ways.old.messages) ways.old.messages }
     requires empty { AreEmpty (length ways.old.messages) ways.old.messages }
-    requires room { HaveRoom (length ways.old.messages) ways.old.rooms (map (λ p. link p) pairs.items) }
-    ensures messages { AreDraining (length ways.old.messages) (map (λ p. link p) pairs.items) [] ways.new.messages }
+    requires room { HaveRoom (length ways.old.messages) ways.old.rooms (links_of pairs.items) }
+    ensures messages { AreDraining (length ways.old.messages) (links_of pairs.items) [] ways.new.messages }
     ensures rooms { ways.new.rooms ≡ ways.old.rooms }
 {
     for pair in pairs {
