@@ -1,5 +1,5 @@
 -- A pair more is taken out of the lists.
-use Rattle.std.proofs.Common.{◌≡◌, ◌≢◌, ℕ, zero, suc, ◌+◌, ◌*◌, ◌<◌, ◌≤◌, Bool, true, false, cond, List, [], ◌∷◌, ◌++◌, length, map, get_or, Option, Some, None, refl, sym, ◌∙◌, ap, subst, inl, inr, arith}
+use Rattle.std.proofs.Common.{◌≡◌, ℕ, ◌+◌, ◌*◌, ◌<◌, ◌≤◌, Bool, true, false, cond, List, [], ◌∷◌, ◌++◌, get_or, Option, Some, None, refl, sym, ◌∙◌, ap, subst, inl, inr, arith}
 use Rattle.std.proofs.lemmas.Bool.{cases_eq, eq-eqb, ne_eqb}
 use Rattle.std.proofs.lemmas.List.{get_or_past}
 use Rattle.block_rings.specs.declared.port.Port.{Port}
@@ -8,7 +8,7 @@ use Rattle.block_workers.specs.Seeing.{read_at, messages}
 use Rattle.rounds.specs.Joined.{port_to, IsPaired}
 use Rattle.draining.specs.declared.pair.Pair.{Pair}
 use Rattle.draining.specs.Mated.{AreMated, ports_in, sent, taken}
-use Rattle.draining.specs.Links.{Traffic, Link, RingsView, traffic, traffic_of, link, link_in, joins, AreLinks, sent_in, taken_in}
+use Rattle.draining.specs.Links.{Traffic, Link, traffic, traffic_of, link, links_of, link_in, joins, AreLinks}
 use Rattle.draining.specs.Pairing.{option_traffic, IsReady, IsTakenOut, ArePaired}
 use Rattle.draining.proofs.Leaving.{link_cases, link_there, link_back, link_off}
 
@@ -162,12 +162,15 @@ ready_next n b lists count capacity empty was = record {
   room = was.room;
 }
 
-pub paired_none : (n : ℕ) (lists : List (List Port)) → ArePaired n lists lists []
+paired_none : (n : ℕ) (lists : List (List Port)) → ArePaired n lists lists []
 paired_none n lists = record {
   linked = tt;
   taken = λ x y t is. absurd (nothing t (sym is));
   rest = λ x y none. refl;
 }
+
+pub paired_first : (n : ℕ) (lists : List (List Port)) (pairs : List Pair) → pairs ≡ [] → ArePaired n lists lists (links_of pairs)
+paired_first n lists pairs none = subst (λ (ps : List Pair). ArePaired n lists lists (links_of ps)) (sym none) (paired_none n lists)
 
 pub ready_first : (n capacity : ℕ) (lists : List (List Port)) → AreMated n lists → ports_in lists ≤ 2 * capacity → IsReady n n lists 0 capacity
 ready_first n capacity lists mated room = record {

@@ -1,5 +1,5 @@
 -- Ports that are paired, one pair after another.
-use Rattle.std.specs.Prelude.{◌≡◌, ℕ, ◌+◌, ◌*◌, ◌<◌, ◌≤◌, List, [], length, map, slice_index_or}
+use Rattle.std.specs.Prelude.{◌≡◌, ℕ, ◌+◌, ◌*◌, ◌<◌, ◌≤◌, List, [], length, slice_index_or}
 use Rattle.std.specs.Prelude.{Option, Some, None}
 use Rattle.block_rings.specs.declared.port.Port.{Port}
 use Rattle.block_rings.specs.Ports.{other}
@@ -7,7 +7,7 @@ use Rattle.block_workers.specs.Seeing.{AreRising}
 use Rattle.rounds.specs.Joined.{port_to}
 use Rattle.draining.specs.declared.pair.Pair.{Pair}
 use Rattle.draining.specs.Mated.{AreMated, ports_in}
-use Rattle.draining.specs.Links.{Link, Traffic, traffic, link, link_in, AreLinks}
+use Rattle.draining.specs.Links.{Link, Traffic, traffic, link_in, AreLinks}
 
 -- what went through a port, where there is one
 abbrev pub option_traffic : Option Port → Option Traffic
@@ -41,3 +41,8 @@ pub record ArePaired (blocks : ℕ) (first lists : List (List Port)) (links : Li
   pub taken : (b c : ℕ) (t : Traffic) → link_in links b c ≡ Some t
       → (option_traffic (port_to first b c) ≡ Some t) × (port_to lists b c ≡ None)
   pub rest : (b c : ℕ) → link_in links b c ≡ None → port_to lists b c ≡ port_to first b c
+
+-- what was paired of the first ports before is paired still, and the lists and links say so
+abbrev pub Pairs : ℕ → List (List Port) → List Link → List (List Port) → List Link → Type 0
+Pairs blocks lists links new_lists new_links =
+    (first : List (List Port)) → ArePaired blocks first lists links → ArePaired blocks first new_lists new_links

@@ -1,9 +1,10 @@
-ghost use Rattle.std.specs.Prelude.{◌≡◌, ◌<◌, ◌≤◌, ◌*◌, ◌+◌, length, map, vec_len, vec_capacity, All, slice_index_or, [], ◌++◌, ◌∷◌};
+ghost use Rattle.std.specs.Prelude.{◌≡◌, ◌≤◌, ◌*◌, ℕ, [], All, length, map, vec_len, vec_capacity};
 ghost use Rattle.draining.specs.Mated.{AreMated, ports_in, sent, taken};
 ghost use Rattle.draining.specs.Left.{AreLeft, AreFitting, AreEmpty};
 ghost use Rattle.draining.specs.Links.{links_of, AreDraining, AreLinks, HaveRoom, IsSeen, sent_in, taken_in};
 ghost use Rattle.parcel.specs.Soundness.{IsSquare};
 
+use crate::matching::pair_all;
 use crate::pair::Pair;
 use block_core::Mail;
 use block_rings::Port;
@@ -51,6 +52,25 @@ fn drain_all(pairs: Vec<Pair>, ways: &mut Mail)
 }
 
 impl Rings {
+    /// The rings that these ports are the ends of: of each block its ports to others, by rising numbers of the
+    /// others. `room` is an empty list with room for half as many pairs as there are ports. Takes no memory.
+    ///
+    /// Takes time linear in the numbers of blocks and of ports.
+    pub fn pair(lists: Vec<Vec<Port>>, room: Vec<Pair>) -> Rings
+        requires mated { AreMated (length lists.items) (map (λ l. l.items) lists.items) }
+        requires empty { vec_len room ≡ 0 }
+        requires room { ports_in (map (λ l. l.items) lists.items) ≤ 2 * vec_capacity room }
+        ensures blocks { result.blocks ≡ length lists.items }
+        ensures sent { (b c : ℕ) → sent_in result b c ≡ sent (map (λ l. l.items) lists.items) b c }
+        ensures taken { (b c : ℕ) → taken_in result b c ≡ taken (map (λ l. l.items) lists.items) b c }
+    {
+        let blocks = lists.len();
+        let mut lists = lists;
+        let mut pairs = room;
+        pair_all(&mut lists, &mut pairs);
+        Rings { blocks, pairs }
+    }
+
     /// Looks at what is left in the rings. Takes no memory.
     pub fn see(&mut self)
         ensures same { self.new ≡ self.old }

@@ -1,4 +1,4 @@
-use Rattle.std.proofs.Common.{◌≡◌, ◌<◌, Vec, Global, length, refl, sym, arith}
+use Rattle.std.proofs.Common.{Vec, Global, length, refl, arith}
 use Rattle.std.proofs.lemmas.Grind.{common_steps}
 use Rattle.block_rings.specs.declared.port.Port.{Port}
 use Rattle.draining.proofs.Popping.{other_some, leads, leads_back, both_out}
