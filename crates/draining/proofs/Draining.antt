@@ -7,7 +7,8 @@ use Rattle.parcel.specs.Soundness.{IsSquare, direction_of}
 use Rattle.parcel.proofs.Ways.{way_same, way_other, square_put}
 use Rattle.block_core.specs.Mails.{room_at}
 use Rattle.draining.specs.Left.{AreEmpty, AreFitting, AreKept, AreLeft}
-use Rattle.draining.specs.Links.{Traffic, Link, RingsView, link_in, left_in, AreLinks, AreDraining, HaveRoom, IsFitting, drained, down, up, sent_in, taken_in}
+use Rattle.draining.specs.Links.{Traffic, Link, RingsView, link_in, left_in, AreLinks, down, up, sent_in, taken_in}
+use Rattle.draining.specs.Draining.{AreDraining, HaveRoom, IsFitting, drained}
 use Rattle.draining.proofs.Leaving.{AnyLeft, link_cases, link_there, link_back, link_off, left_none, rest_is}
 
 no_traffic : (t : Traffic) → Some t ≡ None → ⊥

@@ -1,12 +1,14 @@
 -- What is left in the rings that were looked at, as ways.
 use Rattle.std.proofs.Common.{◌≡◌, ℕ, zero, suc, ◌<◌, true, false, List, [], ◌∷◌, ◌++◌, length, get_or, drop, All, Option, Some, None, refl, sym, ◌∙◌, ap, inl, inr, arith}
 use Rattle.std.proofs.lemmas.Bool.{cases_eq, eq-eqb, ne_eqb}
-use Rattle.std.proofs.lemmas.List.{drop_at}
+use Rattle.std.proofs.lemmas.List.{map-append, drop_at}
 use Rattle.parcel.specs.declared.message.Message.{Message}
 use Rattle.parcel.specs.States.{way_at}
 use Rattle.parcel.specs.Soundness.{IsSquare}
+use Rattle.discharge.specs.declared.letter.Letter.{Letter}
+use Rattle.block_workers.specs.Seeing.{messages}
 use Rattle.draining.specs.Left.{AreLeft, rest_of}
-use Rattle.draining.specs.Links.{Traffic, Link, traffic_of, link_in, left_in, joins, AreLinks, IsSeen, RingsView, sent_in, taken_in}
+use Rattle.draining.specs.Links.{Traffic, Link, traffic_of, link_in, left_in, down, up, joins, AreLinks, IsSeen, RingsView, sent_in, taken_in}
 
 -- ---- tables
 
@@ -28,6 +30,12 @@ table_at (suc n) f (suc i) d low = table_at n (λ j. f (suc j)) i d (omega (arit
 
 pub rest_is : (sent taken left : List Message) → sent ≡ taken ++ left → rest_of sent taken ≡ left
 rest_is sent taken left is = ap (drop (length taken)) is ∙ drop_at taken left (length taken) refl
+
+-- what was put, where what is left was seen
+pub letters_split : (sent taken left : List Letter) → sent ≡ taken ++ left → messages sent ≡ messages taken ++ rest_of (messages sent) (messages taken)
+letters_split sent taken left is =
+    let all : messages sent ≡ messages taken ++ messages left = ap (λ (x : List Letter). messages x) is ∙ map-append (λ (x : Letter). x.message) taken left in
+    all ∙ ap (λ (x : List Message). messages taken ++ x) (sym (rest_is (messages sent) (messages taken) (messages left) all))
 
 joins_not : (l : Link) (b c : ℕ) → (l.first ≡ b → l.second ≡ c → ⊥) → joins l b c ≡ false
 joins_not l b c off = elim (cases_eq b l.first) [
@@ -85,8 +93,8 @@ splits blocks (l ∷ links) are seen b c =
     → (traffic_of (link_in all b c)).sent ≡ (traffic_of (link_in all c b)).taken ++ left_in all b c =
     λ s t left is_s is_t e. rw (is_s, is_t) (e ∙ ap (λ (x : List Message). (traffic_of t).taken ++ x) (sym (rest_is (traffic_of s).sent (traffic_of t).taken left e))) in
     link_cases _ l b c
-    (λ at_b at_c. fits (Some l.of_first) (Some l.of_second) one.down (link_there l links b c at_b at_c) (link_back l links c b are.0 at_b at_c) one.is_down)
-    (λ at_c at_b. fits (Some l.of_second) (Some l.of_first) one.up (link_back l links b c are.0 at_c at_b) (link_there l links c b at_c at_b) one.is_up)
+    (λ at_b at_c. fits (Some l.of_first) (Some l.of_second) (down l) (link_there l links b c at_b at_c) (link_back l links c b are.0 at_b at_c) one.down)
+    (λ at_c at_b. fits (Some l.of_second) (Some l.of_first) (up l) (link_back l links b c are.0 at_c at_b) (link_there l links c b at_c at_b) one.up)
     (λ off_there off_back.
     fits (link_in links b c) (link_in links c b) (left_in links b c) (link_off l links b c off_there off_back) (link_off l links c b off_back off_there)
     (splits blocks links are.3 (λ k d low. seen (suc k) d (omega (arith, low))) b c))

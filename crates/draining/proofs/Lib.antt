@@ -5,3 +5,4 @@ pub mod Draining
 pub mod Pairing
 pub mod Taking
 pub mod Popping
+pub mod Callers

@@ -1,14 +1,11 @@
 -- What is seen of the rings between blocks.
-use Rattle.std.specs.Prelude.{◌≡◌, ◌≢◌, ℕ, ◌+◌, ◌<◌, ◌≤◌, ◌==◌, ◌&&◌, Bool, cond}
-use Rattle.std.specs.Prelude.{List, [], ◌∷◌, ◌++◌, length, map, Option, Some, None}
+use Rattle.std.specs.Prelude.{◌≡◌, ℕ, ◌<◌, ◌==◌, ◌&&◌, Bool, cond, List, [], ◌∷◌, ◌++◌, map}
+use Rattle.std.specs.Prelude.{Option, Some, None}
 use Rattle.parcel.specs.declared.message.Message.{Message}
-use Rattle.parcel.specs.States.{way_at, put_way}
-use Rattle.parcel.specs.Soundness.{IsSquare}
-use Rattle.block_core.specs.Mails.{room_at}
 use Rattle.block_rings.specs.declared.port.Port.{Port}
 use Rattle.block_rings.specs.Ports.{other, put, taken}
 use Rattle.block_workers.specs.Seeing.{messages}
-use Rattle.draining.specs.Left.{AreKept, rest_of}
+use Rattle.draining.specs.Left.{rest_of}
 use Rattle.draining.specs.declared.pair.Pair.{Pair}
 
 -- what was put into a port and taken from it so far
@@ -52,18 +49,12 @@ link_in [] b c = None
 link_in (l ∷ links) b c =
     cond (joins l b c) (Some l.of_first) (cond (joins l c b) (Some l.of_second) (link_in links b c))
 
--- each link is of two blocks below `blocks`, the higher number first, and no two links are of the same blocks
+-- each link is of two blocks below `blocks`, the higher number first, and no two are of the same blocks
 abbrev pub AreLinks : ℕ → List Link → Type 0
 AreLinks blocks [] = Unit {0}
 AreLinks blocks (l ∷ links) =
-    (l.second < l.first) × (l.first < blocks) × (link_in links l.first l.second ≡ None) × AreLinks blocks links
-
--- what is left in the rings of a link: from the first block to the second, and back
-pub record IsSeen (l : Link) : Type 0 where
-  pub down : List Message
-  pub up : List Message
-  pub is_down : l.of_first.sent ≡ l.of_second.taken ++ down
-  pub is_up : l.of_second.sent ≡ l.of_first.taken ++ up
+    (l.second < l.first) × (l.first < blocks) × (link_in links l.first l.second ≡ None)
+    × AreLinks blocks links
 
 -- what is left in the ring from the first block to the second, and in that back
 abbrev pub down : Link → List Message
@@ -72,34 +63,14 @@ down l = rest_of l.of_first.sent l.of_second.taken
 abbrev pub up : Link → List Message
 up l = rest_of l.of_second.sent l.of_first.taken
 
--- the ways have room for what is left in the rings of a link, and keep it
-pub record IsFitting (rooms : List (List ℕ)) (ways : List (List (List Message))) (l : Link) : Type 0 where
-  pub room_down : length (way_at ways l.first l.second) + length (down l) ≤ room_at rooms l.first l.second
-  pub room_up : length (way_at ways l.second l.first) + length (up l) ≤ room_at rooms l.second l.first
-  pub arcs_down : AreKept (down l)
-  pub arcs_up : AreKept (up l)
-
--- what is left in the rings of a link goes to the ends of the ways
-abbrev pub drained : Link → List (List (List Message)) → List (List (List Message))
-drained l ways =
-    put_way (put_way ways l.first l.second (way_at ways l.first l.second ++ down l)) l.second l.first
-    (way_at ways l.second l.first ++ up l)
+-- in the rings of a link, what was put is what was taken, followed by what is left
+pub record IsSeen (l : Link) : Type 0 where
+  pub down : l.of_first.sent ≡ l.of_second.taken ++ down l
+  pub up : l.of_second.sent ≡ l.of_first.taken ++ up l
 
 -- what is left in the ring from block b to block c
 abbrev pub left_in : List Link → ℕ → ℕ → List Message
 left_in links b c = rest_of (traffic_of (link_in links b c)).sent (traffic_of (link_in links c b)).taken
-
--- the ways have room for what is left in the rings, and keep it
-pub record HaveRoom (blocks : ℕ) (rooms : List (List ℕ)) (links : List Link) : Type 0 where
-  pub room : (b c : ℕ) → b < blocks → c < blocks → b ≢ c → length (left_in links b c) ≤ room_at rooms b c
-  pub arcs : (b c : ℕ) → b < blocks → c < blocks → b ≢ c → AreKept (left_in links b c)
-
--- what was left in the rings is on the ways, but for what is left in the rings of these links
-pub record AreDraining (blocks : ℕ) (first links : List Link) (ways : List (List (List Message)))
-    : Type 0 where
-  pub square : IsSquare blocks ways
-  pub linked : AreLinks blocks links
-  pub whole : (b c : ℕ) → b < blocks → c < blocks → way_at ways b c ++ left_in links b c ≡ left_in first b c
 
 -- the rings between so many blocks
 pub record RingsView : Type 0 where

@@ -17,7 +17,7 @@ taken lists b c = (seen (slice_index_or lists b [])).taken c
 abbrev pub ports_in : List (List Port) → ℕ
 ports_in lists = sum_by (λ (ports : List Port). length ports) lists
 
--- of each block the ports to others, by rising numbers of the others: each port belongs to one that leads back
+-- of each block the ports to others, by rising numbers of the others: each has one that leads back
 pub record AreMated (blocks : ℕ) (lists : List (List Port)) : Type 0 where
   pub len : length lists ≡ blocks
   pub rising : (b : ℕ) → AreRising blocks (slice_index_or lists b [])

@@ -42,7 +42,8 @@ pub record ArePaired (blocks : ℕ) (first lists : List (List Port)) (links : Li
       → (option_traffic (port_to first b c) ≡ Some t) × (port_to lists b c ≡ None)
   pub rest : (b c : ℕ) → link_in links b c ≡ None → port_to lists b c ≡ port_to first b c
 
--- what was paired of the first ports before is paired still, and the lists and links say so
+-- ports that were paired still are, and what is left of the lists is what the links leave
 abbrev pub Pairs : ℕ → List (List Port) → List Link → List (List Port) → List Link → Type 0
 Pairs blocks lists links new_lists new_links =
-    (first : List (List Port)) → ArePaired blocks first lists links → ArePaired blocks first new_lists new_links
+    (first : List (List Port)) → ArePaired blocks first lists links
+    → ArePaired blocks first new_lists new_links

@@ -1,5 +1,5 @@
-ghost use Rattle.std.specs.Prelude.{◌≡◌, ◌+◌, ◌∷◌, ◌++◌, ◌<◌, ◌≤◌, [], List, length, map, slice_index_or, vec_len, vec_capacity};
-ghost use Rattle.block_rings.specs.declared.port.Port.{Port as PortFields};
+ghost use Rattle.std.specs.Prelude.{◌≡◌, ◌+◌, ◌<◌, [], ◌∷◌, ◌++◌, length, map};
+ghost use Rattle.std.specs.Prelude.{slice_index_or, vec_len, vec_capacity};
 ghost use Rattle.draining.specs.declared.pair.Pair.{Pair as PairFields};
 ghost use Rattle.draining.specs.Links.{links_of};
 ghost use Rattle.draining.specs.Pairing.{IsReady, IsTakenOut, Pairs};

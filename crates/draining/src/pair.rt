@@ -1,4 +1,4 @@
-ghost use Rattle.std.specs.Prelude.{◌≡◌, ◌<◌, ◌≤◌, ◌+◌, ◌++◌, [], length, slice_index_or};
+ghost use Rattle.std.specs.Prelude.{◌≡◌, ◌+◌, ◌<◌, ◌≤◌, ◌++◌, length};
 ghost use Rattle.parcel.specs.States.{way_at, put_way};
 ghost use Rattle.parcel.specs.Soundness.{IsSquare};
 ghost use Rattle.block_core.specs.Mails.{room_at};
@@ -18,7 +18,8 @@ pub struct Pair {
     ghost back: { LeadsTo second first },
 }
 
-/// What is left in the ring from one port to another goes to the end of a way that has room. Takes no memory.
+/// What is left in the ring from one port to another goes to the end of the way from block b to block c, which
+/// has room. Takes no memory.
 fn move_left(from: &mut Port, to: &mut Port, ways: &mut Mail, b: usize, c: usize)
     requires joined { LeadsTo from.old to.old }
     requires square { IsSquare (length ways.old.messages) ways.old.messages }
@@ -41,7 +42,8 @@ fn move_left(from: &mut Port, to: &mut Port, ways: &mut Mail, b: usize, c: usize
 }
 
 impl Pair {
-    ghost use Rattle.draining.specs.Links.{link, drained, IsFitting, IsSeen};
+    ghost use Rattle.draining.specs.Links.{IsSeen, link};
+    ghost use Rattle.draining.specs.Draining.{IsFitting, drained};
 
     /// Looks at what is left in both rings. Takes no memory.
     pub(crate) fn see(&mut self)

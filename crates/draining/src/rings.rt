@@ -1,8 +1,9 @@
 ghost use Rattle.std.specs.Prelude.{◌≡◌, ◌≤◌, ◌*◌, ℕ, [], All, length, map, vec_len, vec_capacity};
-ghost use Rattle.draining.specs.Mated.{AreMated, ports_in, sent, taken};
-ghost use Rattle.draining.specs.Left.{AreLeft, AreFitting, AreEmpty};
-ghost use Rattle.draining.specs.Links.{links_of, AreDraining, AreLinks, HaveRoom, IsSeen, sent_in, taken_in};
 ghost use Rattle.parcel.specs.Soundness.{IsSquare};
+ghost use Rattle.draining.specs.Mated.{AreMated, ports_in, sent, taken};
+ghost use Rattle.draining.specs.Left.{AreEmpty, AreFitting, AreLeft};
+ghost use Rattle.draining.specs.Links.{AreLinks, IsSeen, links_of, sent_in, taken_in};
+ghost use Rattle.draining.specs.Draining.{AreDraining, HaveRoom};
 
 use crate::matching::pair_all;
 use crate::pair::Pair;
@@ -52,8 +53,9 @@ fn drain_all(pairs: Vec<Pair>, ways: &mut Mail)
 }
 
 impl Rings {
-    /// The rings that these ports are the ends of: of each block its ports to others, by rising numbers of the
-    /// others. `room` is an empty list with room for half as many pairs as there are ports. Takes no memory.
+    /// The rings that these ports are the ends of: of each block its ports to others, by rising numbers of
+    /// the others. `room` is an empty list with room for half as many pairs as there are ports. Takes no
+    /// memory.
     ///
     /// Takes time linear in the numbers of blocks and of ports.
     pub fn pair(lists: Vec<Vec<Port>>, room: Vec<Pair>) -> Rings
@@ -71,7 +73,7 @@ impl Rings {
         Rings { blocks, pairs }
     }
 
-    /// Looks at what is left in the rings. Takes no memory.
+    /// Looks at what is left in the rings: what was put is what was taken, followed by that. Takes no memory.
     pub fn see(&mut self)
         ensures same { self.new ≡ self.old }
         ensures left { (left : _) × AreLeft self.old.blocks (sent_in self.old) (taken_in self.old) left }
@@ -79,7 +81,7 @@ impl Rings {
         see_all(&mut self.pairs);
     }
 
-    /// What is left in the rings goes to the ways, which are empty. Takes no memory.
+    /// What is left in the rings goes to the ways, which are empty and have room for it. Takes no memory.
     pub fn drain(mut self, ways: &mut Mail)
         requires square { IsSquare self.blocks ways.old.messages }
         requires empty { AreEmpty self.blocks ways.old.messages }

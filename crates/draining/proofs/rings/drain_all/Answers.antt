@@ -2,7 +2,8 @@ use Rattle.std.proofs.Common.{List, length, map, sym, ◌∙◌, subst}
 use Rattle.std.specs.Vec.Iter.{into_iter_items}
 use Rattle.parcel.specs.declared.message.Message.{Message}
 use Rattle.draining.specs.declared.pair.Pair.{Pair}
-use Rattle.draining.specs.Links.{link, AreDraining, HaveRoom}
+use Rattle.draining.specs.Links.{link}
+use Rattle.draining.specs.Draining.{AreDraining, HaveRoom}
 use Rattle.draining.proofs.Draining.{fitting, draining_more}
 use Rattle.draining.proofs.rings.drain_all.Goals as goal
 

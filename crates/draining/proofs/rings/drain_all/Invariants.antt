@@ -1,6 +1,7 @@
 use Rattle.std.proofs.Common.{◌≡◌, length, map}
 use Rattle.std.specs.Vec.Iter.{into_iter_items}
-use Rattle.draining.specs.Links.{link, AreDraining}
+use Rattle.draining.specs.Links.{link}
+use Rattle.draining.specs.Draining.{AreDraining}
 use Rattle.draining.proofs.rings.drain_all.Given as goal
 
 abbrev pub invariant-loop-pair : goal.invariant-loop-pair

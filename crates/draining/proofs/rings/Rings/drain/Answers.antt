@@ -1,5 +1,6 @@
 use Rattle.std.proofs.Common.{ℕ, [], length, sym, ◌∙◌, subst}
-use Rattle.draining.specs.Links.{RingsView, AreDraining, AreLinks, HaveRoom}
+use Rattle.draining.specs.Links.{RingsView, AreLinks}
+use Rattle.draining.specs.Draining.{AreDraining, HaveRoom}
 use Rattle.draining.proofs.Draining.{rooms_for, all_left}
 use Rattle.draining.proofs.rings.Rings.drain.Goals as goal
 
