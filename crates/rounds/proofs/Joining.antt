@@ -1,13 +1,13 @@
 -- Two blocks get a port to one another more.
-use Rattle.std.proofs.Common.{◌≡◌, ℕ, zero, suc, ◌+◌, ◌<◌, ◌≤◌, Bool, true, false, cond, eqb, ◌||◌, List, [], ◌∷◌, ◌++◌, length, map, set, replicate, get_or, slice_index, Option, Some, None, is_some, refl, sym, ◌∙◌, ap, subst, inl, inr, arith, get_or-set_same, get_or-set_other}
+use Rattle.std.proofs.Common.{◌⊎◌, ◌≢◌, ◌≡◌, ℕ, zero, suc, ◌+◌, ◌<◌, ◌≤◌, Bool, true, false, cond, eqb, ◌||◌, List, [], ◌∷◌, ◌++◌, length, map, set, replicate, get_or, slice_index, Option, Some, None, is_some, refl, sym, ◌∙◌, ap, subst, inl, inr, arith, get_or-set_same, get_or-set_other}
 use Rattle.std.proofs.Math.Seq.{get_or-append_seam}
-use Rattle.std.proofs.lemmas.Bool.{cases_eq, cases_lt, eq-eqb, ne_eqb}
+use Rattle.std.proofs.lemmas.Bool.{or_cases, cases_eq, cases_lt, eq-eqb, ne_eqb}
 use Rattle.std.proofs.lemmas.List.{length-set, length-replicate, get_or-map}
 use Rattle.block_net.specs.Views.{BlockView, border_in}
 use Rattle.block_rings.specs.declared.port.Port.{Port}
 use Rattle.block_rings.specs.Ports.{other, IsNewPort}
 use Rattle.block_workers.specs.Seeing.{others, read_at, AreRising}
-use Rattle.rounds.specs.Joined.{port_to, IsPaired, AreJoined}
+use Rattle.rounds.specs.Joined.{port_to, IsPaired, Leads, AreJoined}
 use Rattle.rounds.specs.Joining.{HasPair, AreBegun, AreScanned, flag}
 use Rattle.rounds.proofs.Pushing.{each_more, rising_more, read_push}
 
@@ -38,6 +38,10 @@ or_second : (a c : Bool) → c ≡ true → a || c ≡ true
 or_second true c e = refl
 or_second false c e = e
 
+or_turned : (a c : Bool) → a || c ≡ true → c || a ≡ true
+or_turned true c e = or_second c true refl
+or_turned false c e = or_first c false e
+
 nothing : (p : Port) → None ≡ Some p → ⊥
 nothing p e = cc
 
@@ -63,6 +67,7 @@ begun_none ring n rows lists none =
       low_beyond = λ x k lt h g. let e = ap length (empty x) in absurd (omega (arith, lt, e));
       fresh = λ x y p is. absurd (no_port x y p is);
       paired = λ x y p is. absurd (no_port x y p is);
+      only = λ x y p is. absurd (no_port x y p is);
       led_before = λ x y h g f e. absurd (omega (arith, h));
       led_here = λ y h g f e. absurd (omega (arith, h, g));
     }
@@ -76,6 +81,7 @@ begun_next ring n b c rows lists all was = record {
   low_beyond = λ x k lt h g. omega (arith, was.low_above x k lt (omega (arith, h)));
   fresh = was.fresh;
   paired = was.paired;
+  only = was.only;
   led_before = λ x y h g f e. elim (cases_lt x b) [
     | inl low ↦ was.led_before x y low g f e
     | inr high ↦
@@ -99,6 +105,7 @@ begun_pass ring n b c rows lists off was = record {
   low_beyond = λ x k lt h g. was.low_beyond x k lt h (omega (arith, g));
   fresh = was.fresh;
   paired = was.paired;
+  only = was.only;
   led_before = was.led_before;
   led_here = λ y h g f e. elim (cases_lt y c) [
     | inl low ↦ was.led_here y h low f e
@@ -108,6 +115,13 @@ begun_pass ring n b c rows lists off was = record {
   ];
 }
 
+flag_leads : (cells : List BlockView) (rows : List (List Bool)) → AreScanned cells rows → (x y : ℕ) (d e : BlockView) → x < length cells → y < length cells
+    → flag rows x y || flag rows y x ≡ true → Leads (get_or cells x d) y ⊎ Leads (get_or cells y e) x
+flag_leads cells rows scan x y d e low_x low_y on = elim (or_cases (flag rows x y) (flag rows y x) on) [
+  | inl there ↦ inl ((scan.each x d low_x).only y there)
+  | inr back ↦ inr ((scan.each y e low_y).only x back)
+]
+
 pub all_joined : (ring n b c : ℕ) (cells : List BlockView) (rows : List (List Bool)) (lists : List (List Port)) → length cells ≡ n → n ≤ b
     → AreScanned cells rows → AreBegun ring n b c rows lists → AreJoined ring cells lists
 all_joined ring n b c cells rows lists is all scan was = record {
@@ -115,6 +129,11 @@ all_joined ring n b c cells rows lists is all scan was = record {
   rising = λ x. subst (λ m. AreRising m (get_or lists x [])) (sym is) (was.rising x);
   fresh = was.fresh;
   paired = was.paired;
+  only = λ x y p d e is_some.
+      let o = was.only x y p is_some in
+      let low_x : x < length cells = (let l = o.1 in omega (arith, l, is)) in
+      let low_y : y < length cells = (let l = o.2 in omega (arith, l, is)) in
+      (o.0, flag_leads cells rows scan x y d e low_x low_y o.3);
   led = λ x j d low at below off.
       let y : ℕ = (border_in (get_or cells x d) j).to in
       let set : flag rows x y ≡ true = (scan.each x d low).set j at below in
@@ -129,7 +148,7 @@ all_joined ring n b c cells rows lists is all scan was = record {
 
 -- ---- one pair more
 
-module _ (ring n b c : ℕ) (rows : List (List Bool)) (old new : List (List Port)) (order : b < c) (below : c < n) (was : AreBegun ring n b c rows old) (h : HasPair ring b c old new) where
+module _ (ring n b c : ℕ) (rows : List (List Bool)) (old new : List (List Port)) (order : b < c) (below : c < n) (on : flag rows b c || flag rows c b ≡ true) (was : AreBegun ring n b c rows old) (h : HasPair ring b c old new) where
   abbrev p : Port
   p = h.first
 
@@ -263,6 +282,13 @@ module _ (ring n b c : ℕ) (rows : List (List Bool)) (old new : List (List Port
       let pair = was.paired x y r e in
       record { mate = pair.mate; is = miss y x (λ yb xc. o2 xc yb) (λ yc xb. o1 xb yc) ∙ pair.is; there = pair.there; back = pair.back })
 
+  new_only : (x y : ℕ) (r : Port) → port_to new x y ≡ Some r → (x ≢ y) × (x < n) × (y < n) × (flag rows x y || flag rows y x ≡ true)
+  new_only =
+      ports_case (λ x y o. (r : Port) → o ≡ Some r → (x ≢ y) × (x < n) × (y < n) × (flag rows x y || flag rows y x ≡ true))
+      (λ r e. ((λ s. absurd (omega (arith, order, s))), omega (arith, order, below), below, on))
+      (λ r e. ((λ s. absurd (omega (arith, order, s))), below, omega (arith, order, below), or_turned (flag rows b c) (flag rows c b) on))
+      (λ x y o1 o2. was.only x y)
+
   new_led_before : (x y : ℕ) → x < b → x < y → y < n → flag rows x y || flag rows y x ≡ true → is_some (port_to new x y) ≡ true
   new_led_before =
       ports_case (λ x y o. x < b → x < y → y < n → flag rows x y || flag rows y x ≡ true → is_some o ≡ true)
@@ -288,6 +314,7 @@ module _ (ring n b c : ℕ) (rows : List (List Bool)) (old new : List (List Port
     low_beyond = new_low_beyond;
     fresh = new_fresh;
     paired = new_paired;
+    only = new_only;
     led_before = new_led_before;
     led_here = new_led_here;
   }

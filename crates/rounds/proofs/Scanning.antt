@@ -1,12 +1,34 @@
 -- Flags of the blocks that directions lead to.
-use Rattle.std.proofs.Common.{◌≡◌, ℕ, zero, suc, ◌+◌, ◌<◌, Bool, List, [], ◌∷◌, ◌++◌, length, get_or, refl, sym, ◌∙◌, ap, subst, inl, inr, arith}
+use Rattle.std.proofs.Common.{◌≡◌, ℕ, zero, suc, ◌+◌, ◌<◌, Bool, false, true, List, [], ◌∷◌, ◌++◌, length, replicate, set, get_or, get_or-set_other, refl, sym, ◌∙◌, ap, subst, inl, inr, arith}
 use Rattle.std.proofs.Math.Seq.{get_or-append_seam}
 use Rattle.std.proofs.lemmas.Bool.{cases_eq}
 use Rattle.std.proofs.lemmas.List.{get_or_append_left}
-use Rattle.block_net.specs.Views.{BlockView}
+use Rattle.block_net.specs.Views.{BlockView, border_in}
 use Rattle.rounds.specs.Joining.{AreScanned, IsScanned}
 
-any_default : {X : Type 0} (xs : List X) (k : ℕ) (d e : X) → k < length xs → get_or xs k d ≡ get_or xs k e
+-- one of the first so many directions of the block leads to block c
+pub record LeadsBefore (block : BlockView) (j c : ℕ) : Type 0 where
+  pub place : ℕ
+  pub below : place < j
+  pub is : (border_in block place).to ≡ c
+
+pub none_set : (n c : ℕ) → get_or (replicate n false) c false ≡ true → ⊥
+none_set zero zero e = cc
+none_set zero (suc c) e = cc
+none_set (suc n) zero e = cc
+none_set (suc n) (suc c) e = none_set n c e
+
+pub leads_later : (block : BlockView) (j c : ℕ) → LeadsBefore block j c → LeadsBefore block (j + 1) c
+leads_later block j c was = record { place = was.place; below = omega (arith, was.below); is = was.is }
+
+pub sets_one : (block : BlockView) (flags : List Bool) (j : ℕ) → ((c : ℕ) → get_or flags c false ≡ true → LeadsBefore block j c)
+    → (c : ℕ) → get_or (set flags (border_in block j).to true) c false ≡ true → LeadsBefore block (j + 1) c
+sets_one block flags j was c on = elim (cases_eq c (border_in block j).to) [
+  | inl is ↦ record { place = j; below = omega arith; is = sym is }
+  | inr off ↦ leads_later block j c (was c (sym (get_or-set_other flags (border_in block j).to c true false off) ∙ on))
+]
+
+pub any_default : {X : Type 0} (xs : List X) (k : ℕ) (d e : X) → k < length xs → get_or xs k d ≡ get_or xs k e
 any_default [] k d e low = absurd (omega (arith, low))
 any_default (x ∷ xs) zero d e low = refl
 any_default (x ∷ xs) (suc k) d e low = any_default xs k d e (omega (arith, low))

@@ -1,11 +1,11 @@
 -- Pairs of blocks joined one after another.
-use Rattle.std.specs.Prelude.{◌≡◌, ℕ, ◌<◌, ◌≤◌, Bool, true, false, ◌||◌, List, [], ◌∷◌, ◌++◌, length}
+use Rattle.std.specs.Prelude.{◌≡◌, ◌≢◌, ℕ, ◌<◌, ◌≤◌, Bool, true, false, ◌||◌, List, [], ◌∷◌, ◌++◌, length}
 use Rattle.std.specs.Prelude.{Some, is_some, slice_set, slice_index, slice_index_or}
 use Rattle.block_net.specs.Views.{BlockView, border_in}
 use Rattle.block_rings.specs.declared.port.Port.{Port}
 use Rattle.block_rings.specs.Ports.{IsNewPort, LeadsTo}
 use Rattle.block_workers.specs.Seeing.{others, AreRising}
-use Rattle.rounds.specs.Joined.{port_to, IsPaired}
+use Rattle.rounds.specs.Joined.{port_to, IsPaired, Leads}
 
 -- blocks b and c have a port to one another more, the ends of new rings
 pub record HasPair (ring b c : ℕ) (old new : List (List Port)) : Type 0 where
@@ -23,11 +23,12 @@ pub record HasPair (ring b c : ℕ) (old new : List (List Port)) : Type 0 where
 abbrev pub flag : List (List Bool) → ℕ → ℕ → Bool
 flag rows b c = slice_index_or (slice_index_or rows b []) c false
 
--- a flag for each block below `blocks`, set where a direction of the block leads to it
+-- a flag for each block below `blocks`, set just where a direction of the block leads to it
 pub record IsScanned (blocks : ℕ) (block : BlockView) (flags : List Bool) : Type 0 where
   pub len : length flags ≡ blocks
   pub set : (j : ℕ) → j < length block.borders → (border_in block j).to < blocks
       → slice_index_or flags (border_in block j).to false ≡ true
+  pub only : (c : ℕ) → slice_index_or flags c false ≡ true → Leads block c
 
 -- as many rows as blocks, of as many flags
 pub record AreSquare (blocks : ℕ) (rows : List (List Bool)) : Type 0 where
@@ -41,7 +42,7 @@ pub record AreScanned (cells : List BlockView) (rows : List (List Bool)) : Type 
       → IsScanned (length cells) (slice_index_or cells b d) (slice_index_or rows b [])
 
 -- of the pairs of blocks, by rising first and then second number, those before (b, c) have ports to one another
--- where a flag says so
+-- just where a flag says so
 pub record AreBegun (ring blocks b c : ℕ) (rows : List (List Bool)) (lists : List (List Port)) : Type 0 where
   pub len : length lists ≡ blocks
   pub rising : (x : ℕ) → AreRising blocks (slice_index_or lists x [])
@@ -53,6 +54,8 @@ pub record AreBegun (ring blocks b c : ℕ) (rows : List (List Bool)) (lists : L
       → slice_index (others (slice_index_or lists x [])) k < b
   pub fresh : (x y : ℕ) (p : Port) → port_to lists x y ≡ Some p → IsNewPort y ring p
   pub paired : (x y : ℕ) (p : Port) → port_to lists x y ≡ Some p → IsPaired p (port_to lists y x)
+  pub only : (x y : ℕ) (p : Port) → port_to lists x y ≡ Some p
+      → (x ≢ y) × (x < blocks) × (y < blocks) × (flag rows x y || flag rows y x ≡ true)
   pub led_before : (x y : ℕ) → x < b → x < y → y < blocks → flag rows x y || flag rows y x ≡ true
       → is_some (port_to lists x y) ≡ true
   pub led_here : (y : ℕ) → b < y → y < c → y < blocks → flag rows b y || flag rows y b ≡ true

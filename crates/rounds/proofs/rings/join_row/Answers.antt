@@ -1,4 +1,4 @@
-use Rattle.std.proofs.Common.{◌≡◌, Bool, false, ◌<◌, ◌≤◌, length, map, sym, ◌∙◌, arith, Vec, Global}
+use Rattle.std.proofs.Common.{◌≡◌, Bool, true, false, ◌<◌, ◌≤◌, length, map, sym, ◌∙◌, arith, Vec, Global}
 use Rattle.std.proofs.lemmas.Grind.{common_steps}
 use Rattle.rounds.proofs.Joining.{begun_more, begun_pass, begun_next}
 use Rattle.rounds.proofs.rings.join_row.Goals as goal
@@ -12,7 +12,8 @@ loop-c-preserved c =
     let below : c.loop-c.c < n = grind (arith, common_steps) in
     elim c.if-are_linked.branch [
       | then-are_linked+in_ok-join_two w ↦
-          rw w.lists-is (begun_more c.args.ring n c.args.b c.loop-c.c rows _ _ order below c.loop-c.invariant w.in_ok-join_two.ensures)
+          let yes : c.are_linked.result ≡ true = (let t = w.if-are_linked.true in grind (arith, common_steps)) in
+          rw w.lists-is (begun_more c.args.ring n c.args.b c.loop-c.c rows _ _ order below (sym c.are_linked.ensures ∙ yes) c.loop-c.invariant w.in_ok-join_two.ensures)
       | else-are_linked w ↦
           let no : c.are_linked.result ≡ false = (let f = w.if-are_linked.false in grind (arith, common_steps)) in
           rw w.lists-is (begun_pass c.args.ring n c.args.b c.loop-c.c rows _ (sym c.are_linked.ensures ∙ no) c.loop-c.invariant)

@@ -1,0 +1,52 @@
+-- From the pieces of a quiet state to those after a round.
+use Rattle.std.proofs.Common.{◌≡◌, ℕ, ◌<◌, List, [], refl, sym, subst, arith}
+use Rattle.parcel.specs.States.{State, way_at}
+use Rattle.parcel.specs.Events.{IsQuiet}
+use Rattle.parcel.specs.Soundness.{IsSound, IsSquare}
+use Rattle.round_laws.specs.Rounds.{RoundOf}
+use Rattle.block_net.specs.Views.{BlockView}
+use Rattle.block_net.specs.Whole.{Whole}
+use Rattle.block_core.specs.Views.{IsLaid, blocks_in, state_of}
+use Rattle.block_core.specs.Mails.{IsHeld}
+use Rattle.seat_laws.specs.Rounds.{Ways, AreBack, IsRound, with_blocks, quiet_state, state_after}
+use Rattle.seat_laws.proofs.Quiet.{quiet_is_start, round_is_held}
+use Rattle.seat_laws.proofs.Rounds.{seats_make_round}
+use Rattle.draining.specs.Links.{RingsView, sent_in, taken_in}
+use Rattle.draining.specs.Left.{AreLeft, AreFitting}
+use Rattle.running.specs.Together.{HaveRun}
+use Rattle.running.proofs.Fits.{round_fits}
+
+module _ (w : Whole) (got : ℕ) (ways : Ways) (rooms : List (List ℕ)) (new : List BlockView) (rings : RingsView) (laid : IsLaid w) (held : IsHeld rooms (state_of (blocks_in w) ways got)) (quiet : IsQuiet (state_of (blocks_in w) ways got)) (run : HaveRun w.blocks new rings) where
+  abbrev old : State
+  old = state_of (blocks_in w) ways got
+
+  pub square : IsSquare rings.blocks ways
+  square = subst (λ n. IsSquare n ways) (sym run.blocks) held.sound.sized.ways
+
+  pub empty : (b c : ℕ) → b < rings.blocks → c < rings.blocks → way_at ways b c ≡ []
+  empty b c lb lc = quiet b c (omega (arith, lb, run.blocks)) (omega (arith, lc, run.blocks))
+
+  start : old ≡ quiet_state w got
+  start = quiet_is_start w got ways held.sound quiet
+
+  back : (left : Ways) → AreLeft rings.blocks (sent_in rings) (taken_in rings) left → AreBack w got new left
+  back left is = run.back w got left refl laid is
+
+  rounded : (left : Ways) (is : AreLeft rings.blocks (sent_in rings) (taken_in rings) left) → IsRound w got new left (back left is).steps
+  rounded left is = seats_make_round w got new left laid (subst IsSound start held.sound) (back left is)
+
+  pub fits : (left : Ways) → AreLeft rings.blocks (sent_in rings) (taken_in rings) left → AreFitting rings.blocks rooms left
+  fits left is = subst (λ n. AreFitting n rooms left) (sym run.blocks) (round_fits w got new left (back left is).steps rooms held.room (rounded left is))
+
+  pub laid_after : (left : Ways) → AreLeft rings.blocks (sent_in rings) (taken_in rings) left → IsLaid (with_blocks w new)
+  laid_after left is = (rounded left is).laid
+
+  -- with the rooms that the ways have then
+  pub held_after : (left : Ways) (kept : List (List ℕ)) → AreLeft rings.blocks (sent_in rings) (taken_in rings) left → kept ≡ rooms → IsHeld kept (state_after w new left)
+  held_after left kept is same =
+      subst (λ r. IsHeld r (state_after w new left)) (sym same) (round_is_held w got new left (back left is).steps rooms held.room (rounded left is)).0
+
+  -- to the state that is put together
+  pub round_after : (left : Ways) (t : State) → AreLeft rings.blocks (sent_in rings) (taken_in rings) left → t ≡ state_after w new left → RoundOf old t
+  round_after left t is same =
+      subst (λ u. RoundOf old u) (sym same) (subst (λ s. RoundOf s (state_after w new left)) (sym start) (rounded left is).round)

@@ -1,0 +1,25 @@
+-- The pieces of a state, before a round and after it.
+use Rattle.std.specs.Prelude.{◌≡◌, ℕ, List, length}
+use Rattle.flow_network.specs.Cut.{Network}
+use Rattle.parcel.specs.States.{State}
+use Rattle.block_net.specs.Views.{BlockView}
+use Rattle.block_net.specs.Whole.{Whole}
+use Rattle.block_net.specs.declared.parts.Parts.{Parts}
+use Rattle.block_core.specs.Views.{IsLaid, whole_in, blocks_in, state_of}
+use Rattle.seat_laws.specs.Rounds.{Ways, AreBack, lacking}
+use Rattle.draining.specs.Links.{RingsView, sent_in, taken_in}
+use Rattle.draining.specs.Left.{AreLeft}
+
+-- the blocks with their places
+abbrev pub whole_with : Network → Parts → Whole
+whole_with net parts = whole_in net parts.firsts.items parts.slots.items parts.blocks.items
+
+-- the state that they show with the messages on the way: the sink got what the rooms lack
+abbrev pub state_with : Network → Parts → Ways → State
+state_with net parts ways = state_of (blocks_in (whole_with net parts)) ways (lacking (whole_with net parts))
+
+-- the blocks worked, and what they left is in the rings: with it on the way they are back
+pub record HaveRun (old new : List BlockView) (rings : RingsView) : Type 0 where
+  pub blocks : rings.blocks ≡ length old
+  pub back : (w : Whole) (got : ℕ) (left : Ways) → w.blocks ≡ old → IsLaid w
+      → AreLeft rings.blocks (sent_in rings) (taken_in rings) left → AreBack w got new left

@@ -1,0 +1,74 @@
+ghost use Rattle.std.specs.Prelude.{◌≡◌, ◌<◌, ◌≤◌, IfOk, vec_len};
+ghost use Rattle.block_net.specs.Limits.{block_limit};
+ghost use Rattle.worker_options.specs.Ranges.{AreInRange};
+ghost use Rattle.rounds.specs.Joined.{AreJoined};
+ghost use Rattle.running.specs.Seated.{AreSeated, AreSmall, ends_of, ports_of};
+ghost use Rattle.running.specs.Together.{HaveRun};
+
+use crate::RoundError;
+use crate::seats::seats_of;
+use crate::space::{Came, Space, gathered};
+use crate::work::worked;
+use block_net::Cells;
+use block_workers::Seat;
+use rounds::join_all;
+use std::alloc::{AllocError, Global};
+use std::sync::Wait;
+use std::sync::ledger::Blank;
+use std::thread::Threads;
+use turn_book::{Job, TurnBook};
+use worker_options::{Gate, Options};
+
+/// The blocks before their first turn, with rings between them. The only error is that memory runs out.
+fn seated(alloc: Global, blocks: Vec<Cells>, ring: usize) -> Result<Vec<Seat>, AllocError>
+    requires few { vec_len blocks ≤ block_limit }
+    requires small { AreSmall blocks.items }
+    ensures seated { IfOk result (λ seats. AreSeated blocks.items (ends_of seats.items) seats.items) }
+    ensures joined { IfOk result (λ seats. AreJoined ring blocks.items (ports_of (ends_of seats.items))) }
+{
+    let ends = join_all(alloc, blocks.as_slice(), ring)?;
+    seats_of(alloc, blocks, ends)
+}
+
+/// The blocks are moved to workers, which do their turns, and come back. All growths come before the first
+/// worker starts. Each blank becomes one of the ledgers of the turns.
+pub(crate) fn run_blocks<J: Job + Sync, R: Threads + Wait + Sync, G: Gate>(
+    rt: &R,
+    alloc: Global,
+    blocks: Vec<Cells>,
+    options: &Options,
+    gate: &G,
+    budget: Blank,
+    drawn: Blank,
+) -> Result<Came, RoundError>
+    requires some { 0 < vec_len blocks }
+    requires few { vec_len blocks ≤ block_limit }
+    requires small { AreSmall blocks.items }
+    requires options { AreInRange options.now }
+    requires budget { (budget.name ≡ J.Budget.name) × (budget.parts ≡ J.Budget.parts) }
+    requires parts { 0 < budget.parts }
+    requires drawn { (drawn.name ≡ J.Drawn.name) × (drawn.parts ≡ J.Drawn.parts) }
+    requires threads { drawn.parts ≡ options.now.threads }
+    ensures { IfOk result (λ came. HaveRun blocks.items came.blocks.items came.rings) }
+{
+    let count = blocks.len();
+    let space = Space::new(alloc, count)?;
+    let seats = seated(alloc, blocks, options.ring as usize)?;
+    let (book, _whole, share) = TurnBook::<J>::new(
+        alloc,
+        budget,
+        drawn,
+        options.turns,
+        count as u32,
+    )?;
+    let back = worked(
+        rt,
+        alloc,
+        seats,
+        options.threads as usize,
+        book,
+        share,
+        gate,
+    )?;
+    Ok(gathered(back, space))
+}

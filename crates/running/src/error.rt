@@ -1,0 +1,26 @@
+use block_workers::CrewError;
+use std::alloc::AllocError;
+
+/// Why no round came about.
+#[derive(Clone, Copy, PartialEq, Eq, Debug)]
+pub enum RoundError {
+    /// Memory ran out.
+    OutOfMemory,
+    /// A worker was refused by the system. Those that had started were joined.
+    Workers,
+}
+
+impl From<AllocError> for RoundError {
+    fn from(_: AllocError) -> RoundError {
+        RoundError::OutOfMemory
+    }
+}
+
+impl From<CrewError> for RoundError {
+    fn from(error: CrewError) -> RoundError {
+        match error {
+            CrewError::OutOfMemory => RoundError::OutOfMemory,
+            CrewError::Workers => RoundError::Workers,
+        }
+    }
+}
