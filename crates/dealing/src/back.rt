@@ -72,9 +72,9 @@ fn gather(hands: &mut Vec<IntoIter<Seat>>, seats: &mut Vec<Seat>, count: usize)
     }
 }
 
-/// The seats that come back from workers to whom they were dealt, in their order again: the first of the first
-/// worker, and so on, and again from the first. The share gets the workers' parts, and what their seats drew.
-/// Takes no memory.
+/// The seats that come back from workers to whom they were dealt, in their order again: the first of the
+/// first worker, and so on, and again from the first. The share gets the workers' parts, and what their seats
+/// drew. Takes no memory, and time linear in the number of seats.
 pub fn collect<J: Job>(
     workers: Vec<Worker<J>>,
     room: Room,

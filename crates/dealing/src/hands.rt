@@ -52,9 +52,9 @@ fn enlist<J: Job>(hands: Vec<Vec<Seat>>, workers: &mut Vec<Worker<J>>, share: &m
     }
 }
 
-/// Seats that drew no turn, dealt one after another to so many workers: the first to the first of them, and so
-/// on, and again from the first. So each has its seats in their order. Each worker gets one part of the share.
-/// All growths come before the first seat moves, and the only error is that memory runs out.
+/// Seats that drew no turn, dealt one after another to so many workers: the first to the first of them, and
+/// so on, and again from the first. So each has its seats in their order. Each worker gets one part of the
+/// share. All growths come before the first seat moves, and the only error is that memory runs out.
 pub fn deal<J: Job>(
     alloc: Global,
     seats: Vec<Seat>,

@@ -10,8 +10,8 @@ use std::thread::Threads;
 use turn_book::{Job, TurnBook};
 use worker_options::Gate;
 
-/// The seats dealt to so many workers, each in a thread of its own, and collected again in their order. They did
-/// turn 0 and the turns that were drawn, which the share counts. All growths come before the first worker
+/// The seats dealt to so many workers, each in a thread of its own, and collected again in their order. They
+/// did turn 0 and the turns that were drawn, which the share counts. All growths come before the first worker
 /// starts.
 pub fn work_seats<J: Job + Sync, R: Threads + Wait + Sync, G: Gate>(
     rt: &R,
