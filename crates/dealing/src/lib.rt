@@ -4,8 +4,6 @@
 mod back;
 mod hands;
 pub mod laws;
-mod work;
 
 pub use back::{Room, collect};
 pub use hands::deal;
-pub use work::work_seats;
