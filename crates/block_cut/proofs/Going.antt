@@ -2,6 +2,8 @@
 use Rattle.std.proofs.Common.{◌≡◌, ℕ, ◌+◌, ◌<◌, ◌≤◌, List, length, slice_set, slice_index_or, sum, refl, sym, ◌∙◌, ap, subst, arith}
 use Rattle.std.proofs.lemmas.List.{length-set, get_or_read_under}
 use Rattle.flow_network.specs.Cut.{Network}
+use Rattle.parcel.specs.States.{State}
+use Rattle.parcel.specs.Events.{IsQuiet}
 use Rattle.parcel.specs.Soundness.{IsSound, IsFinished, count}
 use Rattle.block_net.specs.Views.{BlockView}
 use Rattle.block_net.specs.Whole.{Whole, no_block, block_at}
@@ -55,6 +57,9 @@ reaches_at p blocks before after k b n old new size l is reaches =
 
 pub goes_from : (p : Pieces) → IsLaid (whole_within p) → IsHeld p.ways.rooms (state_in p) → IsGoing p p.parts.blocks.items p.ways 0
 goes_from p laid held = record { got = p.got; size = refl; rooms = refl; laid = laid; sound = held.sound; lower = omega arith }
+
+pub ready_from : (p : Pieces) (s : State) → s ≡ state_in p → IsQuiet s → IsHeld p.ways.rooms s → IsReady p
+ready_from p s is quiet held = record { quiet = subst IsQuiet is quiet; held = subst (IsHeld p.ways.rooms) is held }
 
 pub still_from : (p : Pieces) → IsStill p p.parts.blocks.items p.ways 0
 still_from p = record { same = refl; none = λ b l. absurd (omega (arith, l)) }

@@ -14,7 +14,15 @@ use std::alloc::{AllocError, Global};
 use std::snapshot::Snapshot;
 
 /// How often at most each block has a turn before labels become exact again.
-const PASSES: usize = 64;
+const PASSES: usize = 4;
+
+/// How many events a turn does at most: half as many as a block has nodes, if all have as many, and 16. So the
+/// turns of a round do about twice as many events as there are nodes.
+fn turn_limit(state: &State) -> u32
+    ensures { 0 < result }
+{
+    (state.nodes() / (2 * state.blocks())) as u32 + 16
+}
 
 /// A turn of each block over the ways: the ways and the table of places afterwards, and whether some block did an
 /// event. Takes no memory.
@@ -154,14 +162,14 @@ fn state_of(old: &Snapshot<Pieces>, net: Net, parts: Parts, ways: Mail) -> State
     pieces.into_state()
 }
 
-/// Turns of the blocks, in passes, each turn of at most as many events as there are nodes, and 16. Whether some
-/// block did an event: else the state is finished. The only error is that memory runs out.
+/// Turns of the blocks, in passes, each turn of at most so many events. Whether some block did an event: else the
+/// state is finished. The only error is that memory runs out.
 pub(crate) fn work(alloc: Global, state: State) -> Result<(State, bool), AllocError>
     requires { IsQuiet state }
     ensures net { IfOk result (λ r. r.0.net ≡ state.net) }
     ensures done { IfOk result (λ r. MatchBool r.1 (count r.0 < count state) (IsFinished r.0)) }
 {
-    let limit = state.nodes() as u32 + 16;
+    let limit = turn_limit(&state);
     let arcs = state.arcs();
     let pieces = state.into_pieces();
     let old = Snapshot::of(&pieces);

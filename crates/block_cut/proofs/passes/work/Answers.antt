@@ -3,10 +3,20 @@ use Rattle.sums.specs.Sums.{counted}
 use Rattle.block_net.specs.Views.{BlockView}
 use Rattle.block_core.specs.declared.pieces.Pieces.{Pieces}
 use Rattle.block_core.specs.Pieces.{state_in}
-use Rattle.block_cut.specs.Passes.{IsGoing, IsStill}
-use Rattle.block_cut.proofs.Going.{still_from}
+use Rattle.block_cut.specs.Passes.{IsGoing, IsReady, IsStill}
+use Rattle.block_cut.proofs.Going.{ready_from, still_from}
 use Rattle.block_cut.proofs.Passing.{work_done}
 use Rattle.block_cut.proofs.passes.work.Goals as goal
+
+pub passes-ways-requires-clause-ready : goal.passes-ways-requires-clause-ready
+passes-ways-requires-clause-ready c =
+    let first = c.into_pieces-pieces.result in
+    subst IsReady (sym c.of-old.ensures) (ready_from first c.args.state (sym c.into_pieces-pieces.ensures.state) c.requires c.into_pieces-pieces.ensures.held)
+
+pub state_of-requires-clause-ready : goal.state_of-requires-clause-ready
+state_of-requires-clause-ready c =
+    let first = c.into_pieces-pieces.result in
+    subst IsReady (sym c.of-old.ensures) (ready_from first c.args.state (sym c.into_pieces-pieces.ensures.state) c.requires c.into_pieces-pieces.ensures.held)
 
 pub returns-clause-done : goal.returns-clause-done
 returns-clause-done c =
