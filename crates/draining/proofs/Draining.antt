@@ -6,9 +6,10 @@ use Rattle.parcel.specs.States.{way_at, put_way}
 use Rattle.parcel.specs.Soundness.{IsSquare, direction_of}
 use Rattle.parcel.proofs.Ways.{way_same, way_other, square_put}
 use Rattle.block_core.specs.Mails.{room_at}
-use Rattle.draining.specs.Left.{AreEmpty, AreFitting, AreKept, AreLeft}
+use Rattle.draining.specs.Left.{AreEmpty, AreFitting, AreKept, AreLeft, rest_of}
 use Rattle.draining.specs.Links.{Traffic, Link, RingsView, link_in, left_in, AreLinks, down, up, sent_in, taken_in}
 use Rattle.draining.specs.Draining.{AreDraining, HaveRoom, IsFitting, drained}
+use Rattle.draining.proofs.Moving.{way_back}
 use Rattle.draining.proofs.Leaving.{AnyLeft, link_cases, link_there, link_back, link_off, left_none, rest_is}
 
 no_traffic : (t : Traffic) → Some t ≡ None → ⊥
@@ -112,6 +113,19 @@ module _ (n : ℕ) (rooms : List (List ℕ)) (first links : List Link) (l : Link
         (λ e f. subst (λ x. P x c) f (subst (λ y. P l.second y) e whole_back))
         (whole_off b c low_b low_c);
   }
+
+-- ---- the second ring of a link, once the first was drained
+
+module _ (l : Link) (ways new : List (List (List Message))) (b c : ℕ) (sent taken : List Message) (sq : IsSquare (length ways) ways) (order : l.second < l.first) (low : l.first < length ways)
+    (is_b : b ≡ l.first) (is_c : c ≡ l.second) (is_sent : sent ≡ l.of_second.sent) (is_taken : taken ≡ l.of_first.taken) (is : new ≡ put_way ways b c (way_at ways b c ++ down l)) where
+  same_way : way_at new c b ≡ way_at ways c b
+  same_way = way_back ways new b c (way_at ways b c ++ down l) sq (omega (arith, is_b, low)) (λ e. omega (arith, e, is_b, is_c, order)) is
+
+  pub second_room : (rooms rooms' : List (List ℕ)) → rooms' ≡ rooms → IsFitting rooms ways l → length (way_at new c b) + length (rest_of sent taken) ≤ room_at rooms' c b
+  second_room rooms rooms' same fit = rw (same_way, same, is_sent, is_taken, is_b, is_c) fit.room_up
+
+  pub second_drained : (end : List (List (List Message))) → end ≡ put_way new c b (way_at new c b ++ rest_of sent taken) → end ≡ drained l ways
+  second_drained end made = made ∙ rw (same_way, is, is_sent, is_taken, is_b, is_c) refl
 
 pub draining_none : (n : ℕ) (links : List Link) (ways : List (List (List Message))) → IsSquare n ways → AreEmpty n ways → AreLinks n links → AreDraining n links links ways
 draining_none n links ways square empty are = record {

@@ -1,13 +1,14 @@
 -- A message more leaves a ring for its way.
 use Rattle.std.proofs.Common.{◌≡◌, ℕ, suc, ◌+◌, ◌<◌, List, [], ◌∷◌, ◌++◌, length, set, get_or, sym, ◌∙◌, ap, subst, arith, get_or-set_same}
-use Rattle.std.proofs.lemmas.List.{set-set, append_assoc, length_push}
+use Rattle.std.proofs.lemmas.List.{append-nil, map-append, nil_from_length, set-set, append_assoc, length_push}
 use Rattle.parcel.specs.declared.message.Message.{Message}
 use Rattle.parcel.specs.States.{way_at, put_way, put_message}
 use Rattle.parcel.specs.Soundness.{IsSquare}
-use Rattle.parcel.proofs.Ways.{way_same, square_put}
+use Rattle.parcel.proofs.Ways.{way_same, way_other, square_put}
 use Rattle.discharge.specs.declared.letter.Letter.{Letter}
 use Rattle.block_workers.specs.Seeing.{messages}
-use Rattle.draining.specs.Left.{AreKept}
+use Rattle.draining.specs.Left.{AreKept, rest_of}
+use Rattle.draining.proofs.Leaving.{rest_is}
 
 put_put : (first : List (List (List Message))) (b c : ℕ) (way new : List Message) → b < length first → put_way (put_way first b c way) b c new ≡ put_way first b c new
 put_put first b c way new low =
@@ -44,3 +45,19 @@ module _ (first old new : List (List (List Message))) (b c : ℕ) (m : Message) 
 
 pub kept_tail : (l : Letter) (w w' : List Letter) → w ≡ l ∷ w' → AreKept (messages w) → AreKept (messages w')
 kept_tail l w w' front kept k d low = (subst (λ (x : List Letter). AreKept (messages x)) front kept) (suc k) d (omega (arith, low))
+
+-- all messages left the ring
+pub moved_all : (first new : List (List (List Message))) (b c : ℕ) (rest all sent taken : List Letter) → new ≡ put_way first b c (way_at new b c)
+    → way_at new b c ++ messages rest ≡ way_at first b c ++ messages all → length rest ≡ 0 → sent ≡ taken ++ all
+    → new ≡ put_way first b c (way_at first b c ++ rest_of (messages sent) (messages taken))
+moved_all first new b c rest all sent taken kept left none is =
+    let way : way_at new b c ≡ way_at first b c ++ messages all =
+    sym (append-nil (way_at new b c)) ∙ (ap (λ (l : List Letter). way_at new b c ++ messages l) (sym (nil_from_length rest none)) ∙ left) in
+    let all_left : messages all ≡ rest_of (messages sent) (messages taken) =
+    sym (rest_is (messages sent) (messages taken) (messages all) (ap (λ (l : List Letter). messages l) is ∙ map-append (λ (l : Letter). l.message) taken all)) in
+    kept ∙ ap (λ (w : List Message). put_way first b c w) (way ∙ ap (λ (w : List Message). way_at first b c ++ w) all_left)
+
+-- what the way back is, once a way was written
+pub way_back : (first new : List (List (List Message))) (b c : ℕ) (way : List Message) → IsSquare (length first) first → b < length first → (c ≡ b → ⊥) → new ≡ put_way first b c way
+    → way_at new c b ≡ way_at first c b
+way_back first new b c way sq low off is = ap (λ (ways : List (List (List Message))). way_at ways c b) is ∙ way_other (length first) first b c way c b sq low (λ e f. off e)

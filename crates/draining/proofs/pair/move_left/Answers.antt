@@ -1,7 +1,7 @@
 use Rattle.std.proofs.Common.{◌≡◌, ◌+◌, length, refl, ◌∙◌, ap, arith}
 use Rattle.std.proofs.lemmas.Grind.{common_steps}
 use Rattle.block_rings.specs.Ports.{waiting}
-use Rattle.draining.proofs.Moving.{long_more, kept_more, square_more, left_more, kept_tail}
+use Rattle.draining.proofs.Moving.{long_more, kept_more, square_more, left_more, kept_tail, moved_all}
 use Rattle.draining.proofs.pair.move_left.Goals as goal
 
 pub loop-preserved : goal.loop-preserved
@@ -28,3 +28,12 @@ loop-preserved c =
       same = grind (arith, common_steps);
       put = c.take.ensures.taken.put ∙ was.put;
     }
+
+pub returns-clause-messages : goal.returns-clause-messages
+returns-clause-messages c =
+    let was = c.loop.invariant in
+    let rest = was.rest in
+    let count = c.see_left-count.ensures.count in
+    let done = c.loop-test.false in
+    let none : length (waiting c.loop.to) ≡ 0 = omega (arith, rest, count, done) in
+    moved_all c.args.ways.now.messages c.loop.ways.messages c.args.b c.args.c (waiting c.loop.to) (waiting c.see_left-count.new.to) _ _ was.kept was.left none c.see_left-count.ensures.left
