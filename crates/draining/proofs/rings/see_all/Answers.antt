@@ -1,10 +1,13 @@
-use Rattle.std.proofs.Common.{◌<◌, length, ◌∙◌, ap, arith}
+use Rattle.std.proofs.Common.{refl, ◌<◌, length, ◌∙◌, ap, arith}
 use Rattle.std.proofs.lemmas.Grind.{common_steps}
 use Rattle.std.proofs.lemmas.List.{length-map}
 use Rattle.draining.specs.declared.pair.Pair.{Pair}
 use Rattle.draining.specs.Links.{link}
 use Rattle.draining.proofs.Seeing.{links_kept, seen_more}
 use Rattle.draining.proofs.rings.see_all.Goals as goal
+
+pub loop-k-init : goal.loop-k-init
+loop-k-init c = record { same = refl; seen = λ i d low. absurd (omega (arith, low)) }
 
 pub loop-k-preserved : goal.loop-k-preserved
 loop-k-preserved c =
