@@ -1,10 +1,10 @@
 -- A form of the terms as a net.
-use Rattle.std.proofs.Common.{◌≡◌, ℕ, ◌≤◌, Bool, ℤ, pos, ◌+ℤ◌, refl, sym, ◌∙◌, arith}
+use Rattle.std.proofs.Common.{◌≡◌, ℕ, Bool, ℤ, pos, ◌+ℤ◌, refl, arith}
 use Rattle.std.proofs.lemmas.Int.{ints}
-use Rattle.pseudo_bool.specs.Formula.{Formula, IsEnergy, value_at}
-use Rattle.flow_network.specs.Cut.{Network, nodes, capacity_of, IsLeastCut, IsSmallestLeastCut}
+use Rattle.pseudo_bool.specs.Formula.{Formula, IsEnergy}
+use Rattle.flow_network.specs.Cut.{Network, capacity_of}
 use Rattle.compile_cut.specs.declared.quadratic.Quadratic.{Quadratic}
-use Rattle.compile_cut.specs.Shown.{ShowsValues, IsSmallestLeastAssignment}
+use Rattle.compile_cut.specs.Shown.{ShowsValues}
 use Rattle.compile_cut.specs.Form.{quadratic_value, SaysValues}
 use Rattle.compile_cut.proofs.TermLemmas.{terms_value-same}
 

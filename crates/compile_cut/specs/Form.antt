@@ -1,4 +1,4 @@
-use Rattle.std.specs.Prelude.{◌≡◌, ℕ, ◌+◌, ◌*◌, ◌≤◌, Bool, All, ℤ, pos, ◌+ℤ◌, ◌≤ℤ◌, unsigned_abs, vec_len}
+use Rattle.std.specs.Prelude.{◌≡◌, ℕ, ◌+◌, ◌*◌, ◌≤◌, Bool, [], All, replicate, ℤ, pos, ◌+ℤ◌, ◌≤ℤ◌, unsigned_abs, vec_len}
 use Rattle.pseudo_bool.specs.declared.term.Term.{Term}
 use Rattle.pseudo_bool.specs.Formula.{Formula, term_value, value_at}
 use Rattle.pseudo_bool.specs.Limits.{value_limit, constant_limit}
@@ -18,6 +18,12 @@ pub record IsBounded (terms : ℕ) (q : Quadratic) : Type 0 where
   pub size : weights_size q.weights.items + arcs_size q.arcs.items ≤ term_size * terms
   pub arcs : All (IsArc (vec_len q.weights)) q.arcs.items
   pub above : All IsAbove q.arcs.items
+
+-- what an energy comes to before its terms: its constant, and a weight of 0 for each variable
+pub record IsWithoutTerms (e : Formula) (q : Quadratic) : Type 0 where
+  pub constant : q.constant ≡ e.constant
+  pub weights : q.weights.items ≡ replicate e.variables (pos 0)
+  pub arcs : q.arcs.items ≡ []
 
 -- of the sets that are the same on the old nodes, the least new value is the old one and the term's
 pub record AddsTerm (old new : Quadratic) (term : Term) : Type 0 where

@@ -8,7 +8,7 @@ ghost use Rattle.regular.specs.declared.fixed.Fixed.{Fixed};
 ghost use Rattle.flow_network.specs.Cut.{IsArc};
 ghost use Rattle.compile_cut.specs.Limits.{form_nodes};
 ghost use Rattle.compile_cut.specs.Weights.{weights_value, weights_size, arcs_value, arcs_size, IsAbove};
-ghost use Rattle.compile_cut.specs.Form.{quadratic_value, IsBounded, AddsTerm, SaysValues};
+ghost use Rattle.compile_cut.specs.Form.{quadratic_value, IsBounded, IsWithoutTerms, AddsTerm, SaysValues};
 ghost use Rattle.compile_cut.specs.Shown.{three_count, three_digit};
 
 use crate::adding::{
@@ -122,6 +122,31 @@ impl Quadratic {
     }
 }
 
+/// An energy that gives its terms away gives memory back each time that so many of them are left, or a multiple of it.
+const SHRINK_STEP: usize = 65_536;
+
+/// Gives back the memory that no term takes, where as many terms are left as a step says.
+fn shrink_at_step(energy: &mut Energy)
+    ensures { energy.new ≡ energy.old }
+{
+    let left = energy.term_count();
+    if left > 0 && left % SHRINK_STEP == 0 {
+        energy.shrink();
+    }
+}
+
+/// What an energy comes to before its terms are added: its constant, and a node for each variable.
+fn without_terms(alloc: Global, energy: &Energy) -> Result<Quadratic, AllocError>
+    ensures start { IfOk result (λ form. IsWithoutTerms energy.now form) }
+    ensures limits { IfOk result (λ form. IsEnergy energy.now) }
+{
+    Ok(Quadratic {
+        constant: energy.constant(),
+        weights: vec![in alloc; 0; energy.variables() as usize]?,
+        arcs: Vec::new(alloc),
+    })
+}
+
 /// The terms of a regular energy, added up: the first half of `compile`. The energy is needed no more afterwards, so who
 /// owns it may give its memory back before `net_of` makes the net. Refuses only where memory runs out.
 pub fn quadratic_of(alloc: Global, energy: &Energy) -> Result<Quadratic, AllocError>
@@ -133,13 +158,30 @@ pub fn quadratic_of(alloc: Global, energy: &Energy) -> Result<Quadratic, AllocEr
         + three_count energy.now) }
     ensures limits { IfOk result (λ form. IsEnergy energy.now) }
 {
-    let mut form = Quadratic {
-        constant: energy.constant(),
-        weights: vec![in alloc; 0; energy.variables() as usize]?,
-        arcs: Vec::new(alloc),
-    };
+    let mut form = without_terms(alloc, energy)?;
     for index in 0..energy.term_count() {
         form.add_term(&energy.term(index))?;
     }
+    Ok(form)
+}
+
+/// What `quadratic_of` answers, but for the numbers of the hidden nodes, where each term leaves the energy as it is added,
+/// and the memory of the terms is given back meanwhile: all but that of `SHRINK_STEP` terms. The last term leaves first,
+/// so the arcs are put in the order of the terms at the end. Where memory runs out, some of the terms have left.
+pub fn take_quadratic(alloc: Global, energy: &mut Energy) -> Result<Quadratic, AllocError>
+    requires { IsRegular energy.old }
+    ensures values { IfOk result (λ form. SaysValues energy.old form) }
+    ensures bounded { IfOk result (λ form. IsBounded term_limit form) }
+    ensures variables { IfOk result (λ form. energy.old.variables ≤ vec_len form.weights) }
+    ensures hidden { IfOk result (λ form. vec_len form.weights ≤ energy.old.variables
+        + three_count energy.old) }
+    ensures limits { IfOk result (λ form. IsEnergy energy.old) }
+{
+    let mut form = without_terms(alloc, energy)?;
+    'terms: while let Some(term) = energy.pop_term() {
+        form.add_term(&term)?;
+        shrink_at_step(energy);
+    }
+    form.arcs.reverse();
     Ok(form)
 }

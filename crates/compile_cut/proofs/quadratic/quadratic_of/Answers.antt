@@ -1,22 +1,17 @@
-use Rattle.std.proofs.Common.{arith, ◌<◌, ◌≤◌, ◌∙◌, ap, length, unsigned_abs, w64, to_z, of_z}
-use Rattle.compile_cut.proofs.TermLemmas.{three_taken-le, start, step, whole_values, term-weaker, bounded-weaker, term_at}
+use Rattle.std.proofs.Common.{arith, ◌<◌, length, take, ◌+◌}
+use Rattle.std.proofs.lemmas.List.{length-take-le}
+use Rattle.compile_cut.proofs.TermLemmas.{threes-le, start, step, taken_more, whole, term-weaker, bounded-weaker, term_at}
 use Rattle.regular.specs.Regularity.{IsRegularTerm}
-use Rattle.compile_cut.proofs.PartLemmas.{passed_is}
 use Rattle.compile_cut.proofs.quadratic.quadratic_of.Goals as goal
 
 pub loop-index-init : goal.loop-index-init
-loop-index-init c =
-    let e = c.args.energy.now in
-    let small : unsigned_abs e.constant ≤ 1000000000000000 = c.constant.ensures.limits.constant in
-    let read : unsigned_abs c.constant.result ≤ 1000000000000000000 = omega (arith, ap unsigned_abs c.constant.ensures.value, small) in
-    start e (record { constant = to_z w64 (of_z w64 c.constant.result); weights = c.in_ok-vec.field-0; arcs = c.new.result })
-    small (passed_is c.constant.result read ∙ c.constant.ensures.value)
-    (rw c.variables.ensures.value at (c.in_ok-vec.ensures.items_if_clones_equal (λ y e. e))) c.new.ensures.items (c.in_ok-vec.ensures.len ∙ c.variables.ensures.value)
+loop-index-init c = start c.args.energy.now c.in_ok-form.form c.in_ok-form.ensures.limits c.in_ok-form.ensures.start
 
 pub add_term-requires-clause-bounded : goal.add_term-requires-clause-bounded
 add_term-requires-clause-bounded c =
-    bounded-weaker c.loop-index.index 8388608 c.loop-index.form
-    (omega (arith, c.loop-index-test.true, c.term_count-index-end.ensures.value, c.term.ensures.limits.count)) c.loop-index.invariant.bounded
+    let count = length-take-le c.loop-index.index c.args.energy.now.terms (omega (arith, c.loop-index-test.true, c.term_count-index-end.ensures.value)) in
+    bounded-weaker (length (take c.loop-index.index c.args.energy.now.terms)) 8388608 c.loop-index.form
+    (omega (arith, count, c.loop-index-test.true, c.term_count-index-end.ensures.value, c.term.ensures.limits.count)) c.loop-index.invariant.bounded
 
 pub add_term-requires-clause-term : goal.add_term-requires-clause-term
 add_term-requires-clause-term c = term-weaker _ _ c.term.result c.loop-index.invariant.variables c.term.ensures.within
@@ -26,20 +21,30 @@ add_term-requires-clause-regular c =
     let here : c.loop-index.index < length c.args.energy.now.terms = omega (arith, c.loop-index-test.true, c.term_count-index-end.ensures.value) in
     term_at IsRegularTerm c.args.energy.now.terms c.loop-index.index c.term.result here c.term.ensures.value c.requires
 
+pub add_term-requires-clause-room : goal.add_term-requires-clause-room
+add_term-requires-clause-room c =
+    let count = length-take-le c.loop-index.index c.args.energy.now.terms (omega (arith, c.loop-index-test.true, c.term_count-index-end.ensures.value)) in
+    let limits = c.term.ensures.limits in
+    omega (
+      arith,
+      count,
+      threes-le (take c.loop-index.index c.args.energy.now.terms),
+      limits.count,
+      limits.variables,
+      c.loop-index.invariant.hidden,
+      c.loop-index-test.true,
+      c.term_count-index-end.ensures.value,
+    )
+
 pub loop-index-preserved : goal.loop-index-preserved
 loop-index-preserved c =
-    let here : c.loop-index.index < length c.args.energy.now.terms = omega (arith, c.loop-index-test.true, c.term_count-index-end.ensures.value) in
-    let bounded = c.in_ok-add_term.ensures.bounded c.loop-index.index c.loop-index.invariant.bounded in
-    step c.args.energy.now c.loop-index.index c.term.result c.loop-index.form c.add_term.new.self here c.term.ensures.value c.term.ensures.within
+    let terms = c.args.energy.now.terms in
+    let here : c.loop-index.index < length terms = omega (arith, c.loop-index-test.true, c.term_count-index-end.ensures.value) in
+    let bounded = c.in_ok-add_term.ensures.bounded (length (take c.loop-index.index terms)) c.loop-index.invariant.bounded in
+    step c.args.energy.now (take c.loop-index.index terms) (take (c.loop-index.index + 1) terms) c.term.result c.loop-index.form c.add_term.new.self
+    (taken_more terms c.loop-index.index c.term.result here c.term.ensures.value) c.term.ensures.within
     c.loop-index.invariant c.in_ok-add_term.ensures.value bounded c.in_ok-add_term.ensures.len
 
 pub returns-clause-values : goal.returns-clause-values
 returns-clause-values c =
-    whole_values c.args.energy.now c.loop-index.index c.loop-index.form (omega (arith, c.loop-index-test.false, c.term_count-index-end.ensures.value)) c.loop-index.invariant.values
-
-pub add_term-requires-clause-room : goal.add_term-requires-clause-room
-add_term-requires-clause-room c =
-    let terms = three_taken-le c.loop-index.index c.args.energy.now.terms in
-    let count = c.term.ensures.limits.count in
-    let variables = c.term.ensures.limits.variables in
-    omega (arith, terms, count, variables, c.loop-index.invariant.hidden, c.loop-index-test.true, c.term_count-index-end.ensures.value)
+    (whole c.args.energy.now c.loop-index.index c.loop-index.form (omega (arith, c.loop-index-test.false, c.term_count-index-end.ensures.value)) c.loop-index.invariant).values

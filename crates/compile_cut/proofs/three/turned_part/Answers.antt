@@ -1,4 +1,4 @@
-use Rattle.std.proofs.Common.{arith, ◌≡◌, ◌≤◌, pos, unsigned_abs, w64, to_z, of_z, refl, ◌∙◌}
+use Rattle.std.proofs.Common.{arith, unsigned_abs, refl, ◌∙◌}
 use Rattle.std.proofs.lemmas.Int.{ints}
 use Rattle.compile_cut.proofs.PartLemmas.{passed_is, minus_is}
 use Rattle.compile_cut.proofs.ThreeLemmas.{below_is, parts_turned}
