@@ -157,45 +157,56 @@ start e q limits is =
 -- what left the energy `old` has been added, and the other terms stand in the energy `now`
 pub record HasTaken (old now : Formula) (q : Quadratic) : Type 0 where
   pub taken : List Term
-  pub terms : old.terms ≡ now.terms ++ taken
-  pub variables : now.variables ≡ old.variables
+  pub whole : old ≡ record now { terms = now.terms ++ taken }
   pub added : HasAdded old taken q
 
 pub none_taken : (e : Formula) (q : Quadratic) → HasAdded e [] q → HasTaken e e q
-none_taken e q added = record { taken = []; terms = sym (append-nil e.terms); variables = refl; added = added }
+none_taken e q added = record { taken = []; whole = ap (λ ts. record e { terms = ts }) (sym (append-nil e.terms)); added = added }
 
--- the term at the seam of two lists
-seam_term : (P : Term → Type 0) (all ts us : List Term) (t : Term) → all ≡ (ts ++ t ∷ []) ++ us → All P all → P t
-seam_term P all ts us t is h =
-    rw (get_or-append_seam ts t us t) at (All-get_or P (ts ++ t ∷ us) (length ts) t (omega (arith, length-append ts (t ∷ us))) (rw (is ∙ append_assoc ts (t ∷ []) us) at h))
+terms_before : (old now : Formula) (q : Quadratic) (ts : List Term) (t : Term) → (h : HasTaken old now q) → now.terms ≡ ts ++ t ∷ []
+    → old.terms ≡ ts ++ t ∷ h.taken
+terms_before old now q ts t h is =
+    ap (λ (e : Formula). e.terms) h.whole ∙ ap (λ us. us ++ h.taken) is ∙ append_assoc ts (t ∷ []) h.taken
 
 pub taken_regular : (old now : Formula) (q : Quadratic) (ts : List Term) (t : Term) → HasTaken old now q → now.terms ≡ ts ++ t ∷ [] → IsRegular old
     → IsRegularTerm t
 taken_regular old now q ts t h is regular =
-    seam_term IsRegularTerm old.terms ts h.taken t (h.terms ∙ ap (λ us. us ++ h.taken) is) regular
+    let all = rw (terms_before old now q ts t h is) at regular in
+    rw (get_or-append_seam ts t h.taken t) at (all (length ts) t (omega (arith, length-append ts (t ∷ h.taken))))
 
 -- fewer terms have left than the energy had
 pub taken_count : (old now : Formula) (q : Quadratic) (ts : List Term) (t : Term) → (h : HasTaken old now q) → now.terms ≡ ts ++ t ∷ []
     → length h.taken < length old.terms
 taken_count old now q ts t h is =
-    omega (arith, ap length h.terms, length-append now.terms h.taken, ap length is, length-append ts (t ∷ []))
+    omega (arith, ap length (terms_before old now q ts t h is), length-append ts (t ∷ h.taken))
 
 -- one more leaves and is added
 pub take_one : (old now next : Formula) (t : Term) (before after : Quadratic) → (h : HasTaken old now before) → now.terms ≡ next.terms ++ t ∷ []
-    → next.variables ≡ now.variables → IsTerm now.variables t → AddsTerm before after t
+    → next ≡ record now { terms = next.terms } → IsTerm now.variables t → AddsTerm before after t
     → ((k : ℕ) → IsBounded k before → IsBounded (k + 1) after) → vec_len after.weights ≡ vec_len before.weights + three_digit t
     → HasTaken old next after
-take_one old now next t before after h is variables term adds bounded len =
+take_one old now next t before after h is rest term adds bounded len =
+    let variables = sym (ap (λ (e : Formula). e.variables) h.whole) in
+    let us = next.terms ++ t ∷ h.taken in
+    let same = ap (λ (e : Formula). record e { terms = us }) (sym rest) in
     record {
       taken = t ∷ h.taken;
-      terms = h.terms ∙ ap (λ us. us ++ h.taken) is ∙ append_assoc next.terms (t ∷ []) h.taken;
-      variables = variables ∙ h.variables;
-      added = step old h.taken (t ∷ h.taken) t before after (put_before h.taken t) (rw h.variables at term) h.added adds (bounded (length h.taken) h.added.bounded) len;
+      whole = h.whole ∙ ap (λ ts. record now { terms = ts }) (ap (λ ts. ts ++ h.taken) is ∙ append_assoc next.terms (t ∷ []) h.taken) ∙ same;
+      added = step old h.taken (t ∷ h.taken) t before after (put_before h.taken t) (rw variables at term) h.added adds (bounded (length h.taken) h.added.bounded) len;
     }
 
 -- all have left
 pub all_taken : (old now : Formula) (q : Quadratic) → HasTaken old now q → length now.terms ≡ 0 → HasAdded old old.terms q
-all_taken old now q h none = subst (λ ts. HasAdded old ts q) (sym (h.terms ∙ ap (λ ts. ts ++ h.taken) (nil_from_length now.terms none))) h.added
+all_taken old now q h none =
+    let terms = ap (λ (e : Formula). e.terms) h.whole ∙ ap (λ ts. ts ++ h.taken) (nil_from_length now.terms none) in
+    subst (λ ts. HasAdded old ts q) (sym terms) h.added
+
+-- the energy that they left has none
+pub is_emptied : (old now next : Formula) (q : Quadratic) → HasTaken old now q → length now.terms ≡ 0 → now.terms ≡ next.terms ++ []
+    → next ≡ record now { terms = next.terms } → next ≡ record old { terms = [] }
+is_emptied old now next q h none is rest =
+    let nil = nil_from_length next.terms (omega (arith, none, ap length is, length-append next.terms [])) in
+    rest ∙ ap (λ ts. record now { terms = ts }) nil ∙ sym (ap (λ (e : Formula). record e { terms = [] }) h.whole)
 
 -- the order of the arcs makes no difference
 pub other_order : (e : Formula) (ts : List Term) (old new : Quadratic) → new.constant ≡ old.constant → new.weights ≡ old.weights

@@ -1,4 +1,4 @@
-ghost use Rattle.std.specs.Prelude.{◌≡◌, ℕ, ◌+◌, ◌*◌, ◌<◌, ◌≤◌, Bool, not, ◌&&◌, All, length, ◌+ℤ◌, ◌≤ℤ◌, unsigned_abs, sum_by, slice_index_or, pos, vec_len, OnOk, IfOk};
+ghost use Rattle.std.specs.Prelude.{◌≡◌, ℕ, ◌+◌, ◌*◌, ◌<◌, ◌≤◌, Bool, not, ◌&&◌, [], All, length, ◌+ℤ◌, ◌≤ℤ◌, unsigned_abs, sum_by, slice_index_or, pos, vec_len, OnOk, IfOk};
 ghost use Rattle.sums.specs.Sums.{counted};
 ghost use Rattle.sums.specs.IntegerSums.{int_counted};
 ghost use Rattle.pseudo_bool.specs.Limits.{term_limit};
@@ -176,6 +176,7 @@ pub fn take_quadratic(alloc: Global, energy: &mut Energy) -> Result<Quadratic, A
     ensures hidden { IfOk result (λ form. vec_len form.weights ≤ energy.old.variables
         + three_count energy.old) }
     ensures limits { IfOk result (λ form. IsEnergy energy.old) }
+    ensures emptied { IfOk result (λ form. energy.new ≡ record energy.old { terms = [] }) }
 {
     let mut form = without_terms(alloc, energy)?;
     'terms: while let Some(term) = energy.pop_term() {

@@ -1,6 +1,5 @@
-use Rattle.std.proofs.Common.{arith, rules, refl, ap, ◌≡◌, length}
-use Rattle.pseudo_bool.specs.Formula.{Formula}
-use Rattle.compile_cut.proofs.TermLemmas.{HasAdded, start, none_taken, take_one, taken_regular, taken_count, all_taken, other_order, bounded-weaker, threes-le}
+use Rattle.std.proofs.Common.{arith, rules, refl, ◌≡◌, length}
+use Rattle.compile_cut.proofs.TermLemmas.{HasAdded, start, none_taken, take_one, taken_regular, taken_count, all_taken, is_emptied, other_order, bounded-weaker, threes-le}
 use Rattle.compile_cut.proofs.quadratic.take_quadratic.Goals as goal
 
 pub terms-init : goal.terms-init
@@ -18,17 +17,18 @@ add_term-requires-clause-room c =
 
 pub terms-preserved : goal.terms-preserved
 terms-preserved c =
-    let variables = ap (λ (e : Formula). e.variables) c.in-Some.ensures.rest in
     rw (c.shrink_at_step.ensures)
     (take_one c.args.energy.now c.terms.energy c.pop_term.new.self c.in-Some.term c.terms.form c.add_term.new.self c.terms.invariant c.in-Some.ensures.terms
-    variables c.in-Some.ensures.within c.in_ok-add_term.ensures.value c.in_ok-add_term.ensures.bounded c.in_ok-add_term.ensures.len)
+    c.in-Some.ensures.rest c.in-Some.ensures.within c.in_ok-add_term.ensures.value c.in_ok-add_term.ensures.bounded c.in_ok-add_term.ensures.len)
+
+none_left : (c : goal.After-reverse) → length c.terms.energy.terms ≡ 0
+none_left c = search rules
 
 -- all terms have left, and the arcs are turned round
 turned : (c : goal.After-reverse)
     → HasAdded c.args.energy.now c.args.energy.now.terms (record { constant = c.terms.form.constant; weights = c.terms.form.weights; arcs = c.reverse.new.self })
 turned c =
-    let none : length c.terms.energy.terms ≡ 0 = search rules in
-    let whole = all_taken c.args.energy.now c.terms.energy c.terms.form c.terms.invariant none in
+    let whole = all_taken c.args.energy.now c.terms.energy c.terms.form c.terms.invariant (none_left c) in
     other_order c.args.energy.now c.args.energy.now.terms c.terms.form
     (record { constant = c.terms.form.constant; weights = c.terms.form.weights; arcs = c.reverse.new.self }) refl refl c.reverse.ensures.permutation whole
 
@@ -39,3 +39,7 @@ pub returns-clause-bounded : goal.returns-clause-bounded
 returns-clause-bounded c =
     bounded-weaker (length c.args.energy.now.terms) 8388608 (record { constant = c.terms.form.constant; weights = c.terms.form.weights; arcs = c.reverse.new.self })
     c.in_ok-form.ensures.limits.count (turned c).bounded
+
+pub returns-clause-emptied : goal.returns-clause-emptied
+returns-clause-emptied c =
+    is_emptied c.args.energy.now c.terms.energy c.pop_term.new.self c.terms.form c.terms.invariant (none_left c) c.in_default.ensures.terms c.in_default.ensures.rest
