@@ -1,6 +1,6 @@
 //! Cuts that show values, and minima of small energies. The values were worked by hand.
 use crate::rows::expect;
-use compile_cut::{Net, compile};
+use compile_cut::{Net, compile, net_of, take_quadratic};
 use flow_network::cut_capacity;
 use minimum::minimise;
 use pseudo_bool::{Energy, EnergyError};
@@ -83,12 +83,28 @@ fn is_right(
     )
 }
 
+/// Whether the cuts show the values of a case where its terms leave the energy as they are added.
+fn is_right_taken(
+    rt: &impl Abort,
+    alloc: Global,
+    energy: &mut Energy,
+    case: &Case,
+) -> Result<bool, AllocError> {
+    check(energy).expect(rt, "regular");
+    let form = take_quadratic(alloc, energy)?;
+    assert!(rt; form.weights.len() == 2 && energy.term_count() == 0);
+    let compiled = net_of(alloc, form)?;
+    Ok(shown(rt, &compiled.net, compiled.constant) == case.3)
+}
+
 #[test]
 fn cuts_show_values_and_minima(rt: HostRuntime) -> Result<(), Fail> {
     let mut energy = Energy::new(rt.alloc());
     for (place, case) in CASES.iter().enumerate() {
         put(&mut energy, case)?;
         let is_right = is_right(&rt, rt.alloc(), &energy, case)?;
+        expect(&rt, "CASES", place, is_right);
+        let is_right = is_right_taken(&rt, rt.alloc(), &mut energy, case)?;
         expect(&rt, "CASES", place, is_right);
     }
     Ok(())
