@@ -41,7 +41,8 @@ AreInOrder count next (RowOne first table ∷ rows) = AreInOrder count next rows
 AreInOrder count next (RowTwo first second table ∷ rows) = AreInOrder count next rows
 AreInOrder count next (RowThree place ∷ rows) = (place ≡ next) × AreInOrder count (next + 1) rows
 
--- each triple that a row names is there, there are no more triples than rows, and the rows name them in their order
+-- each triple that a row names is there, there are no more triples than rows, and the rows name them in
+-- their order
 pub record AreKept (triples : List Triple) (rows : List Row) : Type 0 where
   pub each : All (IsKept (length triples)) rows
   pub count : length triples ≤ length rows
