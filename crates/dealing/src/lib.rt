@@ -4,6 +4,8 @@
 mod back;
 mod hands;
 pub mod laws;
+mod work;
 
 pub use back::{Room, collect};
 pub use hands::deal;
+pub use work::work_seats;

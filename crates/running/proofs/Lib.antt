@@ -5,5 +5,4 @@ pub mod Room
 pub mod Backs
 pub mod Fits
 pub mod Rounded
-pub mod Hands
 pub mod Runs

@@ -54,7 +54,7 @@ pub(crate) fn run_blocks<J: Job + Sync, R: Threads + Wait + Sync, G: Gate>(
     let count = blocks.len();
     let space = Space::new(alloc, count)?;
     let seats = seated(alloc, blocks, options.ring as usize)?;
-    let (book, _whole, share) = TurnBook::<J>::new(
+    let (book, whole, share) = TurnBook::<J>::new(
         alloc,
         budget,
         drawn,
@@ -67,6 +67,7 @@ pub(crate) fn run_blocks<J: Job + Sync, R: Threads + Wait + Sync, G: Gate>(
         seats,
         options.threads as usize,
         book,
+        whole,
         share,
         gate,
     )?;

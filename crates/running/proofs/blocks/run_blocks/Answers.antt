@@ -7,7 +7,7 @@ gathered-requires-clause-mated g c =
     let blocks = c.args.blocks in
     let some : 0 < length blocks.items = omega (arith, c.requires.some, blocks.ok.0) in
     let old = c.in_ok-seats in
-    still_mated blocks.items c.args.options.now.ring old.seats.items c.in_ok-back.back.items some old.ensures.seated old.ensures.joined c.in_ok-back.ensures
+    still_mated blocks.items c.args.options.now.ring old.seats.items c.in_ok-back.back.items some old.ensures.seated old.ensures.joined c.in_ok-back.ensures.worked
 
 pub returns : goal.returns
 returns g c =
@@ -15,5 +15,5 @@ returns g c =
     let some : 0 < length blocks.items = omega (arith, c.requires.some, blocks.ok.0) in
     let old = c.in_ok-seats in
     let e = c.gathered.ensures in
-    have_run blocks.items c.args.options.now.ring old.seats.items c.in_ok-back.back.items some old.ensures.seated old.ensures.joined c.in_ok-back.ensures
+    have_run blocks.items c.args.options.now.ring old.seats.items c.in_ok-back.back.items some old.ensures.seated old.ensures.joined c.in_ok-back.ensures.worked
     c.gathered.result.blocks.items c.gathered.result.rings c.requires.options.ring_least e.blocks e.count e.sent e.taken

@@ -1,0 +1,37 @@
+ghost use Rattle.std.specs.Prelude.{◌≡◌, ◌<◌, ◌≤◌, IfOk, OnOk};
+ghost use Rattle.block_workers.specs.Workers.{AllWorked, AreNew, turns_of};
+
+use crate::{Room, collect, deal};
+use block_workers::{CrewError, Seat, all_work};
+use std::alloc::Global;
+use std::sync::ledger::Share;
+use std::sync::{Mutex, Wait};
+use std::thread::Threads;
+use turn_book::{Job, TurnBook};
+use worker_options::Gate;
+
+/// The seats dealt to so many workers, each in a thread of its own, and collected again in their order. They
+/// did turn 0 and the turns that were drawn, which the share counts. All growths come before the first worker
+/// starts.
+pub fn work_seats<J: Job + Sync, R: Threads + Wait + Sync, G: Gate>(
+    rt: &R,
+    alloc: Global,
+    seats: Vec<Seat>,
+    threads: usize,
+    share: &mut Share<J::Drawn>,
+    book: &Mutex<TurnBook<J>>,
+    gate: &G,
+) -> Result<Vec<Seat>, CrewError>
+    requires some { 0 < threads }
+    requires parts { threads ≤ share.old.parts }
+    requires none { share.old.amount ≡ 0 }
+    requires new { AreNew seats.items }
+    ensures worked { IfOk result (λ v. AllWorked seats.items v.items) }
+    ensures parts { OnOk result (share.new.parts ≡ share.old.parts) }
+    ensures turns { IfOk result (λ v. share.new.amount ≡ turns_of v.items) }
+{
+    let room = Room::new(alloc, seats.len(), threads)?;
+    let workers = deal::<J>(alloc, seats, threads, share)?;
+    let back = all_work(rt, alloc, workers, book, gate)?;
+    Ok(collect(back, room, share))
+}
