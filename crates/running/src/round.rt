@@ -83,10 +83,10 @@ fn round_with<B: Ledger + Send + Sync, D: Ledger + Send + Sync, R: Threads + Wai
     round_of::<Ledgers<B, D>, R, G>(rt, alloc, pieces, options, gate, budget, drawn)
 }
 
-/// A round from a state with no message on the way: each block is moved to one of the workers, does turns there,
-/// and comes back, and what is left in the rings between blocks goes to the ways. Whatever the schedule is, what
-/// each block did is a list of its own enabled events, and a block that could do something without taking a
-/// message did something.
+/// A round from a state with no message on the way: each block is moved to one of the workers, does turns
+/// there, and comes back, and what is left in the rings between blocks goes to the ways. Whatever the schedule
+/// is, what each block did is a list of its own enabled events, and a block that could do something without
+/// taking a message did something.
 ///
 /// All growths come before the first worker starts. Where a round does not come about, the state is lost.
 pub fn run_round<R: Threads + Wait + Sync, G: Gate>(
