@@ -21,8 +21,8 @@ whole_with p blocks = whole_in p.net p.parts.firsts.items p.parts.slots.items bl
 abbrev pub state_at : Pieces → List BlockView → List (List (List Message)) → ℕ → State
 state_at p blocks messages got = state_of (blocks_in (whole_with p blocks)) messages got
 
--- as many blocks and ways with the same rooms make a sound state of the pieces' net, whose count is lower by n
--- at least than that of the state in the pieces
+-- as many blocks and ways with the same rooms make a sound state of the pieces' net, whose count lies at
+-- least n below that of the state in the pieces
 pub record IsGoing (p : Pieces) (blocks : List BlockView) (ways : MailView) (n : ℕ) : Type 0 where
   pub got : ℕ
   pub size : length blocks ≡ length p.parts.blocks.items

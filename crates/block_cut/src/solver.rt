@@ -60,9 +60,9 @@ pub fn finish(alloc: Global, state: State) -> Result<Solved, AllocError>
 /// A least cut of the net, with the preflow that certifies it. Of all least cuts it is the smallest: its sink side
 /// lies within that of every other. Its capacity, `value`, is at most `CAPACITY_LIMIT`.
 ///
-/// The net is opened in one block, excess goes on in it without regard to labels, and `finish` does the rest. Takes every net, also of no nodes, with parallel
-/// and opposite arcs, and with arcs from a node to itself. Refuses only where memory runs out; a net of more than
-/// `ARC_LIMIT` arcs counts as that.
+/// The net is opened in one block, excess goes on in it without regard to labels, and `finish` does the rest. Takes
+/// every net, also of no nodes, with parallel and opposite arcs, and with arcs from a node to itself. Refuses only
+/// where memory runs out; a net of more than `ARC_LIMIT` arcs counts as that.
 pub fn solve(alloc: Global, net: &Net) -> Result<Solved, AllocError>
     ensures certified { IfOk result (λ s. IsRightCut net.now s) }
     ensures smallest { IfOk result (λ s. IsSmallestLeastCut net.now (side_of s)) }

@@ -41,8 +41,8 @@ pub record AreScanned (cells : List BlockView) (rows : List (List Bool)) : Type 
   pub each : (b : ℕ) (d : BlockView) → b < length cells
       → IsScanned (length cells) (slice_index_or cells b d) (slice_index_or rows b [])
 
--- of the pairs of blocks, by rising first and then second number, those before (b, c) have ports to one another
--- just where a flag says so
+-- of the pairs of blocks, by rising first and then second number, those before (b, c) have ports to one
+-- another just where a flag says so
 pub record AreBegun (ring blocks b c : ℕ) (rows : List (List Bool)) (lists : List (List Port)) : Type 0 where
   pub len : length lists ≡ blocks
   pub rising : (x : ℕ) → AreRising blocks (slice_index_or lists x [])

@@ -16,8 +16,8 @@ log_at b sent taken i j = cond (i == b) (sent j) (cond (j == b) (taken i) [])
 abbrev pub logs_of : ℕ → ℕ → (ℕ → List Message) → (ℕ → List Message) → List (List (List Message))
 logs_of n b sent taken = table n (λ i. table n (log_at b sent taken i))
 
--- a block stands in the stead of block b, each of its nodes is one of the net, and each of its places among the
--- directions to other blocks is that of one
+-- a block stands in the stead of block b, each of its nodes is one of the net, and each of its places among
+-- the directions to other blocks is that of one
 pub record IsSeated (w : Whole) (b : ℕ) (B : BlockView) : Type 0 where
   pub laid : IsLaid (put_block w b B)
   pub block : b < length w.blocks
