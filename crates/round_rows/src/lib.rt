@@ -3,6 +3,8 @@
 #![tactic(auto)]
 
 #[cfg(test)]
+mod alike;
+#[cfg(test)]
 mod building;
 #[cfg(test)]
 mod gates;
@@ -10,5 +12,3 @@ mod gates;
 mod overlap;
 #[cfg(test)]
 mod picture;
-#[cfg(test)]
-mod rounds;

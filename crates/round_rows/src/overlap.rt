@@ -1,7 +1,7 @@
 //! Turns of two blocks overlap, and a round goes on while work and turns are left.
+use crate::alike::round;
 use crate::building::{long_way, raised, two_nodes};
 use crate::gates::{Alternate, Overlap};
-use crate::rounds::round;
 use block_core::State;
 use std::test::Fail;
 use worker_options::Options;

@@ -1,4 +1,6 @@
 //! The net of one expansion on a noisy picture.
+ghost use Rattle.std.specs.Prelude.{◌<◌};
+
 use compile_cut::compile;
 use flow_network::Net;
 use pseudo_bool::{Energy, EnergyError};
@@ -16,21 +18,25 @@ const LABEL: i64 = 3;
 const WEIGHT: i64 = 2;
 
 /// The sample at a place, from 0 to 7: a slope with noise.
-fn sample(x: u32, y: u32) -> i64 {
-    let noise = x * x * 31 + y * y * 17 + x * y * 7;
-    ((x / 4 + noise % 5) % 8) as i64
+fn sample(x: u32, y: u32) -> u32
+    ensures { result < 8 }
+{
+    let across = x.wrapping_mul(x).wrapping_mul(31);
+    let down = y.wrapping_mul(y).wrapping_mul(17);
+    let noise = across.wrapping_add(down).wrapping_add(x.wrapping_mul(y));
+    (x / 4).wrapping_add(noise % 5) % 8
 }
 
 /// Adds what the site costs, and what it and its neighbours on the right and below cost.
 fn add_site(energy: &mut Energy, x: u32, y: u32) -> Result<(), EnergyError> {
-    let site = y * SIDE + x;
-    let seen = sample(x, y);
+    let site = y.wrapping_mul(SIDE).wrapping_add(x);
+    let seen = i64::from(sample(x, y));
     energy.add_term1(site, [seen, (seen - LABEL).abs()])?;
-    if x + 1 < SIDE {
-        energy.add_term2(site, site + 1, [0, WEIGHT, WEIGHT, 0])?;
+    if x.wrapping_add(1) < SIDE {
+        energy.add_term2(site, site.wrapping_add(1), [0, WEIGHT, WEIGHT, 0])?;
     }
-    if y + 1 < SIDE {
-        energy.add_term2(site, site + SIDE, [0, WEIGHT, WEIGHT, 0])?;
+    if y.wrapping_add(1) < SIDE {
+        energy.add_term2(site, site.wrapping_add(SIDE), [0, WEIGHT, WEIGHT, 0])?;
     }
     Ok(())
 }
