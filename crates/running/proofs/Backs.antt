@@ -1,5 +1,5 @@
 -- Blocks come back from their workers.
-use Rattle.std.proofs.Common.{◌≡◌, ◌≢◌, ℕ, ◌<◌, ◌≤◌, ◌⊎◌, true, false, nat_lt, List, [], ◌∷◌, ◌++◌, length, get_or, Option, Some, None, is_some, refl, sym, ◌∙◌, ap, subst, inl, inr, arith}
+use Rattle.std.proofs.Common.{◌≡◌, ◌≢◌, ℕ, ◌+◌, ◌*◌, ◌<◌, ◌≤◌, ◌⊎◌, true, false, nat_lt, List, [], ◌∷◌, ◌++◌, length, get_or, Option, Some, None, is_some, refl, sym, ◌∙◌, ap, subst, inl, inr, arith}
 use mathlib.Core.Path.{fun_ext}
 use Rattle.std.proofs.lemmas.Bool.{cases_lt, lt-ltb}
 use Rattle.std.proofs.lemmas.List.{length-map, get_or-map, get_or_past}
@@ -8,13 +8,13 @@ use Rattle.parcel.specs.declared.message.Message.{Message}
 use Rattle.parcel.specs.States.{way_at}
 use Rattle.parcel.specs.Soundness.{IsSquare}
 use Rattle.round_laws.specs.Workers.{MayStart}
-use Rattle.block_net.specs.Views.{BlockView, border_in}
+use Rattle.block_net.specs.Views.{BlockView, border_in, count}
 use Rattle.block_net.specs.Whole.{Whole, no_block, block_at}
 use Rattle.block_core.specs.Views.{IsLaid}
 use Rattle.discharge.specs.Seen.{Seen}
 use Rattle.discharge.specs.Steps.{Held, DoesMany, IsSure, held}
 use Rattle.turn_laws.specs.Laws.{HasRoom}
-use Rattle.seat_laws.specs.Rounds.{Ways, AreBack, fresh, quiet_state}
+use Rattle.seat_laws.specs.Rounds.{Ways, fresh, quiet_state}
 use Rattle.seat_laws.proofs.Starting.{start_is_sure}
 use Rattle.block_rings.specs.declared.port.Port.{Port}
 use Rattle.block_rings.specs.Ports.{put, taken, free, IsNewPort}
@@ -25,6 +25,7 @@ use Rattle.block_workers.specs.Seeing.{messages, seen, AreRising, AreSame}
 use Rattle.block_workers.specs.Workers.{AllWorked, Worked}
 use Rattle.rounds.specs.Joined.{port_to, IsPaired, AreJoined}
 use Rattle.running.specs.Seated.{blocks_of, ends_of, ports_of, AreSeated}
+use Rattle.running.specs.Together.{AreBackAfter}
 use Rattle.running.proofs.Borders.{leads_out}
 use Rattle.running.proofs.Looks.{read_through, through_none, through_some, AreAlike, read_alike, alike_back, alike_forth, alike_none, leads_on, rising_same}
 
@@ -222,18 +223,30 @@ module _ (w : Whole) (got ring : ℕ) (ends : List Ends) (old new : List Seat) (
   unfolding did
   went b low = does w.blocks ring ends old new d seated joined worked b low
 
+  few : (b : ℕ) (low : b < total) → did b low ≤ ((get_or new b d).turn + 1) * (count (block_at w b) + 16)
+  unfolding did
+  few b low =
+      let each = (work w.blocks ring ends old new d seated joined worked b low).few in
+      let same : (get_or old b d).nodes ≡ count (block_at w b) =
+      seated.nodes b d (low_old w.blocks ring ends old new d seated joined worked b low)
+      ∙ ap (λ (B : BlockView). count B) (block_old w.blocks ring ends old new d seated joined worked b low) in
+      subst (λ k. (work w.blocks ring ends old new d seated joined worked b low).count ≤ ((get_or new b d).turn + 1) * (k + 16)) same each
+
   pub seats_back : (left : Ways) → IsSquare total left → ((b : ℕ) → b < total → way_at left b b ≡ [])
       → ((b c : ℕ) → b < total → c < total → b ≢ c → (seen (get_or after b [])).sent c ≡ (seen (get_or after c [])).taken b ++ way_at left b c)
-      → AreBack w got (blocks_of new) left
+      → AreBackAfter (λ b. (get_or new b d).turn) w got (blocks_of new) left
   seats_back left square none ways = record {
-    sent = λ b. (seen (get_or after b [])).sent;
-    taken = λ b. (seen (get_or after b [])).taken;
-    steps = λ b. picked total did b (cases_lt b total);
-    many = length-map new (λ (s : Seat). s.block) ∙ many_new w.blocks ring ends old new d seated joined worked;
-    does = λ b low.
-        picked_is total (λ k. DoesMany (fresh (block_at w b)) k (came w.blocks ring ends old new d seated joined worked b)) did b (cases_lt b total) low (went b);
-    square = square;
-    ways = ways;
-    none = none;
-    busy = λ b e low may. picked_is total (λ k. 0 < k) did b (cases_lt b total) low (λ l. busy b e l may);
+    back = record {
+      sent = λ b. (seen (get_or after b [])).sent;
+      taken = λ b. (seen (get_or after b [])).taken;
+      steps = λ b. picked total did b (cases_lt b total);
+      many = length-map new (λ (s : Seat). s.block) ∙ many_new w.blocks ring ends old new d seated joined worked;
+      does = λ b low.
+          picked_is total (λ k. DoesMany (fresh (block_at w b)) k (came w.blocks ring ends old new d seated joined worked b)) did b (cases_lt b total) low (went b);
+      square = square;
+      ways = ways;
+      none = none;
+      busy = λ b e low may. picked_is total (λ k. 0 < k) did b (cases_lt b total) low (λ l. busy b e l may);
+    };
+    few = λ b low. picked_is total (λ k. k ≤ ((get_or new b d).turn + 1) * (count (block_at w b) + 16)) did b (cases_lt b total) low (few b);
   }

@@ -4,5 +4,6 @@ pub mod Borders
 pub mod Room
 pub mod Backs
 pub mod Fits
+pub mod Counts
 pub mod Rounded
 pub mod Runs

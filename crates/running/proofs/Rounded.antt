@@ -3,7 +3,6 @@ use Rattle.std.proofs.Common.{◌≡◌, ℕ, ◌<◌, List, [], refl, sym, subs
 use Rattle.parcel.specs.States.{State, way_at}
 use Rattle.parcel.specs.Events.{IsQuiet}
 use Rattle.parcel.specs.Soundness.{IsSound, IsSquare}
-use Rattle.round_laws.specs.Rounds.{RoundOf}
 use Rattle.block_net.specs.Views.{BlockView}
 use Rattle.block_net.specs.Whole.{Whole}
 use Rattle.block_core.specs.Views.{IsLaid, blocks_in, state_of}
@@ -13,10 +12,12 @@ use Rattle.seat_laws.proofs.Quiet.{quiet_is_start, round_is_held}
 use Rattle.seat_laws.proofs.Rounds.{seats_make_round}
 use Rattle.draining.specs.Links.{RingsView, sent_in, taken_in}
 use Rattle.draining.specs.Left.{AreLeft, AreFitting}
-use Rattle.running.specs.Together.{HaveRun}
+use Rattle.running.specs.Together.{AreBackAfter, HaveRun}
+use Rattle.running.specs.Short.{IsShortRound}
+use Rattle.running.proofs.Counts.{few_events}
 use Rattle.running.proofs.Fits.{round_fits}
 
-module _ (w : Whole) (got : ℕ) (ways : Ways) (rooms : List (List ℕ)) (new : List BlockView) (rings : RingsView) (laid : IsLaid w) (held : IsHeld rooms (state_of (blocks_in w) ways got)) (quiet : IsQuiet (state_of (blocks_in w) ways got)) (run : HaveRun w.blocks new rings) where
+module _ (turns : ℕ) (w : Whole) (got : ℕ) (ways : Ways) (rooms : List (List ℕ)) (new : List BlockView) (rings : RingsView) (laid : IsLaid w) (held : IsHeld rooms (state_of (blocks_in w) ways got)) (quiet : IsQuiet (state_of (blocks_in w) ways got)) (run : HaveRun turns w.blocks new rings) where
   abbrev old : State
   old = state_of (blocks_in w) ways got
 
@@ -29,8 +30,11 @@ module _ (w : Whole) (got : ℕ) (ways : Ways) (rooms : List (List ℕ)) (new : 
   start : old ≡ quiet_state w got
   start = quiet_is_start w got ways held.sound quiet
 
-  back : (left : Ways) → AreLeft rings.blocks (sent_in rings) (taken_in rings) left → AreBack w got new left
-  back left is = run.back w got left refl laid is
+  after : (left : Ways) → AreLeft rings.blocks (sent_in rings) (taken_in rings) left → AreBackAfter run.drawn w got new left
+  after left is = run.back w got left refl laid is
+
+  abbrev back : (left : Ways) → AreLeft rings.blocks (sent_in rings) (taken_in rings) left → AreBack w got new left
+  back left is = (after left is).back
 
   rounded : (left : Ways) (is : AreLeft rings.blocks (sent_in rings) (taken_in rings) left) → IsRound w got new left (back left is).steps
   rounded left is = seats_make_round w got new left laid (subst IsSound start held.sound) (back left is)
@@ -46,7 +50,16 @@ module _ (w : Whole) (got : ℕ) (ways : Ways) (rooms : List (List ℕ)) (new : 
   held_after left kept is same =
       subst (λ r. IsHeld r (state_after w new left)) (sym same) (round_is_held w got new left (back left is).steps rooms held.room (rounded left is)).0
 
+  short : (left : Ways) → AreLeft rings.blocks (sent_in rings) (taken_in rings) left → IsShortRound turns (quiet_state w got) (state_after w new left)
+  short left is =
+      let round = rounded left is in
+      record {
+        round = round.round;
+        few = λ m small.
+            few_events w got turns m run.drawn (back left is).steps round.round.histories laid small round.round.count round.numbers (after left is).few run.few;
+      }
+
   -- to the state that is put together
-  pub round_after : (left : Ways) (t : State) → AreLeft rings.blocks (sent_in rings) (taken_in rings) left → t ≡ state_after w new left → RoundOf old t
+  pub round_after : (left : Ways) (t : State) → AreLeft rings.blocks (sent_in rings) (taken_in rings) left → t ≡ state_after w new left → IsShortRound turns old t
   round_after left t is same =
-      subst (λ u. RoundOf old u) (sym same) (subst (λ s. RoundOf s (state_after w new left)) (sym start) (rounded left is).round)
+      subst (λ u. IsShortRound turns old u) (sym same) (subst (λ s. IsShortRound turns s (state_after w new left)) (sym start) (short left is))

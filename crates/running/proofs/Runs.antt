@@ -1,18 +1,19 @@
 -- Seats that were worked on have run.
 use Rattle.std.proofs.Common.{◌≡◌, ℕ, ◌<◌, ◌≤◌, List, [], ◌++◌, length, get_or, sym, ◌∙◌, ap, subst, arith}
+use Rattle.sums.specs.Sums.{sum_below}
+use Rattle.sums.proofs.SumLemmas.{sum_by-sum_below}
 use Rattle.parcel.specs.States.{way_at}
 use Rattle.parcel.specs.Soundness.{IsSquare}
 use Rattle.block_net.specs.Views.{BlockView}
-use Rattle.seat_laws.specs.Rounds.{AreBack}
 use Rattle.block_rings.specs.declared.port.Port.{Port}
 use Rattle.block_workers.specs.declared.seat.Seat.{Seat}
 use Rattle.block_workers.specs.Seeing.{AreRising}
-use Rattle.block_workers.specs.Workers.{AllWorked}
+use Rattle.block_workers.specs.Workers.{AllWorked, turns_of}
 use Rattle.rounds.specs.Joined.{AreJoined}
 use Rattle.draining.specs.Links.{RingsView, sent_in, taken_in}
 use Rattle.draining.specs.Mated.{AreMated, sent, taken}
 use Rattle.running.specs.Seated.{blocks_of, ends_of, ports_of, AreSeated}
-use Rattle.running.specs.Together.{HaveRun}
+use Rattle.running.specs.Together.{AreBackAfter, HaveRun}
 use Rattle.running.proofs.Backs.{first_of, long_old, long_lists, many_new, still_rising, still_paired, still_none, seats_back}
 
 module _ (blocks : List BlockView) (ring : ℕ) (old new : List Seat) (some : 0 < length blocks) (seated : AreSeated blocks (ends_of old) old) (joined : AreJoined ring blocks (ports_of (ends_of old))) (worked : AllWorked old new) where
@@ -33,13 +34,25 @@ module _ (blocks : List BlockView) (ring : ℕ) (old new : List Seat) (some : 0 
     none = still_none blocks ring (ends_of old) old new d seated joined worked;
   }
 
-  pub have_run : (new_blocks : List BlockView) (rings : RingsView) → 1 ≤ ring → new_blocks ≡ blocks_of new → rings.blocks ≡ length new
-      → ((b c : ℕ) → sent_in rings b c ≡ sent after b c) → ((b c : ℕ) → taken_in rings b c ≡ taken after b c) → HaveRun blocks new_blocks rings
-  have_run new_blocks rings room blocks_is count sent_is taken_is = record {
+  -- how many turns block b drew
+  abbrev drawn : ℕ → ℕ
+  drawn b = (get_or new b d).turn
+
+  few_drawn : (turns : ℕ) → turns_of new ≤ turns → sum_below (length blocks) drawn ≤ turns
+  few_drawn turns few =
+      let all : turns_of new ≡ sum_below (length blocks) drawn =
+      sum_by-sum_below (λ (s : Seat). s.turn) new d ∙ ap (λ n. sum_below n drawn) many in
+      omega (arith, all, few)
+
+  pub have_run : (turns : ℕ) (new_blocks : List BlockView) (rings : RingsView) → 1 ≤ ring → new_blocks ≡ blocks_of new → rings.blocks ≡ length new
+      → ((b c : ℕ) → sent_in rings b c ≡ sent after b c) → ((b c : ℕ) → taken_in rings b c ≡ taken after b c) → turns_of new ≤ turns → HaveRun turns blocks new_blocks rings
+  have_run turns new_blocks rings room blocks_is count sent_is taken_is few = record {
     blocks = count ∙ many;
+    drawn = drawn;
+    few = few_drawn turns few;
     back = λ w got left is laid has.
         let total : rings.blocks ≡ length w.blocks = count ∙ (many ∙ ap (λ (l : List BlockView). length l) (sym is)) in
-        subst (λ (l : List BlockView). AreBack w got l left) (sym blocks_is)
+        subst (λ (l : List BlockView). AreBackAfter drawn w got l left) (sym blocks_is)
         (seats_back w got ring (ends_of old) old new d laid room (subst (λ l. AreSeated l (ends_of old) old) (sym is) seated)
         (subst (λ l. AreJoined ring l (ports_of (ends_of old))) (sym is) joined) worked left (subst (λ n. IsSquare n left) total has.square)
         (λ b low. has.none b (omega (arith, low, total)))

@@ -1,2 +1,3 @@
 pub mod Seated
 pub mod Together
+pub mod Short

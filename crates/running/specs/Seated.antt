@@ -29,4 +29,6 @@ pub record AreSeated (blocks : List BlockView) (ends : List Ends) (seats : List 
   pub hold : blocks_of seats ≡ blocks
   pub have : ends_of seats ≡ ends
   pub numbers : (b : ℕ) (d : Seat) → b < length seats → (slice_index_or seats b d).number ≡ b
+  pub nodes : (b : ℕ) (d : Seat) → b < length seats
+      → (slice_index_or seats b d).nodes ≡ count (slice_index_or seats b d).block
   pub new : AreNew seats

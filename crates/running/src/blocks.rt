@@ -49,7 +49,7 @@ pub(crate) fn run_blocks<J: Job + Sync, R: Threads + Wait + Sync, G: Gate>(
     requires parts { 0 < budget.parts }
     requires drawn { (drawn.name ≡ J.Drawn.name) × (drawn.parts ≡ J.Drawn.parts) }
     requires threads { drawn.parts ≡ options.now.threads }
-    ensures { IfOk result (λ came. HaveRun blocks.items came.blocks.items came.rings) }
+    ensures { IfOk result (λ came. HaveRun options.now.turns blocks.items came.blocks.items came.rings) }
 {
     let count = blocks.len();
     let space = Space::new(alloc, count)?;

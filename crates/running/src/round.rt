@@ -1,10 +1,10 @@
 ghost use Rattle.std.specs.Prelude.{◌≡◌, ◌<◌, IfOk};
 ghost use Rattle.parcel.specs.Events.{IsQuiet};
-ghost use Rattle.round_laws.specs.Rounds.{RoundOf};
 ghost use Rattle.block_core.specs.Views.{IsLaid};
 ghost use Rattle.block_core.specs.Mails.{IsHeld};
 ghost use Rattle.block_core.specs.Pieces.{state_in, whole_within};
 ghost use Rattle.worker_options.specs.Ranges.{AreInRange};
+ghost use Rattle.running.specs.Short.{IsShortRound};
 
 use crate::RoundError;
 use crate::blocks::run_blocks;
@@ -37,7 +37,7 @@ fn round_of<J: Job + Sync, R: Threads + Wait + Sync, G: Gate>(
     requires parts { 0 < budget.parts }
     requires drawn { (drawn.name ≡ J.Drawn.name) × (drawn.parts ≡ J.Drawn.parts) }
     requires threads { drawn.parts ≡ options.now.threads }
-    ensures { IfOk result (λ new. RoundOf (state_in pieces) new) }
+    ensures { IfOk result (λ new. IsShortRound options.now.turns (state_in pieces) new) }
 {
     let Pieces {
         net,
@@ -78,7 +78,7 @@ fn round_with<B: Ledger + Send + Sync, D: Ledger + Send + Sync, R: Threads + Wai
     requires parts { 0 < budget.parts }
     requires drawn { (drawn.name ≡ D.name) × (drawn.parts ≡ D.parts) }
     requires threads { drawn.parts ≡ options.now.threads }
-    ensures { IfOk result (λ new. RoundOf (state_in pieces) new) }
+    ensures { IfOk result (λ new. IsShortRound options.now.turns (state_in pieces) new) }
 {
     round_of::<Ledgers<B, D>, R, G>(rt, alloc, pieces, options, gate, budget, drawn)
 }
@@ -86,7 +86,8 @@ fn round_with<B: Ledger + Send + Sync, D: Ledger + Send + Sync, R: Threads + Wai
 /// A round from a state with no message on the way: each block is moved to one of the workers, does turns
 /// there, and comes back, and what is left in the rings between blocks goes to the ways. Whatever the schedule
 /// is, what each block did is a list of its own enabled events, and a block that could do something without
-/// taking a message did something.
+/// taking a message did something. All lists together have at most (blocks + turns) * (m + 16) events, where
+/// no block has more than m nodes and `turns` is the number of turns in the options.
 ///
 /// All growths come before the first worker starts. Where a round does not come about, the state is lost.
 pub fn run_round<R: Threads + Wait + Sync, G: Gate>(
@@ -98,7 +99,7 @@ pub fn run_round<R: Threads + Wait + Sync, G: Gate>(
 ) -> Result<State, RoundError>
     requires quiet { IsQuiet state }
     requires options { AreInRange options.now }
-    ensures round { IfOk result (λ new. RoundOf state new) }
+    ensures round { IfOk result (λ new. IsShortRound options.now.turns state new) }
 {
     let budget = Blank::new(1);
     let drawn = Blank::new(options.threads as u64);

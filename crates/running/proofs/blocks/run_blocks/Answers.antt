@@ -1,4 +1,5 @@
-use Rattle.std.proofs.Common.{◌<◌, length, arith}
+use Rattle.std.proofs.Common.{◌<◌, ◌≤◌, length, arith}
+use Rattle.block_workers.specs.Workers.{turns_of}
 use Rattle.running.proofs.Runs.{still_mated, have_run}
 use Rattle.running.proofs.blocks.run_blocks.Goals as goal
 
@@ -15,5 +16,8 @@ returns g c =
     let some : 0 < length blocks.items = omega (arith, c.requires.some, blocks.ok.0) in
     let old = c.in_ok-seats in
     let e = c.gathered.ensures in
+    let all = c.in_ok-book.ensures.budget.1 in
+    let some_drawn = c.in_ok-back.ensures.few in
+    let few : turns_of c.in_ok-back.back.items ≤ c.args.options.now.turns = omega (arith, all, some_drawn) in
     have_run blocks.items c.args.options.now.ring old.seats.items c.in_ok-back.back.items some old.ensures.seated old.ensures.joined c.in_ok-back.ensures.worked
-    c.gathered.result.blocks.items c.gathered.result.rings c.requires.options.ring_least e.blocks e.count e.sent e.taken
+    c.args.options.now.turns c.gathered.result.blocks.items c.gathered.result.rings c.requires.options.ring_least e.blocks e.count e.sent e.taken few

@@ -11,14 +11,14 @@ drain-requires-clause-room g c =
     let p = c.args.pieces in
     let r = c.requires in
     let came = c.in_ok-came.came in
-    fits (whole_within p) p.got p.ways.messages p.ways.rooms came.blocks.items came.rings r.laid r.held r.quiet c.in_ok-came.ensures
+    fits c.args.options.now.turns (whole_within p) p.got p.ways.messages p.ways.rooms came.blocks.items came.rings r.laid r.held r.quiet c.in_ok-came.ensures
 
 pub put_together-requires-clause-laid : goal.put_together-requires-clause-laid
 put_together-requires-clause-laid g c =
     let p = c.args.pieces in
     let r = c.requires in
     let came = c.in_ok-came.came in
-    laid_after (whole_within p) p.got p.ways.messages p.ways.rooms came.blocks.items came.rings r.laid r.held r.quiet c.in_ok-came.ensures
+    laid_after c.args.options.now.turns (whole_within p) p.got p.ways.messages p.ways.rooms came.blocks.items came.rings r.laid r.held r.quiet c.in_ok-came.ensures
     c.drain.new.ways.messages c.drain.ensures.left
 
 pub put_together-requires-clause-held : goal.put_together-requires-clause-held
@@ -26,7 +26,7 @@ put_together-requires-clause-held g c =
     let p = c.args.pieces in
     let r = c.requires in
     let came = c.in_ok-came.came in
-    held_after (whole_within p) p.got p.ways.messages p.ways.rooms came.blocks.items came.rings r.laid r.held r.quiet c.in_ok-came.ensures
+    held_after c.args.options.now.turns (whole_within p) p.got p.ways.messages p.ways.rooms came.blocks.items came.rings r.laid r.held r.quiet c.in_ok-came.ensures
     c.drain.new.ways.messages c.drain.new.ways.rooms c.drain.ensures.left c.drain.ensures.rooms
 
 pub returns : goal.returns
@@ -34,5 +34,5 @@ returns g c =
     let p = c.args.pieces in
     let r = c.requires in
     let came = c.in_ok-came.came in
-    round_after (whole_within p) p.got p.ways.messages p.ways.rooms came.blocks.items came.rings r.laid r.held r.quiet c.in_ok-came.ensures
+    round_after c.args.options.now.turns (whole_within p) p.got p.ways.messages p.ways.rooms came.blocks.items came.rings r.laid r.held r.quiet c.in_ok-came.ensures
     c.drain.new.ways.messages c.put_together.result c.drain.ensures.left c.put_together.ensures

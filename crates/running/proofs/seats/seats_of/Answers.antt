@@ -3,7 +3,7 @@ use Rattle.std.specs.Vec.Iter.{into_iter_items}
 use Rattle.std.proofs.lemmas.Grind.{common_steps}
 use Rattle.std.proofs.lemmas.List.Elements.{All-rest}
 use Rattle.flow_network.specs.Limits.{node_limit}
-use Rattle.block_net.specs.Views.{count}
+use Rattle.block_net.specs.Views.{BlockView, count}
 use Rattle.block_workers.specs.declared.seat.Seat.{Seat}
 use Rattle.running.proofs.Seating.{each_more}
 use Rattle.running.proofs.seats.seats_of.Goals as goal
@@ -27,6 +27,8 @@ loop-cells-preserved c =
       small = All-rest (λ B. count B ≤ node_limit) c.in-Some.cells (into_iter_items c.next.new.self) (into_iter_items c.loop-cells.cells-iterator) step was.small;
       numbers = subst (λ l. (b : ℕ) (d : Seat) → b < length l → (get_or l b d).number ≡ b) (sym items)
           (each_more (λ b s. s.number ≡ b) seats seat was.numbers (is.number ∙ sym was.number));
+      nodes = subst (λ l. (b : ℕ) (d : Seat) → b < length l → (get_or l b d).nodes ≡ count (get_or l b d).block) (sym items)
+          (each_more (λ b s. s.nodes ≡ count s.block) seats seat was.nodes (is.nodes ∙ sym (ap (λ (B : BlockView). count B) is.block)));
       new = subst (λ l. (b : ℕ) (d : Seat) → b < length l → (get_or l b d).turn ≡ 0) (sym items)
           (each_more (λ b s. s.turn ≡ 0) seats seat was.new is.turn);
     }

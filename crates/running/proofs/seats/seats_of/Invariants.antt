@@ -1,5 +1,6 @@
 use Rattle.std.proofs.Common.{◌≡◌, ℕ, ◌<◌, ◌≤◌, ◌+◌, ◌++◌, length, get_or, vec_capacity}
 use Rattle.std.specs.Vec.Iter.{into_iter_items}
+use Rattle.block_net.specs.Views.{count}
 use Rattle.block_workers.specs.declared.seat.Seat.{Seat}
 use Rattle.block_workers.specs.Workers.{AreNew}
 use Rattle.running.specs.Seated.{blocks_of, ends_of, AreSmall}
@@ -15,5 +16,6 @@ invariant-loop-cells l = record {
   few : l.number + length (into_iter_items l.cells-iterator) ≡ length (into_iter_items l.initial.cells-iterator);
   small : AreSmall (into_iter_items l.cells-iterator);
   numbers : (b : ℕ) (d : Seat) → b < length l.seats.items → (get_or l.seats.items b d).number ≡ b;
+  nodes : (b : ℕ) (d : Seat) → b < length l.seats.items → (get_or l.seats.items b d).nodes ≡ count (get_or l.seats.items b d).block;
   new : AreNew l.seats.items;
 }

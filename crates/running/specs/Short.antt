@@ -1,0 +1,21 @@
+-- How many events a round has.
+use Rattle.std.specs.Prelude.{ℕ, ◌+◌, ◌*◌, ◌<◌, ◌≤◌, ◌==◌, length, sum_by}
+use Rattle.sums.specs.Sums.{sum_below, counted}
+use Rattle.flow_network.specs.Cut.{nodes}
+use Rattle.parcel.specs.States.{State}
+use Rattle.round_laws.specs.Rounds.{RoundOf, home}
+
+-- how many nodes lie in block b
+abbrev pub nodes_in : State → ℕ → ℕ
+nodes_in s b = sum_below (nodes s.net) (λ v. counted (home s v == b) 1)
+
+-- no block has more than m nodes
+abbrev pub AreBlocksOf : ℕ → State → Type 0
+AreBlocksOf m s = (b : ℕ) → b < s.blocks → nodes_in s b ≤ m
+
+-- a round of a free turn of each block and so many turns more, of all blocks together: a turn has at most 16
+-- events more than its block has nodes
+pub record IsShortRound (turns : ℕ) (old new : State) : Type 0 where
+  pub round : RoundOf old new
+  pub few : (m : ℕ) → AreBlocksOf m old
+      → sum_by (λ history. length history) round.histories ≤ (old.blocks + turns) * (m + 16)
