@@ -19,10 +19,10 @@ pub record IsBounded (terms : ℕ) (q : Quadratic) : Type 0 where
   pub arcs : All (IsArc (vec_len q.weights)) q.arcs.items
   pub above : All IsAbove q.arcs.items
 
--- what an energy comes to before its terms: its constant, and a weight of 0 for each variable
-pub record IsWithoutTerms (e : Formula) (q : Quadratic) : Type 0 where
-  pub constant : q.constant ≡ e.constant
-  pub weights : q.weights.items ≡ replicate e.variables (pos 0)
+-- a constant over so many nodes: no weight but 0, and no arc
+pub record IsConstant (constant : ℤ) (nodes : ℕ) (q : Quadratic) : Type 0 where
+  pub constant_is : q.constant ≡ constant
+  pub weights : q.weights.items ≡ replicate nodes (pos 0)
   pub arcs : q.arcs.items ≡ []
 
 -- of the sets that are the same on the old nodes, the least new value is the old one and the term's

@@ -14,4 +14,4 @@ pub use capacities::net_of;
 pub use compiled::{Compiled, compile};
 pub use flow_network::{Arc, Net, Solved, check_cut};
 pub use laws::smallest_cut_is_smallest_assignment;
-pub use quadratic::{Quadratic, quadratic_of, take_quadratic};
+pub use quadratic::{Quadratic, quadratic_of};

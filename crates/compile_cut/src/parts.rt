@@ -1,20 +1,31 @@
-ghost use Rattle.std.specs.Prelude.{◌≡◌, ◌+◌, ◌*◌, ◌≤◌, All, pos, ◌+ℤ◌, ◌-ℤ◌, ◌≤ℤ◌, unsigned_abs};
+ghost use Rattle.std.specs.Prelude.{◌≡◌, ◌+◌, ◌*◌, ◌<◌, ◌≤◌, length, All, pos, ◌+ℤ◌, ◌-ℤ◌, ◌≤ℤ◌, unsigned_abs};
 ghost use Rattle.pseudo_bool.specs.Limits.{value_limit};
 ghost use Rattle.pseudo_bool.specs.Formula.{entry, IsValue};
 ghost use Rattle.regular.specs.Regularity.{IsRegularTable};
 
-/// A number less another.
-pub fn difference(a: i64, b: i64) -> i64
-    requires a { IsValue a }
-    requires b { IsValue b }
-    ensures value { result ≡ a -ℤ b }
+/// What a table has at a place less what it has at another.
+pub fn difference(table: &[i64], above: usize, below: usize) -> i64
+    requires values { All IsValue table.now }
+    requires places { (above < length table.now) × (below < length table.now) }
+    ensures value { result ≡ entry table.now above -ℤ entry table.now below }
     ensures small { unsigned_abs result ≤ 2 * value_limit }
 {
-    a - b
+    table[above] - table[below]
+}
+
+/// What a table has at two places less what it has at two others.
+pub fn balance(table: &[i64], a: usize, b: usize, c: usize, d: usize) -> i64
+    requires values { All IsValue table.now }
+    requires places { (a < length table.now) × (b < length table.now) × (c < length table.now)
+        × (d < length table.now) }
+    ensures value { result ≡ entry table.now a +ℤ entry table.now b -ℤ entry table.now c -ℤ entry table.now d }
+    ensures small { unsigned_abs result ≤ 4 * value_limit }
+{
+    balance_of(table[a], table[b], table[c], table[d])
 }
 
 /// Two numbers less two others.
-pub fn balance(a: i64, b: i64, c: i64, d: i64) -> i64
+fn balance_of(a: i64, b: i64, c: i64, d: i64) -> i64
     requires a { IsValue a }
     requires b { IsValue b }
     requires c { IsValue c }
@@ -25,17 +36,17 @@ pub fn balance(a: i64, b: i64, c: i64, d: i64) -> i64
     (a + b) - (c + d)
 }
 
-/// Two numbers less two others that are no more.
-pub fn gain(a: i64, b: i64, c: i64, d: i64) -> u64
-    requires a { IsValue a }
-    requires b { IsValue b }
-    requires c { IsValue c }
-    requires d { IsValue d }
-    requires regular { (c +ℤ d) ≤ℤ (a +ℤ b) }
-    ensures value { pos result ≡ a +ℤ b -ℤ c -ℤ d }
+/// What a table has at two places less what it has at two others, where that is no more.
+pub fn gain(table: &[i64], a: usize, b: usize, c: usize, d: usize) -> u64
+    requires values { All IsValue table.now }
+    requires places { (a < length table.now) × (b < length table.now) × (c < length table.now)
+        × (d < length table.now) }
+    requires regular { (entry table.now c +ℤ entry table.now d) ≤ℤ (entry table.now a +ℤ entry table.now b) }
+    ensures value { pos result ≡ entry table.now a
+        +ℤ entry table.now b -ℤ entry table.now c -ℤ entry table.now d }
     ensures small { result ≤ 4 * value_limit }
 {
-    balance(a, b, c, d).unsigned_abs()
+    balance(table, a, b, c, d).unsigned_abs()
 }
 
 /// The sum of two small numbers.
@@ -65,7 +76,7 @@ pub fn split_one(table: &[i64; 2]) -> OnePart
 {
     OnePart {
         constant: table[0],
-        weight: difference(table[1], table[0]),
+        weight: difference(table, 1, 0),
     }
 }
 
@@ -95,8 +106,8 @@ pub fn split_pair(table: &[i64; 4]) -> PairPart
 {
     PairPart {
         constant: table[0],
-        first: difference(table[2], table[0]),
-        second: difference(table[3], table[2]),
-        arc: gain(table[1], table[2], table[0], table[3]),
+        first: difference(table, 2, 0),
+        second: difference(table, 3, 2),
+        arc: gain(table, 1, 2, 0, 3),
     }
 }

@@ -1,4 +1,4 @@
-ghost use Rattle.std.specs.Prelude.{◌≡◌, ℕ, ◌+◌, ◌*◌, ◌<◌, ◌≤◌, Bool, not, ◌&&◌, [], All, length, ◌+ℤ◌, ◌≤ℤ◌, unsigned_abs, sum_by, slice_index_or, pos, vec_len, OnOk, IfOk};
+ghost use Rattle.std.specs.Prelude.{◌≡◌, ℕ, ◌+◌, ◌*◌, ◌<◌, ◌≤◌, Bool, not, ◌&&◌, All, length, ◌+ℤ◌, ◌≤ℤ◌, unsigned_abs, sum_by, slice_index_or, pos, vec_len, OnOk, IfOk};
 ghost use Rattle.sums.specs.Sums.{counted};
 ghost use Rattle.sums.specs.IntegerSums.{int_counted};
 ghost use Rattle.pseudo_bool.specs.Limits.{term_limit};
@@ -8,7 +8,7 @@ ghost use Rattle.regular.specs.declared.fixed.Fixed.{Fixed};
 ghost use Rattle.flow_network.specs.Cut.{IsArc};
 ghost use Rattle.compile_cut.specs.Limits.{form_nodes};
 ghost use Rattle.compile_cut.specs.Weights.{weights_value, weights_size, arcs_value, arcs_size, IsAbove};
-ghost use Rattle.compile_cut.specs.Form.{quadratic_value, IsBounded, IsWithoutTerms, AddsTerm, SaysValues};
+ghost use Rattle.compile_cut.specs.Form.{quadratic_value, IsBounded, IsConstant, AddsTerm, SaysValues};
 ghost use Rattle.compile_cut.specs.Shown.{three_count, three_digit};
 
 use crate::adding::{
@@ -20,7 +20,10 @@ use flow_network::Arc;
 use pseudo_bool::{Energy, Term};
 use std::alloc::{AllocError, Global};
 
-/// A number, a weight for each node, and arcs: what the terms of an energy add up to.
+/// A number, a weight for each node, and arcs: what the terms of an energy add up to. Its value at a set of nodes is
+/// the number, the weights of the nodes of the set and the capacities of the arcs that lead into it from outside, all
+/// in the unit of the energy (Kolmogorov and Zabih, PAMI 2004, section 4). Terms may be added one after another,
+/// without an energy that lists them, and `net_of` makes the net.
 #[derive(Drop)]
 pub struct Quadratic {
     /// What each assignment costs.
@@ -33,8 +36,32 @@ pub struct Quadratic {
 }
 
 impl Quadratic {
-    /// Adds a table over one variable.
-    fn add_one(&mut self, first: u32, table: &[i64; 2])
+    /// The form 0 of no nodes. It takes no memory.
+    pub fn new(alloc: Global) -> Quadratic
+        ensures { IsConstant (pos 0) 0 result }
+    {
+        Quadratic {
+            constant: 0,
+            weights: Vec::new(alloc),
+            arcs: Vec::new(alloc),
+        }
+    }
+
+    /// The form 0 of so many nodes, numbered from 0. Refuses only where memory runs out.
+    pub fn zero(alloc: Global, nodes: u32) -> Result<Quadratic, AllocError>
+        ensures { IfOk result (IsConstant (pos 0) nodes) }
+    {
+        Ok(Quadratic {
+            constant: 0,
+            weights: vec![in alloc; 0; nodes as usize]?,
+            arcs: Vec::new(alloc),
+        })
+    }
+
+    /// Adds a term of one variable, whose node is there: what it costs where the variable is 0 and where it is 1, each
+    /// number from `-VALUE_LIMIT` to `VALUE_LIMIT` of `pseudo_bool`. As many terms as an energy has at most may be
+    /// added to a form; `IsBounded` counts them. It takes no memory (Kolmogorov and Zabih, PAMI 2004, section 4.1).
+    pub fn add_one(&mut self, first: u32, table: &[i64; 2])
         requires bounded { IsBounded term_limit self.old }
         requires first { first < vec_len self.old.weights }
         requires values { All IsValue table.now }
@@ -48,8 +75,11 @@ impl Quadratic {
         self.constant += part.constant;
     }
 
-    /// Adds a regular table over two variables.
-    fn add_pair(&mut self, first: u32, second: u32, table: &[i64; 4]) -> Result<(), AllocError>
+    /// Adds a regular term of two variables, whose nodes are there: what it costs at 00, 01, 10 and 11, where the first
+    /// variable is the first digit, each number from `-VALUE_LIMIT` to `VALUE_LIMIT`. As many terms as an energy has at
+    /// most may be added to a form. Refuses only where memory runs out, and then nothing is said of the form
+    /// (Kolmogorov and Zabih, PAMI 2004, section 4.1).
+    pub fn add_pair(&mut self, first: u32, second: u32, table: &[i64; 4]) -> Result<(), AllocError>
         requires bounded { IsBounded term_limit self.old }
         requires first { first < vec_len self.old.weights }
         requires second { second < vec_len self.old.weights }
@@ -122,29 +152,14 @@ impl Quadratic {
     }
 }
 
-/// An energy that gives its terms away gives memory back each time that so many of them are left, or a multiple of it.
-const SHRINK_STEP: usize = 65_536;
-
-/// Gives back the memory that no term takes, where as many terms are left as a step says.
-fn shrink_at_step(energy: &mut Energy)
-    ensures { energy.new ≡ energy.old }
-{
-    let left = energy.term_count();
-    if left > 0 && left % SHRINK_STEP == 0 {
-        energy.shrink();
-    }
-}
-
 /// What an energy comes to before its terms are added: its constant, and a node for each variable.
 fn without_terms(alloc: Global, energy: &Energy) -> Result<Quadratic, AllocError>
-    ensures start { IfOk result (λ form. IsWithoutTerms energy.now form) }
+    ensures start { IfOk result (IsConstant energy.now.constant energy.now.variables) }
     ensures limits { IfOk result (λ form. IsEnergy energy.now) }
 {
-    Ok(Quadratic {
-        constant: energy.constant(),
-        weights: vec![in alloc; 0; energy.variables() as usize]?,
-        arcs: Vec::new(alloc),
-    })
+    let mut form = Quadratic::zero(alloc, energy.variables())?;
+    form.constant = energy.constant();
+    Ok(form)
 }
 
 /// The terms of a regular energy, added up: the first half of `compile`. The energy is needed no more afterwards, so who
@@ -162,27 +177,5 @@ pub fn quadratic_of(alloc: Global, energy: &Energy) -> Result<Quadratic, AllocEr
     for index in 0..energy.term_count() {
         form.add_term(&energy.term(index))?;
     }
-    Ok(form)
-}
-
-/// What `quadratic_of` answers, but for the numbers of the hidden nodes, where each term leaves the energy as it is added,
-/// and the memory of the terms is given back meanwhile: all but that of `SHRINK_STEP` terms. The last term leaves first,
-/// so the arcs are put in the order of the terms at the end. Where memory runs out, some of the terms have left.
-pub fn take_quadratic(alloc: Global, energy: &mut Energy) -> Result<Quadratic, AllocError>
-    requires { IsRegular energy.old }
-    ensures values { IfOk result (λ form. SaysValues energy.old form) }
-    ensures bounded { IfOk result (λ form. IsBounded term_limit form) }
-    ensures variables { IfOk result (λ form. energy.old.variables ≤ vec_len form.weights) }
-    ensures hidden { IfOk result (λ form. vec_len form.weights ≤ energy.old.variables
-        + three_count energy.old) }
-    ensures limits { IfOk result (λ form. IsEnergy energy.old) }
-    ensures emptied { IfOk result (λ form. energy.new ≡ record energy.old { terms = [] }) }
-{
-    let mut form = without_terms(alloc, energy)?;
-    'terms: while let Some(term) = energy.pop_term() {
-        form.add_term(&term)?;
-        shrink_at_step(energy);
-    }
-    form.arcs.reverse();
     Ok(form)
 }

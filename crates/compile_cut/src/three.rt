@@ -52,10 +52,7 @@ fn product_weight(table: &[i64; 8]) -> i64
     ensures value { result ≡ cubic_weight table.now }
     ensures small { unsigned_abs result ≤ 8 * value_limit }
 {
-    sum(
-        balance(table[1], table[2], table[0], table[3]),
-        balance(table[4], table[7], table[5], table[6]),
-    )
+    sum(balance(table, 1, 2, 0, 3), balance(table, 4, 7, 5, 6))
 }
 
 /// The table over the complemented variables in the reverse order, so that an earlier variable stays the
@@ -119,12 +116,9 @@ fn split_at_zeros(table: &[i64; 8], hidden: i64) -> ThreePart
 {
     ThreePart {
         constant: table[0],
-        first: difference(table[4], table[0]),
-        second: difference(table[6], table[4]),
-        third: sum(
-            balance(table[0], table[3], table[1], table[2]),
-            difference(table[5], table[4]),
-        ),
+        first: difference(table, 4, 0),
+        second: difference(table, 6, 4),
+        third: sum(balance(table, 0, 3, 1, 2), difference(table, 5, 4)),
         arcs: arcs_at_zeros(table),
         hidden,
     }
@@ -143,8 +137,8 @@ fn arcs_at_zeros(table: &[i64; 8]) -> ThreeArcs
     ensures small { result.first_second + result.first_third + result.second_third ≤ 12 * value_limit }
 {
     ThreeArcs {
-        first_second: gain(table[2], table[4], table[0], table[6]),
-        first_third: gain(table[1], table[4], table[0], table[5]),
-        second_third: gain(table[1], table[2], table[0], table[3]),
+        first_second: gain(table, 2, 4, 0, 6),
+        first_third: gain(table, 1, 4, 0, 5),
+        second_third: gain(table, 1, 2, 0, 3),
     }
 }

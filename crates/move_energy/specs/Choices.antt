@@ -1,11 +1,13 @@
 -- What is known of a move's variables before its energy is built, how the open ones are numbered, and what is
 -- known of them once the energy is least.
-use Rattle.std.specs.Prelude.{◌≡◌, ◌≢◌, ◌↔◌, ℕ, ◌<◌, Bool, true, false, List, length, slice_index_or, ℤ, pos, ◌+ℤ◌}
+use Rattle.std.specs.Prelude.{◌≡◌, ◌≢◌, ◌↔◌, ℕ, ◌<◌, Bool, true, false, List, length, slice_index_or, ℤ, pos, ◌+ℤ◌, vec_len}
 use Rattle.sums.specs.Sums.{sum_below}
 use Rattle.labellings.specs.declared.change.Move.{Move}
 use Rattle.labellings.specs.Energies.{Instance, labelling, energy}
 use Rattle.labellings.specs.Moves.{label_in, made}
-use Rattle.pseudo_bool.specs.Formula.{Formula, value_at, assignment}
+use Rattle.pseudo_bool.specs.Formula.{assignment}
+use Rattle.compile_cut.specs.declared.quadratic.Quadratic.{Quadratic}
+use Rattle.compile_cut.specs.Form.{quadratic_value}
 use Rattle.move_energy.specs.declared.choice.Choice.{Choice}
 use Rattle.move_energy.specs.declared.choice.Choice.TheVariants.{Open, Zero, One}
 
@@ -66,12 +68,13 @@ pub record AreSettled (old : List Choice) (bits : List Bool) (new : List Choice)
 abbrev pub made_by : Move → (ℕ → ℕ) → (ℕ → Choice) → (ℕ → ℕ) → (ℕ → Bool) → ℕ → ℕ
 made_by move f choice variable x = made move f (λ p. bit_of (choice p) (x (variable p)))
 
--- the yes-no energy stands for the partly decided move from f: but for a fixed number, its value at each
--- assignment is the energy of the labelling that the assignment and what was decided make. `variable` is each
+-- the form stands for the partly decided move from f: but for a fixed number, its value at each assignment
+-- is the energy of the labelling that the assignment and what was decided make. `variable` is each
 -- site's variable, and `site` each variable's site (Boykov, Veksler, Zabih 2001, section 4)
-pub record StandsFor (m : Instance) (move : Move) (f : ℕ → ℕ) (choice : ℕ → Choice) (e : Formula)
+pub record StandsFor (m : Instance) (move : Move) (f : ℕ → ℕ) (choice : ℕ → Choice) (q : Quadratic)
     (variable : ℕ → ℕ) : Type 0 where
   pub rest : ℤ
   pub site : ℕ → ℕ
-  pub value : (x : ℕ → Bool) → value_at e x +ℤ rest ≡ pos (energy m (made_by move f choice variable x))
-  pub covers : (p : ℕ) → p < m.sites → choice p ≡ Open → (variable p < e.variables) × (site (variable p) ≡ p)
+  pub value : (x : ℕ → Bool) → quadratic_value q x +ℤ rest ≡ pos (energy m (made_by move f choice variable x))
+  pub covers : (p : ℕ) → p < m.sites → choice p ≡ Open → (variable p < vec_len q.weights)
+      × (site (variable p) ≡ p)

@@ -1,5 +1,5 @@
 -- From the least values of a move's sites to the best labelling.
-use Rattle.std.proofs.Common.{◌≡◌, ◌≢◌, ℕ, ◌<◌, ◌≤◌, Bool, true, false, eqb, List, length, ℤ, pos, ◌+ℤ◌, ◌≤ℤ◌, refl, sym, ap, ◌∙◌, inl, inr, subst, arith}
+use Rattle.std.proofs.Common.{◌≡◌, ◌≢◌, ℕ, ◌<◌, ◌≤◌, Bool, true, false, eqb, List, length, vec_len, ℤ, pos, ◌+ℤ◌, ◌≤ℤ◌, refl, sym, ap, ◌∙◌, inl, inr, subst, arith}
 use Rattle.std.proofs.lemmas.Int.{ints}
 use Rattle.std.proofs.lemmas.Bool.{cases_Bool}
 use Rattle.std.proofs.lemmas.Bool.Decides.{nat_tests}
@@ -10,8 +10,9 @@ use Rattle.labellings.specs.Moves.{label_in, made, favoured, IsReached, IsBest, 
 use Rattle.labellings.proofs.Energy.{energy-same}
 use Rattle.labellings.proofs.Reaching.{label_in-favoured, label_in-fixed, label_in-one, cases_label_in}
 use Rattle.labellings.proofs.Best.{made-reached, stays-reached, expand-kept, lists_agree, reached-same}
-use Rattle.pseudo_bool.specs.Formula.{Formula, value_at}
-use Rattle.compile_cut.specs.Shown.{IsSmallestLeastAssignment}
+use Rattle.flow_network.specs.Cut.{Network, nodes, capacity_of, IsLeastCut, IsSmallestLeastCut}
+use Rattle.compile_cut.specs.declared.quadratic.Quadratic.{Quadratic}
+use Rattle.compile_cut.specs.Form.{quadratic_value}
 use Rattle.move_energy.specs.declared.choice.Choice.{Choice}
 use Rattle.move_energy.specs.declared.choice.Choice.TheVariants.{Open, Zero as DecidedZero, One as DecidedOne}
 use Rattle.move_energy.specs.Choices.{bit_of, choice_at, choice_of, value_of, made_by, AreAllOpen, AreSettled, StandsFor}
@@ -111,6 +112,22 @@ kept_best m move f x pairs least low = record {
   smallest = λ lower h reached no_more p l is. absurd (omega (arith, lower));
 }
 
+-- ---- the cut of a form
+
+least_too : (net : Network) (side other : ℕ → Bool) → IsLeastCut net side → capacity_of net other ≤ capacity_of net side → IsLeastCut net other
+least_too net side other least low third = let base = least third in omega (arith, low, base)
+
+-- where the capacity of each cut and a constant are the form's value, a smallest least cut is its least assignment with the
+-- fewest ones
+pub cut_least : (q : Quadratic) (net : Network) (k : ℤ) (side : ℕ → Bool) → nodes net ≡ vec_len q.weights
+    → ((x : ℕ → Bool) → pos (capacity_of net x) +ℤ k ≡ quadratic_value q x) → IsSmallestLeastCut net side
+    → IsSmallestLeast (vec_len q.weights) (quadratic_value q) side
+cut_least q net k side count is best = record {
+  least = λ y. omega (arith, ints, is side, is y, best.least y);
+  smallest = λ y level v l one.
+      best.smallest y (least_too net side y best.least (omega (arith, ints, is side, is y, level))) v (omega (arith, count, l)) one;
+}
+
 -- ---- where sites were decided
 
 open_of : (c : Choice) → bit_of c true ≡ true → bit_of c false ≡ false → c ≡ Open
@@ -128,20 +145,19 @@ smallest_along n E x y value same least = record {
 }
 
 -- the least assignment of the open sites and what was decided make the least values of all sites
-pub decided_least : (m : Instance) (move : Move) (f : ℕ → ℕ) (choice : ℕ → Choice) (e : Formula) (variable : ℕ → ℕ) (y : ℕ → Bool)
-    → IsInstance m → IsAllowed m move f → AreDecided m move f choice → StandsFor m move f choice e variable → IsSmallestLeastAssignment e y
+pub decided_least : (m : Instance) (move : Move) (f : ℕ → ℕ) (choice : ℕ → Choice) (q : Quadratic) (variable : ℕ → ℕ) (y : ℕ → Bool)
+    → IsInstance m → IsAllowed m move f → AreDecided m move f choice → StandsFor m move f choice q variable → IsSmallestLeast (vec_len q.weights) (quadratic_value q) y
     → IsSmallestLeast m.sites (move_value m move f) (λ p. bit_of (choice p) (y (variable p)))
-decided_least m move f choice e variable y pairs allowed decided stands least =
+decided_least m move f choice q variable y pairs allowed decided stands least =
     let ds = decided.decisions in
     let over = move_over m move f pairs in
     let forced = passed_forced (move_value m move f) ds (move_falls m move f pairs allowed) decided.passed in
-    let rest : IsRest m.sites (move_value m move f) ds e.variables (value_at e) variable stands.site = record {
+    let rest : IsRest m.sites (move_value m move f) ds (vec_len q.weights) (quadratic_value q) variable stands.site = record {
       offset = stands.rest;
       value = λ z. stands.value z ∙ sym (over (put ds (λ i. z (variable i))) (λ p. bit_of (choice p) (z (variable p))) (λ p l. decided.shown (λ i. z (variable i)) p l));
       covers = λ p l free. stands.covers p l (open_of (choice p) (sym (decided.shown (λ i. true) p l) ∙ free (λ i. true)) (sym (decided.shown (λ i. false) p l) ∙ free (λ i. false)));
     } in
-    let own : IsSmallestLeast e.variables (value_at e) y = record { least = least.least; smallest = least.smallest } in
-    let whole = rest_least m.sites (move_value m move f) ds e.variables (value_at e) variable stands.site y over forced rest own in
+    let whole = rest_least m.sites (move_value m move f) ds (vec_len q.weights) (quadratic_value q) variable stands.site y over forced rest least in
     smallest_along m.sites (move_value m move f) (put ds (λ i. y (variable i))) (λ p. bit_of (choice p) (y (variable p)))
     (over (λ p. bit_of (choice p) (y (variable p))) (put ds (λ i. y (variable i))) (λ p l. sym (decided.shown (λ i. y (variable i)) p l)))
     (λ p l. sym (decided.shown (λ i. y (variable i)) p l)) whole
@@ -161,10 +177,10 @@ settled_least m move f old new bits pairs size settled least =
 -- ---- where nothing was decided
 
 -- the values of all sites that the variables of the open ones make
-whole_made : (m : Instance) (move : Move) (f : List ℕ) (choices : List Choice) (e : Formula) (variable : ℕ → ℕ) (z : ℕ → Bool) → length f ≡ m.sites → AreAllOpen move f choices
-    → (stands : StandsFor m move (labelling f) (choice_at choices) e variable)
+whole_made : (m : Instance) (move : Move) (f : List ℕ) (choices : List Choice) (q : Quadratic) (variable : ℕ → ℕ) (z : ℕ → Bool) → length f ≡ m.sites → AreAllOpen move f choices
+    → (stands : StandsFor m move (labelling f) (choice_at choices) q variable)
     → Agrees m.sites (made_by move (labelling f) (choice_at choices) variable (λ i. z (stands.site i))) (made move (labelling f) z)
-whole_made m move f choices e variable z size whole stands p l = elim (cases_label_in move (labelling f p)) [
+whole_made m move f choices q variable z size whole stands p l = elim (cases_label_in move (labelling f p)) [
   | inl fixed ↦ label_in-fixed move (labelling f p) (bit_of (choice_at choices p) (z (stands.site (variable p)))) (z p) fixed
   | inr changes ↦
       let opened = (whole.opened p (omega (arith, l, size))).1 changes in
@@ -172,12 +188,12 @@ whole_made m move f choices e variable z size whole stands p l = elim (cases_lab
       ∙ ap (λ q. label_in move (labelling f p) (z q)) ((stands.covers p l opened).1)
 ]
 
-whole_value : (m : Instance) (move : Move) (f : List ℕ) (choices : List Choice) (e : Formula) (variable : ℕ → ℕ) (z : ℕ → Bool) → IsInstance m → length f ≡ m.sites → AreAllOpen move f choices
-    → (stands : StandsFor m move (labelling f) (choice_at choices) e variable)
-    → value_at e (λ i. z (stands.site i)) +ℤ stands.rest ≡ move_value m move (labelling f) z
-whole_value m move f choices e variable z pairs size whole stands =
+whole_value : (m : Instance) (move : Move) (f : List ℕ) (choices : List Choice) (q : Quadratic) (variable : ℕ → ℕ) (z : ℕ → Bool) → IsInstance m → length f ≡ m.sites → AreAllOpen move f choices
+    → (stands : StandsFor m move (labelling f) (choice_at choices) q variable)
+    → quadratic_value q (λ i. z (stands.site i)) +ℤ stands.rest ≡ move_value m move (labelling f) z
+whole_value m move f choices q variable z pairs size whole stands =
     stands.value (λ i. z (stands.site i)) ∙ ap pos (energy-same m (made_by move (labelling f) (choice_at choices) variable (λ i. z (stands.site i))) (made move (labelling f) z) pairs
-    (whole_made m move f choices e variable z size whole stands))
+    (whole_made m move f choices q variable z size whole stands))
 
 one_of : (c : Choice) (b : Bool) → c ≢ DecidedOne → bit_of c b ≡ true → (c ≡ Open) × (b ≡ true)
 one_of Open b none one = (refl, one)
@@ -190,14 +206,14 @@ least_by a b c d r h k l = omega (arith, ints, h, k, l)
 level_by : (a b c d r : ℤ) → a +ℤ r ≡ c → b +ℤ r ≡ d → d ≡ c → b ≡ a
 level_by a b c d r h k l = omega (arith, ints, h, k, l)
 
-pub open_least : (m : Instance) (move : Move) (f : List ℕ) (choices : List Choice) (e : Formula) (variable : ℕ → ℕ) (y : ℕ → Bool)
-    → IsInstance m → length f ≡ m.sites → AreAllOpen move f choices → StandsFor m move (labelling f) (choice_at choices) e variable → IsSmallestLeastAssignment e y
+pub open_least : (m : Instance) (move : Move) (f : List ℕ) (choices : List Choice) (q : Quadratic) (variable : ℕ → ℕ) (y : ℕ → Bool)
+    → IsInstance m → length f ≡ m.sites → AreAllOpen move f choices → StandsFor m move (labelling f) (choice_at choices) q variable → IsSmallestLeast (vec_len q.weights) (quadratic_value q) y
     → IsSmallestLeast m.sites (move_value m move (labelling f)) (λ p. bit_of (choice_at choices p) (y (variable p)))
-open_least m move f choices e variable y pairs size whole stands least = record {
-  least = λ z. least_by _ _ _ _ stands.rest (stands.value y) (whole_value m move f choices e variable z pairs size whole stands) (least.least (λ i. z (stands.site i)));
+open_least m move f choices q variable y pairs size whole stands least = record {
+  least = λ z. least_by _ _ _ _ stands.rest (stands.value y) (whole_value m move f choices q variable z pairs size whole stands) (least.least (λ i. z (stands.site i)));
   smallest = λ z level p l one.
       let own = one_of (choice_at choices p) (y (variable p)) (whole.none p (omega (arith, l, size))) one in
       let covered = stands.covers p l own.0 in
-      let equal = level_by _ _ _ _ stands.rest (stands.value y) (whole_value m move f choices e variable z pairs size whole stands) level in
+      let equal = level_by _ _ _ _ stands.rest (stands.value y) (whole_value m move f choices q variable z pairs size whole stands) level in
       ap z (sym covered.1) ∙ least.smallest (λ i. z (stands.site i)) equal (variable p) covered.0 own.1;
 }

@@ -1,10 +1,10 @@
 -- The energy of a move, and what its least assignment says of the sites.
-use Rattle.std.specs.Prelude.{ℕ, Bool, false, List, IsTrue, Result, Ok, Err}
+use Rattle.std.specs.Prelude.{ℕ, Bool, false, List, vec_len, IsTrue, Result, Ok, Err}
 use Rattle.labellings.specs.declared.change.Move.{Move}
 use Rattle.labellings.specs.Energies.{Instance, labelling}
 use Rattle.labellings.specs.Moves.{IsAllowed}
 use Rattle.pseudo_bool.specs.Formula.{assignment}
-use Rattle.compile_cut.specs.Shown.{IsSmallestLeastAssignment}
+use Rattle.compile_cut.specs.Form.{quadratic_value}
 use Rattle.move_energy.specs.declared.choice.Choice.{Choice}
 use Rattle.move_energy.specs.declared.building.MoveEnergy.{MoveEnergy}
 use Rattle.move_energy.specs.declared.error.BuildError.{BuildError}
@@ -24,10 +24,11 @@ IsGroupedFor pairs room = IsTrue room.grouped → AreBySite pairs room.deciding.
 abbrev pub site_values : List Choice → ℕ → Bool
 site_values choices p = bit_of (choice_at choices p) false
 
--- the least assignment with the fewest ones makes, with what was decided, the least values of all sites with
--- the fewest ones
+-- the least assignment of the form with the fewest ones makes, with what was decided, the least values of all
+-- sites with the fewest ones
 abbrev pub MakesLeast : Instance → Move → List ℕ → MoveEnergy → Type 0
-MakesLeast m move f made = (bits : List Bool) → IsSmallestLeastAssignment made.energy (assignment bits)
+MakesLeast m move f made = (bits : List Bool)
+    → IsSmallestLeast (vec_len made.form.weights) (quadratic_value made.form) (assignment bits)
     → IsSmallestLeast m.sites (move_value m move (labelling f)) (value_of made.variables.choices.items bits)
 
 -- what the building of the energy of a move answers

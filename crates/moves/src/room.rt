@@ -1,10 +1,13 @@
 //! The energy of a move, of which sites are decided before it is built.
-ghost use Rattle.std.specs.Prelude.{◌≡◌, ◌<◌, ℕ, All, length, false, OnOk, IsTrue};
+ghost use Rattle.std.specs.Prelude.{◌≡◌, ◌<◌, ◌≤◌, All, length, vec_len, false, OnOk, IsTrue};
 ghost use Rattle.labellings.specs.Energies.{Instance};
 ghost use Rattle.labellings.specs.Moves.{IsMoveOf};
-ghost use Rattle.regular.specs.Regularity.{IsRegular};
+ghost use Rattle.label_field.specs.Limits.{site_limit};
+ghost use Rattle.pseudo_bool.specs.Limits.{term_limit};
+ghost use Rattle.compile_cut.specs.Form.{IsBounded};
 ghost use Rattle.cost_store.specs.Limits.{data_limit};
 ghost use Rattle.cost_store.specs.Promises.{Keeps, KeepsSmooth};
+ghost use Rattle.move_energy.specs.Choices.{open_count};
 ghost use Rattle.move_energy.specs.Problems.{IsMeant};
 ghost use Rattle.deciding.specs.Decided.{AreBySite};
 ghost use Rattle.moves.specs.Building.{IsGroupedFor, IsBuiltMove};
@@ -13,8 +16,7 @@ use crate::Problem;
 use deciding::{Bounds, Deciding};
 use label_field::Pairs;
 use labellings::Move;
-use move_energy::{BuildError, MoveEnergy};
-use pseudo_bool::Energy;
+use move_energy::{BuildError, Choice, MoveEnergy};
 use std::alloc::{AllocError, Global};
 use std::mem::swap;
 
@@ -24,15 +26,29 @@ use std::mem::swap;
 /// the sites.
 const KEPT_SITES: usize = 1 << 18;
 
-/// The most terms of an energy beside which the pairs stay grouped by their sites. Beside more, of over 48 MB, the groups are
-/// given back before the cut, and the next move makes them anew, which takes less than a twentieth of such a move's time.
-const GROUPED_TERMS: usize = 1 << 21;
+/// The most open sites beside which the pairs stay grouped by their sites. The form, the net and the cut of more take
+/// over 50 MB, so the groups are given back before the form is built, and the next move makes them anew, which takes
+/// less than a twentieth of such a move's time.
+const GROUPED_SITES: usize = 1 << 19;
 
-/// Gives the memory of the grouped pairs back where the energy of the move is large.
-pub fn give_groups_back(alloc: Global, grouped: &mut bool, deciding: &mut Deciding, energy: &Energy)
+/// How many choices are open.
+fn open_sites(choices: &[Choice]) -> usize
+    ensures { result ≡ open_count choices.now }
+{
+    let mut count = 0usize;
+    for site in 0..choices.len() {
+        if choices[site].is_open() {
+            count += 1;
+        }
+    }
+    count
+}
+
+/// Gives the memory of the grouped pairs back where many sites are open.
+fn give_groups_back(alloc: Global, grouped: &mut bool, deciding: &mut Deciding, choices: &[Choice])
     ensures kept { IsTrue grouped.new → IsTrue grouped.old × (deciding.new.ends ≡ deciding.old.ends) }
 {
-    if energy.term_count() > GROUPED_TERMS {
+    if open_sites(choices) > GROUPED_SITES {
         *grouped = false;
         *deciding = Deciding::empty(alloc);
     }
@@ -108,7 +124,8 @@ impl<F: Fn(u32, u32) -> i64, V: Fn(u32, u32) -> i64> Problem<F, V> {
         requires by_site { IsGroupedFor self.now.pairs room.old }
         ensures by_site { IsGroupedFor self.now.pairs room.new }
         ensures choices { OnOk result (length room.new.built.variables.choices.items ≡ length at.now) }
-        ensures regular { OnOk result (IsRegular room.new.built.energy) }
+        ensures bounded { OnOk result (IsBounded term_limit room.new.built.form) }
+        ensures few { OnOk result (vec_len room.new.built.form.weights ≤ site_limit) }
         ensures built { (m : Instance) →
             IsMeant (F.post self.now.data_cost.f) (V.post self.now.smooth_cost.v) self.now.pairs
             self.now.data_cost.labels m →
@@ -122,14 +139,33 @@ impl<F: Fn(u32, u32) -> i64, V: Fn(u32, u32) -> i64> Problem<F, V> {
             &mut room.built.variables.choices,
         );
         give_bounds_back(alloc, &mut room.deciding.bounds);
-        match room.built.build(&self.pairs, &self.data_cost, &self.smooth_cost, at, change) {
+        give_groups_back(
+            alloc,
+            &mut room.grouped,
+            &mut room.deciding,
+            &room.built.variables.choices,
+        );
+        match room.built.build(
+            alloc,
+            &self.pairs,
+            &self.data_cost,
+            &self.smooth_cost,
+            at,
+            change,
+        ) {
             Ok(()) => Ok(()),
             Err(_) => Err(BuildError::OutOfMemory),
         }
     }
 
     /// The energy of a move of which nothing is decided.
-    fn build_whole(&self, room: &mut Room, at: &[u8], change: Move) -> Result<(), BuildError>
+    fn build_whole(
+        &self,
+        alloc: Global,
+        room: &mut Room,
+        at: &[u8],
+        change: Move,
+    ) -> Result<(), BuildError>
         requires sites { (length at.now ≡ self.now.pairs.sites)
             × (self.now.data_cost.sites ≡ self.now.pairs.sites) }
         requires labels { (self.now.smooth_cost.labels ≡ self.now.data_cost.labels)
@@ -142,14 +178,22 @@ impl<F: Fn(u32, u32) -> i64, V: Fn(u32, u32) -> i64> Problem<F, V> {
         requires by_site { IsGroupedFor self.now.pairs room.old }
         ensures by_site { IsGroupedFor self.now.pairs room.new }
         ensures choices { OnOk result (length room.new.built.variables.choices.items ≡ length at.now) }
-        ensures regular { OnOk result (IsRegular room.new.built.energy) }
+        ensures bounded { OnOk result (IsBounded term_limit room.new.built.form) }
+        ensures few { OnOk result (vec_len room.new.built.form.weights ≤ site_limit) }
         ensures built { (m : Instance) →
             IsMeant (F.post self.now.data_cost.f) (V.post self.now.smooth_cost.v) self.now.pairs
             self.now.data_cost.labels m →
             IsBuiltMove m change at.now room.new.built result }
     {
         let _pairs = self.pairs.as_slice();
-        room.built.prepare(&self.pairs, &self.data_cost, &self.smooth_cost, at, change)
+        room.built.prepare(
+            alloc,
+            &self.pairs,
+            &self.data_cost,
+            &self.smooth_cost,
+            at,
+            change,
+        )
     }
 
     /// The energy of a move, its sites decided first or not.
@@ -173,7 +217,8 @@ impl<F: Fn(u32, u32) -> i64, V: Fn(u32, u32) -> i64> Problem<F, V> {
         requires by_site { IsGroupedFor self.now.pairs room.old }
         ensures by_site { IsGroupedFor self.now.pairs room.new }
         ensures choices { OnOk result (length room.new.built.variables.choices.items ≡ length at.now) }
-        ensures regular { OnOk result (IsRegular room.new.built.energy) }
+        ensures bounded { OnOk result (IsBounded term_limit room.new.built.form) }
+        ensures few { OnOk result (vec_len room.new.built.form.weights ≤ site_limit) }
         ensures built { (m : Instance) →
             IsMeant (F.post self.now.data_cost.f) (V.post self.now.smooth_cost.v) self.now.pairs
             self.now.data_cost.labels m →
@@ -182,7 +227,7 @@ impl<F: Fn(u32, u32) -> i64, V: Fn(u32, u32) -> i64> Problem<F, V> {
         if decides {
             self.build_decided(alloc, room, at, change)
         } else {
-            self.build_whole(room, at, change)
+            self.build_whole(alloc, room, at, change)
         }
     }
 }

@@ -1,9 +1,9 @@
-use Rattle.std.proofs.Common.{◌≡◌, ℕ, ◌+◌, ◌*◌, ◌<◌, ◌≤◌, Bool, List, length, get_or, take, ℤ, ◌+ℤ◌, unsigned_abs, All, arith, ap, ◌∙◌, w64, FitsSigned, [], ◌∷◌, ◌++◌, refl, sym, None, Some, Option, option_to_list}
+use Rattle.std.proofs.Common.{◌≡◌, ℕ, ◌+◌, ◌*◌, ◌<◌, ◌≤◌, Bool, List, length, get_or, take, ℤ, ◌+ℤ◌, unsigned_abs, All, arith, ap, ◌∙◌, w64, FitsSigned, [], ◌∷◌, ◌++◌, refl}
 use Rattle.std.proofs.Math.ListN.{get_or-append}
 use Rattle.std.proofs.Math.Seq.{get_or-append_seam}
 use Rattle.std.proofs.lemmas.Int.{ints}
 use Rattle.std.proofs.lemmas.List.{get_or-map, length-map, take_all, length-append, map-append}
-use Rattle.std.proofs.lemmas.List.Elements.{All-nil, All-cons, All-head, All-tail, All-push, All-pop, All-weaker}
+use Rattle.std.proofs.lemmas.List.Elements.{All-head, All-tail, All-push, All-weaker}
 use Rattle.sums.specs.IntegerSums.{int_sum_by}
 use Rattle.sums.proofs.IntegerSumLemmas.{int_sum_by_more, int_sum_by-map, within_fits, abs-add}
 use Rattle.pseudo_bool.specs.declared.term.Term.{Term}
@@ -12,7 +12,7 @@ use Rattle.pseudo_bool.specs.declared.row.Row.{Row}
 use Rattle.pseudo_bool.specs.declared.row.Row.TheVariants.{One as RowOne, Two as RowTwo, Three as RowThree}
 use Rattle.pseudo_bool.specs.declared.row.Triple.{Triple}
 use Rattle.pseudo_bool.specs.Formula.{Formula, IsTerm, IsEnergy, term_value, value_at}
-use Rattle.pseudo_bool.specs.Rows.{triple_term, triple_at, term_of, terms_of, IsKept, AreKept, AreInOrder}
+use Rattle.pseudo_bool.specs.Rows.{triple_term, triple_at, term_of, terms_of, IsKept, AreKept}
 
 -- ---- rows that are read
 
@@ -61,22 +61,6 @@ kept_more n m (RowOne first table) l h = h
 kept_more n m (RowTwo first second table) l h = h
 kept_more n m (RowThree place) l h = omega arith
 
--- a further triple is the last of the order
-in_order-triple : (n next : ℕ) (rows : List Row) → AreInOrder n next rows → AreInOrder (n + 1) next (rows ++ RowThree n ∷ [])
-in_order-triple n next [] h = (sym h, ap (λ k. k + 1) h)
-in_order-triple n next (RowOne first table ∷ rows) h = in_order-triple n next rows h
-in_order-triple n next (RowTwo first second table ∷ rows) h = in_order-triple n next rows h
-in_order-triple n next (RowThree place ∷ rows) h = (h.0, in_order-triple n (next + 1) rows h.1)
-
--- a row that names no triple changes no order
-in_order-plain : (n next : ℕ) (rows : List Row) (row : Row) → IsKept 0 row → AreInOrder n next rows → AreInOrder n next (rows ++ row ∷ [])
-in_order-plain n next [] (RowOne first table) k h = h
-in_order-plain n next [] (RowTwo first second table) k h = h
-in_order-plain n next [] (RowThree place) k h = absurd (omega arith)
-in_order-plain n next (RowOne first table ∷ rows) row k h = in_order-plain n next rows row k h
-in_order-plain n next (RowTwo first second table ∷ rows) row k h = in_order-plain n next rows row k h
-in_order-plain n next (RowThree place ∷ rows) row k h = (h.0, in_order-plain n (next + 1) rows row k h.1)
-
 pub triple_kept : (ts : List Triple) (t : Triple) (rows : List Row) → AreKept ts rows → AreKept (ts ++ t ∷ []) (rows ++ RowThree (length ts) ∷ [])
 triple_kept ts t rows h =
     let more : length (ts ++ t ∷ []) ≡ length ts + 1 = length-append ts (t ∷ []) in
@@ -85,7 +69,6 @@ triple_kept ts t rows h =
           (All-weaker (IsKept (length ts)) (IsKept (length (ts ++ t ∷ []))) (λ row k. kept_more (length ts) (length (ts ++ t ∷ [])) row (omega arith) k) rows h.each)
           (omega arith);
       count = omega (arith, more, length-append rows (RowThree (length ts) ∷ []), h.count);
-      order = rw more (in_order-triple (length ts) 0 rows h.order);
     }
 
 -- a row that names no triple
@@ -103,100 +86,7 @@ row_kept ts rows row k h =
     record {
       each = All-push (IsKept (length ts)) rows row h.each (kept_more 0 (length ts) row (omega arith) k);
       count = omega (arith, length-append rows (row ∷ []), h.count);
-      order = in_order-plain (length ts) 0 rows row k h.order;
     }
-
--- ---- rows that leave
-
--- the last triple of the order leaves with the row that names it
-in_order-less : (n next place : ℕ) (rows : List Row) → AreInOrder n next (rows ++ RowThree place ∷ [])
-    → AreInOrder place next rows × (place + 1 ≡ n)
-in_order-less n next place [] h = (sym h.0, ap (λ k. k + 1) h.0 ∙ h.1)
-in_order-less n next place (RowOne first table ∷ rows) h = in_order-less n next place rows h
-in_order-less n next place (RowTwo first second table ∷ rows) h = in_order-less n next place rows h
-in_order-less n next place (RowThree at ∷ rows) h =
-    let less = in_order-less n (next + 1) place rows h.1 in
-    ((h.0, less.0), less.1)
-
--- a row that names no triple leaves the order as it is
-in_order-fewer : (n next : ℕ) (rows : List Row) (row : Row) → IsKept 0 row → AreInOrder n next (rows ++ row ∷ []) → AreInOrder n next rows
-in_order-fewer n next [] (RowOne first table) k h = h
-in_order-fewer n next [] (RowTwo first second table) k h = h
-in_order-fewer n next [] (RowThree place) k h = absurd (omega arith)
-in_order-fewer n next (RowOne first table ∷ rows) row k h = in_order-fewer n next rows row k h
-in_order-fewer n next (RowTwo first second table ∷ rows) row k h = in_order-fewer n next rows row k h
-in_order-fewer n next (RowThree place ∷ rows) row k h = (h.0, in_order-fewer n (next + 1) rows row k h.1)
-
--- rows in order name triples that are there, and no more triples than rows
-in_order-each : (n next : ℕ) (rows : List Row) → AreInOrder n next rows → All (IsKept n) rows × (next ≤ n) × (n ≤ next + length rows)
-in_order-each n next [] h = (All-nil (IsKept n), omega (arith, h), omega (arith, h))
-in_order-each n next (RowOne first table ∷ rows) h =
-    let more = in_order-each n next rows h in
-    (All-cons (IsKept n) (RowOne first table) rows tt more.0, more.1, omega (arith, more.2))
-in_order-each n next (RowTwo first second table ∷ rows) h =
-    let more = in_order-each n next rows h in
-    (All-cons (IsKept n) (RowTwo first second table) rows tt more.0, more.1, omega (arith, more.2))
-in_order-each n next (RowThree place ∷ rows) h =
-    let more = in_order-each n (next + 1) rows h.1 in
-    (All-cons (IsKept n) (RowThree place) rows (omega (arith, h.0, more.1)) more.0, omega (arith, more.1), omega (arith, more.2))
-
--- what is in order is kept
-kept_in_order : (ts : List Triple) (rows : List Row) → AreInOrder (length ts) 0 rows → AreKept ts rows
-kept_in_order ts rows h =
-    let each = in_order-each (length ts) 0 rows h in
-    record { each = each.0; count = omega (arith, each.2); order = h }
-
--- what is true where the last term has left an energy, and these triples and rows stay
-pub record HasLeft (e : Formula) (ts : List Triple) (rows : List Row) (t : Term) : Type 0 where
-  pub energy : IsEnergy (record e { terms = terms_of ts rows })
-  pub kept : AreKept ts rows
-  pub terms : e.terms ≡ terms_of ts rows ++ t ∷ []
-  pub within : IsTerm e.variables t
-  pub some : 0 < length e.terms
-
-has_left : (e : Formula) (ts : List Triple) (rows : List Row) (t : Term) → IsEnergy e → AreKept ts rows → e.terms ≡ terms_of ts rows ++ t ∷ []
-    → HasLeft e ts rows t
-has_left e ts rows t h kept is =
-    let parts = All-pop (IsTerm e.variables) e.terms (terms_of ts rows) (Some t) is h.terms in
-    record {
-      energy = record {
-        constant = h.constant;
-        variables = h.variables;
-        count = omega (arith, h.count, ap length is, length-append (terms_of ts rows) (t ∷ []));
-        terms = parts.0;
-      };
-      kept = kept;
-      terms = is;
-      within = parts.1;
-      some = omega (arith, ap length is, length-append (terms_of ts rows) (t ∷ []));
-    }
-
-not_three : (row : Row) → ((place : ℕ) → row ≡ RowThree place → ⊥) → IsKept 0 row
-not_three (RowOne first table) h = tt
-not_three (RowTwo first second table) h = tt
-not_three (RowThree place) h = absurd (h place refl)
-
--- a row that names no triple leaves
-pub row_left : (e : Formula) (ts : List Triple) (all rows : List Row) (row : Row) → IsEnergy e → AreKept ts all → e.terms ≡ terms_of ts all
-    → all ≡ rows ++ row ∷ [] → ((place : ℕ) → row ≡ RowThree place → ⊥) → HasLeft e ts rows (term_of ts row)
-row_left e ts all rows row h kept terms is other =
-    let order = in_order-fewer (length ts) 0 rows row (not_three row other) (rw is at kept.order) in
-    has_left e ts rows (term_of ts row) h (kept_in_order ts rows order) (terms ∙ ap (terms_of ts) is ∙ map-append (term_of ts) rows (row ∷ []))
-
--- a row of a triple leaves with the last triple
-pub triple_left : (e : Formula) (old ts : List Triple) (last : Option Triple) (all rows : List Row) (row : Row) (place : ℕ) → IsEnergy e → AreKept old all
-    → e.terms ≡ terms_of old all → all ≡ rows ++ row ∷ [] → row ≡ RowThree place
-    → old ≡ ts ++ option_to_list last → (last ≡ None → length old ≡ 0) → HasLeft e ts rows (term_of old row)
-triple_left e old ts None all rows row place h kept terms is three from none =
-    let less = in_order-less (length old) 0 place rows (rw (is, three) at kept.order) in
-    absurd (omega (arith, less.1, none refl))
-triple_left e old ts (Some t) all rows row place h kept terms is three from none =
-    let less = in_order-less (length old) 0 place rows (rw (is, three) at kept.order) in
-    let here : place ≡ length ts = omega (arith, less.1, ap length from, length-append ts (t ∷ [])) in
-    let stay = kept_in_order ts rows (rw here at less.0) in
-    let same : terms_of old rows ≡ terms_of ts rows = ap (λ us. terms_of us rows) from ∙ terms_of-more ts t rows stay.each in
-    has_left e ts rows (term_of old row) h stay
-    (terms ∙ ap (terms_of old) is ∙ map-append (term_of old) rows (row ∷ []) ∙ ap (λ us. us ++ term_of old row ∷ []) same)
 
 -- an energy with a term added
 pub term_added : (e : Formula) (t : Term) → IsEnergy e → IsTerm e.variables t → length e.terms < 8388608

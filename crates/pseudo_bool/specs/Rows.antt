@@ -1,4 +1,4 @@
-use Rattle.std.specs.Prelude.{◌≡◌, ℕ, ◌+◌, ◌*◌, ◌<◌, ◌≤◌, List, [], ◌∷◌, All, length, map, slice_index, slice_index_or}
+use Rattle.std.specs.Prelude.{ℕ, ◌+◌, ◌*◌, ◌<◌, ◌≤◌, List, [], All, length, map, slice_index, slice_index_or}
 use Rattle.pseudo_bool.specs.declared.term.Term.{Term}
 use Rattle.pseudo_bool.specs.declared.term.Term.TheVariants.{One, Two, Three}
 use Rattle.pseudo_bool.specs.declared.row.Row.{Row}
@@ -34,16 +34,7 @@ IsKept count (RowOne first table) = Unit {0}
 IsKept count (RowTwo first second table) = Unit {0}
 IsKept count (RowThree place) = place < count
 
--- the triples that the rows name are those from `next` up to the last, in their order
-abbrev pub AreInOrder : ℕ → ℕ → List Row → Type 0
-AreInOrder count next [] = next ≡ count
-AreInOrder count next (RowOne first table ∷ rows) = AreInOrder count next rows
-AreInOrder count next (RowTwo first second table ∷ rows) = AreInOrder count next rows
-AreInOrder count next (RowThree place ∷ rows) = (place ≡ next) × AreInOrder count (next + 1) rows
-
--- each triple that a row names is there, there are no more triples than rows, and the rows name them in
--- their order
+-- each triple that a row names is there, and there are no more triples than rows
 pub record AreKept (triples : List Triple) (rows : List Row) : Type 0 where
   pub each : All (IsKept (length triples)) rows
   pub count : length triples ≤ length rows
-  pub order : AreInOrder (length triples) 0 rows

@@ -1,4 +1,4 @@
-ghost use Rattle.std.specs.Prelude.{◌≡◌, ◌+◌, ◌<◌, ◌≤◌, ◌↔◌, ◌++◌, [], All, length, option_to_list, pos, ◌+ℤ◌, slice_get, IsTrue, IsSome, IfSome, IsOk, IfOk, IfErr, OnOk, OnErr};
+ghost use Rattle.std.specs.Prelude.{◌≡◌, ◌+◌, ◌<◌, ◌≤◌, ◌↔◌, [], All, length, pos, ◌+ℤ◌, slice_get, IsTrue, IsOk, IfOk, IfErr, OnOk, OnErr};
 ghost use Rattle.pseudo_bool.specs.Limits.{variable_limit, constant_limit};
 ghost use Rattle.pseudo_bool.specs.Formula.{IsEnergy, IsTerm, IsWithin, IsValue, value_at, assignment};
 ghost use Rattle.pseudo_bool.specs.Refusals.{IsAccepted, IsAdded, IsRefusal};
@@ -215,31 +215,6 @@ impl Energy {
             third,
             table: narrow(&table),
         })
-    }
-
-    /// Takes the last term out of the list: none where the list is empty. The memory of the list stays, for `shrink` to
-    /// give back.
-    pub fn pop_term(&mut self) -> Option<Term>
-        ensures variant { IsSome result ↔ (0 < length self.old.terms) }
-        ensures terms { self.old.terms ≡ self.new.terms ++ option_to_list result }
-        ensures rest { self.new ≡ record self.old { terms = self.new.terms } }
-        ensures within { IfSome result (IsTerm self.old.variables) }
-        ensures limits { IsEnergy self.old }
-    {
-        let row = self.rows.pop()?;
-        let term = row.term(self.triples.as_slice());
-        if let Row::Three(_) = row {
-            self.triples.pop();
-        }
-        Some(term)
-    }
-
-    /// Gives back the memory of the list that no term takes. Where it is refused a smaller list, it keeps what it has.
-    pub fn shrink(&mut self)
-        ensures { self.new ≡ self.old }
-    {
-        self.rows.shrink_to_fit();
-        self.triples.shrink_to_fit();
     }
 
     /// Adds a row of one or two variables, if there is room for one more.

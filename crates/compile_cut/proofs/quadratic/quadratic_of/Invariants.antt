@@ -1,6 +1,5 @@
-use Rattle.std.proofs.Common.{take}
 use Rattle.compile_cut.proofs.TermLemmas.{HasAdded}
 use Rattle.compile_cut.proofs.quadratic.quadratic_of.Given as goal
 
 abbrev pub invariant-loop-index : goal.invariant-loop-index
-invariant-loop-index l = HasAdded l.energy (take l.index l.energy.terms) l.form
+invariant-loop-index l = HasAdded l.energy l.index l.form

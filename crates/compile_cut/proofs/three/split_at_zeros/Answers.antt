@@ -1,23 +1,41 @@
-use Rattle.std.proofs.Common.{arith, ◌<◌, ◌≤◌, ℕ, pos, unsigned_abs}
+use Rattle.std.proofs.Common.{arith, unsigned_abs, ◌≤◌, pos, ◌∙◌}
 use Rattle.pseudo_bool.specs.Formula.{entry}
 use Rattle.compile_cut.proofs.PartLemmas.{passed_is}
 use Rattle.compile_cut.proofs.three.split_at_zeros.Goals as goal
 
+pub returns-clause-first : goal.returns-clause-first
+returns-clause-first c = passed_is c.difference.result (omega (arith, c.difference.ensures.small)) ∙ c.difference.ensures.value
+
+pub returns-clause-second : goal.returns-clause-second
+returns-clause-second c = passed_is c.difference-2.result (omega (arith, c.difference-2.ensures.small)) ∙ c.difference-2.ensures.value
+
+pub returns-clause-third : goal.returns-clause-third
+returns-clause-third c =
+    let one = passed_is c.balance.result (omega (arith, c.balance.ensures.small)) in
+    let other = passed_is c.difference-3.result (omega (arith, c.difference-3.ensures.small)) in
+    let both = passed_is c.sum.result (omega (arith, c.sum.ensures.small)) in
+    cc (one, other, both, c.sum.ensures.value, c.balance.ensures.value, c.difference-3.ensures.value)
+
+pub sum-requires-clause-a : goal.sum-requires-clause-a
+sum-requires-clause-a c = rw (passed_is c.balance.result (omega (arith, c.balance.ensures.small))) c.balance.ensures.small
+
+pub sum-requires-clause-b : goal.sum-requires-clause-b
+sum-requires-clause-b c =
+    rw (passed_is c.difference-3.result (omega (arith, c.difference-3.ensures.small))) (omega (arith, c.difference-3.ensures.small))
+
 pub returns-clause-small : goal.returns-clause-small
 returns-clause-small c =
-    let t = c.args.table.now in
-    let small = λ (k : ℕ) (l : k < 8). (let s : unsigned_abs (entry t k) ≤ 1000000000 = c.requires.values k (pos 0) (omega (arith, c.told-table)) in s) in
-    let plain = λ (k : ℕ) (l : k < 8). passed_is (entry t k) (omega (arith, small k l)) in
+    let zero : unsigned_abs (entry c.args.table.now 0) ≤ 1000000000 = c.requires.values 0 (pos 0) (omega (arith, c.told-table)) in
     let first = c.difference.ensures.small in
     let second = c.difference-2.ensures.small in
     let third = c.sum.ensures.small in
-    rw (plain 0 (omega arith), passed_is c.difference.result (omega arith), passed_is c.difference-2.result (omega arith), passed_is c.sum.result (omega arith), passed_is c.args.hidden (omega (arith, c.requires.hidden)))
+    rw (passed_is (entry c.args.table.now 0) (omega (arith, zero)), passed_is c.difference.result (omega arith), passed_is c.difference-2.result (omega arith), passed_is c.sum.result (omega arith), passed_is c.args.hidden (omega (arith, c.requires.hidden)))
     (record {
-      constant = small 0 (omega arith);
-      first = omega arith;
-      second = omega arith;
-      third = omega arith;
-      outer = omega arith;
-      hidden = omega (arith, c.requires.hidden);
+      constant = zero;
+      first = omega (arith, first);
+      second = omega (arith, second);
+      third = omega (arith, third);
+      outer = omega (arith, first, third);
+      hidden = c.requires.hidden;
       arcs = c.arcs_at_zeros.ensures.small;
     })

@@ -7,11 +7,11 @@ pub returns-clause-adds : goal.returns-clause-adds
 returns-clause-adds g c = λ cost answers.
     let a = c.args in
     let table = c.pair_table-table.ensures.table cost answers in
-    ends_fit a.weight cost a.change a.first a.second a.energy.now c.add_two.new.energy true refl
+    ends_fit a.weight cost a.change a.first a.second a.form.now c.add_pair.new.self true refl
     (λ one two. table_regular a.change a.weight a.first.label a.second.label cost c.pair_table-table.result table
     (c.is_regular_table.ensures.0 c.if-not-is_regular_table.false))
-    (both_add a.energy.now c.add_two.new.energy a.change a.weight cost a.first a.second c.pair_table-table.result
-    c.requires.opened.0 c.requires.opened.1 table c.in_ok-add_two.ensures)
+    (both_add a.form.now c.add_pair.new.self a.change a.weight cost a.first a.second c.pair_table-table.result
+    c.requires.opened.0 c.requires.opened.1 table c.in_ok-add_pair.ensures.value)
 
 pub pair_table-table-requires-clause-smooth : goal.pair_table-table-requires-clause-smooth
 pair_table-table-requires-clause-smooth g c = c.requires.smooth
@@ -25,15 +25,15 @@ pair_table-table-requires-clause-inside g c = c.requires.inside
 pub pair_table-table-requires-clause-change : goal.pair_table-table-requires-clause-change
 pair_table-table-requires-clause-change g c = c.requires.change
 
-pub add_two-requires-clause-room : goal.add_two-requires-clause-room
-add_two-requires-clause-room g c = c.requires.room
+pub add_pair-requires-clause-bounded : goal.add_pair-requires-clause-bounded
+add_pair-requires-clause-bounded g c = c.requires.bounded
 
-pub returns-in_err-add_two-clause-longer : goal.returns-in_err-add_two-clause-longer
-returns-in_err-add_two-clause-longer g c =
+pub returns-in_err-add_pair-clause-longer : goal.returns-in_err-add_pair-clause-longer
+returns-in_err-add_pair-clause-longer g c =
     let p = err_from_is_err_and c.from_residual.result c.from_residual.ensures.1 in
     rw (p.1) tt
 
-pub returns-in_err-add_two-clause-adds : goal.returns-in_err-add_two-clause-adds
-returns-in_err-add_two-clause-adds g c =
+pub returns-in_err-add_pair-clause-adds : goal.returns-in_err-add_pair-clause-adds
+returns-in_err-add_pair-clause-adds g c =
     let p = err_from_is_err_and c.from_residual.result c.from_residual.ensures.1 in
     rw (p.1) tt

@@ -1,34 +1,33 @@
 use Rattle.std.proofs.Common.{rules, ◌∙◌, ap, true, refl}
 use Rattle.labellings.specs.Moves.{label_in}
 use Rattle.move_energy.proofs.Values.{first_adds, second_adds, none_adds, ends_fit}
-use Rattle.std.proofs.lemmas.Result.{err_from_is_err_and}
 use Rattle.move_energy.proofs.ends.add_ends.Goals as goal
 
 pub returns-then-is_open-clause-adds : goal.returns-then-is_open-clause-adds
 returns-then-is_open-clause-adds g c = λ cost answers.
     let a = c.args in
-    ends_fit a.weight cost a.change a.first a.second a.energy.now c.add_first.new.energy true refl
+    ends_fit a.weight cost a.change a.first a.second a.form.now c.add_first.new.form true refl
     (λ one two. (let yes = c.is_open-then-is_open.ensures.1 two in absurd (cc (yes))))
-    (first_adds a.energy.now c.add_first.new.energy a.change a.weight c.label-other.result cost a.first a.second (c.is_open.ensures.0 c.if-is_open.true)
+    (first_adds a.form.now c.add_first.new.form a.change a.weight c.label-other.result cost a.first a.second (c.is_open.ensures.0 c.if-is_open.true)
     (λ two. (let yes = c.is_open-then-is_open.ensures.1 two in absurd (cc (yes))))
-    (c.label-other.ensures ∙ ap (label_in a.change a.second.label) c.bit.ensures) (c.in_ok-add_first.ensures.adds cost answers))
+    (c.label-other.ensures ∙ ap (label_in a.change a.second.label) c.bit.ensures) (c.add_first.ensures.adds cost answers))
 
 pub returns-then-not-is_open-clause-adds : goal.returns-then-not-is_open-clause-adds
 returns-then-not-is_open-clause-adds g c = λ cost answers.
     let a = c.args in
-    ends_fit a.weight cost a.change a.first a.second a.energy.now a.energy.now true refl
+    ends_fit a.weight cost a.change a.first a.second a.form.now a.form.now true refl
     (λ one two. (let yes = c.is_open.ensures.1 one in absurd (cc (yes))))
-    (none_adds a.energy.now a.change a.weight cost a.first a.second
+    (none_adds a.form.now a.change a.weight cost a.first a.second
     (λ one. (let yes = c.is_open.ensures.1 one in absurd (cc (yes)))) (λ two. (let yes = c.is_open-2.ensures.1 two in absurd (cc (yes)))))
 
 pub returns-clause-adds : goal.returns-clause-adds
 returns-clause-adds g c = λ cost answers.
     let a = c.args in
-    ends_fit a.weight cost a.change a.first a.second a.energy.now c.add_second.new.energy true refl
+    ends_fit a.weight cost a.change a.first a.second a.form.now c.add_second.new.form true refl
     (λ one two. (let yes = c.is_open.ensures.1 one in absurd (cc (yes))))
-    (second_adds a.energy.now c.add_second.new.energy a.change a.weight c.label-other-2.result cost a.first a.second
+    (second_adds a.form.now c.add_second.new.form a.change a.weight c.label-other-2.result cost a.first a.second
     (λ one. (let yes = c.is_open.ensures.1 one in absurd (cc (yes)))) (c.is_open-2.ensures.0 c.if-not-is_open.false)
-    (c.label-other-2.ensures ∙ ap (label_in a.change a.first.label) c.bit-2.ensures) (c.in_ok-add_second.ensures.adds cost answers))
+    (c.label-other-2.ensures ∙ ap (label_in a.change a.first.label) c.bit-2.ensures) (c.add_second.ensures.adds cost answers))
 
 pub add_both-requires-clause-smooth : goal.add_both-requires-clause-smooth
 add_both-requires-clause-smooth g c = c.requires.smooth
@@ -48,8 +47,8 @@ add_both-requires-clause-opened g c = search rules
 pub add_both-requires-clause-variables : goal.add_both-requires-clause-variables
 add_both-requires-clause-variables g c = search rules
 
-pub add_both-requires-clause-room : goal.add_both-requires-clause-room
-add_both-requires-clause-room g c = c.requires.room
+pub add_both-requires-clause-bounded : goal.add_both-requires-clause-bounded
+add_both-requires-clause-bounded g c = c.requires.bounded
 
 pub returns-then-is_open-2-clause-longer : goal.returns-then-is_open-2-clause-longer
 returns-then-is_open-2-clause-longer g c = c.add_both.ensures.longer
@@ -72,21 +71,11 @@ add_first-requires-clause-change g c = c.requires.change
 pub add_first-requires-clause-variable : goal.add_first-requires-clause-variable
 add_first-requires-clause-variable g c = c.requires.first (c.is_open.ensures.0 c.if-is_open.true)
 
-pub add_first-requires-clause-room : goal.add_first-requires-clause-room
-add_first-requires-clause-room g c = c.requires.room
-
-pub returns-in_err-add_first-clause-longer : goal.returns-in_err-add_first-clause-longer
-returns-in_err-add_first-clause-longer g c =
-    let p = err_from_is_err_and c.from_residual.result c.from_residual.ensures.1 in
-    rw (p.1) tt
-
-pub returns-in_err-add_first-clause-adds : goal.returns-in_err-add_first-clause-adds
-returns-in_err-add_first-clause-adds g c =
-    let p = err_from_is_err_and c.from_residual.result c.from_residual.ensures.1 in
-    rw (p.1) tt
+pub add_first-requires-clause-bounded : goal.add_first-requires-clause-bounded
+add_first-requires-clause-bounded g c = c.requires.bounded
 
 pub returns-then-is_open-clause-longer : goal.returns-then-is_open-clause-longer
-returns-then-is_open-clause-longer g c = c.in_ok-add_first.ensures.longer
+returns-then-is_open-clause-longer g c = c.add_first.ensures.longer
 
 pub returns-then-not-is_open-clause-longer : goal.returns-then-not-is_open-clause-longer
 returns-then-not-is_open-clause-longer g c = search rules
@@ -106,18 +95,8 @@ add_second-requires-clause-change g c = c.requires.change
 pub add_second-requires-clause-variable : goal.add_second-requires-clause-variable
 add_second-requires-clause-variable g c = c.requires.second (c.is_open-2.ensures.0 c.if-not-is_open.false)
 
-pub add_second-requires-clause-room : goal.add_second-requires-clause-room
-add_second-requires-clause-room g c = c.requires.room
-
-pub returns-in_err-add_second-clause-longer : goal.returns-in_err-add_second-clause-longer
-returns-in_err-add_second-clause-longer g c =
-    let p = err_from_is_err_and c.from_residual-in_err-add_second.result c.from_residual-in_err-add_second.ensures.1 in
-    rw (p.1) tt
-
-pub returns-in_err-add_second-clause-adds : goal.returns-in_err-add_second-clause-adds
-returns-in_err-add_second-clause-adds g c =
-    let p = err_from_is_err_and c.from_residual-in_err-add_second.result c.from_residual-in_err-add_second.ensures.1 in
-    rw (p.1) tt
+pub add_second-requires-clause-bounded : goal.add_second-requires-clause-bounded
+add_second-requires-clause-bounded g c = c.requires.bounded
 
 pub returns-clause-longer : goal.returns-clause-longer
-returns-clause-longer g c = c.in_ok-add_second.ensures.longer
+returns-clause-longer g c = c.add_second.ensures.longer

@@ -1,24 +1,23 @@
 use Rattle.std.proofs.Common.{◌*◌, ◌∙◌, ap, pos, Bool, w64, FitsSigned}
 use Rattle.std.proofs.lemmas.Int.{to_z-of_z}
-use Rattle.std.proofs.lemmas.Result.{on_ok_weaker}
 use Rattle.labellings.specs.Moves.{label_in}
 use Rattle.move_energy.proofs.Values.{one_adds}
-use Rattle.move_energy.proofs.Steps.{longer_is}
+use Rattle.move_energy.proofs.Steps.{longer_term}
 use Rattle.move_energy.proofs.ends.add_second.Goals as goal
 
 pub returns-clause-longer : goal.returns-clause-longer
-returns-clause-longer g c = on_ok_weaker c.add_one.result (λ is. longer_is _ _ _ is tt) c.add_one.ensures
+returns-clause-longer g c = longer_term _ _ c.add_one.ensures.len c.add_one.ensures.bounded
 
 pub returns-clause-adds : goal.returns-clause-adds
 returns-clause-adds g c =
     let a = c.args in
     let stays : FitsSigned w64 c.pair_cost-stays.result = record { sfits = c.pair_cost-stays.type_inv } in
     let turns : FitsSigned w64 c.pair_cost-turns.result = record { sfits = c.pair_cost-turns.type_inv } in
-    on_ok_weaker c.add_one.result (λ is cost answers.
-    one_adds a.energy.now c.add_one.new.energy a.end.variable (λ (b : Bool). a.weight * cost a.other (label_in a.change a.end.label b)) _ _
+    λ cost answers.
+    one_adds a.form.now c.add_one.new.self a.end.variable (λ (b : Bool). a.weight * cost a.other (label_in a.change a.end.label b)) _ _
     (to_z-of_z w64 c.pair_cost-stays.result stays ∙ c.pair_cost-stays.ensures.cost cost answers ∙ ap (λ l. pos (a.weight * cost a.other l)) c.label.ensures)
     (to_z-of_z w64 c.pair_cost-turns.result turns ∙ c.pair_cost-turns.ensures.cost cost answers ∙ ap (λ l. pos (a.weight * cost a.other l)) c.label-2.ensures)
-    is) c.add_one.ensures
+    c.add_one.ensures.value
 
 pub pair_cost-stays-requires-clause-smooth : goal.pair_cost-stays-requires-clause-smooth
 pair_cost-stays-requires-clause-smooth g c = c.requires.smooth
@@ -32,5 +31,5 @@ pair_cost-turns-requires-clause-smooth g c = c.requires.smooth
 pub pair_cost-turns-requires-clause-weight : goal.pair_cost-turns-requires-clause-weight
 pair_cost-turns-requires-clause-weight g c = c.requires.weight
 
-pub add_one-requires-clause-room : goal.add_one-requires-clause-room
-add_one-requires-clause-room g c = c.requires.room
+pub add_one-requires-clause-bounded : goal.add_one-requires-clause-bounded
+add_one-requires-clause-bounded g c = c.requires.bounded

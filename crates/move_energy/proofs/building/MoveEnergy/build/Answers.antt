@@ -1,38 +1,68 @@
-use Rattle.std.proofs.Common.{◌∙◌, ◌<◌, ℕ, List, All, length, ap, sym, subst, arith}
+use Rattle.std.proofs.Common.{◌∙◌, ◌<◌, ◌≤◌, ◌+◌, ℕ, pos, List, All, length, ap, sym, subst, arith}
 use Rattle.std.proofs.lemmas.Result.{on_ok_weaker}
 use Rattle.cost_store.specs.Promises.{Answers}
-use Rattle.pseudo_bool.specs.Formula.{Formula}
+use Rattle.compile_cut.specs.Form.{IsConstant}
+use Rattle.compile_cut.proofs.TermLemmas.{bounded-weaker, constant_bounded, constant_nodes}
 use Rattle.move_energy.specs.declared.choice.Choice.{Choice}
-use Rattle.move_energy.specs.Choices.{open_count}
 use Rattle.move_energy.proofs.Numbers.{rank_most}
-use Rattle.move_energy.proofs.Joins.{empty_regular, built_of}
+use Rattle.move_energy.proofs.Joins.{built_of}
 use Rattle.std.proofs.lemmas.Result.{err_from_is_err_and}
 use Rattle.labellings.specs.Moves.{IsMoveOf}
 use Rattle.move_energy.proofs.building.MoveEnergy.build.Goals as goal
 
-pub returns-clause-regular : goal.returns-clause-regular
-returns-clause-regular g c =
-    on_ok_weaker c.add_pairs.result (λ longer. longer.regular (c.in_ok-add_sites.ensures.longer.regular
-    (empty_regular c.clear.new.self (ap (λ (e : Formula). e.terms) c.clear.ensures)))) c.add_pairs.ensures.longer
+pub add_sites-requires-clause-empty : goal.add_sites-requires-clause-empty
+add_sites-requires-clause-empty g c =
+    let P : ℕ → Type 0 = λ n. IsConstant (pos 0) n c.in_ok-form.form in
+    subst P c.in_ok-count.ensures.count c.in_ok-form.ensures
+
+pub add_pairs-requires-clause-variables : goal.add_pairs-requires-clause-variables
+add_pairs-requires-clause-variables g c =
+    c.add_sites.ensures.longer.nodes ∙ constant_nodes (pos 0) c.in_ok-count.count c.in_ok-form.form c.in_ok-form.ensures ∙ c.in_ok-count.ensures.count
+
+pub add_pairs-requires-clause-bounded : goal.add_pairs-requires-clause-bounded
+add_pairs-requires-clause-bounded g c =
+    let none = constant_bounded (pos 0) c.in_ok-count.count c.in_ok-form.form (omega arith) c.in_ok-form.ensures in
+    let few : 0 + length c.args.at.now ≤ 1048576 = omega (arith, c.requires.sites.0, c.sites-sites.ensures) in
+    bounded-weaker (0 + length c.args.at.now) 1048576 c.add_sites.new.form few (c.add_sites.ensures.longer.bounded 0 none)
+
+pub returns-clause-bounded : goal.returns-clause-bounded
+returns-clause-bounded g c = c.add_pairs.ensures.bounded
+
+pub returns-clause-few : goal.returns-clause-few
+returns-clause-few g c =
+    let choices = c.number.new.self.choices.items in
+    let nodes = c.add_sites.ensures.longer.nodes ∙ constant_nodes (pos 0) c.in_ok-count.count c.in_ok-form.form c.in_ok-form.ensures ∙ c.in_ok-count.ensures.count in
+    let size = ap (λ (xs : List Choice). length xs) c.number.ensures.kept ∙ c.requires.choices in
+    on_ok_weaker c.add_pairs.result (λ longer. omega (arith, longer.nodes, nodes, rank_most choices (length choices), size, c.requires.sites.0, c.sites-sites.ensures))
+    c.add_pairs.ensures.longer
+
+pub returns-clause-variables : goal.returns-clause-variables
+returns-clause-variables g c =
+    let nodes = c.add_sites.ensures.longer.nodes ∙ constant_nodes (pos 0) c.in_ok-count.count c.in_ok-form.form c.in_ok-form.ensures ∙ c.in_ok-count.ensures.count in
+    on_ok_weaker c.add_pairs.result (λ longer. longer.nodes ∙ nodes) c.add_pairs.ensures.longer
 
 pub returns-clause-built : goal.returns-clause-built
 returns-clause-built g c = λ m meant.
     let D : ℕ → Type 0 = λ n. Answers (goal.F-post g c.args.data_cost.now.f) m.data_cost n c.args.data_cost.now.labels in
     let S : ℕ → Type 0 = λ k. Answers (goal.V-post g c.args.smooth_cost.now.v) m.smooth_cost k k in
-    let sites = c.in_ok-add_sites.ensures.built m (subst D (sym c.requires.sites.1) meant.data_are) in
+    let sites = c.add_sites.ensures.built m (subst D (sym c.requires.sites.1) meant.data_are) in
     let pairs = c.add_pairs.ensures.built m (subst S (sym c.requires.labels.0) meant.smooth_are) meant.pairs_are in
-    let kept = c.in_ok-add_sites.ensures.longer.variables in
-    let cleared = ap (λ (e : Formula). e.variables) c.clear.ensures in
-    built_of m c.args.change c.args.at.now (record { energy = c.add_pairs.new.energy; variables = c.number.new.self }) c.add_sites.new.energy
+    let nodes = c.add_sites.ensures.longer.nodes ∙ constant_nodes (pos 0) c.in_ok-count.count c.in_ok-form.form c.in_ok-form.ensures ∙ c.in_ok-count.ensures.count in
+    built_of m c.args.change c.args.at.now (record { form = c.add_pairs.new.form; variables = c.number.new.self }) c.add_sites.new.form
     (length c.args.pairs.now.list) c.add_pairs.result (c.requires.sites.0 ∙ sym meant.sites_are)
     (ap (λ (xs : List Choice). length xs) c.number.ensures.kept ∙ c.requires.choices)
-    (omega (arith, kept, cleared, c.in_ok-count.ensures.count, ap open_count c.number.ensures.kept)) c.add_pairs.ensures.longer sites pairs
+    nodes c.add_pairs.ensures.longer sites pairs
 
 pub returns-in_err-count-clause-kept : goal.returns-in_err-count-clause-kept
 returns-in_err-count-clause-kept g c = c.number.ensures.kept
 
-pub returns-in_err-count-clause-regular : goal.returns-in_err-count-clause-regular
-returns-in_err-count-clause-regular g c =
+pub returns-in_err-count-clause-bounded : goal.returns-in_err-count-clause-bounded
+returns-in_err-count-clause-bounded g c =
+    let p = err_from_is_err_and c.from_residual.result c.from_residual.ensures.1 in
+    rw (p.1) tt
+
+pub returns-in_err-count-clause-few : goal.returns-in_err-count-clause-few
+returns-in_err-count-clause-few g c =
     let p = err_from_is_err_and c.from_residual.result c.from_residual.ensures.1 in
     rw (p.1) tt
 
@@ -61,24 +91,6 @@ add_sites-requires-clause-numbering g c = c.in_ok-count.ensures.numbering
 pub add_sites-requires-clause-choices : goal.add_sites-requires-clause-choices
 add_sites-requires-clause-choices g c = ap (λ (xs : List Choice). length xs) c.number.ensures.kept ∙ c.requires.choices
 
-pub returns-in_err-add_sites-clause-kept : goal.returns-in_err-add_sites-clause-kept
-returns-in_err-add_sites-clause-kept g c = c.number.ensures.kept
-
-pub returns-in_err-add_sites-clause-regular : goal.returns-in_err-add_sites-clause-regular
-returns-in_err-add_sites-clause-regular g c =
-    let p = err_from_is_err_and c.from_residual-in_err-add_sites.result c.from_residual-in_err-add_sites.ensures.1 in
-    rw (p.1) tt
-
-pub returns-in_err-add_sites-clause-numbering : goal.returns-in_err-add_sites-clause-numbering
-returns-in_err-add_sites-clause-numbering g c =
-    let p = err_from_is_err_and c.from_residual-in_err-add_sites.result c.from_residual-in_err-add_sites.ensures.1 in
-    rw (p.1) tt
-
-pub returns-in_err-add_sites-clause-variables : goal.returns-in_err-add_sites-clause-variables
-returns-in_err-add_sites-clause-variables g c =
-    let p = err_from_is_err_and c.from_residual-in_err-add_sites.result c.from_residual-in_err-add_sites.ensures.1 in
-    rw (p.1) tt
-
 pub add_pairs-requires-clause-smooth : goal.add_pairs-requires-clause-smooth
 add_pairs-requires-clause-smooth g c = c.requires.smooth
 
@@ -104,8 +116,25 @@ add_pairs-requires-clause-choices g c = ap (λ (xs : List Choice). length xs) c.
 pub returns-clause-kept : goal.returns-clause-kept
 returns-clause-kept g c = c.number.ensures.kept
 
-pub clear-requires : goal.clear-requires
-clear-requires g c =
-    let choices = c.number.new.self.choices.items in
-    let size = ap (λ (xs : List Choice). length xs) c.number.ensures.kept ∙ c.requires.choices in
-    omega (arith, c.in_ok-count.ensures.count, rank_most choices (length choices), size, c.requires.sites.0, c.sites-sites.ensures)
+pub returns-in_err-form-clause-kept : goal.returns-in_err-form-clause-kept
+returns-in_err-form-clause-kept g c = c.number.ensures.kept
+
+pub returns-in_err-form-clause-bounded : goal.returns-in_err-form-clause-bounded
+returns-in_err-form-clause-bounded g c =
+    let p = err_from_is_err_and c.from_residual-in_err-form.result c.from_residual-in_err-form.ensures.1 in
+    rw (p.1) tt
+
+pub returns-in_err-form-clause-few : goal.returns-in_err-form-clause-few
+returns-in_err-form-clause-few g c =
+    let p = err_from_is_err_and c.from_residual-in_err-form.result c.from_residual-in_err-form.ensures.1 in
+    rw (p.1) tt
+
+pub returns-in_err-form-clause-numbering : goal.returns-in_err-form-clause-numbering
+returns-in_err-form-clause-numbering g c =
+    let p = err_from_is_err_and c.from_residual-in_err-form.result c.from_residual-in_err-form.ensures.1 in
+    rw (p.1) tt
+
+pub returns-in_err-form-clause-variables : goal.returns-in_err-form-clause-variables
+returns-in_err-form-clause-variables g c =
+    let p = err_from_is_err_and c.from_residual-in_err-form.result c.from_residual-in_err-form.ensures.1 in
+    rw (p.1) tt

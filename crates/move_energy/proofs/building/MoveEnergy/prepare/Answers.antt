@@ -27,8 +27,8 @@ build-requires-clause-costs g c = c.requires.costs
 pub build-requires-clause-smooth : goal.build-requires-clause-smooth
 build-requires-clause-smooth g c = c.requires.smooth
 
-pub returns-clause-regular : goal.returns-clause-regular
-returns-clause-regular g c = c.build.ensures.regular
+pub returns-clause-bounded : goal.returns-clause-bounded
+returns-clause-bounded g c = c.build.ensures.bounded
 
 pub returns-clause-numbering : goal.returns-clause-numbering
 returns-clause-numbering g c = c.build.ensures.numbering
@@ -41,8 +41,8 @@ returns-in_err-open_all-clause-opened g c =
     let p = err_from_is_err_and c.from_residual.result c.from_residual.ensures.1 in
     rw (p.1) tt
 
-pub returns-in_err-open_all-clause-regular : goal.returns-in_err-open_all-clause-regular
-returns-in_err-open_all-clause-regular g c =
+pub returns-in_err-open_all-clause-bounded : goal.returns-in_err-open_all-clause-bounded
+returns-in_err-open_all-clause-bounded g c =
     let p = err_from_is_err_and c.from_residual.result c.from_residual.ensures.1 in
     rw (p.1) tt
 
@@ -53,5 +53,13 @@ returns-in_err-open_all-clause-numbering g c =
 
 pub returns-in_err-open_all-clause-variables : goal.returns-in_err-open_all-clause-variables
 returns-in_err-open_all-clause-variables g c =
+    let p = err_from_is_err_and c.from_residual.result c.from_residual.ensures.1 in
+    rw (p.1) tt
+
+pub returns-clause-few : goal.returns-clause-few
+returns-clause-few g c = c.build.ensures.few
+
+pub returns-in_err-open_all-clause-few : goal.returns-in_err-open_all-clause-few
+returns-in_err-open_all-clause-few g c =
     let p = err_from_is_err_and c.from_residual.result c.from_residual.ensures.1 in
     rw (p.1) tt

@@ -24,7 +24,7 @@ returns-in-Ok-clause-built g c = λ m meant.
     let same = c.in-Ok.ensures.kept ∙ ap (λ (v : _). v.items) c.swap.ensures.y_after in
     let vs = c.build.new.self.variables in (
       decided.0,
-      λ bits least. decided_least m c.args.change (labelling c.args.at.now) (choice_at vs.choices.items) c.build.new.self.energy (rank vs.choices.items)
+      λ bits least. decided_least m c.args.change (labelling c.args.at.now) (choice_at vs.choices.items) c.build.new.self.form (rank vs.choices.items)
           (assignment bits) pairs decided.0 (subst P (sym same) decided.1) built.1 least,
     )
 
@@ -36,8 +36,13 @@ returns-in_err-group-clause-choices g c =
     let p = err_from_is_err_and c.from_residual.result c.from_residual.ensures.1 in
     rw (p.1) tt
 
-pub returns-in_err-group-clause-regular : goal.returns-in_err-group-clause-regular
-returns-in_err-group-clause-regular g c =
+pub returns-in_err-group-clause-bounded : goal.returns-in_err-group-clause-bounded
+returns-in_err-group-clause-bounded g c =
+    let p = err_from_is_err_and c.from_residual.result c.from_residual.ensures.1 in
+    rw (p.1) tt
+
+pub returns-in_err-group-clause-few : goal.returns-in_err-group-clause-few
+returns-in_err-group-clause-few g c =
     let p = err_from_is_err_and c.from_residual.result c.from_residual.ensures.1 in
     rw (p.1) tt
 
@@ -72,8 +77,13 @@ returns-in_err-decide-clause-choices g c =
     let p = err_from_is_err_and c.from_residual-in_err-decide.result c.from_residual-in_err-decide.ensures.1 in
     rw (p.1) tt
 
-pub returns-in_err-decide-clause-regular : goal.returns-in_err-decide-clause-regular
-returns-in_err-decide-clause-regular g c =
+pub returns-in_err-decide-clause-bounded : goal.returns-in_err-decide-clause-bounded
+returns-in_err-decide-clause-bounded g c =
+    let p = err_from_is_err_and c.from_residual-in_err-decide.result c.from_residual-in_err-decide.ensures.1 in
+    rw (p.1) tt
+
+pub returns-in_err-decide-clause-few : goal.returns-in_err-decide-clause-few
+returns-in_err-decide-clause-few g c =
     let p = err_from_is_err_and c.from_residual-in_err-decide.result c.from_residual-in_err-decide.ensures.1 in
     rw (p.1) tt
 
@@ -98,24 +108,32 @@ build-requires-clause-smooth g c = c.requires.smooth
 pub returns-in-Ok-clause-by_site : goal.returns-in-Ok-clause-by_site
 returns-in-Ok-clause-by_site g c = λ grouped.
     let E : Groups → Type 0 = λ ends. AreBySite c.args.self.now.pairs ends in
-    subst E (sym c.decide.ensures.kept) (c.in_ok-group.ensures.by_site grouped)
+    let kept = c.give_groups_back.ensures.kept grouped in
+    subst E (sym (kept.1 ∙ c.decide.ensures.kept)) (c.in_ok-group.ensures.by_site kept.0)
 
 pub returns-in-Ok-clause-choices : goal.returns-in-Ok-clause-choices
 returns-in-Ok-clause-choices g c = ap (λ (xs : List Choice). length xs) c.in-Ok.ensures.kept ∙ ap (λ (v : _). length v.items) c.swap.ensures.y_after ∙ c.in_ok-decide.ensures.count
 
-pub returns-in-Ok-clause-regular : goal.returns-in-Ok-clause-regular
-returns-in-Ok-clause-regular g c = c.in-Ok.ensures.regular
+pub returns-in-Ok-clause-bounded : goal.returns-in-Ok-clause-bounded
+returns-in-Ok-clause-bounded g c = c.in-Ok.ensures.bounded
+
+pub returns-in-Ok-clause-few : goal.returns-in-Ok-clause-few
+returns-in-Ok-clause-few g c = c.in-Ok.ensures.few
 
 pub returns-in-Err-clause-by_site : goal.returns-in-Err-clause-by_site
 returns-in-Err-clause-by_site g c = λ grouped.
     let E : Groups → Type 0 = λ ends. AreBySite c.args.self.now.pairs ends in
-    subst E (sym c.decide.ensures.kept) (c.in_ok-group.ensures.by_site grouped)
+    let kept = c.give_groups_back.ensures.kept grouped in
+    subst E (sym (kept.1 ∙ c.decide.ensures.kept)) (c.in_ok-group.ensures.by_site kept.0)
 
 pub returns-in-Err-clause-choices : goal.returns-in-Err-clause-choices
 returns-in-Err-clause-choices g c = tt
 
-pub returns-in-Err-clause-regular : goal.returns-in-Err-clause-regular
-returns-in-Err-clause-regular g c = tt
+pub returns-in-Err-clause-bounded : goal.returns-in-Err-clause-bounded
+returns-in-Err-clause-bounded g c = tt
+
+pub returns-in-Err-clause-few : goal.returns-in-Err-clause-few
+returns-in-Err-clause-few g c = tt
 
 pub returns-in-Err-clause-built : goal.returns-in-Err-clause-built
 returns-in-Err-clause-built g c = λ m meant. tt

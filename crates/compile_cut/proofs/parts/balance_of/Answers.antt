@@ -1,7 +1,7 @@
 use Rattle.std.proofs.lemmas.Int.{ints}
 use Rattle.std.proofs.Common.{arith}
 use Rattle.compile_cut.proofs.PartLemmas.{balance_is}
-use Rattle.compile_cut.proofs.parts.balance.Goals as goal
+use Rattle.compile_cut.proofs.parts.balance_of.Goals as goal
 
 pub returns-clause-value : goal.returns-clause-value
 returns-clause-value x =
