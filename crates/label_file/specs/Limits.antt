@@ -1,8 +1,15 @@
 -- What each problem that is read keeps.
-use Rattle.std.specs.Prelude.{◌≡◌, ◌*◌, ◌≤◌, length, All}
+use Rattle.std.specs.Prelude.{◌≡◌, ℕ, ◌*◌, ◌≤◌, List, length, All, ℤ}
 use Rattle.label_field.specs.LabelFields.{AreSizes}
 use Rattle.run_options.specs.Limits.{IsSmoothCost, cycle_limit, data_limit}
 use Rattle.label_file.specs.Names.{Problem}
+
+-- the costs of a problem of these sizes, in their limits
+pub record AreCosts (sites labels : ℕ) (data_costs : List ℕ) (smooth_costs : List ℤ) : Type 0 where
+  pub data_count : length data_costs ≡ sites * labels
+  pub data_most : All (λ cost. cost ≤ data_limit) data_costs
+  pub smooth_count : length smooth_costs ≡ labels * labels
+  pub smooth_most : All IsSmoothCost smooth_costs
 
 -- the sizes agree, and the numbers are in their limits
 pub record IsInLimits (p : Problem) : Type 0 where

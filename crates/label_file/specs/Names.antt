@@ -43,14 +43,9 @@ told p = record {
   cycles = p.cycles;
 }
 
--- the problem that a table names: the fields in this order, and the first fault of the first that has one
-abbrev pub names : Members → Result Problem LabelFault
-names ms =
-    and_then (number_in ms Sites 0 site_limit) (λ sites.
-    and_then (number_in ms Labels 1 label_limit) (λ labels.
-    and_then (data_in ms (sites * labels)) (λ data_costs.
-    and_then (smooth_in ms labels) (λ table.
-    and_then (number_or ms Trunc 1 trunc_limit 1) (λ most.
+-- the problem of these sizes and costs whose other fields a table names
+abbrev pub names_rest : Members → ℕ → ℕ → List ℕ → List ℤ → Result Problem LabelFault
+names_rest ms sites labels data_costs smooth_costs =
     and_then (pairs_in ms sites) (λ list.
     and_then (start_in ms sites labels) (λ start.
     and_then (moves_in ms) (λ moves.
@@ -59,12 +54,22 @@ names ms =
       sites = sites;
       labels = labels;
       data_costs = data_costs;
-      smooth_costs = table most;
+      smooth_costs = smooth_costs;
       pairs = record { sites = sites; list = list };
       start = start;
       moves = moves;
       cycles = cycles;
-    }))))))))))
+    })))))
+
+-- the problem that a table names: the fields in this order, and the first fault of the first that has one
+abbrev pub names : Members → Result Problem LabelFault
+names ms =
+    and_then (number_in ms Sites 0 site_limit) (λ sites.
+    and_then (number_in ms Labels 1 label_limit) (λ labels.
+    and_then (data_in ms (sites * labels)) (λ data_costs.
+    and_then (smooth_in ms labels) (λ table.
+    and_then (number_or ms Trunc 1 trunc_limit 1) (λ most.
+    names_rest ms sites labels data_costs (table most))))))
 
 abbrev pub named_by : Option Members → Result Problem LabelFault
 named_by None = Err BadToml

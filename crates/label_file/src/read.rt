@@ -1,8 +1,9 @@
 ghost use Rattle.std.specs.Prelude.{◌≡◌, ◌≢◌, IfOk, IfErr, IsUtf8};
 ghost use Rattle.toml.specs.View.{table_view};
+ghost use Rattle.label_field.specs.LabelFields.{AreSizes};
 ghost use Rattle.label_file.specs.declared.fault.LabelFault.TheVariants.{BadToml, OutOfMemory};
-ghost use Rattle.label_file.specs.Limits.{IsInLimits};
-ghost use Rattle.label_file.specs.Names.{names, problem_in, told};
+ghost use Rattle.label_file.specs.Limits.{AreCosts, IsInLimits};
+ghost use Rattle.label_file.specs.Names.{names, names_rest, problem_in, told};
 
 use crate::costs::data_in;
 use crate::move_names::moves_in;
@@ -45,13 +46,33 @@ pub fn problem_of(alloc: Global, table: &Table) -> Result<LabelProblem, LabelFau
     let data = data_in(alloc, table, sites as usize * labels as usize)?;
     let smooth = smooth_in(alloc, table, labels)?;
     let most = number_or(table, Field::Trunc, 1, TRUNC_LIMIT, 1)?;
+    let Ok(smooth) = smooth.into_table(alloc, labels, most) else {
+        return Err(LabelFault::OutOfMemory);
+    };
+    rest_of(alloc, table, sites, labels, data, smooth)
+}
+
+/// The problem of these sizes and costs whose other fields a table names, or the first fault of these.
+fn rest_of(
+    alloc: Global,
+    table: &Table,
+    sites: u32,
+    labels: u32,
+    data: Vec<u32>,
+    smooth: Vec<i64>,
+) -> Result<LabelProblem, LabelFault>
+    requires sizes { AreSizes sites labels }
+    requires costs { AreCosts sites labels data.items smooth.items }
+    ensures ok { IfOk result (λ problem.
+        names_rest (table_view table.now) sites labels data.items smooth.items ≡ Ok (told problem)) }
+    ensures limits { IfOk result (λ problem. IsInLimits (told problem)) }
+    ensures refused { IfErr result (λ fault. fault ≢ OutOfMemory →
+        names_rest (table_view table.now) sites labels data.items smooth.items ≡ Err fault) }
+{
     let pairs = pairs_in(alloc, table, sites)?;
     let start = start_in(alloc, table, sites, labels)?;
     let moves = moves_in(table)?;
     let cycles = number_or(table, Field::Cycles, 0, CYCLE_LIMIT, 100)?;
-    let Ok(smooth) = smooth.into_table(alloc, labels, most) else {
-        return Err(LabelFault::OutOfMemory);
-    };
     Ok(LabelProblem {
         sites,
         labels,

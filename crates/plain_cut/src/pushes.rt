@@ -152,8 +152,7 @@ fn try_push_forward(net: &Graph, work: &mut Work, k: usize) -> Result<(), AllocE
     {
         return Ok(());
     }
-    push_forward(net, work, k)?;
-    Ok(())
+    push_forward(net, work, k)
 }
 
 /// Pushes back along the arc, where its last node has excess, it carries something, and it leads down.
@@ -172,8 +171,7 @@ fn try_push_back(net: &Graph, work: &mut Work, k: usize) -> Result<(), AllocErro
     {
         return Ok(());
     }
-    push_back(net, work, k)?;
-    Ok(())
+    push_back(net, work, k)
 }
 
 /// Pushes along the arcs that leave the node, while it has excess.

@@ -1,9 +1,10 @@
-ghost use Rattle.std.specs.Prelude.{◌≡◌, ◌-◌, ◌<◌, ◌≤◌, ℕ, IfOk, length, slice_index};
+ghost use Rattle.std.specs.Prelude.{◌≡◌, ◌-◌, ◌<◌, ◌≤◌, ℕ, IfOk, OnOk, length, slice_index};
 ghost use Rattle.std.specs.Simd.Lanes.{zip2};
 ghost use Rattle.flow_network.specs.Limits.{capacity_limit};
 ghost use Rattle.flow_network.specs.Cut.{nodes, set_of, IsNet, IsSmallestLeastCut};
 ghost use Rattle.flow_network.specs.Preflow.{IsReach};
 ghost use Rattle.flow_network.specs.Answer.{side_of, IsRightCut};
+ghost use Rattle.sink_distances.specs.Adjacency.{IsAdjacency};
 ghost use Rattle.sink_distances.specs.Distances.{AreDistances};
 ghost use Rattle.plain_cut.specs.State.{work_flow, IsWork, IsFinished};
 
@@ -12,7 +13,7 @@ use crate::rounds::begin_round;
 use crate::turns::run;
 use crate::work::{Work, raise_all};
 use flow_network::{Graph, Net, Solved, cut_capacity};
-use sink_distances::{arcs_by_node, sink_side};
+use sink_distances::{Adjacency, arcs_by_node, sink_side};
 use std::alloc::{AllocError, Global};
 
 /// The work at its end, whose labels are the exact distances. It takes the net's sources and sinks over.
@@ -33,10 +34,29 @@ fn finish(
     let adjacency = arcs_by_node(alloc, net)?;
     let mut order = vec![in alloc; 0; nodes]?;
     let mut work = open(alloc, net, sources, sinks, &adjacency)?;
-    begin_round(net, &adjacency, &mut work, order.as_mut_slice())?;
-    run(net, &adjacency, &mut work, order.as_mut_slice())?;
-    raise_all(net, &adjacency, &mut work, order.as_mut_slice());
+    settle(net, &adjacency, &mut work, order.as_mut_slice())?;
     Ok(work)
+}
+
+/// Rounds until no node that reaches the sink has excess; at the end the labels are the exact distances.
+fn settle(
+    net: &Graph,
+    adjacency: &Adjacency,
+    work: &mut Work,
+    order: &mut [u32],
+) -> Result<(), AllocError>
+    requires limits { IsNet net.now }
+    requires adjacency { IsAdjacency net.now adjacency.now }
+    requires work { IsWork net.now work.old }
+    requires order { length order.old ≡ nodes net.now }
+    ensures work { OnOk result (IsWork net.now work.new) }
+    ensures finished { OnOk result (IsFinished net.now work.new) }
+    ensures exact { OnOk result (AreDistances net.now (work_flow net.now work.new) work.new.labels.items) }
+{
+    begin_round(net, adjacency, work, order)?;
+    run(net, adjacency, work, order)?;
+    raise_all(net, adjacency, work, order);
+    Ok(())
 }
 
 /// A least cut of the net, with the preflow that certifies it. Of all least cuts it is the smallest: its sink side

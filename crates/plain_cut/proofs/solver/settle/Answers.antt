@@ -1,5 +1,5 @@
 use Rattle.plain_cut.proofs.Raising.{raise_finished}
-use Rattle.plain_cut.proofs.solver.finish.Goals as goal
+use Rattle.plain_cut.proofs.solver.settle.Goals as goal
 
 pub returns-clause-finished : goal.returns-clause-finished
 returns-clause-finished c =
