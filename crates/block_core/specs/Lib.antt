@@ -4,3 +4,4 @@ pub mod Mails
 pub mod Raising
 pub mod Counting
 pub mod Pieces
+pub mod Parts

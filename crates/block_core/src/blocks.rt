@@ -11,6 +11,7 @@ ghost use Rattle.block_net.specs.Limits.{arc_limit, block_limit};
 ghost use Rattle.block_net.specs.Split.{CanSplit};
 ghost use Rattle.block_net.specs.Whole.{index_of, is_outer};
 ghost use Rattle.block_core.specs.Views.{whole_in, blocks_in, state_of, IsLaid, IsLong, IsSpot, IsRow, first_of, shown_lane, gave, labelled, pushed, sent, accepted, settled, returned};
+ghost use Rattle.block_core.specs.Parts.{whole_by};
 
 use crate::lane::Lane;
 use block_net::Parts;
@@ -59,6 +60,9 @@ fn home_of(v: usize, nodes: usize, blocks: usize) -> usize
     requires blocks { blocks ≤ block_limit }
     ensures { result ≡ (v * blocks) / nodes }
 {
+    if blocks == 1 {
+        return 0;
+    }
     v * blocks / nodes
 }
 
@@ -88,7 +92,7 @@ fn near_of(net: &Net, direction: Direction) -> usize
 }
 
 /// The block of a node, and the node's place there.
-fn spot(net: &Net, parts: &Parts, v: usize) -> (usize, usize)
+pub fn spot(net: &Net, parts: &Parts, v: usize) -> (usize, usize)
     requires laid { IsLaid
         (whole_in net.now parts.now.firsts.items parts.now.slots.items parts.now.blocks.items) }
     requires node { v < nodes net.now }
@@ -173,6 +177,14 @@ impl Blocks {
         ensures { result.now ≡ self.now.net }
     {
         &self.net
+    }
+
+    /// The blocks, and where each node and each direction stands in them.
+    pub fn parts(&self) -> &Parts
+        ensures laid { IsLaid (whole_by self.now.net result.now) }
+        ensures shown { blocks_in (whole_by self.now.net result.now) ≡ self.now }
+    {
+        &self.parts
     }
 
     /// How many nodes the net has.

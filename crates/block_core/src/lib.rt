@@ -16,6 +16,7 @@ mod rooms;
 mod state;
 
 pub use apply::{Core, NotEnabled};
+pub use blocks::spot;
 pub use mail::Mail;
 pub use pieces::Pieces;
 pub use state::State;

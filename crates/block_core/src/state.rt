@@ -10,12 +10,14 @@ ghost use Rattle.block_net.specs.Limits.{block_limit};
 ghost use Rattle.block_net.specs.Split.{CanSplit};
 ghost use Rattle.block_core.specs.Views.{IsLaid};
 ghost use Rattle.block_core.specs.Mails.{IsHeld};
+ghost use Rattle.block_core.specs.Parts.{IsIn};
 ghost use Rattle.block_core.specs.Pieces.{whole_within, state_in};
 
 use crate::blocks::Blocks;
 use crate::mail::Mail;
 use crate::pieces::Pieces;
 use crate::rooms::Rooms;
+use block_net::Parts;
 use flow_network::Net;
 use parcel::{Direction, Event, Flight, Message};
 use std::alloc::{AllocError, Global};
@@ -92,6 +94,13 @@ impl State {
         ensures sound { IsSound self.now }
     {
         self.blocks.net()
+    }
+
+    /// The blocks, and where each node and each direction stands in them.
+    pub fn parts(&self) -> &Parts
+        ensures { IsIn self.now result.now }
+    {
+        self.blocks.parts()
     }
 
     /// How many nodes the net has.

@@ -7,7 +7,7 @@ ghost use Rattle.global_relabel.specs.Workspaces.{Serves};
 
 use block_core::State;
 use flow_network::Solved;
-use global_relabel::Workspace;
+use global_relabel::{Workspace, flow_of};
 use sink_distances::sink_side;
 use std::alloc::{AllocError, Global};
 
@@ -26,10 +26,11 @@ pub(crate) fn answer_of(
     let mut workspace = workspace;
     workspace.find(state);
     let side = sink_side(alloc, state.net().graph(), workspace.labels.as_slice())?;
-    let (arc_flow, sink_flow) = workspace.into_flow(state);
+    drop(workspace);
+    let flow = flow_of(alloc, state)?;
     Ok(Solved {
-        arc_flow,
-        sink_flow,
+        arc_flow: flow.0,
+        sink_flow: flow.1,
         sink_side: side,
         value: state.got(),
     })

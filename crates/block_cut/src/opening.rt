@@ -1,4 +1,4 @@
-ghost use Rattle.std.specs.Prelude.{◌≡◌, ◌<◌, length};
+ghost use Rattle.std.specs.Prelude.{◌≡◌, ◌<◌, IsTrue, length};
 ghost use Rattle.block_core.specs.Mails.{IsHeld};
 ghost use Rattle.block_core.specs.Pieces.{whole_within, state_in};
 ghost use Rattle.block_core.specs.Views.{IsLaid};
@@ -108,9 +108,33 @@ fn state_of(old: &Snapshot<Pieces>, pieces: Pieces) -> State
     pieces.into_state()
 }
 
+/// Whether all labels are 0.
+fn are_labels_zero(state: &State) -> bool
+    ensures { IsTrue result → AreLabelsZero state.now }
+{
+    'nodes: for v in 0..state.nodes() {
+        if state.label(v) != 0 {
+            return false;
+        }
+    }
+    true
+}
+
+/// The state after the first pushes within its blocks, where all labels are 0; else the state as it is. Takes no
+/// memory.
+pub(crate) fn open_if_new(state: State) -> State
+    ensures { result.net ≡ state.net }
+{
+    if are_labels_zero(&state) {
+        open(state)
+    } else {
+        state
+    }
+}
+
 /// The state after the first pushes within its blocks, in which excess goes on without regard to labels: while all of
 /// them are 0, they fit every flow. Takes no memory.
-pub(crate) fn open(state: State) -> State
+fn open(state: State) -> State
     requires { AreLabelsZero state }
     ensures { result.net ≡ state.net }
 {

@@ -1,5 +1,6 @@
 ghost use Rattle.std.specs.Prelude.{◌≡◌, ◌+◌, ◌<◌, ◌≤◌, ℕ, IfOk, IsFalse, MatchBool, length};
 ghost use Rattle.sums.specs.Sums.{counted};
+ghost use Rattle.flow_network.specs.Limits.{node_limit};
 ghost use Rattle.parcel.specs.Events.{IsQuiet};
 ghost use Rattle.parcel.specs.Soundness.{IsFinished, count};
 ghost use Rattle.block_core.specs.Pieces.{state_in};
@@ -14,15 +15,13 @@ use std::alloc::{AllocError, Global};
 use std::snapshot::Snapshot;
 
 /// How often at most each block has a turn before labels become exact again.
-const PASSES: usize = 4;
+const PASSES: usize = 3;
 
-/// How many events a turn does at most: half as many as a block has nodes, if all have as many, and 16. So the
-/// turns of a round do about twice as many events as there are nodes.
-fn turn_limit(state: &State) -> u32
-    ensures { 0 < result }
-{
-    (state.nodes() / (2 * state.blocks())) as u32 + 16
-}
+/// A turn ends after more new labels than its block has nodes, divided by this.
+const NODES_A_RISE: usize = 32;
+
+/// How many events a turn does at most: as many as can be counted, since it is new labels that end a turn here.
+const EVENTS: u32 = u32::MAX;
 
 /// A turn of each block over the ways: the ways and the table of places afterwards, and whether some block did an
 /// event. Takes no memory.
@@ -116,14 +115,52 @@ fn more_passes(
     (ways, slots)
 }
 
-/// The blocks, in each of which the nodes that have excess and are not cut off wait. The only error is that
-/// memory runs out.
-fn blocks_of(alloc: Global, cells: Vec<Cells>) -> Result<Vec<Block>, AllocError>
+/// An empty order for each of so many blocks, with room for as many nodes as they have on average. The only error is
+/// that memory runs out.
+fn empty_orders(alloc: Global, nodes: usize, blocks: usize) -> Result<Vec<Vec<u32>>, AllocError>
+    requires { nodes ≤ node_limit }
+{
+    let mut orders = Vec::with_capacity(alloc, blocks)?;
+    'blocks: for b in 0..blocks {
+        orders.push(Vec::with_capacity(alloc, nodes / blocks + 1)?)?;
+    }
+    Ok(orders)
+}
+
+/// For each block its nodes in the reverse of an order of all nodes, numbered from the block's first node. What is no
+/// node is passed over. The only error is that memory runs out.
+fn orders_of(alloc: Global, state: &State, order: &[u32]) -> Result<Vec<Vec<u32>>, AllocError> {
+    let nodes = state.nodes();
+    let blocks = state.blocks();
+    let mut orders = empty_orders(alloc, nodes, blocks)?;
+    'nodes: for place in (0..order.len()).rev() {
+        let v = order[place] as usize;
+        if v < nodes {
+            let b = v * blocks / nodes;
+            if b < orders.len() {
+                let first = (b * nodes + (blocks - 1)) / blocks;
+                orders[b].push(v.saturating_sub(first) as u32)?;
+            }
+        }
+    }
+    Ok(orders)
+}
+
+/// The blocks, in each of which the nodes that have excess and are not cut off wait, with their orders. The only error
+/// is that memory runs out.
+fn blocks_of(
+    alloc: Global,
+    cells: Vec<Cells>,
+    orders: Vec<Vec<u32>>,
+) -> Result<Vec<Block>, AllocError>
     ensures { IfOk result (λ blocks. blocks.items ≡ cells.items) }
 {
+    let mut orders = orders.into_iter();
     let mut blocks = Vec::with_capacity(alloc, cells.len())?;
     'filling: for each in cells {
-        blocks.push(Block::new(alloc, each)?)?;
+        let order = orders.next().unwrap_or(Vec::new(alloc));
+        let most_rises = each.len() / NODES_A_RISE;
+        blocks.push(Block::with_order(alloc, each, order, most_rises)?)?;
     }
     Ok(blocks)
 }
@@ -162,14 +199,15 @@ fn state_of(old: &Snapshot<Pieces>, net: Net, parts: Parts, ways: Mail) -> State
     pieces.into_state()
 }
 
-/// Turns of the blocks, in passes, each turn of at most so many events. Whether some block did an event: else the
-/// state is finished. The only error is that memory runs out.
-pub(crate) fn work(alloc: Global, state: State) -> Result<(State, bool), AllocError>
+/// Turns of the blocks, in passes, in which each block's nodes first pass on what they have in the reverse of an order:
+/// best the nearest to the sink first. Whether some block did an event: else the state is finished. The only error is
+/// that memory runs out.
+pub(crate) fn work(alloc: Global, state: State, order: &[u32]) -> Result<(State, bool), AllocError>
     requires { IsQuiet state }
     ensures net { IfOk result (λ r. r.0.net ≡ state.net) }
     ensures done { IfOk result (λ r. MatchBool r.1 (count r.0 < count state) (IsFinished r.0)) }
 {
-    let limit = turn_limit(&state);
+    let orders = orders_of(alloc, &state, order)?;
     let arcs = state.arcs();
     let pieces = state.into_pieces();
     let old = Snapshot::of(&pieces);
@@ -184,8 +222,8 @@ pub(crate) fn work(alloc: Global, state: State) -> Result<(State, bool), AllocEr
         firsts,
         slots,
     } = parts;
-    let mut blocks = blocks_of(alloc, blocks)?;
-    let (ways, slots, some) = passes(&old, &mut blocks, ways, slots, arcs, limit);
+    let mut blocks = blocks_of(alloc, blocks, orders)?;
+    let (ways, slots, some) = passes(&old, &mut blocks, ways, slots, arcs, EVENTS);
     let blocks = cells_of(alloc, blocks)?;
     let parts = Parts {
         blocks,

@@ -6,7 +6,7 @@ ghost use Rattle.parcel.specs.Soundness.{IsFinished, count};
 ghost use Rattle.global_relabel.specs.Workspaces.{Serves};
 
 use crate::answers::answer_of;
-use crate::opening::open;
+use crate::opening::open_if_new;
 use crate::passes::work;
 use crate::takes::take_in;
 use block_core::State;
@@ -31,22 +31,24 @@ fn advance(
     let mut state = state;
     take_in(&mut state);
     workspace.raise(&mut state);
-    let (state, more) = work(alloc, state)?;
+    let (state, more) = work(alloc, state, workspace.order.as_slice())?;
     Ok((state, more))
 }
 
 /// The least cut that a state of a net comes to, with the preflow that certifies it: of all least cuts the
 /// smallest, whatever the blocks did before. Messages may be on the way, and labels need not be exact.
 ///
-/// Takes in what is on the way, and then works in rounds: each begins with exact labels, and goes on with turns of
-/// the blocks, in each of which the nodes with excess are discharged one after another (Goldberg, Tarjan 1988,
-/// sections 2 to 4). Refuses only where memory runs out, and drops the state.
+/// Where all labels are 0, excess first goes on within the blocks without regard to labels. Then it works in rounds:
+/// each takes in what is on the way, makes labels exact, and goes on with turns of the blocks: excess goes once down
+/// the order of the search for these labels, the farthest from the sink first, and then the nodes with excess are
+/// discharged one after another (Goldberg, Tarjan 1988, sections 2 to 4). Refuses only where memory runs
+/// out, and drops the state.
 pub fn finish(alloc: Global, state: State) -> Result<Solved, AllocError>
     ensures certified { IfOk result (λ s. IsRightCut state.net s) }
     ensures smallest { IfOk result (λ s. IsSmallestLeastCut state.net (side_of s)) }
     ensures bound { IfOk result (λ s. s.value ≤ capacity_limit) }
 {
-    let mut state = state;
+    let mut state = open_if_new(state);
     let mut workspace = Workspace::reserve(alloc, state.net())?;
     'rounds: loop {
         let (next, more) = advance(alloc, state, &mut workspace)?;
@@ -60,9 +62,9 @@ pub fn finish(alloc: Global, state: State) -> Result<Solved, AllocError>
 /// A least cut of the net, with the preflow that certifies it. Of all least cuts it is the smallest: its sink side
 /// lies within that of every other. Its capacity, `value`, is at most `CAPACITY_LIMIT`.
 ///
-/// The net is opened in one block, excess goes on in it without regard to labels, and `finish` does the rest. Takes
-/// every net, also of no nodes, with parallel and opposite arcs, and with arcs from a node to itself. Refuses only
-/// where memory runs out; a net of more than `ARC_LIMIT` arcs counts as that.
+/// The net is opened in one block, and `finish` does the rest. Takes every net, also of no nodes, with parallel and
+/// opposite arcs, and with arcs from a node to itself. Refuses only where memory runs out; a net of more than
+/// `ARC_LIMIT` arcs counts as that.
 pub fn solve(alloc: Global, net: &Net) -> Result<Solved, AllocError>
     ensures certified { IfOk result (λ s. IsRightCut net.now s) }
     ensures smallest { IfOk result (λ s. IsSmallestLeastCut net.now (side_of s)) }
@@ -71,6 +73,5 @@ pub fn solve(alloc: Global, net: &Net) -> Result<Solved, AllocError>
     if net.arcs().len() > ARC_LIMIT {
         return Err(AllocError);
     }
-    let state = State::open(alloc, net, 1)?;
-    finish(alloc, open(state))
+    finish(alloc, State::open(alloc, net, 1)?)
 }

@@ -53,6 +53,9 @@ pub(crate) fn block_of(net: &Net, blocks: usize, node: u32) -> usize
     ensures value { result ≡ block_of net.now blocks node }
     ensures below { result < blocks }
 {
+    if blocks == 1 {
+        return 0;
+    }
     node as usize * blocks / net.nodes()
 }
 

@@ -23,6 +23,13 @@ pass_queued b b' v q p r s h is waits longer again w active = elim (cases_eq w v
       rw longer.1 (Contains-append_left r longer.0 w (waits.queued before w active other))
 ]
 
+-- an active node passes on what it has, and goes on waiting
+pub push_queued : (b b' : BlockView) (v : ℕ) (q r : List ℕ) → IsQueued b q → IsActive b v → Waits v b q b' r → IsQueued b' r
+push_queued b b' v q r h on waits w active = elim (cases_eq w v) [
+  | inl same ↦ subst (λ (u : ℕ). Contains r u) (sym same) (rw waits.longer.1 (Contains-append_left q waits.longer.0 v (h v on)))
+  | inr other ↦ waits.queued (λ u a off. h u a) w active other
+]
+
 -- while nothing was done the queue is what is left of the old one, with more at its end
 pub record PassRest (old new : List ℕ) (i v : ℕ) : Type 0 where
   pub node : v ≡ slice_index old i

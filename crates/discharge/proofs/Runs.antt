@@ -7,7 +7,7 @@ use Rattle.discharge.specs.declared.letter.Letter.{Letter}
 use Rattle.block_net.specs.Views.{BlockView}
 use Rattle.discharge.specs.Seen.{Seen, IsLook}
 use Rattle.discharge.specs.Steps.{Step, Push, Give, Rise, Send, Held, held, Enabled, after, Run, DoesMany, IsActive, IsSure}
-use Rattle.discharge.specs.Works.{IsAlike, Does, Waits, IsIdle, IsIdleFrom}
+use Rattle.discharge.specs.Works.{IsAlike, Does, Waits, IsIdle, IsStuck, IsIdleFrom}
 
 pub run_append : (es fs : List Step) (h g k : Held) → Run h es g → Run g fs k → Run h (es ++ fs) k
 run_append [] fs h g k first second = subst (λ (x : Held). Run x fs k) first second
@@ -122,31 +122,39 @@ idle_look b s t v look idle = record {
 pub waits_fewer : (but : ℕ) (b b' : BlockView) (q : List ℕ) → ((w : ℕ) → IsActive b' w → ¬ (w ≡ but) → IsActive b w) → Waits but b q b' q
 waits_fewer but b b' q h = record { longer = ([], sym (append-nil q)); queued = λ old v active off. old v (h v active off) off }
 
--- the four parts of a visit
-pub visit_does : (a b c d e : BlockView) (s t : Seen) (k l m n : ℕ) → ((u : Seen) → Does a u k b u) → ((u : Seen) → Does b u l c u) → Does c s m d t
-    → ((u : Seen) → Does d u n e u) → Does a s (k + l + m + n) e t
-visit_does a b c d e s t k l m n first second third fourth =
-    does_more a d e s t t (k + l + m) n (does_more a c d s s t (k + l) m (does_more a b c s s s k l (first s) (second s)) third) (fourth t)
+-- the three ways in which a node passes on what it has
+pub push_does : (a b c d : BlockView) (s t : Seen) (k l m : ℕ) → ((u : Seen) → Does a u k b u) → ((u : Seen) → Does b u l c u) → Does c s m d t → Does a s (k + l + m) d t
+push_does a b c d s t k l m first second third = does_more a c d s s t (k + l) m (does_more a b c s s s k l (first s) (second s)) third
 
-pub visit_idle : (a b c d e : BlockView) (s t : Seen) (k l m n v limit : ℕ) → ((u : Seen) → Does a u k b u) → ((u : Seen) → Does b u l c u) → Does c s m d t
+pub push_stuck : (a b c d : BlockView) (s t : Seen) (k l m v limit : ℕ) → ((u : Seen) → Does a u k b u) → ((u : Seen) → Does b u l c u) → Does c s m d t
     → (k ≡ 0 → 0 < limit → ¬ Enabled a (Give v))
     → (l ≡ 0 → 0 < limit - k → (j : ℕ) → ¬ Enabled b (Push v j))
     → (m ≡ 0 → 0 < limit - k - l → (j : ℕ) → ¬ IsSure c s (Send v j))
-    → (n ≡ 0 → 0 < limit - k - l - m → ¬ Enabled d (Rise v))
-    → k + l + m + n ≡ 0 → 0 < limit → IsIdle a s v
-visit_idle a b c d e s t k l m n v limit first second third gift pushes sends rise none some =
+    → k + l + m ≡ 0 → 0 < limit → IsStuck a s v
+push_stuck a b c d s t k l m v limit first second third gift pushes sends none some =
     let k0 : k ≡ 0 = omega arith in
     let l0 : l ≡ 0 = omega arith in
     let m0 : m ≡ 0 = omega arith in
-    let n0 : n ≡ 0 = omega arith in
     let b_is = ((first s).still k0).0 in
     let c_is = ((second s).still l0).0 ∙ b_is in
-    let d_is = (third.still m0).0 ∙ c_is in
     record {
       pushes = λ j. subst (λ (x : BlockView). ¬ Enabled x (Push v j)) b_is (pushes l0 (omega arith) j);
       gift = gift k0 some;
-      rise = subst (λ (x : BlockView). ¬ Enabled x (Rise v)) d_is (rise n0 (omega arith));
       sends = λ j. subst (λ (x : BlockView). ¬ IsSure x s (Send v j)) c_is (sends m0 (omega arith) j);
+    }
+
+-- the two parts of a visit
+pub visit_idle : (a b c : BlockView) (s t : Seen) (m n v limit : ℕ) → Does a s m b t → (m ≡ 0 → 0 < limit → IsStuck a s v)
+    → (n ≡ 0 → 0 < limit - m → ¬ Enabled b (Rise v)) → m + n ≡ 0 → 0 < limit → IsIdle a s v
+visit_idle a b c s t m n v limit first stuck rise none some =
+    let m0 : m ≡ 0 = omega arith in
+    let n0 : n ≡ 0 = omega arith in
+    let held = stuck m0 some in
+    record {
+      pushes = held.pushes;
+      gift = held.gift;
+      rise = subst (λ (x : BlockView). ¬ Enabled x (Rise v)) (first.still m0).0 (rise n0 (omega arith));
+      sends = held.sends;
     }
 
 pub idle_from_look : (b : BlockView) (s t : Seen) (c : ℕ) → IsLook s t → IsIdleFrom b t c → IsIdleFrom b s c

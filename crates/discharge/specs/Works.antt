@@ -43,6 +43,12 @@ pub record IsIdle (b : BlockView) (s : Seen) (v : ℕ) : Type 0 where
   pub rise : ¬ IsSure b s (Rise v)
   pub sends : (j : ℕ) → ¬ IsSure b s (Send v j)
 
+-- no event of node v is sure by which it passes on what it has
+pub record IsStuck (b : BlockView) (s : Seen) (v : ℕ) : Type 0 where
+  pub pushes : (j : ℕ) → ¬ IsSure b s (Push v j)
+  pub gift : ¬ IsSure b s (Give v)
+  pub sends : (j : ℕ) → ¬ IsSure b s (Send v j)
+
 -- no message from block c is sure to be taken
 pub record IsIdleFrom (b : BlockView) (s : Seen) (c : ℕ) : Type 0 where
   pub accepts : (l : Letter) → ¬ IsSure b s (Accept c l)

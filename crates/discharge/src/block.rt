@@ -4,19 +4,22 @@ ghost use Rattle.discharge.specs.Steps.{IsSure, Step, DoesMany, held};
 ghost use Rattle.discharge.specs.Works.{IsQueued};
 ghost use Rattle.discharge.specs.Turns.{IsKnown};
 
-use crate::passes::{wait_if_active, work};
+use crate::passes::{push_wave, wait_if_active, work};
 use crate::receive::receive_all;
 use crate::{Queue, Ways};
 use block_net::Cells;
 use std::alloc::{AllocError, Global};
 use std::marker::Model;
 
-/// A block, the nodes that wait in it, and the blocks that its directions lead to.
+/// A block, the nodes that wait in it, the blocks that its directions lead to, the order in which its nodes pass on
+/// what they have in its next turn, and the number of new labels after more than which each of its turns ends.
 #[derive(Drop)]
 pub struct Block {
     cells: Cells,
     queue: Queue,
     others: Vec<u32>,
+    order: Vec<u32>,
+    most_rises: usize,
 }
 
 impl Model for Block {
@@ -56,9 +59,24 @@ fn others_of(alloc: Global, cells: &Cells) -> Result<Vec<u32>, AllocError>
 }
 
 impl Block {
-    /// A block, in which the nodes that have excess and are not cut off wait. Refuses only where memory runs
-    /// out.
+    /// A block, in which the nodes that have excess and are not cut off wait. Its turns end only where no event is
+    /// enabled or there are as many as they may do. Refuses only where memory runs out.
     pub fn new(alloc: Global, cells: Cells) -> Result<Block, AllocError>
+        ensures { IfOk result (λ block. block ≡ cells) }
+    {
+        Block::with_order(alloc, cells, Vec::new(alloc), usize::MAX)
+    }
+
+    /// The same, and in its first turn the nodes of this order, numbered from the block's first node, pass on what
+    /// they have before others: best the farthest from the sink first, so that each has got all that comes to it.
+    /// What is no node is passed over. Each of its turns ends after more than `most_rises` new labels, too: where labels
+    /// become exact again soon, more of them are done in vain.
+    pub fn with_order(
+        alloc: Global,
+        cells: Cells,
+        order: Vec<u32>,
+        most_rises: usize,
+    ) -> Result<Block, AllocError>
         ensures { IfOk result (λ block. block ≡ cells) }
     {
         let queue = queue_of(alloc, &cells)?;
@@ -67,6 +85,8 @@ impl Block {
             cells,
             queue,
             others,
+            order,
+            most_rises,
         })
     }
 
@@ -82,8 +102,9 @@ impl Block {
 /// where an event is enabled, room is seen for what it puts, and what it takes is seen in front. Takes no
 /// memory.
 ///
-/// First the messages that came are taken, as long as they are enabled; then the nodes that wait are
-/// discharged, each in turn (Goldberg, Tarjan 1988, section 4).
+/// First the messages that came are taken, as long as they are enabled; then, in its first turn, the nodes of the
+/// block's order pass on what they have; then the nodes that wait are discharged, each in turn (Goldberg, Tarjan
+/// 1988, section 4), until none waits, there are `limit` events, or more new labels than the block was made for.
 pub fn turn<W: Ways>(block: &mut Block, ways: &mut W, limit: u32) -> u32
     ensures fixed { W.fixed ways.new ≡ W.fixed ways.old }
     ensures few { result ≤ limit }
@@ -97,6 +118,20 @@ pub fn turn<W: Ways>(block: &mut Block, ways: &mut W, limit: u32) -> u32
         block.others.as_slice(),
         limit,
     );
-    let rest = work(&mut block.cells, &mut block.queue, ways, limit - takes);
-    takes + rest
+    let pushes = push_wave(
+        &mut block.cells,
+        &mut block.queue,
+        ways,
+        block.order.as_slice(),
+        limit - takes,
+    );
+    block.order.clear();
+    let rest = work(
+        &mut block.cells,
+        &mut block.queue,
+        ways,
+        limit - takes - pushes,
+        block.most_rises,
+    );
+    takes + pushes + rest
 }

@@ -2,7 +2,7 @@ ghost use Rattle.std.specs.Prelude.{◌≡◌, ◌<◌, ◌≤◌, ℕ};
 ghost use Rattle.block_net.specs.Views.{count};
 ghost use Rattle.discharge.specs.Seen.{Seen};
 ghost use Rattle.discharge.specs.Steps.{IsActive, Enabled, IsSure, Push, Give, Rise, Send};
-ghost use Rattle.discharge.specs.Works.{Does, Waits, IsIdle};
+ghost use Rattle.discharge.specs.Works.{Does, Waits, IsIdle, IsStuck};
 
 use crate::acts::{is_active, try_give, try_push, try_rise, try_send};
 use crate::{Queue, Ways};
@@ -85,9 +85,9 @@ fn send_all<W: Ways>(cells: &mut Cells, ways: &mut W, v: usize, limit: u32) -> u
     count
 }
 
-/// The events of one node in this order: its gift, its pushes, its parcels and its new label. At most
-/// `limit` events.
-pub(crate) fn visit<W: Ways>(
+/// What a node has goes on, in this order: to the sink, along its directions within the block, and to other
+/// blocks. At most `limit` events.
+pub(crate) fn push_on<W: Ways>(
     cells: &mut Cells,
     queue: &mut Queue,
     ways: &mut W,
@@ -102,11 +102,35 @@ pub(crate) fn visit<W: Ways>(
     ensures waits { Waits v cells.old queue.old.order cells.new queue.new.order }
     ensures size { queue.new.size ≡ queue.old.size }
     ensures still { result ≡ 0 → queue.new.order ≡ queue.old.order }
-    ensures idle { result ≡ 0 → 0 < limit → IsIdle cells.old (W.seen ways.old) v }
+    ensures stuck { result ≡ 0 → 0 < limit → IsStuck cells.old (W.seen ways.old) v }
 {
     let gifts = give_once(cells, v, limit);
     let pushes = push_all(cells, queue, v, limit - gifts);
     let sends = send_all(cells, ways, v, limit - gifts - pushes);
-    let rises = rise_once(cells, v, limit - gifts - pushes - sends);
-    gifts + pushes + sends + rises
+    gifts + pushes + sends
+}
+
+/// What a node has goes on, and what stays gives it a new label: how many events, at most `limit`, and how many of
+/// them were new labels.
+pub(crate) fn visit<W: Ways>(
+    cells: &mut Cells,
+    queue: &mut Queue,
+    ways: &mut W,
+    v: usize,
+    limit: u32,
+) -> (u32, u32)
+    requires node { v < count cells.old }
+    requires size { queue.old.size ≡ count cells.old }
+    ensures fixed { W.fixed ways.new ≡ W.fixed ways.old }
+    ensures few { result.0 ≤ limit }
+    ensures rises { result.1 ≤ result.0 }
+    ensures does { Does cells.old (W.seen ways.old) result.0 cells.new (W.seen ways.new) }
+    ensures waits { Waits v cells.old queue.old.order cells.new queue.new.order }
+    ensures size { queue.new.size ≡ queue.old.size }
+    ensures still { result.0 ≡ 0 → queue.new.order ≡ queue.old.order }
+    ensures idle { result.0 ≡ 0 → 0 < limit → IsIdle cells.old (W.seen ways.old) v }
+{
+    let pushes = push_on(cells, queue, ways, v, limit);
+    let rises = rise_once(cells, v, limit - pushes);
+    (pushes + rises, rises)
 }

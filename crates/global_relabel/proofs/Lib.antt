@@ -1,2 +1,4 @@
 pub mod Bridge
 pub mod ResidualNet
+pub mod Places
+pub mod Seeing

@@ -1,3 +1,3 @@
 pub mod Laws
-pub mod Residuals
+pub mod Search
 pub mod Workspaces

@@ -4,7 +4,6 @@ ghost use Rattle.parcel.specs.declared.event.Event.TheVariants.{RaiseAll};
 ghost use Rattle.parcel.specs.Reach.{AreExact, IsReachOf};
 ghost use Rattle.parcel.specs.Events.{IsQuiet, Happens};
 
-use crate::residual::{residual_net, taken_back};
 use crate::workspace::Workspace;
 use block_core::State;
 use std::alloc::{AllocError, Global};
@@ -17,9 +16,9 @@ use std::alloc::{AllocError, Global};
 pub fn distances(alloc: Global, state: &State) -> Result<Vec<u32>, AllocError>
     ensures { IfOk result (λ labels. AreExact state.now labels.items) }
 {
-    let net = residual_net(alloc, state)?;
-    let arc_flow = taken_back(alloc, state)?;
-    sink_distances::distances(alloc, net.graph(), arc_flow.as_slice(), net.sinks())
+    let mut workspace = Workspace::reserve(alloc, state.net())?;
+    workspace.find(state);
+    Ok(workspace.labels)
 }
 
 /// The nodes that reach the sink over residual directions, one bit for each node. Messages may be on the way.

@@ -30,12 +30,15 @@ fn heads(alloc: Global, arcs: &[Arc]) -> Result<Vec<u32>, AllocError>
 
 /// The arcs of the net by the node that each leaves, and by the node that each enters.
 ///
+/// The list of the nodes that arcs leave is given back before that of the nodes that they enter is made.
+///
 /// Refuses only where memory runs out; a net of 2^32 arcs or more counts as that.
 pub fn arcs_by_node(alloc: Global, net: &Graph) -> Result<Adjacency, AllocError>
     ensures { IfOk result (λ adjacency. IsAdjacency net.now adjacency) }
 {
     let tails = tails(alloc, net.arcs())?;
     let out = group(alloc, net.nodes(), tails.as_slice())?;
+    drop(tails);
     let heads = heads(alloc, net.arcs())?;
     let into = group(alloc, net.nodes(), heads.as_slice())?;
     Ok(Adjacency { out, into })

@@ -20,7 +20,7 @@ mod side;
 pub use adjacency::{Adjacency, arcs_by_node};
 pub use labels::top_label;
 pub use rooms::are_rooms;
-pub use search::write_distances;
+pub use search::{mark, write_distances};
 pub use side::{distances, sink_side};
 
 /// A law: distances are labels that fall by at most 1 along each residual direction.

@@ -16,8 +16,12 @@ struct Carried<'a> {
     arc_flow: &'a [u64],
 }
 
-/// Labels the node where it has no label, and puts it last in the order. Answers how many nodes stand there.
-fn mark(labels: &mut [u32], order: &mut [u32], count: usize, v: u32, label: u32) -> usize
+/// Labels the node where it has no label, and puts it last in the order: the step of a search by levels. Answers how
+/// many nodes stand there.
+///
+/// `labels` has a number for each node, two more than there are nodes where a node has no label. The first `count`
+/// places of `order` are the labelled nodes in the order in which they were found, by rising labels.
+pub fn mark(labels: &mut [u32], order: &mut [u32], count: usize, v: u32, label: u32) -> usize
     requires node { v < length labels.old }
     requires ready { IsReady label (found_of labels.old order.old count) }
     ensures grows { Grows label (λ u. u ≡ v)

@@ -10,21 +10,22 @@ pub nodes-preserved : goal.nodes-preserved
 nodes-preserved g c =
     let old = c.args.cells.now in
     let inv = c.nodes.invariant in
-    let told = c.visit-count.ensures in
+    let told = c.visit-did.ensures in
     let was = g.W.Ways.seen c.args.ways.now in
     let seen = g.W.Ways.seen c.nodes.ways in
     let v = c.in-Some.v in
     let popped = c.in-Some.ensures.some in
-    let b = c.visit-count.new.cells in
-    let rest : c.nodes.count + c.visit-count.result ≡ 0 → PassRest c.args.queue.now.order c.wait_if_active.new.queue.order c.nodes.i v =
-    λ none. pass_rest c.args.queue.now.order c.nodes.queue.order c.pop.new.self.order c.visit-count.new.queue.order c.wait_if_active.new.queue.order c.nodes.i v
+    let b = c.visit-did.new.cells in
+    let rest : c.nodes.count + c.visit-did.result.0 ≡ 0 → PassRest c.args.queue.now.order c.wait_if_active.new.queue.order c.nodes.i v =
+    λ none. pass_rest c.args.queue.now.order c.nodes.queue.order c.pop.new.self.order c.visit-did.new.queue.order c.wait_if_active.new.queue.order c.nodes.i v
     (omega arith) (inv.rest (omega arith)) popped.1 (told.still (omega arith)) c.wait_if_active.ensures.longer in
     record {
       fixed = told.fixed ∙ inv.fixed;
       few = omega arith;
-      does = does_more old c.nodes.cells b was seen (g.W.Ways.seen c.visit-count.new.ways) c.nodes.count c.visit-count.result inv.does told.does;
+      rises = omega (arith, inv.rises, told.rises);
+      does = does_more old c.nodes.cells b was seen (g.W.Ways.seen c.visit-did.new.ways) c.nodes.count c.visit-did.result.0 inv.does told.does;
       size = omega (arith, c.wait_if_active.ensures.size, told.size, c.in-Some.ensures.size, inv.size);
-      queued = pass_queued c.nodes.cells b v c.nodes.queue.order c.pop.new.self.order c.visit-count.new.queue.order c.wait_if_active.new.queue.order inv.queued popped.1 told.waits
+      queued = pass_queued c.nodes.cells b v c.nodes.queue.order c.pop.new.self.order c.visit-did.new.queue.order c.wait_if_active.new.queue.order inv.queued popped.1 told.waits
           c.wait_if_active.ensures.longer c.wait_if_active.ensures.waits;
       rest = λ none. (rest none).rest;
       idle = λ none k low. elim (cases_lt k c.nodes.i) [

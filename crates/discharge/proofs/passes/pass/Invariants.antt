@@ -6,6 +6,7 @@ abbrev pub invariant-nodes : goal.invariant-nodes
 invariant-nodes g l = record {
   fixed : g.W.Ways.fixed l.ways ≡ g.W.Ways.fixed l.fn.ways;
   few : l.count ≤ l.limit;
+  rises : l.rises ≤ l.count;
   does : Does l.fn.cells (g.W.Ways.seen l.fn.ways) l.count l.cells (g.W.Ways.seen l.ways);
   size : l.queue.size ≡ l.fn.queue.size;
   queued : IsQueued l.cells l.queue.order;

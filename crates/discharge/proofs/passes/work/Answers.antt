@@ -13,10 +13,15 @@ passes-preserved g c =
       few = omega arith;
       more = omega arith;
       does = does_more c.args.cells.now c.passes.cells c.pass-did.new.cells (g.W.Ways.seen c.args.ways.now) (g.W.Ways.seen c.passes.ways) (g.W.Ways.seen c.pass-did.new.ways)
-          c.passes.count c.pass-did.result inv.does told.does;
+          c.passes.count c.pass-did.result.0 inv.does told.does;
       size = told.size ∙ inv.size;
       queued = told.queued;
     }
+
+pub returns-then-rises-left-clause-does : goal.returns-then-rises-most-clause-does
+returns-then-rises-left-clause-does g c =
+    does_more c.args.cells.now c.passes.cells c.pass-did.new.cells (g.W.Ways.seen c.args.ways.now) (g.W.Ways.seen c.passes.ways) (g.W.Ways.seen c.pass-did.new.ways)
+    c.passes.count c.pass-did.result.0 c.passes.invariant.does c.pass-did.ensures.does
 
 pub returns-then-did-eq0-clause-idle : goal.returns-then-did-eq0-clause-idle
 returns-then-did-eq0-clause-idle g c = λ none some v.

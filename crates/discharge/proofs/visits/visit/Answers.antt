@@ -1,41 +1,24 @@
 use Rattle.std.proofs.Common.{arith}
-use Rattle.discharge.proofs.Runs.{no_seen, visit_does, visit_idle, waits_more, waits_fewer}
+use Rattle.discharge.proofs.Runs.{does_more, visit_idle, waits_more, waits_fewer}
 use Rattle.discharge.proofs.visits.visit.Goals as goal
 
-pub push_all-pushes-requires-clause-node : goal.push_all-pushes-requires-clause-node
-push_all-pushes-requires-clause-node g c = omega (arith, c.requires.node, (c.give_once-gifts.ensures.does no_seen).alike.count)
-
-pub push_all-pushes-requires-clause-size : goal.push_all-pushes-requires-clause-size
-push_all-pushes-requires-clause-size g c = omega (arith, c.requires.size, (c.give_once-gifts.ensures.does no_seen).alike.count)
-
-pub send_all-sends-requires : goal.send_all-sends-requires
-send_all-sends-requires g c = omega (arith, c.requires.node, (c.give_once-gifts.ensures.does no_seen).alike.count, (c.push_all-pushes.ensures.does no_seen).alike.count)
-
 pub rise_once-rises-requires : goal.rise_once-rises-requires
-rise_once-rises-requires g c =
-    omega (arith, c.requires.node, (c.give_once-gifts.ensures.does no_seen).alike.count, (c.push_all-pushes.ensures.does no_seen).alike.count, c.send_all-sends.ensures.does.alike.count)
+rise_once-rises-requires g c = omega (arith, c.requires.node, c.push_on-pushes.ensures.does.alike.count)
 
 pub returns-clause-does : goal.returns-clause-does
 returns-clause-does g c =
-    visit_does c.args.cells.now c.give_once-gifts.new.cells c.push_all-pushes.new.cells c.send_all-sends.new.cells c.rise_once-rises.new.cells
-    (g.W.Ways.seen c.args.ways.now) (g.W.Ways.seen c.send_all-sends.new.ways) c.give_once-gifts.result c.push_all-pushes.result c.send_all-sends.result c.rise_once-rises.result
-    c.give_once-gifts.ensures.does c.push_all-pushes.ensures.does c.send_all-sends.ensures.does c.rise_once-rises.ensures.does
+    let now = g.W.Ways.seen c.push_on-pushes.new.ways in
+    does_more c.args.cells.now c.push_on-pushes.new.cells c.rise_once-rises.new.cells (g.W.Ways.seen c.args.ways.now) now now
+    c.push_on-pushes.result c.rise_once-rises.result c.push_on-pushes.ensures.does (c.rise_once-rises.ensures.does now)
 
 pub returns-clause-idle : goal.returns-clause-idle
 returns-clause-idle g c =
-    visit_idle c.args.cells.now c.give_once-gifts.new.cells c.push_all-pushes.new.cells c.send_all-sends.new.cells c.rise_once-rises.new.cells
-    (g.W.Ways.seen c.args.ways.now) (g.W.Ways.seen c.send_all-sends.new.ways) c.give_once-gifts.result c.push_all-pushes.result c.send_all-sends.result c.rise_once-rises.result
-    c.args.v c.args.limit c.give_once-gifts.ensures.does c.push_all-pushes.ensures.does c.send_all-sends.ensures.does
-    c.give_once-gifts.ensures.idle c.push_all-pushes.ensures.idle c.send_all-sends.ensures.idle c.rise_once-rises.ensures.idle
+    visit_idle c.args.cells.now c.push_on-pushes.new.cells c.rise_once-rises.new.cells
+    (g.W.Ways.seen c.args.ways.now) (g.W.Ways.seen c.push_on-pushes.new.ways) c.push_on-pushes.result c.rise_once-rises.result
+    c.args.v c.args.limit c.push_on-pushes.ensures.does c.push_on-pushes.ensures.stuck c.rise_once-rises.ensures.idle
 
 pub returns-clause-waits : goal.returns-clause-waits
 returns-clause-waits g c =
-    let q = c.args.queue.now.order in
-    let q' = c.push_all-pushes.new.queue.order in
-    waits_more c.args.v c.args.cells.now c.give_once-gifts.new.cells c.rise_once-rises.new.cells q q q'
-    (waits_fewer c.args.v c.args.cells.now c.give_once-gifts.new.cells q c.give_once-gifts.ensures.queue)
-    (waits_more c.args.v c.give_once-gifts.new.cells c.push_all-pushes.new.cells c.rise_once-rises.new.cells q q' q'
-    c.push_all-pushes.ensures.waits
-    (waits_more c.args.v c.push_all-pushes.new.cells c.send_all-sends.new.cells c.rise_once-rises.new.cells q' q' q'
-    (waits_fewer c.args.v c.push_all-pushes.new.cells c.send_all-sends.new.cells q' c.send_all-sends.ensures.queue)
-    (waits_fewer c.args.v c.send_all-sends.new.cells c.rise_once-rises.new.cells q' c.rise_once-rises.ensures.queue)))
+    let q = c.push_on-pushes.new.queue.order in
+    waits_more c.args.v c.args.cells.now c.push_on-pushes.new.cells c.rise_once-rises.new.cells c.args.queue.now.order q q c.push_on-pushes.ensures.waits
+    (waits_fewer c.args.v c.push_on-pushes.new.cells c.rise_once-rises.new.cells q c.rise_once-rises.ensures.queue)

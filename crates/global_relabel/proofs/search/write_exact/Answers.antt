@@ -1,0 +1,18 @@
+use Rattle.sink_distances.specs.Search.{found_of}
+use Rattle.global_relabel.proofs.ResidualNet.{expanded_begins, expanded_more, expanded_all}
+use Rattle.global_relabel.proofs.search.write_exact.Goals as goal
+
+pub search-init : goal.search-init
+search-init c =
+    expanded_begins c.args.state.now (found_of c.mark_rooms-count.new.labels c.mark_rooms-count.new.order c.mark_rooms-count.result) c.net.ensures.sound
+    c.mark_rooms-count.ensures.starts
+
+pub search-preserved : goal.search-preserved
+search-preserved c =
+    expanded_more c.args.state.now c.net.result.now c.parts.result.now c.search.next (found_of c.search.labels c.search.order c.search.count)
+    (found_of c.mark_into-count.new.labels c.mark_into-count.new.order c.mark_into-count.result) c.net.ensures.sound c.net.ensures.value c.parts.ensures
+    c.search.invariant c.search-test.true c.mark_into-count.ensures.grows c.mark_into-count.ensures.marked
+
+pub returns : goal.returns
+returns c =
+    expanded_all c.args.state.now c.search.next (found_of c.search.labels c.search.order c.search.count) c.net.ensures.sound c.search.invariant c.search-test.false

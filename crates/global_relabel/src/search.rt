@@ -1,0 +1,231 @@
+ghost use Rattle.std.specs.Prelude.{◌≡◌, ◌+◌, ◌<◌, ◌≤◌, ℕ, true, false, length, slice_index};
+ghost use Rattle.flow_network.specs.Limits.{node_limit};
+ghost use Rattle.flow_network.specs.Cut.{nodes, IsNet};
+ghost use Rattle.sink_distances.specs.Search.{found_of, AreStarts, IsReady, Grows};
+ghost use Rattle.parcel.specs.Reach.{AreExact};
+ghost use Rattle.block_net.specs.Views.{lane_in, border_in};
+ghost use Rattle.block_net.specs.Whole.{shown};
+ghost use Rattle.block_core.specs.Views.{IsLaid, IsSpot};
+ghost use Rattle.block_core.specs.Parts.{whole_by};
+ghost use Rattle.global_relabel.specs.Search.{LeadsTo, AreMarked};
+
+use block_core::{State, spot};
+use block_net::{Cells, Parts};
+use flow_network::Net;
+use sink_distances::{mark, top_label};
+
+/// A net and its blocks.
+#[derive(Clone, Copy)]
+struct Split<'a> {
+    net: &'a Net,
+    parts: &'a Parts,
+}
+
+/// A node, its block and its place there.
+#[derive(Clone, Copy)]
+struct Spot {
+    node: usize,
+    block: usize,
+    place: usize,
+}
+
+/// Labels the nodes that can give the sink more.
+fn mark_rooms(state: &State, labels: &mut [u32], order: &mut [u32]) -> usize
+    requires len { length labels.old ≡ nodes state.now.net }
+    requires order_len { length order.old ≡ nodes state.now.net }
+    ensures limits { IsNet state.now.net }
+    ensures starts { AreStarts state.now.net state.now.rooms (nodes state.now.net)
+        (found_of labels.new order.new result) }
+{
+    labels.fill(top_label(state.net().graph()));
+    let mut count = 0;
+    for v in 0..state.nodes() {
+        if state.room(v) > 0 {
+            count = mark(labels, order, count, v as u32, 1);
+        }
+    }
+    count
+}
+
+/// Labels the node that a direction within the block leads to, where the opposite direction can carry more. `first` is
+/// the block's first node.
+fn mark_lane(
+    cells: &Cells,
+    first: usize,
+    j: usize,
+    labels: &mut [u32],
+    order: &mut [u32],
+    count: usize,
+    label: u32,
+) -> usize
+    requires place { j < length cells.now.lanes }
+    requires opposite { (lane_in cells.now j).opposite < length cells.now.lanes }
+    requires node { first + (lane_in cells.now j).far < length labels.old }
+    requires few { length labels.old ≤ node_limit }
+    requires ready { IsReady label (found_of labels.old order.old count) }
+    ensures grows { Grows label
+        (λ u. (u ≡ first + (lane_in cells.now j).far)
+        × (0 < (lane_in cells.now (lane_in cells.now j).opposite).residual))
+        (found_of labels.old order.old count) (found_of labels.new order.new result) }
+    ensures marked { 0 < (lane_in cells.now (lane_in cells.now j).opposite).residual →
+        slice_index labels.new (first + (lane_in cells.now j).far) ≤ label }
+{
+    let lane = cells.lane(j);
+    let v = first + lane.far as usize;
+    if labels[v] as usize == labels.len() + 2 && cells.lane(lane.opposite as usize).residual > 0 {
+        mark(labels, order, count, v as u32, label)
+    } else {
+        count
+    }
+}
+
+/// Labels the nodes of the node's block that have a residual direction to it.
+fn mark_lanes(
+    split: &Split<'_>,
+    at: Spot,
+    labels: &mut [u32],
+    order: &mut [u32],
+    mut count: usize,
+    label: u32,
+) -> usize
+    requires laid { IsLaid (whole_by split.now.net.now split.now.parts.now) }
+    requires spot { IsSpot (whole_by split.now.net.now split.now.parts.now) at.node at.block at.place }
+    requires len { length labels.old ≡ nodes split.now.net.now }
+    requires ready { IsReady label (found_of labels.old order.old count) }
+    ensures grows { Grows label
+        (LeadsTo split.now.net.now (shown (whole_by split.now.net.now split.now.parts.now)).lanes at.node)
+        (found_of labels.old order.old count) (found_of labels.new order.new result) }
+    ensures marked { AreMarked (whole_by split.now.net.now split.now.parts.now) false at.node label labels.new }
+{
+    let cells = &split.parts.blocks[at.block];
+    let first = split.parts.firsts[at.block];
+    let range = cells.range(at.place);
+    for j in range.0..range.1 {
+        count = mark_lane(cells, first, j, labels, order, count, label);
+    }
+    count
+}
+
+/// Labels the node of a block that a direction to another block leaves, where it can carry more. `first` is the
+/// block's first node.
+fn mark_border(
+    cells: &Cells,
+    first: usize,
+    j: usize,
+    labels: &mut [u32],
+    order: &mut [u32],
+    count: usize,
+    label: u32,
+) -> usize
+    requires place { j < length cells.now.borders }
+    requires node { first + (border_in cells.now j).near < length labels.old }
+    requires few { length labels.old ≤ node_limit }
+    requires ready { IsReady label (found_of labels.old order.old count) }
+    ensures grows { Grows label
+        (λ u. (u ≡ first + (border_in cells.now j).near) × (0 < (border_in cells.now j).residual))
+        (found_of labels.old order.old count) (found_of labels.new order.new result) }
+    ensures marked { 0 < (border_in cells.now j).residual →
+        slice_index labels.new (first + (border_in cells.now j).near) ≤ label }
+{
+    let border = cells.border(j);
+    if border.residual > 0 {
+        mark(
+            labels,
+            order,
+            count,
+            (first + border.near as usize) as u32,
+            label,
+        )
+    } else {
+        count
+    }
+}
+
+/// Labels the nodes of other blocks that have a residual direction to the node.
+fn mark_borders(
+    split: &Split<'_>,
+    at: Spot,
+    labels: &mut [u32],
+    order: &mut [u32],
+    mut count: usize,
+    label: u32,
+) -> usize
+    requires laid { IsLaid (whole_by split.now.net.now split.now.parts.now) }
+    requires spot { IsSpot (whole_by split.now.net.now split.now.parts.now) at.node at.block at.place }
+    requires len { length labels.old ≡ nodes split.now.net.now }
+    requires ready { IsReady label (found_of labels.old order.old count) }
+    ensures grows { Grows label
+        (LeadsTo split.now.net.now (shown (whole_by split.now.net.now split.now.parts.now)).lanes at.node)
+        (found_of labels.old order.old count) (found_of labels.new order.new result) }
+    ensures marked { AreMarked (whole_by split.now.net.now split.now.parts.now) true at.node label labels.new }
+{
+    let parts = split.parts;
+    let cells = &parts.blocks[at.block];
+    let range = cells.border_range(at.place);
+    for j in range.0..range.1 {
+        let border = cells.border(j);
+        let to = border.to as usize;
+        let opposite = border.opposite as usize;
+        let first = parts.firsts[to];
+        count = mark_border(
+            &parts.blocks[to],
+            first,
+            opposite,
+            labels,
+            order,
+            count,
+            label,
+        );
+    }
+    count
+}
+
+/// Labels the nodes that have a residual direction to the node, one above its label.
+fn mark_into(
+    split: &Split<'_>,
+    labels: &mut [u32],
+    order: &mut [u32],
+    count: usize,
+    w: usize,
+) -> usize
+    requires laid { IsLaid (whole_by split.now.net.now split.now.parts.now) }
+    requires node { w < nodes split.now.net.now }
+    requires len { length labels.old ≡ nodes split.now.net.now }
+    requires ready { IsReady (slice_index labels.old w + 1) (found_of labels.old order.old count) }
+    ensures grows { Grows (slice_index labels.old w + 1)
+        (LeadsTo split.now.net.now (shown (whole_by split.now.net.now split.now.parts.now)).lanes w)
+        (found_of labels.old order.old count) (found_of labels.new order.new result) }
+    ensures marked { (v : ℕ) →
+        LeadsTo split.now.net.now (shown (whole_by split.now.net.now split.now.parts.now)).lanes w v →
+        slice_index labels.new v ≤ slice_index labels.old w + 1 }
+{
+    let found = spot(split.net, split.parts, w);
+    let at = Spot {
+        node: w,
+        block: found.0,
+        place: found.1,
+    };
+    let label = labels[w] + 1;
+    let count = mark_lanes(split, at, labels, order, count, label);
+    mark_borders(split, at, labels, order, count, label)
+}
+
+/// Writes the exact label of each node: a breadth-first search backwards from the sink over what the blocks hold
+/// (Goldberg, Tarjan 1988, section 3). `order` is room for the search. Takes no memory.
+pub(crate) fn write_exact(state: &State, labels: &mut [u32], order: &mut [u32])
+    requires len { length labels.old ≡ nodes state.now.net }
+    requires order_len { length order.old ≡ nodes state.now.net }
+    ensures { AreExact state.now labels.new }
+{
+    let split = Split {
+        net: state.net(),
+        parts: state.parts(),
+    };
+    let mut count = mark_rooms(state, labels, order);
+    let mut next = 0;
+    'search: while next < count {
+        let w = order[next] as usize;
+        count = mark_into(&split, labels, order, count, w);
+        next += 1;
+    }
+}
