@@ -18,7 +18,7 @@ passes-preserved g c =
       queued = told.queued;
     }
 
-pub returns-then-rises-left-clause-does : goal.returns-then-rises-most-clause-does
+pub returns-then-rises-left-clause-does : goal.returns-then-rises-left-clause-does
 returns-then-rises-left-clause-does g c =
     does_more c.args.cells.now c.passes.cells c.pass-did.new.cells (g.W.Ways.seen c.args.ways.now) (g.W.Ways.seen c.passes.ways) (g.W.Ways.seen c.pass-did.new.ways)
     c.passes.count c.pass-did.result.0 c.passes.invariant.does c.pass-did.ensures.does
