@@ -143,10 +143,11 @@ fn round_of<J: Job + Sync, R: Threads + Wait + Abort + Sync>(
     }
 }
 
-/// Both blocks at one worker.
+/// Both blocks at one worker, with so many turns to draw.
 fn run_in_one<J: Job + Sync, R: Threads + Wait + Abort + Sync>(
     rt: &R,
     alloc: Global,
+    turns: u32,
     budget: Blank,
     drawn: Blank,
 ) -> Result<End, AllocError>
@@ -155,7 +156,7 @@ fn run_in_one<J: Job + Sync, R: Threads + Wait + Abort + Sync>(
     requires drawn { (drawn.name ≡ J.Drawn.name) × (drawn.parts ≡ J.Drawn.parts) }
     requires one { drawn.parts ≡ 1 }
 {
-    let (book, _whole, share) = TurnBook::<J>::new(alloc, budget, drawn, TURNS, 2)?;
+    let (book, _whole, share) = TurnBook::<J>::new(alloc, budget, drawn, turns, 2)?;
     let (first, second) = two_seats(rt, alloc)?;
     let mut seats = Vec::new(alloc);
     seats.push(first)?;
@@ -190,6 +191,7 @@ fn run_in_two<J: Job + Sync, R: Threads + Wait + Abort + Sync>(
 fn one_with<B: Ledger + Send + Sync, D: Ledger + Send + Sync, R: Threads + Wait + Abort + Sync>(
     rt: &R,
     alloc: Global,
+    turns: u32,
     budget: Blank,
     drawn: Blank,
 ) -> Result<End, AllocError>
@@ -198,7 +200,7 @@ fn one_with<B: Ledger + Send + Sync, D: Ledger + Send + Sync, R: Threads + Wait 
     requires drawn { (drawn.name ≡ D.name) × (drawn.parts ≡ D.parts) }
     requires one { drawn.parts ≡ 1 }
 {
-    run_in_one::<Ledgers<B, D>, R>(rt, alloc, budget, drawn)
+    run_in_one::<Ledgers<B, D>, R>(rt, alloc, turns, budget, drawn)
 }
 
 fn two_with<B: Ledger + Send + Sync, D: Ledger + Send + Sync, R: Threads + Wait + Abort + Sync>(
@@ -215,13 +217,18 @@ fn two_with<B: Ledger + Send + Sync, D: Ledger + Send + Sync, R: Threads + Wait 
     run_in_two::<Ledgers<B, D>, R>(rt, alloc, budget, drawn)
 }
 
-/// One worker goes on until neither block can do anything: the sink got 3, all that it can get, and 2 stay.
+/// One worker goes on until neither block can do anything: the sink got 3, all that it can get, and 2 stay. It got as
+/// much where no turn can be drawn, since a turn goes on while an event is enabled: turn 0 of the first block sends 4, and that
+/// of the second takes them, gives 3, and sends the 2 that it has left back.
 #[test]
 fn two_blocks_at_one_worker(rt: HostRuntime) -> Result<(), Fail> {
     let (budget, drawn) = (Blank::new(1), Blank::new(1));
-    let end = one_with::<Brand, Brand, _>(&rt, rt.alloc(), budget, drawn)?;
+    let end = one_with::<Brand, Brand, _>(&rt, rt.alloc(), TURNS, budget, drawn)?;
     assert!(rt; end.room == 0 && end.excess == 2);
     assert!(rt; 0 < end.turns && end.turns < TURNS);
+    let (budget, drawn) = (Blank::new(1), Blank::new(1));
+    let first = one_with::<Brand, Brand, _>(&rt, rt.alloc(), 0, budget, drawn)?;
+    assert!(rt; first.room == 0 && first.excess == 0 && first.turns == 0);
     Ok(())
 }
 
