@@ -2,6 +2,7 @@
 -- known of them once the energy is least.
 use Rattle.std.specs.Prelude.{◌≡◌, ◌≢◌, ◌↔◌, ℕ, ◌<◌, Bool, true, false, List, length, slice_index_or, ℤ, pos, ◌+ℤ◌, vec_len}
 use Rattle.sums.specs.Sums.{sum_below}
+use Rattle.by_site.specs.BySite.{IsListing}
 use Rattle.labellings.specs.declared.change.Move.{Move}
 use Rattle.labellings.specs.Energies.{Instance, labelling, energy}
 use Rattle.labellings.specs.Moves.{label_in, made}
@@ -45,10 +46,24 @@ rank choices n = sum_below n (λ p. openness (choice_at choices p))
 abbrev pub open_count : List Choice → ℕ
 open_count choices = rank choices (length choices)
 
--- the variable of a site is the number of the open sites before it, which means something at open sites alone
+-- the variable of an open site is the number of the open sites before it; what stands at the others means nothing
 pub record IsNumbering (choices : List Choice) (variables : List ℕ) : Type 0 where
   pub count : length variables ≡ length choices
-  pub each : (p : ℕ) → p < length choices → labelling variables p ≡ rank choices p
+  pub each : (p : ℕ) → p < length choices → choice_at choices p ≡ Open → labelling variables p ≡ rank choices p
+
+-- is nothing known of the variable?
+abbrev pub is_open : Choice → Bool
+is_open Open = true
+is_open Zero = false
+is_open One = false
+
+-- is the site open?
+abbrev pub open_at : List Choice → ℕ → Bool
+open_at choices p = is_open (choice_at choices p)
+
+-- the list is that of the open sites, in rising order
+abbrev pub AreOpenSites : List Choice → List ℕ → Type 0
+AreOpenSites choices opened = IsListing (open_at choices) (length choices) opened
 
 -- the choice that has a value
 abbrev pub choice_of : Bool → Choice

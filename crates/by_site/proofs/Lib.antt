@@ -1,0 +1,4 @@
+pub mod Ends
+pub mod Parts
+pub mod Listings
+pub mod Meetings
