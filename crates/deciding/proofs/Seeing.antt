@@ -1,13 +1,17 @@
 -- What a pair's rise is, seen with the value of one of its ends.
-use Rattle.std.proofs.Common.{◌≡◌, ◌≢◌, ℕ, ◌+◌, ◌<◌, Bool, true, false, length, take, get_or, ℤ, pos, ◌+ℤ◌, ◌-ℤ◌, ◌≤ℤ◌, refl, sym, ap, ◌∙◌, inl, inr, arith}
+use Rattle.std.proofs.Common.{◌≡◌, ◌≢◌, ℕ, zero, suc, ◌+◌, ◌<◌, Bool, true, false, IsTrue, ◌↔◌, List, [], ◌∷◌, All, length, take, get_or, ℤ, pos, ◌+ℤ◌, ◌-ℤ◌, ◌≤ℤ◌, refl, sym, ap, ◌∙◌, inl, inr, subst, arith}
 use Rattle.std.proofs.lemmas.Int.{ints}
+use Rattle.std.specs.Prelude.{slice_index}
+use Rattle.std.proofs.lemmas.List.Elements.{All-cons, All-nil}
 use Rattle.std.proofs.lemmas.Bool.{cases_eq}
 use Rattle.sums.specs.IntegerSums.{int_sum_by}
 use Rattle.sums.proofs.IntegerSumLemmas.{int_sum_by_more}
 use Rattle.label_field.specs.declared.pair.Pair.{Pair}
 use Rattle.labellings.specs.declared.change.Move.{Move}
-use Rattle.labellings.specs.Energies.{Instance}
-use Rattle.labellings.specs.Moves.{pair_entry, IsRegularPair}
+use Rattle.label_field.specs.PairLists.{IsPair}
+use Rattle.labellings.specs.Energies.{Instance, IsMetric, labelling}
+use Rattle.labellings.specs.Moves.{label_in, pair_entry, IsRegularPair, IsMoveOf}
+use Rattle.labellings.proofs.Metric.{metric_allows, weighted}
 use Rattle.move_energy.specs.declared.choice.Choice.TheVariants.{Open}
 use Rattle.move_energy.specs.Choices.{choice_at}
 use Rattle.deciding.specs.declared.bounds.Bounds.{Bounds}
@@ -200,3 +204,41 @@ regular_term m move f pair h = omega (arith, ints, h)
 
 pub regular_surplus : (m : Instance) (move : Move) (f : ℕ → ℕ) (pair : Pair) → IsRegularPair m move f pair → pos 0 ≤ℤ surplus_of (term_of m move f pair)
 regular_surplus m move f pair h = omega (arith, ints, h)
+
+-- the labels of a pair's ends, as a labelling of two sites
+two_labels : (k a b : ℕ) → a < k → b < k → (p : ℕ) → p < 2 → slice_index (a ∷ b ∷ []) p < k
+two_labels k a b first second zero l = first
+two_labels k a b first second (suc zero) l = second
+two_labels k a b first second (suc (suc p)) l = absurd (omega (arith, l))
+
+-- a metric makes the term of a pair regular, whatever the move is
+pub metric_term : (m : Instance) (k : ℕ) (move : Move) (f : ℕ → ℕ) (pair : Pair) → IsMetric k m.smooth_cost → IsMoveOf k move → (f pair.first < k) × (f pair.second < k)
+    → IsRegularPair m move f pair
+metric_term m k move f pair metric here below =
+    let one : Pair = record { first = 0; second = 1; weight = 1 } in
+    let two : Instance = record { sites = 2; labels = k; data_cost = m.data_cost; smooth_cost = m.smooth_cost; pairs = one ∷ [] } in
+    let is_pair : IsPair 2 one = record { first = omega arith; second = omega arith; unequal = λ same. omega (arith, same); weight = omega arith } in
+    let all = metric_allows two move (λ p. slice_index (f pair.first ∷ f pair.second ∷ []) p) (All-cons (IsPair 2) one [] is_pair (All-nil (IsPair 2))) metric here
+    (two_labels k (f pair.first) (f pair.second) below.0 below.1) in
+    let alone : IsRegularPair two move (λ p. slice_index (f pair.first ∷ f pair.second ∷ []) p) one = all 0 one (omega arith) in
+    weighted pair.weight
+    (m.smooth_cost (label_in move (f pair.first) false) (label_in move (f pair.second) false))
+    (m.smooth_cost (label_in move (f pair.first) false) (label_in move (f pair.second) true))
+    (m.smooth_cost (label_in move (f pair.first) true) (label_in move (f pair.second) false))
+    (m.smooth_cost (label_in move (f pair.first) true) (label_in move (f pair.second) true))
+    (omega (arith, alone))
+
+-- the ends of a pair have labels of the problem
+pub labels_below : (k : ℕ) (at : List ℕ) (sites : ℕ) (pair : Pair) → length at ≡ sites → All (λ label. label < k) at → IsPair sites pair
+    → (labelling at pair.first < k) × (labelling at pair.second < k)
+labels_below k at sites pair same below is =
+    (below pair.first 0 (omega (arith, same, is.first)), below pair.second 0 (omega (arith, same, is.second)))
+
+-- whether a term is regular, told by the surplus of its table
+pub told_regular : (m : Instance) (told : Bool) (table : List ℤ) (move : Move) (f : ℕ → ℕ) (pair : Pair) → table ≡ term_of m move f pair → (IsTrue told ↔ (pos 0 ≤ℤ surplus_of table))
+    → IsTrue told ↔ IsRegularPair m move f pair
+told_regular m told table move f pair is tells =
+    let S : List ℤ → Type 0 = λ t. pos 0 ≤ℤ surplus_of t in (
+      (λ yes. regular_term m move f pair (subst S is (tells.0 yes))),
+      λ regular. tells.1 (subst S (sym is) (regular_surplus m move f pair regular)),
+    )

@@ -1,8 +1,10 @@
 //! What a site and a pair cost in a move.
 ghost use Rattle.std.specs.Prelude.{◌≡◌, ◌<◌, ◌≤◌, ◌*◌, ℕ, ℤ, pos, ◌-ℤ◌, ◌≤ℤ◌, ◌∷◌, [], true, false, All, length, unsigned_abs, IsTrue, ◌↔◌};
+ghost use Rattle.label_field.specs.declared.pair.Pair.{Pair};
 ghost use Rattle.label_field.specs.PairLists.{IsPair};
+ghost use Rattle.labellings.specs.declared.change.Move.{Move};
 ghost use Rattle.labellings.specs.Energies.{Instance, labelling};
-ghost use Rattle.labellings.specs.Moves.{label_in, IsMoveOf};
+ghost use Rattle.labellings.specs.Moves.{label_in, IsMoveOf, IsRegularPair};
 ghost use Rattle.cost_store.specs.Limits.{data_limit};
 ghost use Rattle.cost_store.specs.Promises.{Keeps, KeepsSmooth, Answers, IsCost};
 ghost use Rattle.move_energy.specs.Limits.{site_cost_limit, pair_cost_limit};
@@ -80,4 +82,19 @@ pub fn is_regular(table: &[i64; 4]) -> bool
     ensures { IsTrue result ↔ (pos 0 ≤ℤ surplus_of table.now) }
 {
     surplus(table) >= 0
+}
+
+/// Whether a pair's term is regular. Where the smooth costs were stored as a metric each term of each move is (Boykov,
+/// Veksler and Zabih, PAMI 2001, section 3), so it is not tested.
+pub fn is_allowed<V: Fn(u32, u32) -> i64>(smooth_cost: &SmoothCost<V>, table: &[i64; 4]) -> bool
+    requires smooth { KeepsSmooth (V.pre smooth_cost.now.v) (V.post smooth_cost.now.v)
+        smooth_cost.now.labels smooth_cost.now.by_metric }
+    requires table { All (IsCost (pos pair_cost_limit)) table.now }
+    ensures { (m : Instance) (change : Move) (f : ℕ → ℕ) (pair : Pair) →
+        Answers (V.post smooth_cost.now.v) m.smooth_cost smooth_cost.now.labels smooth_cost.now.labels →
+        IsMoveOf smooth_cost.now.labels change →
+        (f pair.first < smooth_cost.now.labels) × (f pair.second < smooth_cost.now.labels) →
+        table.now ≡ term_of m change f pair → IsTrue result ↔ IsRegularPair m change f pair }
+{
+    smooth_cost.by_metric || is_regular(table)
 }

@@ -14,7 +14,7 @@ ghost use Rattle.deciding.specs.Limits.{surplus_limit};
 ghost use Rattle.deciding.specs.Working.{bound_at, IsSized, IsWithinRange, AreCounted, AreUndecided, AddsTerm, AreWaiting, AreTermsCounted};
 
 use crate::Bounds;
-use crate::costs::{data_rise, is_regular, term};
+use crate::costs::{data_rise, is_allowed, term};
 use cost_store::{DataCost, SmoothCost};
 use label_field::{Pair, Pairs};
 use labellings::Move;
@@ -106,7 +106,8 @@ impl Bounds {
         self.raise(second, difference(table, 3, 2), difference(table, 1, 0));
     }
 
-    /// Counts each pair, or refuses the first whose term is not regular.
+    /// Counts each pair, or refuses the first whose term is not regular. Smooth costs that were stored as a metric are not
+    /// tested.
     pub(crate) fn count_pairs<V: Fn(u32, u32) -> i64>(
         &mut self,
         pairs: &Pairs,
@@ -133,7 +134,7 @@ impl Bounds {
         for index in 0..pairs.len() {
             let pair = pairs.get(index);
             let table = term(smooth_cost, at, change, pair);
-            if !is_regular(&table) {
+            if !is_allowed(smooth_cost, &table) {
                 return Err(BuildError::PairNotRegular(index));
             }
             self.add_term(pair, &table);

@@ -64,7 +64,8 @@ impl Deciding {
     /// Decides the sites of a move, one after another, until none can be told: `bounds.choices` says of each site that it
     /// keeps its label or what else its variable has at 0 (`Zero`), that it takes the label of the move (`One`), or that a
     /// cut has to tell (`Open`). Turning a site that was decided the other way would raise the energy, or not lower it, whatever
-    /// the open sites do. Refused: the first pair whose term is not regular.
+    /// the open sites do. Refused: the first pair whose term is not regular; smooth costs that were stored as a metric are not
+    /// tested, since a metric makes no other term.
     ///
     /// It looks at each pair once, and once more for each of its ends that is decided (Iyer, Jegelka, Bilmes, ICML 2013).
     pub fn decide<F: Fn(u32, u32) -> i64, V: Fn(u32, u32) -> i64>(

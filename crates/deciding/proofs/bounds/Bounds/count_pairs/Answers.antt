@@ -1,4 +1,4 @@
-use Rattle.std.proofs.Common.{◌≡◌, ◌<◌, ◌+◌, ◌*◌, ◌∙◌, ℕ, ℤ, pos, ◌≤ℤ◌, List, All, length, get_or, ap, subst, sym, arith}
+use Rattle.std.proofs.Common.{◌≡◌, ◌<◌, ◌+◌, ◌*◌, ◌∙◌, ℕ, ℤ, List, All, length, get_or, ap, subst, sym, arith}
 use Rattle.std.proofs.lemmas.List.{take_all}
 use Rattle.std.proofs.lemmas.List.Elements.{All-more}
 use Rattle.std.proofs.lemmas.Option.{get_or_from_slice_get}
@@ -7,9 +7,9 @@ use Rattle.label_field.specs.PairLists.{IsPair}
 use Rattle.labellings.specs.Energies.{labelling}
 use Rattle.labellings.specs.Moves.{IsRegularPair}
 use Rattle.std.specs.Prelude.{slice_get}
-use Rattle.deciding.specs.Working.{surplus_of, AddsTerm, AreCounted}
+use Rattle.deciding.specs.Working.{AddsTerm, AreCounted}
 use Rattle.deciding.proofs.Ranges.{range_wider, undecided_kept}
-use Rattle.deciding.proofs.Seeing.{count_term, regular_term, regular_surplus}
+use Rattle.deciding.proofs.Seeing.{count_term, labels_below}
 use Rattle.deciding.proofs.bounds.Bounds.count_pairs.Goals as goal
 
 pub loop-index-init : goal.loop-index-init
@@ -46,8 +46,9 @@ loop-index-preserved g c =
           let read = ap (λ (xs : List Pair). get_or xs c.loop-index.index c.get-pair.result) same
           ∙ get_or_from_slice_get a.pairs.now.list c.loop-index.index c.get-pair.result c.get-pair.result c.get-pair.ensures.value in
           let P : Pair → Type 0 = λ p. IsRegularPair m a.change (labelling a.at.now) p in
-          let S : List ℤ → Type 0 = λ t. pos 0 ≤ℤ surplus_of t in
-          let fine = regular_term m a.change (labelling a.at.now) c.get-pair.result (subst S (c.term-table.ensures.table m answers) (c.is_regular.ensures.0 c.if-not-is_regular.false)) in
+          let below = labels_below a.smooth_cost.now.labels a.at.now a.pairs.now.sites c.get-pair.result c.requires.sites c.requires.labels c.get-pair.ensures.pair in
+          let told = c.is_allowed.ensures m a.change (labelling a.at.now) c.get-pair.result answers c.requires.change below (c.term-table.ensures.table m answers) in
+          let fine = told.0 c.if-not-is_allowed.false in
           All-more (IsRegularPair m a.change (labelling a.at.now)) m.pairs c.loop-index.index c.get-pair.result l (c.loop-index.invariant.regular m answers same) (subst P (sym read) fine);
       counted = λ m answers same first.
           let l : c.loop-index.index < length m.pairs = omega (arith, within, ap (λ (xs : List Pair). length xs) same) in
@@ -58,15 +59,16 @@ loop-index-preserved g c =
           (subst T (c.term-table.ensures.table m answers) e.adds) (c.loop-index.invariant.counted m answers same first);
     }
 
-pub returns-then-not-is_regular-clause-counted : goal.returns-then-not-is_regular-clause-counted
-returns-then-not-is_regular-clause-counted g c = λ m answers same sites.
+pub returns-then-not-is_allowed-clause-counted : goal.returns-then-not-is_allowed-clause-counted
+returns-then-not-is_allowed-clause-counted g c = λ m answers same sites.
     let a = c.args in
-    let S : List ℤ → Type 0 = λ t. pos 0 ≤ℤ surplus_of t in
+    let below = labels_below a.smooth_cost.now.labels a.at.now a.pairs.now.sites c.get-pair.result c.requires.sites c.requires.labels c.get-pair.ensures.pair in
+    let told = c.is_allowed.ensures m a.change (labelling a.at.now) c.get-pair.result answers c.requires.change below (c.term-table.ensures.table m answers) in
     record {
       failing = c.get-pair.result;
       here = ap (λ (xs : List Pair). slice_get xs c.loop-index.index) same ∙ c.get-pair.ensures.value;
-      fails = λ regular. (let t = c.is_regular.ensures.1 (subst S (sym (c.term-table.ensures.table m answers)) (regular_surplus m a.change (labelling a.at.now) c.get-pair.result regular)) in
-          let f = c.if-not-is_regular.true in absurd (cc (t, f)));
+      fails = λ regular. (let t = told.1 regular in
+          let f = c.if-not-is_allowed.true in absurd (cc (t, f)));
       before = c.loop-index.invariant.regular m answers same;
     }
 
