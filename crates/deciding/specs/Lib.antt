@@ -3,3 +3,4 @@ pub mod Decisions
 pub mod MoveValues
 pub mod Working
 pub mod Decided
+pub mod Listed

@@ -6,8 +6,10 @@ mod bounds;
 mod costs;
 mod counting;
 pub mod laws;
+mod listing;
 mod settling;
 mod sites;
 
 pub use bounds::Bounds;
+pub use listing::Lists;
 pub use sites::Deciding;

@@ -7,8 +7,9 @@ ghost use Rattle.cost_store.specs.Promises.{Keeps, KeepsSmooth};
 ghost use Rattle.move_energy.specs.Problems.{IsMeant};
 ghost use Rattle.deciding.specs.Working.{ends_of};
 ghost use Rattle.deciding.specs.Decided.{AreBySite, IsDecidedMove};
+ghost use Rattle.deciding.specs.Listed.{AreListed};
 
-use crate::Bounds;
+use crate::{Bounds, Lists};
 use cost_store::{DataCost, SmoothCost};
 use grouping::{Groups, group};
 use label_field::Pairs;
@@ -21,6 +22,7 @@ use std::alloc::{AllocError, Global};
 pub struct Deciding {
     pub ends: Groups,
     pub bounds: Bounds,
+    pub lists: Lists,
 }
 
 /// The sites of the pairs, two of each pair.
@@ -46,6 +48,7 @@ impl Deciding {
                 places: Vec::new(alloc),
             },
             bounds: Bounds::new(alloc),
+            lists: Lists::empty(alloc),
         }
     }
 
@@ -58,6 +61,7 @@ impl Deciding {
         Ok(Deciding {
             ends,
             bounds: Bounds::new(alloc),
+            lists: Lists::empty(alloc),
         })
     }
 
@@ -68,6 +72,7 @@ impl Deciding {
     /// tested, since a metric makes no other term.
     ///
     /// It looks at each pair once, and once more for each of its ends that is decided (Iyer, Jegelka, Bilmes, ICML 2013).
+    /// Then `lists` has how many sites are open, and lists them where they are few.
     pub fn decide<F: Fn(u32, u32) -> i64, V: Fn(u32, u32) -> i64>(
         &mut self,
         pairs: &Pairs,
@@ -90,6 +95,8 @@ impl Deciding {
         ensures decided { (m : Instance) →
             IsMeant (F.post data_cost.now.f) (V.post smooth_cost.now.v) pairs.now data_cost.now.labels m →
             IsDecidedMove m change at.now self.new.bounds.choices.items result }
+        ensures listed { OnOk result (AreListed change (labelling at.now) self.new.bounds.choices.items
+            self.new.lists) }
     {
         let _pairs = pairs.as_slice();
         let _sites = pairs.sites();
@@ -98,6 +105,7 @@ impl Deciding {
         self.bounds.find_waiting()?;
         self.bounds
             .settle_all(pairs, &self.ends, smooth_cost, at, change)?;
+        self.lists.fill(at, change, &self.bounds.choices)?;
         Ok(())
     }
 }

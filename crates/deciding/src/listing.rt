@@ -1,0 +1,125 @@
+//! The sites that a move has left to look at, listed where they are few.
+ghost use Rattle.std.specs.Prelude.{◌≡◌, ◌↔◌, ◌==◌, ◌||◌, ◌<◌, ◌≤◌, ◌++◌, ◌∷◌, [], cond, not, false, length, IsTrue, OnOk};
+ghost use Rattle.labellings.specs.Energies.{labelling};
+ghost use Rattle.labellings.specs.Moves.{label_in};
+ghost use Rattle.label_field.specs.Limits.{site_limit};
+ghost use Rattle.move_energy.specs.Choices.{bit_of, open_count};
+ghost use Rattle.deciding.specs.Working.{is_open};
+ghost use Rattle.deciding.specs.Listed.{opens, changes, IsListing, AreListed};
+
+use labellings::Move;
+use move_energy::Choice;
+use std::alloc::{AllocError, Global};
+
+/// The sites are listed where at most one in so many is open.
+const LISTED_SHARE: usize = 8;
+
+/// How many sites are open, and where they are at most an eighth of all (`listed`) the rising lists of the open ones
+/// and of those whose labels can still change: the open ones, and those that were decided to get another label than
+/// they have. The lists keep their memory for the next move, at most 4.5 bytes a site.
+#[derive(Drop)]
+pub struct Lists {
+    pub count: usize,
+    pub listed: bool,
+    pub opened: Vec<u32>,
+    pub changing: Vec<u32>,
+}
+
+/// How many choices are open.
+fn count_open(choices: &[Choice]) -> usize
+    ensures count { result ≡ open_count choices.now }
+    ensures few { result ≤ length choices.now }
+{
+    let mut count = 0usize;
+    for site in 0..choices.len() {
+        if choices[site].is_open() {
+            count += 1;
+        }
+    }
+    count
+}
+
+/// Whether the label of a site can still become another.
+fn can_change(choice: Choice, change: Move, label: u32) -> bool
+    ensures { result ≡ (is_open choice || not (label_in change label (bit_of choice false) == label)) }
+{
+    choice.is_open() || change.label(label, choice.bit(false)) != label
+}
+
+/// Adds a site to a list where it is chosen.
+fn add_chosen(list: &mut Vec<u32>, site: u32, chosen: bool) -> Result<(), AllocError>
+    ensures { OnOk result (list.new.items ≡ list.old.items ++ cond chosen (site ∷ []) []) }
+{
+    if chosen {
+        list.push(site)?;
+    }
+    Ok(())
+}
+
+impl Lists {
+    /// No list. It takes no memory.
+    pub fn empty(alloc: Global) -> Lists
+        ensures { result.listed ≡ false }
+    {
+        Lists {
+            count: 0,
+            listed: false,
+            opened: Vec::new(alloc),
+            changing: Vec::new(alloc),
+        }
+    }
+
+    /// Adds a site to the lists that it belongs to.
+    fn add_site(
+        &mut self,
+        site: u32,
+        choice: Choice,
+        change: Move,
+        label: u32,
+    ) -> Result<(), AllocError>
+        ensures opened { OnOk result (self.new.opened.items ≡
+            self.old.opened.items ++ cond (is_open choice) (site ∷ []) []) }
+        ensures changing { OnOk result (self.new.changing.items ≡ self.old.changing.items
+            ++ cond (is_open choice || not (label_in change label (bit_of choice false) == label))
+            (site ∷ []) []) }
+        ensures same { (self.new.count ≡ self.old.count) × (self.new.listed ≡ self.old.listed) }
+    {
+        add_chosen(&mut self.opened, site, choice.is_open())?;
+        add_chosen(&mut self.changing, site, can_change(choice, change, label))
+    }
+
+    /// Lists the open sites, and those whose labels can still change.
+    fn list(&mut self, at: &[u8], change: Move, choices: &[Choice]) -> Result<(), AllocError>
+        requires sites { (length choices.now ≡ length at.now) × (length at.now ≤ site_limit) }
+        ensures opened { OnOk result (IsListing (opens choices.now) (length choices.now) self.new.opened.items) }
+        ensures changing { OnOk result (IsListing (changes change (labelling at.now) choices.now)
+            (length choices.now) self.new.changing.items) }
+        ensures same { (self.new.count ≡ self.old.count) × (self.new.listed ≡ self.old.listed) }
+    {
+        self.opened.clear();
+        self.opened.reserve(self.count)?;
+        self.changing.clear();
+        for site in 0..at.len() {
+            self.add_site(site as u32, choices[site], change, u32::from(at[site]))?;
+        }
+        Ok(())
+    }
+
+    /// Counts the open sites of a move that was decided, and lists them where they are few.
+    pub(crate) fn fill(
+        &mut self,
+        at: &[u8],
+        change: Move,
+        choices: &[Choice],
+    ) -> Result<(), AllocError>
+        requires sites { (length choices.now ≡ length at.now) × (length at.now ≤ site_limit) }
+        ensures { OnOk result (AreListed change (labelling at.now) choices.now self.new) }
+    {
+        self.count = count_open(choices);
+        self.listed = self.count * LISTED_SHARE <= choices.len();
+        if !self.listed {
+            return Ok(());
+        }
+        self.list(at, change, choices)
+    }
+}
