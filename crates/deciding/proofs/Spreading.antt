@@ -10,6 +10,7 @@ use Rattle.grouping.specs.declared.Groups.{Groups}
 use Rattle.grouping.specs.Grouping.{IsGrouped, start_of, place_at}
 use Rattle.label_field.specs.declared.pair.Pair.{Pair}
 use Rattle.label_field.specs.PairLists.{IsPair}
+use Rattle.by_site.specs.BySite.{ends_of}
 use Rattle.labellings.specs.declared.change.Move.{Move}
 use Rattle.labellings.specs.Energies.{Instance, IsInstance}
 use Rattle.move_energy.specs.declared.choice.Choice.{Choice}
@@ -18,11 +19,11 @@ use Rattle.move_energy.specs.Choices.{bit_of, choice_at}
 use Rattle.deciding.specs.declared.bounds.Bounds.{Bounds}
 use Rattle.deciding.specs.Decisions.{Decision, set_bit, put, rise, Passes}
 use Rattle.deciding.specs.MoveValues.{move_value, data_rise, pair_rise}
-use Rattle.deciding.specs.Working.{bound_at, ends_of, Tells, IsMarked, ArePartlyDecided, SeesPair}
+use Rattle.deciding.specs.Working.{bound_at, Tells, IsMarked, ArePartlyDecided, SeesPair}
 use Rattle.deciding.proofs.Putting.{set_at, set_other}
 use Rattle.deciding.proofs.Rises.{rise_parts}
 use Rattle.deciding.proofs.Seeing.{pair_rise-same}
-use Rattle.deciding.proofs.Ends.{Touches, end_touches, touching_found, apart_pairs}
+use Rattle.by_site.proofs.Ends.{Touches, end_touches, touching_found, apart_pairs}
 
 -- the pair at a place of the list
 abbrev pub pair_in : List Pair → ℕ → Pair

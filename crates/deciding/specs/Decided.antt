@@ -1,8 +1,5 @@
 -- What deciding answers.
 use Rattle.std.specs.Prelude.{◌≡◌, ℕ, ◌<◌, Bool, List, Result, Ok, Err}
-use Rattle.label_field.specs.PairLists.{PairList}
-use Rattle.grouping.specs.declared.Groups.{Groups}
-use Rattle.grouping.specs.Grouping.{IsGrouped}
 use Rattle.labellings.specs.declared.change.Move.{Move}
 use Rattle.labellings.specs.Energies.{Instance, labelling}
 use Rattle.labellings.specs.Moves.{IsAllowed}
@@ -13,7 +10,6 @@ use Rattle.move_energy.specs.Choices.{bit_of, choice_at}
 use Rattle.move_energy.specs.Problems.{IsPrepareRefusal}
 use Rattle.deciding.specs.Decisions.{Decision, put, Passes, HavePassed}
 use Rattle.deciding.specs.MoveValues.{move_value}
-use Rattle.deciding.specs.Working.{ends_of}
 
 -- the sites were decided one after another, each by the test, and none that is open passes it
 pub record AreDecided (m : Instance) (move : Move) (f : ℕ → ℕ) (choice : ℕ → Choice) : Type 0 where
@@ -29,7 +25,3 @@ abbrev pub IsDecidedMove : Instance → Move → List ℕ → List Choice → Re
 IsDecidedMove m move f choices (Ok done) =
     IsAllowed m move (labelling f) × AreDecided m move (labelling f) (choice_at choices)
 IsDecidedMove m move f choices (Err e) = IsPrepareRefusal m move (labelling f) e
-
--- the ends of the pairs, two of each pair, by their site
-abbrev pub AreBySite : PairList → Groups → Type 0
-AreBySite pairs ends = IsGrouped pairs.sites (ends_of pairs.list) ends

@@ -4,7 +4,6 @@ use Rattle.std.specs.List.{All, Contains}
 use Rattle.sums.specs.Sums.{sum_below, counted}
 use Rattle.sums.specs.IntegerSums.{int_sum_by}
 use Rattle.grouping.specs.declared.Groups.{Groups}
-use Rattle.grouping.specs.Grouping.{start_of}
 use Rattle.label_field.specs.declared.pair.Pair.{Pair}
 use Rattle.labellings.specs.declared.change.Move.{Move}
 use Rattle.labellings.specs.Energies.{Instance}
@@ -13,16 +12,12 @@ use Rattle.move_energy.specs.declared.error.BuildError.{BuildError}
 use Rattle.move_energy.specs.Problems.{IsPrepareRefusal}
 use Rattle.move_energy.specs.declared.choice.Choice.{Choice}
 use Rattle.move_energy.specs.declared.choice.Choice.TheVariants.{Open, Zero, One}
-use Rattle.move_energy.specs.Choices.{bit_of, choice_at}
+use Rattle.by_site.specs.BySite.{degree}
+use Rattle.move_energy.specs.Choices.{bit_of, choice_at, is_open}
 use Rattle.deciding.specs.Limits.{surplus_limit, bound_limit}
 use Rattle.deciding.specs.Decisions.{Decision, set_bit, put, rise, HavePassed}
 use Rattle.deciding.specs.MoveValues.{move_value, data_rise, pair_rise}
 use Rattle.deciding.specs.declared.bounds.Bounds.{Bounds}
-
--- the ends of pairs, the first and the second of each
-abbrev pub ends_of : List Pair → List ℕ
-ends_of [] = []
-ends_of (pair ∷ pairs) = pair.first ∷ pair.second ∷ ends_of pairs
 
 -- the two sites are the ends of the pair
 abbrev pub AreEnds : Pair → ℕ → ℕ → Type 0
@@ -32,15 +27,6 @@ AreEnds pair site other =
 -- the bound of a site
 abbrev pub bound_at : List ℤ → ℕ → ℤ
 bound_at bounds u = slice_index_or bounds u (pos 0)
-
-abbrev pub is_open : Choice → Bool
-is_open Open = true
-is_open Zero = false
-is_open One = false
-
--- how many ends of pairs lie at a site
-abbrev pub degree : Groups → ℕ → ℕ
-degree ends u = start_of ends (u + 1) - start_of ends u
 
 -- how many ends lie at open sites: those that may still be looked at
 abbrev pub left : Groups → ℕ → List Choice → ℕ

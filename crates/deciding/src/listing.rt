@@ -1,11 +1,11 @@
 //! The sites that a move has left to look at, listed where they are few.
 ghost use Rattle.std.specs.Prelude.{◌≡◌, ◌↔◌, ◌==◌, ◌||◌, ◌<◌, ◌≤◌, ◌++◌, ◌∷◌, [], cond, not, false, length, IsTrue, OnOk};
+ghost use Rattle.by_site.specs.BySite.{IsListing};
 ghost use Rattle.labellings.specs.Energies.{labelling};
 ghost use Rattle.labellings.specs.Moves.{label_in};
 ghost use Rattle.label_field.specs.Limits.{site_limit};
-ghost use Rattle.move_energy.specs.Choices.{bit_of, open_count};
-ghost use Rattle.deciding.specs.Working.{is_open};
-ghost use Rattle.deciding.specs.Listed.{opens, changes, IsListing, AreListed};
+ghost use Rattle.move_energy.specs.Choices.{bit_of, open_count, is_open, AreOpenSites};
+ghost use Rattle.deciding.specs.Listed.{changes, AreListed};
 
 use labellings::Move;
 use move_energy::Choice;
@@ -91,7 +91,7 @@ impl Lists {
     /// Lists the open sites, and those whose labels can still change.
     fn list(&mut self, at: &[u8], change: Move, choices: &[Choice]) -> Result<(), AllocError>
         requires sites { (length choices.now ≡ length at.now) × (length at.now ≤ site_limit) }
-        ensures opened { OnOk result (IsListing (opens choices.now) (length choices.now) self.new.opened.items) }
+        ensures opened { OnOk result (AreOpenSites choices.now self.new.opened.items) }
         ensures changing { OnOk result (IsListing (changes change (labelling at.now) choices.now)
             (length choices.now) self.new.changing.items) }
         ensures same { (self.new.count ≡ self.old.count) × (self.new.listed ≡ self.old.listed) }

@@ -2,6 +2,7 @@
 ghost use Rattle.std.specs.Prelude.{◌≡◌, ◌≢◌, ◌⊎◌, ◌<◌, ◌≤◌, ◌+◌, ◌*◌, ◌^◌, ℕ, ℤ, pos, ◌≤ℤ◌, ◌<ℤ◌, Bool, true, false, All, length, slice_get, Some, unsigned_abs, OnOk};
 ghost use Rattle.grouping.specs.Grouping.{IsGrouped};
 ghost use Rattle.label_field.specs.PairLists.{IsPair, IsPairList};
+ghost use Rattle.by_site.specs.BySite.{degree, AreBySite};
 ghost use Rattle.labellings.specs.Energies.{Instance, labelling};
 ghost use Rattle.labellings.specs.Moves.{IsMoveOf, IsAllowed};
 ghost use Rattle.cost_store.specs.Promises.{KeepsSmooth, Answers};
@@ -10,8 +11,7 @@ ghost use Rattle.move_energy.specs.declared.choice.Choice.TheVariants.{Open};
 ghost use Rattle.move_energy.specs.Choices.{choice_at, bit_of};
 ghost use Rattle.move_energy.specs.Limits.{site_cost_limit};
 ghost use Rattle.deciding.specs.Limits.{surplus_limit};
-ghost use Rattle.deciding.specs.Working.{bound_at, AreEnds, CanDecide, Tells, IsMarked, IsSized, IsWithinRange, AreWaiting, AreWaitingBut, ArePartlyDecided, SeesPair, IsLooking, Shifts, least_shift as least_shift_of, greatest_shift as greatest_shift_of, degree, left, room_of};
-ghost use Rattle.deciding.specs.Decided.{AreBySite};
+ghost use Rattle.deciding.specs.Working.{bound_at, AreEnds, CanDecide, Tells, IsMarked, IsSized, IsWithinRange, AreWaiting, AreWaitingBut, ArePartlyDecided, SeesPair, IsLooking, Shifts, least_shift as least_shift_of, greatest_shift as greatest_shift_of, left, room_of};
 
 use crate::Bounds;
 use crate::costs::{surplus, term};

@@ -1,17 +1,18 @@
 //! Deciding the sites of a move.
-ghost use Rattle.std.specs.Prelude.{◌≡◌, ◌<◌, ◌≤◌, ℕ, All, length, IfOk, OnOk};
+ghost use Rattle.std.specs.Prelude.{◌≡◌, ◌<◌, ◌≤◌, ℕ, All, length, IfOk, OnOk, false};
+ghost use Rattle.by_site.specs.BySite.{AreBySite};
 ghost use Rattle.labellings.specs.Energies.{Instance, labelling};
 ghost use Rattle.labellings.specs.Moves.{IsMoveOf};
 ghost use Rattle.cost_store.specs.Limits.{data_limit};
 ghost use Rattle.cost_store.specs.Promises.{Keeps, KeepsSmooth};
 ghost use Rattle.move_energy.specs.Problems.{IsMeant};
-ghost use Rattle.deciding.specs.Working.{ends_of};
-ghost use Rattle.deciding.specs.Decided.{AreBySite, IsDecidedMove};
+ghost use Rattle.deciding.specs.Decided.{IsDecidedMove};
 ghost use Rattle.deciding.specs.Listed.{AreListed};
 
 use crate::{Bounds, Lists};
+use by_site::group_pairs;
 use cost_store::{DataCost, SmoothCost};
-use grouping::{Groups, group};
+use grouping::Groups;
 use label_field::Pairs;
 use labellings::Move;
 use move_energy::BuildError;
@@ -25,23 +26,11 @@ pub struct Deciding {
     pub lists: Lists,
 }
 
-/// The sites of the pairs, two of each pair.
-fn ends_of_pairs(alloc: Global, pairs: &Pairs) -> Result<Vec<u32>, AllocError>
-    ensures ends { IfOk result (λ ends. ends.items ≡ ends_of pairs.now.list) }
-    ensures sites { IfOk result (λ ends. All (λ site. site < pairs.now.sites) ends.items) }
-{
-    let mut ends = Vec::with_capacity(alloc, 2 * pairs.len())?;
-    for index in 0..pairs.len() {
-        let pair = pairs.get(index);
-        ends.push_reserved(pair.first);
-        ends.push_reserved(pair.second);
-    }
-    Ok(ends)
-}
-
 impl Deciding {
     /// Of no pairs. It takes no memory.
-    pub fn empty(alloc: Global) -> Deciding {
+    pub fn empty(alloc: Global) -> Deciding
+        ensures { result.lists.listed ≡ false }
+    {
         Deciding {
             ends: Groups {
                 starts: Vec::new(alloc),
@@ -56,10 +45,8 @@ impl Deciding {
     pub fn new(alloc: Global, pairs: &Pairs) -> Result<Deciding, AllocError>
         ensures { IfOk result (λ d. AreBySite pairs.now d.ends) }
     {
-        let list = ends_of_pairs(alloc, pairs)?;
-        let ends = group(alloc, pairs.sites() as usize, list.as_slice())?;
         Ok(Deciding {
-            ends,
+            ends: group_pairs(alloc, pairs)?,
             bounds: Bounds::new(alloc),
             lists: Lists::empty(alloc),
         })

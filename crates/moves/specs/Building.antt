@@ -11,7 +11,8 @@ use Rattle.move_energy.specs.declared.error.BuildError.{BuildError}
 use Rattle.move_energy.specs.Choices.{bit_of, choice_at, value_of}
 use Rattle.move_energy.specs.Problems.{IsPrepareRefusal}
 use Rattle.label_field.specs.PairLists.{PairList}
-use Rattle.deciding.specs.Decided.{AreBySite}
+use Rattle.by_site.specs.BySite.{AreBySite}
+use Rattle.deciding.specs.Listed.{AreListed}
 use Rattle.deciding.specs.Decisions.{IsSmallestLeast}
 use Rattle.deciding.specs.MoveValues.{move_value}
 use Rattle.moves.specs.declared.room.Room.{Room}
@@ -19,6 +20,15 @@ use Rattle.moves.specs.declared.room.Room.{Room}
 -- the pairs by their sites, once they were grouped
 abbrev pub IsGroupedFor : PairList → Room → Type 0
 IsGroupedFor pairs room = IsTrue room.grouped → AreBySite pairs room.deciding.ends
+
+-- the lists of the room are those of the move from f, and its pairs are by their sites
+pub record IsNear (pairs : PairList) (move : Move) (f : List ℕ) (room : Room) : Type 0 where
+  pub by_site : AreBySite pairs room.deciding.ends
+  pub lists : AreListed move (labelling f) room.built.variables.choices.items room.deciding.lists
+
+-- they are, where a move is to look at the listed sites alone
+abbrev pub IsNearWhereListed : PairList → Move → List ℕ → Room → Type 0
+IsNearWhereListed pairs move f room = IsTrue room.deciding.lists.listed → IsNear pairs move f room
 
 -- the value of each site's variable, once its choice is settled
 abbrev pub site_values : List Choice → ℕ → Bool

@@ -1,22 +1,23 @@
 //! The energy of a move, of which sites are decided before it is built.
 ghost use Rattle.std.specs.Prelude.{◌≡◌, ◌<◌, ◌≤◌, All, length, vec_len, false, OnOk, IsTrue};
-ghost use Rattle.labellings.specs.Energies.{Instance};
-ghost use Rattle.labellings.specs.Moves.{IsMoveOf};
+ghost use Rattle.by_site.specs.BySite.{AreBySite};
+ghost use Rattle.labellings.specs.Energies.{Instance, labelling};
+ghost use Rattle.labellings.specs.Moves.{IsMoveOf, IsAllowed};
 ghost use Rattle.label_field.specs.Limits.{site_limit};
 ghost use Rattle.pseudo_bool.specs.Limits.{term_limit};
 ghost use Rattle.compile_cut.specs.Form.{IsBounded};
 ghost use Rattle.cost_store.specs.Limits.{data_limit};
 ghost use Rattle.cost_store.specs.Promises.{Keeps, KeepsSmooth};
-ghost use Rattle.move_energy.specs.Choices.{open_count};
-ghost use Rattle.move_energy.specs.Problems.{IsMeant};
-ghost use Rattle.deciding.specs.Decided.{AreBySite};
-ghost use Rattle.moves.specs.Building.{IsGroupedFor, IsBuiltMove};
+ghost use Rattle.move_energy.specs.Choices.{AreOpenSites, AreSettled};
+ghost use Rattle.move_energy.specs.Problems.{IsMeant, Stands};
+ghost use Rattle.deciding.specs.Decided.{IsDecidedMove};
+ghost use Rattle.moves.specs.Building.{IsGroupedFor, IsNear, IsNearWhereListed, IsBuiltMove};
 
 use crate::Problem;
 use deciding::{Bounds, Deciding};
 use label_field::Pairs;
 use labellings::Move;
-use move_energy::{BuildError, Choice, MoveEnergy};
+use move_energy::{BuildError, MoveEnergy};
 use std::alloc::{AllocError, Global};
 use std::mem::swap;
 
@@ -31,29 +32,6 @@ const KEPT_SITES: usize = 1 << 18;
 /// less than a twentieth of such a move's time.
 const GROUPED_SITES: usize = 1 << 19;
 
-/// How many choices are open.
-fn open_sites(choices: &[Choice]) -> usize
-    ensures { result ≡ open_count choices.now }
-{
-    let mut count = 0usize;
-    for site in 0..choices.len() {
-        if choices[site].is_open() {
-            count += 1;
-        }
-    }
-    count
-}
-
-/// Gives the memory of the grouped pairs back where many sites are open.
-fn give_groups_back(alloc: Global, grouped: &mut bool, deciding: &mut Deciding, choices: &[Choice])
-    ensures kept { IsTrue grouped.new → IsTrue grouped.old × (deciding.new.ends ≡ deciding.old.ends) }
-{
-    if open_sites(choices) > GROUPED_SITES {
-        *grouped = false;
-        *deciding = Deciding::empty(alloc);
-    }
-}
-
 /// Gives the memory of the bounds of many sites back.
 fn give_bounds_back(alloc: Global, bounds: &mut Bounds) {
     if bounds.least.len() > KEPT_SITES {
@@ -61,9 +39,21 @@ fn give_bounds_back(alloc: Global, bounds: &mut Bounds) {
     }
 }
 
-/// Gives the memory of the numbers of many sites' variables back.
-pub fn give_numbers_back(alloc: Global, of_sites: &mut Vec<u32>) {
-    if of_sites.len() > KEPT_SITES {
+/// Gives the memory of the grouped pairs back where many sites are open.
+fn give_groups_back(alloc: Global, grouped: &mut bool, deciding: &mut Deciding)
+    requires far { deciding.old.lists.listed ≡ false }
+    ensures far { deciding.new.lists.listed ≡ false }
+    ensures kept { IsTrue grouped.new → IsTrue grouped.old × (deciding.new.ends ≡ deciding.old.ends) }
+{
+    if deciding.lists.count > GROUPED_SITES {
+        *grouped = false;
+        *deciding = Deciding::empty(alloc);
+    }
+}
+
+/// Gives the memory of the numbers of many sites' variables back, but where the open sites are listed.
+pub fn give_numbers_back(alloc: Global, listed: bool, of_sites: &mut Vec<u32>) {
+    if !listed && of_sites.len() > KEPT_SITES {
         *of_sites = Vec::new(alloc);
     }
 }
@@ -101,9 +91,190 @@ impl Room {
         }
         Ok(())
     }
+
+    /// Gives each open site its value, the listed ones alone where they are listed.
+    pub(crate) fn settle(&mut self, bits: &[bool])
+        requires { IsTrue self.old.deciding.lists.listed →
+            AreOpenSites self.old.built.variables.choices.items self.old.deciding.lists.opened.items }
+        ensures settled { AreSettled self.old.built.variables.choices.items bits.now
+            self.new.built.variables.choices.items }
+        ensures same { (self.new.grouped ≡ self.old.grouped) × (self.new.deciding ≡ self.old.deciding) }
+    {
+        if self.deciding.lists.listed {
+            self.built.variables.settle_listed(&self.deciding.lists.opened, bits);
+        } else {
+            self.built.variables.settle(bits);
+        }
+    }
 }
 
 impl<F: Fn(u32, u32) -> i64, V: Fn(u32, u32) -> i64> Problem<F, V> {
+    /// Decides the sites of a move, which the room then knows.
+    fn decide(
+        &self,
+        alloc: Global,
+        room: &mut Room,
+        at: &[u8],
+        change: Move,
+    ) -> Result<(), BuildError>
+        requires sites { (length at.now ≡ self.now.pairs.sites)
+            × (self.now.data_cost.sites ≡ self.now.pairs.sites) }
+        requires labels { (self.now.smooth_cost.labels ≡ self.now.data_cost.labels)
+            × All (λ label. label < self.now.data_cost.labels) at.now }
+        requires change { IsMoveOf self.now.data_cost.labels change }
+        requires costs { Keeps (F.pre self.now.data_cost.f) (F.post self.now.data_cost.f)
+            self.now.data_cost.sites self.now.data_cost.labels data_limit }
+        requires smooth { KeepsSmooth (V.pre self.now.smooth_cost.v) (V.post self.now.smooth_cost.v)
+            self.now.smooth_cost.labels self.now.smooth_cost.by_metric }
+        requires by_site { IsGroupedFor self.now.pairs room.old }
+        ensures by_site { IsGroupedFor self.now.pairs room.new }
+        ensures near { OnOk result (IsNear self.now.pairs change at.now room.new) }
+        ensures choices { OnOk result (length room.new.built.variables.choices.items ≡ length at.now) }
+        ensures decided { (m : Instance) →
+            IsMeant (F.post self.now.data_cost.f) (V.post self.now.smooth_cost.v) self.now.pairs
+            self.now.data_cost.labels m →
+            IsDecidedMove m change at.now room.new.built.variables.choices.items result }
+    {
+        room.group(alloc, &self.pairs)?;
+        room.deciding.decide(&self.pairs, &self.data_cost, &self.smooth_cost, at, change)?;
+        swap(
+            &mut room.deciding.bounds.choices,
+            &mut room.built.variables.choices,
+        );
+        Ok(())
+    }
+
+    /// The energy of a move over its listed open sites. What was decided is not looked at.
+    fn build_near(
+        &self,
+        alloc: Global,
+        room: &mut Room,
+        at: &[u8],
+        change: Move,
+    ) -> Result<(), AllocError>
+        requires sites { (length at.now ≡ self.now.pairs.sites)
+            × (self.now.data_cost.sites ≡ self.now.pairs.sites) }
+        requires labels { (self.now.smooth_cost.labels ≡ self.now.data_cost.labels)
+            × All (λ label. label < self.now.data_cost.labels) at.now }
+        requires change { IsMoveOf self.now.data_cost.labels change }
+        requires costs { Keeps (F.pre self.now.data_cost.f) (F.post self.now.data_cost.f)
+            self.now.data_cost.sites self.now.data_cost.labels data_limit }
+        requires smooth { KeepsSmooth (V.pre self.now.smooth_cost.v) (V.post self.now.smooth_cost.v)
+            self.now.smooth_cost.labels self.now.smooth_cost.by_metric }
+        requires choices { length room.old.built.variables.choices.items ≡ length at.now }
+        requires near { IsNear self.now.pairs change at.now room.old }
+        requires listed { IsTrue room.old.deciding.lists.listed }
+        requires allowed { (m : Instance) →
+            IsMeant (F.post self.now.data_cost.f) (V.post self.now.smooth_cost.v) self.now.pairs
+            self.now.data_cost.labels m →
+            IsAllowed m change (labelling at.now) }
+        ensures same { (room.new.grouped ≡ room.old.grouped) × (room.new.deciding ≡ room.old.deciding) }
+        ensures kept { room.new.built.variables.choices.items ≡ room.old.built.variables.choices.items }
+        ensures bounded { OnOk result (IsBounded term_limit room.new.built.form) }
+        ensures few { OnOk result (vec_len room.new.built.form.weights ≤ site_limit) }
+        ensures stands { (m : Instance) →
+            IsMeant (F.post self.now.data_cost.f) (V.post self.now.smooth_cost.v) self.now.pairs
+            self.now.data_cost.labels m →
+            OnOk result (Stands m change at.now room.new.built) }
+    {
+        room.built.build_listed(
+            alloc,
+            &self.pairs,
+            &room.deciding.ends,
+            &room.deciding.lists.opened,
+            &self.data_cost,
+            &self.smooth_cost,
+            at,
+            change,
+        )
+    }
+
+    /// The energy of a move, for which all sites and pairs are looked at.
+    fn build_all(
+        &self,
+        alloc: Global,
+        room: &mut Room,
+        at: &[u8],
+        change: Move,
+    ) -> Result<(), AllocError>
+        requires sites { (length at.now ≡ self.now.pairs.sites)
+            × (self.now.data_cost.sites ≡ self.now.pairs.sites) }
+        requires labels { (self.now.smooth_cost.labels ≡ self.now.data_cost.labels)
+            × All (λ label. label < self.now.data_cost.labels) at.now }
+        requires change { IsMoveOf self.now.data_cost.labels change }
+        requires costs { Keeps (F.pre self.now.data_cost.f) (F.post self.now.data_cost.f)
+            self.now.data_cost.sites self.now.data_cost.labels data_limit }
+        requires smooth { KeepsSmooth (V.pre self.now.smooth_cost.v) (V.post self.now.smooth_cost.v)
+            self.now.smooth_cost.labels self.now.smooth_cost.by_metric }
+        requires choices { length room.old.built.variables.choices.items ≡ length at.now }
+        requires by_site { IsGroupedFor self.now.pairs room.old }
+        requires far { room.old.deciding.lists.listed ≡ false }
+        ensures by_site { IsGroupedFor self.now.pairs room.new }
+        ensures far { room.new.deciding.lists.listed ≡ false }
+        ensures kept { room.new.built.variables.choices.items ≡ room.old.built.variables.choices.items }
+        ensures bounded { OnOk result (IsBounded term_limit room.new.built.form) }
+        ensures few { OnOk result (vec_len room.new.built.form.weights ≤ site_limit) }
+        ensures stands { (m : Instance) →
+            IsMeant (F.post self.now.data_cost.f) (V.post self.now.smooth_cost.v) self.now.pairs
+            self.now.data_cost.labels m →
+            OnOk result (Stands m change at.now room.new.built) }
+    {
+        give_bounds_back(alloc, &mut room.deciding.bounds);
+        give_groups_back(alloc, &mut room.grouped, &mut room.deciding);
+        match room.built.build(
+            alloc,
+            &self.pairs,
+            &self.data_cost,
+            &self.smooth_cost,
+            at,
+            change,
+        ) {
+            Ok(()) => Ok(()),
+            Err(_) => Err(AllocError),
+        }
+    }
+
+    /// The energy of a move whose sites are decided, over its open sites.
+    fn build_open(
+        &self,
+        alloc: Global,
+        room: &mut Room,
+        at: &[u8],
+        change: Move,
+    ) -> Result<(), AllocError>
+        requires sites { (length at.now ≡ self.now.pairs.sites)
+            × (self.now.data_cost.sites ≡ self.now.pairs.sites) }
+        requires labels { (self.now.smooth_cost.labels ≡ self.now.data_cost.labels)
+            × All (λ label. label < self.now.data_cost.labels) at.now }
+        requires change { IsMoveOf self.now.data_cost.labels change }
+        requires costs { Keeps (F.pre self.now.data_cost.f) (F.post self.now.data_cost.f)
+            self.now.data_cost.sites self.now.data_cost.labels data_limit }
+        requires smooth { KeepsSmooth (V.pre self.now.smooth_cost.v) (V.post self.now.smooth_cost.v)
+            self.now.smooth_cost.labels self.now.smooth_cost.by_metric }
+        requires choices { length room.old.built.variables.choices.items ≡ length at.now }
+        requires by_site { IsGroupedFor self.now.pairs room.old }
+        requires near { IsNear self.now.pairs change at.now room.old }
+        requires allowed { (m : Instance) →
+            IsMeant (F.post self.now.data_cost.f) (V.post self.now.smooth_cost.v) self.now.pairs
+            self.now.data_cost.labels m →
+            IsAllowed m change (labelling at.now) }
+        ensures by_site { IsGroupedFor self.now.pairs room.new }
+        ensures near { IsNearWhereListed self.now.pairs change at.now room.new }
+        ensures kept { room.new.built.variables.choices.items ≡ room.old.built.variables.choices.items }
+        ensures bounded { OnOk result (IsBounded term_limit room.new.built.form) }
+        ensures few { OnOk result (vec_len room.new.built.form.weights ≤ site_limit) }
+        ensures stands { (m : Instance) →
+            IsMeant (F.post self.now.data_cost.f) (V.post self.now.smooth_cost.v) self.now.pairs
+            self.now.data_cost.labels m →
+            OnOk result (Stands m change at.now room.new.built) }
+    {
+        if room.deciding.lists.listed {
+            self.build_near(alloc, room, at, change)
+        } else {
+            self.build_all(alloc, room, at, change)
+        }
+    }
+
     /// The energy of a move whose sites were decided first.
     fn build_decided(
         &self,
@@ -123,6 +294,7 @@ impl<F: Fn(u32, u32) -> i64, V: Fn(u32, u32) -> i64> Problem<F, V> {
             self.now.smooth_cost.labels self.now.smooth_cost.by_metric }
         requires by_site { IsGroupedFor self.now.pairs room.old }
         ensures by_site { IsGroupedFor self.now.pairs room.new }
+        ensures near { OnOk result (IsNearWhereListed self.now.pairs change at.now room.new) }
         ensures choices { OnOk result (length room.new.built.variables.choices.items ≡ length at.now) }
         ensures bounded { OnOk result (IsBounded term_limit room.new.built.form) }
         ensures few { OnOk result (vec_len room.new.built.form.weights ≤ site_limit) }
@@ -132,30 +304,9 @@ impl<F: Fn(u32, u32) -> i64, V: Fn(u32, u32) -> i64> Problem<F, V> {
             IsBuiltMove m change at.now room.new.built result }
     {
         let _pairs = self.pairs.as_slice();
-        room.group(alloc, &self.pairs)?;
-        room.deciding.decide(&self.pairs, &self.data_cost, &self.smooth_cost, at, change)?;
-        swap(
-            &mut room.deciding.bounds.choices,
-            &mut room.built.variables.choices,
-        );
-        give_bounds_back(alloc, &mut room.deciding.bounds);
-        give_groups_back(
-            alloc,
-            &mut room.grouped,
-            &mut room.deciding,
-            &room.built.variables.choices,
-        );
-        match room.built.build(
-            alloc,
-            &self.pairs,
-            &self.data_cost,
-            &self.smooth_cost,
-            at,
-            change,
-        ) {
-            Ok(()) => Ok(()),
-            Err(_) => Err(BuildError::OutOfMemory),
-        }
+        self.decide(alloc, room, at, change)?;
+        self.build_open(alloc, room, at, change)?;
+        Ok(())
     }
 
     /// The energy of a move of which nothing is decided.
@@ -177,6 +328,7 @@ impl<F: Fn(u32, u32) -> i64, V: Fn(u32, u32) -> i64> Problem<F, V> {
             self.now.smooth_cost.labels self.now.smooth_cost.by_metric }
         requires by_site { IsGroupedFor self.now.pairs room.old }
         ensures by_site { IsGroupedFor self.now.pairs room.new }
+        ensures near { OnOk result (IsNearWhereListed self.now.pairs change at.now room.new) }
         ensures choices { OnOk result (length room.new.built.variables.choices.items ≡ length at.now) }
         ensures bounded { OnOk result (IsBounded term_limit room.new.built.form) }
         ensures few { OnOk result (vec_len room.new.built.form.weights ≤ site_limit) }
@@ -186,6 +338,7 @@ impl<F: Fn(u32, u32) -> i64, V: Fn(u32, u32) -> i64> Problem<F, V> {
             IsBuiltMove m change at.now room.new.built result }
     {
         let _pairs = self.pairs.as_slice();
+        room.deciding.lists.listed = false;
         room.built.prepare(
             alloc,
             &self.pairs,
@@ -216,6 +369,7 @@ impl<F: Fn(u32, u32) -> i64, V: Fn(u32, u32) -> i64> Problem<F, V> {
             self.now.smooth_cost.labels self.now.smooth_cost.by_metric }
         requires by_site { IsGroupedFor self.now.pairs room.old }
         ensures by_site { IsGroupedFor self.now.pairs room.new }
+        ensures near { OnOk result (IsNearWhereListed self.now.pairs change at.now room.new) }
         ensures choices { OnOk result (length room.new.built.variables.choices.items ≡ length at.now) }
         ensures bounded { OnOk result (IsBounded term_limit room.new.built.form) }
         ensures few { OnOk result (vec_len room.new.built.form.weights ≤ site_limit) }

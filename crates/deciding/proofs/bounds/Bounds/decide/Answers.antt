@@ -1,8 +1,8 @@
 use Rattle.std.proofs.Common.{◌<◌, ◌≤◌, ◌+◌, ◌-◌, ◌*◌, ◌/◌, ◌∙◌, ℕ, true, false, ap, sym, subst, refl, length, arith}
 use Rattle.grouping.specs.Grouping.{start_of}
+use Rattle.by_site.specs.BySite.{degree}
 use Rattle.labellings.specs.Energies.{labelling}
 use Rattle.move_energy.specs.Choices.{choice_at}
-use Rattle.deciding.specs.Working.{degree}
 use Rattle.deciding.proofs.Left.{left_less}
 use Rattle.deciding.proofs.Ranges.{range_wider, decided_waits}
 use Rattle.deciding.proofs.Spreading.{IsSpread, spread_start, spread_step, spread_end, pair_in}
