@@ -1,8 +1,8 @@
 -- The energy of a move, and what its least assignment says of the sites.
-use Rattle.std.specs.Prelude.{ℕ, Bool, false, List, vec_len, IsTrue, Result, Ok, Err}
+use Rattle.std.specs.Prelude.{◌≡◌, ◌<◌, ◌==◌, ℕ, Bool, true, false, not, List, length, vec_len, IsTrue, Result, Ok, Err}
 use Rattle.labellings.specs.declared.change.Move.{Move}
 use Rattle.labellings.specs.Energies.{Instance, labelling}
-use Rattle.labellings.specs.Moves.{IsAllowed}
+use Rattle.labellings.specs.Moves.{IsAllowed, made}
 use Rattle.pseudo_bool.specs.Formula.{assignment}
 use Rattle.compile_cut.specs.Form.{quadratic_value}
 use Rattle.move_energy.specs.declared.choice.Choice.{Choice}
@@ -10,8 +10,11 @@ use Rattle.move_energy.specs.declared.building.MoveEnergy.{MoveEnergy}
 use Rattle.move_energy.specs.declared.error.BuildError.{BuildError}
 use Rattle.move_energy.specs.Choices.{bit_of, choice_at, value_of}
 use Rattle.move_energy.specs.Problems.{IsPrepareRefusal}
+use Rattle.sums.specs.Sums.{counted}
+use Rattle.grouping.specs.declared.Groups.{Groups}
+use Rattle.label_field.specs.declared.pair.Pair.{Pair}
 use Rattle.label_field.specs.PairLists.{PairList}
-use Rattle.by_site.specs.BySite.{AreBySite}
+use Rattle.by_site.specs.BySite.{AreBySite, IsListing, met_at}
 use Rattle.deciding.specs.Listed.{AreListed}
 use Rattle.deciding.specs.Decisions.{IsSmallestLeast}
 use Rattle.deciding.specs.MoveValues.{move_value}
@@ -33,6 +36,25 @@ IsNearWhereListed pairs move f room = IsTrue room.deciding.lists.listed → IsNe
 -- the value of each site's variable, once its choice is settled
 abbrev pub site_values : List Choice → ℕ → Bool
 site_values choices p = bit_of (choice_at choices p) false
+
+-- do the values change the label of a site?
+abbrev pub moves_site : Move → (ℕ → ℕ) → List Choice → ℕ → Bool
+moves_site move f choices p = not (made move f (site_values choices) p == f p)
+
+-- the sum of a value over the pairs that are counted at a site, where its label changes
+abbrev pub moved_met : List Pair → Groups → (ℕ → Bool) → (Pair → ℕ) → ℕ → ℕ
+moved_met list ends moved value site = counted (moved site) (met_at list ends moved value site)
+
+-- the sites are listed, and among them are all whose labels the values change
+pub record HasChanges (move : Move) (f : List ℕ) (choices : List Choice) (sites : List ℕ) : Type 0 where
+  pub chosen : ℕ → Bool
+  pub listed : IsListing chosen (length f) sites
+  pub each : (p : ℕ) → p < length f → moves_site move (labelling f) choices p ≡ true → chosen p ≡ true
+
+-- so it is in the room of a settled move, whose pairs are by their sites
+pub record AreChangesListed (pairs : PairList) (move : Move) (f : List ℕ) (room : Room) : Type 0 where
+  pub by_site : AreBySite pairs room.deciding.ends
+  pub changes : HasChanges move f room.built.variables.choices.items room.deciding.lists.changing.items
 
 -- the least assignment of the form with the fewest ones makes, with what was decided, the least values of all
 -- sites with the fewest ones

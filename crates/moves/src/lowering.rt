@@ -18,7 +18,7 @@ use labellings::Move;
 use move_energy::{Choice, pair_cost};
 
 /// The label that a site's value makes.
-fn made_label(at: &[u8], change: Move, choices: &[Choice], site: u32) -> u32
+pub(crate) fn made_label(at: &[u8], change: Move, choices: &[Choice], site: u32) -> u32
     requires site { site < length at.now }
     requires choices { length choices.now ≡ length at.now }
     ensures { result ≡ made change (labelling at.now) (site_values choices.now) site }
@@ -27,7 +27,7 @@ fn made_label(at: &[u8], change: Move, choices: &[Choice], site: u32) -> u32
 }
 
 /// Whether a rise is a fall.
-fn is_negative(rise: i64) -> bool
+pub(crate) fn is_negative(rise: i64) -> bool
     ensures { IsTrue result ↔ (rise <ℤ pos 0) }
 {
     rise < 0
@@ -35,7 +35,7 @@ fn is_negative(rise: i64) -> bool
 
 impl<F: Fn(u32, u32) -> i64, V: Fn(u32, u32) -> i64> Problem<F, V> {
     /// By how much more the label that a site's value makes costs it.
-    fn site_rise(&self, at: &[u8], change: Move, choices: &[Choice], site: u32) -> i64
+    pub(crate) fn site_rise(&self, at: &[u8], change: Move, choices: &[Choice], site: u32) -> i64
         requires costs { Keeps (F.pre self.now.data_cost.f) (F.post self.now.data_cost.f)
             self.now.data_cost.sites self.now.data_cost.labels data_limit }
         requires site { (site < length at.now) × (length at.now ≡ self.now.data_cost.sites) }
@@ -79,7 +79,7 @@ impl<F: Fn(u32, u32) -> i64, V: Fn(u32, u32) -> i64> Problem<F, V> {
     }
 
     /// By how much more the labels that the values make cost a pair.
-    fn pair_rise(&self, at: &[u8], change: Move, choices: &[Choice], pair: Pair) -> i64
+    pub(crate) fn pair_rise(&self, at: &[u8], change: Move, choices: &[Choice], pair: Pair) -> i64
         requires smooth { KeepsSmooth (V.pre self.now.smooth_cost.v) (V.post self.now.smooth_cost.v)
             self.now.smooth_cost.labels self.now.smooth_cost.by_metric }
         requires pair { IsPair (length at.now) pair }
@@ -128,7 +128,7 @@ impl<F: Fn(u32, u32) -> i64, V: Fn(u32, u32) -> i64> Problem<F, V> {
     }
 
     /// Whether the labels that the values make have a lower energy than the labels as they are.
-    pub(crate) fn lowers(&self, at: &[u8], change: Move, choices: &[Choice]) -> bool
+    pub(crate) fn lowers_all(&self, at: &[u8], change: Move, choices: &[Choice]) -> bool
         requires costs { Keeps (F.pre self.now.data_cost.f) (F.post self.now.data_cost.f)
             self.now.data_cost.sites self.now.data_cost.labels data_limit }
         requires smooth { KeepsSmooth (V.pre self.now.smooth_cost.v) (V.post self.now.smooth_cost.v)

@@ -101,7 +101,9 @@ impl Room {
         ensures same { (self.new.grouped ≡ self.old.grouped) × (self.new.deciding ≡ self.old.deciding) }
     {
         if self.deciding.lists.listed {
-            self.built.variables.settle_listed(&self.deciding.lists.opened, bits);
+            self.built
+                .variables
+                .settle_listed(&self.deciding.lists.opened, bits);
         } else {
             self.built.variables.settle(bits);
         }

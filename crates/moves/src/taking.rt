@@ -7,9 +7,10 @@ ghost use Rattle.cost_store.specs.Promises.{Keeps, KeepsSmooth};
 ghost use Rattle.move_energy.specs.Problems.{AreSized, IsMeant};
 ghost use Rattle.deciding.specs.Decisions.{IsSmallestLeast};
 ghost use Rattle.deciding.specs.MoveValues.{move_value};
-ghost use Rattle.moves.specs.Building.{site_values};
+ghost use Rattle.moves.specs.Building.{site_values, HasChanges, AreChangesListed};
 
 use crate::Problem;
+use crate::room::Room;
 use label_field::Labelling;
 use labellings::Move;
 use move_energy::Choice;
@@ -17,7 +18,7 @@ use move_energy::Choice;
 impl<F: Fn(u32, u32) -> i64, V: Fn(u32, u32) -> i64> Problem<F, V> {
     /// Takes the labels that the least values of the sites with the fewest ones make. Where no labels are better, an
     /// expansion makes the labels as they are; a swap need not, so it takes them only where their energy is lower.
-    pub(crate) fn take_best(&self, field: &mut Labelling, change: Move, choices: &[Choice]) -> bool
+    pub(crate) fn take_best(&self, field: &mut Labelling, change: Move, room: &Room) -> bool
         requires sizes { AreSized self.now.pairs self.now.data_cost.sites self.now.data_cost.labels
             self.now.smooth_cost.labels field.old }
         requires costs { Keeps (F.pre self.now.data_cost.f) (F.post self.now.data_cost.f)
@@ -25,30 +26,82 @@ impl<F: Fn(u32, u32) -> i64, V: Fn(u32, u32) -> i64> Problem<F, V> {
         requires smooth { KeepsSmooth (V.pre self.now.smooth_cost.v) (V.post self.now.smooth_cost.v)
             self.now.smooth_cost.labels self.now.smooth_cost.by_metric }
         requires below { IsMoveOf field.old.labels change }
-        requires choices { length choices.now ≡ length field.old.at }
+        requires choices { length room.now.built.variables.choices.items ≡ length field.old.at }
+        requires changes { IsTrue room.now.deciding.lists.listed →
+            AreChangesListed self.now.pairs change field.old.at room.now }
         ensures sizes { (field.new.labels ≡ field.old.labels) × (length field.new.at ≡ length field.old.at) }
         ensures best { (m : Instance) →
             IsMeant (F.post self.now.data_cost.f) (V.post self.now.smooth_cost.v) self.now.pairs
             self.now.data_cost.labels m →
-            IsSmallestLeast m.sites (move_value m change (labelling field.old.at)) (site_values choices.now) →
+            IsSmallestLeast m.sites (move_value m change (labelling field.old.at))
+            (site_values room.now.built.variables.choices.items) →
             (IsBest m change field.old.at field.new.at × ((IsTrue result → field.new.at ≢ field.old.at)
             × (IsFalse result → field.new.at ≡ field.old.at))) }
     {
         let _pairs = self.pairs.as_slice();
         match change {
-            Move::Expand(_) => relabel(field, choices, change),
+            Move::Expand(_) => relabel(field, room, change),
             Move::Swap(_, _) => {
-                if !self.lowers(field.as_slice(), change, choices) {
+                if !self.lowers(field.as_slice(), change, room) {
                     return false;
                 }
-                relabel(field, choices, change)
+                relabel(field, room, change)
             }
         }
     }
 }
 
+/// Gives each site the label that its value makes. It answers whether a label changed. Where the sites whose labels can
+/// change are listed, no other is looked at.
+fn relabel(labelling: &mut Labelling, room: &Room, change: Move) -> bool
+    requires below { IsMoveOf labelling.old.labels change }
+    requires choices { length room.now.built.variables.choices.items ≡ length labelling.old.at }
+    requires changes { IsTrue room.now.deciding.lists.listed → HasChanges change labelling.old.at
+        room.now.built.variables.choices.items room.now.deciding.lists.changing.items }
+    ensures sizes { (labelling.new.labels ≡ labelling.old.labels)
+        × (length labelling.new.at ≡ length labelling.old.at) }
+    ensures each { (p : ℕ) → p < length labelling.old.at → slice_index labelling.new.at p ≡
+        label_in change (slice_index labelling.old.at p) (site_values room.now.built.variables.choices.items p) }
+    ensures changed { (IsTrue result → labelling.new.at ≢ labelling.old.at) × (IsFalse result →
+        labelling.new.at ≡ labelling.old.at) }
+{
+    let choices = room.built.variables.choices.as_slice();
+    if room.deciding.lists.listed {
+        relabel_listed(labelling, choices, change, &room.deciding.lists.changing)
+    } else {
+        relabel_all(labelling, choices, change)
+    }
+}
+
+/// Gives each site the label that its value makes, where the sites whose labels can change are listed.
+fn relabel_listed(
+    labelling: &mut Labelling,
+    choices: &[Choice],
+    change: Move,
+    sites: &[u32],
+) -> bool
+    requires below { IsMoveOf labelling.old.labels change }
+    requires choices { length choices.now ≡ length labelling.old.at }
+    requires changes { HasChanges change labelling.old.at choices.now sites.now }
+    ensures sizes { (labelling.new.labels ≡ labelling.old.labels)
+        × (length labelling.new.at ≡ length labelling.old.at) }
+    ensures each { (p : ℕ) → p < length labelling.old.at → slice_index labelling.new.at p ≡
+        label_in change (slice_index labelling.old.at p) (site_values choices.now p) }
+    ensures changed { (IsTrue result → labelling.new.at ≢ labelling.old.at) × (IsFalse result →
+        labelling.new.at ≡ labelling.old.at) }
+{
+    let mut changed = false;
+    for index in 0..sites.len() {
+        let value = value_of(choices, sites[index]);
+        if relabel_site(labelling, sites[index], value, change) {
+            changed = true;
+        }
+    }
+    changed
+}
+
 /// Gives each site the label that its value makes. It answers whether a label changed.
-fn relabel(labelling: &mut Labelling, choices: &[Choice], change: Move) -> bool
+fn relabel_all(labelling: &mut Labelling, choices: &[Choice], change: Move) -> bool
     requires below { IsMoveOf labelling.old.labels change }
     requires choices { length choices.now ≡ length labelling.old.at }
     ensures sizes { (labelling.new.labels ≡ labelling.old.labels)

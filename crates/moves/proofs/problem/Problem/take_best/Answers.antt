@@ -10,7 +10,7 @@ returns-in-Expand-clause-best g c = λ m meant least.
     let a = c.args in
     let pairs = pairs_meant _ _ _ _ m _ meant c.as_slice-pairs.ensures.value c.as_slice-pairs.ensures.pairs in
     let size = c.requires.sizes.field_sites ∙ sym meant.sites_are in (
-      expanded_best m a.change _ a.field.now.at c.relabel.new.labelling.at (site_values a.choices.now) c.in-Expand.is pairs least size
+      expanded_best m a.change _ a.field.now.at c.relabel.new.labelling.at (site_values a.room.now.built.variables.choices.items) c.in-Expand.is pairs least size
           c.relabel.ensures.sizes.1 (λ p l. c.relabel.ensures.each p (omega (arith, l, size))),
       c.relabel.ensures.changed,
     )
@@ -20,7 +20,7 @@ returns-then-not-lowers-clause-best g c = λ m meant least.
     let a = c.args in
     let pairs = pairs_meant _ _ _ _ m _ meant c.as_slice-pairs.ensures.value c.as_slice-pairs.ensures.pairs in
     let told = rw (c.as_slice.ensures.value) at (c.lowers.ensures m meant) in (
-      kept_best m a.change a.field.now.at (site_values a.choices.now) pairs least (not_lower _ _ c.lowers.result told.1 c.if-not-lowers.true),
+      kept_best m a.change a.field.now.at (site_values a.room.now.built.variables.choices.items) pairs least (not_lower _ _ c.lowers.result told.1 c.if-not-lowers.true),
       ((λ yes. absurd (cc yes)), λ still. refl),
     )
 
@@ -30,7 +30,7 @@ returns-else-not-lowers-clause-best g c = λ m meant least.
     let pairs = pairs_meant _ _ _ _ m _ meant c.as_slice-pairs.ensures.value c.as_slice-pairs.ensures.pairs in
     let size = c.requires.sizes.field_sites ∙ sym meant.sites_are in
     let told = rw (c.as_slice.ensures.value) at (c.lowers.ensures m meant) in (
-      lower_best m a.change a.field.now.at c.relabel-in-Swap.new.labelling.at (site_values a.choices.now) pairs least
+      lower_best m a.change a.field.now.at c.relabel-in-Swap.new.labelling.at (site_values a.room.now.built.variables.choices.items) pairs least
           c.relabel-in-Swap.ensures.sizes.1 (λ p l. c.relabel-in-Swap.ensures.each p (omega (arith, l, size))) (told.0 c.if-not-lowers.false),
       c.relabel-in-Swap.ensures.changed,
     )

@@ -1,7 +1,7 @@
 use Rattle.std.proofs.Common.{rules, ◌∙◌, sym}
 use Rattle.moves.proofs.Totals.{data_meant, smooth_meant}
 use Rattle.moves.proofs.Rising.{parts_sum, lower_by}
-use Rattle.moves.proofs.problem.Problem.lowers.Goals as goal
+use Rattle.moves.proofs.problem.Problem.lowers_all.Goals as goal
 
 pub returns : goal.returns
 returns g c = λ m meant.

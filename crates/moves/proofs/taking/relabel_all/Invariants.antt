@@ -3,7 +3,7 @@ use Rattle.std.specs.Prelude.{slice_index}
 use Rattle.labellings.specs.Moves.{label_in}
 use Rattle.moves.specs.Building.{site_values}
 use Rattle.moves.proofs.Relabelled.{AreWritten}
-use Rattle.moves.proofs.taking.relabel.Given as goal
+use Rattle.moves.proofs.taking.relabel_all.Given as goal
 
 abbrev pub invariant-loop-site : goal.invariant-loop-site
 invariant-loop-site l = record {
