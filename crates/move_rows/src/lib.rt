@@ -1,11 +1,16 @@
 //! Tests of moves between labellings, as tables: by hand, and small random ones and runs with what scripts
-//! answer that try every labelling; and how many sites deciding leaves open on a picture.
+//! answer that try every labelling; how many sites deciding leaves open on a picture; and listed moves of which
+//! few sites, none or all are left open.
 #![tactic(auto)]
 
 #[cfg(test)]
 mod cases;
 #[cfg(test)]
 mod chains;
+#[cfg(test)]
+mod few_open;
+#[cfg(test)]
+mod listed;
 #[cfg(test)]
 mod opened;
 #[cfg(test)]

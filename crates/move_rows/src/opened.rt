@@ -1,5 +1,6 @@
 //! How many sites of the moves of a first cycle are left for a cut, on a picture that a formula gives.
 ghost use Rattle.std.specs.Prelude.{◌<◌, ◌≤ℤ◌, pos};
+ghost use Rattle.labellings.specs.Moves.{IsMoveOf};
 ghost use Rattle.cost_store.specs.Limits.{data_limit};
 ghost use Rattle.cost_store.specs.Promises.{Keeps, KeepsSmooth};
 ghost use Rattle.move_energy.specs.Problems.{AreSized};
@@ -50,6 +51,35 @@ fn count_changed(old: &[u8], new: &[u8]) -> usize {
     count
 }
 
+/// How many sites a move leaves open; none where it is refused.
+pub fn open_in<F: Fn(u32, u32) -> i64, V: Fn(u32, u32) -> i64>(
+    alloc: Global,
+    problem: &Problem<F, V>,
+    labelling: &Labelling,
+    change: Move,
+) -> Result<Option<usize>, Fail>
+    requires sizes { AreSized problem.now.pairs problem.now.data_cost.sites problem.now.data_cost.labels
+        problem.now.smooth_cost.labels labelling.now }
+    requires change { IsMoveOf problem.now.data_cost.labels change }
+    requires costs { Keeps (F.pre problem.now.data_cost.f) (F.post problem.now.data_cost.f)
+        problem.now.data_cost.sites problem.now.data_cost.labels data_limit }
+    requires smooth { KeepsSmooth (V.pre problem.now.smooth_cost.v) (V.post problem.now.smooth_cost.v)
+        problem.now.smooth_cost.labels problem.now.smooth_cost.by_metric }
+{
+    let mut deciding = Deciding::new(alloc, &problem.pairs)?;
+    let decided = deciding.decide(
+        &problem.pairs,
+        &problem.data_cost,
+        &problem.smooth_cost,
+        labelling.as_slice(),
+        change,
+    );
+    if decided.is_err() {
+        return Ok(None);
+    }
+    Ok(Some(count_open(deciding.bounds.choices.as_slice())))
+}
+
 /// Expands a label, and answers how many sites are left open, and how many change; none where it was refused.
 fn expand<F: Fn(u32, u32) -> i64, V: Fn(u32, u32) -> i64>(
     alloc: Global,
@@ -65,21 +95,14 @@ fn expand<F: Fn(u32, u32) -> i64, V: Fn(u32, u32) -> i64>(
     requires smooth { KeepsSmooth (V.pre problem.now.smooth_cost.v) (V.post problem.now.smooth_cost.v)
         problem.now.smooth_cost.labels problem.now.smooth_cost.by_metric }
 {
-    let mut deciding = Deciding::new(alloc, &problem.pairs)?;
-    let decided = deciding.decide(
-        &problem.pairs,
-        &problem.data_cost,
-        &problem.smooth_cost,
-        labelling.as_slice(),
-        Move::Expand(alpha),
-    );
+    let opened = open_in(alloc, problem, labelling, Move::Expand(alpha))?;
     let before = Vec::from_slice(alloc, labelling.as_slice())?;
     let moved = problem.expand(alloc, labelling, alpha, &Alone);
-    if decided.is_err() || moved.is_err() {
+    if moved.is_err() {
         return Ok(None);
     }
-    let open = count_open(deciding.bounds.choices.as_slice());
-    Ok(Some((open, count_changed(before.as_slice(), labelling.as_slice()))))
+    let changed = count_changed(before.as_slice(), labelling.as_slice());
+    Ok(opened.map(|open| (open, changed)))
 }
 
 /// The same for a label of the picture.

@@ -32,7 +32,7 @@ const WEIGHT: u32 = 1_000;
 
 /// As `Alone`, but no site is decided before the cut.
 #[derive(Clone, Copy)]
-struct CutAlone;
+pub struct CutAlone;
 
 impl How for CutAlone {
     ghost ready = { λ _. Unit {0} };

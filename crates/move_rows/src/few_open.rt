@@ -1,0 +1,173 @@
+//! Listed moves of which few sites are left for a cut, or none, or all.
+ghost use Rattle.std.specs.Prelude.{◌≡◌, ◌≤◌, ◌<◌, ◌≤ℤ◌, pos, length};
+ghost use Rattle.labellings.specs.Moves.{IsMoveOf};
+ghost use Rattle.cost_store.specs.Limits.{data_limit};
+ghost use Rattle.cost_store.specs.Promises.{Keeps, KeepsSmooth};
+ghost use Rattle.move_energy.specs.Problems.{AreSized};
+
+use crate::listed::LISTED;
+use crate::opened::open_in;
+use crate::random::CutAlone;
+use cost_store::{DataCost, SmoothCost};
+use label_field::{Labelling, Pairs};
+use labellings::Move;
+use moves::{Alone, How, MoveError, Problem};
+use std::alloc::Global;
+use std::process::Abort;
+use std::test::Fail;
+
+/// How many bytes a row has: how many sites, labels and pairs; 0 for an expansion, 1 for a swap; alpha, beta; how many
+/// sites are left open; 1 where a label changes. Then three data costs of each of 24 sites, three smooth costs of each
+/// of three labels, the labels of 24 sites before and after, and 40 pairs with their weights. A byte is 48 more
+/// than its number.
+pub const BYTES: usize = 257;
+
+/// A number of a row.
+fn number(row: &[u8; BYTES], place: usize) -> u32
+    requires { place < 257 }
+    ensures { result ≤ 255 }
+{
+    u32::from(row[place]).saturating_sub(48)
+}
+
+/// The pairs of a row.
+fn pairs_of(rt: &impl Abort, alloc: Global, row: &[u8; BYTES], sites: u32) -> Pairs
+    requires { sites ≤ 24 }
+{
+    let mut pairs = Pairs::new(alloc, sites);
+    for place in 0..number(row, 2).min(40) as usize {
+        let at = 137 + 3 * place;
+        let weight = i64::from(number(row, at + 2));
+        pairs
+            .add(number(row, at), number(row, at + 1), weight)
+            .expect(rt, "a pair");
+    }
+    pairs
+}
+
+/// The labels before the move of a row.
+fn start_of(rt: &impl Abort, alloc: Global, row: &[u8; BYTES], sites: u32, labels: u32) -> Labelling
+    requires { (sites ≤ 24) × (1 ≤ labels) × (labels ≤ 3) }
+{
+    let mut labelling = Labelling::new(alloc, sites, labels).expect(rt, "memory");
+    for site in 0..sites {
+        labelling
+            .set_label(site, number(row, 89 + site as usize))
+            .expect(rt, "a label");
+    }
+    labelling
+}
+
+/// Whether these are the labels of a row after its move.
+fn are_after(labels: &[u8], row: &[u8; BYTES]) -> bool {
+    for (site, label) in labels.iter().enumerate() {
+        if site >= 24 || u32::from(*label) != number(row, 113 + site) {
+            return false;
+        }
+    }
+    true
+}
+
+/// The move of a row, whose labels are below this number.
+fn change_of(row: &[u8; BYTES], labels: u32) -> Move
+    requires { 1 ≤ labels }
+    ensures { IsMoveOf labels result }
+{
+    let alpha = number(row, 4).min(labels - 1);
+    let beta = number(row, 5).min(labels - 1);
+    if number(row, 3) == 0 {
+        Move::Expand(alpha)
+    } else {
+        Move::Swap(alpha, beta)
+    }
+}
+
+/// Makes a move, and answers whether a label changes.
+fn make<F: Fn(u32, u32) -> i64, V: Fn(u32, u32) -> i64, H: How>(
+    problem: &Problem<F, V>,
+    alloc: Global,
+    labelling: &mut Labelling,
+    change: Move,
+    how: &H,
+) -> Result<bool, MoveError>
+    requires ready { H.ready how.now }
+    requires sizes { AreSized problem.now.pairs problem.now.data_cost.sites problem.now.data_cost.labels
+        problem.now.smooth_cost.labels labelling.old }
+    requires costs { Keeps (F.pre problem.now.data_cost.f) (F.post problem.now.data_cost.f)
+        problem.now.data_cost.sites problem.now.data_cost.labels data_limit }
+    requires smooth { KeepsSmooth (V.pre problem.now.smooth_cost.v) (V.post problem.now.smooth_cost.v)
+        problem.now.smooth_cost.labels problem.now.smooth_cost.by_metric }
+{
+    match change {
+        Move::Expand(alpha) => problem.expand(alloc, labelling, alpha, how),
+        Move::Swap(alpha, beta) => problem.swap(alloc, labelling, alpha, beta, how),
+    }
+}
+
+/// Whether a move says that a label changes just where one does in the row, and ends with the row's labels.
+fn ends_right<F: Fn(u32, u32) -> i64, V: Fn(u32, u32) -> i64, H: How>(
+    problem: &Problem<F, V>,
+    alloc: Global,
+    labelling: &mut Labelling,
+    change: Move,
+    row: &[u8; BYTES],
+    how: &H,
+) -> bool
+    requires ready { H.ready how.now }
+    requires sizes { AreSized problem.now.pairs problem.now.data_cost.sites problem.now.data_cost.labels
+        problem.now.smooth_cost.labels labelling.old }
+    requires costs { Keeps (F.pre problem.now.data_cost.f) (F.post problem.now.data_cost.f)
+        problem.now.data_cost.sites problem.now.data_cost.labels data_limit }
+    requires smooth { KeepsSmooth (V.pre problem.now.smooth_cost.v) (V.post problem.now.smooth_cost.v)
+        problem.now.smooth_cost.labels problem.now.smooth_cost.by_metric }
+{
+    let told = make(problem, alloc, labelling, change, how);
+    told == Ok(number(row, 7) == 1) && are_after(labelling.as_slice(), row)
+}
+
+/// Whether the move of a row leaves so many sites open as the row says, and ends as it says: with sites decided
+/// first, and without.
+fn is_right(rt: &impl Abort, alloc: Global, row: &[u8; BYTES]) -> Result<bool, Fail> {
+    let (sites, labels) = (number(row, 0), number(row, 1));
+    assert!(*rt; sites <= 24 && 1 <= labels && labels <= 3);
+    let pairs = pairs_of(rt, alloc, row, sites);
+    let mut labelling = start_of(rt, alloc, row, sites, labels);
+    let mut again = start_of(rt, alloc, row, sites, labels);
+    assert!(*rt;
+        pairs.sites() == sites && labelling.sites() == sites && labelling.labels() == labels
+    );
+    assert!(*rt; again.sites() == sites && again.labels() == labels);
+    let problem = Problem {
+        pairs,
+        data_cost: DataCost::new(
+            |site: u32, label: u32| -> i64
+                requires { (site < 24) × (label < 3) }
+                ensures { (pos 0 ≤ℤ result) × (result ≤ℤ pos 255) }
+            { i64::from(number(row, 8 + (site * 3 + label) as usize)) },
+            sites,
+            labels,
+        ),
+        smooth_cost: SmoothCost::new(
+            |first: u32, second: u32| -> i64
+                requires { (first < 3) × (second < 3) }
+                ensures { (pos 0 ≤ℤ result) × (result ≤ℤ pos 255) }
+            { i64::from(number(row, 80 + (first * 3 + second) as usize)) },
+            labels,
+        ),
+    };
+    let change = change_of(row, labels);
+    let opened = open_in(alloc, &problem, &labelling, change)?;
+    Ok(
+        opened == Some(number(row, 6) as usize)
+            && ends_right(&problem, alloc, &mut labelling, change, row, &Alone)
+            && ends_right(&problem, alloc, &mut again, change, row, &CutAlone),
+    )
+}
+
+#[test]
+fn listed_moves_are_best(rt: HostRuntime) -> Result<(), Fail> {
+    for (place, row) in LISTED.iter().enumerate() {
+        assert!(rt; is_right(&rt, rt.alloc(), row)?, "row {place}");
+    }
+    Ok(())
+}
