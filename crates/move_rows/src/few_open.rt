@@ -33,6 +33,7 @@ fn number(row: &[u8; BYTES], place: usize) -> u32
 /// The pairs of a row.
 fn pairs_of(rt: &impl Abort, alloc: Global, row: &[u8; BYTES], sites: u32) -> Pairs
     requires { sites ≤ 24 }
+    ensures { result.sites ≡ sites }
 {
     let mut pairs = Pairs::new(alloc, sites);
     for place in 0..number(row, 2).min(40) as usize {
@@ -42,12 +43,14 @@ fn pairs_of(rt: &impl Abort, alloc: Global, row: &[u8; BYTES], sites: u32) -> Pa
             .add(number(row, at), number(row, at + 1), weight)
             .expect(rt, "a pair");
     }
+    assert!(*rt; pairs.sites() == sites);
     pairs
 }
 
 /// The labels before the move of a row.
 fn start_of(rt: &impl Abort, alloc: Global, row: &[u8; BYTES], sites: u32, labels: u32) -> Labelling
     requires { (sites ≤ 24) × (1 ≤ labels) × (labels ≤ 3) }
+    ensures { (length result.at ≡ sites) × (result.labels ≡ labels) }
 {
     let mut labelling = Labelling::new(alloc, sites, labels).expect(rt, "memory");
     for site in 0..sites {
@@ -55,6 +58,7 @@ fn start_of(rt: &impl Abort, alloc: Global, row: &[u8; BYTES], sites: u32, label
             .set_label(site, number(row, 89 + site as usize))
             .expect(rt, "a label");
     }
+    assert!(*rt; labelling.sites() == sites && labelling.labels() == labels);
     labelling
 }
 
@@ -125,18 +129,39 @@ fn ends_right<F: Fn(u32, u32) -> i64, V: Fn(u32, u32) -> i64, H: How>(
     told == Ok(number(row, 7) == 1) && are_after(labelling.as_slice(), row)
 }
 
-/// Whether the move of a row leaves so many sites open as the row says, and ends as it says: with sites decided
-/// first, and without.
+/// Whether a move leaves so many sites open as the row says, and ends as it says: with sites decided first, and
+/// without. The labellings are that before the move, twice.
+fn is_told<F: Fn(u32, u32) -> i64, V: Fn(u32, u32) -> i64>(
+    problem: &Problem<F, V>,
+    alloc: Global,
+    labelling: &mut Labelling,
+    again: &mut Labelling,
+    row: &[u8; BYTES],
+) -> Result<bool, Fail>
+    requires sizes { AreSized problem.now.pairs problem.now.data_cost.sites problem.now.data_cost.labels
+        problem.now.smooth_cost.labels labelling.old }
+    requires again { AreSized problem.now.pairs problem.now.data_cost.sites problem.now.data_cost.labels
+        problem.now.smooth_cost.labels again.old }
+    requires labels { 1 ≤ problem.now.data_cost.labels }
+    requires costs { Keeps (F.pre problem.now.data_cost.f) (F.post problem.now.data_cost.f)
+        problem.now.data_cost.sites problem.now.data_cost.labels data_limit }
+    requires smooth { KeepsSmooth (V.pre problem.now.smooth_cost.v) (V.post problem.now.smooth_cost.v)
+        problem.now.smooth_cost.labels problem.now.smooth_cost.by_metric }
+{
+    let change = change_of(row, problem.data_cost.labels);
+    let opened = open_in(alloc, problem, labelling, change)?;
+    let is_known = ends_right(problem, alloc, labelling, change, row, &Alone);
+    let is_cut = ends_right(problem, alloc, again, change, row, &CutAlone);
+    Ok(opened == Some(number(row, 6) as usize) && is_known && is_cut)
+}
+
+/// Whether a row is right.
 fn is_right(rt: &impl Abort, alloc: Global, row: &[u8; BYTES]) -> Result<bool, Fail> {
     let (sites, labels) = (number(row, 0), number(row, 1));
     assert!(*rt; sites <= 24 && 1 <= labels && labels <= 3);
     let pairs = pairs_of(rt, alloc, row, sites);
     let mut labelling = start_of(rt, alloc, row, sites, labels);
     let mut again = start_of(rt, alloc, row, sites, labels);
-    assert!(*rt;
-        pairs.sites() == sites && labelling.sites() == sites && labelling.labels() == labels
-    );
-    assert!(*rt; again.sites() == sites && again.labels() == labels);
     let problem = Problem {
         pairs,
         data_cost: DataCost::new(
@@ -155,13 +180,7 @@ fn is_right(rt: &impl Abort, alloc: Global, row: &[u8; BYTES]) -> Result<bool, F
             labels,
         ),
     };
-    let change = change_of(row, labels);
-    let opened = open_in(alloc, &problem, &labelling, change)?;
-    Ok(
-        opened == Some(number(row, 6) as usize)
-            && ends_right(&problem, alloc, &mut labelling, change, row, &Alone)
-            && ends_right(&problem, alloc, &mut again, change, row, &CutAlone),
-    )
+    is_told(&problem, alloc, &mut labelling, &mut again, row)
 }
 
 #[test]
