@@ -3,6 +3,7 @@ pub mod Writing
 pub mod Steps
 pub mod Allowing
 pub mod Opened
+pub mod ByBlock
 pub mod Keeping
 pub mod Effects
 pub mod Fronts

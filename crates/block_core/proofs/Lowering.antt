@@ -1,23 +1,19 @@
 -- Passes that lower labels end at the exact ones.
-use Rattle.std.proofs.Common.{eqb, add-one, ◌≡◌, ℕ, zero, suc, ◌+◌, ◌-◌, ◌<◌, ◌≤◌, ◌⊎◌, inl, inr, Bool, true, false, cond, List, [], length, map, set, get_or, slice_index, sum, refl, sym, ◌∙◌, ap, subst, arith, get_or-set_same, get_or-set_other}
-use Rattle.std.proofs.lemmas.List.{ext_get_or, length-set, same_lists, get_or_default}
-use Rattle.std.proofs.lemmas.List.FromFn.{get_or-map-range_with_len, length-map-range_with_len}
-use Rattle.std.specs.List.{range_with_len}
-use Rattle.std.proofs.lemmas.Bool.{cases_eq, cases_lt, cases_Bool, false≢true}
+use Rattle.std.proofs.Common.{eqb, add-one, ◌≡◌, ℕ, zero, suc, ◌+◌, ◌-◌, ◌<◌, ◌≤◌, ◌⊎◌, inl, inr, Bool, true, false, List, length, set, slice_index, sum, refl, sym, ◌∙◌, ap, subst, arith, get_or-set_same, get_or-set_other}
+use Rattle.std.proofs.lemmas.List.{length-set}
+use Rattle.std.proofs.lemmas.Bool.{cases_eq, cases_lt, cases_Bool}
 use Rattle.std.proofs.lemmas.List.Sums.{sum_by-set}
 use Rattle.sums.specs.Sums.{sum_below, counted}
 use Rattle.sums.proofs.SumLemmas.{sum_below-le, sum_below-swap, sum_below-pick, sum_below-none, term-le-sum_below, counted-other, counted-same}
 use Rattle.flow_network.specs.Cut.{nodes, IsNet}
 use Rattle.flow_network.specs.Progress.{top}
 use Rattle.parcel.specs.declared.direction.Direction.{Direction}
-use Rattle.parcel.specs.Directions.{IsDirection, near, far, forward, backward}
+use Rattle.parcel.specs.Directions.{IsDirection, near, far}
 use Rattle.parcel.specs.Reach.{LeadsIn, IsExact, AreExact}
 use Rattle.parcel.specs.States as core
-use Rattle.parcel.specs.Events.{told_lane}
-use Rattle.parcel.proofs.Lanes.{IsLong as IsLongOf, lane_same, lane_other, long_put}
 use Rattle.parcel.proofs.Ends.{near_in, far_in}
-use Rattle.block_core.specs.Views.{BlocksView, state_of, labelled}
-use Rattle.block_core.specs.Raising.{bare, IsReached, IsLowered, IsStableAlong, IsStable, told, told_one}
+use Rattle.block_core.specs.Views.{BlocksView, labelled}
+use Rattle.block_core.specs.Raising.{bare, IsReached, IsLowered, IsStableAlong, IsStable}
 
 -- ---- as many levels as nodes
 
@@ -162,13 +158,6 @@ pub record IsSearch (old now : BlocksView) : Type 0 where
   pub len : length now.labels ≡ nodes old.net
   pub reached : IsReached now
 
--- the directions of the arcs below a number know the labels, the others know what they knew
-pub record IsTold (old now : BlocksView) (count : ℕ) : Type 0 where
-  pub rest : now ≡ record old { lanes = now.lanes }
-  pub long : IsLongOf (length old.net.arcs) now.lanes
-  pub told : (k : ℕ) → k < count → (core.lane_at now.lanes (forward k) ≡ told_lane (state_of old [] 0) old.labels (forward k)) × (core.lane_at now.lanes (backward k) ≡ told_lane (state_of old [] 0) old.labels (backward k))
-  pub others : (k : ℕ) → count ≤ k → (core.lane_at now.lanes (forward k) ≡ core.lane_at old.lanes (forward k)) × (core.lane_at now.lanes (backward k) ≡ core.lane_at old.lanes (backward k))
-
 -- ---- the steps of a pass
 
 pub step_down : (b : BlocksView) (x : Direction) → IsNet b.net → IsDirection b.net x → 0 < (core.lane_at b.lanes x).residual
@@ -195,12 +184,6 @@ filled_more a b c f v d made is l at_v = rw is record {
   ];
 }
 
--- all labels are those of a list
-pub filled_all : (a b : BlocksView) (labels : List ℕ) → IsFilled a b (slice_index labels) (nodes a.net) → length labels ≡ nodes a.net → b ≡ record a { labels = labels }
-filled_all a b labels made len =
-    made.rest ∙ ap (λ (xs : List ℕ). record a { labels = xs })
-    (ext_get_or 0 b.labels labels (made.len ∙ sym len) (λ v l. made.filled v (omega (arith, l, made.len))))
-
 pub search_starts : (a b : BlocksView) → b ≡ record a { labels = b.labels } → length b.labels ≡ nodes a.net → ((v : ℕ) → v < nodes a.net → slice_index b.labels v ≡ top a.net) → IsSearch a b
 search_starts a b rest len tops =
     let a' : BlocksView = record a { labels = b.labels } in
@@ -217,71 +200,3 @@ search_exact a b net rest len reached stable =
     let reached' = subst IsReached rest reached in
     let stable' = subst IsStable rest stable in
     are_exact (bare a) b.labels net (λ v l room. stable'.rooms v l room) (λ x l residual. along b' stable' x.arc x.back l residual) (λ v l. reached'.each v l) len
-
--- ---- what directions know
-
-abbrev told_of : BlocksView → Direction → core.Lane
-told_of a x = told_lane (state_of a [] 0) a.labels x
-
-told_same : (a : BlocksView) (lanes : core.Lanes) (x : Direction) → core.lane_at lanes x ≡ core.lane_at a.lanes x → told_one (record a { lanes = lanes }) x ≡ record a { lanes = core.put_lane lanes x (told_of a x) }
-told_same a lanes x e =
-    ap (λ (q : core.Lane). record a { lanes = core.put_lane lanes x (record q { known = cond (core.is_border a.net a.blocks x) (slice_index a.labels (far a.net x)) q.known }) }) e
-
-forward_other : (j k : ℕ) → (j ≡ k → ⊥) → forward j ≡ forward k → ⊥
-forward_other j k off e = off (ap (λ (x : Direction). x.arc) e)
-
-backward_other : (j k : ℕ) → (j ≡ k → ⊥) → backward j ≡ backward k → ⊥
-backward_other j k off e = off (ap (λ (x : Direction). x.arc) e)
-
-senses_apart : (j k : ℕ) → backward j ≡ forward k → ⊥
-senses_apart j k e = false≢true (sym (ap (λ (x : Direction). x.back) e))
-
-told_twice : (a : BlocksView) (lanes : core.Lanes) (k : ℕ) → IsTold a (record a { lanes = lanes }) k → k < length a.net.arcs
-    → IsTold a (record a { lanes = core.put_lane (core.put_lane lanes (forward k) (told_of a (forward k))) (backward k) (told_of a (backward k)) }) (k + 1)
-told_twice a lanes k told l =
-    let m = length a.net.arcs in
-    let one = core.put_lane lanes (forward k) (told_of a (forward k)) in
-    let two = core.put_lane one (backward k) (told_of a (backward k)) in
-    let long1 = long_put m lanes (forward k) (told_of a (forward k)) told.long in
-    let forth_here : core.lane_at two (forward k) ≡ told_of a (forward k) = lane_other one (backward k) (forward k) (told_of a (backward k)) (λ e. senses_apart k k (sym e)) ∙ lane_same m lanes (forward k) (told_of a (forward k)) told.long l in
-    let back_here : core.lane_at two (backward k) ≡ told_of a (backward k) = lane_same m one (backward k) (told_of a (backward k)) long1 l in
-    let forth_there : (j : ℕ) → (j ≡ k → ⊥) → core.lane_at two (forward j) ≡ core.lane_at lanes (forward j) = λ j off.
-    lane_other one (backward k) (forward j) (told_of a (backward k)) (λ e. senses_apart k j (sym e)) ∙ lane_other lanes (forward k) (forward j) (told_of a (forward k)) (forward_other j k off) in
-    let back_there : (j : ℕ) → (j ≡ k → ⊥) → core.lane_at two (backward j) ≡ core.lane_at lanes (backward j) = λ j off.
-    lane_other one (backward k) (backward j) (told_of a (backward k)) (backward_other j k off) ∙ lane_other lanes (forward k) (backward j) (told_of a (forward k)) (λ e. senses_apart j k e) in
-    record {
-      rest = refl;
-      long = long_put m one (backward k) (told_of a (backward k)) long1;
-      told = λ j lj. elim (cases_eq j k) [
-        | inl e ↦ rw e (forth_here, back_here)
-        | inr off ↦ let was = told.told j (omega (arith, lj, off)) in (forth_there j off ∙ was.0, back_there j off ∙ was.1)
-      ];
-      others = λ j lj. let off : j ≡ k → ⊥ = λ e. omega (arith, e, lj) in let was = told.others j (omega (arith, lj)) in (forth_there j off ∙ was.0, back_there j off ∙ was.1);
-    }
-
-pub told_more : (a b c d : BlocksView) (k : ℕ) → IsTold a b k → k < length a.net.arcs → c ≡ told_one b (forward k) → d ≡ told_one c (backward k) → IsTold a d (k + 1)
-told_more a b c d k told l first second =
-    let b' : BlocksView = record a { lanes = b.lanes } in
-    let one = core.put_lane b.lanes (forward k) (told_of a (forward k)) in
-    let other : core.lane_at one (backward k) ≡ core.lane_at a.lanes (backward k) = lane_other b.lanes (forward k) (backward k) (told_of a (forward k)) (λ e. senses_apart k k e) ∙ (told.others k (omega arith)).1 in
-    let c_is : c ≡ record a { lanes = one } = first ∙ (ap (λ (v : BlocksView). told_one v (forward k)) told.rest ∙ told_same a b.lanes (forward k) (told.others k (omega arith)).0) in
-    let d_is = second ∙ (ap (λ (v : BlocksView). told_one v (backward k)) c_is ∙ told_same a one (backward k) other) in
-    subst (λ (v : BlocksView). IsTold a v (k + 1)) (sym d_is) (told_twice a b.lanes k (subst (λ (v : BlocksView). IsTold a v k) told.rest told) l)
-
-same_lane_lists : (m : ℕ) (lanes : List core.Lane) (f : ℕ → core.Lane) → length lanes ≡ m → ((k : ℕ) → k < m → get_or lanes k core.no_lane ≡ f k) → lanes ≡ map f (range_with_len 0 m)
-same_lane_lists m lanes f len each =
-    same_lists lanes (map f (range_with_len 0 m)) (len ∙ sym (length-map-range_with_len f 0 m)) (λ k d l.
-    let lk : k < m = omega (arith, l, len) in
-    get_or_default lanes k d core.no_lane l ∙ (each k lk ∙ sym (get_or-map-range_with_len f 0 m k k d lk (omega arith))))
-
-same_lanes : (a b : core.Lanes) → a.forth ≡ b.forth → a.back ≡ b.back → a ≡ b
-same_lanes a b forth back =
-    let c : core.Lanes = record { forth = b.forth; back = a.back } in
-    ap (λ (q : List core.Lane). let r : core.Lanes = record { forth = q; back = a.back } in r) forth ∙ ap (λ (q : List core.Lane). let r : core.Lanes = record { forth = b.forth; back = q } in r) back
-
-pub told_done : (a b : BlocksView) → IsTold a b (length a.net.arcs) → b ≡ told a
-told_done a b told =
-    let m = length a.net.arcs in
-    let forth = same_lane_lists m b.lanes.forth (λ k. told_of a (forward k)) told.long.forth (λ k l. (told.told k l).0) in
-    let back = same_lane_lists m b.lanes.back (λ k. told_of a (backward k)) told.long.back (λ k l. (told.told k l).1) in
-    told.rest ∙ ap (λ (q : core.Lanes). record a { lanes = q }) (same_lanes b.lanes _ forth back)

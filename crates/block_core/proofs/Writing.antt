@@ -39,7 +39,7 @@ outer_put w b block x = ap (λ q. core.is_border w.net q x) (length-set w.blocks
 pub block_same : (w : Whole) (b : ℕ) (block : BlockView) → b < length w.blocks → block_at (put_block w b block) b ≡ block
 block_same w b block l = get_or-set_same w.blocks b block no_block l
 
-block_other : (w : Whole) (b : ℕ) (block : BlockView) (c : ℕ) → (c ≡ b → ⊥) → block_at (put_block w b block) c ≡ block_at w c
+pub block_other : (w : Whole) (b : ℕ) (block : BlockView) (c : ℕ) → (c ≡ b → ⊥) → block_at (put_block w b block) c ≡ block_at w c
 block_other w b block c off = get_or-set_other w.blocks b c block no_block off
 
 -- what the block in a block's stead keeps, each block keeps
@@ -55,7 +55,7 @@ with_keeps : {A : Type 0} (w : Whole) (b : ℕ) (block : BlockView) (v : ℕ) (f
 with_keeps w b block v f l same =
     ap (λ h. f (block_at (put_block w b block) h)) (home_put w b block v) ∙ block_keeps w b block (home w v) f l same
 
-place_put : (w : Whole) (b : ℕ) (block : BlockView) (v : ℕ) → place (put_block w b block) v ≡ place w v
+pub place_put : (w : Whole) (b : ℕ) (block : BlockView) (v : ℕ) → place (put_block w b block) v ≡ place w v
 place_put w b block v = ap (λ h. v - slice_index w.firsts h) (home_put w b block v)
 
 -- what is read at a node's place, or at the next, in a list that the block keeps

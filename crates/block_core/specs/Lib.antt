@@ -5,3 +5,4 @@ pub mod Raising
 pub mod Counting
 pub mod Pieces
 pub mod Parts
+pub mod ByBlock

@@ -1,4 +1,4 @@
-ghost use Rattle.std.specs.Prelude.{IfOk, ◌≡◌, ◌≢◌, ◌↔◌, ◌+◌, ◌*◌, ◌/◌, ◌<◌, ◌≤◌, IsTrue, None, true, false, [], length, slice_index};
+ghost use Rattle.std.specs.Prelude.{IfOk, ◌≡◌, ◌≢◌, ◌↔◌, ◌+◌, ◌*◌, ◌/◌, ◌<◌, ◌≤◌, ℕ, IsTrue, None, true, false, [], length, slice_index};
 ghost use Rattle.flow_network.specs.Limits.{node_limit};
 ghost use Rattle.flow_network.specs.Cut.{nodes, IsNet};
 ghost use Rattle.flow_network.specs.Preflow.{arc_at};
@@ -12,7 +12,9 @@ ghost use Rattle.block_net.specs.Split.{CanSplit};
 ghost use Rattle.block_net.specs.Whole.{index_of, is_outer};
 ghost use Rattle.block_core.specs.Views.{whole_in, blocks_in, state_of, IsLaid, IsLong, IsSpot, IsRow, first_of, shown_lane, gave, labelled, pushed, sent, accepted, settled, returned};
 ghost use Rattle.block_core.specs.Parts.{whole_by};
+ghost use Rattle.block_core.specs.ByBlock.{IsToldFrom, IsRelabelled};
 
+use crate::by_block::{label_block, tell_block};
 use crate::lane::Lane;
 use block_net::Parts;
 use flow_network::Net;
@@ -78,7 +80,7 @@ fn copy_of(alloc: Global, net: &Net) -> Result<Net, AllocError>
 }
 
 /// The node that a direction leaves.
-fn near_of(net: &Net, direction: Direction) -> usize
+pub fn near_of(net: &Net, direction: Direction) -> usize
     requires { IsDirection net.now direction }
     ensures value { result ≡ near net.now direction }
     ensures node { result < nodes net.now }
@@ -308,18 +310,22 @@ impl Blocks {
         self.parts.blocks[block].highest_label(place)
     }
 
-    /// The label that a direction to another block knows of its far end from now on.
-    pub fn set_known(&mut self, direction: Direction, known: u32)
-        requires direction { IsDirection self.old.net direction }
-        requires border { is_border self.old.net self.old.blocks direction ≡ true }
-        requires limit { known ≤ top self.old.net }
-        ensures { self.new ≡ record self.old {
-          lanes = put_lane self.old.lanes direction
-              (record (lane_at self.old.lanes direction) { known = known });
-        } }
+    /// Each direction from a block to another knows the label of its far end from now on.
+    pub fn tell_from(&mut self, block: usize)
+        requires { block < self.old.blocks }
+        ensures { IsToldFrom self.old self.new block }
     {
-        let (block, slot) = row(&self.net, &self.parts, direction);
-        self.parts.blocks[block].inform(slot, known);
+        tell_block(&self.net, &mut self.parts, block);
+    }
+
+    /// The nodes of a block get the labels that stand at their numbers in the list.
+    pub fn relabel_block(&mut self, block: usize, labels: &[u32])
+        requires block { block < self.old.blocks }
+        requires len { length labels.now ≡ nodes self.old.net }
+        requires limit { (v : ℕ) → v < nodes self.old.net → slice_index labels.now v ≤ top self.old.net }
+        ensures { IsRelabelled self.old self.new block labels.now }
+    {
+        label_block(&self.net, &mut self.parts, block, labels);
     }
 
     /// An amount of a node's excess goes to the sink.

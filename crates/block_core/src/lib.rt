@@ -7,6 +7,7 @@
 
 mod apply;
 mod blocks;
+mod by_block;
 mod compact;
 mod lane;
 mod mail;

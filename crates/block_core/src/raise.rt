@@ -4,7 +4,7 @@ ghost use Rattle.flow_network.specs.Progress.{top};
 ghost use Rattle.parcel.specs.Reach.{AreExact};
 ghost use Rattle.parcel.specs.Directions.{IsDirection, forward, backward};
 ghost use Rattle.parcel.specs.States.{lane_at};
-ghost use Rattle.block_core.specs.Raising.{bare, told, told_one, IsReached, IsLowered, IsStableAt, IsStableAlong, IsStable};
+ghost use Rattle.block_core.specs.Raising.{bare, told, IsReached, IsLowered, IsStableAt, IsStableAlong, IsStable};
 ghost use Rattle.block_core.specs.Views.{BlocksView, IsLong};
 
 use crate::blocks::Blocks;
@@ -115,35 +115,23 @@ impl Blocks {
         'passes: while self.lower_all() {}
     }
 
-    /// A direction to another block knows the label of its far end.
-    fn tell(&mut self, direction: Direction)
-        requires { IsDirection self.old.net direction }
-        ensures { self.new ≡ told_one self.old direction }
-    {
-        if self.is_border(direction) {
-            let label = self.label(self.far(direction));
-            self.set_known(direction, label);
-        }
-    }
-
-    /// Each direction to another block knows the label of its far end.
+    /// Each direction to another block knows the label of its far end: one pass over the directions between blocks.
     fn tell_all(&mut self)
         ensures { self.new ≡ told self.old }
     {
-        'arcs: for arc in 0..self.arcs() {
-            self.tell(Direction { arc, back: false });
-            self.tell(Direction { arc, back: true });
+        'each: for block in 0..self.count() {
+            self.tell_from(block);
         }
     }
 
-    /// Each node gets the label that is told.
+    /// Each node gets the label that is told, block by block.
     fn set_labels(&mut self, labels: &[u32])
         requires len { length labels.now ≡ nodes self.old.net }
         requires limit { (v : ℕ) → v < nodes self.old.net → slice_index labels.now v ≤ top self.old.net }
         ensures { self.new ≡ record self.old { labels = labels.now } }
     {
-        'nodes: for v in 0..self.nodes() {
-            self.relabel(v, labels[v]);
+        'each: for block in 0..self.count() {
+            self.relabel_block(block, labels);
         }
     }
 

@@ -3,7 +3,7 @@ pub mod Tables
 mod Numbers
 mod Grouped
 mod Spots
-mod Spans
+pub mod Spans
 mod Once
 mod Made
 mod Splitting

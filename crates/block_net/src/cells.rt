@@ -1,4 +1,4 @@
-ghost use Rattle.std.specs.Prelude.{◌≡◌, ◌≢◌, ◌+◌, ◌^◌, ◌<◌, ◌≤◌, IfOk, None, length};
+ghost use Rattle.std.specs.Prelude.{◌≡◌, ◌≢◌, ◌+◌, ◌^◌, ◌<◌, ◌≤◌, All, IfOk, None, length};
 ghost use Rattle.flow_network.specs.Limits.{node_limit};
 ghost use Rattle.flow_network.specs.Progress.{top_label};
 ghost use Rattle.block_net.specs.Split.{CanSplit, AreGrouped, block_made};
@@ -254,6 +254,15 @@ impl Cells {
         ensures place { v < length self.old.labels }
     {
         self.labels[v] = label;
+    }
+
+    /// Each node gets the label that stands at its place in the list.
+    pub fn write_labels(&mut self, labels: &[u32])
+        requires len { length labels.now ≡ count self.old }
+        requires limit { All (λ d. d ≤ self.old.top) labels.now }
+        ensures { self.new ≡ record self.old { labels = labels.now } }
+    {
+        self.labels.as_mut_slice().copy_from_slice(labels);
     }
 
     /// An amount of a node's excess leaves for another block.

@@ -1,14 +1,16 @@
-use Rattle.std.proofs.Common.{◌≡◌, slice_index, refl, subst, arith}
-use Rattle.flow_network.specs.Cut.{nodes}
-use Rattle.block_core.proofs.Lowering.{IsFilled, filled_more, filled_all}
+use Rattle.std.proofs.Common.{◌≡◌, subst, arith}
+use Rattle.block_core.proofs.ByBlock.{IsRelabelledBelow, relabelled_none, relabelled_more, relabelled_done}
 use Rattle.block_core.proofs.blocks.Blocks.set_labels.Goals as goal
 
-pub nodes-preserved : goal.nodes-preserved
-nodes-preserved c =
-    filled_more _ _ _ _ c.nodes.v _ c.nodes.invariant c.relabel.ensures (omega (arith, c.nodes-v-end.ensures.value)) refl
+pub each-init : goal.each-init
+each-init c = relabelled_none c.args.self.now c.args.labels.now
+
+pub each-preserved : goal.each-preserved
+each-preserved c = relabelled_more _ _ _ _ c.each.block c.each.invariant c.relabel_block.ensures
 
 pub returns : goal.returns
 returns c =
-    let all : c.nodes.v ≡ nodes c.args.self.now.net = omega (arith, c.nodes-v-end.ensures.value) in
+    let a = c.args.self.now in
     let labels = c.args.labels.now in
-    filled_all _ _ labels (subst (IsFilled c.args.self.now c.nodes.self (slice_index labels)) all c.nodes.invariant) c.requires.len
+    let all : c.each.block ≡ a.blocks = omega (arith, c.count-block-end.ensures.value, c.each-test.false, c.each.auto.block-end) in
+    relabelled_done a _ labels (omega (arith, c.count-block-end.ensures.value, c.count-block-end.ensures.some)) c.requires.len (subst (IsRelabelledBelow a c.each.self labels) all c.each.invariant)

@@ -1,12 +1,20 @@
-use Rattle.std.proofs.Common.{◌≡◌, length, subst, arith}
-use Rattle.block_core.proofs.Lowering.{IsTold, told_more, told_done}
+use Rattle.std.proofs.Common.{◌≡◌, subst, arith, ap}
+use Rattle.block_core.specs.Views.{BlocksView}
+use Rattle.block_core.proofs.ByBlock.{IsToldBelow, told_none, told_more, told_done}
 use Rattle.block_core.proofs.blocks.Blocks.tell_all.Goals as goal
 
-pub arcs-preserved : goal.arcs-preserved
-arcs-preserved c =
-    told_more _ _ c.tell.new.self _ c.arcs.arc c.arcs.invariant (omega (arith, c.arcs-arc-end.ensures.value)) c.tell.ensures c.tell-in-arcs.ensures
+pub each-init : goal.each-init
+each-init c = told_none c.args.self.now
+
+pub tell_from-requires : goal.tell_from-requires
+tell_from-requires c =
+    omega (arith, ap (λ (q : BlocksView). q.blocks) c.each.invariant.rest, c.count-block-end.ensures.value, c.each-test.true)
+
+pub each-preserved : goal.each-preserved
+each-preserved c = told_more _ _ _ c.each.block c.each.invariant c.tell_from.ensures
 
 pub returns : goal.returns
 returns c =
-    let all : c.arcs.arc ≡ length c.args.self.now.net.arcs = omega (arith, c.arcs-arc-end.ensures.value) in
-    told_done _ _ (subst (IsTold c.args.self.now c.arcs.self) all c.arcs.invariant)
+    let a = c.args.self.now in
+    let all : c.each.block ≡ a.blocks = omega (arith, c.count-block-end.ensures.value, c.each-test.false, c.each.auto.block-end) in
+    told_done a _ (omega (arith, c.count-block-end.ensures.value, c.count-block-end.ensures.some)) (subst (IsToldBelow a c.each.self) all c.each.invariant)
