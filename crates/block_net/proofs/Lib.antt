@@ -4,6 +4,7 @@ mod Numbers
 mod Grouped
 mod Spots
 pub mod Spans
+mod BlockSlots
 mod Once
 mod Made
 mod Splitting

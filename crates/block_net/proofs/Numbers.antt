@@ -129,3 +129,14 @@ home_is n blocks b v some l low high =
     let above : v * blocks < (b + 1) * n =
     omega (arith, some, split', one_more v blocks, mul-le (v + 1) blocks q' blocks (omega (arith, high)) (omega arith), mul_pos (b + 1) n (omega arith) (omega (arith, l))) in
     omega (arith, le-div b (v * blocks) n (omega (arith, l)) below, div_below (v * blocks) n (b + 1) (omega (arith, l)) above)
+
+pub first_zero : (n blocks : ℕ) → 1 ≤ blocks → first_of n blocks 0 ≡ 0
+first_zero n blocks some =
+    let below = div_below (0 * n + (blocks - 1)) blocks 1 (omega (arith, some)) (omega (arith, some)) in
+    omega (arith, below)
+
+pub first_last : (n blocks : ℕ) → 1 ≤ blocks → first_of n blocks blocks ≡ n
+first_last n blocks some =
+    let most = first_within n blocks blocks some (omega arith) in
+    let least = le-div n (blocks * n + (blocks - 1)) blocks (omega (arith, some)) (omega (arith, swapped n blocks)) in
+    omega (arith, most, least)

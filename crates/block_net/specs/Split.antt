@@ -36,6 +36,10 @@ direction_in net i = direction_of (length net.arcs) i
 abbrev pub first_of : ℕ → ℕ → ℕ → ℕ
 first_of n blocks b = (b * n + (blocks - 1)) / blocks
 
+-- the block of each node
+abbrev pub homes_made : Network → ℕ → List ℕ
+homes_made net blocks = table (nodes net) (block_of net blocks)
+
 -- the node that a direction leaves, if it leads to another block exactly as asked; else one past all nodes
 abbrev pub key : Network → ℕ → Bool → Direction → ℕ
 key net blocks outer x = cond (alike (is_border net blocks x) outer) (near net x) (nodes net)
@@ -86,6 +90,18 @@ abbrev pub HasSlots : Network → ℕ → Groups → List ℕ → Type 0
 HasSlots net blocks rows slots =
     (p : ℕ) → slice_index rows.starts.items 0 ≤ p → p < slice_index rows.starts.items (nodes net)
     → slice_index slots (slice_index rows.places.items p) ≡ slot_at net blocks rows p
+
+-- the table has the slot of each direction of the rows that leaves a node of the block
+abbrev pub HasBlockSlots : Network → ℕ → Groups → ℕ → List ℕ → Type 0
+HasBlockSlots net blocks rows b slots =
+    (p : ℕ) → base_of net blocks rows b ≤ p → p < base_of net blocks rows (b + 1)
+    → slice_index slots (slice_index rows.places.items p) ≡ slot_at net blocks rows p
+
+-- the rows of the block do not have the index
+abbrev pub IsNoBlockPlace : Network → ℕ → Groups → ℕ → ℕ → Type 0
+IsNoBlockPlace net blocks rows b i =
+    (p : ℕ) → base_of net blocks rows b ≤ p → p < base_of net blocks rows (b + 1)
+    → slice_index rows.places.items p ≢ i
 
 -- the directions within blocks and those between blocks, each grouped by its near node, and all slots
 pub record AreGrouped (net : Network) (blocks : ℕ) (rows : ByNode) : Type 0 where

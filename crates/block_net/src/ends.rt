@@ -4,7 +4,7 @@ ghost use Rattle.flow_network.specs.Cut.{nodes, IsNet};
 ghost use Rattle.parcel.specs.Directions.{IsDirection, near, far};
 ghost use Rattle.parcel.specs.States.{block_of, is_border};
 ghost use Rattle.block_net.specs.Limits.{block_limit};
-ghost use Rattle.block_net.specs.Split.{CanSplit, direction_of, first_of};
+ghost use Rattle.block_net.specs.Split.{CanSplit, direction_of, first_of, homes_made};
 
 use flow_network::Net;
 use parcel::Direction;
@@ -90,13 +90,13 @@ pub(crate) fn bounds(net: &Net, blocks: usize, block: usize) -> (usize, usize)
     )
 }
 
-/// Whether a direction leads to another block.
-pub(crate) fn leads_out(net: &Net, blocks: usize, direction: Direction) -> bool
+/// Whether a direction leads to another block, by the block of each node.
+pub(crate) fn leads_out(net: &Net, blocks: usize, homes: &[u8], direction: Direction) -> bool
     requires direction { IsDirection net.now direction }
-    requires split { CanSplit net.now blocks }
+    requires homes { homes.now ≡ homes_made net.now blocks }
     ensures { result ≡ is_border net.now blocks direction }
 {
-    let from = block_of(net, blocks, near(net, direction));
-    let to = block_of(net, blocks, far(net, direction));
+    let from = homes[near(net, direction) as usize];
+    let to = homes[far(net, direction) as usize];
     from != to
 }

@@ -11,6 +11,7 @@ mod by_node;
 mod cells;
 mod compact;
 mod ends;
+mod homes;
 mod limits;
 mod make;
 mod opening;

@@ -1,11 +1,29 @@
-ghost use Rattle.std.specs.Prelude.{◌≡◌, ℕ, Bool, length, slice_index};
-ghost use Rattle.block_net.specs.Split.{CanSplit, directions, AreRows, IsNoPlace, HasSlots};
+ghost use Rattle.std.specs.Prelude.{◌≡◌, ◌<◌, ℕ, Bool, length, slice_index};
+ghost use Rattle.block_net.specs.Split.{CanSplit, directions, AreRows, IsNoPlace, HasSlots, HasBlockSlots, IsNoBlockPlace};
 
-use crate::ends::{block_of, direction_at, first_of, near};
+use crate::ends::bounds;
 use flow_network::Net;
 use grouping::Groups;
 
-/// Writes the slot of each direction of the rows.
+/// Writes the slot of each direction of the rows that leaves a node of the block.
+fn write_block(net: &Net, blocks: usize, rows: &Groups, block: usize, slots: &mut [u32])
+    requires split { CanSplit net.now blocks }
+    requires rows { (outer : Bool) × AreRows net.now blocks outer rows.now }
+    requires block { block < blocks }
+    requires room { length slots.old ≡ directions net.now }
+    ensures room { length slots.new ≡ directions net.now }
+    ensures slots { HasBlockSlots net.now blocks rows.now block slots.new }
+    ensures others { (i : ℕ) → IsNoBlockPlace net.now blocks rows.now block i
+        → slice_index slots.new i ≡ slice_index slots.old i }
+{
+    let (first, next) = bounds(net, blocks, block);
+    let base = rows.starts[first];
+    for place in base..rows.starts[next] {
+        slots[rows.places[place as usize] as usize] = place - base;
+    }
+}
+
+/// Writes the slot of each direction of the rows: block by block, so that no node's block is looked up.
 pub(crate) fn write_slots(net: &Net, blocks: usize, rows: &Groups, slots: &mut [u32])
     requires split { CanSplit net.now blocks }
     requires rows { (outer : Bool) × AreRows net.now blocks outer rows.now }
@@ -14,11 +32,7 @@ pub(crate) fn write_slots(net: &Net, blocks: usize, rows: &Groups, slots: &mut [
     ensures others { (i : ℕ) → IsNoPlace net.now rows.now i
         → slice_index slots.new i ≡ slice_index slots.old i }
 {
-    let arcs = net.arcs().len();
-    for place in rows.starts[0]..rows.starts[net.nodes()] {
-        let index = rows.places[place as usize] as usize;
-        let block = block_of(net, blocks, near(net, direction_at(arcs, index)));
-        let base = rows.starts[first_of(net.nodes(), blocks, block)];
-        slots[index] = place - base;
+    for block in 0..blocks {
+        write_block(net, blocks, rows, block, slots);
     }
 }
