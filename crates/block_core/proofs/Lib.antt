@@ -10,3 +10,4 @@ pub mod Fronts
 pub mod Lowering
 pub mod Raised
 pub mod Counts
+pub mod Given

@@ -1,6 +1,9 @@
 -- What the pieces of a state show.
+use Rattle.std.specs.Prelude.{ℕ, ◌-◌, ◌==◌, slice_index}
+use Rattle.sums.specs.Sums.{sum_below, counted}
+use Rattle.flow_network.specs.Cut.{nodes}
 use Rattle.parcel.specs.States as core
-use Rattle.block_net.specs.Whole.{Whole}
+use Rattle.block_net.specs.Whole.{Whole, home}
 use Rattle.block_core.specs.declared.pieces.Pieces.{Pieces}
 use Rattle.block_core.specs.Views.{whole_in, blocks_in, state_of}
 
@@ -11,3 +14,11 @@ whole_within p = whole_in p.net p.parts.firsts.items p.parts.slots.items p.parts
 -- the state that the pieces make
 abbrev pub state_in : Pieces → core.State
 state_in p = state_of (blocks_in (whole_within p)) p.ways.messages p.got
+
+-- what a node gave the sink: what it could at the opening less what it still can
+abbrev pub given_at : Whole → ℕ → ℕ
+given_at w v = slice_index w.net.sinks v - slice_index (blocks_in w).rooms v
+
+-- what the nodes of a block gave the sink
+abbrev pub given_by : Whole → ℕ → ℕ
+given_by w b = sum_below (nodes w.net) (λ v. counted (home w v == b) (given_at w v))

@@ -131,18 +131,6 @@ fn row(net: &Net, parts: &Parts, direction: Direction) -> (usize, usize)
     (block, slot as usize)
 }
 
-/// What a node can still give the sink.
-pub fn room_in(net: &Net, parts: &Parts, v: usize) -> u64
-    requires laid { IsLaid
-        (whole_in net.now parts.now.firsts.items parts.now.slots.items parts.now.blocks.items) }
-    requires node { v < nodes net.now }
-    ensures { result ≡ slice_index (blocks_in (whole_in net.now
-        parts.now.firsts.items parts.now.slots.items parts.now.blocks.items)).rooms v }
-{
-    let (block, place) = spot(net, parts, v);
-    parts.blocks[block].room(place)
-}
-
 impl Blocks {
     /// A net in so many blocks before any flow: what the source can send is excess, and all labels are 0.
     pub fn open(alloc: Global, net: &Net, blocks: usize) -> Result<Blocks, AllocError>

@@ -1,11 +1,11 @@
-ghost use Rattle.std.specs.Prelude.{◌≡◌, ◌+◌, ◌<◌, ◌≤◌, ℕ, slice_index, sum};
+ghost use Rattle.std.specs.Prelude.{◌≡◌, ◌+◌, ◌<◌, ◌≤◌, ℕ, length, slice_index, sum};
 ghost use Rattle.flow_network.specs.Cut.{nodes};
 ghost use Rattle.parcel.specs.States.{room_of};
-ghost use Rattle.block_core.specs.Views.{IsLaid};
+ghost use Rattle.block_core.specs.Views.{blocks_in, IsLaid};
 ghost use Rattle.block_core.specs.Mails.{IsHeld};
-ghost use Rattle.block_core.specs.Pieces.{whole_within, state_in};
+ghost use Rattle.block_core.specs.Parts.{whole_by};
+ghost use Rattle.block_core.specs.Pieces.{whole_within, state_in, given_by};
 
-use crate::blocks::room_in;
 use crate::mail::Mail;
 use crate::state::State;
 use block_net::Parts;
@@ -45,11 +45,28 @@ impl Pieces {
             → room_of (state_in self.now) v ≤ slice_index self.now.net.sinks v }
         ensures { result + sum (state_in self.now).rooms ≡ sum self.now.net.sinks }
     {
-        let sinks = self.net.sinks();
         let mut given = 0;
-        'nodes: for v in 0..self.net.nodes() {
-            given += sinks[v] - room_in(&self.net, &self.parts, v);
+        'each: for block in 0..self.parts.blocks.len() {
+            given += given_in(&self.net, &self.parts, block);
         }
         given
     }
+}
+
+/// What the nodes of a block gave the sink. They follow one another, so that no node's block is looked up.
+fn given_in(net: &Net, parts: &Parts, block: usize) -> u64
+    requires laid { IsLaid (whole_by net.now parts.now) }
+    requires block { block < length parts.now.blocks.items }
+    requires rooms { (v : ℕ) → v < nodes net.now
+        → slice_index (blocks_in (whole_by net.now parts.now)).rooms v ≤ slice_index net.now.sinks v }
+    ensures { result ≡ given_by (whole_by net.now parts.now) block }
+{
+    let cells = &parts.blocks[block];
+    let sinks = net.sinks();
+    let first = parts.firsts[block];
+    let mut given = 0;
+    'places: for place in 0..cells.len() {
+        given += sinks[first + place] - cells.room(place);
+    }
+    given
 }

@@ -1,16 +1,29 @@
-use Rattle.std.proofs.Common.{◌≡◌, ◌+◌, sum, take, refl, sym, ◌∙◌, ap, arith}
-use Rattle.std.proofs.lemmas.List.{take_all}
-use Rattle.flow_network.specs.Cut.{nodes}
-use Rattle.block_core.specs.Views.{blocks_in}
-use Rattle.block_core.specs.Pieces.{whole_within, state_in}
-use Rattle.block_core.proofs.Opened.{laid_long}
+use Rattle.std.proofs.Common.{◌≡◌, ◌∙◌, ◌+◌, ◌≤◌, length, sum, ap, add-one, arith}
+use Rattle.sums.specs.Sums.{sum_below}
+use Rattle.block_net.specs.Whole.{Whole}
+use Rattle.block_core.specs.Pieces.{whole_within, state_in, given_by}
+use Rattle.block_core.proofs.Given.{some_blocks, given_all}
 use Rattle.block_core.proofs.pieces.Pieces.given.Goals as goal
+
+pub overflow_add-given : goal.overflow_add-given
+overflow_add-given c =
+    let w : Whole = whole_within c.args.self.now in
+    let b = c.each.block in
+    let more : sum_below b (given_by w) + given_by w b ≤ sum w.net.sinks = rw add-one at (some_blocks w (b + 1) c.requires.laid (omega (arith, c.each-test.true, c.len-block-end.ensures))) in
+    let was : c.each.given ≡ sum_below b (given_by w) = c.each.invariant in
+    omega (arith, more, was, c.given_in-given.ensures, c.requires.laid.net.total)
+
+pub each-preserved : goal.each-preserved
+each-preserved c =
+    let w : Whole = whole_within c.args.self.now in
+    let b = c.each.block in
+    let was : c.each.given ≡ sum_below b (given_by w) = c.each.invariant in
+    let next : c.each.given + c.given_in-given.result ≡ sum_below (b + 1) (given_by w) = rw add-one (omega (arith, was, c.given_in-given.ensures)) in
+    next
 
 pub returns : goal.returns
 returns c =
-    let net = c.args.self.now.net in
-    let rooms = (state_in c.args.self.now).rooms in
-    let all : c.nodes.v ≡ nodes net = omega (arith, c.nodes-v-end.ensures.value) in
-    let one : take c.nodes.v rooms ≡ rooms = take_all c.nodes.v rooms (omega (arith, all, (laid_long (whole_within c.args.self.now) (blocks_in (whole_within c.args.self.now)) c.requires.laid refl).rooms)) in
-    let two : take c.nodes.v net.sinks ≡ net.sinks = take_all c.nodes.v net.sinks (omega (arith, all, c.requires.laid.net.same)) in
-    ap (λ xs. c.nodes.given + sum xs) (sym one) ∙ (c.nodes.invariant ∙ ap sum two)
+    let w : Whole = whole_within c.args.self.now in
+    let all : c.each.block ≡ length w.blocks = omega (arith, c.each-test.false, c.each.auto.block-end, c.len-block-end.ensures) in
+    let was : c.each.given ≡ sum_below c.each.block (given_by w) = c.each.invariant in
+    ap (λ k. k + sum (state_in c.args.self.now).rooms) (was ∙ ap (λ k. sum_below k (given_by w)) all) ∙ given_all w c.requires.laid c.requires.rooms

@@ -1,6 +1,7 @@
-use Rattle.std.proofs.Common.{◌≡◌, ◌+◌, sum, take}
-use Rattle.block_core.specs.Pieces.{state_in}
+use Rattle.std.proofs.Common.{◌≡◌}
+use Rattle.sums.specs.Sums.{sum_below}
+use Rattle.block_core.specs.Pieces.{whole_within, given_by}
 use Rattle.block_core.proofs.pieces.Pieces.given.Given as goal
 
-abbrev pub invariant-nodes : goal.invariant-nodes
-invariant-nodes l = l.given + sum (take l.v (state_in l.self).rooms) ≡ sum (take l.v l.self.net.sinks)
+abbrev pub invariant-each : goal.invariant-each
+invariant-each l = l.given ≡ sum_below l.block (given_by (whole_within l.self))
