@@ -99,16 +99,8 @@ module _ (p q : Pieces) (net : q.net ≡ p.net) (firsts : q.parts.firsts.items �
           let got = ap (λ g. count (state_at p q.parts.blocks.items q.ways.messages g)) got_same in
           omega (arith, whole, got, going.lower)
 
-  -- where nothing was done, the state is finished
-  pub still_finished : q.got + sum (state_in q).rooms ≡ sum q.net.sinks → IsReady p → length q.parts.blocks.items ≡ length p.parts.blocks.items
-      → IsStill p q.parts.blocks.items q.ways (length q.parts.blocks.items) → IsFinished (state_in q)
-  still_finished given ready size still =
-      let blocks = q.parts.blocks.items in
-      let sound : IsSound (state_at p blocks q.ways.messages p.got) = subst IsSound (sym still.same) ready.held.sound in
-      let sound' : IsSound (state_of (blocks_in (whole_within q)) q.ways.messages p.got) =
-      subst (λ (w : Whole). IsSound (state_of (blocks_in w) q.ways.messages p.got)) (sym whole_same) sound in
-      let got : q.got ≡ p.got = omega (arith, sound'.got, given) in
-      let same : state_in q ≡ state_in p =
-      ap (λ (w : Whole). state_of (blocks_in w) q.ways.messages q.got) whole_same
-      ∙ (ap (λ g. state_at p blocks q.ways.messages g) got ∙ still.same) in
-      subst IsFinished (sym same) (none_starts (state_in p) ready.held.sound ready.quiet (λ b l. still.none b (omega (arith, l, size))))
+-- where nothing was done, the state was finished
+pub still_finished : (p : Pieces) (blocks : List BlockView) (ways : MailView) → IsReady p → length blocks ≡ length p.parts.blocks.items
+    → IsStill p blocks ways (length blocks) → IsFinished (state_in p)
+still_finished p blocks ways ready size still =
+    none_starts (state_in p) ready.held.sound ready.quiet (λ b l. still.none b (omega (arith, l, size)))

@@ -7,3 +7,4 @@ mod Going
 pub mod Opened
 mod Still
 mod Passing
+pub mod Resting

@@ -109,14 +109,6 @@ after_more s t u h k = record { net = k.net ∙ h.net; count = omega (arith, h.c
 pub lowers_after : (s t : State) (r : Bool) → Lowers s t r → IsAfter s t
 lowers_after s t r h = record { net = h.net; count = lowers_le s t r h }
 
--- a round goes on or ends
-pub round_done : (s0 s1 s2 s3 : State) (r : Bool) → IsAfter s0 s1 → IsSound s1 → Happens s1 RaiseAll s2
-    → MatchBool r (count s3 < count s2) (IsFinished s3) → MatchBool r (count s3 < count s0) (IsFinished s3)
-round_done s0 s1 s2 s3 true took sound raised done =
-    let after = raised_after s1 s2 sound raised in
-    omega (arith, done, after.count, took.count)
-round_done s0 s1 s2 s3 false took sound raised done = done
-
 -- no message is on the way after the exact labels
 pub raised_quiet : (s t : State) → IsQuiet s → Happens s RaiseAll t → IsQuiet t
 raised_quiet s t quiet raised = subst IsQuiet (sym raised.effect.2) quiet

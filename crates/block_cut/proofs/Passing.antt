@@ -1,5 +1,5 @@
 -- What the turns of a pass keep, one block after another.
-use Rattle.std.proofs.Common.{◌≡◌, ℕ, ◌+◌, ◌<◌, ◌≤◌, Bool, true, false, ◌||◌, nat_lt, IsFalse, MatchBool, List, length, slice_set, slice_index_or, refl, sym, ◌∙◌, ap, subst, inl, inr, arith}
+use Rattle.std.proofs.Common.{◌≡◌, ℕ, ◌+◌, ◌<◌, ◌≤◌, Bool, true, false, ◌||◌, nat_lt, IsFalse, List, length, slice_set, slice_index_or, refl, sym, ◌∙◌, ap, subst, inl, inr, arith}
 use Rattle.std.proofs.lemmas.Bool.{true≢false, lt-ltb, cases_lt}
 use Rattle.std.proofs.lemmas.List.{get_or_read_under}
 use Rattle.sums.specs.Sums.{counted}
@@ -64,9 +64,9 @@ module _ (p : Pieces) (blocks0 blocks : List BlockView) (ways0 before after : Ma
 
 -- ---- the whole work
 
--- some block did an event, and the count fell, or none did, and the state is finished
+-- the count fell, where the state was not finished
 pub work_done : (p : Pieces) (blocks : List BlockView) (ways : MailView) (s t : State) (r : Bool) → s ≡ state_in p → IsGoing p blocks ways (counted r 1)
-    → ((n : ℕ) → IsGoing p blocks ways n → count t + n ≤ count (state_in p)) → (IsFalse r → IsFinished t)
-    → MatchBool r (count t < count s) (IsFinished t)
-work_done p blocks ways s t true is going lower still = omega (arith, lower 1 going, ap count is)
-work_done p blocks ways s t false is going lower still = still refl
+    → ((n : ℕ) → IsGoing p blocks ways n → count t + n ≤ count (state_in p)) → (IsFalse r → IsFinished (state_in p)) → ¬ IsFinished s
+    → count t < count s
+work_done p blocks ways s t true is going lower still unfinished = omega (arith, lower 1 going, ap count is)
+work_done p blocks ways s t false is going lower still unfinished = absurd (unfinished (subst IsFinished (sym is) (still refl)))

@@ -4,3 +4,4 @@ pub mod Ends
 pub mod Turns
 pub mod Passes
 pub mod Opening
+pub mod Rest

@@ -3,7 +3,7 @@ ghost use Rattle.flow_network.specs.Limits.{capacity_limit};
 ghost use Rattle.flow_network.specs.Cut.{IsSmallestLeastCut};
 ghost use Rattle.flow_network.specs.Answer.{side_of, IsRightCut};
 ghost use Rattle.parcel.specs.Soundness.{IsFinished};
-ghost use Rattle.global_relabel.specs.Workspaces.{Serves};
+ghost use Rattle.parcel.specs.Reach.{AreExact};
 
 use block_core::State;
 use flow_network::Solved;
@@ -11,20 +11,19 @@ use global_relabel::{Workspace, flow_of};
 use sink_distances::sink_side;
 use std::alloc::{AllocError, Global};
 
-/// The answer of a finished state: the nodes that reach the sink, and the flow that the state shows.
+/// The answer of a finished state whose exact labels are at hand: the nodes that reach the sink, and the flow that the
+/// state shows.
 pub(crate) fn answer_of(
     alloc: Global,
     state: &State,
     workspace: Workspace,
 ) -> Result<Solved, AllocError>
-    requires serves { Serves state.now.net workspace }
+    requires exact { AreExact state.now workspace.labels.items }
     requires finished { IsFinished state.now }
     ensures certified { IfOk result (λ s. IsRightCut state.now.net s) }
     ensures smallest { IfOk result (λ s. IsSmallestLeastCut state.now.net (side_of s)) }
     ensures bound { IfOk result (λ s. s.value ≤ capacity_limit) }
 {
-    let mut workspace = workspace;
-    workspace.find(state);
     let side = sink_side(alloc, state.net().graph(), workspace.labels.as_slice())?;
     drop(workspace);
     let flow = flow_of(alloc, state)?;

@@ -9,6 +9,7 @@ mod answers;
 mod ends;
 mod opening;
 mod passes;
+mod rest;
 mod solver;
 mod takes;
 mod turns;

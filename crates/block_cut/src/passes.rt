@@ -1,4 +1,4 @@
-ghost use Rattle.std.specs.Prelude.{◌≡◌, ◌+◌, ◌<◌, ◌≤◌, ℕ, IfOk, IsFalse, MatchBool, length};
+ghost use Rattle.std.specs.Prelude.{◌≡◌, ◌+◌, ◌<◌, ◌≤◌, ℕ, IfOk, IsFalse, length};
 ghost use Rattle.sums.specs.Sums.{counted};
 ghost use Rattle.flow_network.specs.Limits.{node_limit};
 ghost use Rattle.parcel.specs.Events.{IsQuiet};
@@ -186,8 +186,6 @@ fn state_of(old: &Snapshot<Pieces>, net: Net, parts: Parts, ways: Mail) -> State
     ensures net { result.net ≡ old.now.value.net }
     ensures lower { (n : ℕ) → IsGoing old.now.value parts.blocks.items ways n
         → count result + n ≤ count (state_in old.now.value) }
-    ensures still { IsStill old.now.value parts.blocks.items ways (length parts.blocks.items)
-        → IsFinished result }
 {
     let mut pieces = Pieces {
         net,
@@ -200,12 +198,12 @@ fn state_of(old: &Snapshot<Pieces>, net: Net, parts: Parts, ways: Mail) -> State
 }
 
 /// Turns of the blocks, in passes, in which each block's nodes first pass on what they have in the reverse of an order:
-/// best the nearest to the sink first. Whether some block did an event: else the state is finished. The only error is
-/// that memory runs out.
-pub(crate) fn work(alloc: Global, state: State, order: &[u32]) -> Result<(State, bool), AllocError>
-    requires { IsQuiet state }
-    ensures net { IfOk result (λ r. r.0.net ≡ state.net) }
-    ensures done { IfOk result (λ r. MatchBool r.1 (count r.0 < count state) (IsFinished r.0)) }
+/// best the nearest to the sink first. The only error is that memory runs out.
+pub(crate) fn work(alloc: Global, state: State, order: &[u32]) -> Result<State, AllocError>
+    requires quiet { IsQuiet state }
+    requires unfinished { ¬ IsFinished state }
+    ensures net { IfOk result (λ s. s.net ≡ state.net) }
+    ensures less { IfOk result (λ s. count s < count state) }
 {
     let orders = orders_of(alloc, &state, order)?;
     let arcs = state.arcs();
@@ -223,12 +221,12 @@ pub(crate) fn work(alloc: Global, state: State, order: &[u32]) -> Result<(State,
         slots,
     } = parts;
     let mut blocks = blocks_of(alloc, blocks, orders)?;
-    let (ways, slots, some) = passes(&old, &mut blocks, ways, slots, arcs, EVENTS);
+    let (ways, slots, _) = passes(&old, &mut blocks, ways, slots, arcs, EVENTS);
     let blocks = cells_of(alloc, blocks)?;
     let parts = Parts {
         blocks,
         firsts,
         slots,
     };
-    Ok((state_of(&old, net, parts, ways), some))
+    Ok(state_of(&old, net, parts, ways))
 }

@@ -1,13 +1,15 @@
-ghost use Rattle.std.specs.Prelude.{◌≡◌, ◌<◌, ◌≤◌, IfOk, MatchBool};
+ghost use Rattle.std.specs.Prelude.{◌≡◌, ◌<◌, ◌≤◌, IfOk};
 ghost use Rattle.flow_network.specs.Limits.{capacity_limit};
 ghost use Rattle.flow_network.specs.Cut.{IsSmallestLeastCut};
 ghost use Rattle.flow_network.specs.Answer.{side_of, IsRightCut};
-ghost use Rattle.parcel.specs.Soundness.{IsFinished, count};
-ghost use Rattle.global_relabel.specs.Workspaces.{Serves};
+ghost use Rattle.parcel.specs.Reach.{AreExact};
+ghost use Rattle.parcel.specs.Events.{IsQuiet};
+ghost use Rattle.parcel.specs.Soundness.{IsSound, IsFinished, count};
 
 use crate::answers::answer_of;
 use crate::opening::open_if_new;
 use crate::passes::work;
+use crate::rest::is_at_rest;
 use crate::takes::take_in;
 use block_core::State;
 use block_net::ARC_LIMIT;
@@ -15,31 +17,27 @@ use flow_network::{Net, Solved};
 use global_relabel::Workspace;
 use std::alloc::{AllocError, Global};
 
-/// Messages are taken in, labels become exact, and excess goes on; no where the state is finished then.
-fn advance(
-    alloc: Global,
-    state: State,
-    workspace: &mut Workspace,
-) -> Result<(State, bool), AllocError>
-    requires { Serves state.net workspace.old }
-    ensures serves { IfOk result (λ r. Serves r.0.net workspace.new) }
-    ensures net { IfOk result (λ r. r.0.net ≡ state.net) }
-    ensures done { IfOk result (λ r. MatchBool r.1
-        (count r.0 < count state)
-        (IsFinished r.0)) }
+/// The labels of a state that is not finished become the exact ones that are at hand, and excess goes on.
+fn advance(alloc: Global, state: State, workspace: &Workspace) -> Result<State, AllocError>
+    requires sound { IsSound state }
+    requires quiet { IsQuiet state }
+    requires exact { AreExact state workspace.now.labels.items }
+    requires unfinished { ¬ IsFinished state }
+    ensures net { IfOk result (λ s. s.net ≡ state.net) }
+    ensures less { IfOk result (λ s. count s < count state) }
 {
     let mut state = state;
-    take_in(&mut state);
-    workspace.raise(&mut state);
-    let (state, more) = work(alloc, state, workspace.order.as_slice())?;
-    Ok((state, more))
+    state.raise_to(workspace.labels.as_slice());
+    let next = work(alloc, state, workspace.order.as_slice())?;
+    Ok(next)
 }
 
 /// The least cut that a state of a net comes to, with the preflow that certifies it: of all least cuts the
 /// smallest, whatever the blocks did before. Messages may be on the way, and labels need not be exact.
 ///
 /// Where all labels are 0, excess first goes on within the blocks without regard to labels. Then it works in rounds:
-/// each takes in what is on the way, makes labels exact, and goes on with turns of the blocks: excess goes once down
+/// each takes in what is on the way and finds the exact labels. Where by them no node with excess reaches the sink,
+/// they tell the sink side as well; else they become the labels, and the blocks have turns: excess goes once down
 /// the order of the search for these labels, the farthest from the sink first, and then the nodes with excess are
 /// discharged one after another (Goldberg, Tarjan 1988, sections 2 to 4). Refuses only where memory runs
 /// out, and drops the state.
@@ -51,11 +49,12 @@ pub fn finish(alloc: Global, state: State) -> Result<Solved, AllocError>
     let mut state = open_if_new(state);
     let mut workspace = Workspace::reserve(alloc, state.net())?;
     'rounds: loop {
-        let (next, more) = advance(alloc, state, &mut workspace)?;
-        state = next;
-        if !more {
+        take_in(&mut state);
+        workspace.find(&state);
+        if is_at_rest(&state, workspace.labels.as_slice()) {
             return answer_of(alloc, &state, workspace);
         }
+        state = advance(alloc, state, &workspace)?;
     }
 }
 

@@ -1,8 +1,8 @@
 use Rattle.std.proofs.Common.{◌+◌, ◌≤◌, sym, subst}
 use Rattle.parcel.specs.States.{State}
-use Rattle.parcel.specs.Soundness.{IsFinished, count}
+use Rattle.parcel.specs.Soundness.{count}
 use Rattle.block_core.specs.Pieces.{state_in}
-use Rattle.block_cut.proofs.Going.{held_again, lower_all, still_finished}
+use Rattle.block_cut.proofs.Going.{held_again, lower_all}
 use Rattle.block_cut.proofs.passes.state_of.Goals as goal
 
 pub into_state-requires-clause-held : goal.into_state-requires-clause-held
@@ -15,9 +15,3 @@ returns-clause-lower c = λ n going.
     subst (λ (s : State). count s + n ≤ count (state_in c.args.old.now.value)) (sym c.into_state.ensures)
     (lower_all c.args.old.now.value (record { net = c.args.net; parts = c.args.parts; ways = c.args.ways; got = c.given.result })
     c.requires.net c.requires.firsts c.requires.slots n going c.given.ensures)
-
-pub returns-clause-still : goal.returns-clause-still
-returns-clause-still c = λ still.
-    subst IsFinished (sym c.into_state.ensures)
-    (still_finished c.args.old.now.value (record { net = c.args.net; parts = c.args.parts; ways = c.args.ways; got = c.given.result })
-    c.requires.net c.requires.firsts c.requires.slots c.given.ensures c.requires.ready c.requires.going.size still)

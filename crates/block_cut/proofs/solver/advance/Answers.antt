@@ -1,6 +1,12 @@
-use Rattle.block_cut.proofs.Lowering.{round_done}
+use Rattle.std.proofs.Common.{arith}
+use Rattle.block_cut.proofs.Lowering.{raised_after}
+use Rattle.block_cut.proofs.Resting.{unfinished_raised}
 use Rattle.block_cut.proofs.solver.advance.Goals as goal
 
-pub returns-clause-done : goal.returns-clause-done
-returns-clause-done c =
-    round_done c.args.state c.take_in.new.state c.raise.new.state c.in_ok-state.state c.in_ok-state.more c.take_in.ensures.after c.take_in.ensures.sound c.raise.ensures.raised c.in_ok-state.ensures.done
+pub work-requires-clause-unfinished : goal.work-requires-clause-unfinished
+work-requires-clause-unfinished c =
+    unfinished_raised c.args.state c.raise_to.new.self c.requires.quiet c.raise_to.ensures c.requires.unfinished
+
+pub returns-clause-less : goal.returns-clause-less
+returns-clause-less c =
+    omega (arith, c.in_ok-next.ensures.less, (raised_after c.args.state c.raise_to.new.self c.requires.sound c.raise_to.ensures).count)
