@@ -127,19 +127,22 @@ fn empty_orders(alloc: Global, nodes: usize, blocks: usize) -> Result<Vec<Vec<u3
     Ok(orders)
 }
 
-/// For each block its nodes in the reverse of an order of all nodes, numbered from the block's first node. What is no
-/// node is passed over. The only error is that memory runs out.
-fn orders_of(alloc: Global, state: &State, order: &[u32]) -> Result<Vec<Vec<u32>>, AllocError> {
-    let nodes = state.nodes();
-    let blocks = state.blocks();
-    let mut orders = empty_orders(alloc, nodes, blocks)?;
+/// For each block its nodes in the reverse of an order of all nodes, numbered from the block's first node. `homes` tells
+/// the block of each node. What is no node is passed over. The only error is that memory runs out.
+fn orders_of(
+    alloc: Global,
+    state: &State,
+    homes: &[u8],
+    order: &[u32],
+) -> Result<Vec<Vec<u32>>, AllocError> {
+    let firsts = state.parts().firsts.as_slice();
+    let mut orders = empty_orders(alloc, state.nodes(), state.blocks())?;
     'nodes: for place in (0..order.len()).rev() {
         let v = order[place] as usize;
-        if v < nodes {
-            let b = v * blocks / nodes;
-            if b < orders.len() {
-                let first = (b * nodes + (blocks - 1)) / blocks;
-                orders[b].push(v.saturating_sub(first) as u32)?;
+        if v < homes.len() {
+            let b = homes[v] as usize;
+            if b < orders.len() && b < firsts.len() {
+                orders[b].push(v.saturating_sub(firsts[b]) as u32)?;
             }
         }
     }
@@ -198,14 +201,20 @@ fn state_of(old: &Snapshot<Pieces>, net: Net, parts: Parts, ways: Mail) -> State
 }
 
 /// Turns of the blocks, in passes, in which each block's nodes first pass on what they have in the reverse of an order:
-/// best the nearest to the sink first. The only error is that memory runs out.
-pub(crate) fn work(alloc: Global, state: State, order: &[u32]) -> Result<State, AllocError>
+/// best the nearest to the sink first. `homes` tells the block of each node; where it does not, a node is passed over.
+/// The only error is that memory runs out.
+pub(crate) fn work(
+    alloc: Global,
+    state: State,
+    homes: &[u8],
+    order: &[u32],
+) -> Result<State, AllocError>
     requires quiet { IsQuiet state }
     requires unfinished { ¬ IsFinished state }
     ensures net { IfOk result (λ s. s.net ≡ state.net) }
     ensures less { IfOk result (λ s. count s < count state) }
 {
-    let orders = orders_of(alloc, &state, order)?;
+    let orders = orders_of(alloc, &state, homes, order)?;
     let arcs = state.arcs();
     let pieces = state.into_pieces();
     let old = Snapshot::of(&pieces);

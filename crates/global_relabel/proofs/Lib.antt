@@ -2,3 +2,4 @@ pub mod Bridge
 pub mod ResidualNet
 pub mod Places
 pub mod Seeing
+pub mod Homing

@@ -1,3 +1,4 @@
 pub mod Laws
 pub mod Search
 pub mod Workspaces
+pub mod Homes

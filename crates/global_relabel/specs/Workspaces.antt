@@ -6,3 +6,4 @@ use Rattle.global_relabel.specs.declared.workspace.Workspace.{Workspace}
 pub record Serves (net : Network) (workspace : Workspace) : Type 0 where
   pub labels : length workspace.labels.items ≡ nodes net
   pub order : length workspace.order.items ≡ nodes net
+  pub homes : length workspace.homes.items ≡ nodes net

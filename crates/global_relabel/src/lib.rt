@@ -9,6 +9,7 @@ ghost use Rattle.global_relabel.specs.Laws.{ExactAreDistances};
 
 mod exact;
 mod flow;
+mod homes;
 mod search;
 mod workspace;
 

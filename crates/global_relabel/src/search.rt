@@ -8,17 +8,19 @@ ghost use Rattle.block_net.specs.Whole.{shown};
 ghost use Rattle.block_core.specs.Views.{IsLaid, IsSpot};
 ghost use Rattle.block_core.specs.Parts.{whole_by};
 ghost use Rattle.global_relabel.specs.Search.{LeadsTo, AreMarked};
+ghost use Rattle.global_relabel.specs.Homes.{AreHomes};
 
-use block_core::{State, spot};
+use block_core::State;
 use block_net::{Cells, Parts};
 use flow_network::Net;
 use sink_distances::{mark, top_label};
 
-/// A net and its blocks.
+/// A net, its blocks, and the block of each node.
 #[derive(Clone, Copy)]
 struct Split<'a> {
     net: &'a Net,
     parts: &'a Parts,
+    homes: &'a [u8],
 }
 
 /// A node, its block and its place there.
@@ -27,6 +29,17 @@ struct Spot {
     node: usize,
     block: usize,
     place: usize,
+}
+
+/// A node's block and its place there, by the table of blocks.
+fn spot_of(split: &Split<'_>, w: usize) -> (usize, usize)
+    requires laid { IsLaid (whole_by split.now.net.now split.now.parts.now) }
+    requires homes { AreHomes split.now.net.now (length split.now.parts.now.blocks.items) split.now.homes.now }
+    requires node { w < nodes split.now.net.now }
+    ensures { IsSpot (whole_by split.now.net.now split.now.parts.now) w result.0 result.1 }
+{
+    let block = split.homes[w] as usize;
+    (block, w - split.parts.firsts[block])
 }
 
 /// Labels the nodes that can give the sink more.
@@ -189,6 +202,7 @@ fn mark_into(
     w: usize,
 ) -> usize
     requires laid { IsLaid (whole_by split.now.net.now split.now.parts.now) }
+    requires homes { AreHomes split.now.net.now (length split.now.parts.now.blocks.items) split.now.homes.now }
     requires node { w < nodes split.now.net.now }
     requires len { length labels.old ≡ nodes split.now.net.now }
     requires ready { IsReady (slice_index labels.old w + 1) (found_of labels.old order.old count) }
@@ -199,7 +213,7 @@ fn mark_into(
         LeadsTo split.now.net.now (shown (whole_by split.now.net.now split.now.parts.now)).lanes w v →
         slice_index labels.new v ≤ slice_index labels.old w + 1 }
 {
-    let found = spot(split.net, split.parts, w);
+    let found = spot_of(split, w);
     let at = Spot {
         node: w,
         block: found.0,
@@ -211,8 +225,10 @@ fn mark_into(
 }
 
 /// Writes the exact label of each node: a breadth-first search backwards from the sink over what the blocks hold
-/// (Goldberg, Tarjan 1988, section 3). `order` is room for the search. Takes no memory.
-pub(crate) fn write_exact(state: &State, labels: &mut [u32], order: &mut [u32])
+/// (Goldberg, Tarjan 1988, section 3). `homes` tells the block of each node, and `order` is room for the search. Takes no
+/// memory.
+pub(crate) fn write_exact(state: &State, homes: &[u8], labels: &mut [u32], order: &mut [u32])
+    requires homes { AreHomes state.now.net state.now.blocks homes.now }
     requires len { length labels.old ≡ nodes state.now.net }
     requires order_len { length order.old ≡ nodes state.now.net }
     ensures { AreExact state.now labels.new }
@@ -220,6 +236,7 @@ pub(crate) fn write_exact(state: &State, labels: &mut [u32], order: &mut [u32])
     let split = Split {
         net: state.net(),
         parts: state.parts(),
+        homes,
     };
     let mut count = mark_rooms(state, labels, order);
     let mut next = 0;

@@ -4,6 +4,7 @@ ghost use Rattle.parcel.specs.Reach.{AreExact};
 ghost use Rattle.parcel.specs.Events.{IsQuiet, Happens};
 ghost use Rattle.global_relabel.specs.Workspaces.{Serves};
 
+use crate::homes::write_homes;
 use crate::search::write_exact;
 use block_core::State;
 use flow_network::Net;
@@ -14,12 +15,14 @@ use std::alloc::{AllocError, Global};
 pub struct Workspace {
     /// The exact label of each node in the last state that was looked at.
     pub labels: Vec<u32>,
-    /// Room for the search; what stands there means nothing.
+    /// Room for the search: the nodes that reach the sink in the last state, the nearest first, and then no nodes.
     pub order: Vec<u32>,
+    /// The block of each node in that state.
+    pub homes: Vec<u8>,
 }
 
 impl Workspace {
-    /// Lists for the states of the net, 8 bytes a node. Refuses only where memory runs out.
+    /// Lists for the states of the net, 9 bytes a node. Refuses only where memory runs out.
     pub fn reserve(alloc: Global, net: &Net) -> Result<Workspace, AllocError>
         ensures { IfOk result (λ workspace. Serves net.now workspace) }
     {
@@ -27,6 +30,7 @@ impl Workspace {
         Ok(Workspace {
             labels: vec![in alloc; 0; nodes]?,
             order: vec![in alloc; 0; nodes]?,
+            homes: vec![in alloc; 0; nodes]?,
         })
     }
 
@@ -36,7 +40,14 @@ impl Workspace {
         ensures serves { Serves state.now.net self.new }
         ensures exact { AreExact state.now self.new.labels.items }
     {
-        write_exact(state, self.labels.as_mut_slice(), self.order.as_mut_slice());
+        self.order.as_mut_slice().fill(u32::MAX);
+        write_homes(state, self.homes.as_mut_slice());
+        write_exact(
+            state,
+            self.homes.as_slice(),
+            self.labels.as_mut_slice(),
+            self.order.as_mut_slice(),
+        );
     }
 
     /// Each label of the state becomes the exact one, and each direction to another block knows that of its far
