@@ -1,5 +1,5 @@
 -- What is kept while sites are decided.
-use Rattle.std.specs.Prelude.{◌≡◌, ◌≢◌, ◌⊎◌, ℕ, ◌+◌, ◌-◌, ◌*◌, ◌<◌, ◌≤◌, Bool, true, false, List, [], ◌∷◌, length, take, slice_index_or, unsigned_abs, ℤ, pos, ◌+ℤ◌, ◌-ℤ◌, ◌≤ℤ◌, ◌<ℤ◌, Result, Ok, Err}
+use Rattle.std.specs.Prelude.{◌≡◌, ◌≢◌, ◌⊎◌, ℕ, ◌+◌, ◌-◌, ◌*◌, ◌<◌, ◌≤◌, Bool, true, false, List, length, take, slice_index_or, unsigned_abs, ℤ, pos, ◌+ℤ◌, ◌-ℤ◌, ◌≤ℤ◌, ◌<ℤ◌, Result, Ok, Err}
 use Rattle.std.specs.List.{All, Contains}
 use Rattle.sums.specs.Sums.{sum_below, counted}
 use Rattle.sums.specs.IntegerSums.{int_sum_by}
@@ -11,7 +11,7 @@ use Rattle.labellings.specs.Moves.{IsAllowed}
 use Rattle.move_energy.specs.declared.error.BuildError.{BuildError}
 use Rattle.move_energy.specs.Problems.{IsPrepareRefusal}
 use Rattle.move_energy.specs.declared.choice.Choice.{Choice}
-use Rattle.move_energy.specs.declared.choice.Choice.TheVariants.{Open, Zero, One}
+use Rattle.move_energy.specs.declared.choice.Choice.TheVariants.{Open}
 use Rattle.by_site.specs.BySite.{degree}
 use Rattle.move_energy.specs.Choices.{bit_of, choice_at, is_open}
 use Rattle.deciding.specs.Limits.{surplus_limit, bound_limit}

@@ -1,4 +1,4 @@
-use Rattle.std.proofs.Common.{◌≡◌, ◌≤◌, ◌*◌, pos, ◌-ℤ◌, unsigned_abs, length, take, sum_by}
+use Rattle.std.proofs.Common.{◌≡◌, ◌≤◌, ◌*◌, pos, ◌-ℤ◌, unsigned_abs, take, sum_by}
 use Rattle.cost_store.specs.Promises.{Answers}
 use Rattle.labellings.specs.Energies.{Instance, labelling}
 use Rattle.labellings.specs.Moves.{made}

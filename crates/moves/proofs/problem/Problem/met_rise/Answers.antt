@@ -1,4 +1,4 @@
-use Rattle.std.proofs.Common.{◌≡◌, ◌≤◌, ◌+◌, ◌∙◌, ℕ, pos, ◌-ℤ◌, sym, ap, arith, w64, to_z}
+use Rattle.std.proofs.Common.{◌≡◌, ◌≤◌, ◌+◌, ◌∙◌, pos, ◌-ℤ◌, ap, arith, w64, to_z}
 use Rattle.sums.specs.Sums.{counted}
 use Rattle.sums.proofs.SumLemmas.{counted-le}
 use Rattle.by_site.specs.BySite.{is_counted, met_below}

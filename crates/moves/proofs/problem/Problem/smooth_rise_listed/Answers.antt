@@ -1,4 +1,4 @@
-use Rattle.std.proofs.Common.{◌≡◌, ◌≤◌, ◌<◌, ◌+◌, ◌∙◌, ℕ, true, All, List, length, get_or, take, sum_by, pos, ◌-ℤ◌, sym, ap, refl, subst, arith, w64, to_z}
+use Rattle.std.proofs.Common.{◌≤◌, ◌+◌, ◌∙◌, All, List, length, get_or, take, sum_by, ap, refl, subst, arith, w64, to_z}
 use Rattle.std.proofs.lemmas.List.Sums.{sum_by_more}
 use Rattle.label_field.specs.declared.pair.Pair.{Pair}
 use Rattle.label_field.specs.PairLists.{IsPair}
