@@ -11,7 +11,7 @@ use crate::random::CutAlone;
 use cost_store::{DataCost, SmoothCost};
 use label_field::{Labelling, Pairs};
 use labellings::Move;
-use moves::{Alone, How, MoveError, Problem};
+use moves::{Alone, How, Problem};
 use std::alloc::Global;
 use std::process::Abort;
 use std::test::Fail;
@@ -20,7 +20,7 @@ use std::test::Fail;
 /// sites are left open; 1 where a label changes. Then three data costs of each of 24 sites, three smooth costs of each
 /// of three labels, the labels of 24 sites before and after, and 40 pairs with their weights. A byte is 48 more
 /// than its number.
-pub const BYTES: usize = 257;
+const BYTES: usize = 257;
 
 /// A number of a row.
 fn number(row: &[u8; BYTES], place: usize) -> u32
@@ -47,29 +47,26 @@ fn pairs_of(rt: &impl Abort, alloc: Global, row: &[u8; BYTES], sites: u32) -> Pa
     pairs
 }
 
-/// The labels before the move of a row.
-fn start_of(rt: &impl Abort, alloc: Global, row: &[u8; BYTES], sites: u32, labels: u32) -> Labelling
-    requires { (sites ≤ 24) × (1 ≤ labels) × (labels ≤ 3) }
+/// The labels that stand from this place of a row on.
+fn labels_at(
+    rt: &impl Abort,
+    alloc: Global,
+    row: &[u8; BYTES],
+    at: usize,
+    sites: u32,
+    labels: u32,
+) -> Labelling
+    requires { (sites ≤ 24) × (1 ≤ labels) × (labels ≤ 3) × (at < 200) }
     ensures { (length result.at ≡ sites) × (result.labels ≡ labels) }
 {
     let mut labelling = Labelling::new(alloc, sites, labels).expect(rt, "memory");
     for site in 0..sites {
         labelling
-            .set_label(site, number(row, 89 + site as usize))
+            .set_label(site, number(row, at + site as usize))
             .expect(rt, "a label");
     }
     assert!(*rt; labelling.sites() == sites && labelling.labels() == labels);
     labelling
-}
-
-/// Whether these are the labels of a row after its move.
-fn are_after(labels: &[u8], row: &[u8; BYTES]) -> bool {
-    for (site, label) in labels.iter().enumerate() {
-        if site >= 24 || u32::from(*label) != number(row, 113 + site) {
-            return false;
-        }
-    }
-    true
 }
 
 /// The move of a row, whose labels are below this number.
@@ -86,33 +83,12 @@ fn change_of(row: &[u8; BYTES], labels: u32) -> Move
     }
 }
 
-/// Makes a move, and answers whether a label changes.
-fn make<F: Fn(u32, u32) -> i64, V: Fn(u32, u32) -> i64, H: How>(
-    problem: &Problem<F, V>,
-    alloc: Global,
-    labelling: &mut Labelling,
-    change: Move,
-    how: &H,
-) -> Result<bool, MoveError>
-    requires ready { H.ready how.now }
-    requires sizes { AreSized problem.now.pairs problem.now.data_cost.sites problem.now.data_cost.labels
-        problem.now.smooth_cost.labels labelling.old }
-    requires costs { Keeps (F.pre problem.now.data_cost.f) (F.post problem.now.data_cost.f)
-        problem.now.data_cost.sites problem.now.data_cost.labels data_limit }
-    requires smooth { KeepsSmooth (V.pre problem.now.smooth_cost.v) (V.post problem.now.smooth_cost.v)
-        problem.now.smooth_cost.labels problem.now.smooth_cost.by_metric }
-{
-    match change {
-        Move::Expand(alpha) => problem.expand(alloc, labelling, alpha, how),
-        Move::Swap(alpha, beta) => problem.swap(alloc, labelling, alpha, beta, how),
-    }
-}
-
-/// Whether a move says that a label changes just where one does in the row, and ends with the row's labels.
+/// Whether a move ends with the wanted labels, and says that a label changes just where one does in the row.
 fn ends_right<F: Fn(u32, u32) -> i64, V: Fn(u32, u32) -> i64, H: How>(
     problem: &Problem<F, V>,
     alloc: Global,
     labelling: &mut Labelling,
+    wanted: &Labelling,
     change: Move,
     row: &[u8; BYTES],
     how: &H,
@@ -125,17 +101,21 @@ fn ends_right<F: Fn(u32, u32) -> i64, V: Fn(u32, u32) -> i64, H: How>(
     requires smooth { KeepsSmooth (V.pre problem.now.smooth_cost.v) (V.post problem.now.smooth_cost.v)
         problem.now.smooth_cost.labels problem.now.smooth_cost.by_metric }
 {
-    let told = make(problem, alloc, labelling, change, how);
-    told == Ok(number(row, 7) == 1) && are_after(labelling.as_slice(), row)
+    let told = match change {
+        Move::Expand(alpha) => problem.expand(alloc, labelling, alpha, how),
+        Move::Swap(alpha, beta) => problem.swap(alloc, labelling, alpha, beta, how),
+    };
+    told == Ok(number(row, 7) == 1) && labelling.as_slice() == wanted.as_slice()
 }
 
 /// Whether a move leaves so many sites open as the row says, and ends as it says: with sites decided first, and
-/// without. The labellings are that before the move, twice.
+/// without. The labellings are that before the move, twice, and that after it.
 fn is_told<F: Fn(u32, u32) -> i64, V: Fn(u32, u32) -> i64>(
     problem: &Problem<F, V>,
     alloc: Global,
     labelling: &mut Labelling,
     again: &mut Labelling,
+    wanted: &Labelling,
     row: &[u8; BYTES],
 ) -> Result<bool, Fail>
     requires sizes { AreSized problem.now.pairs problem.now.data_cost.sites problem.now.data_cost.labels
@@ -150,8 +130,8 @@ fn is_told<F: Fn(u32, u32) -> i64, V: Fn(u32, u32) -> i64>(
 {
     let change = change_of(row, problem.data_cost.labels);
     let opened = open_in(alloc, problem, labelling, change)?;
-    let is_known = ends_right(problem, alloc, labelling, change, row, &Alone);
-    let is_cut = ends_right(problem, alloc, again, change, row, &CutAlone);
+    let is_known = ends_right(problem, alloc, labelling, wanted, change, row, &Alone);
+    let is_cut = ends_right(problem, alloc, again, wanted, change, row, &CutAlone);
     Ok(opened == Some(number(row, 6) as usize) && is_known && is_cut)
 }
 
@@ -160,8 +140,9 @@ fn is_right(rt: &impl Abort, alloc: Global, row: &[u8; BYTES]) -> Result<bool, F
     let (sites, labels) = (number(row, 0), number(row, 1));
     assert!(*rt; sites <= 24 && 1 <= labels && labels <= 3);
     let pairs = pairs_of(rt, alloc, row, sites);
-    let mut labelling = start_of(rt, alloc, row, sites, labels);
-    let mut again = start_of(rt, alloc, row, sites, labels);
+    let mut labelling = labels_at(rt, alloc, row, 89, sites, labels);
+    let mut again = labels_at(rt, alloc, row, 89, sites, labels);
+    let wanted = labels_at(rt, alloc, row, 113, sites, labels);
     let problem = Problem {
         pairs,
         data_cost: DataCost::new(
@@ -180,7 +161,7 @@ fn is_right(rt: &impl Abort, alloc: Global, row: &[u8; BYTES]) -> Result<bool, F
             labels,
         ),
     };
-    is_told(&problem, alloc, &mut labelling, &mut again, row)
+    is_told(&problem, alloc, &mut labelling, &mut again, &wanted, row)
 }
 
 #[test]
