@@ -8,7 +8,7 @@ ghost use Rattle.parcel.specs.States.{lane_at, put_lane, block_of, is_border};
 ghost use Rattle.parcel.specs.Soundness.{amount_out};
 ghost use Rattle.parcel.specs.Events.{highest_label};
 ghost use Rattle.block_net.specs.Limits.{arc_limit, block_limit};
-ghost use Rattle.block_net.specs.Split.{CanSplit};
+ghost use Rattle.block_net.specs.Split.{CanSplit, homes_made};
 ghost use Rattle.block_net.specs.Whole.{index_of, is_outer};
 ghost use Rattle.block_core.specs.Views.{whole_in, blocks_in, state_of, IsLaid, IsLong, IsSpot, IsRow, first_of, shown_lane, gave, labelled, pushed, sent, accepted, settled, returned};
 ghost use Rattle.block_core.specs.Parts.{whole_by};
@@ -16,7 +16,7 @@ ghost use Rattle.block_core.specs.ByBlock.{IsToldFrom, IsRelabelled};
 
 use crate::by_block::{label_block, tell_block};
 use crate::lane::Lane;
-use block_net::Parts;
+use block_net::{Parts, homes_of};
 use flow_network::Net;
 use parcel::Direction;
 use std::alloc::{AllocError, Global};
@@ -227,6 +227,13 @@ impl Blocks {
         ensures block { result < self.now.blocks }
     {
         home_of(v, self.net.nodes(), self.parts.blocks.len())
+    }
+
+    /// The block of each node, one byte a node. The only error is that memory runs out.
+    pub fn homes(&self, alloc: Global) -> Result<Vec<u8>, AllocError>
+        ensures { IfOk result (λ homes. homes.items ≡ homes_made self.now.net self.now.blocks) }
+    {
+        homes_of(alloc, &self.net, self.parts.blocks.len())
     }
 
     /// Whether a direction leads to another block.

@@ -1,4 +1,7 @@
-ghost use Rattle.std.specs.Prelude.{◌≡◌, ◌+◌, ◌<◌, IfOk, OnOk, length, replicate, slice_index_or, []};
+ghost use Rattle.std.specs.Prelude.{◌≡◌, ◌+◌, ◌<◌, ◌≤◌, IfOk, OnOk, length, replicate, slice_index_or, []};
+ghost use Rattle.flow_network.specs.Cut.{nodes};
+ghost use Rattle.parcel.specs.States.{block_of};
+ghost use Rattle.block_net.specs.Split.{homes_made};
 ghost use Rattle.block_core.specs.Mails.{room_at};
 ghost use Rattle.block_core.specs.Counting.{put_room, IsCounted};
 
@@ -19,6 +22,17 @@ impl Model for Rooms {
     ghost Value = { List (List ℕ) };
 
     ghost view = { λ r. map (λ row. row.items) r.rows.items };
+}
+
+/// The block of a node, by the list of all.
+fn home_in(blocks: &Blocks, homes: &[u8], v: usize) -> usize
+    requires some { 1 ≤ blocks.now.blocks }
+    requires homes { homes.now ≡ homes_made blocks.now.net blocks.now.blocks }
+    requires node { v < nodes blocks.now.net }
+    ensures value { result ≡ block_of blocks.now.net blocks.now.blocks v }
+    ensures block { result < blocks.now.blocks }
+{
+    homes[v] as usize
 }
 
 impl Rooms {
@@ -72,16 +86,16 @@ impl Rooms {
     }
 
     /// The ways between the blocks of an arc's ends have room for a message of each of its directions.
-    fn count_arc(&mut self, blocks: &Blocks, arc: usize) -> Result<(), AllocError>
+    fn count_arc(&mut self, blocks: &Blocks, homes: &[u8], arc: usize) -> Result<(), AllocError>
+        requires some { 1 ≤ blocks.now.blocks }
+        requires homes { homes.now ≡ homes_made blocks.now.net blocks.now.blocks }
         requires arc { arc < length blocks.now.net.arcs }
         requires counted { IsCounted blocks.now arc self.old }
         ensures { OnOk result (IsCounted blocks.now (arc + 1) self.new) }
     {
         let forward = Direction { arc, back: false };
-        let near = blocks.near(forward);
-        let far = blocks.far(forward);
-        let from = blocks.home(near);
-        let to = blocks.home(far);
+        let from = home_in(blocks, homes, blocks.near(forward));
+        let to = home_in(blocks, homes, blocks.far(forward));
         if from == to {
             return Ok(());
         }
@@ -94,9 +108,11 @@ impl Rooms {
     pub fn count(alloc: Global, blocks: &Blocks) -> Result<Rooms, AllocError>
         ensures { IfOk result (IsCounted blocks.now (length blocks.now.net.arcs)) }
     {
+        let homes = blocks.homes(alloc)?;
+        let homes = homes.as_slice();
         let mut rooms = Rooms::new(alloc, blocks.count())?;
         'arcs: for arc in 0..blocks.arcs() {
-            rooms.count_arc(blocks, arc)?;
+            rooms.count_arc(blocks, homes, arc)?;
         }
         Ok(rooms)
     }

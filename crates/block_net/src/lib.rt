@@ -21,6 +21,7 @@ mod slots;
 
 pub use by_node::ByNode;
 pub use cells::Cells;
+pub use homes::homes_of;
 pub use limits::{ARC_LIMIT, BLOCK_LIMIT};
 pub use parts::Parts;
 pub use rows::{Border, Lane};

@@ -1,0 +1,23 @@
+use Rattle.std.proofs.Common.{◌≡◌, ◌∙◌, ◌<◌, ℕ, List, length, slice_index, ap, sym, subst, arith}
+use Rattle.flow_network.specs.Cut.{nodes}
+use Rattle.parcel.specs.States.{block_of}
+use Rattle.parcel.proofs.Ends.{block_in}
+use Rattle.block_net.proofs.Tables.{length_table, table_at}
+use Rattle.block_core.proofs.rooms.home_in.Goals as goal
+
+pub bounds-homes-v : goal.bounds-homes-v
+bounds-homes-v c =
+    let net = c.args.blocks.now.net in
+    omega (arith, c.requires.node, ap (length {A = ℕ}) c.requires.homes, length_table (nodes net) (block_of net c.args.blocks.now.blocks))
+
+pub returns-clause-value : goal.returns-clause-value
+returns-clause-value c =
+    let net = c.args.blocks.now.net in
+    ap (λ (xs : List ℕ). slice_index xs c.args.v) c.requires.homes ∙ table_at (nodes net) (block_of net c.args.blocks.now.blocks) c.args.v 0 c.requires.node
+
+pub returns-clause-block : goal.returns-clause-block
+returns-clause-block c =
+    let net = c.args.blocks.now.net in
+    let value : slice_index c.args.homes.now c.args.v ≡ block_of net c.args.blocks.now.blocks c.args.v =
+    ap (λ (xs : List ℕ). slice_index xs c.args.v) c.requires.homes ∙ table_at (nodes net) (block_of net c.args.blocks.now.blocks) c.args.v 0 c.requires.node in
+    subst (λ (h : ℕ). h < c.args.blocks.now.blocks) (sym value) (block_in net c.args.blocks.now.blocks c.args.v c.requires.node c.requires.some)
