@@ -1,13 +1,10 @@
 -- Where the nodes of a block stand.
-use Rattle.std.proofs.Common.{◌≡◌, ℕ, ◌+◌, ◌-◌, ◌<◌, ◌≤◌, List, length, slice_index, refl, sym, ◌∙◌, ap, subst, inl, inr, arith}
+use Rattle.std.proofs.Common.{◌≡◌, ℕ, ◌+◌, ◌-◌, ◌<◌, ◌≤◌, List, length, slice_index, sym, ◌∙◌, ap, inl, inr, arith}
 use Rattle.std.proofs.lemmas.Bool.{cases_lt}
 use Rattle.flow_network.specs.Cut.{nodes}
-use Rattle.parcel.specs.States as core
-use Rattle.block_net.specs.declared.parts.Parts.{Parts}
 use Rattle.block_net.specs.Views.{count}
-use Rattle.block_net.specs.Whole.{Whole, LiesAt, block_at, home, place}
-use Rattle.block_core.specs.Views.{blocks_in, IsLaid, IsSpot}
-use Rattle.block_core.specs.Parts.{whole_by, IsIn}
+use Rattle.block_net.specs.Whole.{Whole, block_at, home}
+use Rattle.block_core.specs.Views.{IsLaid, IsSpot}
 use Rattle.global_relabel.specs.Homes.{AreHomes}
 
 -- the table tells a node's block, and so its place

@@ -3,3 +3,4 @@ pub mod ResidualNet
 pub mod Places
 pub mod Seeing
 pub mod Homing
+pub mod Residuals

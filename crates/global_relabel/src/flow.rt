@@ -1,23 +1,67 @@
-ghost use Rattle.std.specs.Prelude.{◌≡◌, ◌-◌, ◌<◌, ℕ, IfOk, length, slice_index};
+ghost use Rattle.std.specs.Prelude.{◌≡◌, ◌+◌, ◌-◌, ◌*◌, ◌<◌, ℕ, IfOk, length, slice_index};
 ghost use Rattle.flow_network.specs.Cut.{nodes};
-ghost use Rattle.flow_network.specs.Preflow.{flow_by};
+ghost use Rattle.flow_network.specs.Preflow.{flow_by, arc_at};
 ghost use Rattle.parcel.specs.Directions.{backward};
 ghost use Rattle.parcel.specs.States.{room_of, residual_of};
 ghost use Rattle.parcel.specs.Soundness.{IsSound};
 ghost use Rattle.parcel.specs.Flows.{shown_flow};
+ghost use Rattle.global_relabel.specs.Homes.{AreHomes};
 
+use crate::homes::homes_of;
 use block_core::State;
-use parcel::Direction;
+use block_net::Parts;
+use flow_network::Net;
 use std::alloc::{AllocError, Global};
 
+/// The blocks of the nodes that an arc leads from and to, by the table of blocks.
+fn ends_homes(net: &Net, homes: &[u8], arc: usize) -> (usize, usize)
+    requires homes { length homes.now ≡ nodes net.now }
+    requires arc { arc < length net.now.arcs }
+    ensures from { result.0 ≡ slice_index homes.now (arc_at net.now arc).from }
+    ensures to { result.1 ≡ slice_index homes.now (arc_at net.now arc).to }
+{
+    let ends = net.arcs()[arc];
+    (
+        homes[ends.from as usize] as usize,
+        homes[ends.to as usize] as usize,
+    )
+}
+
+/// The place of an arc's direction back in the block of the node that the arc leads to.
+fn back_slot(net: &Net, parts: &Parts, arc: usize) -> usize
+    requires slots { length parts.now.slots.items ≡ 2 * length net.now.arcs }
+    requires arc { arc < length net.now.arcs }
+    ensures { result ≡ slice_index parts.now.slots.items (length net.now.arcs + arc) }
+{
+    parts.slots[net.arcs().len() + arc] as usize
+}
+
+/// What can be taken back of an arc, by the table of blocks.
+fn taken_back(state: &State, homes: &[u8], arc: usize) -> u64
+    requires homes { AreHomes state.now.net state.now.blocks homes.now }
+    requires arc { arc < length state.now.net.arcs }
+    ensures { result ≡ residual_of state.now (backward arc) }
+{
+    let parts = state.parts();
+    let (from, to) = ends_homes(state.net(), homes, arc);
+    let slot = back_slot(state.net(), parts, arc);
+    let cells = &parts.blocks[to];
+    if from == to {
+        cells.lane(slot).residual
+    } else {
+        cells.border(slot).residual
+    }
+}
+
 /// What can be taken back of each arc.
-fn write_arc_flow(state: &State, arc_flow: &mut [u64])
-    requires { length arc_flow.old ≡ length state.now.net.arcs }
+fn write_arc_flow(state: &State, homes: &[u8], arc_flow: &mut [u64])
+    requires homes { AreHomes state.now.net state.now.blocks homes.now }
+    requires len { length arc_flow.old ≡ length state.now.net.arcs }
     ensures { (k : ℕ) → k < length state.now.net.arcs →
         slice_index arc_flow.new k ≡ residual_of state.now (backward k) }
 {
     'arcs: for arc in 0..state.arcs() {
-        arc_flow[arc] = state.residual(Direction { arc, back: true });
+        arc_flow[arc] = taken_back(state, homes, arc);
     }
 }
 
@@ -41,9 +85,10 @@ fn write_sink_flow(state: &State, sink_flow: &mut [u64])
 pub fn flow_of(alloc: Global, state: &State) -> Result<(Vec<u64>, Vec<u64>), AllocError>
     ensures { IfOk result (λ flow. flow_by flow.0.items flow.1.items ≡ shown_flow state.now) }
 {
+    let homes = homes_of(alloc, state)?;
     let mut arc_flow = vec![in alloc; 0u64; state.arcs()]?;
     let mut sink_flow = vec![in alloc; 0u64; state.nodes()]?;
-    write_arc_flow(state, arc_flow.as_mut_slice());
+    write_arc_flow(state, homes.as_slice(), arc_flow.as_mut_slice());
     write_sink_flow(state, sink_flow.as_mut_slice());
     Ok((arc_flow, sink_flow))
 }

@@ -225,8 +225,8 @@ fn mark_into(
 }
 
 /// Writes the exact label of each node: a breadth-first search backwards from the sink over what the blocks hold
-/// (Goldberg, Tarjan 1988, section 3). `homes` tells the block of each node, and `order` is room for the search. Takes no
-/// memory.
+/// (Goldberg, Tarjan 1988, section 3). `homes` tells the block of each node, and `order` is room for the search.
+/// Takes no memory.
 pub(crate) fn write_exact(state: &State, homes: &[u8], labels: &mut [u32], order: &mut [u32])
     requires homes { AreHomes state.now.net state.now.blocks homes.now }
     requires len { length labels.old ≡ nodes state.now.net }
