@@ -96,7 +96,12 @@ pub(crate) fn leads_out(net: &Net, blocks: usize, homes: &[u8], direction: Direc
     requires homes { homes.now ≡ homes_made net.now blocks }
     ensures { result ≡ is_border net.now blocks direction }
 {
-    let from = homes[near(net, direction) as usize];
-    let to = homes[far(net, direction) as usize];
+    let tail = near(net, direction);
+    let head = far(net, direction);
+    if blocks == 1 {
+        return false;
+    }
+    let from = homes[tail as usize];
+    let to = homes[head as usize];
     from != to
 }

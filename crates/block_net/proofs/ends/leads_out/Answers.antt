@@ -1,27 +1,36 @@
-use Rattle.std.proofs.Common.{◌≡◌, ◌∙◌, ℕ, List, not, eqb, length, slice_index, ap, arith}
+use Rattle.std.proofs.Common.{◌≡◌, ◌∙◌, ℕ, List, not, eqb, length, slice_index, sym, ap, arith}
 use Rattle.flow_network.specs.Cut.{nodes}
 use Rattle.parcel.specs.Directions.{near, far}
 use Rattle.parcel.specs.States.{block_of}
+use Rattle.parcel.proofs.Ends.{block_in}
 use Rattle.block_net.proofs.Tables.{length_table, table_at}
 use Rattle.block_net.proofs.ends.leads_out.Goals as goal
 
-pub bounds-homes-near : goal.bounds-homes-near
-bounds-homes-near c =
-    omega (arith, c.near.ensures.below, ap (length {A = ℕ}) c.requires.homes, length_table (nodes c.args.net.now) (block_of c.args.net.now c.args.blocks))
+pub bounds-homes-tail : goal.bounds-homes-tail
+bounds-homes-tail c =
+    omega (arith, c.near-tail.ensures.below, ap (length {A = ℕ}) c.requires.homes, length_table (nodes c.args.net.now) (block_of c.args.net.now c.args.blocks))
 
-pub bounds-homes-far : goal.bounds-homes-far
-bounds-homes-far c =
-    omega (arith, c.far.ensures.below, ap (length {A = ℕ}) c.requires.homes, length_table (nodes c.args.net.now) (block_of c.args.net.now c.args.blocks))
+pub bounds-homes-head : goal.bounds-homes-head
+bounds-homes-head c =
+    omega (arith, c.far-head.ensures.below, ap (length {A = ℕ}) c.requires.homes, length_table (nodes c.args.net.now) (block_of c.args.net.now c.args.blocks))
 
 pub returns : goal.returns
 returns c =
     let net = c.args.net.now in
     let home = block_of net c.args.blocks in
     let homes = c.args.homes.now in
-    let n = c.near.result in
-    let f = c.far.result in
+    let n = c.near-tail.result in
+    let f = c.far-head.result in
     let at_near : slice_index homes n ≡ home (near net c.args.direction) =
-    ap (λ (xs : List ℕ). slice_index xs n) c.requires.homes ∙ (table_at (nodes net) home n 0 c.near.ensures.below ∙ ap home c.near.ensures.value) in
+    ap (λ (xs : List ℕ). slice_index xs n) c.requires.homes ∙ (table_at (nodes net) home n 0 c.near-tail.ensures.below ∙ ap home c.near-tail.ensures.value) in
     let at_far : slice_index homes f ≡ home (far net c.args.direction) =
-    ap (λ (xs : List ℕ). slice_index xs f) c.requires.homes ∙ (table_at (nodes net) home f 0 c.far.ensures.below ∙ ap home c.far.ensures.value) in
+    ap (λ (xs : List ℕ). slice_index xs f) c.requires.homes ∙ (table_at (nodes net) home f 0 c.far-head.ensures.below ∙ ap home c.far-head.ensures.value) in
     ap (λ (q : ℕ). not (eqb q (slice_index homes f))) at_near ∙ ap (λ (q : ℕ). not (eqb (home (near net c.args.direction)) q)) at_far
+
+pub returns-then-blocks-eq1 : goal.returns-then-blocks-eq1
+returns-then-blocks-eq1 c =
+    let net = c.args.net.now in
+    let x = c.args.direction in
+    let near_zero : block_of net 1 (near net x) ≡ 0 = omega (arith, block_in net 1 (near net x) (omega (arith, c.near-tail.ensures.value, c.near-tail.ensures.below)) (omega arith)) in
+    let far_zero : block_of net 1 (far net x) ≡ 0 = omega (arith, block_in net 1 (far net x) (omega (arith, c.far-head.ensures.value, c.far-head.ensures.below)) (omega arith)) in
+    rw c.if-blocks-eq1.true (sym (ap (λ (q : ℕ). not (eqb q (block_of net 1 (far net x)))) near_zero ∙ ap (λ (q : ℕ). not (eqb 0 q)) far_zero))
