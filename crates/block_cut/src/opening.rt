@@ -73,8 +73,30 @@ fn send_down(cells: &mut Cells, v: usize)
     }
 }
 
-/// Two passes over the nodes of a block: by rising nodes, each sends on to higher ones, and then by falling nodes, each
-/// to lower ones. So excess goes as far as it can one way, and what the sink has not taken then the other way.
+/// Gives the sink what it can take of the node's excess, and sends the rest to higher nodes, by its last direction
+/// first.
+fn send_again(cells: &mut Cells, v: usize)
+    requires { v < count cells.old }
+    ensures { Opens cells.old cells.new }
+{
+    if cells.excess(v) == 0 {
+        return;
+    }
+    give(cells, v);
+    let (first, end) = cells.range(v);
+    'lanes: for j in (first..end).rev() {
+        if cells.excess(v) == 0 {
+            return;
+        }
+        if cells.lane(j).far as usize > v {
+            send(cells, v, j);
+        }
+    }
+}
+
+/// Three passes over the nodes of a block: by rising nodes, each sends on to higher ones; then by falling nodes, each
+/// to lower ones; then by rising nodes again, each by its last direction first. So excess goes as far as it can one
+/// way, what the sink has not taken then the other way, and what is left goes other ways.
 fn open_block(cells: &mut Cells)
     ensures { Opens cells.old cells.new }
 {
@@ -83,6 +105,9 @@ fn open_block(cells: &mut Cells)
     }
     'down: for v in (0..cells.len()).rev() {
         send_down(cells, v);
+    }
+    'again: for v in 0..cells.len() {
+        send_again(cells, v);
     }
 }
 

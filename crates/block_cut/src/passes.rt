@@ -201,8 +201,7 @@ fn state_of(old: &Snapshot<Pieces>, net: Net, parts: Parts, ways: Mail) -> State
 }
 
 /// Turns of the blocks, in passes, in which each block's nodes first pass on what they have in the reverse of an order:
-/// best the nearest to the sink first. `homes` tells the block of each node; where it does not, a node is passed over.
-/// The only error is that memory runs out.
+/// best the nearest to the sink first. `homes` tells the block of each node. The only error is that memory runs out.
 pub(crate) fn work(
     alloc: Global,
     state: State,

@@ -53,11 +53,11 @@ module _ (w : Whole) (laid : IsLaid w) (b : ℕ) (lb : b < length w.blocks) wher
       → (v : ℕ) → v < nodes w.net → home w v < b + 1 → slice_index new v ≡ home w v
   homes_more old new n size was inside below above v l low = elim (cases_lt (home w v) b) [
     | inl less ↦ elim (cases_lt v first) [
-        | inl before ↦ below v before ∙ was v l less
-        | inr from ↦ elim (cases_lt v (first + n)) [
-            | inl here ↦ absurd (omega (arith, less, inside_is v from (omega (arith, here, size))))
-            | inr after ↦ above v after ∙ was v l less
-        ]
+      | inl before ↦ below v before ∙ was v l less
+      | inr from ↦ elim (cases_lt v (first + n)) [
+        | inl here ↦ absurd (omega (arith, less, inside_is v from (omega (arith, here, size))))
+        | inr after ↦ above v after ∙ was v l less
+      ]
     ]
     | inr high ↦
         let here : home w v ≡ b = omega (arith, high, low) in

@@ -44,15 +44,17 @@ module _ (s : core.State) (p : Parts) (is : IsIn s p) (x : Direction) (l : IsDir
 
   pub lane_is : home w (far s.net x) ≡ b → (j < length B.lanes) × ((lane_in B j).residual ≡ residual_of s x)
   lane_is same =
-      let r = row false (within same) in
-      (lane_below w (blocks_in w) b B x j there r,
-      ap (λ (q : core.Lane). q.residual) (inner_read w (blocks_in w) b B x j there r) ∙ ap (λ (t : core.State). residual_of t x) is.shown)
+      let r = row false (within same) in (
+        lane_below w (blocks_in w) b B x j there r,
+        ap (λ (q : core.Lane). q.residual) (inner_read w (blocks_in w) b B x j there r) ∙ ap (λ (t : core.State). residual_of t x) is.shown,
+      )
 
   pub border_is : home w (far s.net x) ≢ b → (j < length B.borders) × ((border_in B j).residual ≡ residual_of s x)
   border_is other =
-      let r = row true (out_of other) in
-      (border_below w (blocks_in w) b B x j there r,
-      ap (λ (q : core.Lane). q.residual) (border_read w (blocks_in w) b B x j there r) ∙ ap (λ (t : core.State). residual_of t x) is.shown)
+      let r = row true (out_of other) in (
+        border_below w (blocks_in w) b B x j there r,
+        ap (λ (q : core.Lane). q.residual) (border_read w (blocks_in w) b B x j there r) ∙ ap (λ (t : core.State). residual_of t x) is.shown,
+      )
 
 -- the table tells the block of a node
 home_told : (s : core.State) (p : Parts) (homes : List ℕ) (v : ℕ) → IsIn s p → AreHomes s.net s.blocks homes → v < nodes s.net

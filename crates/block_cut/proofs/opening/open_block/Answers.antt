@@ -6,3 +6,6 @@ up-preserved c = opens_more c.args.cells.now c.up.cells c.send_up.new.cells c.up
 
 pub down-preserved : goal.down-preserved
 down-preserved c = opens_more c.args.cells.now c.down.cells c.send_down.new.cells c.down.invariant c.send_down.ensures
+
+pub again-preserved : goal.again-preserved
+again-preserved c = opens_more c.args.cells.now c.again.cells c.send_again.new.cells c.again.invariant c.send_again.ensures

@@ -6,3 +6,6 @@ invariant-up l = Opens l.fn.cells l.cells
 
 abbrev pub invariant-down : goal.invariant-down
 invariant-down l = Opens l.fn.cells l.cells
+
+abbrev pub invariant-again : goal.invariant-again
+invariant-again l = Opens l.fn.cells l.cells

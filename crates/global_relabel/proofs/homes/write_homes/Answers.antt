@@ -36,10 +36,11 @@ each-preserved c =
     let size : c.len.result ≡ count (block_at w c.each.b) = omega (arith, c.len.ensures, ap (λ (B : BlockView). count B) at.is) in
     let blocks : length p.blocks.items ≡ s.blocks = ap (λ (t : State). t.blocks) c.parts-parts.ensures.shown in
     let is = c.write_block.ensures in
-    let was = subst (λ k. (v : ℕ) → v < nodes s.net → block_of s.net k v < c.each.b → slice_index c.each.homes v ≡ block_of s.net k v) (sym blocks) c.each.invariant.1 in
-    (omega (arith, is.len, c.each.invariant.0),
-    subst (λ k. (v : ℕ) → v < nodes s.net → block_of s.net k v < c.each.b + 1 → slice_index c.write_block.new.homes v ≡ block_of s.net k v) blocks
-    (homes_more w laid c.each.b lb c.each.homes c.write_block.new.homes c.len.result size was
-    (λ v low high. is.inside v (omega (arith, low, first)) (omega (arith, high, first)))
-    (λ v low. is.below v (omega (arith, low, first)))
-    (λ v high. is.above v (omega (arith, high, first)))))
+    let was = subst (λ k. (v : ℕ) → v < nodes s.net → block_of s.net k v < c.each.b → slice_index c.each.homes v ≡ block_of s.net k v) (sym blocks) c.each.invariant.1 in (
+      omega (arith, is.len, c.each.invariant.0),
+      subst (λ k. (v : ℕ) → v < nodes s.net → block_of s.net k v < c.each.b + 1 → slice_index c.write_block.new.homes v ≡ block_of s.net k v) blocks
+          (homes_more w laid c.each.b lb c.each.homes c.write_block.new.homes c.len.result size was
+          (λ v low high. is.inside v (omega (arith, low, first)) (omega (arith, high, first)))
+          (λ v low. is.below v (omega (arith, low, first)))
+          (λ v high. is.above v (omega (arith, high, first)))),
+    )
