@@ -23,27 +23,32 @@ told_at w b j =
 abbrev pub told_of : BlocksView → Direction → core.Lane
 told_of a x = told_lane (state_of a [] 0) a.labels x
 
--- the first so many directions from a block to others know the labels of their far ends, and nothing else changed
+-- the first so many directions from a block to others know the labels of their far ends, and
+-- nothing else changed
 pub record IsTelling (old now : Whole) (b many : ℕ) : Type 0 where
   pub laid : IsLaid now
   pub slots : now.slots ≡ old.slots
   pub number : length now.blocks ≡ length old.blocks
   pub borders : length (block_at now b).borders ≡ length (block_at old b).borders
   pub rest : blocks_in now ≡ record (blocks_in old) { lanes = (blocks_in now).lanes }
-  pub told : (x : Direction) → IsDirection old.net x → is_outer old x ≡ true → near_home old x ≡ b → slot old x < many
+  pub told : (x : Direction) → IsDirection old.net x → is_outer old x ≡ true → near_home old x ≡ b
+      → slot old x < many
       → core.lane_at (blocks_in now).lanes x ≡ told_of (blocks_in old) x
-  pub others : (x : Direction) → IsDirection old.net x → (is_outer old x ≡ true → near_home old x ≡ b → many ≤ slot old x)
+  pub others : (x : Direction) → IsDirection old.net x →
+      (is_outer old x ≡ true → near_home old x ≡ b → many ≤ slot old x)
       → core.lane_at (blocks_in now).lanes x ≡ core.lane_at (blocks_in old).lanes x
 
 -- the nodes of a block have the labels that stand in a list, and nothing else changed
 pub record IsLabelled (old now : Whole) (b : ℕ) (labels : List ℕ) : Type 0 where
   pub laid : IsLaid now
   pub rest : blocks_in now ≡ record (blocks_in old) { labels = (blocks_in now).labels }
-  pub here : (v : ℕ) → v < nodes old.net → home old v ≡ b → slice_index (blocks_in now).labels v ≡ slice_index labels v
+  pub here : (v : ℕ) → v < nodes old.net → home old v ≡ b → slice_index (blocks_in now).labels v
+      ≡ slice_index labels v
   pub others : (v : ℕ) → v < nodes old.net → (home old v ≡ b → ⊥)
       → slice_index (blocks_in now).labels v ≡ slice_index (blocks_in old).labels v
 
--- each direction from a block to another knows the label of its far end, and nothing else changed; the net is one
+-- each direction from a block to another knows the label of its far end, and nothing else changed;
+-- the net is one
 pub record IsToldFrom (old new : BlocksView) (b : ℕ) : Type 0 where
   pub net : IsNet old.net
   pub rest : new ≡ record old { lanes = new.lanes }

@@ -17,7 +17,8 @@ fn far_label(net: &Net, parts: &Parts, block: usize, j: usize) -> u32
     requires laid { IsLaid (whole_by net.now parts.now) }
     requires block { block < length parts.now.blocks.items }
     requires place { j < length (block_at (whole_by net.now parts.now) block).borders }
-    ensures row { IsRow (whole_by net.now parts.now) (direction_at (whole_by net.now parts.now) block j) true block j }
+    ensures row { IsRow (whole_by net.now parts.now)
+        (direction_at (whole_by net.now parts.now) block j) true block j }
     ensures value { result ≡ slice_index (blocks_in (whole_by net.now parts.now)).labels
         (far net.now (direction_at (whole_by net.now parts.now) block j)) }
     ensures limit { result ≤ top net.now }

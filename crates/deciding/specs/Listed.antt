@@ -18,4 +18,5 @@ pub record AreListed (move : Move) (f : ℕ → ℕ) (choices : List Choice) (li
   pub count : lists.count ≡ open_count choices
   pub few : IsTrue lists.listed ↔ (lists.count * 8 ≤ length choices)
   pub opened : IsTrue lists.listed → AreOpenSites choices lists.opened.items
-  pub changing : IsTrue lists.listed → IsListing (changes move f choices) (length choices) lists.changing.items
+  pub changing : IsTrue lists.listed → IsListing (changes move f choices)
+      (length choices) lists.changing.items

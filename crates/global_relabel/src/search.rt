@@ -34,7 +34,8 @@ struct Spot {
 /// A node's block and its place there, by the table of blocks.
 fn spot_of(split: &Split<'_>, w: usize) -> (usize, usize)
     requires laid { IsLaid (whole_by split.now.net.now split.now.parts.now) }
-    requires homes { AreHomes split.now.net.now (length split.now.parts.now.blocks.items) split.now.homes.now }
+    requires homes { AreHomes split.now.net.now (length split.now.parts.now.blocks.items)
+        split.now.homes.now }
     requires node { w < nodes split.now.net.now }
     ensures { IsSpot (whole_by split.now.net.now split.now.parts.now) w result.0 result.1 }
 {
@@ -108,7 +109,8 @@ fn mark_lanes(
     ensures grows { Grows label
         (LeadsTo split.now.net.now (shown (whole_by split.now.net.now split.now.parts.now)).lanes at.node)
         (found_of labels.old order.old count) (found_of labels.new order.new result) }
-    ensures marked { AreMarked (whole_by split.now.net.now split.now.parts.now) false at.node label labels.new }
+    ensures marked { AreMarked (whole_by split.now.net.now split.now.parts.now) false at.node label
+        labels.new }
 {
     let cells = &split.parts.blocks[at.block];
     let first = split.parts.firsts[at.block];
@@ -170,7 +172,8 @@ fn mark_borders(
     ensures grows { Grows label
         (LeadsTo split.now.net.now (shown (whole_by split.now.net.now split.now.parts.now)).lanes at.node)
         (found_of labels.old order.old count) (found_of labels.new order.new result) }
-    ensures marked { AreMarked (whole_by split.now.net.now split.now.parts.now) true at.node label labels.new }
+    ensures marked { AreMarked (whole_by split.now.net.now split.now.parts.now) true at.node label
+        labels.new }
 {
     let parts = split.parts;
     let cells = &parts.blocks[at.block];
@@ -202,7 +205,8 @@ fn mark_into(
     w: usize,
 ) -> usize
     requires laid { IsLaid (whole_by split.now.net.now split.now.parts.now) }
-    requires homes { AreHomes split.now.net.now (length split.now.parts.now.blocks.items) split.now.homes.now }
+    requires homes { AreHomes split.now.net.now (length split.now.parts.now.blocks.items)
+        split.now.homes.now }
     requires node { w < nodes split.now.net.now }
     requires len { length labels.old ≡ nodes split.now.net.now }
     requires ready { IsReady (slice_index labels.old w + 1) (found_of labels.old order.old count) }

@@ -46,10 +46,12 @@ rank choices n = sum_below n (λ p. openness (choice_at choices p))
 abbrev pub open_count : List Choice → ℕ
 open_count choices = rank choices (length choices)
 
--- the variable of an open site is the number of the open sites before it; what stands at the others means nothing
+-- the variable of an open site is the number of the open sites before it; what stands at the others
+-- means nothing
 pub record IsNumbering (choices : List Choice) (variables : List ℕ) : Type 0 where
   pub count : length variables ≡ length choices
-  pub each : (p : ℕ) → p < length choices → choice_at choices p ≡ Open → labelling variables p ≡ rank choices p
+  pub each : (p : ℕ) → p < length choices → choice_at choices p ≡ Open → labelling variables p
+      ≡ rank choices p
 
 -- is nothing known of the variable?
 abbrev pub is_open : Choice → Bool

@@ -61,7 +61,8 @@ fn relabel(labelling: &mut Labelling, room: &Room, change: Move) -> bool
     ensures sizes { (labelling.new.labels ≡ labelling.old.labels)
         × (length labelling.new.at ≡ length labelling.old.at) }
     ensures each { (p : ℕ) → p < length labelling.old.at → slice_index labelling.new.at p ≡
-        label_in change (slice_index labelling.old.at p) (site_values room.now.built.variables.choices.items p) }
+        label_in change (slice_index labelling.old.at p)
+            (site_values room.now.built.variables.choices.items p) }
     ensures changed { (IsTrue result → labelling.new.at ≢ labelling.old.at) × (IsFalse result →
         labelling.new.at ≡ labelling.old.at) }
 {
@@ -107,7 +108,8 @@ fn relabel_all(labelling: &mut Labelling, choices: &[Choice], change: Move) -> b
     ensures sizes { (labelling.new.labels ≡ labelling.old.labels)
         × (length labelling.new.at ≡ length labelling.old.at) }
     ensures each { (p : ℕ) → p < length labelling.old.at →
-        slice_index labelling.new.at p ≡ label_in change (slice_index labelling.old.at p) (site_values choices.now p) }
+        slice_index labelling.new.at p ≡ label_in change (slice_index labelling.old.at p)
+            (site_values choices.now p) }
     ensures changed { (IsTrue result → labelling.new.at ≢ labelling.old.at) × (IsFalse result →
         labelling.new.at ≡ labelling.old.at) }
 {
