@@ -109,13 +109,13 @@ impl<F: Fn(u32, u32) -> i64, V: Fn(u32, u32) -> i64> Problem<F, V> {
             Answers (V.post self.now.smooth_cost.v) m.smooth_cost self.now.smooth_cost.labels
             self.now.smooth_cost.labels →
             result ≡ pos (met_at self.now.pairs.list ends.now
-                (moves_site change (labelling at.now) choices.now)
+            (moves_site change (labelling at.now) choices.now)
             (cost_of_pair m (made change (labelling at.now) (site_values choices.now))) site)
             -ℤ pos (met_at self.now.pairs.list ends.now (moves_site change (labelling at.now) choices.now)
             (cost_of_pair m (labelling at.now)) site) }
         ensures range { unsigned_abs result ≤ pair_cost_limit
             * met_at self.now.pairs.list ends.now (moves_site change (labelling at.now) choices.now)
-                (λ pair. 1) site }
+            (λ pair. 1) site }
     {
         let mut total = 0i64;
         for number in 0..ends_at(&self.pairs, ends, site) {
@@ -146,13 +146,13 @@ impl<F: Fn(u32, u32) -> i64, V: Fn(u32, u32) -> i64> Problem<F, V> {
             Answers (V.post self.now.smooth_cost.v) m.smooth_cost self.now.smooth_cost.labels
             self.now.smooth_cost.labels →
             result ≡ pos (moved_met self.now.pairs.list ends.now
-                (moves_site change (labelling at.now) choices.now)
+            (moves_site change (labelling at.now) choices.now)
             (cost_of_pair m (made change (labelling at.now) (site_values choices.now))) site)
             -ℤ pos (moved_met self.now.pairs.list ends.now (moves_site change (labelling at.now) choices.now)
             (cost_of_pair m (labelling at.now)) site) }
         ensures range { unsigned_abs result ≤ pair_cost_limit
             * moved_met self.now.pairs.list ends.now (moves_site change (labelling at.now) choices.now)
-                (λ pair. 1) site }
+            (λ pair. 1) site }
     {
         if !is_moved(at, change, choices, site) {
             return 0;

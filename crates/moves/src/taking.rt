@@ -62,7 +62,7 @@ fn relabel(labelling: &mut Labelling, room: &Room, change: Move) -> bool
         × (length labelling.new.at ≡ length labelling.old.at) }
     ensures each { (p : ℕ) → p < length labelling.old.at → slice_index labelling.new.at p ≡
         label_in change (slice_index labelling.old.at p)
-            (site_values room.now.built.variables.choices.items p) }
+        (site_values room.now.built.variables.choices.items p) }
     ensures changed { (IsTrue result → labelling.new.at ≢ labelling.old.at) × (IsFalse result →
         labelling.new.at ≡ labelling.old.at) }
 {
@@ -109,7 +109,7 @@ fn relabel_all(labelling: &mut Labelling, choices: &[Choice], change: Move) -> b
         × (length labelling.new.at ≡ length labelling.old.at) }
     ensures each { (p : ℕ) → p < length labelling.old.at →
         slice_index labelling.new.at p ≡ label_in change (slice_index labelling.old.at p)
-            (site_values choices.now p) }
+        (site_values choices.now p) }
     ensures changed { (IsTrue result → labelling.new.at ≢ labelling.old.at) × (IsFalse result →
         labelling.new.at ≡ labelling.old.at) }
 {
