@@ -1,6 +1,6 @@
 -- Bounds that are written, their range, and the sites that wait.
 use Rattle.std.proofs.Common.{◌≡◌, ◌≢◌, ℕ, ◌+◌, ◌*◌, ◌<◌, ◌≤◌, Bool, List, [], ◌∷◌, ◌++◌, length, get_or, All, Contains, ℤ, pos, ◌+ℤ◌, ◌-ℤ◌, ◌≤ℤ◌, ◌<ℤ◌, unsigned_abs, refl, sym, ap, ◌∙◌, inl, inr, subst, arith}
-use Rattle.std.specs.Prelude.{slice_set}
+use Rattle.std.specs.Prelude.{◌↔◌, slice_set}
 use Rattle.std.proofs.lemmas.Int.{ints}
 use Rattle.std.proofs.lemmas.Bool.{cases_eq, cases_lt}
 use Rattle.std.proofs.lemmas.List.{get_or-set_same, get_or-set_other, get_or_push, get_or_append_left, length-append, length-set}
@@ -8,9 +8,11 @@ use Rattle.std.proofs.Math.ListN.{get_or-eq_default}
 use Rattle.sums.proofs.IntegerSumLemmas.{abs-add}
 use Rattle.label_field.specs.declared.pair.Pair.{Pair}
 use Rattle.labellings.specs.declared.change.Move.{Move}
-use Rattle.labellings.specs.Energies.{Instance}
-use Rattle.move_energy.specs.declared.choice.Choice.TheVariants.{Open}
-use Rattle.move_energy.specs.Choices.{choice_at}
+use Rattle.labellings.specs.Energies.{Instance, labelling}
+use Rattle.move_energy.specs.declared.choice.Choice.{Choice}
+use Rattle.move_energy.specs.declared.choice.Choice.TheVariants.{Open, One}
+use Rattle.move_energy.specs.Choices.{choice_at, Changes, AreAllOpen}
+use Rattle.move_energy.proofs.Whole.{AreOpenBelow, open_none, open_more, open_all}
 use Rattle.deciding.specs.declared.bounds.Bounds.{Bounds}
 use Rattle.deciding.specs.MoveValues.{data_rise}
 use Rattle.deciding.specs.Working.{bound_at, CanDecide, IsWithinRange, AreUndecided, AreWaiting, AreWaitingBut, AreCounted, Shifts, least_shift, greatest_shift, AddsTerm, CallsUp, IsMarked, IsLooking}
@@ -78,20 +80,19 @@ raised_term pair table a b c d old mid new apart l1 l2 l3 l4 s1 s2 s3 s4 a_is b_
 
 -- ---- sites that are opened
 
-pub record IsOpenedBelow (n : ℕ) (b : Bounds) : Type 0 where
-  pub choices : length b.choices.items ≡ n
+pub record IsOpenedBelow (move : Move) (f : List ℕ) (n : ℕ) (b : Bounds) : Type 0 where
   pub least : length b.least.items ≡ n
   pub greatest : length b.greatest.items ≡ n
-  pub opened : (u : ℕ) → u < n → choice_at b.choices.items u ≡ Open
+  pub opened : AreOpenBelow move f b.choices.items n
   pub none : length b.waiting.items ≡ 0
   pub range : (u : ℕ) → u < n → (unsigned_abs (bound_at b.least.items u) ≤ 10000000) × (unsigned_abs (bound_at b.greatest.items u) ≤ 10000000)
 
-pub opened_none : (b : Bounds) → length b.choices.items ≡ 0 → length b.least.items ≡ 0 → length b.greatest.items ≡ 0 → length b.waiting.items ≡ 0 → IsOpenedBelow 0 b
-opened_none b choices least greatest none = record {
-  choices = choices;
+pub opened_none : (move : Move) (f : List ℕ) (b : Bounds) → length b.choices.items ≡ 0 → length b.least.items ≡ 0 → length b.greatest.items ≡ 0 → length b.waiting.items ≡ 0
+    → IsOpenedBelow move f 0 b
+opened_none move f b choices least greatest none = record {
   least = least;
   greatest = greatest;
-  opened = λ u l. absurd (omega (arith, l));
+  opened = open_none move f b.choices.items choices;
   none = none;
   range = λ u l. absurd (omega (arith, l));
 }
@@ -105,18 +106,13 @@ pushed_before old new x d n u is len l = ap (λ (xs : List _). get_or xs u d) is
 pushed_len : {A : Type 0} (old new : List A) (x : A) (n : ℕ) → new ≡ old ++ x ∷ [] → length old ≡ n → length new ≡ n + 1
 pushed_len old new x n is len = ap (λ (xs : List _). length xs) is ∙ omega (arith, length-append old (x ∷ []), len)
 
-pub opened_more : (n : ℕ) (rise : ℤ) (old new : Bounds) → new.choices.items ≡ old.choices.items ++ Open ∷ [] → new.least.items ≡ old.least.items ++ rise ∷ []
-    → new.greatest.items ≡ old.greatest.items ++ rise ∷ [] → new.waiting ≡ old.waiting → unsigned_abs rise ≤ 10000000 → IsOpenedBelow n old → IsOpenedBelow (n + 1) new
-opened_more n rise old new cs ls gs ws small below = record {
-  choices = pushed_len _ _ Open n cs below.choices;
+pub opened_more : (move : Move) (f : List ℕ) (n : ℕ) (c : Choice) (rise : ℤ) (old new : Bounds) → new.choices.items ≡ old.choices.items ++ c ∷ []
+    → new.least.items ≡ old.least.items ++ rise ∷ [] → new.greatest.items ≡ old.greatest.items ++ rise ∷ [] → new.waiting ≡ old.waiting
+    → c ≡ Open ↔ Changes move (labelling f n) → c ≢ One → unsigned_abs rise ≤ 10000000 → IsOpenedBelow move f n old → IsOpenedBelow move f (n + 1) new
+opened_more move f n c rise old new cs ls gs ws own never small below = record {
   least = pushed_len _ _ rise n ls below.least;
   greatest = pushed_len _ _ rise n gs below.greatest;
-  opened = λ u l. elim (cases_lt u n) [
-    | inl before ↦ pushed_before _ _ Open _ n u cs below.choices before ∙ below.opened u before
-    | inr at ↦
-        let here : n ≡ u = omega (arith, at, l) in
-        sym (ap (choice_at new.choices.items) here) ∙ pushed_at _ _ Open _ n cs below.choices
-  ];
+  opened = open_more move f old.choices.items new.choices.items n c cs own never below.opened;
   none = ap (λ (v : _). length v.items) ws ∙ below.none;
   range = λ u l. elim (cases_lt u n) [
     | inl before ↦
@@ -135,8 +131,9 @@ opened_more n rise old new cs ls gs ws small below = record {
 abbrev pub AreOwn : Instance → Move → (ℕ → ℕ) → ℕ → Bounds → Type 0
 AreOwn m move f n b = (u : ℕ) → u < n → (bound_at b.least.items u ≡ data_rise m move f u) × (bound_at b.greatest.items u ≡ data_rise m move f u)
 
-pub own_more : (m : Instance) (move : Move) (f : ℕ → ℕ) (n : ℕ) (rise : ℤ) (old new : Bounds) → IsOpenedBelow n old → new.least.items ≡ old.least.items ++ rise ∷ []
-    → new.greatest.items ≡ old.greatest.items ++ rise ∷ [] → rise ≡ data_rise m move f n → AreOwn m move f n old → AreOwn m move f (n + 1) new
+pub own_more : (m : Instance) (move : Move) (f : List ℕ) (n : ℕ) (rise : ℤ) (old new : Bounds) → IsOpenedBelow move f n old → new.least.items ≡ old.least.items ++ rise ∷ []
+    → new.greatest.items ≡ old.greatest.items ++ rise ∷ [] → rise ≡ data_rise m move (labelling f) n → AreOwn m move (labelling f) n old
+    → AreOwn m move (labelling f) (n + 1) new
 own_more m move f n rise old new below ls gs is own u l = elim (cases_lt u n) [
   | inl before ↦ (
     pushed_before _ _ rise (pos 0) n u ls below.least before ∙ (own u before).0,
@@ -144,23 +141,23 @@ own_more m move f n rise old new below ls gs is own u l = elim (cases_lt u n) [
   )
   | inr at ↦
       let here : n ≡ u = omega (arith, at, l) in (
-        sym (ap (bound_at new.least.items) here) ∙ pushed_at _ _ rise (pos 0) n ls below.least ∙ is ∙ ap (data_rise m move f) here,
-        sym (ap (bound_at new.greatest.items) here) ∙ pushed_at _ _ rise (pos 0) n gs below.greatest ∙ is ∙ ap (data_rise m move f) here,
+        sym (ap (bound_at new.least.items) here) ∙ pushed_at _ _ rise (pos 0) n ls below.least ∙ is ∙ ap (data_rise m move (labelling f)) here,
+        sym (ap (bound_at new.greatest.items) here) ∙ pushed_at _ _ rise (pos 0) n gs below.greatest ∙ is ∙ ap (data_rise m move (labelling f)) here,
       )
 ]
 
-pub opened_all : (n : ℕ) (b : Bounds) → IsOpenedBelow n b → AreUndecided n b
-opened_all n b below = record {
-  sized = record { choices = below.choices; least = below.least; greatest = below.greatest };
-  opened = below.opened;
+pub opened_all : (move : Move) (f : List ℕ) (n : ℕ) (b : Bounds) → n ≡ length f → IsOpenedBelow move f n b → AreUndecided move f b
+opened_all move f n b all below = record {
+  sized = record { choices = below.opened.count ∙ all; least = below.least ∙ all; greatest = below.greatest ∙ all };
+  opened = open_all move f b.choices.items n all below.opened;
   none = below.none;
 }
 
 past_end : (xs : List ℤ) (n u : ℕ) → length xs ≡ n → n ≤ u → unsigned_abs (bound_at xs u) ≤ 10000000
 past_end xs n u len l = (let e = ap unsigned_abs (get_or-eq_default xs (pos 0) {n = u} (omega (arith, len, l))) in omega (arith, e))
 
-pub opened_range : (n : ℕ) (b : Bounds) → IsOpenedBelow n b → IsWithinRange 10000000 b
-opened_range n b below u = elim (cases_lt u n) [
+pub opened_range : (move : Move) (f : List ℕ) (n : ℕ) (b : Bounds) → IsOpenedBelow move f n b → IsWithinRange 10000000 b
+opened_range move f n b below u = elim (cases_lt u n) [
   | inl before ↦ below.range u before
   | inr past ↦ (past_end b.least.items n u below.least past, past_end b.greatest.items n u below.greatest past)
 ]
@@ -293,37 +290,79 @@ raise_more_fits y z h k = omega (arith, h, k)
 
 -- ---- the sites that wait at the beginning
 
-pub called_more : (n k : ℕ) (old new first : Bounds) → k < n → new.choices ≡ old.choices → new.least ≡ old.least → new.greatest ≡ old.greatest → CallsUp k old new
-    → ((u : ℕ) → CanDecide first u → CanDecide old u)
-    → ((u : ℕ) → u < k → CanDecide first u → Contains old.waiting.items u) → (u : ℕ) → u < k + 1 → CanDecide first u → Contains new.waiting.items u
-called_more n k old new first l cs ls gs calls same before u below tells = elim (cases_lt u k) [
-  | inl earlier ↦ calls.kept u (before u earlier tells)
-  | inr at ↦
-      let here : k ≡ u = omega (arith, at, below) in
-      let C : ℕ → Type 0 = λ v. Contains new.waiting.items v in
-      let D : ℕ → Type 0 = λ v. CanDecide first v in
-      subst C here (calls.called (same k (subst D (sym here) tells)))
-]
+-- of the first k sites those wait that are open and whose bounds tell their value
+pub record AreCalled (first : Bounds) (k : ℕ) (b : Bounds) : Type 0 where
+  pub choices : b.choices ≡ first.choices
+  pub least : b.least ≡ first.least
+  pub greatest : b.greatest ≡ first.greatest
+  pub sites : All (λ u. u < length first.choices.items) b.waiting.items
+  pub each : (u : ℕ) → u < k → choice_at first.choices.items u ≡ Open → CanDecide first u → Contains b.waiting.items u
+  pub few : length b.waiting.items ≤ k
 
-pub can_same : (old new : Bounds) (u : ℕ) → new.least ≡ old.least → new.greatest ≡ old.greatest → CanDecide old u → CanDecide new u
+can_same : (old new : Bounds) (u : ℕ) → new.least ≡ old.least → new.greatest ≡ old.greatest → CanDecide old u → CanDecide new u
 can_same old new u ls gs tells =
     tells_same new old u (sym (ap (λ (v : _). bound_at v.items u) ls)) (sym (ap (λ (v : _). bound_at v.items u) gs)) tells
 
-pub all_called : (n : ℕ) (first now : Bounds) → now.least ≡ first.least → now.greatest ≡ first.greatest → All (λ u. u < n) now.waiting.items
-    → ((u : ℕ) → u < n → CanDecide first u → Contains now.waiting.items u) → AreWaiting n now
-all_called n first now ls gs sites each = record {
-  sites = sites;
-  each = λ u l other opened tells. each u l (can_same now first u (sym ls) (sym gs) tells);
+pub called_none : (first : Bounds) → length first.waiting.items ≡ 0 → AreCalled first 0 first
+called_none first none = record {
+  choices = refl;
+  least = refl;
+  greatest = refl;
+  sites = λ k d l. absurd (omega (arith, l, none));
+  each = λ u below. absurd (omega (arith, below));
+  few = omega (arith, none);
 }
 
-pub undecided_kept : (n : ℕ) (old new : Bounds) → new.choices ≡ old.choices → new.waiting ≡ old.waiting → length new.least.items ≡ length old.least.items → length new.greatest.items ≡ length old.greatest.items
-    → AreUndecided n old → AreUndecided n new
-undecided_kept n old new cs ws ls gs was = record {
+-- an open site is called up
+pub called_more : (first : Bounds) (k : ℕ) (old new : Bounds) → k < length first.choices.items → new.choices ≡ old.choices → new.least ≡ old.least → new.greatest ≡ old.greatest
+    → CallsUp k old new → AreCalled first k old → AreCalled first (k + 1) new
+called_more first k old new l cs ls gs calls before = record {
+  choices = cs ∙ before.choices;
+  least = ls ∙ before.least;
+  greatest = gs ∙ before.greatest;
+  sites = calls.sites (length first.choices.items) l before.sites;
+  each = λ u below opened tells. elim (cases_lt u k) [
+    | inl earlier ↦ calls.kept u (before.each u earlier opened tells)
+    | inr at ↦
+        let here : k ≡ u = omega (arith, at, below) in
+        let C : ℕ → Type 0 = λ v. Contains new.waiting.items v in
+        let D : ℕ → Type 0 = λ v. CanDecide first v in
+        subst C here (calls.called (can_same first old k before.least before.greatest (subst D (sym here) tells)))
+  ];
+  few = omega (arith, calls.more, before.few);
+}
+
+-- any other is left out
+pub called_others : (first : Bounds) (k : ℕ) (b : Bounds) → choice_at b.choices.items k ≢ Open → AreCalled first k b → AreCalled first (k + 1) b
+called_others first k b closed before = record {
+  choices = before.choices;
+  least = before.least;
+  greatest = before.greatest;
+  sites = before.sites;
+  each = λ u below opened tells. elim (cases_eq u k) [
+    | inl here ↦ absurd (closed (ap (λ (v : _). choice_at v.items k) before.choices ∙ sym (ap (choice_at first.choices.items) here) ∙ opened))
+    | inr other ↦ before.each u (omega (arith, below, other)) opened tells
+  ];
+  few = omega (arith, before.few);
+}
+
+pub all_called : (n : ℕ) (first now : Bounds) → length first.choices.items ≡ n → AreCalled first n now → AreWaiting n now
+all_called n first now all called =
+    let P : ℕ → Type 0 = λ k. All (λ u. u < k) now.waiting.items in
+    record {
+      sites = subst P all called.sites;
+      each = λ u l other opened tells.
+          called.each u l (ap (λ (v : _). choice_at v.items u) (sym called.choices) ∙ opened) (can_same now first u (sym called.least) (sym called.greatest) tells);
+    }
+
+pub undecided_kept : (move : Move) (f : List ℕ) (old new : Bounds) → new.choices ≡ old.choices → new.waiting ≡ old.waiting → length new.least.items ≡ length old.least.items
+    → length new.greatest.items ≡ length old.greatest.items → AreUndecided move f old → AreUndecided move f new
+undecided_kept move f old new cs ws ls gs was = record {
   sized = record {
     choices = ap (λ (v : _). length v.items) cs ∙ was.sized.choices;
     least = ls ∙ was.sized.least;
     greatest = gs ∙ was.sized.greatest;
   };
-  opened = λ u l. ap (λ (v : _). choice_at v.items u) cs ∙ was.opened u l;
+  opened = (let P : List Choice → Type 0 = λ xs. AreAllOpen move f xs in subst P (ap (λ (v : _). v.items) (sym cs)) was.opened);
   none = ap (λ (v : _). length v.items) ws ∙ was.none;
 }

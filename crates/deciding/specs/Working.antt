@@ -7,16 +7,16 @@ use Rattle.grouping.specs.declared.Groups.{Groups}
 use Rattle.label_field.specs.declared.pair.Pair.{Pair}
 use Rattle.labellings.specs.declared.change.Move.{Move}
 use Rattle.labellings.specs.Energies.{Instance}
-use Rattle.labellings.specs.Moves.{IsAllowed}
+use Rattle.labellings.specs.Moves.{IsAllowed, IsRegularPair}
 use Rattle.move_energy.specs.declared.error.BuildError.{BuildError}
 use Rattle.move_energy.specs.Problems.{IsPrepareRefusal}
 use Rattle.move_energy.specs.declared.choice.Choice.{Choice}
 use Rattle.move_energy.specs.declared.choice.Choice.TheVariants.{Open}
 use Rattle.by_site.specs.BySite.{degree}
-use Rattle.move_energy.specs.Choices.{bit_of, choice_at, is_open}
+use Rattle.move_energy.specs.Choices.{bit_of, choice_at, is_open, AreAllOpen}
 use Rattle.deciding.specs.Limits.{surplus_limit, bound_limit}
 use Rattle.deciding.specs.Decisions.{Decision, set_bit, put, rise, HavePassed}
-use Rattle.deciding.specs.MoveValues.{move_value, data_rise, pair_rise}
+use Rattle.deciding.specs.MoveValues.{move_value, data_rise, pair_rise, term_of}
 use Rattle.deciding.specs.declared.bounds.Bounds.{Bounds}
 
 -- the two sites are the ends of the pair
@@ -56,10 +56,10 @@ pub record IsSized (n : ℕ) (b : Bounds) : Type 0 where
   pub least : length b.least.items ≡ n
   pub greatest : length b.greatest.items ≡ n
 
--- nothing is decided, and no site waits
-pub record AreUndecided (n : ℕ) (b : Bounds) : Type 0 where
-  pub sized : IsSized n b
-  pub opened : (u : ℕ) → u < n → choice_at b.choices.items u ≡ Open
+-- exactly the sites that the move can change are open, the others are at 0, and no site waits
+pub record AreUndecided (move : Move) (f : List ℕ) (b : Bounds) : Type 0 where
+  pub sized : IsSized (length f) b
+  pub opened : AreAllOpen move f b.choices.items
   pub none : length b.waiting.items ≡ 0
 
 -- no bound is larger
@@ -78,7 +78,7 @@ pub record AreWaitingBut (n but : ℕ) (b : Bounds) : Type 0 where
 abbrev pub AreWaiting : ℕ → Bounds → Type 0
 AreWaiting n b = AreWaitingBut n n b
 
--- nothing is decided, and the bounds count the sites' own costs and the first k pairs
+-- the bounds count the sites' own costs and the first k pairs, with all other sites at 1 and at 0
 pub record AreCounted (m : Instance) (move : Move) (f : ℕ → ℕ) (k : ℕ) (b : Bounds) : Type 0 where
   pub least : (u : ℕ) → u < m.sites
       → bound_at b.least.items u
@@ -141,6 +141,12 @@ pub record AddsTerm (pair : Pair) (table : List ℤ) (old new : Bounds) : Type 0
   pub others : (u : ℕ) → u ≢ pair.first → u ≢ pair.second
       → (bound_at new.least.items u ≡ bound_at old.least.items u)
       × (bound_at new.greatest.items u ≡ bound_at old.greatest.items u)
+
+-- what the counting of a pair answers: its term is regular, and is counted; or it is not
+abbrev pub IsTermCounted : Instance → Move → (ℕ → ℕ) → Pair → Bounds → Bounds → Bool → Type 0
+IsTermCounted m move f pair old new true =
+    IsRegularPair m move f pair × AddsTerm pair (term_of m move f pair) old new
+IsTermCounted m move f pair old new false = ¬ IsRegularPair m move f pair
 
 -- the other costs of a site whose neighbour is now 1, or now 0
 abbrev pub least_shift : Bool → ℤ → ℤ

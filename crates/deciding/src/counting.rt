@@ -1,17 +1,17 @@
-//! The bounds of all sites with nothing decided.
-ghost use Rattle.std.specs.Prelude.{◌≡◌, ◌≢◌, ◌<◌, ◌≤◌, ◌+◌, ◌*◌, ◌^◌, ℕ, ℤ, pos, ◌-ℤ◌, ◌≤ℤ◌, ◌++◌, ◌∷◌, [], All, length, unsigned_abs, OnOk, true, false};
+//! The bounds of all sites before any that a move can change is decided.
+ghost use Rattle.std.specs.Prelude.{◌≡◌, ◌≢◌, ◌<◌, ◌≤◌, ◌+◌, ◌*◌, ◌^◌, ℕ, ℤ, pos, ◌-ℤ◌, ◌≤ℤ◌, ◌⊎◌, ◌↔◌, ◌++◌, ◌∷◌, [], All, length, unsigned_abs, OnOk, IsTrue, true, false};
 ghost use Rattle.label_field.specs.Limits.{site_limit};
 ghost use Rattle.label_field.specs.PairLists.{IsPair, IsPairList};
 ghost use Rattle.labellings.specs.Energies.{Instance, labelling};
 ghost use Rattle.labellings.specs.Moves.{IsMoveOf};
 ghost use Rattle.cost_store.specs.Limits.{data_limit};
 ghost use Rattle.cost_store.specs.Promises.{Keeps, KeepsSmooth, Answers, IsCost};
-ghost use Rattle.move_energy.specs.declared.choice.Choice.TheVariants.{Open};
-ghost use Rattle.move_energy.specs.Choices.{choice_at};
+ghost use Rattle.move_energy.specs.declared.choice.Choice.TheVariants.{Open, One};
+ghost use Rattle.move_energy.specs.Choices.{choice_at, Changes};
 ghost use Rattle.deciding.specs.MoveValues.{term_of};
 ghost use Rattle.move_energy.specs.Limits.{site_cost_limit, pair_cost_limit};
 ghost use Rattle.deciding.specs.Limits.{surplus_limit};
-ghost use Rattle.deciding.specs.Working.{bound_at, IsSized, IsWithinRange, AreCounted, AreUndecided, AddsTerm, AreWaiting, AreTermsCounted};
+ghost use Rattle.deciding.specs.Working.{bound_at, IsSized, IsWithinRange, AreCounted, AreUndecided, AddsTerm, AreWaiting, IsTermCounted, AreTermsCounted};
 
 use crate::Bounds;
 use crate::costs::{data_rise, is_allowed, term};
@@ -31,6 +31,19 @@ fn difference(table: &[i64; 4], more: usize, less: usize) -> i64
     table[more] - table[less]
 }
 
+/// What is known of a site before anything is counted. Where the move cannot change its label its value makes no
+/// difference, and is 0.
+fn first_choice(change: Move, label: u32) -> Choice
+    ensures opened { (result ≡ Open) ↔ Changes change label }
+    ensures none { result ≢ One }
+{
+    if change.can_change(label) {
+        Choice::Open
+    } else {
+        Choice::Zero
+    }
+}
+
 impl Bounds {
     /// Makes room for so many sites, and forgets what was known.
     fn clear(&mut self, sites: usize) -> Result<(), AllocError>
@@ -48,20 +61,20 @@ impl Bounds {
         Ok(())
     }
 
-    /// Adds a site of which nothing is decided.
-    fn add_site(&mut self, rise: i64) -> Result<(), AllocError>
-        ensures choices { OnOk result (self.new.choices.items ≡ self.old.choices.items ++ Open ∷ []) }
+    /// Adds a site with what is known of its value.
+    fn add_site(&mut self, choice: Choice, rise: i64) -> Result<(), AllocError>
+        ensures choices { OnOk result (self.new.choices.items ≡ self.old.choices.items ++ choice ∷ []) }
         ensures least { OnOk result (self.new.least.items ≡ self.old.least.items ++ rise ∷ []) }
         ensures greatest { OnOk result (self.new.greatest.items ≡ self.old.greatest.items ++ rise ∷ []) }
         ensures same { OnOk result (self.new.waiting ≡ self.old.waiting) }
     {
-        self.choices.push(Choice::Open)?;
+        self.choices.push(choice)?;
         self.least.push(rise)?;
         self.greatest.push(rise)?;
         Ok(())
     }
 
-    /// Opens every site, and counts what its own label costs it.
+    /// Opens the sites that the move can change, and counts what its own label costs each. The others are at 0.
     pub(crate) fn count_sites<F: Fn(u32, u32) -> i64>(
         &mut self,
         data_cost: &DataCost<F>,
@@ -73,7 +86,7 @@ impl Bounds {
         requires sites { (length at.now ≡ data_cost.now.sites) × (length at.now ≤ site_limit) }
         requires labels { All (λ label. label < data_cost.now.labels) at.now }
         requires change { IsMoveOf data_cost.now.labels change }
-        ensures undecided { OnOk result (AreUndecided (length at.now) self.new) }
+        ensures undecided { OnOk result (AreUndecided change at.now self.new) }
         ensures range { OnOk result (IsWithinRange site_cost_limit self.new) }
         ensures counted { OnOk result ((m : Instance) → m.sites ≡ length at.now →
             Answers (F.post data_cost.now.f) m.data_cost data_cost.now.sites data_cost.now.labels →
@@ -81,8 +94,9 @@ impl Bounds {
     {
         self.clear(at.len())?;
         for site in 0..at.len() {
-            let rise = data_rise(data_cost, change, site as u32, u32::from(at[site]));
-            self.add_site(rise)?;
+            let label = u32::from(at[site]);
+            let rise = data_rise(data_cost, change, site as u32, label);
+            self.add_site(first_choice(change, label), rise)?;
         }
         Ok(())
     }
@@ -106,6 +120,49 @@ impl Bounds {
         self.raise(second, difference(table, 3, 2), difference(table, 1, 0));
     }
 
+    /// Whether one end of a pair is open.
+    fn has_open_end(&self, pair: Pair) -> bool
+        requires { IsPair (length self.now.choices.items) pair }
+        ensures { IsTrue result ↔ ((choice_at self.now.choices.items pair.first ≡ Open)
+            ⊎ (choice_at self.now.choices.items pair.second ≡ Open)) }
+    {
+        self.choices[pair.first as usize].is_open() || self.choices[pair.second as usize].is_open()
+    }
+
+    /// Counts a pair if its term is regular, and answers whether it is. The term of a pair of which the move can change no
+    /// end is, and adds nothing, so it is not looked at.
+    fn count_pair<V: Fn(u32, u32) -> i64>(
+        &mut self,
+        smooth_cost: &SmoothCost<V>,
+        at: &[u8],
+        change: Move,
+        pair: Pair,
+    ) -> bool
+        requires smooth { KeepsSmooth (V.pre smooth_cost.now.v) (V.post smooth_cost.now.v)
+            smooth_cost.now.labels smooth_cost.now.by_metric }
+        requires labels { All (λ label. label < smooth_cost.now.labels) at.now }
+        requires change { IsMoveOf smooth_cost.now.labels change }
+        requires pair { IsPair (length at.now) pair }
+        requires undecided { AreUndecided change at.now self.old }
+        requires range { IsWithinRange (2 ^ 60) self.old }
+        ensures undecided { AreUndecided change at.now self.new }
+        ensures range { (most : ℕ) → IsWithinRange most self.old →
+            IsWithinRange (most + surplus_limit) self.new }
+        ensures counted { (m : Instance) →
+            Answers (V.post smooth_cost.now.v) m.smooth_cost smooth_cost.now.labels smooth_cost.now.labels →
+            IsTermCounted m change (labelling at.now) pair self.old self.new result }
+    {
+        if !self.has_open_end(pair) {
+            return true;
+        }
+        let table = term(smooth_cost, at, change, pair);
+        if !is_allowed(smooth_cost, &table) {
+            return false;
+        }
+        self.add_term(pair, &table);
+        true
+    }
+
     /// Counts each pair, or refuses the first whose term is not regular. Smooth costs that were stored as a metric are not
     /// tested.
     pub(crate) fn count_pairs<V: Fn(u32, u32) -> i64>(
@@ -120,10 +177,10 @@ impl Bounds {
         requires sites { length at.now ≡ pairs.now.sites }
         requires labels { All (λ label. label < smooth_cost.now.labels) at.now }
         requires change { IsMoveOf smooth_cost.now.labels change }
-        requires undecided { AreUndecided (length at.now) self.old }
+        requires undecided { AreUndecided change at.now self.old }
         requires range { IsWithinRange site_cost_limit self.old }
         requires list { IsPairList pairs.now }
-        ensures undecided { OnOk result (AreUndecided (length at.now) self.new) }
+        ensures undecided { OnOk result (AreUndecided change at.now self.new) }
         ensures range { OnOk result (IsWithinRange
             (site_cost_limit + surplus_limit * length pairs.now.list) self.new) }
         ensures counted { (m : Instance) →
@@ -133,18 +190,17 @@ impl Bounds {
     {
         for index in 0..pairs.len() {
             let pair = pairs.get(index);
-            let table = term(smooth_cost, at, change, pair);
-            if !is_allowed(smooth_cost, &table) {
+            if !self.count_pair(smooth_cost, at, change, pair) {
                 return Err(BuildError::PairNotRegular(index));
             }
-            self.add_term(pair, &table);
         }
         Ok(())
     }
 
-    /// Lets each site wait whose bounds tell its value.
+    /// Lets each open site wait whose bounds tell its value.
     pub(crate) fn find_waiting(&mut self) -> Result<(), AllocError>
-        requires undecided { AreUndecided (length self.old.choices.items) self.old }
+        requires sized { IsSized (length self.old.choices.items) self.old }
+        requires none { length self.old.waiting.items ≡ 0 }
         requires sites { length self.old.choices.items ≤ site_limit }
         ensures same { (self.new.choices ≡ self.old.choices) × (self.new.least ≡ self.old.least)
             × (self.new.greatest ≡ self.old.greatest) }
@@ -152,7 +208,9 @@ impl Bounds {
         ensures few { OnOk result (length self.new.waiting.items ≤ length self.old.choices.items) }
     {
         for site in 0..self.choices.len() {
-            self.call_up(site as u32)?;
+            if self.choices[site].is_open() {
+                self.call_up(site as u32)?;
+            }
         }
         Ok(())
     }

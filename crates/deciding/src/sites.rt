@@ -58,8 +58,9 @@ impl Deciding {
     /// the open sites do. Refused: the first pair whose term is not regular; smooth costs that were stored as a metric are not
     /// tested, since a metric makes no other term.
     ///
-    /// It looks at each pair once, and once more for each of its ends that is decided (Iyer, Jegelka, Bilmes, ICML 2013).
-    /// Then `lists` has how many sites are open, and lists them where they are few.
+    /// Sites that the move cannot change are `Zero` from the beginning. It looks at each pair with another end once, and once
+    /// more for each such end that is decided (Iyer, Jegelka, Bilmes, ICML 2013). Then `lists` has how many sites are open,
+    /// and lists them where they are few.
     pub fn decide<F: Fn(u32, u32) -> i64, V: Fn(u32, u32) -> i64>(
         &mut self,
         pairs: &Pairs,

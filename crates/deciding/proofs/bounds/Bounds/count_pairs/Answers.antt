@@ -1,4 +1,4 @@
-use Rattle.std.proofs.Common.{◌≡◌, ◌<◌, ◌+◌, ◌*◌, ◌∙◌, ℕ, ℤ, List, All, length, get_or, ap, subst, sym, arith}
+use Rattle.std.proofs.Common.{◌≡◌, ◌<◌, ◌+◌, ◌*◌, ◌∙◌, ℕ, List, All, length, get_or, ap, subst, sym, arith}
 use Rattle.std.proofs.lemmas.List.{take_all}
 use Rattle.std.proofs.lemmas.List.Elements.{All-more}
 use Rattle.std.proofs.lemmas.Option.{get_or_from_slice_get}
@@ -6,10 +6,10 @@ use Rattle.label_field.specs.declared.pair.Pair.{Pair}
 use Rattle.label_field.specs.PairLists.{IsPair}
 use Rattle.labellings.specs.Energies.{labelling}
 use Rattle.labellings.specs.Moves.{IsRegularPair}
-use Rattle.std.specs.Prelude.{slice_get}
-use Rattle.deciding.specs.Working.{AddsTerm, AreCounted}
-use Rattle.deciding.proofs.Ranges.{range_wider, undecided_kept}
-use Rattle.deciding.proofs.Seeing.{count_term, labels_below}
+use Rattle.std.specs.Prelude.{Bool, slice_get}
+use Rattle.deciding.specs.Working.{AreCounted, IsTermCounted}
+use Rattle.deciding.proofs.Ranges.{range_wider}
+use Rattle.deciding.proofs.Seeing.{count_term}
 use Rattle.deciding.proofs.bounds.Bounds.count_pairs.Goals as goal
 
 pub loop-index-init : goal.loop-index-init
@@ -20,14 +20,15 @@ loop-index-init g c = record {
   counted = λ m answers same counted. counted;
 }
 
-pub add_term-requires : goal.add_term-requires
-add_term-requires g c =
-    let sized = c.loop-index.invariant.undecided.sized in
+pub count_pair-requires : goal.count_pair-requires
+count_pair-requires g c =
     let P : ℕ → Type 0 = λ n. IsPair n c.get-pair.result in
     record {
-      pair = subst P (sym (sized.least ∙ c.requires.sites)) c.get-pair.ensures.pair;
-      sized = sized.greatest ∙ sym sized.least;
-      table = c.term-table.ensures.range;
+      smooth = c.requires.smooth;
+      labels = c.requires.labels;
+      change = c.requires.change;
+      pair = subst P (sym c.requires.sites) c.get-pair.ensures.pair;
+      undecided = c.loop-index.invariant.undecided;
       range = range_wider (10000000 + 20000000 * c.loop-index.index) 1152921504606846976 c.loop-index.self
           (omega (arith, c.loop-index-test.true, c.len-index-end.ensures.value, c.requires.list.count)) c.loop-index.invariant.range;
     }
@@ -35,40 +36,35 @@ add_term-requires g c =
 pub loop-index-preserved : goal.loop-index-preserved
 loop-index-preserved g c =
     let a = c.args in
-    let e = c.add_term.ensures in
+    let f = labelling a.at.now in
+    let e = c.count_pair.ensures in
     let within : c.loop-index.index < length a.pairs.now.list = omega (arith, c.loop-index-test.true, c.len-index-end.ensures.value) in
+    let read = λ (ps : List Pair) (same : ps ≡ a.pairs.now.list). ap (λ (xs : List Pair). get_or xs c.loop-index.index c.get-pair.result) same
+    ∙ get_or_from_slice_get a.pairs.now.list c.loop-index.index c.get-pair.result c.get-pair.result c.get-pair.ensures.value in
+    let inside : (ps : List Pair) → ps ≡ a.pairs.now.list → c.loop-index.index < length ps = λ ps same. omega (arith, within, ap (λ (xs : List Pair). length xs) same) in
     record {
-      undecided = undecided_kept (length a.at.now) c.loop-index.self c.add_term.new.self e.same.0 e.same.1 e.sized.0 e.sized.1 c.loop-index.invariant.undecided;
-      range = range_wider (10000000 + 20000000 * c.loop-index.index + 20000000) (10000000 + 20000000 * (c.loop-index.index + 1)) c.add_term.new.self (omega arith)
+      undecided = e.undecided;
+      range = range_wider (10000000 + 20000000 * c.loop-index.index + 20000000) (10000000 + 20000000 * (c.loop-index.index + 1)) c.count_pair.new.self (omega arith)
           (e.range (10000000 + 20000000 * c.loop-index.index) c.loop-index.invariant.range);
       regular = λ m answers same.
-          let l : c.loop-index.index < length m.pairs = omega (arith, within, ap (λ (xs : List Pair). length xs) same) in
-          let read = ap (λ (xs : List Pair). get_or xs c.loop-index.index c.get-pair.result) same
-          ∙ get_or_from_slice_get a.pairs.now.list c.loop-index.index c.get-pair.result c.get-pair.result c.get-pair.ensures.value in
-          let P : Pair → Type 0 = λ p. IsRegularPair m a.change (labelling a.at.now) p in
-          let below = labels_below a.smooth_cost.now.labels a.at.now a.pairs.now.sites c.get-pair.result c.requires.sites c.requires.labels c.get-pair.ensures.pair in
-          let told = c.is_allowed.ensures m a.change (labelling a.at.now) c.get-pair.result answers c.requires.change below (c.term-table.ensures.table m answers) in
-          let fine = told.0 c.if-not-is_allowed.false in
-          All-more (IsRegularPair m a.change (labelling a.at.now)) m.pairs c.loop-index.index c.get-pair.result l (c.loop-index.invariant.regular m answers same) (subst P (sym read) fine);
+          let R : Bool → Type 0 = λ b. IsTermCounted m a.change f c.get-pair.result c.loop-index.self c.count_pair.new.self b in
+          let P : Pair → Type 0 = λ p. IsRegularPair m a.change f p in
+          All-more (IsRegularPair m a.change f) m.pairs c.loop-index.index c.get-pair.result (inside m.pairs same) (c.loop-index.invariant.regular m answers same)
+          (subst P (sym (read m.pairs same)) (subst R c.if-not-count_pair.false (e.counted m answers)).0);
       counted = λ m answers same first.
-          let l : c.loop-index.index < length m.pairs = omega (arith, within, ap (λ (xs : List Pair). length xs) same) in
-          let read = ap (λ (xs : List Pair). get_or xs c.loop-index.index c.get-pair.result) same
-          ∙ get_or_from_slice_get a.pairs.now.list c.loop-index.index c.get-pair.result c.get-pair.result c.get-pair.ensures.value in
-          let T : List ℤ → Type 0 = λ t. AddsTerm c.get-pair.result t c.loop-index.self c.add_term.new.self in
-          count_term m a.change (labelling a.at.now) c.loop-index.index c.get-pair.result c.loop-index.self c.add_term.new.self l read c.get-pair.ensures.pair.unequal
-          (subst T (c.term-table.ensures.table m answers) e.adds) (c.loop-index.invariant.counted m answers same first);
+          let R : Bool → Type 0 = λ b. IsTermCounted m a.change f c.get-pair.result c.loop-index.self c.count_pair.new.self b in
+          count_term m a.change f c.loop-index.index c.get-pair.result c.loop-index.self c.count_pair.new.self (inside m.pairs same) (read m.pairs same) c.get-pair.ensures.pair.unequal
+          ((subst R c.if-not-count_pair.false (e.counted m answers)).1) (c.loop-index.invariant.counted m answers same first);
     }
 
-pub returns-then-not-is_allowed-clause-counted : goal.returns-then-not-is_allowed-clause-counted
-returns-then-not-is_allowed-clause-counted g c = λ m answers same sites.
+pub returns-then-not-count_pair-clause-counted : goal.returns-then-not-count_pair-clause-counted
+returns-then-not-count_pair-clause-counted g c = λ m answers same sites.
     let a = c.args in
-    let below = labels_below a.smooth_cost.now.labels a.at.now a.pairs.now.sites c.get-pair.result c.requires.sites c.requires.labels c.get-pair.ensures.pair in
-    let told = c.is_allowed.ensures m a.change (labelling a.at.now) c.get-pair.result answers c.requires.change below (c.term-table.ensures.table m answers) in
+    let R : Bool → Type 0 = λ b. IsTermCounted m a.change (labelling a.at.now) c.get-pair.result c.loop-index.self c.count_pair.new.self b in
     record {
       failing = c.get-pair.result;
       here = ap (λ (xs : List Pair). slice_get xs c.loop-index.index) same ∙ c.get-pair.ensures.value;
-      fails = λ regular. (let t = told.1 regular in
-          let f = c.if-not-is_allowed.true in absurd (cc (t, f)));
+      fails = subst R c.if-not-count_pair.true (c.count_pair.ensures.counted m answers);
       before = c.loop-index.invariant.regular m answers same;
     }
 
