@@ -9,7 +9,6 @@ use Rattle.sums.proofs.SumLemmas.{sum_below-same, sum_below-zero, sum_by-sum_bel
 use Rattle.flow_network.specs.Cut.{Network, nodes, IsNet}
 use Rattle.flow_network.specs.declared.arc.Arc.{Arc}
 use Rattle.flow_network.specs.Preflow.{arc_at}
-use Rattle.grouping.specs.declared.Groups.{Groups}
 use Rattle.parcel.specs.declared.direction.Direction.{Direction}
 use Rattle.parcel.specs.Directions.{near, far, opposite}
 use Rattle.parcel.specs.States.{block_of, is_border}
@@ -19,7 +18,7 @@ use Rattle.parcel.proofs.Lanes.{near_opposite, border_opposite}
 use Rattle.block_net.specs.declared.rows.Lane.{Lane}
 use Rattle.block_net.specs.declared.by_node.ByNode.{ByNode}
 use Rattle.block_net.specs.Views.{IsBlock, IsLane, IsBorder, spare}
-use Rattle.block_net.specs.Split.{CanSplit, directions, direction_in, AreRows, AreGrouped, first_of, span, lane_made, border_made, lanes_made, borders_made, block_from, base_of}
+use Rattle.block_net.specs.Split.{Rows, inner_rows, outer_rows, CanSplit, directions, direction_in, AreRows, AreGrouped, first_of, span, lane_made, border_made, lanes_made, borders_made, block_from, base_of}
 use Rattle.block_net.proofs.Tables.{length_table, table_at}
 use Rattle.block_net.proofs.Numbers.{is_direction, arc_of_low, arc_of_high, first_low, first_high, home_is}
 use Rattle.block_net.proofs.Spots.{starts_grow}
@@ -34,13 +33,13 @@ same_blocks a b h = grind (arith, nat_tests)
 pub inner_blocks : (net : Network) (blocks : ℕ) (x : Direction) → is_border net blocks x ≡ false → block_of net blocks (near net x) ≡ block_of net blocks (far net x)
 inner_blocks net blocks x h = same_blocks _ _ h
 
-pub far_in_block : (net : Network) (blocks b first next : ℕ) (rows : Groups) (p : ℕ) → first ≡ first_of (nodes net) blocks b → next ≡ first_of (nodes net) blocks (b + 1) → next ≤ nodes net
+pub far_in_block : (net : Network) (blocks b first next : ℕ) (rows : Rows) (p : ℕ) → first ≡ first_of (nodes net) blocks b → next ≡ first_of (nodes net) blocks (b + 1) → next ≤ nodes net
     → IsNet net → 1 ≤ blocks → StandsIn net blocks false rows first next p
-    → (first ≤ far net (direction_in net (slice_index rows.places.items p))) × (far net (direction_in net (slice_index rows.places.items p)) < next)
+    → (first ≤ far net (direction_in net (slice_index rows.places p))) × (far net (direction_in net (slice_index rows.places p)) < next)
 far_in_block net blocks b first next rows p ef en ln h some stands =
     let n = nodes net in
-    let x = direction_in net (slice_index rows.places.items p) in
-    let d = is_direction net (slice_index rows.places.items p) stands.small in
+    let x = direction_in net (slice_index rows.places p) in
+    let d = is_direction net (slice_index rows.places p) stands.small in
     let lf = far_in net x h d in
     let home : block_of net blocks (near net x) ≡ b =
     home_is n blocks b (near net x) some (omega (arith, stands.high, ln)) (omega (arith, stands.low, ef)) (omega (arith, stands.high, en)) in
@@ -97,18 +96,18 @@ range_sum : (xs : List ℕ) (i j : ℕ) → sum (slice_range xs i j) ≤ sum xs
 range_sum xs i j = omega (arith, sum_by-take-le (λ (x : ℕ). x) (drop i xs) (j - i), sum_by-take-drop (λ (x : ℕ). x) xs i)
 
 -- a sum over the rows of a block is within the sum over all directions
-span_sum : (net : Network) (blocks : ℕ) (outer : Bool) (rows : Groups) (first next : ℕ) (f : ℕ → ℕ) → AreRows net blocks outer rows → next ≤ nodes net → first ≤ next
+span_sum : (net : Network) (blocks : ℕ) (outer : Bool) (rows : Rows) (first next : ℕ) (f : ℕ → ℕ) → AreRows net blocks outer rows → next ≤ nodes net → first ≤ next
     → sum_by f (span rows first next) ≤ sum_below (directions net) f
 span_sum net blocks outer rows first next f is ln lf =
     let n = nodes net in
-    let i = slice_index rows.starts.items first in
-    let j = slice_index rows.starts.items next in
+    let i = slice_index rows.starts first in
+    let j = slice_index rows.starts next in
     let xs = span rows first next in
     let grow = starts_grow net blocks outer rows is in
     let len = length_span net blocks outer rows first next is ln in
-    let at : (p : ℕ) → p < length xs → get_or xs p 0 ≡ slice_index rows.places.items (i + p) = λ p l. range_at rows.places.items i j p 0 (omega (arith, l, len)) in
-    let low : (p : ℕ) → slice_index rows.starts.items 0 ≤ i + p = λ p. omega (arith, grow 0 first (omega arith) (omega (arith, lf, ln))) in
-    let high : (p : ℕ) → p < length xs → i + p < slice_index rows.starts.items n = λ p l. omega (arith, l, len, grow next n ln (omega arith)) in
+    let at : (p : ℕ) → p < length xs → get_or xs p 0 ≡ slice_index rows.places (i + p) = λ p l. range_at rows.places i j p 0 (omega (arith, l, len)) in
+    let low : (p : ℕ) → slice_index rows.starts 0 ≤ i + p = λ p. omega (arith, grow 0 first (omega arith) (omega (arith, lf, ln))) in
+    let high : (p : ℕ) → p < length xs → i + p < slice_index rows.starts n = λ p l. omega (arith, l, len, grow next n ln (omega arith)) in
     sum_of_once xs (directions net) f
     (λ p l. omega (arith, at p l, (stands_in net blocks outer rows first next (i + p) is ln lf (omega arith) (omega (arith, l, len))).small))
     (λ p q lp lq e. omega (arith, is.apart (i + p) (i + q) (low p) (high p lp) (low q) (high q lq) (sym (at p lp) ∙ (e ∙ at q lq))))
@@ -120,34 +119,34 @@ pub block_from_is : (net : Network) (blocks : ℕ) (rows : ByNode) (b first next
 block_from_is net blocks rows b first next h split is ef en lf ln =
     let n = nodes net in
     let slots = rows.slots.items in
-    let inner_len = length_span net blocks false rows.inner first next is.inner ln in
-    let outer_len = length_span net blocks true rows.outer first next is.outer ln in
+    let inner_len = length_span net blocks false (inner_rows rows.groups) first next is.inner ln in
+    let outer_len = length_span net blocks true (outer_rows (nodes net) rows.groups) first next is.outer ln in
     let excess_len : length (slice_range net.sources first next) ≡ next - first = length_range net.sources first next ln in
     let rooms_len : length (slice_range net.sinks first next) ≡ next - first = length_range net.sinks first next (omega (arith, ln, h.same)) in
-    let lanes_len : length (lanes_made net slots first (span rows.inner first next)) ≡ length (span rows.inner first next) = length-map _ _ in
-    let borders_len : length (borders_made net blocks slots first (span rows.outer first next)) ≡ length (span rows.outer first next) = length-map _ _ in
-    let lane_is = all_in_span (λ i. IsLane (next - first) (length (span rows.inner first next)) (lane_made net slots first (direction_in net i))) net blocks false rows.inner first next is.inner ln lf
+    let lanes_len : length (lanes_made net slots first (span (inner_rows rows.groups) first next)) ≡ length (span (inner_rows rows.groups) first next) = length-map _ _ in
+    let borders_len : length (borders_made net blocks slots first (span (outer_rows (nodes net) rows.groups) first next)) ≡ length (span (outer_rows (nodes net) rows.groups) first next) = length-map _ _ in
+    let lane_is = all_in_span (λ i. IsLane (next - first) (length (span (inner_rows rows.groups) first next)) (lane_made net slots first (direction_in net i))) net blocks false (inner_rows rows.groups) first next is.inner ln lf
     (λ p stands.
-    let i = slice_index rows.inner.places.items p in
+    let i = slice_index (inner_rows rows.groups).places p in
     let x = direction_in net i in
     let d = is_direction net i stands.small in
-    let away = far_in_block net blocks b first next rows.inner p ef en ln h split.some stands in
+    let away = far_in_block net blocks b first next (inner_rows rows.groups) p ef en ln h split.some stands in
     let y = opposite x in
-    let found = slot_of net blocks false rows.inner slots y h split.some is.inner is.inner_slots d (border_opposite net blocks x ∙ stands.outer) in
+    let found = slot_of net blocks false (inner_rows rows.groups) slots y h split.some is.inner is.inner_slots d (border_opposite net blocks x ∙ stands.outer) in
     let slot = found.1 in
     let e = near_opposite net x in
     let home : block_of net blocks (near net y) ≡ b =
     ap (block_of net blocks) e ∙ home_is n blocks b (far net x) split.some (omega (arith, away.1, ln)) (omega (arith, away.0, ef)) (omega (arith, away.1, en)) in
-    let base = ap (base_of net blocks rows.inner) home in
-    let grow = starts_grow net blocks false rows.inner is.inner (near net y + 1) next (omega (arith, e, away.1)) (omega (arith, ln)) in
-    let base' : base_of net blocks rows.inner b ≡ slice_index rows.inner.starts.items first = ap (slice_index rows.inner.starts.items) (sym ef) in
+    let base = ap (base_of net blocks (inner_rows rows.groups)) home in
+    let grow = starts_grow net blocks false (inner_rows rows.groups) is.inner (near net y + 1) next (omega (arith, e, away.1)) (omega (arith, ln)) in
+    let base' : base_of net blocks (inner_rows rows.groups) b ≡ slice_index (inner_rows rows.groups).starts first = ap (slice_index (inner_rows rows.groups).starts) (sym ef) in
     record {
       far = omega (arith, away.0, away.1);
       opposite = omega (arith, slot.slot, slot.below, slot.base, base, base', grow, inner_len);
     }) in
-    let border_is = all_in_span (λ i. IsBorder (next - first) (n + 2) (border_made net blocks slots first (direction_in net i))) net blocks true rows.outer first next is.outer ln lf
+    let border_is = all_in_span (λ i. IsBorder (next - first) (n + 2) (border_made net blocks slots first (direction_in net i))) net blocks true (outer_rows (nodes net) rows.groups) first next is.outer ln lf
     (λ p stands.
-    let i = slice_index rows.outer.places.items p in
+    let i = slice_index (outer_rows (nodes net) rows.groups).places p in
     let x = direction_in net i in
     let c = (arc_at net x.arc).capacity in
     record {
@@ -156,10 +155,10 @@ block_from_is net blocks rows b first next h split is ef en lf ln =
       known = omega arith;
       small = omega (arith, capacity_small net x.arc h (is_direction net i stands.small));
     }) in
-    let residual_sum = sum_by_map (λ (x : Lane). x.residual) (λ i. lane_made net slots first (direction_in net i)) (span rows.inner first next) in
-    let residual_most = span_sum net blocks false rows.inner first next (λ i. first_residual net (direction_in net i)) is.inner ln lf in
-    let spare_sum = sum_by_map spare (λ i. border_made net blocks slots first (direction_in net i)) (span rows.outer first next) in
-    let spare_most = span_sum net blocks true rows.outer first next (λ i. (arc_at net (direction_in net i).arc).capacity - first_residual net (direction_in net i)) is.outer ln lf in
+    let residual_sum = sum_by_map (λ (x : Lane). x.residual) (λ i. lane_made net slots first (direction_in net i)) (span (inner_rows rows.groups) first next) in
+    let residual_most = span_sum net blocks false (inner_rows rows.groups) first next (λ i. first_residual net (direction_in net i)) is.inner ln lf in
+    let spare_sum = sum_by_map spare (λ i. border_made net blocks slots first (direction_in net i)) (span (outer_rows (nodes net) rows.groups) first next) in
+    let spare_most = span_sum net blocks true (outer_rows (nodes net) rows.groups) first next (λ i. (arc_at net (direction_in net i).arc).capacity - first_residual net (direction_in net i)) is.outer ln lf in
     record {
       top = omega (arith, h.count);
       above = omega arith;
@@ -169,20 +168,20 @@ block_from_is net blocks rows b first next h split is ef en lf ln =
       border_starts_len = length_table (next - first + 1) _ ∙ ap (λ k. k + 1) (sym excess_len);
       within = λ v l.
           let lv : v ≤ next - first = omega (arith, l, excess_len) in
-          let at = table_at (next - first + 1) (λ i. slice_index rows.inner.starts.items (first + i) - slice_index rows.inner.starts.items first) v 0 (omega (arith, lv)) in
-          omega (arith, at, lanes_len, inner_len, starts_grow net blocks false rows.inner is.inner (first + v) next (omega (arith, lv, lf)) (omega (arith, ln)));
+          let at = table_at (next - first + 1) (λ i. slice_index (inner_rows rows.groups).starts (first + i) - slice_index (inner_rows rows.groups).starts first) v 0 (omega (arith, lv)) in
+          omega (arith, at, lanes_len, inner_len, starts_grow net blocks false (inner_rows rows.groups) is.inner (first + v) next (omega (arith, lv, lf)) (omega (arith, ln)));
       border_within = λ v l.
           let lv : v ≤ next - first = omega (arith, l, excess_len) in
-          let at = table_at (next - first + 1) (λ i. slice_index rows.outer.starts.items (first + i) - slice_index rows.outer.starts.items first) v 0 (omega (arith, lv)) in
-          omega (arith, at, borders_len, outer_len, starts_grow net blocks true rows.outer is.outer (first + v) next (omega (arith, lv, lf)) (omega (arith, ln)));
+          let at = table_at (next - first + 1) (λ i. slice_index (outer_rows (nodes net) rows.groups).starts (first + i) - slice_index (outer_rows (nodes net) rows.groups).starts first) v 0 (omega (arith, lv)) in
+          omega (arith, at, borders_len, outer_len, starts_grow net blocks true (outer_rows (nodes net) rows.groups) is.outer (first + v) next (omega (arith, lv, lf)) (omega (arith, ln)));
       labels = All-replicate (λ (d : ℕ). d ≤ n + 2) (next - first) 0 (omega arith);
       lanes =
-          let list = lanes_made net slots first (span rows.inner first next) in
+          let list = lanes_made net slots first (span (inner_rows rows.groups) first next) in
           subst (λ (k : ℕ). All (IsLane k (length list)) list) (sym excess_len)
-          (subst (λ (k : ℕ). All (IsLane (next - first) k) list) (sym lanes_len) (All-map (IsLane (next - first) (length (span rows.inner first next))) (λ i. lane_made net slots first (direction_in net i)) (span rows.inner first next) lane_is));
+          (subst (λ (k : ℕ). All (IsLane (next - first) k) list) (sym lanes_len) (All-map (IsLane (next - first) (length (span (inner_rows rows.groups) first next))) (λ i. lane_made net slots first (direction_in net i)) (span (inner_rows rows.groups) first next) lane_is));
       borders =
-          subst (λ (k : ℕ). All (IsBorder k (n + 2)) (borders_made net blocks slots first (span rows.outer first next))) (sym excess_len)
-          (All-map (IsBorder (next - first) (n + 2)) (λ i. border_made net blocks slots first (direction_in net i)) (span rows.outer first next) border_is);
+          subst (λ (k : ℕ). All (IsBorder k (n + 2)) (borders_made net blocks slots first (span (outer_rows (nodes net) rows.groups) first next))) (sym excess_len)
+          (All-map (IsBorder (next - first) (n + 2)) (λ i. border_made net blocks slots first (direction_in net i)) (span (outer_rows (nodes net) rows.groups) first next) border_is);
       residuals = omega (arith, residual_sum, residual_most, residuals_all net, h.total);
       total = omega (arith, range_sum net.sources first next, spare_sum, spare_most, spares_all net, h.total);
     }

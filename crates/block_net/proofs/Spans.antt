@@ -4,13 +4,12 @@ use Rattle.std.proofs.lemmas.Bool.{cases_lt}
 use Rattle.std.proofs.lemmas.List.{get_or-drop, get_or-take, length-take, length-drop}
 use Rattle.std.proofs.lemmas.List.Elements.{All-from_get_or}
 use Rattle.flow_network.specs.Cut.{Network, nodes, IsNet}
-use Rattle.grouping.specs.declared.Groups.{Groups}
 use Rattle.parcel.specs.declared.direction.Direction.{Direction}
 use Rattle.parcel.specs.Directions.{IsDirection, near}
 use Rattle.parcel.specs.States.{block_of, is_border}
 use Rattle.parcel.proofs.Ends.{near_in}
 use Rattle.block_net.specs.Whole.{index_of}
-use Rattle.block_net.specs.Split.{directions, direction_in, AreRows, HasSlots, first_of, base_of, span}
+use Rattle.block_net.specs.Split.{Rows, directions, direction_in, AreRows, HasSlots, first_of, base_of, span}
 use Rattle.block_net.proofs.Numbers.{index_is, first_low}
 use Rattle.block_net.proofs.Grouped.{part_of}
 use Rattle.block_net.proofs.Spots.{starts_grow}
@@ -31,14 +30,14 @@ all_in_range P xs i j l each = All-from_get_or P (slice_range xs i j) 0 (λ k lk
 -- ---- slots
 
 -- the place of a direction among the rows, and its slot
-pub record IsSlotOf (net : Network) (blocks : ℕ) (rows : Groups) (slots : List ℕ) (x : Direction) (p : ℕ) : Type 0 where
-  pub from : slice_index rows.starts.items (near net x) ≤ p
-  pub below : p < slice_index rows.starts.items (near net x + 1)
-  pub stands : slice_index rows.places.items p ≡ index_of net x
+pub record IsSlotOf (net : Network) (blocks : ℕ) (rows : Rows) (slots : List ℕ) (x : Direction) (p : ℕ) : Type 0 where
+  pub from : slice_index rows.starts (near net x) ≤ p
+  pub below : p < slice_index rows.starts (near net x + 1)
+  pub stands : slice_index rows.places p ≡ index_of net x
   pub slot : slice_index slots (index_of net x) ≡ p - base_of net blocks rows (block_of net blocks (near net x))
   pub base : base_of net blocks rows (block_of net blocks (near net x)) ≤ p
 
-pub slot_of : (net : Network) (blocks : ℕ) (outer : Bool) (rows : Groups) (slots : List ℕ) (x : Direction) → IsNet net → 1 ≤ blocks
+pub slot_of : (net : Network) (blocks : ℕ) (outer : Bool) (rows : Rows) (slots : List ℕ) (x : Direction) → IsNet net → 1 ≤ blocks
     → AreRows net blocks outer rows → HasSlots net blocks rows slots → IsDirection net x → is_border net blocks x ≡ outer
     → (p : ℕ) × IsSlotOf net blocks rows slots x p
 slot_of net blocks outer rows slots x h some is has d b =
@@ -48,9 +47,9 @@ slot_of net blocks outer rows slots x h some is has d b =
     let found = is.found x d b in
     let p = found.0 in
     let grow = starts_grow net blocks outer rows is in
-    let low : slice_index rows.starts.items 0 ≤ p = omega (arith, found.1, grow 0 v (omega arith) (omega (arith, lv))) in
-    let high : p < slice_index rows.starts.items n = omega (arith, found.2, grow (v + 1) n (omega (arith, lv)) (omega arith)) in
-    let same : direction_in net (slice_index rows.places.items p) ≡ x = ap (direction_in net) found.3 ∙ index_is net x d in
+    let low : slice_index rows.starts 0 ≤ p = omega (arith, found.1, grow 0 v (omega arith) (omega (arith, lv))) in
+    let high : p < slice_index rows.starts n = omega (arith, found.2, grow (v + 1) n (omega (arith, lv)) (omega arith)) in
+    let same : direction_in net (slice_index rows.places p) ≡ x = ap (direction_in net) found.3 ∙ index_is net x d in
     let slot : slice_index slots (index_of net x) ≡ p - base_of net blocks rows (block_of net blocks v) =
     ap (slice_index slots) (sym found.3) ∙ (has p low high ∙ ap (λ y. p - base_of net blocks rows (block_of net blocks (near net y))) same) in (
       p,
@@ -66,18 +65,18 @@ slot_of net blocks outer rows slots x h some is has d b =
 -- ---- the rows of a block
 
 -- the direction that stands at a place between the starts of two nodes
-pub record StandsIn (net : Network) (blocks : ℕ) (leaves : Bool) (rows : Groups) (first next p : ℕ) : Type 0 where
-  pub small : slice_index rows.places.items p < directions net
-  pub low : first ≤ near net (direction_in net (slice_index rows.places.items p))
-  pub high : near net (direction_in net (slice_index rows.places.items p)) < next
-  pub outer : is_border net blocks (direction_in net (slice_index rows.places.items p)) ≡ leaves
+pub record StandsIn (net : Network) (blocks : ℕ) (leaves : Bool) (rows : Rows) (first next p : ℕ) : Type 0 where
+  pub small : slice_index rows.places p < directions net
+  pub low : first ≤ near net (direction_in net (slice_index rows.places p))
+  pub high : near net (direction_in net (slice_index rows.places p)) < next
+  pub outer : is_border net blocks (direction_in net (slice_index rows.places p)) ≡ leaves
 
-pub stands_in : (net : Network) (blocks : ℕ) (outer : Bool) (rows : Groups) (first next p : ℕ) → AreRows net blocks outer rows → next ≤ nodes net → first ≤ next
-    → slice_index rows.starts.items first ≤ p → p < slice_index rows.starts.items next → StandsIn net blocks outer rows first next p
+pub stands_in : (net : Network) (blocks : ℕ) (outer : Bool) (rows : Rows) (first next p : ℕ) → AreRows net blocks outer rows → next ≤ nodes net → first ≤ next
+    → slice_index rows.starts first ≤ p → p < slice_index rows.starts next → StandsIn net blocks outer rows first next p
 stands_in net blocks outer rows first next p is ln lf low high =
     let n = nodes net in
     let grow = starts_grow net blocks outer rows is in
-    let part = part_of (slice_index rows.starts.items) n p (omega (arith, low, grow 0 first (omega arith) (omega (arith, lf, ln)))) (omega (arith, high, grow next n ln (omega arith))) in
+    let part = part_of (slice_index rows.starts) n p (omega (arith, low, grow 0 first (omega arith) (omega (arith, lf, ln)))) (omega (arith, high, grow next n ln (omega arith))) in
     let v = part.0 in
     let node = is.node v p part.1 part.2 part.3 in
     let above : first ≤ v = elim (cases_lt v first) as (λ q. first ≤ v) [
@@ -95,13 +94,13 @@ stands_in net blocks outer rows first next p is ln lf low high =
       outer = is.outer v p part.1 part.2 part.3;
     }
 
-pub all_in_span : (P : ℕ → Type 0) (net : Network) (blocks : ℕ) (outer : Bool) (rows : Groups) (first next : ℕ) → AreRows net blocks outer rows → next ≤ nodes net → first ≤ next
-    → ((p : ℕ) → StandsIn net blocks outer rows first next p → P (slice_index rows.places.items p)) → All P (span rows first next)
+pub all_in_span : (P : ℕ → Type 0) (net : Network) (blocks : ℕ) (outer : Bool) (rows : Rows) (first next : ℕ) → AreRows net blocks outer rows → next ≤ nodes net → first ≤ next
+    → ((p : ℕ) → StandsIn net blocks outer rows first next p → P (slice_index rows.places p)) → All P (span rows first next)
 all_in_span P net blocks outer rows first next is ln lf each =
-    all_in_range P rows.places.items (slice_index rows.starts.items first) (slice_index rows.starts.items next)
+    all_in_range P rows.places (slice_index rows.starts first) (slice_index rows.starts next)
     (omega (arith, is.places_len, is.within next ln)) (λ p low high. each p (stands_in net blocks outer rows first next p is ln lf low high))
 
-pub length_span : (net : Network) (blocks : ℕ) (outer : Bool) (rows : Groups) (first next : ℕ) → AreRows net blocks outer rows → next ≤ nodes net
-    → length (span rows first next) ≡ slice_index rows.starts.items next - slice_index rows.starts.items first
+pub length_span : (net : Network) (blocks : ℕ) (outer : Bool) (rows : Rows) (first next : ℕ) → AreRows net blocks outer rows → next ≤ nodes net
+    → length (span rows first next) ≡ slice_index rows.starts next - slice_index rows.starts first
 length_span net blocks outer rows first next is ln =
-    length_range rows.places.items (slice_index rows.starts.items first) (slice_index rows.starts.items next) (omega (arith, is.places_len, is.within next ln))
+    length_range rows.places (slice_index rows.starts first) (slice_index rows.starts next) (omega (arith, is.places_len, is.within next ln))

@@ -3,7 +3,6 @@ use Rattle.std.proofs.Common.{◌≡◌, ℕ, ◌+◌, ◌-◌, ◌*◌, ◌/◌
 use Rattle.std.proofs.lemmas.List.{length-map, length-replicate, get_or-map, get_or-replicate}
 use Rattle.std.proofs.lemmas.List.FromFn.{fill_by_all}
 use Rattle.flow_network.specs.Cut.{Network, nodes, IsNet}
-use Rattle.grouping.specs.declared.Groups.{Groups}
 use Rattle.parcel.specs.declared.direction.Direction.{Direction}
 use Rattle.parcel.specs.declared.message.Message.{Message}
 use Rattle.parcel.specs.Directions.{IsDirection, forward, backward, near, far}
@@ -16,7 +15,7 @@ use Rattle.block_net.specs.declared.rows.Border.{Border}
 use Rattle.block_net.specs.declared.by_node.ByNode.{ByNode}
 use Rattle.block_net.specs.Views.{BlockView, count, excess_in, label_in, room_in, lane_in, border_in, no_row, no_border, first_lane, first_border}
 use Rattle.block_net.specs.Whole.{Whole, table, index_of, block_at, block_with, home, place, near_home, is_outer, lane_of, border_of, shown_lane, shown_border, shown_of, shown, no_block, IsInnerAt, IsBorderAt, StandsAt, IsPlaced, LiesAt, IsFilled}
-use Rattle.block_net.specs.Split.{CanSplit, direction_in, AreRows, AreGrouped, HasSlots, first_of, base_of, span, starts_from, lane_made, border_made, lanes_made, borders_made, block_made, blocks_made, firsts_made, whole_at_opening, IsSplit}
+use Rattle.block_net.specs.Split.{Rows, inner_rows, outer_rows, CanSplit, direction_in, AreRows, AreGrouped, HasSlots, first_of, base_of, span, starts_from, lane_made, border_made, lanes_made, borders_made, block_made, blocks_made, firsts_made, whole_at_opening, IsSplit}
 use Rattle.block_net.proofs.Tables.{length_table, table_at}
 use Rattle.block_net.proofs.Numbers.{is_direction, index_is, index_forth, first_low, first_high, first_within, first_grows, home_below, home_is}
 use Rattle.block_net.proofs.Spots.{starts_grow}
@@ -84,37 +83,37 @@ range_of starts first next v low high =
 -- ---- directions
 
 -- what is read at the slot of a direction
-map_span : {A : Type 0} (make : ℕ → A) (net : Network) (blocks : ℕ) (outer : Bool) (rows : Groups) (first next p : ℕ) (d : A) → AreRows net blocks outer rows → next ≤ nodes net
-    → slice_index rows.starts.items first ≤ p → p < slice_index rows.starts.items next
-    → get_or (map make (span rows first next)) (p - slice_index rows.starts.items first) d ≡ make (slice_index rows.places.items p)
+map_span : {A : Type 0} (make : ℕ → A) (net : Network) (blocks : ℕ) (outer : Bool) (rows : Rows) (first next p : ℕ) (d : A) → AreRows net blocks outer rows → next ≤ nodes net
+    → slice_index rows.starts first ≤ p → p < slice_index rows.starts next
+    → get_or (map make (span rows first next)) (p - slice_index rows.starts first) d ≡ make (slice_index rows.places p)
 map_span make net blocks outer rows first next p d is ln low high =
-    let i = slice_index rows.starts.items first in
-    let j = slice_index rows.starts.items next in
+    let i = slice_index rows.starts first in
+    let j = slice_index rows.starts next in
     let len = length_span net blocks outer rows first next is ln in
     get_or-map make (span rows first next) (p - i) 0 d (omega (arith, len, low, high))
-    ∙ ap make (range_at rows.places.items i j (p - i) 0 (omega (arith, low, high)) ∙ ap (slice_index rows.places.items) (back_to i p low))
+    ∙ ap make (range_at rows.places i j (p - i) 0 (omega (arith, low, high)) ∙ ap (slice_index rows.places) (back_to i p low))
 
-abbrev pick : Bool → ByNode → Groups
-pick true rows = rows.outer
-pick false rows = rows.inner
+abbrev pick : Bool → Network → ByNode → Rows
+pick true net rows = (outer_rows (nodes net) rows.groups)
+pick false net rows = (inner_rows rows.groups)
 
-picked : (net : Network) (blocks : ℕ) (rows : ByNode) (o : Bool) → AreGrouped net blocks rows → AreRows net blocks o (pick o rows)
+picked : (net : Network) (blocks : ℕ) (rows : ByNode) (o : Bool) → AreGrouped net blocks rows → AreRows net blocks o (pick o net rows)
 picked net blocks rows true is = is.outer
 picked net blocks rows false is = is.inner
 
-picked_slots : (net : Network) (blocks : ℕ) (rows : ByNode) (o : Bool) → AreGrouped net blocks rows → HasSlots net blocks (pick o rows) rows.slots.items
+picked_slots : (net : Network) (blocks : ℕ) (rows : ByNode) (o : Bool) → AreGrouped net blocks rows → HasSlots net blocks (pick o net rows) rows.slots.items
 picked_slots net blocks rows true is = is.outer_slots
 picked_slots net blocks rows false is = is.inner_slots
 
 -- a direction in the rows of its block
 pub record IsRow (net : Network) (blocks : ℕ) (rows : ByNode) (o : Bool) (x : Direction) (first next p : ℕ) : Type 0 where
-  pub from : slice_index (starts_from (pick o rows).starts.items first next) (near net x - first) ≤ slice_index rows.slots.items (index_of net x)
-  pub below : slice_index rows.slots.items (index_of net x) < slice_index (starts_from (pick o rows).starts.items first next) (near net x - first + 1)
-  pub within : slice_index rows.slots.items (index_of net x) < length (span (pick o rows) first next)
-  pub low : slice_index (pick o rows).starts.items first ≤ p
-  pub high : p < slice_index (pick o rows).starts.items next
-  pub slot : slice_index rows.slots.items (index_of net x) ≡ p - slice_index (pick o rows).starts.items first
-  pub stands : slice_index (pick o rows).places.items p ≡ index_of net x
+  pub from : slice_index (starts_from (pick o net rows).starts first next) (near net x - first) ≤ slice_index rows.slots.items (index_of net x)
+  pub below : slice_index rows.slots.items (index_of net x) < slice_index (starts_from (pick o net rows).starts first next) (near net x - first + 1)
+  pub within : slice_index rows.slots.items (index_of net x) < length (span (pick o net rows) first next)
+  pub low : slice_index (pick o net rows).starts first ≤ p
+  pub high : p < slice_index (pick o net rows).starts next
+  pub slot : slice_index rows.slots.items (index_of net x) ≡ p - slice_index (pick o net rows).starts first
+  pub stands : slice_index (pick o net rows).places p ≡ index_of net x
 
 row_of : (net : Network) (blocks : ℕ) (rows : ByNode) (o : Bool) (x : Direction) → IsReady net blocks rows → IsDirection net x → core.is_border net blocks x ≡ o
     → (p : ℕ) × IsRow net blocks rows o x (first_of (nodes net) blocks (core.block_of net blocks (near net x))) (first_of (nodes net) blocks (core.block_of net blocks (near net x) + 1)) p
@@ -126,7 +125,7 @@ row_of net blocks rows o x ready d e =
     let first = first_of n blocks b in
     let next = first_of n blocks (b + 1) in
     let at = at_home net blocks rows v ready lv in
-    let group = pick o rows in
+    let group = pick o net rows in
     let is = picked net blocks rows o ready.rows_are in
     let found = slot_of net blocks o group rows.slots.items x ready.net_is ready.split.some is (picked_slots net blocks rows o ready.rows_are) d e in
     let p = found.0 in
@@ -134,9 +133,9 @@ row_of net blocks rows o x ready d e =
     let grow = starts_grow net blocks o group is in
     let low = grow first v at.low (omega (arith, lv)) in
     let high = grow (v + 1) next (omega (arith, at.high)) (omega (arith, at.within)) in
-    let here = range_of group.starts.items first next v at.low (omega (arith, at.high)) in
-    let there = ap (slice_index (starts_from group.starts.items first next)) (place_next first v at.low)
-    ∙ range_of group.starts.items first next (v + 1) (omega (arith, at.low)) (omega (arith, at.high)) in (
+    let here = range_of group.starts first next v at.low (omega (arith, at.high)) in
+    let there = ap (slice_index (starts_from group.starts first next)) (place_next first v at.low)
+    ∙ range_of group.starts first next (v + 1) (omega (arith, at.low)) (omega (arith, at.high)) in (
       p,
       record {
         from = omega (arith, here, slot.slot, slot.from, low);
@@ -152,10 +151,10 @@ row_of net blocks rows o x ready d e =
 -- what is made of a direction stands at its slot
 read_row : {A : Type 0} (make : Direction → A) (net : Network) (blocks : ℕ) (rows : ByNode) (o : Bool) (x : Direction) (first next p : ℕ) (d : A) → AreGrouped net blocks rows → next ≤ nodes net
     → IsDirection net x → IsRow net blocks rows o x first next p
-    → get_or (map (λ i. make (direction_in net i)) (span (pick o rows) first next)) (slice_index rows.slots.items (index_of net x)) d ≡ make x
+    → get_or (map (λ i. make (direction_in net i)) (span (pick o net rows) first next)) (slice_index rows.slots.items (index_of net x)) d ≡ make x
 read_row make net blocks rows o x first next p d is ln dx row =
-    ap (λ j. get_or (map (λ i. make (direction_in net i)) (span (pick o rows) first next)) j d) row.slot
-    ∙ (map_span (λ i. make (direction_in net i)) net blocks o (pick o rows) first next p d (picked net blocks rows o is) ln row.low row.high
+    ap (λ j. get_or (map (λ i. make (direction_in net i)) (span (pick o net rows) first next)) j d) row.slot
+    ∙ (map_span (λ i. make (direction_in net i)) net blocks o (pick o net rows) first next p d (picked net blocks rows o is) ln row.low row.high
     ∙ ap make (ap (direction_in net) row.stands ∙ index_is net x dx))
 
 lane_is : (net : Network) (blocks : ℕ) (rows : ByNode) (x : Direction) → IsReady net blocks rows → IsDirection net x → core.is_border net blocks x ≡ false
@@ -196,7 +195,7 @@ inner_at net blocks rows x ready d e =
     record {
       from = omega (arith, row.from, ap (λ (q : BlockView). first_lane q (place w v)) at.block_is, ap (first_lane B) at.place_is);
       below = omega (arith, row.below, ap (λ (q : BlockView). first_lane q (place w v + 1)) at.block_is, ap (λ k. first_lane B (k + 1)) at.place_is);
-      within = omega (arith, row.within, ap (λ (q : BlockView). length q.lanes) at.block_is, length_lanes net rows.slots.items first (span rows.inner first (first_of (nodes net) blocks (b + 1))));
+      within = omega (arith, row.within, ap (λ (q : BlockView). length q.lanes) at.block_is, length_lanes net rows.slots.items first (span (inner_rows rows.groups) first (first_of (nodes net) blocks (b + 1))));
       far = ap (λ (q : Lane). q.far) lane ∙ sym (away.place_is ∙ ap (λ k. far net x - first_of (nodes net) blocks k) same);
       opposite = ap (λ (q : Lane). q.opposite) lane;
     }
@@ -216,7 +215,7 @@ border_at net blocks rows x ready d e =
     record {
       from = omega (arith, row.from, ap (λ (q : BlockView). first_border q (place w v)) at.block_is, ap (first_border B) at.place_is);
       below = omega (arith, row.below, ap (λ (q : BlockView). first_border q (place w v + 1)) at.block_is, ap (λ k. first_border B (k + 1)) at.place_is);
-      within = omega (arith, row.within, ap (λ (q : BlockView). length q.borders) at.block_is, length_borders net blocks rows.slots.items first (span rows.outer first (first_of (nodes net) blocks (b + 1))));
+      within = omega (arith, row.within, ap (λ (q : BlockView). length q.borders) at.block_is, length_borders net blocks rows.slots.items first (span (outer_rows (nodes net) rows.groups) first (first_of (nodes net) blocks (b + 1))));
       direction = ap (λ (q : Border). q.direction) border;
       near = ap (λ (q : Border). q.near) border ∙ sym at.place_is;
       to = ap (λ (q : Border). q.to) border ∙ sym away.home_is;
@@ -231,15 +230,15 @@ one_slot : (net : Network) (blocks : ℕ) (rows : ByNode) (o : Bool) (x y : Dire
 one_slot net blocks rows o x y ready dx dy ex ey home same =
     let one = row_of net blocks rows o x ready dx ex in
     let two = row_of net blocks rows o y ready dy ey in
-    let base = ap (base_of net blocks (pick o rows)) home in
+    let base = ap (base_of net blocks (pick o net rows)) home in
     let p : one.0 ≡ two.0 = omega (arith, one.1.slot, two.1.slot, one.1.low, two.1.low, base, same) in
-    let index : index_of net x ≡ index_of net y = sym one.1.stands ∙ (ap (slice_index (pick o rows).places.items) p ∙ two.1.stands) in
+    let index : index_of net x ≡ index_of net y = sym one.1.stands ∙ (ap (slice_index (pick o net rows).places) p ∙ two.1.stands) in
     sym (index_is net x dx) ∙ (ap (direction_in net) index ∙ index_is net y dy)
 
 -- what stands in the range of a node
 stands_at : (net : Network) (blocks : ℕ) (rows : ByNode) (o : Bool) (v j : ℕ) → IsReady net blocks rows → v < nodes net
-    → slice_index (starts_from (pick o rows).starts.items (first_of (nodes net) blocks (core.block_of net blocks v)) (first_of (nodes net) blocks (core.block_of net blocks v + 1))) (v - first_of (nodes net) blocks (core.block_of net blocks v)) ≤ j
-    → j < slice_index (starts_from (pick o rows).starts.items (first_of (nodes net) blocks (core.block_of net blocks v)) (first_of (nodes net) blocks (core.block_of net blocks v + 1))) (v - first_of (nodes net) blocks (core.block_of net blocks v) + 1)
+    → slice_index (starts_from (pick o net rows).starts (first_of (nodes net) blocks (core.block_of net blocks v)) (first_of (nodes net) blocks (core.block_of net blocks v + 1))) (v - first_of (nodes net) blocks (core.block_of net blocks v)) ≤ j
+    → j < slice_index (starts_from (pick o net rows).starts (first_of (nodes net) blocks (core.block_of net blocks v)) (first_of (nodes net) blocks (core.block_of net blocks v + 1))) (v - first_of (nodes net) blocks (core.block_of net blocks v) + 1)
     → (x : Direction) × StandsAt (made net blocks rows) o v j x
 stands_at net blocks rows o v j ready lv low high =
     let n = nodes net in
@@ -247,9 +246,9 @@ stands_at net blocks rows o v j ready lv low high =
     let first = first_of n blocks b in
     let next = first_of n blocks (b + 1) in
     let at = at_home net blocks rows v ready lv in
-    let group = pick o rows in
+    let group = pick o net rows in
     let is = picked net blocks rows o ready.rows_are in
-    let starts = group.starts.items in
+    let starts = group.starts in
     let grow = starts_grow net blocks o group is in
     let here = range_of starts first next v at.low (omega (arith, at.high)) in
     let there = ap (slice_index (starts_from starts first next)) (place_next first v at.low)
@@ -258,7 +257,7 @@ stands_at net blocks rows o v j ready lv low high =
     let p = slice_index starts first + j in
     let from : slice_index starts v ≤ p = omega (arith, low, here, base) in
     let below : p < slice_index starts (v + 1) = omega (arith, high, there, base) in
-    let i = slice_index group.places.items p in
+    let i = slice_index group.places p in
     let small = is.small v p lv from below in
     let node = is.node v p lv from below in
     let x = direction_in net i in
@@ -282,10 +281,10 @@ placed net blocks rows ready =
     let home_of = λ (v : ℕ) (l : v < n). at_home net blocks rows v ready l in
     let first = λ (v : ℕ). first_of n blocks (core.block_of net blocks v) in
     let next = λ (v : ℕ). first_of n blocks (core.block_of net blocks v + 1) in
-    let lane_starts = λ (v : ℕ) (l : v < n). ap (λ (q : BlockView). first_lane q (place w v)) (home_of v l).block_is ∙ ap (λ k. slice_index (starts_from rows.inner.starts.items (first v) (next v)) k) (home_of v l).place_is in
-    let lane_ends = λ (v : ℕ) (l : v < n). ap (λ (q : BlockView). first_lane q (place w v + 1)) (home_of v l).block_is ∙ ap (λ k. slice_index (starts_from rows.inner.starts.items (first v) (next v)) (k + 1)) (home_of v l).place_is in
-    let border_starts = λ (v : ℕ) (l : v < n). ap (λ (q : BlockView). first_border q (place w v)) (home_of v l).block_is ∙ ap (λ k. slice_index (starts_from rows.outer.starts.items (first v) (next v)) k) (home_of v l).place_is in
-    let border_ends = λ (v : ℕ) (l : v < n). ap (λ (q : BlockView). first_border q (place w v + 1)) (home_of v l).block_is ∙ ap (λ k. slice_index (starts_from rows.outer.starts.items (first v) (next v)) (k + 1)) (home_of v l).place_is in
+    let lane_starts = λ (v : ℕ) (l : v < n). ap (λ (q : BlockView). first_lane q (place w v)) (home_of v l).block_is ∙ ap (λ k. slice_index (starts_from (inner_rows rows.groups).starts (first v) (next v)) k) (home_of v l).place_is in
+    let lane_ends = λ (v : ℕ) (l : v < n). ap (λ (q : BlockView). first_lane q (place w v + 1)) (home_of v l).block_is ∙ ap (λ k. slice_index (starts_from (inner_rows rows.groups).starts (first v) (next v)) (k + 1)) (home_of v l).place_is in
+    let border_starts = λ (v : ℕ) (l : v < n). ap (λ (q : BlockView). first_border q (place w v)) (home_of v l).block_is ∙ ap (λ k. slice_index (starts_from (outer_rows (nodes net) rows.groups).starts (first v) (next v)) k) (home_of v l).place_is in
+    let border_ends = λ (v : ℕ) (l : v < n). ap (λ (q : BlockView). first_border q (place w v + 1)) (home_of v l).block_is ∙ ap (λ k. slice_index (starts_from (outer_rows (nodes net) rows.groups).starts (first v) (next v)) (k + 1)) (home_of v l).place_is in
     record {
       firsts_len = length_table blocks (first_of n blocks) ∙ sym len;
       slots_len = ready.rows_are.slots_len;
@@ -345,16 +344,16 @@ border_in_block net blocks rows b j ready lb lj =
     let first = first_of n blocks b in
     let next = first_of n blocks (b + 1) in
     let within = first_within n blocks (b + 1) some (omega (arith, lb)) in
-    let group = rows.outer in
+    let group = (outer_rows (nodes net) rows.groups) in
     let is = ready.rows_are.outer in
-    let starts = group.starts.items in
+    let starts = group.starts in
     let grow = starts_grow net blocks true group is in
     let order = first_grows n blocks b some in
     let p = slice_index starts first + j in
     let long = length_borders net blocks rows.slots.items first (span group first next) ∙ length_span net blocks true group first next is within in
     let high : p < slice_index starts next = omega (arith, lj, long) in
     let stands = stands_in net blocks true group first next p is within order (omega arith) high in
-    let i = slice_index group.places.items p in
+    let i = slice_index group.places p in
     let x = direction_in net i in
     let here = lies_in net blocks rows b (near net x) ready lb stands.low stands.high in
     let home : core.block_of net blocks (near net x) ≡ b = sym (ap (λ k. (near net x * k) / n) (count_made net blocks rows)) ∙ here in

@@ -1,11 +1,11 @@
 -- How a net is split into blocks.
-use Rattle.std.specs.Prelude.{◌≡◌, ◌≢◌, ℕ, ◌+◌, ◌-◌, ◌*◌, ◌/◌, ◌<◌, ◌≤◌, Bool, true, false, not, cond, nat_lt, List, [], length, map, replicate, slice_index, slice_range, None}
+use Rattle.std.specs.Prelude.{◌≡◌, ◌≢◌, ℕ, ◌+◌, ◌-◌, ◌*◌, ◌/◌, ◌<◌, ◌≤◌, Bool, true, false, not, cond, nat_lt, List, [], drop, length, map, replicate, slice_index, slice_range, None}
 use Rattle.flow_network.specs.Cut.{Network, nodes}
 use Rattle.flow_network.specs.Preflow.{arc_at}
 use Rattle.flow_network.specs.Progress.{top}
 use Rattle.grouping.specs.declared.Groups.{Groups}
 use Rattle.parcel.specs.declared.direction.Direction.{Direction}
-use Rattle.parcel.specs.Directions.{IsDirection, near, far, opposite, alike}
+use Rattle.parcel.specs.Directions.{IsDirection, near, far, opposite}
 use Rattle.parcel.specs.States.{block_of, is_border}
 use Rattle.parcel.specs.Soundness.{first_residual, opened}
 use Rattle.block_net.specs.declared.rows.Lane.{Lane}
@@ -40,76 +40,92 @@ first_of n blocks b = (b * n + (blocks - 1)) / blocks
 abbrev pub homes_made : Network → ℕ → List ℕ
 homes_made net blocks = table (nodes net) (block_of net blocks)
 
--- the node that a direction leaves, if it leads to another block exactly as asked; else one past all nodes
-abbrev pub key : Network → ℕ → Bool → Direction → ℕ
-key net blocks outer x = cond (alike (is_border net blocks x) outer) (near net x) (nodes net)
+-- what a direction is grouped by: the node that it leaves, and where it leads to another block that node's
+-- number after those of all nodes
+abbrev pub key : Network → ℕ → Direction → ℕ
+key net blocks x = cond (is_border net blocks x) (nodes net + near net x) (near net x)
 
--- the indices of the directions that lead to another block exactly as asked, grouped by their near nodes:
--- those of node v at the places starts v to starts (v + 1)
-pub record AreRows (net : Network) (blocks : ℕ) (leaves : Bool) (rows : Groups) : Type 0 where
-  pub starts_len : length rows.starts.items ≡ nodes net + 2
-  pub places_len : length rows.places.items ≡ directions net
-  pub ordered : (v : ℕ) → v ≤ nodes net
-      → slice_index rows.starts.items v ≤ slice_index rows.starts.items (v + 1)
-  pub within : (v : ℕ) → v ≤ nodes net → slice_index rows.starts.items v ≤ directions net
-  pub small : (v p : ℕ) → v < nodes net → slice_index rows.starts.items v ≤ p
-      → p < slice_index rows.starts.items (v + 1)
-      → slice_index rows.places.items p < directions net
-  pub node : (v p : ℕ) → v < nodes net → slice_index rows.starts.items v ≤ p
-      → p < slice_index rows.starts.items (v + 1)
-      → near net (direction_in net (slice_index rows.places.items p)) ≡ v
-  pub outer : (v p : ℕ) → v < nodes net → slice_index rows.starts.items v ≤ p
-      → p < slice_index rows.starts.items (v + 1)
-      → is_border net blocks (direction_in net (slice_index rows.places.items p)) ≡ leaves
+-- indices of directions by the nodes that they leave: those of node v at the places starts v to starts (v + 1)
+pub record Rows : Type 0 where
+  pub starts : List ℕ
+  pub places : List ℕ
+
+abbrev pub rows_of : List ℕ → List ℕ → Rows
+rows_of starts places = record { starts = starts; places = places }
+
+-- of all directions grouped by their keys, those within blocks
+abbrev pub inner_rows : Groups → Rows
+inner_rows groups = rows_of groups.starts.items groups.places.items
+
+-- and those to other blocks, where there are so many nodes
+abbrev pub outer_rows : ℕ → Groups → Rows
+outer_rows n groups = rows_of (drop n groups.starts.items) groups.places.items
+
+-- the rows are those of the directions that lead to another block exactly as asked
+pub record AreRows (net : Network) (blocks : ℕ) (leaves : Bool) (rows : Rows) : Type 0 where
+  pub starts_len : nodes net < length rows.starts
+  pub places_len : length rows.places ≡ directions net
+  pub ordered : (v : ℕ) → v < nodes net
+      → slice_index rows.starts v ≤ slice_index rows.starts (v + 1)
+  pub within : (v : ℕ) → v ≤ nodes net → slice_index rows.starts v ≤ directions net
+  pub small : (v p : ℕ) → v < nodes net → slice_index rows.starts v ≤ p
+      → p < slice_index rows.starts (v + 1)
+      → slice_index rows.places p < directions net
+  pub node : (v p : ℕ) → v < nodes net → slice_index rows.starts v ≤ p
+      → p < slice_index rows.starts (v + 1)
+      → near net (direction_in net (slice_index rows.places p)) ≡ v
+  pub outer : (v p : ℕ) → v < nodes net → slice_index rows.starts v ≤ p
+      → p < slice_index rows.starts (v + 1)
+      → is_border net blocks (direction_in net (slice_index rows.places p)) ≡ leaves
   pub found : (x : Direction) → IsDirection net x → is_border net blocks x ≡ leaves
-      → (p : ℕ) × (slice_index rows.starts.items (near net x) ≤ p)
-      × (p < slice_index rows.starts.items (near net x + 1))
-      × (slice_index rows.places.items p ≡ index_of net x)
-  pub apart : (p q : ℕ) → slice_index rows.starts.items 0 ≤ p → p < slice_index rows.starts.items (nodes net)
-      → slice_index rows.starts.items 0 ≤ q → q < slice_index rows.starts.items (nodes net)
-      → slice_index rows.places.items p ≡ slice_index rows.places.items q → p ≡ q
+      → (p : ℕ) × (slice_index rows.starts (near net x) ≤ p)
+      × (p < slice_index rows.starts (near net x + 1))
+      × (slice_index rows.places p ≡ index_of net x)
+  pub apart : (p q : ℕ) → slice_index rows.starts 0 ≤ p → p < slice_index rows.starts (nodes net)
+      → slice_index rows.starts 0 ≤ q → q < slice_index rows.starts (nodes net)
+      → slice_index rows.places p ≡ slice_index rows.places q → p ≡ q
 
 -- the rows do not have the index
-abbrev pub IsNoPlace : Network → Groups → ℕ → Type 0
+abbrev pub IsNoPlace : Network → Rows → ℕ → Type 0
 IsNoPlace net rows i =
-    (p : ℕ) → slice_index rows.starts.items 0 ≤ p → p < slice_index rows.starts.items (nodes net)
-    → slice_index rows.places.items p ≢ i
+    (p : ℕ) → slice_index rows.starts 0 ≤ p → p < slice_index rows.starts (nodes net)
+    → slice_index rows.places p ≢ i
 
 -- where the rows of a block begin
-abbrev pub base_of : Network → ℕ → Groups → ℕ → ℕ
-base_of net blocks rows b = slice_index rows.starts.items (first_of (nodes net) blocks b)
+abbrev pub base_of : Network → ℕ → Rows → ℕ → ℕ
+base_of net blocks rows b = slice_index rows.starts (first_of (nodes net) blocks b)
 
 -- the slot of the direction that stands at a place of the rows: its place among those of its block
-abbrev pub slot_at : Network → ℕ → Groups → ℕ → ℕ
+abbrev pub slot_at : Network → ℕ → Rows → ℕ → ℕ
 slot_at net blocks rows p =
     p - base_of net blocks rows
-    (block_of net blocks (near net (direction_in net (slice_index rows.places.items p))))
+    (block_of net blocks (near net (direction_in net (slice_index rows.places p))))
 
 -- the table has the slot of each direction of the rows
-abbrev pub HasSlots : Network → ℕ → Groups → List ℕ → Type 0
+abbrev pub HasSlots : Network → ℕ → Rows → List ℕ → Type 0
 HasSlots net blocks rows slots =
-    (p : ℕ) → slice_index rows.starts.items 0 ≤ p → p < slice_index rows.starts.items (nodes net)
-    → slice_index slots (slice_index rows.places.items p) ≡ slot_at net blocks rows p
+    (p : ℕ) → slice_index rows.starts 0 ≤ p → p < slice_index rows.starts (nodes net)
+    → slice_index slots (slice_index rows.places p) ≡ slot_at net blocks rows p
 
 -- the table has the slot of each direction of the rows that leaves a node of the block
-abbrev pub HasBlockSlots : Network → ℕ → Groups → ℕ → List ℕ → Type 0
+abbrev pub HasBlockSlots : Network → ℕ → Rows → ℕ → List ℕ → Type 0
 HasBlockSlots net blocks rows b slots =
     (p : ℕ) → base_of net blocks rows b ≤ p → p < base_of net blocks rows (b + 1)
-    → slice_index slots (slice_index rows.places.items p) ≡ slot_at net blocks rows p
+    → slice_index slots (slice_index rows.places p) ≡ slot_at net blocks rows p
 
 -- the rows of the block do not have the index
-abbrev pub IsNoBlockPlace : Network → ℕ → Groups → ℕ → ℕ → Type 0
+abbrev pub IsNoBlockPlace : Network → ℕ → Rows → ℕ → ℕ → Type 0
 IsNoBlockPlace net blocks rows b i =
     (p : ℕ) → base_of net blocks rows b ≤ p → p < base_of net blocks rows (b + 1)
-    → slice_index rows.places.items p ≢ i
+    → slice_index rows.places p ≢ i
 
 -- the directions within blocks and those between blocks, each grouped by its near node, and all slots
 pub record AreGrouped (net : Network) (blocks : ℕ) (rows : ByNode) : Type 0 where
-  pub inner : AreRows net blocks false rows.inner
-  pub outer : AreRows net blocks true rows.outer
+  pub inner : AreRows net blocks false (inner_rows rows.groups)
+  pub outer : AreRows net blocks true (outer_rows (nodes net) rows.groups)
   pub slots_len : length rows.slots.items ≡ directions net
-  pub inner_slots : HasSlots net blocks rows.inner rows.slots.items
-  pub outer_slots : HasSlots net blocks rows.outer rows.slots.items
+  pub inner_slots : HasSlots net blocks (inner_rows rows.groups) rows.slots.items
+  pub outer_slots : HasSlots net blocks (outer_rows (nodes net) rows.groups) rows.slots.items
 
 -- ---- a block
 
@@ -145,9 +161,9 @@ borders_made net blocks slots first indices =
     map (λ i. border_made net blocks slots first (direction_in net i)) indices
 
 -- the places of the rows that belong to the nodes from one on to another
-abbrev pub span : Groups → ℕ → ℕ → List ℕ
+abbrev pub span : Rows → ℕ → ℕ → List ℕ
 span rows first next =
-    slice_range rows.places.items (slice_index rows.starts.items first) (slice_index rows.starts.items next)
+    slice_range rows.places (slice_index rows.starts first) (slice_index rows.starts next)
 
 -- the nodes from one on to another as a block
 abbrev pub block_from : Network → ℕ → ByNode → ℕ → ℕ → BlockView
@@ -156,10 +172,10 @@ block_from net blocks rows first next = record {
   excess = slice_range net.sources first next;
   labels = replicate (next - first) 0;
   rooms = slice_range net.sinks first next;
-  starts = starts_from rows.inner.starts.items first next;
-  lanes = lanes_made net rows.slots.items first (span rows.inner first next);
-  border_starts = starts_from rows.outer.starts.items first next;
-  borders = borders_made net blocks rows.slots.items first (span rows.outer first next);
+  starts = starts_from (inner_rows rows.groups).starts first next;
+  lanes = lanes_made net rows.slots.items first (span (inner_rows rows.groups) first next);
+  border_starts = starts_from (outer_rows (nodes net) rows.groups).starts first next;
+  borders = borders_made net blocks rows.slots.items first (span (outer_rows (nodes net) rows.groups) first next);
 }
 
 abbrev pub block_made : Network → ℕ → ByNode → ℕ → BlockView

@@ -3,13 +3,12 @@ ghost use Rattle.flow_network.specs.Limits.{node_limit};
 ghost use Rattle.parcel.specs.Directions.{IsDirection, near, far, opposite};
 ghost use Rattle.parcel.specs.Soundness.{first_residual};
 ghost use Rattle.block_net.specs.Whole.{index_of};
-ghost use Rattle.block_net.specs.Split.{CanSplit, directions, direction_in, starts_from, lane_made, border_made, lanes_made, borders_made, span};
+ghost use Rattle.block_net.specs.Split.{CanSplit, directions, direction_in, starts_from, lane_made, border_made, lanes_made, borders_made, rows_of, span};
 
 use crate::compact::CompactBorder;
 use crate::ends::{block_of, direction_at, far, near};
 use crate::{Border, Lane};
 use flow_network::Net;
-use grouping::Groups;
 use parcel::Direction;
 use std::alloc::{AllocError, Global};
 
@@ -35,14 +34,14 @@ pub(crate) fn starts_from(
 }
 
 /// The directions of the nodes from one on to another, as indices of the table of slots.
-pub(crate) fn span(rows: &Groups, first: usize, next: usize) -> &[u32]
-    requires first { first < length rows.now.starts.items }
-    requires next { next < length rows.now.starts.items }
-    requires order { slice_index rows.now.starts.items first ≤ slice_index rows.now.starts.items next }
-    requires within { slice_index rows.now.starts.items next ≤ length rows.now.places.items }
-    ensures { result.now ≡ span rows.now first next }
+pub(crate) fn span<'a>(starts: &[u32], places: &'a [u32], first: usize, next: usize) -> &'a [u32]
+    requires first { first < length starts.now }
+    requires next { next < length starts.now }
+    requires order { slice_index starts.now first ≤ slice_index starts.now next }
+    requires within { slice_index starts.now next ≤ length places.now }
+    ensures { result.now ≡ span (rows_of starts.now places.now) first next }
 {
-    &rows.places.as_slice()[rows.starts[first] as usize..rows.starts[next] as usize]
+    &places[starts[first] as usize..starts[next] as usize]
 }
 
 /// What a direction can carry before any flow.

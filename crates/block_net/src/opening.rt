@@ -1,7 +1,8 @@
 ghost use Rattle.std.specs.Prelude.{◌≡◌, ◌+◌, ◌-◌, ◌<◌, ◌≤◌, IfOk, length, replicate, slice_range};
 ghost use Rattle.flow_network.specs.Cut.{nodes};
-ghost use Rattle.block_net.specs.Split.{CanSplit, AreGrouped, first_of, starts_from, lanes_made, borders_made, span};
+ghost use Rattle.block_net.specs.Split.{CanSplit, AreGrouped, first_of, starts_from, lanes_made, borders_made, inner_rows, outer_rows, span};
 
+use crate::by_node::outer_starts;
 use crate::compact::CompactBorder;
 use crate::ends::bounds;
 use crate::make::{borders_of, lanes_of, span, starts_from};
@@ -63,17 +64,19 @@ pub(crate) fn inner_of(
     requires split { CanSplit net.now blocks }
     requires rows { AreGrouped net.now blocks rows.now }
     requires block { block < blocks }
-    ensures starts { IfOk result (λ made. made.starts.items ≡ starts_from rows.now.inner.starts.items
+    ensures starts { IfOk result (λ made. made.starts.items ≡ starts_from (inner_rows rows.now.groups).starts
         (first_of (nodes net.now) blocks block) (first_of (nodes net.now) blocks (block + 1))) }
     ensures lanes { IfOk result (λ made. made.lanes.items ≡ lanes_made net.now rows.now.slots.items
-        (first_of (nodes net.now) blocks block) (span rows.now.inner
+        (first_of (nodes net.now) blocks block) (span (inner_rows rows.now.groups)
         (first_of (nodes net.now) blocks block) (first_of (nodes net.now) blocks (block + 1)))) }
 {
     let (first, next) = bounds(net, blocks, block);
-    let inner = span(&rows.inner, first, next);
+    let starts = rows.groups.starts.as_slice();
+    let places = rows.groups.places.as_slice();
+    let inner = span(starts, places, first, next);
     let slots = rows.slots.as_slice();
     Ok(Inner {
-        starts: starts_from(alloc, rows.inner.starts.as_slice(), first, next)?,
+        starts: starts_from(alloc, starts, first, next)?,
         lanes: lanes_of(alloc, net, slots, first, inner)?,
     })
 }
@@ -89,17 +92,19 @@ pub(crate) fn outer_of(
     requires split { CanSplit net.now blocks }
     requires rows { AreGrouped net.now blocks rows.now }
     requires block { block < blocks }
-    ensures starts { IfOk result (λ made. made.starts.items ≡ starts_from rows.now.outer.starts.items
+    ensures starts { IfOk result (λ made. made.starts.items ≡ starts_from (outer_rows (nodes net.now) rows.now.groups).starts
         (first_of (nodes net.now) blocks block) (first_of (nodes net.now) blocks (block + 1))) }
     ensures borders { IfOk result (λ made. made.borders.items ≡ borders_made net.now blocks
-        rows.now.slots.items (first_of (nodes net.now) blocks block) (span rows.now.outer
+        rows.now.slots.items (first_of (nodes net.now) blocks block) (span (outer_rows (nodes net.now) rows.now.groups)
         (first_of (nodes net.now) blocks block) (first_of (nodes net.now) blocks (block + 1)))) }
 {
     let (first, next) = bounds(net, blocks, block);
-    let outer = span(&rows.outer, first, next);
+    let starts = outer_starts(net, &rows.groups);
+    let places = rows.groups.places.as_slice();
+    let outer = span(starts, places, first, next);
     let slots = rows.slots.as_slice();
     Ok(Outer {
-        starts: starts_from(alloc, rows.outer.starts.as_slice(), first, next)?,
+        starts: starts_from(alloc, starts, first, next)?,
         borders: borders_of(alloc, net, blocks, slots, first, outer)?,
     })
 }
