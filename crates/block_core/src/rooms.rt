@@ -104,15 +104,17 @@ impl Rooms {
         Ok(())
     }
 
-    /// Each way has room for a message of each direction between its blocks.
+    /// Each way has room for a message of each direction between its blocks. One block has no way to another, and no arc is read.
     pub fn count(alloc: Global, blocks: &Blocks) -> Result<Rooms, AllocError>
         ensures { IfOk result (IsCounted blocks.now (length blocks.now.net.arcs)) }
     {
-        let homes = blocks.homes(alloc)?;
-        let homes = homes.as_slice();
         let mut rooms = Rooms::new(alloc, blocks.count())?;
+        if blocks.count() == 1 {
+            return Ok(rooms);
+        }
+        let homes = blocks.homes(alloc)?;
         'arcs: for arc in 0..blocks.arcs() {
-            rooms.count_arc(blocks, homes, arc)?;
+            rooms.count_arc(blocks, homes.as_slice(), arc)?;
         }
         Ok(rooms)
     }
