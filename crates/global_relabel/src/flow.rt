@@ -7,7 +7,7 @@ ghost use Rattle.parcel.specs.Soundness.{IsSound};
 ghost use Rattle.parcel.specs.Flows.{shown_flow};
 ghost use Rattle.global_relabel.specs.Homes.{AreHomes};
 
-use crate::homes::homes_of;
+use crate::homes::{homes_of, room_at};
 use block_core::State;
 use block_net::Parts;
 use flow_network::Net;
@@ -66,15 +66,16 @@ fn write_arc_flow(state: &State, homes: &[u8], arc_flow: &mut [u64])
 }
 
 /// What each node gave the sink.
-fn write_sink_flow(state: &State, sink_flow: &mut [u64])
-    requires { length sink_flow.old ≡ nodes state.now.net }
+fn write_sink_flow(state: &State, homes: &[u8], sink_flow: &mut [u64])
+    requires homes { AreHomes state.now.net state.now.blocks homes.now }
+    requires len { length sink_flow.old ≡ nodes state.now.net }
     ensures sound { IsSound state.now }
     ensures sinks { (v : ℕ) → v < nodes state.now.net →
         slice_index sink_flow.new v ≡ slice_index state.now.net.sinks v - room_of state.now v }
 {
     let sinks = state.net().sinks();
     'nodes: for v in 0..state.nodes() {
-        sink_flow[v] = sinks[v] - state.room(v);
+        sink_flow[v] = sinks[v] - room_at(state, homes, v);
     }
 }
 
@@ -89,6 +90,6 @@ pub fn flow_of(alloc: Global, state: &State) -> Result<(Vec<u64>, Vec<u64>), All
     let mut arc_flow = vec![in alloc; 0u64; state.arcs()]?;
     let mut sink_flow = vec![in alloc; 0u64; state.nodes()]?;
     write_arc_flow(state, homes.as_slice(), arc_flow.as_mut_slice());
-    write_sink_flow(state, sink_flow.as_mut_slice());
+    write_sink_flow(state, homes.as_slice(), sink_flow.as_mut_slice());
     Ok((arc_flow, sink_flow))
 }

@@ -1,5 +1,6 @@
 ghost use Rattle.std.specs.Prelude.{◌≡◌, ◌+◌, ◌<◌, ◌≤◌, ℕ, IfOk, length, slice_index};
 ghost use Rattle.flow_network.specs.Cut.{nodes};
+ghost use Rattle.parcel.specs.States.{room_of};
 ghost use Rattle.global_relabel.specs.Homes.{AreHomes};
 
 use block_core::State;
@@ -28,6 +29,17 @@ pub(crate) fn write_homes(state: &State, homes: &mut [u8])
     'each: for b in 0..parts.blocks.len() {
         write_block(homes, parts.firsts[b], parts.blocks[b].len(), b as u8);
     }
+}
+
+/// What a node can still give the sink, by the table of blocks.
+pub(crate) fn room_at(state: &State, homes: &[u8], v: usize) -> u64
+    requires homes { AreHomes state.now.net state.now.blocks homes.now }
+    requires node { v < nodes state.now.net }
+    ensures { result ≡ room_of state.now v }
+{
+    let parts = state.parts();
+    let block = homes[v] as usize;
+    parts.blocks[block].room(v - parts.firsts[block])
 }
 
 /// The block of each node. The only error is that memory runs out.

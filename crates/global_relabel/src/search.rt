@@ -10,6 +10,7 @@ ghost use Rattle.block_core.specs.Parts.{whole_by};
 ghost use Rattle.global_relabel.specs.Search.{LeadsTo, AreMarked};
 ghost use Rattle.global_relabel.specs.Homes.{AreHomes};
 
+use crate::homes::room_at;
 use block_core::State;
 use block_net::{Cells, Parts};
 use flow_network::Net;
@@ -44,7 +45,8 @@ fn spot_of(split: &Split<'_>, w: usize) -> (usize, usize)
 }
 
 /// Labels the nodes that can give the sink more.
-fn mark_rooms(state: &State, labels: &mut [u32], order: &mut [u32]) -> usize
+fn mark_rooms(state: &State, homes: &[u8], labels: &mut [u32], order: &mut [u32]) -> usize
+    requires homes { AreHomes state.now.net state.now.blocks homes.now }
     requires len { length labels.old ≡ nodes state.now.net }
     requires order_len { length order.old ≡ nodes state.now.net }
     ensures limits { IsNet state.now.net }
@@ -54,7 +56,7 @@ fn mark_rooms(state: &State, labels: &mut [u32], order: &mut [u32]) -> usize
     labels.fill(top_label(state.net().graph()));
     let mut count = 0;
     for v in 0..state.nodes() {
-        if state.room(v) > 0 {
+        if room_at(state, homes, v) > 0 {
             count = mark(labels, order, count, v as u32, 1);
         }
     }
@@ -242,7 +244,7 @@ pub(crate) fn write_exact(state: &State, homes: &[u8], labels: &mut [u32], order
         parts: state.parts(),
         homes,
     };
-    let mut count = mark_rooms(state, labels, order);
+    let mut count = mark_rooms(state, homes, labels, order);
     let mut next = 0;
     'search: while next < count {
         let w = order[next] as usize;
