@@ -4,13 +4,15 @@ use Rattle.std.proofs.lemmas.Bool.{cases_eq}
 use Rattle.std.proofs.lemmas.List.{length-set, get_or_read_under, get_or-replicate}
 use Rattle.flow_network.specs.Cut.{Network, nodes}
 use Rattle.parcel.specs.declared.message.Message.{Message}
-use Rattle.parcel.specs.States.{State}
+use Rattle.parcel.specs.States.{State, label_of}
 use Rattle.parcel.specs.Soundness.{IsSound, opened}
-use Rattle.block_net.specs.Views.{BlockView, count, excess_in, room_in, lane_in, pushed, given}
-use Rattle.block_net.specs.Whole.{Whole, no_block, block_at}
+use Rattle.block_net.specs.declared.parts.Parts.{Parts}
+use Rattle.block_net.specs.Views.{BlockView, count, excess_in, label_in, room_in, lane_in, pushed, given}
+use Rattle.block_net.specs.Whole.{Whole, no_block, block_at, home, place}
 use Rattle.block_core.specs.Views.{IsLaid, IsSpot, blocks_in, state_of}
 use Rattle.block_core.specs.Mails.{HasRooms, IsHeld}
 use Rattle.block_core.specs.declared.pieces.Pieces.{Pieces}
+use Rattle.block_core.specs.Parts.{whole_by, IsIn}
 use Rattle.block_core.specs.Pieces.{whole_within, state_in}
 use Rattle.block_core.proofs.Steps.{label_read}
 use Rattle.block_core.proofs.Writing.{block_same}
@@ -111,6 +113,18 @@ opening_from p s is laid held zeros = record {
   sound = subst IsSound (sym is) held.sound;
   flat = λ b l. flat_at (whole_within p) p.ways.messages p.got b laid (subst AreLabelsZero (sym is) zeros) l;
 }
+
+-- where all labels of each block are 0, all labels are
+pub zeros_of_flat : (s : State) (p : Parts) → IsIn s p → ((b : ℕ) → b < length p.blocks.items → IsFlat (block_at (whole_by s.net p) b)) → AreLabelsZero s
+zeros_of_flat s p is all v l =
+    let w = whole_by s.net p in
+    let b = home w v in
+    let lb = is.laid.placed.homes v l in
+    let here : label_in (block_at w b) (place w v) ≡ label_of s v =
+    label_read w (blocks_in w) b (block_at w b) v (place w v) (record { laid = is.laid; view = refl; block = lb; is = refl })
+    (record { node = l; home = refl; place = refl; block = lb })
+    ∙ ap (λ (t : State). label_of t v) is.shown in
+    omega (arith, here, all b lb (place w v) (is.laid.placed.places v l))
 
 pub zeros_at_first : (net : Network) (blocks : ℕ) → AreLabelsZero (opened net blocks)
 zeros_at_first net blocks v l = get_or-replicate (nodes net) v 0 0 l

@@ -4,7 +4,7 @@ ghost use Rattle.block_core.specs.Pieces.{whole_within, state_in};
 ghost use Rattle.block_core.specs.Views.{IsLaid};
 ghost use Rattle.block_net.specs.Views.{count};
 ghost use Rattle.discharge.specs.Steps.{IsOfNode};
-ghost use Rattle.block_cut.specs.Opening.{Opens, AreOpening, AreLabelsZero};
+ghost use Rattle.block_cut.specs.Opening.{Opens, AreOpening, AreLabelsZero, IsFlat};
 
 use block_core::{Pieces, State};
 use block_net::Cells;
@@ -133,12 +133,25 @@ fn state_of(old: &Snapshot<Pieces>, pieces: Pieces) -> State
     pieces.into_state()
 }
 
-/// Whether all labels are 0.
+/// Whether all labels of a block are 0.
+fn is_flat(cells: &Cells) -> bool
+    ensures { IsTrue result → IsFlat cells.now }
+{
+    'nodes: for v in 0..cells.len() {
+        if cells.label(v) != 0 {
+            return false;
+        }
+    }
+    true
+}
+
+/// Whether all labels are 0: block by block, so that no node's block is looked up.
 fn are_labels_zero(state: &State) -> bool
     ensures { IsTrue result → AreLabelsZero state.now }
 {
-    'nodes: for v in 0..state.nodes() {
-        if state.label(v) != 0 {
+    let parts = state.parts();
+    'each: for b in 0..parts.blocks.len() {
+        if !is_flat(&parts.blocks[b]) {
             return false;
         }
     }

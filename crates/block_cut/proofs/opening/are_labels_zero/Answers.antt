@@ -1,0 +1,27 @@
+use Rattle.std.proofs.Common.{◌≡◌, ◌<◌, length, refl, sym, subst, inl, inr, arith}
+use Rattle.std.proofs.lemmas.Bool.{cases_lt}
+use Rattle.block_net.specs.Whole.{block_at}
+use Rattle.block_core.specs.Views.{blocks_in}
+use Rattle.block_core.specs.Parts.{whole_by}
+use Rattle.block_core.proofs.Steps.{at_read}
+use Rattle.block_cut.specs.Opening.{IsFlat}
+use Rattle.block_cut.proofs.Opened.{zeros_of_flat}
+use Rattle.block_cut.proofs.opening.are_labels_zero.Goals as goal
+
+pub each-preserved : goal.each-preserved
+each-preserved c b l =
+    let p = c.parts-parts.result.now in
+    let w = whole_by c.args.state.now.net p in
+    let lb : c.each.b < length p.blocks.items = omega (arith, c.each-test.true, c.len-b-end.ensures) in
+    let at = at_read w (blocks_in w) c.each.b c.index.result.now c.parts-parts.ensures.laid refl lb c.index.ensures in
+    elim (cases_lt b c.each.b) [
+      | inl before ↦ c.each.invariant b before
+      | inr here ↦
+          let same : b ≡ c.each.b = omega (arith, here, l) in
+          rw same (subst IsFlat (sym at.is) (c.is_flat.ensures c.if-not-is_flat.false))
+    ]
+
+pub returns : goal.returns
+returns c = λ yes.
+    zeros_of_flat c.args.state.now c.parts-parts.result.now c.parts-parts.ensures
+    (λ b lb. c.each.invariant b (omega (arith, lb, c.each-test.false, c.len-b-end.ensures)))
