@@ -20,6 +20,10 @@ const PASSES: usize = 3;
 /// A turn ends after more new labels than its block has nodes, divided by this.
 const NODES_A_RISE: usize = 32;
 
+/// In a round, the nodes that first pass on what they have together hold this many times what the sink can still take:
+/// the rest of what there is hardly gets to the sink.
+const SHARE: u64 = 2;
+
 /// How many events a turn does at most: as many as can be counted, since it is new labels that end a turn here.
 const EVENTS: u32 = u32::MAX;
 
@@ -127,8 +131,57 @@ fn empty_orders(alloc: Global, nodes: usize, blocks: usize) -> Result<Vec<Vec<u3
     Ok(orders)
 }
 
-/// For each block its nodes in the reverse of an order of all nodes, numbered from the block's first node. `homes` tells
-/// the block of each node. What is no node is passed over. The only error is that memory runs out.
+/// What a node has, and what it can still give the sink: both 0 of what is no node. `homes` tells the block of each node.
+fn holding(parts: &Parts, homes: &[u8], v: usize) -> (u64, u64) {
+    if v >= homes.len() {
+        return (0, 0);
+    }
+    let b = homes[v] as usize;
+    if b >= parts.blocks.len() || b >= parts.firsts.len() {
+        return (0, 0);
+    }
+    let cells = &parts.blocks[b];
+    let place = v.saturating_sub(parts.firsts[b]);
+    if place >= cells.len() {
+        return (0, 0);
+    }
+    (cells.excess(place), cells.room(place))
+}
+
+/// What the sink can still take of the nodes of an order, in which those that can give it something stand first.
+fn wanted(parts: &Parts, homes: &[u8], order: &[u32]) -> u64 {
+    let mut wanted = 0u64;
+    'nodes: for v in order {
+        let (_, room) = holding(parts, homes, *v as usize);
+        if room == 0 {
+            return wanted;
+        }
+        wanted = wanted.saturating_add(room);
+    }
+    wanted
+}
+
+/// How many of the first nodes of an order together have `SHARE` times what the sink can still take; all of them where
+/// they have less.
+fn near_nodes(parts: &Parts, homes: &[u8], order: &[u32]) -> usize
+    ensures { result ≤ length order.now }
+{
+    let enough = wanted(parts, homes, order).saturating_mul(SHARE);
+    let mut held = 0u64;
+    'nodes: for place in 0..order.len() {
+        let v = order[place] as usize;
+        if held >= enough || v >= homes.len() {
+            return place;
+        }
+        let (excess, _) = holding(parts, homes, v);
+        held = held.saturating_add(excess);
+    }
+    order.len()
+}
+
+/// For each block those of its nodes that are to pass on what they have first, numbered from the block's first node: of
+/// an order of all nodes the first that have enough for the sink, in reverse. `homes` tells the block of each node. What
+/// is no node is passed over. The only error is that memory runs out.
 fn orders_of(
     alloc: Global,
     state: &State,
@@ -137,7 +190,8 @@ fn orders_of(
 ) -> Result<Vec<Vec<u32>>, AllocError> {
     let firsts = state.parts().firsts.as_slice();
     let mut orders = empty_orders(alloc, state.nodes(), state.blocks())?;
-    'nodes: for place in (0..order.len()).rev() {
+    let near = near_nodes(state.parts(), homes, order);
+    'nodes: for place in (0..near).rev() {
         let v = order[place] as usize;
         if v < homes.len() {
             let b = homes[v] as usize;
@@ -200,8 +254,9 @@ fn state_of(old: &Snapshot<Pieces>, net: Net, parts: Parts, ways: Mail) -> State
     pieces.into_state()
 }
 
-/// Turns of the blocks, in passes, in which each block's nodes first pass on what they have in the reverse of an order:
-/// best the nearest to the sink first. `homes` tells the block of each node. The only error is that memory runs out.
+/// Turns of the blocks, in passes, in which nodes of each block first pass on what they have: of an order the first that
+/// have enough for the sink, in reverse. Best are the nearest to the sink first. `homes` tells the block of each node. The
+/// only error is that memory runs out.
 pub(crate) fn work(
     alloc: Global,
     state: State,
