@@ -22,7 +22,7 @@ written_none old label = record {
   same = λ is p l. absurd (omega (arith, l));
 }
 
-unchanged_at : (y x : ℕ) (told : Bool) → told ≡ false → (y ≢ x → told ≡ true) → y ≡ x
+pub unchanged_at : (y x : ℕ) (told : Bool) → told ≡ false → (y ≢ x → told ≡ true) → y ≡ x
 unchanged_at y x told untold told_so = elim (cases_eq y x) [ inl same ↦ same | inr other ↦ (let so = told_so other in absurd (cc (so, untold))) ]
 
 -- one more label

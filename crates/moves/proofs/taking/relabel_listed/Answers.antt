@@ -1,14 +1,11 @@
-use Rattle.std.proofs.Common.{◌≡◌, ◌≢◌, ◌∙◌, true, false, Bool, ℕ, length, get_or, ap, refl, inl, inr, arith}
+use Rattle.std.proofs.Common.{◌≡◌, ◌∙◌, length, get_or, ap, refl, arith}
 use Rattle.std.specs.Prelude.{slice_index}
-use Rattle.std.proofs.lemmas.Bool.{cases_eq}
 use Rattle.label_field.specs.LabelFields.{LabelField}
 use Rattle.labellings.specs.Moves.{label_in}
 use Rattle.moves.proofs.Changes.{label_at, site_has, sites_apart, written_at_more, written_at_each, written_at_changed}
+use Rattle.moves.proofs.Relabelled.{unchanged_at}
 use Rattle.moves.proofs.taking.relabel_listed.Goals as goal
 use Rattle.moves.proofs.taking.relabel_listed.Goals.{then-relabel_site, else-relabel_site}
-
-stayed : (y x : ℕ) (told : Bool) → told ≡ false → (y ≢ x → told ≡ true) → y ≡ x
-stayed y x told untold told_so = elim (cases_eq y x) [ inl same ↦ same | inr other ↦ (let so = told_so other in absurd (cc (so, untold))) ]
 
 pub value_of-value-requires : goal.value_of-value-requires
 value_of-value-requires c =
@@ -45,7 +42,7 @@ loop-index-preserved c =
         written = written_at_more old now c.relabel_site.new.labelling.at label sites i n (label_in move (slice_index now n) bit) c.loop-index.changed
             c.if-relabel_site.changed c.relabel_site.result c.loop-index.invariant.written refl has.0
             (λ k l. sites_apart changes.chosen (length old) sites i k changes.listed c.loop-index-test.true l) own written told.0
-            (λ untold. stayed (label_in move (slice_index now n) bit) (slice_index now n) c.relabel_site.result untold told.1)
+            (λ untold. unchanged_at (label_in move (slice_index now n) bit) (slice_index now n) c.relabel_site.result untold told.1)
             (λ so. w.changed-is) (λ untold. absurd (cc (untold, w.if-relabel_site.true)));
       }
       | else-relabel_site w ↦ record {
@@ -53,7 +50,7 @@ loop-index-preserved c =
         written = written_at_more old now c.relabel_site.new.labelling.at label sites i n (label_in move (slice_index now n) bit) c.loop-index.changed
             c.if-relabel_site.changed c.relabel_site.result c.loop-index.invariant.written refl has.0
             (λ k l. sites_apart changes.chosen (length old) sites i k changes.listed c.loop-index-test.true l) own written told.0
-            (λ untold. stayed (label_in move (slice_index now n) bit) (slice_index now n) c.relabel_site.result untold told.1)
+            (λ untold. unchanged_at (label_in move (slice_index now n) bit) (slice_index now n) c.relabel_site.result untold told.1)
             (λ so. absurd (cc (so, w.if-relabel_site.false))) (λ untold. w.changed-is);
       }
     ]
