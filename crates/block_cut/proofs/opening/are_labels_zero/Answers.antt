@@ -1,6 +1,5 @@
 use Rattle.std.proofs.Common.{◌≡◌, ◌<◌, length, refl, sym, subst, inl, inr, arith}
 use Rattle.std.proofs.lemmas.Bool.{cases_lt}
-use Rattle.block_net.specs.Whole.{block_at}
 use Rattle.block_core.specs.Views.{blocks_in}
 use Rattle.block_core.specs.Parts.{whole_by}
 use Rattle.block_core.proofs.Steps.{at_read}
