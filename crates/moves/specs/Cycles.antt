@@ -1,8 +1,8 @@
 -- The moves of a cycle, and which of them are known.
 use Rattle.std.specs.Prelude.{◌≡◌, ℕ, ◌≤◌, List, slice_get, Some}
 use Rattle.labellings.specs.declared.change.Move.{Move}
-use Rattle.labellings.specs.Energies.{Instance}
-use Rattle.labellings.specs.Moves.{IsBest}
+use Rattle.labellings.specs.Energies.{Instance, labelling}
+use Rattle.labellings.specs.Moves.{IsAllowed, IsBest}
 use Rattle.labellings.specs.Chains.{expansions, swaps}
 use Rattle.moves.specs.declared.cycle.Kind.{Kind}
 use Rattle.moves.specs.declared.cycle.Kind.TheVariants.{Expansion, Swap}
@@ -12,7 +12,8 @@ abbrev pub moves_of : Kind → ℕ → List Move
 moves_of Expansion labels = expansions labels
 moves_of Swap labels = swaps labels
 
--- from this place on, each move of the list changes nothing where it is made from f
+-- from this place on, each move of the list has regular terms and changes nothing where it is made from f
 abbrev pub AreBestFrom : Instance → List Move → ℕ → List ℕ → Type 0
 AreBestFrom m moves place f =
-    (i : ℕ) (move : Move) → place ≤ i → slice_get moves i ≡ Some move → IsBest m move f f
+    (i : ℕ) (move : Move) → place ≤ i → slice_get moves i ≡ Some move
+    → IsAllowed m move (labelling f) × IsBest m move f f

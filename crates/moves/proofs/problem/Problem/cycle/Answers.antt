@@ -3,6 +3,7 @@ use Rattle.std.specs.Prelude.{slice_get}
 use Rattle.std.proofs.lemmas.Result.{err_from_is_err_and}
 use Rattle.labellings.specs.Moves.{IsMoveOf}
 use Rattle.labellings.specs.Chains.{Leads}
+use Rattle.move_energy.proofs.Whole.{pairs_meant}
 use Rattle.moves.specs.Problems.{IsRefusal}
 use Rattle.moves.specs.Cycles.{moves_of}
 use Rattle.moves.proofs.Answers.{sized_still, run_may_come}
@@ -47,7 +48,8 @@ loop-place-preserved g c = record {
       ] in
       so_far_more m (moves_of c.args.kind c.args.self.now.data_cost.labels) c.loop-place.place c.move_at.result c.args.labelling.now.at c.loop-place.labelling.at c.make_move.new.labelling.at
       c.loop-place.changed c.if-branch.changed c.in_ok-make_move.field-0 c.loop-place.last c.if-branch.last
-      (c.loop-place.invariant.so_far m meant) here moved.2 moved.3 told.0 told.1;
+      (pairs_meant _ _ _ _ m _ meant c.as_slice-pairs.ensures.value c.as_slice-pairs.ensures.pairs)
+      (c.loop-place.invariant.so_far m meant) here moved.1 moved.2 moved.3 told.0 told.1;
 }
 
 pub returns-clause-cycled : goal.returns-clause-cycled
