@@ -8,7 +8,7 @@ use Rattle.moves.specs.Problems.{IsRefusal}
 use Rattle.moves.specs.Cycles.{moves_of}
 use Rattle.moves.proofs.Answers.{sized_still, run_may_come}
 use Rattle.moves.proofs.Running.{so_far_starts, so_far_more, moves_split, stopped_leads, ended_leads, ended_known}
-use Rattle.moves.proofs.problem.Problem.cycle.Goals.{then-branch, else-branch}
+use Rattle.moves.proofs.problem.Problem.cycle.Goals.{then-turned, else-turned}
 use Rattle.moves.proofs.problem.Problem.cycle.Goals as goal
 
 pub returns-then-place-last-clause-cycled : goal.returns-then-place-last-clause-cycled
@@ -17,37 +17,36 @@ returns-then-place-last-clause-cycled g c = λ m meant.
     (c.loop-place.invariant.so_far m meant) c.if-place-last.true in
     (stopped.0, ((λ turned. absurd (cc turned)), λ still. stopped.1))
 
-pub returns-in_err-make_move-clause-cycled : goal.returns-in_err-make_move-clause-cycled
-returns-in_err-make_move-clause-cycled g c = λ m meant.
+pub returns-in-Err-clause-cycled : goal.returns-in-Err-clause-cycled
+returns-in-Err-clause-cycled g c = λ m meant.
     let moves = moves_of c.args.kind c.args.self.now.data_cost.labels in
     let place = c.loop-place.place in
     let next = c.move_at.result in
     let so_far = c.loop-place.invariant.so_far m meant in
-    let refused = c.in_err-make_move.ensures.moved m meant in
+    let refused = c.in-Err.ensures.moved m meant in
     let S : ℕ → Type 0 = λ k. slice_get (moves_of c.args.kind k) place ≡ Some next in
     let here = subst S (c.labels-labels.ensures.value ∙ c.requires.sizes.field_labels) c.move_at.ensures.at in
     let P : List ℕ → Type 0 = λ x. Leads m (take place moves) c.args.labelling.now.at x in
-    let Q : List ℕ → Type 0 = λ x. IsRefusal m next x c.in_err-make_move.field-0.0 in
-    let p = err_from_is_err_and c.from_residual.result c.from_residual.ensures.1 in
-    rw (p.1, p.2) (take place moves, drop (place + 1) moves, next, moves_split moves place next here, subst P (sym refused.0) so_far.leads, subst Q (sym refused.0) refused.1)
+    let Q : List ℕ → Type 0 = λ x. IsRefusal m next x c.in-Err.refusal in
+    (take place moves, drop (place + 1) moves, next, moves_split moves place next here, subst P (sym refused.0) so_far.leads, subst Q (sym refused.0) refused.1)
 
 pub loop-place-preserved : goal.loop-place-preserved
 loop-place-preserved g c = record {
-  by_site = c.in_ok-make_move.ensures.by_site;
-  labels = c.in_ok-make_move.ensures.sizes.0 ∙ c.loop-place.invariant.labels;
-  sites = c.in_ok-make_move.ensures.sizes.1 ∙ c.loop-place.invariant.sites;
+  by_site = c.in-Ok.ensures.by_site;
+  labels = c.in-Ok.ensures.sizes.0 ∙ c.loop-place.invariant.labels;
+  sites = c.in-Ok.ensures.sizes.1 ∙ c.loop-place.invariant.sites;
   so_far = λ m meant.
-      let moved = c.in_ok-make_move.ensures.moved m meant in
+      let moved = c.in-Ok.ensures.moved m meant in
       let S : ℕ → Type 0 = λ k. slice_get (moves_of c.args.kind k) c.loop-place.place ≡ Some c.move_at.result in
       let here = subst S (c.labels-labels.ensures.value ∙ c.requires.sizes.field_labels) c.move_at.ensures.at in
-      let told : (c.in_ok-make_move.field-0 ≡ true → (c.if-branch.changed ≡ true) × (c.if-branch.last ≡ c.loop-place.place))
-      × (c.in_ok-make_move.field-0 ≡ false → (c.if-branch.changed ≡ c.loop-place.changed) × (c.if-branch.last ≡ c.loop-place.last)) =
-      elim c.if-branch.branch [
-        | then-branch w ↦ ((λ so. (w.changed-is, w.last-is)), λ still. (let is = w.if-branch.true in absurd (cc (is, still))))
-        | else-branch w ↦ ((λ so. (let is = w.if-branch.false in absurd (cc (is, so)))), λ still. (w.changed-is, w.last-is))
+      let told : (c.in-Ok.turned ≡ true → (c.if-turned.changed ≡ true) × (c.if-turned.last ≡ c.loop-place.place))
+      × (c.in-Ok.turned ≡ false → (c.if-turned.changed ≡ c.loop-place.changed) × (c.if-turned.last ≡ c.loop-place.last)) =
+      elim c.if-turned.branch [
+        | then-turned w ↦ ((λ so. (w.changed-is, w.last-is)), λ still. (let is = w.if-turned.true in absurd (cc (is, still))))
+        | else-turned w ↦ ((λ so. (let is = w.if-turned.false in absurd (cc (is, so)))), λ still. (w.changed-is, w.last-is))
       ] in
       so_far_more m (moves_of c.args.kind c.args.self.now.data_cost.labels) c.loop-place.place c.move_at.result c.args.labelling.now.at c.loop-place.labelling.at c.make_move.new.labelling.at
-      c.loop-place.changed c.if-branch.changed c.in_ok-make_move.field-0 c.loop-place.last c.if-branch.last
+      c.loop-place.changed c.if-turned.changed c.in-Ok.turned c.loop-place.last c.if-turned.last
       (pairs_meant _ _ _ _ m _ meant c.as_slice-pairs.ensures.value c.as_slice-pairs.ensures.pairs)
       (c.loop-place.invariant.so_far m meant) here moved.1 moved.2 moved.3 told.0 told.1;
 }
@@ -64,10 +63,8 @@ returns-clause-known g c = λ m meant.
     ended_known m (moves_of c.args.kind c.args.self.now.data_cost.labels) c.loop-place.place c.args.labelling.now.at c.loop-place.labelling.at c.loop-place.changed c.loop-place.last
     (c.loop-place.invariant.so_far m meant) (omega (arith, all))
 
-pub returns-in_err-make_move-clause-metric : goal.returns-in_err-make_move-clause-metric
-returns-in_err-make_move-clause-metric g c = λ stored m meant.
-    let p = err_from_is_err_and c.from_residual.result c.from_residual.ensures.1 in
-    rw (p.1, p.2) (c.in_err-make_move.ensures.metric stored m meant)
+pub returns-in-Err-clause-metric : goal.returns-in-Err-clause-metric
+returns-in-Err-clause-metric g c = c.in-Err.ensures.metric
 
 pub loop-place-init : goal.loop-place-init
 loop-place-init g c = record {
@@ -109,23 +106,20 @@ make_move-requires-clause-smooth g c = c.requires.smooth
 pub make_move-requires-clause-by_site : goal.make_move-requires-clause-by_site
 make_move-requires-clause-by_site g c = c.loop-place.invariant.by_site
 
-pub returns-in_err-make_move-clause-by_site : goal.returns-in_err-make_move-clause-by_site
-returns-in_err-make_move-clause-by_site g c = c.in_err-make_move.ensures.by_site
+pub returns-in-Err-clause-by_site : goal.returns-in-Err-clause-by_site
+returns-in-Err-clause-by_site g c = c.in-Err.ensures.by_site
 
-pub returns-in_err-make_move-clause-sizes : goal.returns-in_err-make_move-clause-sizes
-returns-in_err-make_move-clause-sizes g c = (c.in_err-make_move.ensures.sizes.0 ∙ c.loop-place.invariant.labels, c.in_err-make_move.ensures.sizes.1 ∙ c.loop-place.invariant.sites)
+pub returns-in-Err-clause-sizes : goal.returns-in-Err-clause-sizes
+returns-in-Err-clause-sizes g c = (c.in-Err.ensures.sizes.0 ∙ c.loop-place.invariant.labels, c.in-Err.ensures.sizes.1 ∙ c.loop-place.invariant.sites)
 
-pub returns-in_err-make_move-clause-known : goal.returns-in_err-make_move-clause-known
-returns-in_err-make_move-clause-known g c = λ m meant.
-    let p = err_from_is_err_and c.from_residual.result c.from_residual.ensures.1 in
-    rw (p.1) tt
+pub returns-in-Err-clause-known : goal.returns-in-Err-clause-known
+returns-in-Err-clause-known g c = λ m meant. tt
 
-pub returns-in_err-make_move-clause-refused : goal.returns-in_err-make_move-clause-refused
-returns-in_err-make_move-clause-refused g c =
+pub returns-in-Err-clause-refused : goal.returns-in-Err-clause-refused
+returns-in-Err-clause-refused g c =
     let P : ℕ → Type 0 = λ k. IsMoveOf k c.move_at.result in
     let below = subst P (c.labels-labels.ensures.value ∙ sym c.loop-place.invariant.labels) c.move_at.ensures.below in
-    let p = err_from_is_err_and c.from_residual.result c.from_residual.ensures.1 in
-    rw (p.1, p.2) (run_may_come (g.H.How.refuses c.args.how.now) c.loop-place.labelling.labels c.move_at.result c.in_err-make_move.field-0.0 below c.in_err-make_move.ensures.refused)
+    run_may_come (g.H.How.refuses c.args.how.now) c.loop-place.labelling.labels c.move_at.result c.in-Err.refusal below c.in-Err.ensures.refused
 
 pub loop-place-smaller : goal.loop-place-smaller
 loop-place-smaller g c = search rules
