@@ -7,7 +7,7 @@ ghost use Rattle.labellings.specs.Energies.{Instance, IsMetric};
 ghost use Rattle.cost_store.specs.Limits.{data_limit, smooth_limit};
 ghost use Rattle.cost_store.specs.Promises.{Answers as AnswersTable, IsCost, IsMetricTable, Keeps, KeepsSmooth, entry_at};
 ghost use Rattle.move_energy.specs.Problems.{AreSized, IsMeant};
-ghost use Rattle.moves.specs.Problems.{IsRun, TellsPairNotRegular};
+ghost use Rattle.moves.specs.Problems.{IsRun, IsRunRefusal, TellsPairNotRegular};
 ghost use Rattle.labelling_runs.specs.Instances.{IsInstanceOf};
 ghost use Rattle.labelling_runs.specs.Runs.{Answers, IsSized, cycle_of};
 
@@ -56,6 +56,7 @@ pub fn run_with_table<F: Fn(u32, u32) -> i64, H: How>(
     ensures run { (m : Instance) →
         IsInstanceOf (F.post data_cost.f) pairs start.labels smooth.now m →
         Answers m moves cycles start.at result }
+    ensures refused { IfErr result (IsRunRefusal (H.refuses how.now)) }
     ensures metric { IsMetricTable start.labels smooth.now → (m : Instance) →
         IsInstanceOf (F.post data_cost.f) pairs start.labels smooth.now m →
         IfErr result (λ e. ¬ TellsPairNotRegular e) }
@@ -109,6 +110,7 @@ fn run_problem<F: Fn(u32, u32) -> i64, V: Fn(u32, u32) -> i64, H: How>(
         IsMeant (F.post problem.now.data_cost.f) (V.post problem.now.smooth_cost.v) problem.now.pairs
         problem.now.data_cost.labels m →
         Answers m moves cycles start.at result }
+    ensures refused { IfErr result (IsRunRefusal (H.refuses how.now)) }
     ensures metric { IsTrue problem.now.smooth_cost.by_metric → (m : Instance) →
         IsMeant (F.post problem.now.data_cost.f) (V.post problem.now.smooth_cost.v) problem.now.pairs
         problem.now.data_cost.labels m →
@@ -157,6 +159,7 @@ fn make_moves<F: Fn(u32, u32) -> i64, V: Fn(u32, u32) -> i64, H: How>(
         problem.now.data_cost.labels m →
         IsRun m (cycle_of moves problem.now.data_cost.labels) cycles labelling.old.at labelling.new.at
         result }
+    ensures refused { IfErr result (IsRunRefusal (H.refuses how.now)) }
 {
     match moves {
         Moves::Expansion => problem.run_expansion(alloc, labelling, cycles, how),

@@ -1,14 +1,15 @@
 //! Runs of moves over tables of costs, as problem files of labellings give them.
 #![tactic(auto)]
 
-ghost use Rattle.std.specs.Prelude.{◌≡◌, pos, ◌+◌, ◌*◌, ◌<◌, ◌≤◌, All, length, slice_index};
+ghost use Rattle.std.specs.Prelude.{◌≡◌, pos, ◌+◌, ◌*◌, ◌<◌, ◌≤◌, All, IfErr, IfOk, length, slice_index};
 ghost use Rattle.label_file.specs.Limits.{IsInLimits};
 ghost use Rattle.label_file.specs.Names.{told};
 ghost use Rattle.run_options.specs.Limits.{data_limit};
 ghost use Rattle.cost_store.specs.Limits.{smooth_limit};
 ghost use Rattle.cost_store.specs.Promises.{IsCost};
 ghost use Rattle.labelling_runs.specs.Instances.{instance_of};
-ghost use Rattle.labelling_runs.specs.Runs.{Answers};
+ghost use Rattle.labelling_runs.specs.Runs.{Answers, IsSized};
+ghost use Rattle.moves.specs.Problems.{IsRunRefusal};
 ghost use Rattle.table_moves.specs.Instances.{data_entry, instance_named};
 
 use cost_store::DataCost;
@@ -20,10 +21,16 @@ use run_options::Moves;
 use std::alloc::Global;
 
 /// Makes the moves that a problem asks for, from its start, and answers where they ended.
+///
+/// Refused: `PairNotRegular` where the next move of the chain has a term that is not regular; what `how` refuses; and out
+/// of memory.
 pub fn run_tables<H: How>(alloc: Global, problem: LabelProblem, how: &H) -> Result<Run, MoveError>
     requires limits { IsInLimits (told problem) }
     requires ready { H.ready how.now }
-    ensures { Answers (instance_named (told problem)) problem.moves problem.cycles problem.start.at result }
+    ensures run { Answers (instance_named (told problem)) problem.moves problem.cycles problem.start.at
+        result }
+    ensures refused { IfErr result (IsRunRefusal (H.refuses how.now)) }
+    ensures sized { IfOk result (IsSized problem.start) }
 {
     let pairs = problem.pairs;
     let start = problem.start;
@@ -58,8 +65,10 @@ fn run_over<H: How>(
         × All (λ cost. cost ≤ data_limit) data.now }
     requires smooth { (length smooth.now ≡ start.labels * start.labels)
         × All (IsCost smooth_limit) smooth.now }
-    ensures { Answers (instance_of pairs start.labels (data_entry start.labels data.now) smooth.now)
+    ensures run { Answers (instance_of pairs start.labels (data_entry start.labels data.now) smooth.now)
         moves cycles start.at result }
+    ensures refused { IfErr result (IsRunRefusal (H.refuses how.now)) }
+    ensures sized { IfOk result (IsSized start) }
 {
     let labels = start.labels();
     let sites = start.sites();

@@ -12,8 +12,8 @@ new-data_cost-requires g c =
     (c.requires.data.0 ∙ (λ i. sym (c.sites-sites.ensures.value ∙ c.requires.sites) i * sym c.labels-labels.ensures.value i))
     c.labels-labels.ensures.sizes.2 c.requires.data.1
 
-pub returns : goal.returns
-returns g c =
+pub returns-clause-run : goal.returns-clause-run
+returns-clause-run g c =
     c.run_with_table.ensures.run (instance_of c.args.pairs c.args.start.labels (data_entry c.args.start.labels c.args.data.now) c.args.smooth.now)
     (record {
       sites_are = refl;

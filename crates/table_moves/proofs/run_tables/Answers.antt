@@ -17,8 +17,8 @@ run_over-requires-clause-smooth g c =
     let limits = c.requires.limits in
     rw c.as_slice-2.ensures.value (limits.smooth_count ∙ (λ i. sym limits.start_labels i * sym limits.start_labels i), limits.smooth_most)
 
-pub returns : goal.returns
-returns g c =
+pub returns-clause-run : goal.returns-clause-run
+returns-clause-run g c =
     let P : ℕ → Type 0 = λ labels. Answers (instance_of c.args.problem.pairs labels (data_entry labels c.args.problem.data.items) c.args.problem.smooth.items)
     c.args.problem.moves c.args.problem.cycles c.args.problem.start.at c.run_over.result in
-    subst P c.requires.limits.start_labels (rw (c.as_slice.ensures.value, c.as_slice-2.ensures.value) at c.run_over.ensures)
+    subst P c.requires.limits.start_labels (rw (c.as_slice.ensures.value, c.as_slice-2.ensures.value) at c.run_over.ensures.run)
