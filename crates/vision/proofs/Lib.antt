@@ -7,3 +7,4 @@ pub mod Weights
 pub mod Writing
 pub mod Parts
 pub mod Metrics
+pub mod Coming

@@ -3,7 +3,8 @@
 use Rattle.std.specs.Prelude.{◌≡◌, ℕ, ◌<◌, ◌⊎◌, ⊤, Bool, true, List, Option}
 use Rattle.moves.specs.declared.error.MoveError.{MoveError}
 use Rattle.moves.specs.declared.error.MoveError.TheVariants as move
-use Rattle.moves.specs.Problems.{TellsPairNotRegular}
+use Rattle.moves.specs.declared.error.SolveError.{SolveError}
+use Rattle.moves.specs.Problems.{IsRunRefusal, TellsPairNotRegular}
 use Rattle.pgm_image.specs.Front.{Refuses}
 use Rattle.pgm_image.specs.Picture.{Picture}
 use Rattle.pgm_image.specs.Raster.{IsFirstAbove}
@@ -95,6 +96,13 @@ IsWrite e = ⊥
 abbrev pub TellsPair : VisionError → Type 0
 TellsPair (Move e) = TellsPairNotRegular e
 TellsPair e = ⊥
+
+-- where the refusal is that of a move: a pair's, or the cut's, as what solves it may refuse. Memory is told
+-- as memory
+abbrev pub MayCome : (SolveError → Type 0) → VisionError → Type 0
+MayCome refuses (Move move.OutOfMemory) = ⊥
+MayCome refuses (Move e) = IsRunRefusal refuses e
+MayCome refuses e = ⊤
 
 -- the writer failed, after so many bytes of which this holds
 abbrev pub IsStop : (ℕ → Type 0) → VisionError → Type 0

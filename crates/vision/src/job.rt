@@ -11,7 +11,7 @@ ghost use Rattle.pgm_image.specs.Picture.{IsPicture, picture};
 ghost use Rattle.pgm_image.specs.Written.{written, Stops};
 ghost use Rattle.run_options.specs.Limits.{trunc_limit};
 ghost use Rattle.run_options.specs.Shapes.{shape_cost};
-ghost use Rattle.vision.specs.Faults.{HasRunFault, IsStop, TellsPair};
+ghost use Rattle.vision.specs.Faults.{HasRunFault, IsStop, MayCome, TellsPair};
 ghost use Rattle.vision.specs.Jobs.{IsFinished, job_of};
 
 use crate::{Report, VisionError};
@@ -63,6 +63,7 @@ pub(crate) fn run_job<F: Fn(u32, u32) -> i64, H: How>(
         IsInstanceOf (F.post data_cost.f) pairs data_cost.labels smooth.now m →
         MatchResult result (IsFinished (job_of m plan.moves plan.cycles picture.now plan.maxval))
         (HasRunFault (job_of m plan.moves plan.cycles picture.now plan.maxval)) }
+    ensures cut { IfErr result (MayCome (H.refuses how.now)) }
     ensures metric { IsMetricTable data_cost.labels smooth.now → (m : Instance) →
         IsInstanceOf (F.post data_cost.f) pairs data_cost.labels smooth.now m →
         IfErr result (λ e. ¬ TellsPair e) }

@@ -3,7 +3,7 @@ ghost use Rattle.std.specs.Prelude.{◌≡◌, ◌≢◌, ◌+◌, ◌<◌, ◌�
 ghost use Rattle.label_field.specs.Grids.{distance};
 ghost use Rattle.image_options.specs.Ranges.{AreRestoreOptions};
 ghost use Rattle.run_options.specs.declared.shape.Shape.TheVariants.{Quadratic};
-ghost use Rattle.vision.specs.Faults.{HasRestoreFault, HasRunFault, IsWrite, Leaves, TellsPair};
+ghost use Rattle.vision.specs.Faults.{HasRestoreFault, HasRunFault, IsWrite, Leaves, MayCome, TellsPair};
 ghost use Rattle.vision.specs.Inputs.{IsRestoreJob};
 ghost use Rattle.vision.specs.Jobs.{Does, IsFinished, Job, restore_job};
 
@@ -47,6 +47,7 @@ pub fn run_restore<H: How, S: Sink>(
     ensures sound { OnOk result (S.has_failed sink.new ≡ S.has_failed sink.old) }
     ensures refused { IfErr result (Leaves (IsRestoreJob options.now input.now)
         (HasRestoreFault options.now input.now) (S.held sink.old) (S.held sink.new) (S.has_failed sink.new)) }
+    ensures cut { IfErr result (MayCome (H.refuses how.now)) }
     ensures metric { options.now.smooth ≢ Quadratic → IfErr result (λ e. ¬ TellsPair e) }
     ensures unchanged { IfErr result (λ e. (¬ IsWrite e) → sink.new ≡ sink.old) }
     ensures kept { S.loan sink.new ≡ S.loan sink.old }
@@ -67,6 +68,7 @@ fn restore_input<H: How>(
     ensures finished { IfOk result (λ f. (job : Job) × IsRestoreJob options.now input.now job
         × IsFinished job f) }
     ensures refused { IfErr result (HasRestoreFault options.now input.now) }
+    ensures cut { IfErr result (MayCome (H.refuses how.now)) }
     ensures metric { options.now.smooth ≢ Quadratic → IfErr result (λ e. ¬ TellsPair e) }
 {
     let picture = read_one(alloc, input)?;
@@ -88,6 +90,7 @@ fn restore<H: How>(
     requires ready { H.ready how.now }
     ensures run { MatchResult result (IsFinished (restore_job options.now picture.now))
         (HasRunFault (restore_job options.now picture.now)) }
+    ensures cut { IfErr result (MayCome (H.refuses how.now)) }
     ensures metric { options.now.smooth ≢ Quadratic → IfErr result (λ e. ¬ TellsPair e) }
 {
     let samples = picture.samples();

@@ -2,7 +2,7 @@
 ghost use Rattle.std.specs.Prelude.{◌≡◌, ◌*◌, ◌<◌, ◌≤◌, pos, All, IfOk, IfErr, OnOk, MatchOption, MatchResult, length, slice_index};
 ghost use Rattle.image_options.specs.Ranges.{AreSegmentOptions};
 ghost use Rattle.pgm_image.specs.Raster.{IsFirstAbove};
-ghost use Rattle.vision.specs.Faults.{HasRunFault, HasSegmentFault, IsWrite, Leaves, TellsPair};
+ghost use Rattle.vision.specs.Faults.{HasRunFault, HasSegmentFault, IsWrite, Leaves, MayCome, TellsPair};
 ghost use Rattle.vision.specs.Inputs.{AreSeeds, IsSegmentJob, SameSizes};
 ghost use Rattle.vision.specs.Jobs.{Does, IsFinished, Job, segment_job};
 ghost use Rattle.vision.specs.Problems.{part_cost};
@@ -53,6 +53,7 @@ pub fn run_segment<H: How, S: Sink>(
     ensures sound { OnOk result (S.has_failed sink.new ≡ S.has_failed sink.old) }
     ensures refused { IfErr result (Leaves (IsSegmentJob options.now input.now)
         (HasSegmentFault options.now input.now) (S.held sink.old) (S.held sink.new) (S.has_failed sink.new)) }
+    ensures cut { IfErr result (MayCome (H.refuses how.now)) }
     ensures metric { IfErr result (λ e. ¬ TellsPair e) }
     ensures unchanged { IfErr result (λ e. (¬ IsWrite e) → sink.new ≡ sink.old) }
     ensures kept { S.loan sink.new ≡ S.loan sink.old }
@@ -73,6 +74,7 @@ fn part_input<H: How>(
     ensures finished { IfOk result (λ f. (job : Job) × IsSegmentJob options.now input.now job
         × IsFinished job f) }
     ensures refused { IfErr result (HasSegmentFault options.now input.now) }
+    ensures cut { IfErr result (MayCome (H.refuses how.now)) }
     ensures metric { IfErr result (λ e. ¬ TellsPair e) }
 {
     let (picture, seeds) = read_two(alloc, input)?;
@@ -107,6 +109,7 @@ fn part<H: How>(
     requires ready { H.ready how.now }
     ensures run { MatchResult result (IsFinished (segment_job options.now picture.now seeds.now))
         (HasRunFault (segment_job options.now picture.now seeds.now)) }
+    ensures cut { IfErr result (MayCome (H.refuses how.now)) }
     ensures metric { IfErr result (λ e. ¬ TellsPair e) }
 {
     let smooth = smooth_costs(alloc, Shape::Potts, 1, 2)?;

@@ -4,7 +4,7 @@ ghost use Rattle.image_options.specs.Limits.{cap_limit};
 ghost use Rattle.image_options.specs.Ranges.{AreStereoOptions};
 ghost use Rattle.pgm_image.specs.Picture.{IsPicture};
 ghost use Rattle.run_options.specs.declared.shape.Shape.TheVariants.{Quadratic};
-ghost use Rattle.vision.specs.Faults.{HasRunFault, HasStereoFault, IsWrite, Leaves, TellsPair};
+ghost use Rattle.vision.specs.Faults.{HasRunFault, HasStereoFault, IsWrite, Leaves, MayCome, TellsPair};
 ghost use Rattle.vision.specs.Inputs.{IsStereoJob, SameSizes};
 ghost use Rattle.vision.specs.Jobs.{Does, IsFinished, Job, stereo_job};
 ghost use Rattle.vision.specs.Problems.{shift_cost};
@@ -48,6 +48,7 @@ pub fn run_stereo<H: How, S: Sink>(
     ensures sound { OnOk result (S.has_failed sink.new ≡ S.has_failed sink.old) }
     ensures refused { IfErr result (Leaves (IsStereoJob options.now input.now)
         (HasStereoFault options.now input.now) (S.held sink.old) (S.held sink.new) (S.has_failed sink.new)) }
+    ensures cut { IfErr result (MayCome (H.refuses how.now)) }
     ensures metric { options.now.smooth ≢ Quadratic → IfErr result (λ e. ¬ TellsPair e) }
     ensures unchanged { IfErr result (λ e. (¬ IsWrite e) → sink.new ≡ sink.old) }
     ensures kept { S.loan sink.new ≡ S.loan sink.old }
@@ -68,6 +69,7 @@ fn match_input<H: How>(
     ensures finished { IfOk result (λ f. (job : Job) × IsStereoJob options.now input.now job
         × IsFinished job f) }
     ensures refused { IfErr result (HasStereoFault options.now input.now) }
+    ensures cut { IfErr result (MayCome (H.refuses how.now)) }
     ensures metric { options.now.smooth ≢ Quadratic → IfErr result (λ e. ¬ TellsPair e) }
 {
     let (left, right) = read_two(alloc, input)?;
@@ -87,6 +89,7 @@ fn match_pictures<H: How>(
     requires ready { H.ready how.now }
     ensures run { MatchResult result (IsFinished (stereo_job options.now left.now right.now))
         (HasRunFault (stereo_job options.now left.now right.now)) }
+    ensures cut { IfErr result (MayCome (H.refuses how.now)) }
     ensures metric { options.now.smooth ≢ Quadratic → IfErr result (λ e. ¬ TellsPair e) }
 {
     let labels = options.labels;

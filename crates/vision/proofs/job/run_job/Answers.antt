@@ -1,6 +1,7 @@
 use Rattle.std.proofs.Common.{◌∙◌, replicate, sym, ap}
 use Rattle.std.proofs.lemmas.Result.{err_from_is_err_and}
 use Rattle.label_field.specs.LabelFields.{LabelField}
+use Rattle.vision.proofs.Coming.{run_may_come}
 use Rattle.vision.proofs.Finishing.{finished, refused}
 use Rattle.vision.proofs.Metrics.{move_tells}
 use Rattle.vision.proofs.job.run_job.Goals as goal
@@ -22,3 +23,8 @@ returns-in_err-run-clause-metric g c = λ metric m is.
     let labels = ap (λ (f : LabelField). f.labels) c.in_ok-start.ensures in
     let p = err_from_is_err_and c.from_residual-in_err-run.result c.from_residual-in_err-run.ensures.1 in
     rw (p.1, p.2) (move_tells _ (c.in_err-run.ensures.metric (rw labels metric) m (rw labels is)))
+
+pub returns-in_err-run-clause-cut : goal.returns-in_err-run-clause-cut
+returns-in_err-run-clause-cut g c =
+    let p = err_from_is_err_and c.from_residual-in_err-run.result c.from_residual-in_err-run.ensures.1 in
+    rw (p.1, p.2) (run_may_come (g.H.How.refuses c.args.how.now) _ c.in_err-run.ensures.refused)
