@@ -1,9 +1,13 @@
 -- Labels written one after another.
-use Rattle.std.proofs.Common.{◌≡◌, ◌≢◌, ℕ, ◌+◌, ◌<◌, ◌≤◌, Bool, true, false, List, length, IsTrue, refl, sym, ap, ◌∙◌, inl, inr, arith}
+use Rattle.std.proofs.Common.{◌≡◌, ◌≢◌, ℕ, ◌+◌, ◌<◌, ◌≤◌, Bool, true, false, List, length, IsTrue, refl, sym, ap, ◌∙◌, inl, inr, subst, arith}
 use Rattle.std.specs.Prelude.{slice_index, slice_set, IsFalse}
 use Rattle.std.proofs.lemmas.Bool.{cases_lt, cases_eq, cases_Bool}
 use Rattle.std.proofs.lemmas.List.{length-set, get_or-set_same, get_or-set_other}
+use Rattle.labellings.specs.declared.change.Move.{Move}
+use Rattle.labellings.specs.Energies.{labelling}
+use Rattle.labellings.specs.Moves.{MayBecome, IsReached, label_in}
 use Rattle.labellings.proofs.Best.{lists_agree}
+use Rattle.labellings.proofs.Reaching.{becomes_label_in}
 
 -- the labels below n are as they are to be, the others as they were, and whether one is another than it was
 pub record AreWritten (old new : List ℕ) (label : ℕ → ℕ) (n : ℕ) (changed : Bool) : Type 0 where
@@ -65,3 +69,10 @@ written_all old new label n changed written all = (
       let within : p < n = omega (arith, l, all) in
       written.done p within ∙ written.same no p within)),
 )
+
+-- labels that values make are reached, whatever the values are
+pub values_reach : (move : Move) (f g : List ℕ) (x : ℕ → Bool) → ((p : ℕ) → p < length f → slice_index g p ≡ label_in move (slice_index f p) (x p))
+    → IsReached move (length f) (labelling f) (labelling g)
+values_reach move f g x each p l =
+    let P : ℕ → Type 0 = λ label. MayBecome move (labelling f p) label in
+    subst P (sym (each p l)) (becomes_label_in move (labelling f p) (x p))

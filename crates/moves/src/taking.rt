@@ -8,6 +8,7 @@ ghost use Rattle.move_energy.specs.Problems.{AreSized, IsMeant};
 ghost use Rattle.deciding.specs.Decisions.{IsSmallestLeast};
 ghost use Rattle.deciding.specs.MoveValues.{move_value};
 ghost use Rattle.moves.specs.Building.{site_values, HasChanges, AreChangesListed};
+ghost use Rattle.moves.specs.Problems.{IsMade};
 
 use crate::Problem;
 use crate::room::Room;
@@ -30,6 +31,7 @@ impl<F: Fn(u32, u32) -> i64, V: Fn(u32, u32) -> i64> Problem<F, V> {
         requires changes { IsTrue room.now.deciding.lists.listed →
             AreChangesListed self.now.pairs change field.old.at room.now }
         ensures sizes { (field.new.labels ≡ field.old.labels) × (length field.new.at ≡ length field.old.at) }
+        ensures made { IsMade change field.old.at field.new.at result }
         ensures best { (m : Instance) →
             IsMeant (F.post self.now.data_cost.f) (V.post self.now.smooth_cost.v) self.now.pairs
             self.now.data_cost.labels m →

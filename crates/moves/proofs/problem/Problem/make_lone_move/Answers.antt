@@ -18,6 +18,9 @@ returns-clause-sizes g c = c.make_move.ensures.sizes
 pub returns-clause-moved : goal.returns-clause-moved
 returns-clause-moved g c = c.make_move.ensures.moved
 
+pub returns-clause-made : goal.returns-clause-made
+returns-clause-made g c = c.make_move.ensures.made
+
 pub returns-clause-unchanged : goal.returns-clause-unchanged
 returns-clause-unchanged g c = c.make_move.ensures.unchanged
 

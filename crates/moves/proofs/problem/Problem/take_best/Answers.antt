@@ -2,6 +2,9 @@ use Rattle.std.proofs.Common.{rules, ◌∙◌, ℕ, List, length, ap, sym, refl
 use Rattle.move_energy.proofs.Whole.{pairs_meant}
 use Rattle.moves.specs.Building.{site_values}
 use Rattle.moves.proofs.Least.{expanded_best, lower_best, kept_best}
+use Rattle.labellings.specs.Energies.{labelling}
+use Rattle.labellings.proofs.Best.{stays-reached}
+use Rattle.moves.proofs.Relabelled.{values_reach}
 use Rattle.moves.proofs.Rising.{not_lower}
 use Rattle.moves.proofs.problem.Problem.take_best.Goals as goal
 
@@ -34,6 +37,22 @@ returns-else-not-lowers-clause-best g c = λ m meant least.
           c.relabel-in-Swap.ensures.sizes.1 (λ p l. c.relabel-in-Swap.ensures.each p (omega (arith, l, size))) (told.0 c.if-not-lowers.false),
       c.relabel-in-Swap.ensures.changed,
     )
+
+pub returns-in-Expand-clause-made : goal.returns-in-Expand-clause-made
+returns-in-Expand-clause-made g c = (
+  values_reach c.args.change c.args.field.now.at c.relabel.new.labelling.at (site_values c.args.room.now.built.variables.choices.items) c.relabel.ensures.each,
+  c.relabel.ensures.changed,
+)
+
+pub returns-then-not-lowers-clause-made : goal.returns-then-not-lowers-clause-made
+returns-then-not-lowers-clause-made g c =
+    (stays-reached c.args.change (length c.args.field.now.at) (labelling c.args.field.now.at), ((λ yes. absurd (cc yes)), λ still. refl))
+
+pub returns-else-not-lowers-clause-made : goal.returns-else-not-lowers-clause-made
+returns-else-not-lowers-clause-made g c = (
+  values_reach c.args.change c.args.field.now.at c.relabel-in-Swap.new.labelling.at (site_values c.args.room.now.built.variables.choices.items) c.relabel-in-Swap.ensures.each,
+  c.relabel-in-Swap.ensures.changed,
+)
 
 pub relabel-requires-clause-below : goal.relabel-requires-clause-below
 relabel-requires-clause-below g c = c.requires.below
