@@ -12,7 +12,7 @@ use std::alloc::{AllocError, Global};
 /// The net of an energy.
 #[derive(Drop)]
 pub struct Compiled {
-    /// A node for each variable, in their order, and then a hidden node for each term of three variables.
+    /// A node for each variable, in their order, and then hidden nodes, at most one for each term of three variables.
     /// The node of a variable is on the sink's side of a cut where the variable is 1. Its capacities are in
     /// the unit of the energy.
     pub net: Net,

@@ -28,8 +28,8 @@ use std::alloc::{AllocError, Global};
 pub struct Quadratic {
     /// What each assignment costs.
     pub constant: i64,
-    /// What each node costs where it is 1: a node for each variable, in their order, and then a hidden node for each
-    /// term of three variables.
+    /// What each node costs where it is 1: a node for each variable, in their order, and then hidden nodes, at most one
+    /// for each term of three variables.
     pub weights: Vec<i64>,
     /// What a pair of nodes costs where the first is 0 and the second is 1.
     pub arcs: Vec<Arc>,
