@@ -1,11 +1,18 @@
 -- The lists of the sites that a move has left to look at, made where these are few.
-use Rattle.std.specs.Prelude.{◌≡◌, ◌↔◌, ◌==◌, ◌||◌, ℕ, ◌*◌, ◌≤◌, Bool, false, not, IsTrue, List, length}
+use Rattle.std.specs.Prelude.{◌≡◌, ◌↔◌, ◌==◌, ◌||◌, ℕ, ◌*◌, ◌≤◌, Bool, false, not, IsTrue, List, [], length}
 use Rattle.labellings.specs.declared.change.Move.{Move}
 use Rattle.labellings.specs.Moves.{label_in}
 use Rattle.by_site.specs.BySite.{IsListing}
 use Rattle.move_energy.specs.declared.choice.Choice.{Choice}
 use Rattle.move_energy.specs.Choices.{bit_of, choice_at, open_count, open_at, AreOpenSites}
 use Rattle.deciding.specs.declared.listing.Lists.{Lists}
+
+-- nothing is counted, and no site is listed
+pub record AreEmpty (lists : Lists) : Type 0 where
+  pub count : lists.count ≡ 0
+  pub listed : lists.listed ≡ false
+  pub opened : lists.opened.items ≡ []
+  pub changing : lists.changing.items ≡ []
 
 -- which sites are open, or decided to get another label than they have
 abbrev pub changes : Move → (ℕ → ℕ) → List Choice → ℕ → Bool

@@ -56,6 +56,11 @@ pub record IsSized (n : ℕ) (b : Bounds) : Type 0 where
   pub least : length b.least.items ≡ n
   pub greatest : length b.greatest.items ≡ n
 
+-- there are no sites, and none waits
+pub record AreOfNoSites (b : Bounds) : Type 0 where
+  pub sized : IsSized 0 b
+  pub none : length b.waiting.items ≡ 0
+
 -- exactly the sites that the move can change are open, the others are at 0, and no site waits
 pub record AreUndecided (move : Move) (f : List ℕ) (b : Bounds) : Type 0 where
   pub sized : IsSized (length f) b

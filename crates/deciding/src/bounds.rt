@@ -1,6 +1,6 @@
 //! What is known of each site while sites are decided.
 ghost use Rattle.std.specs.Prelude.{◌≡◌, ◌↔◌, ◌+◌, ◌<◌, ◌^◌, ℕ, ℤ, pos, ◌+ℤ◌, ◌≤ℤ◌, ◌<ℤ◌, ◌⊎◌, ◌++◌, ◌∷◌, [], IsTrue, length, slice_set, unsigned_abs, OnOk};
-ghost use Rattle.deciding.specs.Working.{bound_at, CanDecide, CallsUp};
+ghost use Rattle.deciding.specs.Working.{bound_at, CanDecide, CallsUp, AreOfNoSites};
 
 use move_energy::Choice;
 use std::alloc::{AllocError, Global};
@@ -11,9 +11,10 @@ use std::alloc::{AllocError, Global};
 #[derive(Drop)]
 pub struct Bounds {
     pub choices: Vec<Choice>,
+    /// As many as there are sites. What the numbers are once the sites are decided, no clause says.
     pub least: Vec<i64>,
-    pub greatest: Vec<i64>,
-    pub waiting: Vec<u32>,
+    pub(crate) greatest: Vec<i64>,
+    pub(crate) waiting: Vec<u32>,
 }
 
 /// Adds to a number of a list.
@@ -28,7 +29,9 @@ fn add_at(numbers: &mut Vec<i64>, place: usize, by: i64)
 
 impl Bounds {
     /// No sites. It takes no memory.
-    pub fn new(alloc: Global) -> Bounds {
+    pub fn new(alloc: Global) -> Bounds
+        ensures { AreOfNoSites result }
+    {
         Bounds {
             choices: Vec::new(alloc),
             least: Vec::new(alloc),

@@ -1,11 +1,11 @@
 //! The sites that a move has left to look at, listed where they are few.
-ghost use Rattle.std.specs.Prelude.{◌≡◌, ◌↔◌, ◌==◌, ◌||◌, ◌<◌, ◌≤◌, ◌++◌, ◌∷◌, [], cond, not, false, length, IsTrue, OnOk};
+ghost use Rattle.std.specs.Prelude.{◌≡◌, ◌↔◌, ◌==◌, ◌||◌, ◌<◌, ◌≤◌, ◌++◌, ◌∷◌, [], cond, not, false, length, IsTrue, OnOk, OnErr};
 ghost use Rattle.by_site.specs.BySite.{IsListing};
 ghost use Rattle.labellings.specs.Energies.{labelling};
 ghost use Rattle.labellings.specs.Moves.{label_in};
 ghost use Rattle.label_field.specs.Limits.{site_limit};
 ghost use Rattle.move_energy.specs.Choices.{bit_of, open_count, is_open, AreOpenSites};
-ghost use Rattle.deciding.specs.Listed.{changes, AreListed};
+ghost use Rattle.deciding.specs.Listed.{changes, AreListed, AreEmpty};
 
 use labellings::Move;
 use move_energy::Choice;
@@ -59,7 +59,7 @@ fn add_chosen(list: &mut Vec<u32>, site: u32, chosen: bool) -> Result<(), AllocE
 impl Lists {
     /// No list. It takes no memory.
     pub fn empty(alloc: Global) -> Lists
-        ensures { result.listed ≡ false }
+        ensures { AreEmpty result }
     {
         Lists {
             count: 0,
@@ -105,7 +105,8 @@ impl Lists {
         Ok(())
     }
 
-    /// Counts the open sites of a move that was decided, and lists them where they are few.
+    /// Counts the open sites of a move that was decided, and lists them where they are few. `listed` is written once they
+    /// are.
     pub(crate) fn fill(
         &mut self,
         at: &[u8],
@@ -113,13 +114,15 @@ impl Lists {
         choices: &[Choice],
     ) -> Result<(), AllocError>
         requires sites { (length choices.now ≡ length at.now) × (length at.now ≤ site_limit) }
-        ensures { OnOk result (AreListed change (labelling at.now) choices.now self.new) }
+        ensures lists { OnOk result (AreListed change (labelling at.now) choices.now self.new) }
+        ensures refused { OnErr result (self.new.listed ≡ self.old.listed) }
     {
         self.count = count_open(choices);
-        self.listed = self.count * LISTED_SHARE <= choices.len();
-        if !self.listed {
-            return Ok(());
+        let few = self.count * LISTED_SHARE <= choices.len();
+        if few {
+            self.list(at, change, choices)?;
         }
-        self.list(at, change, choices)
+        self.listed = few;
+        Ok(())
     }
 }

@@ -1,5 +1,5 @@
 //! Deciding the sites of a move.
-ghost use Rattle.std.specs.Prelude.{◌≡◌, ◌<◌, ◌≤◌, ℕ, All, length, IfOk, OnOk, false};
+ghost use Rattle.std.specs.Prelude.{◌≡◌, ◌<◌, ◌≤◌, ℕ, [], All, length, IfOk, OnOk, OnErr, false};
 ghost use Rattle.by_site.specs.BySite.{AreBySite};
 ghost use Rattle.labellings.specs.Energies.{Instance, labelling};
 ghost use Rattle.labellings.specs.Moves.{IsMoveOf};
@@ -7,7 +7,8 @@ ghost use Rattle.cost_store.specs.Limits.{data_limit};
 ghost use Rattle.cost_store.specs.Promises.{Keeps, KeepsSmooth};
 ghost use Rattle.move_energy.specs.Problems.{IsMeant};
 ghost use Rattle.deciding.specs.Decided.{IsDecidedMove};
-ghost use Rattle.deciding.specs.Listed.{AreListed};
+ghost use Rattle.deciding.specs.Listed.{AreListed, AreEmpty};
+ghost use Rattle.deciding.specs.Working.{IsSized, AreOfNoSites};
 
 use crate::{Bounds, Lists};
 use by_site::group_pairs;
@@ -27,9 +28,12 @@ pub struct Deciding {
 }
 
 impl Deciding {
-    /// Of no pairs. It takes no memory.
+    /// Of no pairs, with nothing known of any site. It takes no memory.
     pub fn empty(alloc: Global) -> Deciding
-        ensures { result.lists.listed ≡ false }
+        ensures listed { result.lists.listed ≡ false }
+        ensures ends { (result.ends.starts.items ≡ []) × (result.ends.places.items ≡ []) }
+        ensures bounds { AreOfNoSites result.bounds }
+        ensures lists { AreEmpty result.lists }
     {
         Deciding {
             ends: Groups {
@@ -41,9 +45,11 @@ impl Deciding {
         }
     }
 
-    /// Room for the moves of a run over these pairs.
+    /// Room for the moves of a run over these pairs. Nothing is known of any site yet.
     pub fn new(alloc: Global, pairs: &Pairs) -> Result<Deciding, AllocError>
-        ensures { IfOk result (λ d. AreBySite pairs.now d.ends) }
+        ensures by_site { IfOk result (λ d. AreBySite pairs.now d.ends) }
+        ensures bounds { IfOk result (λ d. AreOfNoSites d.bounds) }
+        ensures lists { IfOk result (λ d. AreEmpty d.lists) }
     {
         Ok(Deciding {
             ends: group_pairs(alloc, pairs)?,
@@ -60,7 +66,7 @@ impl Deciding {
     ///
     /// Sites that the move cannot change are `Zero` from the beginning. It looks at each pair with another end once, and once
     /// more for each such end that is decided (Iyer, Jegelka, Bilmes, ICML 2013). Then `lists` has how many sites are open,
-    /// and lists them where they are few.
+    /// and lists them where they are few. Where it refuses, nothing is listed, and no more is said of `bounds` and `lists`.
     pub fn decide<F: Fn(u32, u32) -> i64, V: Fn(u32, u32) -> i64>(
         &mut self,
         pairs: &Pairs,
@@ -80,14 +86,17 @@ impl Deciding {
         requires by_site { AreBySite pairs.now self.old.ends }
         ensures kept { self.new.ends ≡ self.old.ends }
         ensures count { OnOk result (length self.new.bounds.choices.items ≡ length at.now) }
+        ensures sized { OnOk result (IsSized (length at.now) self.new.bounds) }
         ensures decided { (m : Instance) →
             IsMeant (F.post data_cost.now.f) (V.post smooth_cost.now.v) pairs.now data_cost.now.labels m →
             IsDecidedMove m change at.now self.new.bounds.choices.items result }
         ensures listed { OnOk result (AreListed change (labelling at.now) self.new.bounds.choices.items
             self.new.lists) }
+        ensures refused { OnErr result (self.new.lists.listed ≡ false) }
     {
         let _pairs = pairs.as_slice();
         let _sites = pairs.sites();
+        self.lists.listed = false;
         self.bounds.count_sites(data_cost, at, change)?;
         self.bounds.count_pairs(pairs, smooth_cost, at, change)?;
         self.bounds.find_waiting()?;
