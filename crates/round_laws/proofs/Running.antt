@@ -301,7 +301,7 @@ history_goes b first (e ∷ h) l ways t sound sl by led begins =
     let rest = history_goes b first h mid goes.ways' t sound' goes.log goes.beside led.2 begins in
     (rest.0, (with_ways mid goes.ways', goes.happens, rest.1), rest.2)
 
-no_way : (n i j : ℕ) → way_at (no_messages n) i j ≡ []
+pub no_way : (n i j : ℕ) → way_at (no_messages n) i j ≡ []
 no_way n i j = elim (cases_lt i n) [
   | inr past ↦ ap (λ (r : List (List Message)). get_or r j []) (get_or_past (no_messages n) i [] (omega (arith, past, length-replicate n (replicate {A = List Message} n []))))
   | inl li ↦

@@ -61,11 +61,17 @@ IsOf b s (Refuse c to) = to ≡ b
 IsOf b s (Settle c to) = to ≡ b
 IsOf b s RaiseAll = ⊥
 
--- in a sound state each enabled event of a block is enabled in the block's own terms, too
+-- what block b took from each other block stood in front of the way from there, and the rest is left
+abbrev pub TookFronts : ℕ → State → State → Type 0
+TookFronts b s t =
+    (c : ℕ) → b ≢ c → (left : List Message) × (way_at s.ways c b ≡ way_at t.ways c b ++ left)
+
+-- in a sound state each enabled event of a block is enabled in the block's own terms, too, and what it takes
+-- there is the message in front
 abbrev pub OwnTermsHold : Type 0
 OwnTermsHold =
     (b : ℕ) (s : State) (e : Event)
-    → IsSound s → IsOf b s e → Enabled s e → (t : State) × Does b (unmoved s) e t
+    → IsSound s → IsOf b s e → Enabled s e → (t : State) × Does b (unmoved s) e t × TookFronts b s t
 
 -- where no message is on the way, the ways are empty lists
 abbrev pub QuietIsEmpty : Type 0

@@ -28,7 +28,8 @@ pub fn history_runs()
     ensures { HistoryRuns }
 {}
 
-/// In a sound state each enabled event of a block is enabled by what the block alone can see.
+/// In a sound state each enabled event of a block is enabled by what the block alone can see, and takes the message in
+/// front, where it takes one.
 pub fn own_terms_hold()
     ensures { OwnTermsHold }
 {}
