@@ -59,18 +59,19 @@ fn others_of(alloc: Global, cells: &Cells) -> Result<Vec<u32>, AllocError>
 }
 
 impl Block {
-    /// A block, in which the nodes that have excess and are not cut off wait. Its turns end only where no event is
-    /// enabled or there are as many as they may do. Refuses only where memory runs out.
+    /// A block, in which the nodes that have excess and are not cut off wait, with no order and no bound on new labels.
+    /// Refuses only where memory runs out.
     pub fn new(alloc: Global, cells: Cells) -> Result<Block, AllocError>
         ensures { IfOk result (λ block. block ≡ cells) }
     {
         Block::with_order(alloc, cells, Vec::new(alloc), usize::MAX)
     }
 
-    /// The same, and in its first turn the nodes of this order, numbered from the block's first node, pass on what
-    /// they have before others: best the farthest from the sink first, so that each has got all that comes to it.
-    /// What is no node is passed over. Each of its turns ends after more than `most_rises` new labels, too: where labels
-    /// become exact again soon, more of them are done in vain.
+    /// The same with an order and a bound, which guide the block's turns. Any are right: what `turn` promises does not
+    /// depend on them, and no clause says which events a turn does. In its first turn the nodes of the order, numbered
+    /// from the block's first node, pass on what they have before others: best the farthest from the sink first, so
+    /// that each has got all that comes to it. What is no node is passed over. Each turn ends after more than
+    /// `most_rises` new labels, too: where labels become exact again soon, more of them are done in vain.
     pub fn with_order(
         alloc: Global,
         cells: Cells,
@@ -99,8 +100,8 @@ impl Block {
 }
 
 /// Does a list of the block's own enabled events and answers how many: at most `limit`, and at least one
-/// where an event is enabled, room is seen for what it puts, and what it takes is seen in front. Takes no
-/// memory.
+/// where an event is enabled, room is seen for what it puts, and what it takes is seen in front. The block has as
+/// many nodes as before. Takes no memory.
 ///
 /// First the messages that came are taken, as long as they are enabled; then, in its first turn, the nodes of the
 /// block's order pass on what they have; then the nodes that wait are discharged, each in turn (Goldberg, Tarjan
@@ -110,6 +111,7 @@ pub fn turn<W: Ways>(block: &mut Block, ways: &mut W, limit: u32) -> u32
     ensures few { result ≤ limit }
     ensures does { DoesMany (held block.old (W.seen ways.old)) result (held block.new (W.seen ways.new)) }
     ensures some { 0 < limit → (e : Step) → IsSure block.old (W.seen ways.old) e → 0 < result }
+    ensures nodes { count block.new ≡ count block.old }
 {
     let takes = receive_all(
         &mut block.cells,
