@@ -1,5 +1,6 @@
 ghost use Rattle.std.specs.Prelude.{◌≡◌, ◌<◌, ℕ, IfOk, slice_index_or, vec_capacity, vec_len};
 ghost use Rattle.block_workers.specs.Workers.{AllWorked, AreNew};
+ghost use Rattle.block_workers.specs.declared.crew.CrewError.TheVariants.{OutOfMemory};
 
 use crate::Worker;
 use std::alloc::{AllocError, Global};
@@ -20,6 +21,8 @@ pub enum CrewError {
 }
 
 impl From<AllocError> for CrewError {
+    ghost from_gives = { λ _ e. e ≡ OutOfMemory };
+
     fn from(_: AllocError) -> CrewError {
         CrewError::OutOfMemory
     }

@@ -12,20 +12,19 @@ use worker_options::Gate;
 /// How many events a turn may do beside as many as the block has nodes.
 const MORE_EVENTS: u32 = 16;
 
-/// A block at its worker's: its ends, and how far it has come in the round.
+/// A block at its worker's: its number, its ends of the rings to the other blocks, how many nodes it has, and how far
+/// it has come in the round.
 #[derive(Drop)]
 pub struct Seat {
-    /// The block's number.
-    pub number: u32,
-    /// The block.
-    pub block: Block,
-    /// Its ends of the rings to the other blocks.
-    pub ends: Ends,
+    pub(crate) number: u32,
+    pub(crate) block: Block,
+    pub(crate) ends: Ends,
     pub(crate) nodes: u32,
     pub(crate) turn: u32,
     pub(crate) did_event: bool,
     pub(crate) has_ended: bool,
     ghost small: { nodes ≤ node_limit },
+    ghost whole: { nodes ≡ count block },
 }
 
 impl Seat {
@@ -50,6 +49,14 @@ impl Seat {
             did_event: false,
             has_ended: false,
         }
+    }
+
+    /// The block, and its ends of the rings to the other blocks.
+    pub fn into_parts(self) -> (Block, Ends)
+        ensures block { result.0 ≡ self.block }
+        ensures ends { result.1 ≡ self.ends }
+    {
+        (self.block, self.ends)
     }
 
     /// One turn: at most as many events as the block has nodes, plus 16, and at least one where one is sure.

@@ -1,4 +1,5 @@
 ghost use Rattle.std.specs.Prelude.{◌≡◌, ◌<◌, ◌≤◌, true};
+ghost use Rattle.block_net.specs.Views.{count};
 ghost use Rattle.discharge.specs.Steps.{DoesMany, IsSure, Step, held};
 ghost use Rattle.block_workers.specs.Ends.{ports};
 ghost use Rattle.block_workers.specs.Seeing.{AreSame, seen};
@@ -73,6 +74,7 @@ fn turn_from<N: Start>(block: &mut Block, ends: Ends, limit: u32) -> (Ends, u32)
         (held block.old (seen (ports ends))) result.1 (held block.new (seen (ports result.0))) }
     ensures some { 0 < limit → (e : Step) → IsSure block.old (seen (ports ends)) e → 0 < result.1 }
     ensures same { AreSame (ports ends) (ports result.0) }
+    ensures nodes { count block.new ≡ count block.old }
 {
     let mut ways = TurnEnds::<N> {
         ends,
@@ -83,13 +85,14 @@ fn turn_from<N: Start>(block: &mut Block, ends: Ends, limit: u32) -> (Ends, u32)
 }
 
 /// A turn of a block with its ends: a list of the block's own enabled events, at most `limit`, and at least
-/// one where one is sure. Answers how many. Takes no memory.
+/// one where one is sure. Answers how many. The block has as many nodes as before. Takes no memory.
 pub(crate) fn turn_with(block: &mut Block, ends: &mut Ends, limit: u32) -> u32
     ensures few { result ≤ limit }
     ensures does { DoesMany
         (held block.old (seen (ports ends.old))) result (held block.new (seen (ports ends.new))) }
     ensures some { 0 < limit → (e : Step) → IsSure block.old (seen (ports ends.old)) e → 0 < result }
     ensures same { AreSame (ports ends.old) (ports ends.new) }
+    ensures nodes { count block.new ≡ count block.old }
 {
     let (back, count) = turn_from::<Brand>(block, ends.taken(), limit);
     *ends = back;

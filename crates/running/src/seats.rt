@@ -55,7 +55,8 @@ pub(crate) fn apart(seats: Vec<Seat>, blocks: &mut Vec<Cells>, lists: &mut Vec<V
     ensures lists { map (λ l. l.items) lists.new.items ≡ ports_of (ends_of seats.items) }
 {
     for seat in seats {
-        blocks.push_reserved(seat.block.into_cells());
-        lists.push_reserved(seat.ends.into_ports());
+        let (block, ends) = seat.into_parts();
+        blocks.push_reserved(block.into_cells());
+        lists.push_reserved(ends.into_ports());
     }
 }

@@ -116,7 +116,8 @@ fn end_of<J: Job>(turns: u32, workers: Vec<Worker<J>>) -> End {
     for worker in workers {
         let (seats, _share) = worker.into_parts();
         for seat in seats {
-            let cells = seat.block.into_cells();
+            let (block, _ends) = seat.into_parts();
+            let cells = block.into_cells();
             for v in 0..cells.len() {
                 end.excess = end.excess.saturating_add(cells.excess(v));
                 end.room = end.room.saturating_add(cells.room(v));
