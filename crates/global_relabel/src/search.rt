@@ -9,6 +9,7 @@ ghost use Rattle.block_core.specs.Views.{IsLaid, IsSpot};
 ghost use Rattle.block_core.specs.Parts.{whole_by};
 ghost use Rattle.global_relabel.specs.Search.{LeadsTo, AreMarked};
 ghost use Rattle.global_relabel.specs.Homes.{AreHomes};
+ghost use Rattle.global_relabel.specs.Workspaces.{IsListed};
 
 use crate::homes::room_at;
 use block_core::State;
@@ -231,13 +232,14 @@ fn mark_into(
 }
 
 /// Writes the exact label of each node: a breadth-first search backwards from the sink over what the blocks hold
-/// (Goldberg, Tarjan 1988, section 3). `homes` tells the block of each node, and `order` is room for the search.
-/// Takes no memory.
+/// (Goldberg, Tarjan 1988, section 3). `homes` tells the block of each node, and `order` is room for the search: the
+/// nodes that reach the sink come first in it, the nearest first. Takes no memory.
 pub(crate) fn write_exact(state: &State, homes: &[u8], labels: &mut [u32], order: &mut [u32])
     requires homes { AreHomes state.now.net state.now.blocks homes.now }
     requires len { length labels.old ≡ nodes state.now.net }
     requires order_len { length order.old ≡ nodes state.now.net }
-    ensures { AreExact state.now labels.new }
+    ensures exact { AreExact state.now labels.new }
+    ensures order { IsListed labels.new order.new }
 {
     let split = Split {
         net: state.net(),

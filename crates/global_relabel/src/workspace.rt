@@ -2,7 +2,8 @@ ghost use Rattle.std.specs.Prelude.{IfOk};
 ghost use Rattle.parcel.specs.declared.event.Event.TheVariants.{RaiseAll};
 ghost use Rattle.parcel.specs.Reach.{AreExact};
 ghost use Rattle.parcel.specs.Events.{IsQuiet, Happens};
-ghost use Rattle.global_relabel.specs.Workspaces.{Serves};
+ghost use Rattle.global_relabel.specs.Homes.{AreHomes};
+ghost use Rattle.global_relabel.specs.Workspaces.{IsListed, Serves};
 
 use crate::homes::write_homes;
 use crate::search::write_exact;
@@ -15,7 +16,7 @@ use std::alloc::{AllocError, Global};
 pub struct Workspace {
     /// The exact label of each node in the last state that was looked at.
     pub labels: Vec<u32>,
-    /// Room for the search: the nodes that reach the sink in the last state, the nearest first, and then no nodes.
+    /// Room for the search: first the nodes that reach the sink in the last state, the nearest first.
     pub order: Vec<u32>,
     /// The block of each node in that state.
     pub homes: Vec<u8>,
@@ -34,11 +35,14 @@ impl Workspace {
         })
     }
 
-    /// Finds the exact label of each node. Messages may be on the way. Takes no memory.
+    /// Finds the exact label of each node, the order of the nodes that reach the sink, and the block of each node.
+    /// Messages may be on the way. Takes no memory.
     pub fn find(&mut self, state: &State)
         requires { Serves state.now.net self.old }
         ensures serves { Serves state.now.net self.new }
         ensures exact { AreExact state.now self.new.labels.items }
+        ensures order { IsListed self.new.labels.items self.new.order.items }
+        ensures homes { AreHomes state.now.net state.now.blocks self.new.homes.items }
     {
         self.order.as_mut_slice().fill(u32::MAX);
         write_homes(state, self.homes.as_mut_slice());
@@ -51,12 +55,16 @@ impl Workspace {
     }
 
     /// Each label of the state becomes the exact one, and each direction to another block knows that of its far
-    /// end: the event that raises all labels. Takes no memory.
+    /// end: the event that raises all labels. The lists then hold what `find` finds in the state as it was. Takes no
+    /// memory.
     pub fn raise(&mut self, state: &mut State)
         requires serves { Serves state.old.net self.old }
         requires quiet { IsQuiet state.old }
         ensures serves { Serves state.new.net self.new }
         ensures raised { Happens state.old RaiseAll state.new }
+        ensures exact { AreExact state.old self.new.labels.items }
+        ensures order { IsListed self.new.labels.items self.new.order.items }
+        ensures homes { AreHomes state.old.net state.old.blocks self.new.homes.items }
     {
         self.find(state);
         state.raise_to(self.labels.as_slice());

@@ -13,6 +13,9 @@ search-preserved c =
     (found_of c.mark_into-count.new.labels c.mark_into-count.new.order c.mark_into-count.result) c.net.ensures.sound c.net.ensures.value c.parts.ensures
     c.search.invariant c.search-test.true c.mark_into-count.ensures.grows c.mark_into-count.ensures.marked
 
-pub returns : goal.returns
-returns c =
+pub returns-clause-exact : goal.returns-clause-exact
+returns-clause-exact c =
     expanded_all c.args.state.now c.search.next (found_of c.search.labels c.search.order c.search.count) c.net.ensures.sound c.search.invariant c.search-test.false
+
+pub returns-clause-order : goal.returns-clause-order
+returns-clause-order c = (c.search.count, c.search.invariant.order)
