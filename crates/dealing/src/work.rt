@@ -1,5 +1,6 @@
-ghost use Rattle.std.specs.Prelude.{◌≡◌, ◌<◌, ◌≤◌, IfOk, OnOk};
+ghost use Rattle.std.specs.Prelude.{◌≡◌, ◌+◌, ◌<◌, ◌≤◌, ◌⊎◌, IfErr, IfOk, OnErr, OnOk};
 ghost use Rattle.block_workers.specs.Workers.{AllWorked, AreNew, turns_of};
+ghost use Rattle.block_workers.specs.declared.crew.CrewError.TheVariants.{Workers};
 
 use crate::{Room, collect, deal};
 use block_workers::{CrewError, Seat, all_work};
@@ -13,6 +14,9 @@ use worker_options::Gate;
 /// The seats dealt to so many workers, each in a thread of its own, and collected again in their order. They
 /// did turn 0 and the turns that were drawn, which the share counts. All growths come before the first worker
 /// starts.
+///
+/// After an error the seats are lost, and the share counts no turn. Where a worker was refused it lacks the parts that
+/// the workers got, and where memory ran out it lacks them or none.
 pub fn work_seats<J: Job + Sync, R: Threads + Wait + Sync, G: Gate>(
     rt: &R,
     alloc: Global,
@@ -29,6 +33,10 @@ pub fn work_seats<J: Job + Sync, R: Threads + Wait + Sync, G: Gate>(
     ensures worked { IfOk result (λ v. AllWorked seats.items v.items) }
     ensures parts { OnOk result (share.new.parts ≡ share.old.parts) }
     ensures turns { IfOk result (λ v. share.new.amount ≡ turns_of v.items) }
+    ensures none { OnErr result (share.new.amount ≡ 0) }
+    ensures lost { OnErr result ((share.new.parts ≡ share.old.parts)
+        ⊎ (share.new.parts + threads ≡ share.old.parts)) }
+    ensures refused { IfErr result (λ e. e ≡ Workers → share.new.parts + threads ≡ share.old.parts) }
 {
     let room = Room::new(alloc, seats.len(), threads)?;
     let workers = deal::<J>(alloc, seats, threads, share)?;
