@@ -1,3 +1,4 @@
+pub mod Faults
 pub mod Seated
 pub mod Together
 pub mod Short

@@ -1,3 +1,7 @@
+ghost use Rattle.std.specs.Prelude.{◌≡◌};
+ghost use Rattle.running.specs.Faults.{of_crew};
+ghost use Rattle.running.specs.declared.error.RoundError.TheVariants.{OutOfMemory};
+
 use block_workers::CrewError;
 use std::alloc::AllocError;
 
@@ -11,12 +15,16 @@ pub enum RoundError {
 }
 
 impl From<AllocError> for RoundError {
+    ghost from_gives = { λ _ e. e ≡ OutOfMemory };
+
     fn from(_: AllocError) -> RoundError {
         RoundError::OutOfMemory
     }
 }
 
 impl From<CrewError> for RoundError {
+    ghost from_gives = { λ crew e. e ≡ of_crew crew };
+
     fn from(error: CrewError) -> RoundError {
         match error {
             CrewError::OutOfMemory => RoundError::OutOfMemory,
