@@ -1,14 +1,14 @@
 -- What is left in the rings that were looked at, as ways.
-use Rattle.std.proofs.Common.{◌≡◌, ℕ, zero, suc, ◌<◌, true, false, List, [], ◌∷◌, ◌++◌, length, get_or, drop, All, Option, Some, None, refl, sym, ◌∙◌, ap, inl, inr, arith}
+use Rattle.std.proofs.Common.{◌≡◌, ℕ, zero, suc, ◌+◌, ◌<◌, ◌≤◌, true, false, List, [], ◌∷◌, ◌++◌, length, get_or, drop, All, Option, Some, None, refl, sym, ◌∙◌, ap, inl, inr, arith}
 use Rattle.std.proofs.lemmas.Bool.{cases_eq, eq-eqb, ne_eqb}
-use Rattle.std.proofs.lemmas.List.{map-append, drop_at}
+use Rattle.std.proofs.lemmas.List.{map-append, drop_at, length-append, length-map}
 use Rattle.parcel.specs.declared.message.Message.{Message}
 use Rattle.parcel.specs.States.{way_at}
 use Rattle.parcel.specs.Soundness.{IsSquare}
 use Rattle.discharge.specs.declared.letter.Letter.{Letter}
 use Rattle.block_workers.specs.Seeing.{messages}
-use Rattle.draining.specs.Left.{AreLeft, rest_of}
-use Rattle.draining.specs.Links.{Traffic, Link, traffic_of, link_in, left_in, down, up, joins, AreLinks, IsSeen, RingsView, sent_in, taken_in}
+use Rattle.draining.specs.Left.{AreLeft, HaveRoomFor, rest_of}
+use Rattle.draining.specs.Links.{Traffic, Link, traffic_of, link_in, left_in, down, up, joins, AreLinks, IsSeen, RingsView, sent_in, taken_in, room_in, AreWithin}
 
 -- ---- tables
 
@@ -140,3 +140,38 @@ left_ways v are seen = (
         ∙ ap (λ (x : List Message). (traffic_of (link_in v.links c b)).taken ++ x) (sym (ways_at v.blocks v.links b c low_b low_c));
   },
 )
+
+-- ---- how much is left
+
+abbrev Fits : Option Traffic → Option Traffic → Type 0
+Fits there back = length (traffic_of there).sent ≤ length (traffic_of back).taken + (traffic_of there).room
+
+within : (blocks : ℕ) (links : List Link) → AreLinks blocks links → All IsSeen links → (b c : ℕ) → Fits (link_in links b c) (link_in links c b)
+within blocks [] are seen b c = omega arith
+within blocks (l ∷ links) are seen b c =
+    let all = l ∷ links in
+    let one : IsSeen l = seen zero l (omega arith) in
+    let fits : (s t : Option Traffic) → link_in all b c ≡ s → link_in all c b ≡ t → Fits s t → Fits (link_in all b c) (link_in all c b) = λ s t is_s is_t e. rw (is_s, is_t) e in
+    link_cases _ l b c (λ at_b at_c. fits (Some l.of_first) (Some l.of_second) (link_there l links b c at_b at_c) (link_back l links c b are.0 at_b at_c) one.few_down)
+    (λ at_c at_b. fits (Some l.of_second) (Some l.of_first) (link_back l links b c are.0 at_c at_b) (link_there l links c b at_c at_b) one.few_up)
+    (λ off_there off_back.
+    fits (link_in links b c) (link_in links c b) (link_off l links b c off_there off_back) (link_off l links c b off_back off_there)
+    (within blocks links are.3 (λ k d low. seen (suc k) d (omega (arith, low))) b c))
+
+pub all_within : (v : RingsView) → AreLinks v.blocks v.links → All IsSeen v.links → AreWithin v
+all_within v are seen b c = within v.blocks v.links are seen b c
+
+pub letters_few : (put taken waiting : List Letter) (n : ℕ) → put ≡ taken ++ waiting → length waiting ≤ n → length (messages put) ≤ length (messages taken) + n
+letters_few put taken waiting n is few =
+    let all = length-map put (λ (l : Letter). l.message) in
+    let some = length-map taken (λ (l : Letter). l.message) in
+    let both = ap (λ (ls : List Letter). length ls) is ∙ length-append taken waiting in
+    omega (arith, all, some, both, few)
+
+pub room_for_left : (v : RingsView) (left : List (List (List Message))) → AreWithin v → AreLeft v.blocks (sent_in v) (taken_in v) left → HaveRoomFor v.blocks (room_in v) left
+room_for_left v left few has b c low_b low_c = elim (cases_eq b c) [
+  | inl same ↦ omega (arith, ap (λ (ms : List Message). length ms) (ap (λ k. way_at left b k) (sym same) ∙ has.none b low_b))
+  | inr off ↦
+      let all = ap (λ (ms : List Message). length ms) (has.ways b c low_b low_c off) ∙ length-append (taken_in v c b) (way_at left b c) in
+      omega (arith, all, few b c)
+]

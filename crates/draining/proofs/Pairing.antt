@@ -3,11 +3,11 @@ use Rattle.std.proofs.Common.{◌≡◌, ℕ, ◌+◌, ◌*◌, ◌<◌, ◌≤�
 use Rattle.std.proofs.lemmas.Bool.{cases_eq, eq-eqb, ne_eqb}
 use Rattle.std.proofs.lemmas.List.{get_or_past}
 use Rattle.block_rings.specs.declared.port.Port.{Port}
-use Rattle.block_rings.specs.Ports.{other, put, taken as took}
+use Rattle.block_rings.specs.Ports.{other, put, taken as took, capacity as ring_of}
 use Rattle.block_workers.specs.Seeing.{read_at, messages}
 use Rattle.rounds.specs.Joined.{port_to, IsPaired}
 use Rattle.draining.specs.declared.pair.Pair.{Pair}
-use Rattle.draining.specs.Mated.{AreMated, ports_in, sent, taken}
+use Rattle.draining.specs.Mated.{AreMated, ports_in, sent, taken, room_to}
 use Rattle.draining.specs.Links.{Traffic, Link, traffic, traffic_of, link, links_of, link_in, joins, AreLinks}
 use Rattle.draining.specs.Pairing.{option_traffic, IsReady, IsTakenOut, ArePaired}
 use Rattle.draining.proofs.Leaving.{link_cases, link_there, link_back, link_off}
@@ -198,6 +198,13 @@ row_taken (p ∷ ports) c = elim (cases_eq c (other p)) [
   | inr off ↦ rw (ne_eqb c (other p) off) (row_taken ports c)
 ]
 
+row_room : (ports : List Port) (c : ℕ) → (traffic_of (option_traffic (read_at None (λ (r : Port). Some r) ports c))).room ≡ read_at 0 (λ (r : Port). ring_of r) ports c
+row_room [] c = refl
+row_room (p ∷ ports) c = elim (cases_eq c (other p)) [
+  | inl same ↦ rw (eq-eqb c (other p) same) refl
+  | inr off ↦ rw (ne_eqb c (other p) off) (row_room ports c)
+]
+
 -- where no port is left, each went into a pair
 all_paired : (n : ℕ) (first lists : List (List Port)) (links : List Link) (count capacity : ℕ) → IsReady n 0 lists count capacity → ArePaired n first lists links
     → (b c : ℕ) → traffic_of (link_in links b c) ≡ traffic_of (option_traffic (port_to first b c))
@@ -217,3 +224,8 @@ pub all_taken : (n : ℕ) (first lists : List (List Port)) (links : List Link) (
     → (b c : ℕ) → (traffic_of (link_in links b c)).taken ≡ taken first b c
 all_taken n first lists links count capacity ready pairs b c =
     ap (λ (t : Traffic). t.taken) (all_paired n first lists links count capacity ready pairs b c) ∙ row_taken (get_or first b []) c
+
+pub all_room : (n : ℕ) (first lists : List (List Port)) (links : List Link) (count capacity : ℕ) → IsReady n 0 lists count capacity → ArePaired n first lists links
+    → (b c : ℕ) → (traffic_of (link_in links b c)).room ≡ room_to first b c
+all_room n first lists links count capacity ready pairs b c =
+    ap (λ (t : Traffic). t.room) (all_paired n first lists links count capacity ready pairs b c) ∙ row_room (get_or first b []) c

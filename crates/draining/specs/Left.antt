@@ -12,6 +12,10 @@ pub record AreLeft (blocks : ℕ) (sent taken : ℕ → ℕ → List Message) (l
   pub none : (b : ℕ) → b < blocks → way_at left b b ≡ []
   pub ways : (b c : ℕ) → b < blocks → c < blocks → b ≢ c → sent b c ≡ taken c b ++ way_at left b c
 
+-- what is left from one block to another has room there
+abbrev pub HaveRoomFor : ℕ → (ℕ → ℕ → ℕ) → List (List (List Message)) → Type 0
+HaveRoomFor blocks room left = (b c : ℕ) → b < blocks → c < blocks → length (way_at left b c) ≤ room b c
+
 -- what is left of what was put, where so much of it was taken
 abbrev pub rest_of : List Message → List Message → List Message
 rest_of sent taken = drop (length taken) sent

@@ -1,24 +1,25 @@
 -- What is seen of the rings between blocks.
-use Rattle.std.specs.Prelude.{◌≡◌, ℕ, ◌<◌, ◌==◌, ◌&&◌, Bool, cond, List, [], ◌∷◌, ◌++◌, map}
+use Rattle.std.specs.Prelude.{◌≡◌, ℕ, ◌+◌, ◌<◌, ◌≤◌, ◌==◌, ◌&&◌, Bool, cond, List, [], ◌∷◌, ◌++◌, length, map}
 use Rattle.std.specs.Prelude.{Option, Some, None}
 use Rattle.parcel.specs.declared.message.Message.{Message}
 use Rattle.block_rings.specs.declared.port.Port.{Port}
-use Rattle.block_rings.specs.Ports.{other, put, taken}
+use Rattle.block_rings.specs.Ports.{other, put, taken, capacity}
 use Rattle.block_workers.specs.Seeing.{messages}
 use Rattle.draining.specs.Left.{rest_of}
 use Rattle.draining.specs.declared.pair.Pair.{Pair}
 
--- what was put into a port and taken from it so far
+-- what was put into a port and taken from it so far, and how many letters the ring that is put into has room for
 pub record Traffic : Type 0 where
   pub sent : List Message
   pub taken : List Message
+  pub room : ℕ
 
 abbrev pub traffic : Port → Traffic
-traffic p = record { sent = messages (put p); taken = messages (taken p) }
+traffic p = record { sent = messages (put p); taken = messages (taken p); room = capacity p }
 
 -- what went through a port; nothing where there is none
 abbrev pub traffic_of : Option Traffic → Traffic
-traffic_of None = record { sent = []; taken = [] }
+traffic_of None = record { sent = []; taken = []; room = 0 }
 traffic_of (Some t) = t
 
 -- two blocks that have ports to one another, and what went through the port of each
@@ -63,10 +64,12 @@ down l = rest_of l.of_first.sent l.of_second.taken
 abbrev pub up : Link → List Message
 up l = rest_of l.of_second.sent l.of_first.taken
 
--- in the rings of a link, what was put is what was taken, followed by what is left
+-- in the rings of a link, what was put is what was taken, followed by what is left, for which there is room
 pub record IsSeen (l : Link) : Type 0 where
   pub down : l.of_first.sent ≡ l.of_second.taken ++ down l
   pub up : l.of_second.sent ≡ l.of_first.taken ++ up l
+  pub few_down : length l.of_first.sent ≤ length l.of_second.taken + l.of_first.room
+  pub few_up : length l.of_second.sent ≤ length l.of_first.taken + l.of_second.room
 
 -- what is left in the ring from block b to block c
 abbrev pub left_in : List Link → ℕ → ℕ → List Message
@@ -84,3 +87,11 @@ sent_in rings b c = (traffic_of (link_in rings.links b c)).sent
 -- what block b took from block c so far
 abbrev pub taken_in : RingsView → ℕ → ℕ → List Message
 taken_in rings b c = (traffic_of (link_in rings.links b c)).taken
+
+-- how many messages the ring from block b to block c has room for
+abbrev pub room_in : RingsView → ℕ → ℕ → ℕ
+room_in rings b c = (traffic_of (link_in rings.links b c)).room
+
+-- no ring has more than it has room for
+abbrev pub AreWithin : RingsView → Type 0
+AreWithin rings = (b c : ℕ) → length (sent_in rings b c) ≤ length (taken_in rings c b) + room_in rings b c

@@ -2,7 +2,8 @@
 use Rattle.std.specs.Prelude.{◌≡◌, ℕ, List, [], length, slice_index_or, sum_by, Some, None}
 use Rattle.parcel.specs.declared.message.Message.{Message}
 use Rattle.block_rings.specs.declared.port.Port.{Port}
-use Rattle.block_workers.specs.Seeing.{seen, AreRising}
+use Rattle.block_rings.specs.Ports.{capacity}
+use Rattle.block_workers.specs.Seeing.{seen, read_at, AreRising}
 use Rattle.rounds.specs.Joined.{port_to, IsPaired}
 
 -- what block b put for block c so far
@@ -12,6 +13,10 @@ sent lists b c = (seen (slice_index_or lists b [])).sent c
 -- what block b took from block c so far
 abbrev pub taken : List (List Port) → ℕ → ℕ → List Message
 taken lists b c = (seen (slice_index_or lists b [])).taken c
+
+-- how many letters the ring from block b to block c has room for
+abbrev pub room_to : List (List Port) → ℕ → ℕ → ℕ
+room_to lists b c = read_at 0 (λ (p : Port). capacity p) (slice_index_or lists b []) c
 
 -- how many ports the blocks have
 abbrev pub ports_in : List (List Port) → ℕ

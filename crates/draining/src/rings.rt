@@ -1,8 +1,8 @@
 ghost use Rattle.std.specs.Prelude.{◌≡◌, ◌≤◌, ◌*◌, ℕ, [], All, length, map, vec_len, vec_capacity};
 ghost use Rattle.parcel.specs.Soundness.{IsSquare};
-ghost use Rattle.draining.specs.Mated.{AreMated, ports_in, sent, taken};
-ghost use Rattle.draining.specs.Left.{AreEmpty, AreFitting, AreLeft};
-ghost use Rattle.draining.specs.Links.{AreLinks, IsSeen, links_of, sent_in, taken_in};
+ghost use Rattle.draining.specs.Mated.{AreMated, ports_in, room_to, sent, taken};
+ghost use Rattle.draining.specs.Left.{AreEmpty, AreFitting, AreLeft, HaveRoomFor};
+ghost use Rattle.draining.specs.Links.{AreLinks, AreWithin, IsSeen, links_of, room_in, sent_in, taken_in};
 ghost use Rattle.draining.specs.Draining.{AreDraining, HaveRoom};
 
 use crate::matching::pair_all;
@@ -65,6 +65,7 @@ impl Rings {
         ensures blocks { result.blocks ≡ length lists.items }
         ensures sent { (b c : ℕ) → sent_in result b c ≡ sent (map (λ l. l.items) lists.items) b c }
         ensures taken { (b c : ℕ) → taken_in result b c ≡ taken (map (λ l. l.items) lists.items) b c }
+        ensures room { (b c : ℕ) → room_in result b c ≡ room_to (map (λ l. l.items) lists.items) b c }
     {
         let blocks = lists.len();
         let mut lists = lists;
@@ -73,21 +74,25 @@ impl Rings {
         Rings { blocks, pairs }
     }
 
-    /// Looks at what is left in the rings: what was put is what was taken, followed by that. Takes no memory.
+    /// Looks at what is left in the rings: what was put is what was taken, followed by that, and no ring has more than
+    /// it has room for. Takes no memory.
     pub fn see(&mut self)
         ensures same { self.new ≡ self.old }
         ensures left { (left : _) × AreLeft self.old.blocks (sent_in self.old) (taken_in self.old) left }
+        ensures within { AreWithin self.old }
     {
         see_all(&mut self.pairs);
     }
 
-    /// What is left in the rings goes to the ways, which are empty and have room for it. Takes no memory.
+    /// What is left in the rings goes to the ways, which are empty and have room for it: on each way no more messages
+    /// than the ring had room for. Takes no memory.
     pub fn drain(mut self, ways: &mut Mail)
         requires square { IsSquare self.blocks ways.old.messages }
         requires empty { AreEmpty self.blocks ways.old.messages }
         requires room { (left : _) → AreLeft self.blocks (sent_in self) (taken_in self) left
             → AreFitting self.blocks ways.old.rooms left }
         ensures left { AreLeft self.blocks (sent_in self) (taken_in self) ways.new.messages }
+        ensures few { HaveRoomFor self.blocks (room_in self) ways.new.messages }
         ensures rooms { ways.new.rooms ≡ ways.old.rooms }
     {
         self.see();

@@ -2,6 +2,7 @@ use Rattle.std.proofs.Common.{ℕ, [], length, sym, ◌∙◌, subst}
 use Rattle.draining.specs.Links.{RingsView, AreLinks}
 use Rattle.draining.specs.Draining.{AreDraining, HaveRoom}
 use Rattle.draining.proofs.Draining.{rooms_for, all_left}
+use Rattle.draining.proofs.Leaving.{room_for_left}
 use Rattle.draining.proofs.rings.Rings.drain.Goals as goal
 
 pub drain_all-requires-clause-room : goal.drain_all-requires-clause-room
@@ -20,3 +21,6 @@ returns-clause-left c =
     let n = length c.args.ways.now.messages in
     all_left v new (subst (λ (w : RingsView). AreLinks w.blocks w.links) same c.self.invariant) c.see.ensures.left
     (subst (λ (m : ℕ). AreDraining m v.links [] new) c.requires.square.rows (subst (λ (w : RingsView). AreDraining n w.links [] new) same c.drain_all.ensures.messages))
+
+pub returns-clause-few : goal.returns-clause-few
+returns-clause-few c = room_for_left c.args.self c.drain_all.new.ways.messages c.see.ensures.within (returns-clause-left c)

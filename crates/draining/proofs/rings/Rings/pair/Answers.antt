@@ -3,7 +3,7 @@ use Rattle.std.proofs.lemmas.Grind.{common_steps}
 use Rattle.std.proofs.lemmas.List.{nil_from_length}
 use Rattle.block_rings.specs.declared.port.Port.{Port}
 use Rattle.draining.specs.Links.{AreLinks, links_of}
-use Rattle.draining.proofs.Pairing.{ready_first, paired_first, all_sent, all_taken}
+use Rattle.draining.proofs.Pairing.{ready_first, paired_first, all_sent, all_taken, all_room}
 use Rattle.draining.proofs.rings.Rings.pair.Goals as goal
 
 pub pair_all-requires : goal.pair_all-requires
@@ -34,3 +34,10 @@ returns-clause-taken c =
     let n = length c.args.lists.items in
     let none : c.args.room.items ≡ [] = nil_from_length c.args.room.items (grind (arith, common_steps)) in
     all_taken n lists _ (links_of c.pair_all.new.pairs.items) _ _ c.pair_all.ensures.ready (c.pair_all.ensures.paired lists (paired_first n lists c.args.room.items none))
+
+pub returns-clause-room : goal.returns-clause-room
+returns-clause-room c =
+    let lists = map (λ (l : Vec Port Global). l.items) c.args.lists.items in
+    let n = length c.args.lists.items in
+    let none : c.args.room.items ≡ [] = nil_from_length c.args.room.items (grind (arith, common_steps)) in
+    all_room n lists _ (links_of c.pair_all.new.pairs.items) _ _ c.pair_all.ensures.ready (c.pair_all.ensures.paired lists (paired_first n lists c.args.room.items none))
