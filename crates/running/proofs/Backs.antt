@@ -17,17 +17,18 @@ use Rattle.turn_laws.specs.Laws.{HasRoom}
 use Rattle.seat_laws.specs.Rounds.{Ways, fresh, quiet_state}
 use Rattle.seat_laws.proofs.Starting.{start_is_sure}
 use Rattle.block_rings.specs.declared.port.Port.{Port}
-use Rattle.block_rings.specs.Ports.{put, taken, free, IsNewPort}
+use Rattle.block_rings.specs.Ports.{put, taken, free, capacity, IsNewPort}
 use Rattle.block_workers.specs.declared.ends.Ends.{Ends}
 use Rattle.block_workers.specs.declared.seat.Seat.{Seat}
 use Rattle.block_workers.specs.Ends.{ports}
 use Rattle.block_workers.specs.Seeing.{messages, seen, AreRising, AreSame}
 use Rattle.block_workers.specs.Workers.{AllWorked, Worked}
 use Rattle.rounds.specs.Joined.{port_to, IsPaired, AreJoined}
+use Rattle.draining.specs.Mated.{room_to}
 use Rattle.running.specs.Seated.{blocks_of, ends_of, ports_of, AreSeated}
 use Rattle.running.specs.Together.{AreBackAfter}
 use Rattle.running.proofs.Borders.{leads_out}
-use Rattle.running.proofs.Looks.{read_through, through_none, through_some, AreAlike, read_alike, alike_back, alike_forth, alike_none, leads_on, rising_same}
+use Rattle.running.proofs.Looks.{read_through, through_none, through_some, through_most, AreAlike, read_alike, alike_back, alike_forth, alike_none, leads_on, rising_same}
 
 -- ---- seats
 
@@ -156,6 +157,16 @@ module _ (blocks : List BlockView) (ring : ℕ) (ends : List Ends) (old new : Li
 
   alike : (b c : ℕ) → AreAlike (port_to lists b c) (port_to lists' b c)
   alike b c = read_alike (get_or lists b []) (get_or lists' b []) c (same_ports b)
+
+  -- no ring has more room than it was given
+  pub few_room : (b c : ℕ) → room_to lists' b c ≤ ring
+  few_room b c =
+      let most = through_most ring (λ (p : Port). capacity p) (port_to lists' b c) (λ p' is.
+      let back = alike_back (port_to lists b c) (port_to lists' b c) p' (alike b c) is in
+      let was = (fresh_ports b c back.0 back.1).capacity in
+      let same = back.2.to_ring.1 in
+      omega (arith, was, same)) in
+      subst (λ k. k ≤ ring) (sym (read_through 0 (λ (p : Port). capacity p) (get_or lists' b []) c)) most
 
   pub many_lists : length lists' ≡ n
   many_lists = long_lists new ∙ many_new

@@ -1,5 +1,5 @@
 -- What is read of ports, before and after work.
-use Rattle.std.proofs.Common.{◌≡◌, ℕ, ◌<◌, Bool, true, false, cond, eqb, List, [], ◌∷◌, length, slice_index, Option, Some, None, is_some, refl, sym, ◌∙◌, ap, subst, arith}
+use Rattle.std.proofs.Common.{◌≡◌, ℕ, ◌<◌, ◌≤◌, Bool, true, false, cond, eqb, List, [], ◌∷◌, length, slice_index, Option, Some, None, is_some, refl, sym, ◌∙◌, ap, subst, arith}
 use Rattle.std.proofs.lemmas.Grind.{common_steps}
 use Rattle.std.proofs.lemmas.Slice.Zip.{AllZip-long}
 use Rattle.block_rings.specs.declared.port.Port.{Port}
@@ -26,6 +26,10 @@ read_through none read (p ∷ ports) c =
 pub through_none : {X : Type 0} (none : X) (read : Port → X) (o : Option Port) → ((p : Port) → o ≡ Some p → read p ≡ none) → through none read o ≡ none
 through_none none read None each = refl
 through_none none read (Some p) each = each p refl
+
+pub through_most : (most : ℕ) (read : Port → ℕ) (o : Option Port) → ((p : Port) → o ≡ Some p → read p ≤ most) → through 0 read o ≤ most
+through_most most read None each = omega arith
+through_most most read (Some p) each = each p refl
 
 no_truth : false ≡ true → ⊥
 no_truth e = cc

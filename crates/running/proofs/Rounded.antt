@@ -1,5 +1,5 @@
 -- From the pieces of a quiet state to those after a round.
-use Rattle.std.proofs.Common.{◌≡◌, ℕ, ◌<◌, List, [], refl, sym, subst, arith}
+use Rattle.std.proofs.Common.{◌≡◌, ℕ, ◌<◌, ◌≤◌, List, [], length, refl, sym, ap, subst, arith}
 use Rattle.parcel.specs.States.{State, way_at}
 use Rattle.parcel.specs.Events.{IsQuiet}
 use Rattle.parcel.specs.Soundness.{IsSound, IsSquare}
@@ -10,10 +10,10 @@ use Rattle.block_core.specs.Mails.{IsHeld}
 use Rattle.seat_laws.specs.Rounds.{Ways, AreBack, IsRound, with_blocks, quiet_state, state_after}
 use Rattle.seat_laws.proofs.Quiet.{quiet_is_start, round_is_held}
 use Rattle.seat_laws.proofs.Rounds.{seats_make_round}
-use Rattle.draining.specs.Links.{RingsView, sent_in, taken_in}
-use Rattle.draining.specs.Left.{AreLeft, AreFitting}
+use Rattle.draining.specs.Links.{RingsView, sent_in, taken_in, room_in}
+use Rattle.draining.specs.Left.{AreLeft, AreFitting, HaveRoomFor}
 use Rattle.running.specs.Together.{AreBackAfter, HaveRun}
-use Rattle.running.specs.Short.{IsShortRound}
+use Rattle.running.specs.Short.{IsShortRound, HasFewOnTheWay}
 use Rattle.running.proofs.Counts.{few_events}
 use Rattle.running.proofs.Fits.{round_fits}
 
@@ -63,3 +63,13 @@ module _ (turns : ℕ) (w : Whole) (got : ℕ) (ways : Ways) (rooms : List (List
   pub round_after : (left : Ways) (t : State) → AreLeft rings.blocks (sent_in rings) (taken_in rings) left → t ≡ state_after w new left → IsShortRound turns old t
   round_after left t is same =
       subst (λ u. IsShortRound turns old u) (sym same) (subst (λ s. IsShortRound turns s (state_after w new left)) (sym start) (short left is))
+
+  -- no more is on the way than the rings had room for
+  pub few_after : (ring : ℕ) (left : Ways) (t : State) → AreLeft rings.blocks (sent_in rings) (taken_in rings) left → t ≡ state_after w new left
+      → ((b c : ℕ) → room_in rings b c ≤ ring) → HaveRoomFor rings.blocks (room_in rings) left → HasFewOnTheWay ring t
+  few_after ring left t is same low few b c lb lc =
+      let many = (round_after left t is same).round.joined.blocks in
+      let here = few b c (omega (arith, lb, many, run.blocks)) (omega (arith, lc, many, run.blocks)) in
+      let most = low b c in
+      let ways = ap (λ (s : State). length (way_at s.ways b c)) same in
+      omega (arith, here, most, ways)

@@ -10,11 +10,11 @@ use Rattle.block_workers.specs.declared.seat.Seat.{Seat}
 use Rattle.block_workers.specs.Seeing.{AreRising}
 use Rattle.block_workers.specs.Workers.{AllWorked, turns_of}
 use Rattle.rounds.specs.Joined.{AreJoined}
-use Rattle.draining.specs.Links.{RingsView, sent_in, taken_in}
-use Rattle.draining.specs.Mated.{AreMated, sent, taken}
+use Rattle.draining.specs.Links.{RingsView, sent_in, taken_in, room_in}
+use Rattle.draining.specs.Mated.{AreMated, sent, taken, room_to}
 use Rattle.running.specs.Seated.{blocks_of, ends_of, ports_of, AreSeated}
 use Rattle.running.specs.Together.{AreBackAfter, HaveRun}
-use Rattle.running.proofs.Backs.{first_of, long_old, long_lists, many_new, still_rising, still_paired, still_none, seats_back}
+use Rattle.running.proofs.Backs.{first_of, long_old, long_lists, many_new, few_room, still_rising, still_paired, still_none, seats_back}
 
 module _ (blocks : List BlockView) (ring : ℕ) (old new : List Seat) (some : 0 < length blocks) (seated : AreSeated blocks (ends_of old) old) (joined : AreJoined ring blocks (ports_of (ends_of old))) (worked : AllWorked old new) where
   abbrev d : Seat
@@ -59,3 +59,6 @@ module _ (blocks : List BlockView) (ring : ℕ) (old new : List Seat) (some : 0 
         (λ b c lb lc apart.
         sym (sent_is b c) ∙ (has.ways b c (omega (arith, lb, total)) (omega (arith, lc, total)) apart ∙ ap (λ l. l ++ way_at left b c) (taken_is c b))));
   }
+
+  pub room_kept : (rings : RingsView) → ((b c : ℕ) → room_in rings b c ≡ room_to after b c) → (b c : ℕ) → room_in rings b c ≤ ring
+  room_kept rings is b c = subst (λ k. k ≤ ring) (sym (is b c)) (few_room blocks ring (ends_of old) old new d seated joined worked b c)

@@ -1,8 +1,8 @@
--- How many events a round has.
+-- How many events a round has, and how many messages it leaves.
 use Rattle.std.specs.Prelude.{ℕ, ◌+◌, ◌*◌, ◌<◌, ◌≤◌, ◌==◌, length, sum_by}
 use Rattle.sums.specs.Sums.{sum_below, counted}
 use Rattle.flow_network.specs.Cut.{nodes}
-use Rattle.parcel.specs.States.{State}
+use Rattle.parcel.specs.States.{State, way_at}
 use Rattle.round_laws.specs.Rounds.{RoundOf, home}
 
 -- how many nodes lie in block b
@@ -19,3 +19,7 @@ pub record IsShortRound (turns : ℕ) (old new : State) : Type 0 where
   pub round : RoundOf old new
   pub few : (m : ℕ) → AreBlocksOf m old
       → sum_by (λ history. length history) round.histories ≤ (old.blocks + turns) * (m + 16)
+
+-- no more than so many messages are on the way from one block to another
+abbrev pub HasFewOnTheWay : ℕ → State → Type 0
+HasFewOnTheWay ring s = (b c : ℕ) → b < s.blocks → c < s.blocks → length (way_at s.ways b c) ≤ ring

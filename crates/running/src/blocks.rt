@@ -1,7 +1,8 @@
-ghost use Rattle.std.specs.Prelude.{◌≡◌, ◌<◌, ◌≤◌, IfOk, vec_len};
+ghost use Rattle.std.specs.Prelude.{◌≡◌, ◌<◌, ◌≤◌, ℕ, IfOk, vec_len};
 ghost use Rattle.block_net.specs.Limits.{block_limit};
 ghost use Rattle.worker_options.specs.Ranges.{AreInRange};
 ghost use Rattle.rounds.specs.Joined.{AreJoined};
+ghost use Rattle.draining.specs.Links.{room_in};
 ghost use Rattle.running.specs.Seated.{AreSeated, AreSmall, ends_of, ports_of};
 ghost use Rattle.running.specs.Together.{HaveRun};
 
@@ -49,7 +50,8 @@ pub(crate) fn run_blocks<J: Job + Sync, R: Threads + Wait + Sync, G: Gate>(
     requires parts { 0 < budget.parts }
     requires drawn { (drawn.name ≡ J.Drawn.name) × (drawn.parts ≡ J.Drawn.parts) }
     requires threads { drawn.parts ≡ options.now.threads }
-    ensures { IfOk result (λ came. HaveRun options.now.turns blocks.items came.blocks.items came.rings) }
+    ensures run { IfOk result (λ came. HaveRun options.now.turns blocks.items came.blocks.items came.rings) }
+    ensures room { IfOk result (λ came. (b c : ℕ) → room_in came.rings b c ≤ options.now.ring) }
 {
     let count = blocks.len();
     let space = Space::new(alloc, count)?;

@@ -4,7 +4,7 @@ ghost use Rattle.block_core.specs.Views.{IsLaid};
 ghost use Rattle.block_core.specs.Mails.{IsHeld};
 ghost use Rattle.block_core.specs.Pieces.{state_in, whole_within};
 ghost use Rattle.worker_options.specs.Ranges.{AreInRange};
-ghost use Rattle.running.specs.Short.{IsShortRound};
+ghost use Rattle.running.specs.Short.{HasFewOnTheWay, IsShortRound};
 
 use crate::RoundError;
 use crate::blocks::run_blocks;
@@ -37,7 +37,8 @@ fn round_of<J: Job + Sync, R: Threads + Wait + Sync, G: Gate>(
     requires parts { 0 < budget.parts }
     requires drawn { (drawn.name ≡ J.Drawn.name) × (drawn.parts ≡ J.Drawn.parts) }
     requires threads { drawn.parts ≡ options.now.threads }
-    ensures { IfOk result (λ new. IsShortRound options.now.turns (state_in pieces) new) }
+    ensures round { IfOk result (λ new. IsShortRound options.now.turns (state_in pieces) new) }
+    ensures left { IfOk result (λ new. HasFewOnTheWay options.now.ring new) }
 {
     let Pieces {
         net,
@@ -78,7 +79,8 @@ fn round_with<B: Ledger + Send + Sync, D: Ledger + Send + Sync, R: Threads + Wai
     requires parts { 0 < budget.parts }
     requires drawn { (drawn.name ≡ D.name) × (drawn.parts ≡ D.parts) }
     requires threads { drawn.parts ≡ options.now.threads }
-    ensures { IfOk result (λ new. IsShortRound options.now.turns (state_in pieces) new) }
+    ensures round { IfOk result (λ new. IsShortRound options.now.turns (state_in pieces) new) }
+    ensures left { IfOk result (λ new. HasFewOnTheWay options.now.ring new) }
 {
     round_of::<Ledgers<B, D>, R, G>(rt, alloc, pieces, options, gate, budget, drawn)
 }
@@ -87,7 +89,9 @@ fn round_with<B: Ledger + Send + Sync, D: Ledger + Send + Sync, R: Threads + Wai
 /// there, and comes back, and what is left in the rings between blocks goes to the ways. Whatever the schedule
 /// is, what each block did is a list of its own enabled events, and a block that could do something without
 /// taking a message did something. All lists together have at most (blocks + turns) * (m + 16) events, where
-/// no block has more than m nodes and `turns` is the number of turns in the options.
+/// no block has more than m nodes and `turns` is the number of turns in the options, and no more than `ring` messages
+/// are left on the way from one block to another. No clause says in how many threads the turns are done. `blocks` and
+/// `rounds` of the options are not looked at: the state is in blocks already, and this is one round.
 ///
 /// All growths come before the first worker starts. Where a round does not come about, the state is lost.
 pub fn run_round<R: Threads + Wait + Sync, G: Gate>(
@@ -100,6 +104,7 @@ pub fn run_round<R: Threads + Wait + Sync, G: Gate>(
     requires quiet { IsQuiet state }
     requires options { AreInRange options.now }
     ensures round { IfOk result (λ new. IsShortRound options.now.turns state new) }
+    ensures left { IfOk result (λ new. HasFewOnTheWay options.now.ring new) }
 {
     let budget = Blank::new(1);
     let drawn = Blank::new(options.threads as u64);

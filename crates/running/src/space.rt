@@ -1,7 +1,7 @@
 ghost use Rattle.std.specs.Prelude.{◌≡◌, ◌*◌, ◌≤◌, ℕ, IfOk, length, vec_capacity, vec_len};
 ghost use Rattle.block_net.specs.Limits.{block_limit};
-ghost use Rattle.draining.specs.Mated.{AreMated, sent, taken};
-ghost use Rattle.draining.specs.Links.{sent_in, taken_in};
+ghost use Rattle.draining.specs.Mated.{AreMated, room_to, sent, taken};
+ghost use Rattle.draining.specs.Links.{room_in, sent_in, taken_in};
 ghost use Rattle.running.specs.Seated.{blocks_of, ends_of, ports_of};
 
 use crate::seats::apart;
@@ -57,6 +57,7 @@ pub(crate) fn gathered(seats: Vec<Seat>, space: Space) -> Came
     ensures count { result.rings.blocks ≡ length seats.items }
     ensures sent { (b c : ℕ) → sent_in result.rings b c ≡ sent (ports_of (ends_of seats.items)) b c }
     ensures taken { (b c : ℕ) → taken_in result.rings b c ≡ taken (ports_of (ends_of seats.items)) b c }
+    ensures room { (b c : ℕ) → room_in result.rings b c ≡ room_to (ports_of (ends_of seats.items)) b c }
 {
     let Space {
         count: _,

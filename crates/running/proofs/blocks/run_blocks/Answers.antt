@@ -1,6 +1,6 @@
 use Rattle.std.proofs.Common.{◌<◌, ◌≤◌, length, arith}
 use Rattle.block_workers.specs.Workers.{turns_of}
-use Rattle.running.proofs.Runs.{still_mated, have_run}
+use Rattle.running.proofs.Runs.{still_mated, have_run, room_kept}
 use Rattle.running.proofs.blocks.run_blocks.Goals as goal
 
 pub gathered-requires-clause-mated : goal.gathered-requires-clause-mated
@@ -10,8 +10,8 @@ gathered-requires-clause-mated g c =
     let old = c.in_ok-seats in
     still_mated blocks.items c.args.options.now.ring old.seats.items c.in_ok-back.back.items some old.ensures.seated old.ensures.joined c.in_ok-back.ensures.worked
 
-pub returns : goal.returns
-returns g c =
+pub returns-clause-run : goal.returns-clause-run
+returns-clause-run g c =
     let blocks = c.args.blocks in
     let some : 0 < length blocks.items = omega (arith, c.requires.some, blocks.ok.0) in
     let old = c.in_ok-seats in
@@ -21,3 +21,11 @@ returns g c =
     let few : turns_of c.in_ok-back.back.items ≤ c.args.options.now.turns = omega (arith, all, some_drawn) in
     have_run blocks.items c.args.options.now.ring old.seats.items c.in_ok-back.back.items some old.ensures.seated old.ensures.joined c.in_ok-back.ensures.worked
     c.args.options.now.turns c.gathered.result.blocks.items c.gathered.result.rings c.requires.options.ring_least e.blocks e.count e.sent e.taken few
+
+pub returns-clause-room : goal.returns-clause-room
+returns-clause-room g c =
+    let blocks = c.args.blocks in
+    let some : 0 < length blocks.items = omega (arith, c.requires.some, blocks.ok.0) in
+    let old = c.in_ok-seats in
+    room_kept blocks.items c.args.options.now.ring old.seats.items c.in_ok-back.back.items some old.ensures.seated old.ensures.joined c.in_ok-back.ensures.worked
+    c.gathered.result.rings c.gathered.ensures.room
