@@ -1,5 +1,5 @@
 -- What reading a whole input answers.
-use Rattle.std.specs.Prelude.{◌≡◌, ◌<◌, ◌≤◌, ◌||◌, ℕ, Bool, true, false, List, length, Result, Ok, Err, is_err, Vec, ⊤}
+use Rattle.std.specs.Prelude.{◌≡◌, ◌<◌, ◌≤◌, ◌||◌, ℕ, Bool, true, false, List, length, Result, Ok, Err, IfOk, is_err, Vec, ⊤}
 use Rattle.std.specs.declared.alloc.Global.{Global}
 use Rattle.byte_streams.specs.declared.input.ReadError.{ReadError}
 use Rattle.byte_streams.specs.declared.input.ReadError.TheVariants.{OutOfMemory, ReadFailed, InputTooLong}
@@ -22,6 +22,10 @@ IsReadOr input (Err error) = IsReadRefusal input error
 -- a call failed exactly where it answered a fault
 abbrev pub NotesFault : {T E : Type 0} → Bool → Bool → Result T E → Type 0
 NotesFault old new r = new ≡ (is_err r || old)
+
+-- a call that gives no byte to a buffer with room tells the end
+abbrev pub NotesEnd : {E : Type 0} → Bool → Result ℕ E → List ℕ → Type 0
+NotesEnd ended r buffer = IfOk r (λ count. count ≡ 0 → 0 < length buffer → ended ≡ true)
 
 -- the error says that the source failed
 abbrev pub is_fault : ReadError → Bool

@@ -1,8 +1,8 @@
 //! Reading a whole input, up to a limit.
-ghost use Rattle.std.specs.Prelude.{◌≡◌, ◌+◌, ◌<◌, ◌≤◌, Bool, List, ℕ, Option, None, IfSome, length};
+ghost use Rattle.std.specs.Prelude.{◌≡◌, ◌+◌, ◌<◌, ◌≤◌, Bool, true, List, ℕ, Option, None, IfSome, IfOk, OnOk, length};
 ghost use Rattle.std.specs.Io.{ReadsAtMost};
 ghost use Rattle.std.specs.Io.KnownBytes.{ReadConsumes};
-ghost use Rattle.byte_streams.specs.Input.{IsReadOr, NotesFault, TellsFault};
+ghost use Rattle.byte_streams.specs.Input.{IsReadOr, NotesEnd, NotesFault, TellsFault, input_limit};
 
 use std::alloc::Global;
 use std::io;
@@ -33,11 +33,15 @@ pub trait Source {
     // A call answered a fault.
     ghost has_failed: { Self → Bool };
 
+    // A call gave no byte to a buffer with room: the end. True of a source that does not remember it.
+    ghost has_ended: { Self → Bool } = { λ _. true };
+
     /// Fills the front of the buffer and answers how many bytes it gave.
     fn take(&mut self, buffer: &mut [u8]) -> io::Result<usize>
         ensures bound { ReadsAtMost result buffer.new }
         ensures bytes { ReadConsumes (remaining self.old) (remaining self.new) result buffer.new }
-        ensures notes { NotesFault (has_failed self.old) (has_failed self.new) result };
+        ensures notes { NotesFault (has_failed self.old) (has_failed self.new) result }
+        ensures ends { NotesEnd (has_ended self.new) result buffer.new };
 }
 
 /// A reader of std as a source.
@@ -68,6 +72,8 @@ impl<R: Read> Source for WatchedReader<'_, R> {
 /// answers `Interrupted` is a fault like any other and is not made again.
 pub fn read_input<S: Source>(alloc: Global, source: &mut S) -> Result<Vec<u8>, ReadError>
     ensures input { IfSome (S.remaining source.old) (λ input. IsReadOr input result) }
+    ensures limit { IfOk result (λ input. length input.items ≤ input_limit) }
+    ensures ended { OnOk result (S.has_ended source.new ≡ true) }
     ensures fault { TellsFault (S.has_failed source.old) (S.has_failed source.new) result }
 {
     let mut input = Vec::new(alloc);
