@@ -54,11 +54,12 @@ Fits (Segment o) = AreSegmentOptions o
 abbrev pub IsHelp : ErrorKind → Type 0
 IsHelp k = (k ≡ kind.DisplayHelp) ⊎ (k ≡ kind.DisplayVersion)
 
--- the words ask for help
+-- the words ask for help, by an option or by the word `help`
 abbrev pub AsksForHelp : List Text → Type 0
 AsksForHelp words = (k : ErrorKind) × IsHelp k × IsAmong k (fault_of gco_app words)
 
--- the words are no command line, and ask for no help; or they are one that has no task and no bad option
+-- The words are no command line, for a cause that is not help; or they are one that has no task and no bad
+-- option. Of the word `help` both are said by clap: help, and that it is no subcommand.
 abbrev pub AreRefused : List Text → Type 0
 AreRefused words = ((k : ErrorKind) × (¬ IsHelp k) × IsAmong k (fault_of gco_app words))
     ⊎ (IsAccepted words × ((task : Task) → ¬ Asks words task)

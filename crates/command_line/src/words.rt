@@ -17,7 +17,9 @@ use std::string::ToString;
 ///
 /// The words are read by `clap`: a subcommand is required, and each command takes `--help`. Each option takes
 /// the next word as its value, and a number out of its range is refused by `clap`; a name that is not listed
-/// is the answer `BadOption`, of the first such option in the order `smooth`, `neighbours`, `moves`.
+/// is the answer `BadOption`, of the first such option in the order `smooth`, `neighbours`, `moves`. Of `help`
+/// in the place of a subcommand the answer is `Help` or `Refused`, or memory: which of them follows from the
+/// word after it is not said.
 pub fn parse<S: AsStr>(alloc: Global, words: &[S]) -> Result<Task, NoTask>
     ensures asked { IfOk result (Asks (map S.text words.now)) }
     ensures fits { IfOk result Fits }

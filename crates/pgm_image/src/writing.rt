@@ -151,9 +151,8 @@ pub fn put_image<S: Sink>(image: &Image, sink: &mut S) -> Result<(), WriteError>
 
 /// Writes the image as `P5`. Takes no memory.
 ///
-/// `WriteFailed` comes only where the writer answered a fault, or took no byte of a piece that was
-/// not empty. The writer then took exactly the told count of bytes, the first ones of the written
-/// form.
+/// At `WriteFailed` the writer took exactly the told count of bytes, the first ones of the written form, which
+/// are fewer than all. That a call of the writer failed is said by `put_image`, whose sink remembers it.
 pub fn write_image<W: Write>(image: &Image, writer: &mut W) -> Result<(), WriteError>
     ensures ok { OnOk result
         (Appends (W.contents writer.old) (W.contents writer.new) (written image.now)) }

@@ -8,7 +8,8 @@ use crate::ProblemFault;
 use std::alloc::Global;
 use toml::Table;
 
-/// The table that the bytes of a TOML text are. It is `BadToml` where they are none, and else `OutOfMemory`.
+/// The table that the bytes of a TOML text are. `OutOfMemory` may come of any bytes. Any other refusal is
+/// `BadToml`, which comes of UTF-8 only where it is no TOML text.
 pub fn read_table(alloc: Global, bytes: &[u8]) -> Result<Table, ProblemFault>
     ensures ok { IfOk result (λ table. IsUtf8 bytes.now × (parse_document bytes.now ≡ Some (table_view
         table))) }
