@@ -1,8 +1,9 @@
 //! A program that uses the library as any other may: it builds an energy, and prints its minimum.
 #![tactic(auto)]
 
-ghost use Rattle.std.specs.Prelude.{ℕ, Bool, ◌≤ℤ◌, IfOk, IfSome};
+ghost use Rattle.std.specs.Prelude.{◌≡◌, ◌↔◌, ℕ, Bool, ◌≤ℤ◌, IfOk, IfSome, IsNone};
 ghost use Rattle.pseudo_bool.specs.Formula.{value_at};
+ghost use Rattle.regular.specs.Regularity.{IsRegular};
 
 use minimum::minimise;
 use pseudo_bool::{Energy, EnergyError};
@@ -20,9 +21,11 @@ fn example(alloc: Global) -> Result<Energy, EnergyError> {
     Ok(energy)
 }
 
-/// A number than which no assignment has a lower value, or `None` where some term is not regular.
+/// The least value over all assignments, or `None` exactly where some term is not regular.
 fn least_value(alloc: Global, energy: &Energy) -> Result<Option<i64>, AllocError>
-    ensures { IfOk result (λ found. IfSome found (λ least. (x : ℕ → Bool) → least ≤ℤ value_at energy.now x)) }
+    ensures none { IfOk result (λ found. IsNone found ↔ (¬ IsRegular energy.now)) }
+    ensures least { IfOk result (λ found. IfSome found (λ least. (x : ℕ → Bool) → least ≤ℤ value_at energy.now x)) }
+    ensures reached { IfOk result (λ found. IfSome found (λ least. (x : ℕ → Bool) × (value_at energy.now x ≡ least))) }
 {
     let Ok(regular) = check(energy) else {
         return Ok(None);
