@@ -1,12 +1,20 @@
 -- What the reading of a problem of labels refuses is a fault that its bytes have.
-use Rattle.std.proofs.Common.{◌≡◌, ◌≢◌, ◌≤◌, ◌∙◌, ℕ, List, Option, Some, None, Err, IfSome, length, subst}
+use Rattle.std.proofs.Common.{◌≡◌, ◌≢◌, ◌≤◌, ℕ, List, Option, Err, length, inl, inr, refl, subst}
 use Rattle.std.specs.Prelude.{IsUtf8}
 use Rattle.byte_streams.specs.Input.{input_limit}
-use Rattle.fault_lines.specs.declared.fault.Fault.TheVariants.{Label}
-use Rattle.label_file.specs.Names.{problem_in}
+use Rattle.fault_lines.specs.declared.fault.Fault.TheVariants.{Label, Move}
+use Rattle.label_file.specs.Names.{Problem, problem_in}
 use Rattle.label_file.specs.declared.fault.LabelFault.{LabelFault}
 use Rattle.label_file.specs.declared.fault.LabelFault.TheVariants.{OutOfMemory, BadToml, BadField, BadElement, CostRange, NoSuchSite, SamePair, TooManyPairs, WeightRange, NoSuchLabel}
-use Rattle.gco_cli.specs.Label.{HasLabelFault, HasProblemFault}
+use Rattle.labelling_runs.specs.Runs.{Answers}
+use Rattle.moves.specs.Problems.{IsRunRefusal}
+use Rattle.moves.specs.declared.error.MoveError.{MoveError}
+use Rattle.moves.specs.declared.error.MoveError.TheVariants as move
+use Rattle.moves.specs.declared.error.SolveError.TheVariants as solve
+use Rattle.table_moves.specs.Instances.{instance_named}
+use Rattle.gco_cli.proofs.InputLemmas.{IsWhole, of_read}
+use Rattle.gco_cli.specs.Label.{HasLabelFault, HasProblemFault, IsPairOrMemory, IsRunFault}
+use Rattle.gco_cli.specs.Streams.{OfSomeInput}
 
 both : (bytes : List ℕ) (fault : LabelFault) → fault ≢ OutOfMemory → fault ≢ BadToml
     → (fault ≢ OutOfMemory → IsUtf8 bytes → problem_in bytes ≡ Err fault) → (fault ≢ OutOfMemory → fault ≢ BadToml → IsUtf8 bytes)
@@ -27,8 +35,21 @@ has_fault bytes (WeightRange pair) refused text = both bytes (WeightRange pair) 
 has_fault bytes (NoSuchLabel site) refused text = both bytes (NoSuchLabel site) (λ e. cc) (λ e. cc) refused text
 
 pub label_stands : (bytes items : List ℕ) (known : Option (List ℕ)) (fault : LabelFault) → bytes ≡ items
-    → IfSome known (λ input. (items ≡ input) × (length input ≤ input_limit)) → (fault ≢ OutOfMemory → IsUtf8 bytes → problem_in bytes ≡ Err fault)
-    → (fault ≢ OutOfMemory → fault ≢ BadToml → IsUtf8 bytes) → IfSome known (λ input. HasLabelFault input (Label fault))
-label_stands bytes items None fault is whole refused text = tt
-label_stands bytes items (Some input) fault is whole refused text =
-    (whole.1, subst (λ (xs : List ℕ). HasProblemFault xs fault) (is ∙ whole.0) (has_fault bytes fault refused text))
+    → IsWhole items known → length items ≤ input_limit → (fault ≢ OutOfMemory → IsUtf8 bytes → problem_in bytes ≡ Err fault)
+    → (fault ≢ OutOfMemory → fault ≢ BadToml → IsUtf8 bytes) → OfSomeInput known (λ input. HasLabelFault input (Label fault))
+label_stands bytes items known fault is whole limit refused text =
+    of_read known items (λ input. HasLabelFault input (Label fault)) whole
+    (limit, subst (λ (xs : List ℕ). HasProblemFault xs fault) is (has_fault bytes fault refused text))
+
+-- what one thread refuses is a pair or memory
+pub pair_or_memory : (error : MoveError) → IsRunRefusal (λ cut. cut ≡ solve.OutOfMemory) error → IsPairOrMemory error
+pair_or_memory move.NoSuchLabel is = absurd is
+pair_or_memory (move.PairNotRegular pair alpha beta) is = inl tt
+pair_or_memory move.Workers is = absurd cc
+pair_or_memory move.BadOptions is = absurd cc
+pair_or_memory move.OutOfMemory is = inr refl
+
+-- a refused run is a fault of the problem
+pub run_fault : (p : Problem) (error : MoveError) → Answers (instance_named p) p.moves p.cycles p.start.at (Err error)
+    → IsRunRefusal (λ cut. cut ≡ solve.OutOfMemory) error → IsRunFault p (Move error)
+run_fault p error answers refused = (pair_or_memory error refused, answers)

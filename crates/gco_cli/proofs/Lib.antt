@@ -1,3 +1,4 @@
+mod InputLemmas
 mod RefusalLemmas
 mod PictureLemmas
 mod LabelFaults

@@ -9,7 +9,7 @@ use Rattle.fault_lines.specs.declared.fault.Fault.{Fault}
 use Rattle.fault_lines.specs.declared.fault.Fault.TheVariants as fault
 use Rattle.gco_cli.specs.Commands.{IsDueFor, StandsFor}
 use Rattle.gco_cli.specs.Refusals.{IsHelp, IsRefusalFor, IsRefusalOf, SaysRefusal, ShowsHelp, status_of}
-use Rattle.gco_cli.specs.Run.{IsCut, IsDue, IsRun, Leaves, Refuses, Streams, Writes, is_failed_read, is_bad_option}
+use Rattle.gco_cli.specs.Run.{IsCut, IsCutIn, IsDue, IsRun, Leaves, Refuses, Streams, Writes, is_failed_read, is_bad_option}
 use Rattle.gco_cli.specs.Streams.{Stream, Took}
 use Rattle.gco_cli.specs.declared.refusal.Refusal.{Refusal}
 use Rattle.gco_cli.specs.declared.refusal.Refusal.TheVariants.{Fault as Faulty, Words}
@@ -101,6 +101,13 @@ run_of bytes words old new (Err (Faulty fault)) told done refused = record {
 run_of bytes words old new (Err (Words text)) told done refused = record {
   done = λ is. absurd (omega (arith, is));
   refused = λ is. absurd (omega (arith, is));
-  rejected = λ is. record { refused = refused.0; text = told.0; told = told.1; read = refused.1; written = refused.2 };
+  rejected = λ is. record { text = text; refused = refused.0; told = told; read = refused.1; written = refused.2 };
   range = omega arith;
 }
+
+-- the sink failed within a text that was due
+pub cut_in : {T : Type 0} (Due : List ℕ → List ℕ → Type 0) (Is : Fault → Type 0) (old new : Stream) (text items said : List ℕ) (r : Result T Fault)
+    → text ≡ items → Due items said → IfErr r (IsCutIn text old new) → IfErr r (Refuses Due Is old new)
+cut_in Due Is old new text items said (Ok x) same due cut = tt
+cut_in Due Is old new text items said (Err fault) same due cut =
+    inr (items, said, due, subst (λ (xs : List ℕ). IsCutIn xs old new fault) same cut)

@@ -1,5 +1,5 @@
 -- What each command is: the answer that is due to an input, and the faults that an input has.
-use Rattle.std.specs.Prelude.{◌≡◌, ℕ, List, [], Option, IfSome}
+use Rattle.std.specs.Prelude.{◌≡◌, ℕ, List, [], Option}
 use Rattle.command_line.specs.declared.task.Task.{Task}
 use Rattle.command_line.specs.declared.task.Task.TheVariants.{Energy, Label, Restore, Stereo, Segment}
 use Rattle.vision.specs.Faults.{HasRestoreFault, HasSegmentFault, HasStereoFault}
@@ -8,6 +8,7 @@ use Rattle.fault_lines.specs.declared.fault.Fault.{Fault}
 use Rattle.gco_cli.specs.Energy.{AnswersInput, HasEnergyFault}
 use Rattle.gco_cli.specs.Label.{AnswersLabels, HasLabelFault}
 use Rattle.gco_cli.specs.Pictures.{AnswersPictures, HasPictureFault}
+use Rattle.gco_cli.specs.Streams.{OfSomeInput}
 
 -- the command of a task writes this text for this input, and says this beside it
 abbrev pub IsAnswer : Task → List ℕ → List ℕ → List ℕ → Type 0
@@ -25,9 +26,9 @@ HasFaultFor (Restore o) input fault = HasPictureFault (HasRestoreFault o) input 
 HasFaultFor (Stereo o) input fault = HasPictureFault (HasStereoFault o) input fault
 HasFaultFor (Segment o) input fault = HasPictureFault (HasSegmentFault o) input fault
 
--- the same, where the input is known
+-- the same of some input that the source may give
 abbrev pub IsDueFor : Task → Option (List ℕ) → List ℕ → List ℕ → Type 0
-IsDueFor task known text said = IfSome known (λ input. IsAnswer task input text said)
+IsDueFor task known text said = OfSomeInput known (λ input. IsAnswer task input text said)
 
 abbrev pub StandsFor : Task → Option (List ℕ) → Fault → Type 0
-StandsFor task known fault = IfSome known (λ input. HasFaultFor task input fault)
+StandsFor task known fault = OfSomeInput known (λ input. HasFaultFor task input fault)

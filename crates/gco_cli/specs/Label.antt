@@ -1,10 +1,13 @@
 -- What `gco label` is.
-use Rattle.std.specs.Prelude.{◌≡◌, ◌≤◌, ◌+◌, ◌++◌, ⊤, ℕ, List, length, Ok, Err, IsUtf8, codes, decimal, unsigned_abs}
+use Rattle.std.specs.Prelude.{◌≡◌, ◌≤◌, ◌+◌, ◌++◌, ◌⊎◌, ⊤, ℕ, List, length, Ok, Err, IsUtf8, codes, decimal, unsigned_abs}
 use Rattle.std.specs.List.{flat_map}
 use Rattle.byte_streams.specs.Input.{IsReadRefusal, input_limit}
 use Rattle.label_file.specs.Names.{Problem, problem_in}
 use Rattle.label_file.specs.declared.fault.LabelFault.{LabelFault}
 use Rattle.label_file.specs.declared.fault.LabelFault.TheVariants as label
+use Rattle.moves.specs.Problems.{TellsPairNotRegular}
+use Rattle.moves.specs.declared.error.MoveError.{MoveError}
+use Rattle.moves.specs.declared.error.MoveError.TheVariants as move
 use Rattle.table_moves.specs.Instances.{instance_named}
 use Rattle.labelling_runs.specs.Runs.{Answers}
 use Rattle.labelling_runs.specs.declared.Run.{Run}
@@ -41,6 +44,10 @@ HasProblemFault input label.OutOfMemory = ⊤
 HasProblemFault input label.BadToml = IsUtf8 input → problem_in input ≡ Err label.BadToml
 HasProblemFault input fault = IsUtf8 input × (problem_in input ≡ Err fault)
 
+-- On one thread a move is refused for a pair or for memory alone.
+abbrev pub IsPairOrMemory : MoveError → Type 0
+IsPairOrMemory error = TellsPairNotRegular error ⊎ (error ≡ move.OutOfMemory)
+
 -- a run of the problem's moves from its start has this fault: memory may always be refused
 abbrev pub IsRunFault : Problem → Fault → Type 0
 IsRunFault p OutOfMemory = ⊤
@@ -49,7 +56,8 @@ IsRunFault p (Read error) = ⊥
 IsRunFault p (EnergyFile fault) = ⊥
 IsRunFault p (Regularity failing) = ⊥
 IsRunFault p (Label fault) = ⊥
-IsRunFault p (Move error) = Answers (instance_named p) p.moves p.cycles p.start.at (Err error)
+IsRunFault p (Move error) =
+    IsPairOrMemory error × Answers (instance_named p) p.moves p.cycles p.start.at (Err error)
 IsRunFault p (Vision error) = ⊥
 IsRunFault p (BadOption option) = ⊥
 

@@ -1,6 +1,6 @@
 -- How a run comes to be refused, and what its end says.
-use Rattle.std.specs.Prelude.{◌≡◌, ℕ, List, [], Result, Ok, Err}
-use Rattle.command_line.specs.Task.{AreRefused}
+use Rattle.std.specs.Prelude.{◌≡◌, ℕ, List, [], Result, Ok, Err, string_bytes}
+use Rattle.command_line.specs.Task.{IsNoTaskFor}
 use Rattle.command_line.specs.declared.task.NoTask.{NoTask}
 use Rattle.command_line.specs.declared.task.NoTask.TheVariants.{OutOfMemory, Help, Refused, BadOption}
 use Rattle.fault_lines.specs.FaultLine.{fault_line}
@@ -16,7 +16,7 @@ IsRefusalFor words source source_new sink sink_new (Fault fault) =
     Refuses (IsDue words source.bytes) (Stands words source.bytes) sink sink_new fault
     × Leaves source source_new fault
 IsRefusalFor words source source_new sink sink_new (Words text) =
-    AreRefused words × (source_new ≡ source) × (sink_new ≡ sink)
+    IsNoTaskFor words (Refused text) × (source_new ≡ source) × (sink_new ≡ sink)
 
 -- help, of which nothing is said beside it
 abbrev pub IsHelp : List ℕ → List ℕ → Type 0
@@ -41,10 +41,10 @@ IsRefusalOf (Help text) old new refusal = IsCutHelp old new refusal
 IsRefusalOf (Refused text) old new refusal = (refusal ≡ Words text) × (new ≡ old)
 IsRefusalOf (BadOption option) old new refusal = (refusal ≡ Fault (fault.BadOption option)) × (new ≡ old)
 
--- what is said of a refusal: the line of its fault, or some words
+-- what is said of a refusal: the line of its fault, or the text that the words were refused with
 abbrev pub SaysRefusal : Stream → Stream → Refusal → Type 0
 SaysRefusal old new (Fault fault) = Took old new (fault_line fault)
-SaysRefusal old new (Words text) = (said : List ℕ) × Took old new said
+SaysRefusal old new (Words text) = Took old new (string_bytes text)
 
 -- the exit status
 abbrev pub status_of : {T : Type 0} → Result T Refusal → ℕ

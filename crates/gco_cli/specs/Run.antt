@@ -1,8 +1,10 @@
 -- What a run answers and leaves.
-use Rattle.std.specs.Prelude.{◌≡◌, ◌⊎◌, ◌≤◌, ◌||◌, ℕ, Bool, true, false, List, [], Option, Result, Ok, Err}
+use Rattle.std.specs.Prelude.{◌≡◌, ◌⊎◌, ◌≤◌, ◌||◌, ℕ, Bool, true, false, List, [], Option, Result, Ok, Err, String, string_bytes}
+use Rattle.std.specs.declared.alloc.Global.{Global}
 use Rattle.byte_streams.specs.Input.{is_fault}
 use Rattle.byte_streams.specs.declared.sink.WriteFailed.{WriteFailed}
-use Rattle.command_line.specs.Task.{AreRefused, Asks, AsksForHelp, NamesBadOption}
+use Rattle.command_line.specs.Task.{Asks, AsksForHelp, IsNoTaskFor, NamesBadOption}
+use Rattle.command_line.specs.declared.task.NoTask.TheVariants.{Refused}
 use Rattle.command_line.specs.declared.task.OptionName.{OptionName}
 use Rattle.command_line.specs.declared.task.Task.{Task}
 use Rattle.fault_lines.specs.FaultLine.{fault_line}
@@ -88,11 +90,11 @@ pub record IsRefused (words : List (List ℕ)) (old new : Streams) : Type 0 wher
   pub told : Took old.faults new.faults (fault_line fault)
   pub read : Leaves old.source new.source fault
 
--- status 2: the words were refused, some text was said, and nothing was read or written
+-- status 2: the words were refused with a text, it was said, and nothing was read or written
 pub record IsRejected (words : List (List ℕ)) (old new : Streams) : Type 0 where
-  pub refused : AreRefused words
-  pub text : List ℕ
-  pub told : Took old.faults new.faults text
+  pub text : String Global
+  pub refused : IsNoTaskFor words (Refused text)
+  pub told : Took old.faults new.faults (string_bytes text)
   pub read : new.source ≡ old.source
   pub written : new.sink ≡ old.sink
 

@@ -1,9 +1,10 @@
 //! `gco energy`.
-ghost use Rattle.std.specs.Prelude.{◌≡◌, false, IfOk, IfErr, IfSome};
+ghost use Rattle.std.specs.Prelude.{◌≡◌, false, IfOk, IfErr};
 ghost use Rattle.command_line.specs.declared.task.Task.TheVariants.{Energy as EnergyTask};
 ghost use Rattle.gco_cli.specs.Commands.{IsDueFor, StandsFor};
 ghost use Rattle.gco_cli.specs.Energy.{HasEnergyFault, HoldsEnergy};
 ghost use Rattle.gco_cli.specs.Run.{TellsRead, is_bad_option, is_write};
+ghost use Rattle.gco_cli.specs.Streams.{OfSomeInput};
 
 use crate::answers::answer;
 use crate::written::Answer;
@@ -33,9 +34,9 @@ pub fn answer_energy<R: Source>(alloc: Global, source: &mut R) -> Result<Answer,
 // The energy that the input names.
 fn read_problem<R: Source>(alloc: Global, source: &mut R) -> Result<Energy, Fault>
     ensures named { IfOk result (λ energy.
-        IfSome (R.remaining source.old) (λ input. HoldsEnergy input energy)) }
+        OfSomeInput (R.remaining source.old) (λ input. HoldsEnergy input energy)) }
     ensures stands { IfErr result (λ fault.
-        IfSome (R.remaining source.old) (λ input. HasEnergyFault input fault)) }
+        OfSomeInput (R.remaining source.old) (λ input. HasEnergyFault input fault)) }
     ensures unwritten { IfErr result (λ fault. is_write fault ≡ false) }
     ensures asked { IfErr result (λ fault. is_bad_option fault ≡ false) }
     ensures read { TellsRead (R.has_failed source.old) (R.has_failed source.new) result }

@@ -1,11 +1,12 @@
 //! `gco label`.
-ghost use Rattle.std.specs.Prelude.{◌≡◌, ◌++◌, false, decimal, pos, ◌≤ℤ◌, unsigned_abs, OnOk, IfOk, IfErr, IfSome};
+ghost use Rattle.std.specs.Prelude.{◌≡◌, ◌++◌, false, decimal, pos, ◌≤ℤ◌, unsigned_abs, OnOk, IfOk, IfErr};
 ghost use Rattle.command_line.specs.declared.task.Task.TheVariants.{Label as LabelTask};
 ghost use Rattle.label_file.specs.Limits.{IsInLimits};
 ghost use Rattle.label_file.specs.Names.{told};
 ghost use Rattle.gco_cli.specs.Commands.{IsDueFor, StandsFor};
 ghost use Rattle.gco_cli.specs.Label.{AnswersProblem, HasLabelFault, HoldsProblem, IsRunFault, labels_text, numbers_text};
 ghost use Rattle.gco_cli.specs.Run.{TellsRead, is_bad_option, is_write};
+ghost use Rattle.gco_cli.specs.Streams.{OfSomeInput};
 
 use crate::written::Answer;
 use byte_streams::{Source, read_input};
@@ -33,10 +34,10 @@ pub fn answer_label<R: Source>(alloc: Global, source: &mut R) -> Result<Answer, 
 
 // The problem that the input names.
 fn read_problem<R: Source>(alloc: Global, source: &mut R) -> Result<LabelProblem, Fault>
-    ensures named { IfOk result (λ problem. IfSome (R.remaining source.old)
+    ensures named { IfOk result (λ problem. OfSomeInput (R.remaining source.old)
         (λ input. HoldsProblem input (told problem))) }
     ensures limits { IfOk result (λ problem. IsInLimits (told problem)) }
-    ensures stands { IfErr result (λ fault. IfSome (R.remaining source.old)
+    ensures stands { IfErr result (λ fault. OfSomeInput (R.remaining source.old)
         (λ input. HasLabelFault input fault)) }
     ensures unwritten { IfErr result (λ fault. is_write fault ≡ false) }
     ensures asked { IfErr result (λ fault. is_bad_option fault ≡ false) }
