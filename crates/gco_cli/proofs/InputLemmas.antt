@@ -15,10 +15,6 @@ pub of_read : (known : Option (List ℕ)) (items : List ℕ) (P : List ℕ → T
 of_read None items P whole holds = (items, tt, holds)
 of_read (Some bytes) items P whole holds = (items, whole.0, holds)
 
-pub of_weaker : (known : Option (List ℕ)) (P Q : List ℕ → Type 0) → ((input : List ℕ) → P input → Q input)
-    → OfSomeInput known P → OfSomeInput known Q
-of_weaker known P Q weaker of = (of.0, of.1, weaker of.0 of.2)
-
 -- there is an input that is longer
 longer : (n : ℕ) → (input : List ℕ) × (n < length input)
 longer n = (replicate (n + 1) 0, rw length-replicate (omega arith))

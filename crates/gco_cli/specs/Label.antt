@@ -44,7 +44,7 @@ HasProblemFault input label.OutOfMemory = ⊤
 HasProblemFault input label.BadToml = IsUtf8 input → problem_in input ≡ Err label.BadToml
 HasProblemFault input fault = IsUtf8 input × (problem_in input ≡ Err fault)
 
--- On one thread a move is refused for a pair or for memory alone.
+-- on one thread a move is refused for a pair or for memory alone
 abbrev pub IsPairOrMemory : MoveError → Type 0
 IsPairOrMemory error = TellsPairNotRegular error ⊎ (error ≡ move.OutOfMemory)
 
