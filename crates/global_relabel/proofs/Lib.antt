@@ -3,4 +3,5 @@ pub mod ResidualNet
 pub mod Places
 pub mod Seeing
 pub mod Homing
+pub mod Rooms
 pub mod Residuals

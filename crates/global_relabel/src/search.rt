@@ -7,11 +7,10 @@ ghost use Rattle.block_net.specs.Views.{lane_in, border_in};
 ghost use Rattle.block_net.specs.Whole.{shown};
 ghost use Rattle.block_core.specs.Views.{IsLaid, IsSpot};
 ghost use Rattle.block_core.specs.Parts.{whole_by};
-ghost use Rattle.global_relabel.specs.Search.{LeadsTo, AreMarked};
+ghost use Rattle.global_relabel.specs.Search.{AreWithin, GivesIn, LeadsTo, AreMarked};
 ghost use Rattle.global_relabel.specs.Homes.{AreHomes};
 ghost use Rattle.global_relabel.specs.Workspaces.{IsListed};
 
-use crate::homes::room_at;
 use block_core::State;
 use block_net::{Cells, Parts};
 use flow_network::Net;
@@ -45,9 +44,31 @@ fn spot_of(split: &Split<'_>, w: usize) -> (usize, usize)
     (block, w - split.parts.firsts[block])
 }
 
-/// Labels the nodes that can give the sink more.
-fn mark_rooms(state: &State, homes: &[u8], labels: &mut [u32], order: &mut [u32]) -> usize
-    requires homes { AreHomes state.now.net state.now.blocks homes.now }
+/// Labels the nodes of a block that can give the sink more. `first` is the block's first node.
+fn mark_block(
+    cells: &Cells,
+    first: usize,
+    labels: &mut [u32],
+    order: &mut [u32],
+    mut count: usize,
+) -> usize
+    requires inside { AreWithin cells.now first (length labels.old) }
+    requires few { length labels.old ≤ node_limit }
+    requires ready { IsReady 1 (found_of labels.old order.old count) }
+    ensures grows { Grows 1 (GivesIn cells.now first)
+        (found_of labels.old order.old count) (found_of labels.new order.new result) }
+    ensures marked { (v : ℕ) → GivesIn cells.now first v → slice_index labels.new v ≤ 1 }
+{
+    'places: for p in 0..cells.len() {
+        if cells.room(p) > 0 {
+            count = mark(labels, order, count, (first + p) as u32, 1);
+        }
+    }
+    count
+}
+
+/// Labels the nodes that can give the sink more: block by block, so that no node's block is looked up.
+fn mark_rooms(state: &State, labels: &mut [u32], order: &mut [u32]) -> usize
     requires len { length labels.old ≡ nodes state.now.net }
     requires order_len { length order.old ≡ nodes state.now.net }
     ensures limits { IsNet state.now.net }
@@ -55,11 +76,10 @@ fn mark_rooms(state: &State, homes: &[u8], labels: &mut [u32], order: &mut [u32]
         (found_of labels.new order.new result) }
 {
     labels.fill(top_label(state.net().graph()));
+    let parts = state.parts();
     let mut count = 0;
-    for v in 0..state.nodes() {
-        if room_at(state, homes, v) > 0 {
-            count = mark(labels, order, count, v as u32, 1);
-        }
+    'each: for b in 0..parts.blocks.len() {
+        count = mark_block(&parts.blocks[b], parts.firsts[b], labels, order, count);
     }
     count
 }
@@ -246,7 +266,7 @@ pub(crate) fn write_exact(state: &State, homes: &[u8], labels: &mut [u32], order
         parts: state.parts(),
         homes,
     };
-    let mut count = mark_rooms(state, homes, labels, order);
+    let mut count = mark_rooms(state, labels, order);
     let mut next = 0;
     'search: while next < count {
         let w = order[next] as usize;
