@@ -8,6 +8,7 @@
 mod answers;
 mod ends;
 mod opening;
+mod orders;
 mod passes;
 mod rest;
 mod solver;

@@ -1,11 +1,11 @@
 ghost use Rattle.std.specs.Prelude.{◌≡◌, ◌+◌, ◌<◌, ◌≤◌, ℕ, IfOk, IsFalse, length};
 ghost use Rattle.sums.specs.Sums.{counted};
-ghost use Rattle.flow_network.specs.Limits.{node_limit};
 ghost use Rattle.parcel.specs.Events.{IsQuiet};
 ghost use Rattle.parcel.specs.Soundness.{IsFinished, count};
 ghost use Rattle.block_core.specs.Pieces.{state_in};
 ghost use Rattle.block_cut.specs.Passes.{IsGoing, IsReady, IsStill};
 
+use crate::orders::orders_of;
 use crate::turns::turn_of;
 use block_core::{Mail, Pieces, State};
 use block_net::{Cells, Parts};
@@ -19,10 +19,6 @@ const PASSES: usize = 3;
 
 /// A turn ends after more new labels than its block has nodes, divided by this.
 const NODES_A_RISE: usize = 32;
-
-/// In a round, the nodes that first pass on what they have together hold this many times what the sink can still take:
-/// the rest of what there is hardly gets to the sink.
-const SHARE: u64 = 2;
 
 /// How many events a turn does at most: as many as can be counted, since it is new labels that end a turn here.
 const EVENTS: u32 = u32::MAX;
@@ -119,90 +115,6 @@ fn more_passes(
     (ways, slots)
 }
 
-/// An empty order for each of so many blocks, with room for as many nodes as they have on average. The only error is
-/// that memory runs out.
-fn empty_orders(alloc: Global, nodes: usize, blocks: usize) -> Result<Vec<Vec<u32>>, AllocError>
-    requires { nodes ≤ node_limit }
-{
-    let mut orders = Vec::with_capacity(alloc, blocks)?;
-    'blocks: for b in 0..blocks {
-        orders.push(Vec::with_capacity(alloc, nodes / blocks + 1)?)?;
-    }
-    Ok(orders)
-}
-
-/// What a node has, and what it can still give the sink: both 0 of what is no node. `homes` tells the block of each node.
-fn holding(parts: &Parts, homes: &[u8], v: usize) -> (u64, u64) {
-    if v >= homes.len() {
-        return (0, 0);
-    }
-    let b = homes[v] as usize;
-    if b >= parts.blocks.len() || b >= parts.firsts.len() {
-        return (0, 0);
-    }
-    let cells = &parts.blocks[b];
-    let place = v.saturating_sub(parts.firsts[b]);
-    if place >= cells.len() {
-        return (0, 0);
-    }
-    (cells.excess(place), cells.room(place))
-}
-
-/// What the sink can still take of the nodes of an order, in which those that can give it something stand first.
-fn wanted(parts: &Parts, homes: &[u8], order: &[u32]) -> u64 {
-    let mut wanted = 0u64;
-    'nodes: for v in order {
-        let (_, room) = holding(parts, homes, *v as usize);
-        if room == 0 {
-            return wanted;
-        }
-        wanted = wanted.saturating_add(room);
-    }
-    wanted
-}
-
-/// How many of the first nodes of an order together have `SHARE` times what the sink can still take; all of them where
-/// they have less.
-fn near_nodes(parts: &Parts, homes: &[u8], order: &[u32]) -> usize
-    ensures { result ≤ length order.now }
-{
-    let enough = wanted(parts, homes, order).saturating_mul(SHARE);
-    let mut held = 0u64;
-    'nodes: for place in 0..order.len() {
-        let v = order[place] as usize;
-        if held >= enough || v >= homes.len() {
-            return place;
-        }
-        let (excess, _) = holding(parts, homes, v);
-        held = held.saturating_add(excess);
-    }
-    order.len()
-}
-
-/// For each block those of its nodes that are to pass on what they have first, numbered from the block's first node: of
-/// an order of all nodes the first that have enough for the sink, in reverse. `homes` tells the block of each node. What
-/// is no node is passed over. The only error is that memory runs out.
-fn orders_of(
-    alloc: Global,
-    state: &State,
-    homes: &[u8],
-    order: &[u32],
-) -> Result<Vec<Vec<u32>>, AllocError> {
-    let firsts = state.parts().firsts.as_slice();
-    let mut orders = empty_orders(alloc, state.nodes(), state.blocks())?;
-    let near = near_nodes(state.parts(), homes, order);
-    'nodes: for place in (0..near).rev() {
-        let v = order[place] as usize;
-        if v < homes.len() {
-            let b = homes[v] as usize;
-            if b < orders.len() && b < firsts.len() {
-                orders[b].push(v.saturating_sub(firsts[b]) as u32)?;
-            }
-        }
-    }
-    Ok(orders)
-}
-
 /// The blocks, in each of which the nodes that have excess and are not cut off wait, with their orders. The only error
 /// is that memory runs out.
 fn blocks_of(
@@ -255,8 +167,8 @@ fn state_of(old: &Snapshot<Pieces>, net: Net, parts: Parts, ways: Mail) -> State
 }
 
 /// Turns of the blocks, in passes, in which nodes of each block first pass on what they have: of an order the first that
-/// have enough for the sink, in reverse. Best are the nearest to the sink first. `homes` tells the block of each node. The
-/// only error is that memory runs out.
+/// have enough for the sink, in reverse, where enough of them have something. Best are the nearest to the sink first.
+/// `homes` tells the block of each node. The only error is that memory runs out.
 pub(crate) fn work(
     alloc: Global,
     state: State,
@@ -268,7 +180,7 @@ pub(crate) fn work(
     ensures net { IfOk result (λ s. s.net ≡ state.net) }
     ensures less { IfOk result (λ s. count s < count state) }
 {
-    let orders = orders_of(alloc, &state, homes, order)?;
+    let orders = orders_of(alloc, state.parts(), homes, order)?;
     let arcs = state.arcs();
     let pieces = state.into_pieces();
     let old = Snapshot::of(&pieces);

@@ -40,8 +40,8 @@ fn advance(alloc: Global, state: State, workspace: &Workspace) -> Result<State, 
 /// each takes in what is on the way and finds the exact labels. Where by them no node with excess reaches the sink,
 /// they tell the sink side as well; else they become the labels, and the blocks have turns: of the nodes nearest to
 /// the sink that have twice what it can still take, excess goes once down the order of the search for these labels,
-/// the farthest first, and then the nodes with excess are discharged one after another (Goldberg, Tarjan 1988,
-/// sections 2 to 4). Refuses only where memory runs out, and drops the state.
+/// the farthest first, where at least one in 16 of them has some, and then the nodes with excess are discharged one
+/// after another (Goldberg, Tarjan 1988, sections 2 to 4). Refuses only where memory runs out, and drops the state.
 pub fn finish(alloc: Global, state: State) -> Result<Solved, AllocError>
     ensures certified { IfOk result (λ s. IsRightCut state.net s) }
     ensures smallest { IfOk result (λ s. IsSmallestLeastCut state.net (side_of s)) }

@@ -46,8 +46,8 @@ fn push_if_active<W: Ways>(
     push_on(cells, queue, ways, v, limit)
 }
 
-/// The nodes of an order pass on what they have, one after another and without new labels: at most `limit` events.
-/// What is no node of the block is passed over.
+/// The nodes of an order pass on what they have, the last of the order first, one after another and without new labels:
+/// at most `limit` events. What is no node of the block is passed over.
 pub(crate) fn push_wave<W: Ways>(
     cells: &mut Cells,
     queue: &mut Queue,
@@ -64,7 +64,7 @@ pub(crate) fn push_wave<W: Ways>(
     ensures queued { IsQueued cells.new queue.new.order }
 {
     let mut count = 0;
-    'wave: for place in 0..order.len() {
+    'wave: for place in (0..order.len()).rev() {
         count += push_if_active(cells, queue, ways, order[place] as usize, limit - count);
     }
     count
