@@ -87,19 +87,20 @@ fn worth(near: usize, holders: usize) -> usize
     near
 }
 
-/// How many of the first nodes of an order are to pass on what they have first: those up to the last that has something
-/// before they have `SHARE` times what the sink can still take together; none where few of them have something.
+/// How many of the first nodes of an order are to pass on what they have first: those up to the first with which they
+/// together have `SHARE` times what the sink can still take, or up to the last that has something; none where few of them
+/// have something.
 fn near_nodes<N: Nodes>(nodes: &N, order: &[u32]) -> usize
     ensures { result ≤ length order.now }
 {
     let enough = wanted(nodes, order).saturating_mul(SHARE);
+    if enough == 0 {
+        return 0;
+    }
     let mut held = 0u64;
     let mut holders = 0;
     let mut near = 0;
     'nodes: for place in 0..order.len() {
-        if held >= enough {
-            return worth(near, holders);
-        }
         let Some(Holding { excess, .. }) = nodes.holding(order[place]) else {
             return worth(near, holders);
         };
@@ -107,6 +108,9 @@ fn near_nodes<N: Nodes>(nodes: &N, order: &[u32]) -> usize
             held = held.saturating_add(excess);
             holders += 1;
             near = place + 1;
+            if held >= enough {
+                return worth(near, holders);
+            }
         }
     }
     worth(near, holders)
