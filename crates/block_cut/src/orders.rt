@@ -7,8 +7,8 @@ use std::alloc::{AllocError, Global};
 /// the rest of what there is hardly gets to the sink.
 const SHARE: u64 = 2;
 
-/// One of so many of these nodes at least has something: else to go over them costs more than it gives, and the nodes that
-/// wait are discharged straight.
+/// One of so many of these nodes at least has something: else to go over them costs more than it gives, and the nodes
+/// that wait are discharged straight.
 const NODES_A_HOLDER: usize = 16;
 
 /// What a node has, and what it can still give the sink.
@@ -88,8 +88,8 @@ fn worth(near: usize, holders: usize) -> usize
 }
 
 /// How many of the first nodes of an order are to pass on what they have first: those up to the first with which they
-/// together have `SHARE` times what the sink can still take, or up to the last that has something; none where few of them
-/// have something.
+/// together have `SHARE` times what the sink can still take, or up to the last that has something; none where few of
+/// them have something.
 fn near_nodes<N: Nodes>(nodes: &N, order: &[u32]) -> usize
     ensures { result ≤ length order.now }
 {
@@ -149,9 +149,10 @@ fn dealt(alloc: Global, spread: &Spread<'_>, order: &[u32]) -> Result<Vec<Vec<u3
     Ok(orders)
 }
 
-/// For each block those of its nodes that are to pass on what they have first, from the last on, numbered from the block's
-/// first node: of an order of all nodes the first that have enough for the sink, and none where few of them have
-/// something. `homes` tells the block of each node. What is no node is passed over. The only error is that memory runs out.
+/// For each block those of its nodes that are to pass on what they have first, from the last on, numbered from the
+/// block's first node: of an order of all nodes the first that have enough for the sink, and none where few of them
+/// have something. `homes` tells the block of each node. What is no node is passed over. The only error is that memory
+/// runs out.
 pub(crate) fn orders_of(
     alloc: Global,
     parts: &Parts,

@@ -11,8 +11,8 @@ use block_net::Cells;
 use std::alloc::{AllocError, Global};
 use std::marker::Model;
 
-/// A block, the nodes that wait in it, the blocks that its directions lead to, the order from whose end its nodes pass on
-/// what they have in its next turn, and the number of new labels after more than which each of its turns ends.
+/// A block, the nodes that wait in it, the blocks that its directions lead to, the order from whose end its nodes pass
+/// on what they have in its next turn, and the number of new labels after more than which each of its turns ends.
 #[derive(Drop)]
 pub struct Block {
     cells: Cells,
@@ -69,10 +69,10 @@ impl Block {
 
     /// The same with an order and a bound, which guide the block's turns. Any are right: what `turn` promises does not
     /// depend on them, and no clause says which events a turn does. In its first turn the nodes of the order, numbered
-    /// from the block's first node, pass on what they have before others, and the order is walked from its end: best are
-    /// the nearest to the sink first in it, as a search from the sink finds them, so that each node has got all that
-    /// comes to it. What is no node is passed over. Each turn ends after more than `most_rises` new labels, too: where
-    /// labels become exact again soon, more of them are done in vain.
+    /// from the block's first node, pass on what they have before others, and the order is walked from its end: best
+    /// are the nearest to the sink first in it, as a search from the sink finds them, so that each node has got all
+    /// that comes to it. What is no node is passed over. Each turn ends after more than `most_rises` new labels, too:
+    /// where labels become exact again soon, more of them are done in vain.
     pub fn with_order(
         alloc: Global,
         cells: Cells,
