@@ -84,3 +84,19 @@ back_is s p homes k from to j net net' B is are l same same' from_is to_is slot_
       inner = λ e. lane_is s p is x l to j B near_home at block (far_home ∙ e);
       outer = λ e. border_is s p is x l to j B near_home at block (λ h. e (sym far_home ∙ h));
     }
+
+-- where there is one block, it holds the direction back of each arc
+pub back_within : (s : core.State) (p : Parts) (k j : ℕ) (net : Network) (B : BlockView) → IsIn s p → s.blocks ≡ 1 → k < length s.net.arcs → net ≡ s.net
+    → j ≡ slice_index p.slots.items (length net.arcs + k) → B ≡ get_or p.blocks.items 0 B
+    → (0 < length p.blocks.items) × (j < length B.lanes) × ((lane_in B j).residual ≡ residual_of s (backward k))
+back_within s p k j net B is one l same slot_is read =
+    let w = whole_by s.net p in
+    let x = backward k in
+    let number : length p.blocks.items ≡ 1 = ap (λ (t : core.State). t.blocks) is.shown ∙ one in
+    let near_home : home w (near s.net x) ≡ 0 = omega (arith, number, is.laid.placed.homes (near s.net x) (near_in s.net x is.laid.net l)) in
+    let far_home : home w (far s.net x) ≡ 0 = omega (arith, number, is.laid.placed.homes (far s.net x) (far_in s.net x is.laid.net l)) in
+    let at : slot w x ≡ j = ap (λ (n : Network). slice_index p.slots.items (length n.arcs + k)) (sym same) ∙ sym slot_is in
+    let below : 0 < length p.blocks.items = omega (arith, number) in
+    let block = get_or_read p.blocks.items 0 B below read no_block in
+    let lane = lane_is s p is x l 0 j B near_home at block far_home in
+    (below, lane.0, lane.1)

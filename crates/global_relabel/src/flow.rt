@@ -53,8 +53,8 @@ fn taken_back(state: &State, homes: &[u8], arc: usize) -> u64
     }
 }
 
-/// What can be taken back of each arc.
-fn write_arc_flow(state: &State, homes: &[u8], arc_flow: &mut [u64])
+/// What can be taken back of each arc, by the table of blocks.
+fn write_flow_between(state: &State, homes: &[u8], arc_flow: &mut [u64])
     requires homes { AreHomes state.now.net state.now.blocks homes.now }
     requires len { length arc_flow.old ≡ length state.now.net.arcs }
     ensures { (k : ℕ) → k < length state.now.net.arcs →
@@ -62,6 +62,43 @@ fn write_arc_flow(state: &State, homes: &[u8], arc_flow: &mut [u64])
 {
     'arcs: for arc in 0..state.arcs() {
         arc_flow[arc] = taken_back(state, homes, arc);
+    }
+}
+
+/// What can be taken back of an arc, where there is one block.
+fn taken_back_within(state: &State, arc: usize) -> u64
+    requires one { state.now.blocks ≡ 1 }
+    requires arc { arc < length state.now.net.arcs }
+    ensures { result ≡ residual_of state.now (backward arc) }
+{
+    let parts = state.parts();
+    let slot = back_slot(state.net(), parts, arc);
+    parts.blocks[0].lane(slot).residual
+}
+
+/// What can be taken back of each arc, where there is one block, which no node is asked for.
+fn write_flow_within(state: &State, arc_flow: &mut [u64])
+    requires one { state.now.blocks ≡ 1 }
+    requires len { length arc_flow.old ≡ length state.now.net.arcs }
+    ensures { (k : ℕ) → k < length state.now.net.arcs →
+        slice_index arc_flow.new k ≡ residual_of state.now (backward k) }
+{
+    'arcs: for arc in 0..state.arcs() {
+        arc_flow[arc] = taken_back_within(state, arc);
+    }
+}
+
+/// What can be taken back of each arc.
+fn write_arc_flow(state: &State, homes: &[u8], arc_flow: &mut [u64])
+    requires homes { AreHomes state.now.net state.now.blocks homes.now }
+    requires len { length arc_flow.old ≡ length state.now.net.arcs }
+    ensures { (k : ℕ) → k < length state.now.net.arcs →
+        slice_index arc_flow.new k ≡ residual_of state.now (backward k) }
+{
+    if state.blocks() == 1 {
+        write_flow_within(state, arc_flow);
+    } else {
+        write_flow_between(state, homes, arc_flow);
     }
 }
 
