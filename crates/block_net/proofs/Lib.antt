@@ -4,7 +4,8 @@ mod Numbers
 mod Grouped
 mod Spots
 pub mod Spans
-mod BlockSlots
 mod Once
 mod Made
 mod Splitting
+mod Ordered
+mod Held

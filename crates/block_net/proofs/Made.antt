@@ -16,9 +16,8 @@ use Rattle.parcel.specs.Soundness.{first_residual}
 use Rattle.parcel.proofs.Ends.{far_in}
 use Rattle.parcel.proofs.Lanes.{near_opposite, border_opposite}
 use Rattle.block_net.specs.declared.rows.Lane.{Lane}
-use Rattle.block_net.specs.declared.by_node.ByNode.{ByNode}
 use Rattle.block_net.specs.Views.{IsBlock, IsLane, IsBorder, spare}
-use Rattle.block_net.specs.Split.{Rows, inner_rows, outer_rows, CanSplit, directions, direction_in, AreRows, AreGrouped, first_of, span, lane_made, border_made, lanes_made, borders_made, block_from, base_of}
+use Rattle.block_net.specs.Split.{ByNode, Rows, inner_rows, outer_rows, CanSplit, directions, direction_in, AreRows, AreGrouped, first_of, span, lane_made, border_made, lanes_made, borders_made, block_from, base_of}
 use Rattle.block_net.proofs.Tables.{length_table, table_at}
 use Rattle.block_net.proofs.Numbers.{is_direction, arc_of_low, arc_of_high, first_low, first_high, home_is}
 use Rattle.block_net.proofs.Spots.{starts_grow}
@@ -118,35 +117,35 @@ pub block_from_is : (net : Network) (blocks : ℕ) (rows : ByNode) (b first next
     → first ≡ first_of (nodes net) blocks b → next ≡ first_of (nodes net) blocks (b + 1) → first ≤ next → next ≤ nodes net → IsBlock (block_from net blocks rows first next)
 block_from_is net blocks rows b first next h split is ef en lf ln =
     let n = nodes net in
-    let slots = rows.slots.items in
-    let inner_len = length_span net blocks false (inner_rows rows.groups) first next is.inner ln in
-    let outer_len = length_span net blocks true (outer_rows (nodes net) rows.groups) first next is.outer ln in
+    let slots = rows.slots in
+    let inner_len = length_span net blocks false (inner_rows rows) first next is.inner ln in
+    let outer_len = length_span net blocks true (outer_rows (nodes net) rows) first next is.outer ln in
     let excess_len : length (slice_range net.sources first next) ≡ next - first = length_range net.sources first next ln in
     let rooms_len : length (slice_range net.sinks first next) ≡ next - first = length_range net.sinks first next (omega (arith, ln, h.same)) in
-    let lanes_len : length (lanes_made net slots first (span (inner_rows rows.groups) first next)) ≡ length (span (inner_rows rows.groups) first next) = length-map _ _ in
-    let borders_len : length (borders_made net blocks slots first (span (outer_rows (nodes net) rows.groups) first next)) ≡ length (span (outer_rows (nodes net) rows.groups) first next) = length-map _ _ in
-    let lane_is = all_in_span (λ i. IsLane (next - first) (length (span (inner_rows rows.groups) first next)) (lane_made net slots first (direction_in net i))) net blocks false (inner_rows rows.groups) first next is.inner ln lf
+    let lanes_len : length (lanes_made net slots first (span (inner_rows rows) first next)) ≡ length (span (inner_rows rows) first next) = length-map _ _ in
+    let borders_len : length (borders_made net blocks slots first (span (outer_rows (nodes net) rows) first next)) ≡ length (span (outer_rows (nodes net) rows) first next) = length-map _ _ in
+    let lane_is = all_in_span (λ i. IsLane (next - first) (length (span (inner_rows rows) first next)) (lane_made net slots first (direction_in net i))) net blocks false (inner_rows rows) first next is.inner ln lf
     (λ p stands.
-    let i = slice_index (inner_rows rows.groups).places p in
+    let i = slice_index (inner_rows rows).places p in
     let x = direction_in net i in
     let d = is_direction net i stands.small in
-    let away = far_in_block net blocks b first next (inner_rows rows.groups) p ef en ln h split.some stands in
+    let away = far_in_block net blocks b first next (inner_rows rows) p ef en ln h split.some stands in
     let y = opposite x in
-    let found = slot_of net blocks false (inner_rows rows.groups) slots y h split.some is.inner is.inner_slots d (border_opposite net blocks x ∙ stands.outer) in
+    let found = slot_of net blocks false (inner_rows rows) slots y h split.some is.inner is.inner_slots d (border_opposite net blocks x ∙ stands.outer) in
     let slot = found.1 in
     let e = near_opposite net x in
     let home : block_of net blocks (near net y) ≡ b =
     ap (block_of net blocks) e ∙ home_is n blocks b (far net x) split.some (omega (arith, away.1, ln)) (omega (arith, away.0, ef)) (omega (arith, away.1, en)) in
-    let base = ap (base_of net blocks (inner_rows rows.groups)) home in
-    let grow = starts_grow net blocks false (inner_rows rows.groups) is.inner (near net y + 1) next (omega (arith, e, away.1)) (omega (arith, ln)) in
-    let base' : base_of net blocks (inner_rows rows.groups) b ≡ slice_index (inner_rows rows.groups).starts first = ap (slice_index (inner_rows rows.groups).starts) (sym ef) in
+    let base = ap (base_of net blocks (inner_rows rows)) home in
+    let grow = starts_grow net blocks false (inner_rows rows) is.inner (near net y + 1) next (omega (arith, e, away.1)) (omega (arith, ln)) in
+    let base' : base_of net blocks (inner_rows rows) b ≡ slice_index (inner_rows rows).starts first = ap (slice_index (inner_rows rows).starts) (sym ef) in
     record {
       far = omega (arith, away.0, away.1);
       opposite = omega (arith, slot.slot, slot.below, slot.base, base, base', grow, inner_len);
     }) in
-    let border_is = all_in_span (λ i. IsBorder (next - first) (n + 2) (border_made net blocks slots first (direction_in net i))) net blocks true (outer_rows (nodes net) rows.groups) first next is.outer ln lf
+    let border_is = all_in_span (λ i. IsBorder (next - first) (n + 2) (border_made net blocks slots first (direction_in net i))) net blocks true (outer_rows (nodes net) rows) first next is.outer ln lf
     (λ p stands.
-    let i = slice_index (outer_rows (nodes net) rows.groups).places p in
+    let i = slice_index (outer_rows (nodes net) rows).places p in
     let x = direction_in net i in
     let c = (arc_at net x.arc).capacity in
     record {
@@ -155,10 +154,10 @@ block_from_is net blocks rows b first next h split is ef en lf ln =
       known = omega arith;
       small = omega (arith, capacity_small net x.arc h (is_direction net i stands.small));
     }) in
-    let residual_sum = sum_by_map (λ (x : Lane). x.residual) (λ i. lane_made net slots first (direction_in net i)) (span (inner_rows rows.groups) first next) in
-    let residual_most = span_sum net blocks false (inner_rows rows.groups) first next (λ i. first_residual net (direction_in net i)) is.inner ln lf in
-    let spare_sum = sum_by_map spare (λ i. border_made net blocks slots first (direction_in net i)) (span (outer_rows (nodes net) rows.groups) first next) in
-    let spare_most = span_sum net blocks true (outer_rows (nodes net) rows.groups) first next (λ i. (arc_at net (direction_in net i).arc).capacity - first_residual net (direction_in net i)) is.outer ln lf in
+    let residual_sum = sum_by_map (λ (x : Lane). x.residual) (λ i. lane_made net slots first (direction_in net i)) (span (inner_rows rows) first next) in
+    let residual_most = span_sum net blocks false (inner_rows rows) first next (λ i. first_residual net (direction_in net i)) is.inner ln lf in
+    let spare_sum = sum_by_map spare (λ i. border_made net blocks slots first (direction_in net i)) (span (outer_rows (nodes net) rows) first next) in
+    let spare_most = span_sum net blocks true (outer_rows (nodes net) rows) first next (λ i. (arc_at net (direction_in net i).arc).capacity - first_residual net (direction_in net i)) is.outer ln lf in
     record {
       top = omega (arith, h.count);
       above = omega arith;
@@ -168,20 +167,20 @@ block_from_is net blocks rows b first next h split is ef en lf ln =
       border_starts_len = length_table (next - first + 1) _ ∙ ap (λ k. k + 1) (sym excess_len);
       within = λ v l.
           let lv : v ≤ next - first = omega (arith, l, excess_len) in
-          let at = table_at (next - first + 1) (λ i. slice_index (inner_rows rows.groups).starts (first + i) - slice_index (inner_rows rows.groups).starts first) v 0 (omega (arith, lv)) in
-          omega (arith, at, lanes_len, inner_len, starts_grow net blocks false (inner_rows rows.groups) is.inner (first + v) next (omega (arith, lv, lf)) (omega (arith, ln)));
+          let at = table_at (next - first + 1) (λ i. slice_index (inner_rows rows).starts (first + i) - slice_index (inner_rows rows).starts first) v 0 (omega (arith, lv)) in
+          omega (arith, at, lanes_len, inner_len, starts_grow net blocks false (inner_rows rows) is.inner (first + v) next (omega (arith, lv, lf)) (omega (arith, ln)));
       border_within = λ v l.
           let lv : v ≤ next - first = omega (arith, l, excess_len) in
-          let at = table_at (next - first + 1) (λ i. slice_index (outer_rows (nodes net) rows.groups).starts (first + i) - slice_index (outer_rows (nodes net) rows.groups).starts first) v 0 (omega (arith, lv)) in
-          omega (arith, at, borders_len, outer_len, starts_grow net blocks true (outer_rows (nodes net) rows.groups) is.outer (first + v) next (omega (arith, lv, lf)) (omega (arith, ln)));
+          let at = table_at (next - first + 1) (λ i. slice_index (outer_rows (nodes net) rows).starts (first + i) - slice_index (outer_rows (nodes net) rows).starts first) v 0 (omega (arith, lv)) in
+          omega (arith, at, borders_len, outer_len, starts_grow net blocks true (outer_rows (nodes net) rows) is.outer (first + v) next (omega (arith, lv, lf)) (omega (arith, ln)));
       labels = All-replicate (λ (d : ℕ). d ≤ n + 2) (next - first) 0 (omega arith);
       lanes =
-          let list = lanes_made net slots first (span (inner_rows rows.groups) first next) in
+          let list = lanes_made net slots first (span (inner_rows rows) first next) in
           subst (λ (k : ℕ). All (IsLane k (length list)) list) (sym excess_len)
-          (subst (λ (k : ℕ). All (IsLane (next - first) k) list) (sym lanes_len) (All-map (IsLane (next - first) (length (span (inner_rows rows.groups) first next))) (λ i. lane_made net slots first (direction_in net i)) (span (inner_rows rows.groups) first next) lane_is));
+          (subst (λ (k : ℕ). All (IsLane (next - first) k) list) (sym lanes_len) (All-map (IsLane (next - first) (length (span (inner_rows rows) first next))) (λ i. lane_made net slots first (direction_in net i)) (span (inner_rows rows) first next) lane_is));
       borders =
-          subst (λ (k : ℕ). All (IsBorder k (n + 2)) (borders_made net blocks slots first (span (outer_rows (nodes net) rows.groups) first next))) (sym excess_len)
-          (All-map (IsBorder (next - first) (n + 2)) (λ i. border_made net blocks slots first (direction_in net i)) (span (outer_rows (nodes net) rows.groups) first next) border_is);
+          subst (λ (k : ℕ). All (IsBorder k (n + 2)) (borders_made net blocks slots first (span (outer_rows (nodes net) rows) first next))) (sym excess_len)
+          (All-map (IsBorder (next - first) (n + 2)) (λ i. border_made net blocks slots first (direction_in net i)) (span (outer_rows (nodes net) rows) first next) border_is);
       residuals = omega (arith, residual_sum, residual_most, residuals_all net, h.total);
       total = omega (arith, range_sum net.sources first next, spare_sum, spare_most, spares_all net, h.total);
     }

@@ -12,10 +12,9 @@ use Rattle.parcel.proofs.Ends.{near_in, far_in}
 use Rattle.parcel.proofs.Opening.{opened_is}
 use Rattle.block_net.specs.declared.rows.Lane.{Lane}
 use Rattle.block_net.specs.declared.rows.Border.{Border}
-use Rattle.block_net.specs.declared.by_node.ByNode.{ByNode}
 use Rattle.block_net.specs.Views.{BlockView, count, excess_in, label_in, room_in, lane_in, border_in, no_row, no_border, first_lane, first_border}
 use Rattle.block_net.specs.Whole.{Whole, table, index_of, block_at, block_with, home, place, near_home, is_outer, lane_of, border_of, shown_lane, shown_border, shown_of, shown, no_block, IsInnerAt, IsBorderAt, StandsAt, IsPlaced, LiesAt, IsFilled}
-use Rattle.block_net.specs.Split.{Rows, inner_rows, outer_rows, CanSplit, direction_in, AreRows, AreGrouped, HasSlots, first_of, base_of, span, starts_from, lane_made, border_made, lanes_made, borders_made, block_made, blocks_made, firsts_made, whole_at_opening, IsSplit}
+use Rattle.block_net.specs.Split.{ByNode, Rows, inner_rows, outer_rows, CanSplit, direction_in, AreRows, AreGrouped, HasSlots, first_of, base_of, span, starts_from, lane_made, border_made, lanes_made, borders_made, block_made, blocks_made, firsts_made, whole_at_opening, IsSplit}
 use Rattle.block_net.proofs.Tables.{length_table, table_at}
 use Rattle.block_net.proofs.Numbers.{is_direction, index_is, index_forth, first_low, first_high, first_within, first_grows, home_below, home_is}
 use Rattle.block_net.proofs.Spots.{starts_grow}
@@ -23,7 +22,7 @@ use Rattle.block_net.proofs.Spans.{length_range, range_at, slot_of, stands_in, l
 use Rattle.block_net.proofs.Made.{inner_blocks}
 
 abbrev made : Network → ℕ → ByNode → Whole
-made net blocks rows = whole_at_opening net blocks (firsts_made net blocks) rows.slots.items (blocks_made net blocks rows)
+made net blocks rows = whole_at_opening net blocks (firsts_made net blocks) rows.slots (blocks_made net blocks rows)
 
 -- what is known of the net and its rows
 pub record IsReady (net : Network) (blocks : ℕ) (rows : ByNode) : Type 0 where
@@ -93,29 +92,29 @@ map_span make net blocks outer rows first next p d is ln low high =
     get_or-map make (span rows first next) (p - i) 0 d (omega (arith, len, low, high))
     ∙ ap make (range_at rows.places i j (p - i) 0 (omega (arith, low, high)) ∙ ap (slice_index rows.places) (back_to i p low))
 
-abbrev pick : Bool → Network → ByNode → Rows
-pick true net rows = (outer_rows (nodes net) rows.groups)
-pick false net rows = (inner_rows rows.groups)
+abbrev pub pick : Bool → Network → ByNode → Rows
+pick true net rows = (outer_rows (nodes net) rows)
+pick false net rows = (inner_rows rows)
 
-picked : (net : Network) (blocks : ℕ) (rows : ByNode) (o : Bool) → AreGrouped net blocks rows → AreRows net blocks o (pick o net rows)
+pub picked : (net : Network) (blocks : ℕ) (rows : ByNode) (o : Bool) → AreGrouped net blocks rows → AreRows net blocks o (pick o net rows)
 picked net blocks rows true is = is.outer
 picked net blocks rows false is = is.inner
 
-picked_slots : (net : Network) (blocks : ℕ) (rows : ByNode) (o : Bool) → AreGrouped net blocks rows → HasSlots net blocks (pick o net rows) rows.slots.items
+pub picked_slots : (net : Network) (blocks : ℕ) (rows : ByNode) (o : Bool) → AreGrouped net blocks rows → HasSlots net blocks (pick o net rows) rows.slots
 picked_slots net blocks rows true is = is.outer_slots
 picked_slots net blocks rows false is = is.inner_slots
 
 -- a direction in the rows of its block
 pub record IsRow (net : Network) (blocks : ℕ) (rows : ByNode) (o : Bool) (x : Direction) (first next p : ℕ) : Type 0 where
-  pub from : slice_index (starts_from (pick o net rows).starts first next) (near net x - first) ≤ slice_index rows.slots.items (index_of net x)
-  pub below : slice_index rows.slots.items (index_of net x) < slice_index (starts_from (pick o net rows).starts first next) (near net x - first + 1)
-  pub within : slice_index rows.slots.items (index_of net x) < length (span (pick o net rows) first next)
+  pub from : slice_index (starts_from (pick o net rows).starts first next) (near net x - first) ≤ slice_index rows.slots (index_of net x)
+  pub below : slice_index rows.slots (index_of net x) < slice_index (starts_from (pick o net rows).starts first next) (near net x - first + 1)
+  pub within : slice_index rows.slots (index_of net x) < length (span (pick o net rows) first next)
   pub low : slice_index (pick o net rows).starts first ≤ p
   pub high : p < slice_index (pick o net rows).starts next
-  pub slot : slice_index rows.slots.items (index_of net x) ≡ p - slice_index (pick o net rows).starts first
+  pub slot : slice_index rows.slots (index_of net x) ≡ p - slice_index (pick o net rows).starts first
   pub stands : slice_index (pick o net rows).places p ≡ index_of net x
 
-row_of : (net : Network) (blocks : ℕ) (rows : ByNode) (o : Bool) (x : Direction) → IsReady net blocks rows → IsDirection net x → core.is_border net blocks x ≡ o
+pub row_of : (net : Network) (blocks : ℕ) (rows : ByNode) (o : Bool) (x : Direction) → IsReady net blocks rows → IsDirection net x → core.is_border net blocks x ≡ o
     → (p : ℕ) × IsRow net blocks rows o x (first_of (nodes net) blocks (core.block_of net blocks (near net x))) (first_of (nodes net) blocks (core.block_of net blocks (near net x) + 1)) p
 row_of net blocks rows o x ready d e =
     let n = nodes net in
@@ -127,7 +126,7 @@ row_of net blocks rows o x ready d e =
     let at = at_home net blocks rows v ready lv in
     let group = pick o net rows in
     let is = picked net blocks rows o ready.rows_are in
-    let found = slot_of net blocks o group rows.slots.items x ready.net_is ready.split.some is (picked_slots net blocks rows o ready.rows_are) d e in
+    let found = slot_of net blocks o group rows.slots x ready.net_is ready.split.some is (picked_slots net blocks rows o ready.rows_are) d e in
     let p = found.0 in
     let slot = found.1 in
     let grow = starts_grow net blocks o group is in
@@ -149,34 +148,34 @@ row_of net blocks rows o x ready d e =
     )
 
 -- what is made of a direction stands at its slot
-read_row : {A : Type 0} (make : Direction → A) (net : Network) (blocks : ℕ) (rows : ByNode) (o : Bool) (x : Direction) (first next p : ℕ) (d : A) → AreGrouped net blocks rows → next ≤ nodes net
+pub read_row : {A : Type 0} (make : Direction → A) (net : Network) (blocks : ℕ) (rows : ByNode) (o : Bool) (x : Direction) (first next p : ℕ) (d : A) → AreGrouped net blocks rows → next ≤ nodes net
     → IsDirection net x → IsRow net blocks rows o x first next p
-    → get_or (map (λ i. make (direction_in net i)) (span (pick o net rows) first next)) (slice_index rows.slots.items (index_of net x)) d ≡ make x
+    → get_or (map (λ i. make (direction_in net i)) (span (pick o net rows) first next)) (slice_index rows.slots (index_of net x)) d ≡ make x
 read_row make net blocks rows o x first next p d is ln dx row =
     ap (λ j. get_or (map (λ i. make (direction_in net i)) (span (pick o net rows) first next)) j d) row.slot
     ∙ (map_span (λ i. make (direction_in net i)) net blocks o (pick o net rows) first next p d (picked net blocks rows o is) ln row.low row.high
     ∙ ap make (ap (direction_in net) row.stands ∙ index_is net x dx))
 
 lane_is : (net : Network) (blocks : ℕ) (rows : ByNode) (x : Direction) → IsReady net blocks rows → IsDirection net x → core.is_border net blocks x ≡ false
-    → lane_of (made net blocks rows) x ≡ lane_made net rows.slots.items (first_of (nodes net) blocks (core.block_of net blocks (near net x))) x
+    → lane_of (made net blocks rows) x ≡ lane_made net rows.slots (first_of (nodes net) blocks (core.block_of net blocks (near net x))) x
 lane_is net blocks rows x ready d e =
     let at = at_home net blocks rows (near net x) ready (near_in net x ready.net_is d) in
     let row = row_of net blocks rows false x ready d e in
-    ap (λ (b : BlockView). lane_in b (slice_index rows.slots.items (index_of net x))) at.block_is
-    ∙ read_row (lane_made net rows.slots.items (first_of (nodes net) blocks (core.block_of net blocks (near net x)))) net blocks rows false x _ _ row.0 no_row ready.rows_are at.within d row.1
+    ap (λ (b : BlockView). lane_in b (slice_index rows.slots (index_of net x))) at.block_is
+    ∙ read_row (lane_made net rows.slots (first_of (nodes net) blocks (core.block_of net blocks (near net x)))) net blocks rows false x _ _ row.0 no_row ready.rows_are at.within d row.1
 
 border_is : (net : Network) (blocks : ℕ) (rows : ByNode) (x : Direction) → IsReady net blocks rows → IsDirection net x → core.is_border net blocks x ≡ true
-    → border_of (made net blocks rows) x ≡ border_made net blocks rows.slots.items (first_of (nodes net) blocks (core.block_of net blocks (near net x))) x
+    → border_of (made net blocks rows) x ≡ border_made net blocks rows.slots (first_of (nodes net) blocks (core.block_of net blocks (near net x))) x
 border_is net blocks rows x ready d e =
     let at = at_home net blocks rows (near net x) ready (near_in net x ready.net_is d) in
     let row = row_of net blocks rows true x ready d e in
-    ap (λ (b : BlockView). border_in b (slice_index rows.slots.items (index_of net x))) at.block_is
-    ∙ read_row (border_made net blocks rows.slots.items (first_of (nodes net) blocks (core.block_of net blocks (near net x)))) net blocks rows true x _ _ row.0 no_border ready.rows_are at.within d row.1
+    ap (λ (b : BlockView). border_in b (slice_index rows.slots (index_of net x))) at.block_is
+    ∙ read_row (border_made net blocks rows.slots (first_of (nodes net) blocks (core.block_of net blocks (near net x)))) net blocks rows true x _ _ row.0 no_border ready.rows_are at.within d row.1
 
-length_lanes : (net : Network) (slots : List ℕ) (first : ℕ) (indices : List ℕ) → length (lanes_made net slots first indices) ≡ length indices
+pub length_lanes : (net : Network) (slots : List ℕ) (first : ℕ) (indices : List ℕ) → length (lanes_made net slots first indices) ≡ length indices
 length_lanes net slots first indices = length-map _ _
 
-length_borders : (net : Network) (blocks : ℕ) (slots : List ℕ) (first : ℕ) (indices : List ℕ) → length (borders_made net blocks slots first indices) ≡ length indices
+pub length_borders : (net : Network) (blocks : ℕ) (slots : List ℕ) (first : ℕ) (indices : List ℕ) → length (borders_made net blocks slots first indices) ≡ length indices
 length_borders net blocks slots first indices = length-map _ _
 
 inner_at : (net : Network) (blocks : ℕ) (rows : ByNode) (x : Direction) → IsReady net blocks rows → IsDirection net x → core.is_border net blocks x ≡ false
@@ -195,7 +194,7 @@ inner_at net blocks rows x ready d e =
     record {
       from = omega (arith, row.from, ap (λ (q : BlockView). first_lane q (place w v)) at.block_is, ap (first_lane B) at.place_is);
       below = omega (arith, row.below, ap (λ (q : BlockView). first_lane q (place w v + 1)) at.block_is, ap (λ k. first_lane B (k + 1)) at.place_is);
-      within = omega (arith, row.within, ap (λ (q : BlockView). length q.lanes) at.block_is, length_lanes net rows.slots.items first (span (inner_rows rows.groups) first (first_of (nodes net) blocks (b + 1))));
+      within = omega (arith, row.within, ap (λ (q : BlockView). length q.lanes) at.block_is, length_lanes net rows.slots first (span (inner_rows rows) first (first_of (nodes net) blocks (b + 1))));
       far = ap (λ (q : Lane). q.far) lane ∙ sym (away.place_is ∙ ap (λ k. far net x - first_of (nodes net) blocks k) same);
       opposite = ap (λ (q : Lane). q.opposite) lane;
     }
@@ -215,7 +214,7 @@ border_at net blocks rows x ready d e =
     record {
       from = omega (arith, row.from, ap (λ (q : BlockView). first_border q (place w v)) at.block_is, ap (first_border B) at.place_is);
       below = omega (arith, row.below, ap (λ (q : BlockView). first_border q (place w v + 1)) at.block_is, ap (λ k. first_border B (k + 1)) at.place_is);
-      within = omega (arith, row.within, ap (λ (q : BlockView). length q.borders) at.block_is, length_borders net blocks rows.slots.items first (span (outer_rows (nodes net) rows.groups) first (first_of (nodes net) blocks (b + 1))));
+      within = omega (arith, row.within, ap (λ (q : BlockView). length q.borders) at.block_is, length_borders net blocks rows.slots first (span (outer_rows (nodes net) rows) first (first_of (nodes net) blocks (b + 1))));
       direction = ap (λ (q : Border). q.direction) border;
       near = ap (λ (q : Border). q.near) border ∙ sym at.place_is;
       to = ap (λ (q : Border). q.to) border ∙ sym away.home_is;
@@ -224,9 +223,9 @@ border_at net blocks rows x ready d e =
     }
 
 -- two directions of one kind with one block and one slot are one
-one_slot : (net : Network) (blocks : ℕ) (rows : ByNode) (o : Bool) (x y : Direction) → IsReady net blocks rows → IsDirection net x → IsDirection net y
+pub one_slot : (net : Network) (blocks : ℕ) (rows : ByNode) (o : Bool) (x y : Direction) → IsReady net blocks rows → IsDirection net x → IsDirection net y
     → core.is_border net blocks x ≡ o → core.is_border net blocks y ≡ o → core.block_of net blocks (near net x) ≡ core.block_of net blocks (near net y)
-    → slice_index rows.slots.items (index_of net x) ≡ slice_index rows.slots.items (index_of net y) → x ≡ y
+    → slice_index rows.slots (index_of net x) ≡ slice_index rows.slots (index_of net y) → x ≡ y
 one_slot net blocks rows o x y ready dx dy ex ey home same =
     let one = row_of net blocks rows o x ready dx ex in
     let two = row_of net blocks rows o y ready dy ey in
@@ -267,7 +266,7 @@ stands_at net blocks rows o v j ready lv low high =
         direction = is_direction net i small;
         near = node;
         outer = outer_is net blocks rows x ∙ is.outer v p lv from below;
-        slot = ap (slice_index rows.slots.items) (index_forth net i small) ∙ (slots ∙ omega (arith, ap (λ u. base_of net blocks group (core.block_of net blocks u)) node));
+        slot = ap (slice_index rows.slots) (index_forth net i small) ∙ (slots ∙ omega (arith, ap (λ u. base_of net blocks group (core.block_of net blocks u)) node));
       },
     )
 
@@ -281,10 +280,10 @@ placed net blocks rows ready =
     let home_of = λ (v : ℕ) (l : v < n). at_home net blocks rows v ready l in
     let first = λ (v : ℕ). first_of n blocks (core.block_of net blocks v) in
     let next = λ (v : ℕ). first_of n blocks (core.block_of net blocks v + 1) in
-    let lane_starts = λ (v : ℕ) (l : v < n). ap (λ (q : BlockView). first_lane q (place w v)) (home_of v l).block_is ∙ ap (λ k. slice_index (starts_from (inner_rows rows.groups).starts (first v) (next v)) k) (home_of v l).place_is in
-    let lane_ends = λ (v : ℕ) (l : v < n). ap (λ (q : BlockView). first_lane q (place w v + 1)) (home_of v l).block_is ∙ ap (λ k. slice_index (starts_from (inner_rows rows.groups).starts (first v) (next v)) (k + 1)) (home_of v l).place_is in
-    let border_starts = λ (v : ℕ) (l : v < n). ap (λ (q : BlockView). first_border q (place w v)) (home_of v l).block_is ∙ ap (λ k. slice_index (starts_from (outer_rows (nodes net) rows.groups).starts (first v) (next v)) k) (home_of v l).place_is in
-    let border_ends = λ (v : ℕ) (l : v < n). ap (λ (q : BlockView). first_border q (place w v + 1)) (home_of v l).block_is ∙ ap (λ k. slice_index (starts_from (outer_rows (nodes net) rows.groups).starts (first v) (next v)) (k + 1)) (home_of v l).place_is in
+    let lane_starts = λ (v : ℕ) (l : v < n). ap (λ (q : BlockView). first_lane q (place w v)) (home_of v l).block_is ∙ ap (λ k. slice_index (starts_from (inner_rows rows).starts (first v) (next v)) k) (home_of v l).place_is in
+    let lane_ends = λ (v : ℕ) (l : v < n). ap (λ (q : BlockView). first_lane q (place w v + 1)) (home_of v l).block_is ∙ ap (λ k. slice_index (starts_from (inner_rows rows).starts (first v) (next v)) (k + 1)) (home_of v l).place_is in
+    let border_starts = λ (v : ℕ) (l : v < n). ap (λ (q : BlockView). first_border q (place w v)) (home_of v l).block_is ∙ ap (λ k. slice_index (starts_from (outer_rows (nodes net) rows).starts (first v) (next v)) k) (home_of v l).place_is in
+    let border_ends = λ (v : ℕ) (l : v < n). ap (λ (q : BlockView). first_border q (place w v + 1)) (home_of v l).block_is ∙ ap (λ k. slice_index (starts_from (outer_rows (nodes net) rows).starts (first v) (next v)) (k + 1)) (home_of v l).place_is in
     record {
       firsts_len = length_table blocks (first_of n blocks) ∙ sym len;
       slots_len = ready.rows_are.slots_len;
@@ -344,13 +343,13 @@ border_in_block net blocks rows b j ready lb lj =
     let first = first_of n blocks b in
     let next = first_of n blocks (b + 1) in
     let within = first_within n blocks (b + 1) some (omega (arith, lb)) in
-    let group = (outer_rows (nodes net) rows.groups) in
+    let group = (outer_rows (nodes net) rows) in
     let is = ready.rows_are.outer in
     let starts = group.starts in
     let grow = starts_grow net blocks true group is in
     let order = first_grows n blocks b some in
     let p = slice_index starts first + j in
-    let long = length_borders net blocks rows.slots.items first (span group first next) ∙ length_span net blocks true group first next is within in
+    let long = length_borders net blocks rows.slots first (span group first next) ∙ length_span net blocks true group first next is within in
     let high : p < slice_index starts next = omega (arith, lj, long) in
     let stands = stands_in net blocks true group first next p is within order (omega arith) high in
     let i = slice_index group.places p in
@@ -364,7 +363,7 @@ border_in_block net blocks rows b j ready lb lj =
         direction = is_direction net i stands.small;
         near = refl;
         outer = outer_is net blocks rows x ∙ stands.outer;
-        slot = ap (slice_index rows.slots.items) (index_forth net i stands.small) ∙ (slots ∙ omega (arith, ap (base_of net blocks group) home));
+        slot = ap (slice_index rows.slots) (index_forth net i stands.small) ∙ (slots ∙ omega (arith, ap (base_of net blocks group) home));
       },
     )
 
@@ -439,10 +438,10 @@ opening net blocks rows ready =
 
 -- the parts that are made are the net in blocks
 pub split_is : (net : Network) (blocks : ℕ) (rows : ByNode) (firsts : List ℕ) (parts : List BlockView) → IsNet net → CanSplit net blocks → AreGrouped net blocks rows
-    → firsts ≡ firsts_made net blocks → parts ≡ blocks_made net blocks rows → IsSplit net blocks firsts rows.slots.items parts
+    → firsts ≡ firsts_made net blocks → parts ≡ blocks_made net blocks rows → IsSplit net blocks firsts rows.slots parts
 split_is net blocks rows firsts parts h split is ef ep =
     let ready : IsReady net blocks rows = record { net_is = h; split = split; rows_are = is } in
-    let whole : IsSplit net blocks (firsts_made net blocks) rows.slots.items (blocks_made net blocks rows) =
+    let whole : IsSplit net blocks (firsts_made net blocks) rows.slots (blocks_made net blocks rows) =
     record { number = count_made net blocks rows; placed = placed net blocks rows ready; filled = filled net blocks rows ready; opening = opening net blocks rows ready } in
-    let one = subst (λ (fs : List ℕ). IsSplit net blocks fs rows.slots.items (blocks_made net blocks rows)) (sym ef) whole in
-    subst (λ (bs : List BlockView). IsSplit net blocks firsts rows.slots.items bs) (sym ep) one
+    let one = subst (λ (fs : List ℕ). IsSplit net blocks fs rows.slots (blocks_made net blocks rows)) (sym ef) whole in
+    subst (λ (bs : List BlockView). IsSplit net blocks firsts rows.slots bs) (sym ep) one

@@ -1,18 +1,18 @@
 -- How a net is split into blocks.
-use Rattle.std.specs.Prelude.{◌≡◌, ◌≢◌, ℕ, ◌+◌, ◌-◌, ◌*◌, ◌/◌, ◌<◌, ◌≤◌, Bool, true, false, not, cond, nat_lt, List, [], drop, length, map, replicate, slice_index, slice_range, None}
+use Rattle.std.specs.Prelude.{◌≡◌, ℕ, ◌+◌, ◌-◌, ◌*◌, ◌/◌, ◌<◌, ◌≤◌, Bool, true, false, not, cond, nat_lt, List, [], drop, length, map, replicate, slice_index, slice_index_or, slice_range, ◌==◌, None}
+use Rattle.std.specs.List.{position_or_len}
 use Rattle.flow_network.specs.Cut.{Network, nodes}
 use Rattle.flow_network.specs.Preflow.{arc_at}
 use Rattle.flow_network.specs.Progress.{top}
-use Rattle.grouping.specs.declared.Groups.{Groups}
+use Rattle.grouping.specs.Grouping.{count_below, rank}
 use Rattle.parcel.specs.declared.direction.Direction.{Direction}
 use Rattle.parcel.specs.Directions.{IsDirection, near, far, opposite}
 use Rattle.parcel.specs.States.{block_of, is_border}
 use Rattle.parcel.specs.Soundness.{first_residual, opened}
 use Rattle.block_net.specs.declared.rows.Lane.{Lane}
 use Rattle.block_net.specs.declared.rows.Border.{Border}
-use Rattle.block_net.specs.declared.by_node.ByNode.{ByNode}
 use Rattle.block_net.specs.Limits.{arc_limit, block_limit}
-use Rattle.block_net.specs.Views.{BlockView}
+use Rattle.block_net.specs.Views.{BlockView, no_row, no_border}
 use Rattle.block_net.specs.Whole.{Whole, whole_of, table, index_of, shown, IsPlaced, IsFilled}
 
 -- the net can be split into so many blocks
@@ -53,13 +53,20 @@ pub record Rows : Type 0 where
 abbrev pub rows_of : List ℕ → List ℕ → Rows
 rows_of starts places = record { starts = starts; places = places }
 
+-- the directions, as indices of the table of slots, grouped by their keys, and the slot of each: its place among those of
+-- its kind, within the block of the node that it leaves or to others
+pub record ByNode : Type 0 where
+  pub starts : List ℕ
+  pub places : List ℕ
+  pub slots : List ℕ
+
 -- of all directions grouped by their keys, those within blocks
-abbrev pub inner_rows : Groups → Rows
-inner_rows groups = rows_of groups.starts.items groups.places.items
+abbrev pub inner_rows : ByNode → Rows
+inner_rows rows = rows_of rows.starts rows.places
 
 -- and those to other blocks, where there are so many nodes
-abbrev pub outer_rows : ℕ → Groups → Rows
-outer_rows n groups = rows_of (drop n groups.starts.items) groups.places.items
+abbrev pub outer_rows : ℕ → ByNode → Rows
+outer_rows n rows = rows_of (drop n rows.starts) rows.places
 
 -- the rows are those of the directions that lead to another block exactly as asked
 pub record AreRows (net : Network) (blocks : ℕ) (leaves : Bool) (rows : Rows) : Type 0 where
@@ -85,12 +92,6 @@ pub record AreRows (net : Network) (blocks : ℕ) (leaves : Bool) (rows : Rows) 
       → slice_index rows.starts 0 ≤ q → q < slice_index rows.starts (nodes net)
       → slice_index rows.places p ≡ slice_index rows.places q → p ≡ q
 
--- the rows do not have the index
-abbrev pub IsNoPlace : Network → Rows → ℕ → Type 0
-IsNoPlace net rows i =
-    (p : ℕ) → slice_index rows.starts 0 ≤ p → p < slice_index rows.starts (nodes net)
-    → slice_index rows.places p ≢ i
-
 -- where the rows of a block begin
 abbrev pub base_of : Network → ℕ → Rows → ℕ → ℕ
 base_of net blocks rows b = slice_index rows.starts (first_of (nodes net) blocks b)
@@ -107,25 +108,41 @@ HasSlots net blocks rows slots =
     (p : ℕ) → slice_index rows.starts 0 ≤ p → p < slice_index rows.starts (nodes net)
     → slice_index slots (slice_index rows.places p) ≡ slot_at net blocks rows p
 
--- the table has the slot of each direction of the rows that leaves a node of the block
-abbrev pub HasBlockSlots : Network → ℕ → Rows → ℕ → List ℕ → Type 0
-HasBlockSlots net blocks rows b slots =
-    (p : ℕ) → base_of net blocks rows b ≤ p → p < base_of net blocks rows (b + 1)
-    → slice_index slots (slice_index rows.places p) ≡ slot_at net blocks rows p
-
--- the rows of the block do not have the index
-abbrev pub IsNoBlockPlace : Network → ℕ → Rows → ℕ → ℕ → Type 0
-IsNoBlockPlace net blocks rows b i =
-    (p : ℕ) → base_of net blocks rows b ≤ p → p < base_of net blocks rows (b + 1)
-    → slice_index rows.places p ≢ i
-
 -- the directions within blocks and those between blocks, each grouped by its near node, and all slots
 pub record AreGrouped (net : Network) (blocks : ℕ) (rows : ByNode) : Type 0 where
-  pub inner : AreRows net blocks false (inner_rows rows.groups)
-  pub outer : AreRows net blocks true (outer_rows (nodes net) rows.groups)
-  pub slots_len : length rows.slots.items ≡ directions net
-  pub inner_slots : HasSlots net blocks (inner_rows rows.groups) rows.slots.items
-  pub outer_slots : HasSlots net blocks (outer_rows (nodes net) rows.groups) rows.slots.items
+  pub inner : AreRows net blocks false (inner_rows rows)
+  pub outer : AreRows net blocks true (outer_rows (nodes net) rows)
+  pub slots_len : length rows.slots ≡ directions net
+  pub inner_slots : HasSlots net blocks (inner_rows rows) rows.slots
+  pub outer_slots : HasSlots net blocks (outer_rows (nodes net) rows) rows.slots
+
+-- ---- the directions of a net in order
+
+-- what each direction is grouped by
+abbrev pub keys_made : Network → ℕ → List ℕ
+keys_made net blocks = table (directions net) (λ i. key net blocks (direction_in net i))
+
+-- where each direction comes in the order of the keys
+abbrev pub ranks_made : Network → ℕ → List ℕ
+ranks_made net blocks = table (directions net) (rank (keys_made net blocks))
+
+-- where the directions of each key begin
+abbrev pub starts_made : Network → ℕ → List ℕ
+starts_made net blocks = table (2 * nodes net + 1) (λ v. count_below v (keys_made net blocks))
+
+-- where the directions begin that leave the block of a direction's near node, and lead to another block just as it does
+abbrev pub base_for : Network → ℕ → Direction → ℕ
+base_for net blocks x =
+    slice_index (starts_made net blocks)
+    (cond (is_border net blocks x) (nodes net) 0 + first_of (nodes net) blocks (block_of net blocks (near net x)))
+
+-- the directions of a net in blocks in the order of their keys: at each place the direction that has it as its rank
+unfoldable pub rows_made : Network → ℕ → ByNode
+rows_made net blocks = record {
+  starts = starts_made net blocks;
+  places = table (directions net) (λ p. position_or_len (λ r. r == p) (ranks_made net blocks));
+  slots = table (directions net) (λ i. slice_index (ranks_made net blocks) i - base_for net blocks (direction_in net i));
+}
 
 -- ---- a block
 
@@ -134,24 +151,33 @@ abbrev pub starts_from : List ℕ → ℕ → ℕ → List ℕ
 starts_from starts first next =
     table (next - first + 1) (λ i. slice_index starts (first + i) - slice_index starts first)
 
-abbrev pub lane_made : Network → List ℕ → ℕ → Direction → Lane
-lane_made net slots first x = record {
+-- a direction within a block, by the block's first node and the slot of the opposite direction
+abbrev pub lane_by : Network → ℕ → ℕ → Direction → Lane
+lane_by net first opposite x = record {
   residual = first_residual net x;
   far = far net x - first;
-  opposite = slice_index slots (index_of net (opposite x));
+  opposite = opposite;
 }
 
-abbrev pub border_made : Network → ℕ → List ℕ → ℕ → Direction → Border
-border_made net blocks slots first x = record {
+-- a direction to another block, by the first node of its own, the number of the other, and the slot of the opposite direction
+abbrev pub border_by : Network → ℕ → ℕ → ℕ → Direction → Border
+border_by net first to opposite x = record {
   direction = x;
   near = near net x - first;
-  to = block_of net blocks (far net x);
-  opposite = slice_index slots (index_of net (opposite x));
+  to = to;
+  opposite = opposite;
   capacity = (arc_at net x.arc).capacity;
   residual = first_residual net x;
   known = 0;
   flight = None;
 }
+
+abbrev pub lane_made : Network → List ℕ → ℕ → Direction → Lane
+lane_made net slots first x = lane_by net first (slice_index slots (index_of net (opposite x))) x
+
+abbrev pub border_made : Network → ℕ → List ℕ → ℕ → Direction → Border
+border_made net blocks slots first x =
+    border_by net first (block_of net blocks (far net x)) (slice_index slots (index_of net (opposite x))) x
 
 abbrev pub lanes_made : Network → List ℕ → ℕ → List ℕ → List Lane
 lanes_made net slots first indices = map (λ i. lane_made net slots first (direction_in net i)) indices
@@ -165,6 +191,20 @@ abbrev pub span : Rows → ℕ → ℕ → List ℕ
 span rows first next =
     slice_range rows.places (slice_index rows.starts first) (slice_index rows.starts next)
 
+-- the directions that leave the nodes of a block: those within the block, and those to other blocks
+pub record BlockRows : Type 0 where
+  pub lanes : List Lane
+  pub borders : List Border
+
+abbrev pub no_rows : BlockRows
+no_rows = record { lanes = []; borders = [] }
+
+abbrev pub rows_from : Network → ℕ → ByNode → ℕ → ℕ → BlockRows
+rows_from net blocks rows first next = record {
+  lanes = lanes_made net rows.slots first (span (inner_rows rows) first next);
+  borders = borders_made net blocks rows.slots first (span (outer_rows (nodes net) rows) first next);
+}
+
 -- the nodes from one on to another as a block
 abbrev pub block_from : Network → ℕ → ByNode → ℕ → ℕ → BlockView
 block_from net blocks rows first next = record {
@@ -172,10 +212,10 @@ block_from net blocks rows first next = record {
   excess = slice_range net.sources first next;
   labels = replicate (next - first) 0;
   rooms = slice_range net.sinks first next;
-  starts = starts_from (inner_rows rows.groups).starts first next;
-  lanes = lanes_made net rows.slots.items first (span (inner_rows rows.groups) first next);
-  border_starts = starts_from (outer_rows (nodes net) rows.groups).starts first next;
-  borders = borders_made net blocks rows.slots.items first (span (outer_rows (nodes net) rows.groups) first next);
+  starts = starts_from (inner_rows rows).starts first next;
+  lanes = (rows_from net blocks rows first next).lanes;
+  border_starts = starts_from (outer_rows (nodes net) rows).starts first next;
+  borders = (rows_from net blocks rows first next).borders;
 }
 
 abbrev pub block_made : Network → ℕ → ByNode → ℕ → BlockView
@@ -185,8 +225,50 @@ block_made net blocks rows b =
 abbrev pub blocks_made : Network → ℕ → ByNode → List BlockView
 blocks_made net blocks rows = table blocks (block_made net blocks rows)
 
+-- the directions of one block, and of each
+abbrev pub block_rows : Network → ℕ → ByNode → ℕ → BlockRows
+block_rows net blocks rows b =
+    rows_from net blocks rows (first_of (nodes net) blocks b) (first_of (nodes net) blocks (b + 1))
+
+abbrev pub all_rows : Network → ℕ → ByNode → List BlockRows
+all_rows net blocks rows = table blocks (block_rows net blocks rows)
+
+-- room for them, before any is written
+abbrev pub blank_rows : Network → ℕ → ByNode → ℕ → BlockRows
+blank_rows net blocks rows b = record {
+  lanes = replicate (base_of net blocks (inner_rows rows) (b + 1) - base_of net blocks (inner_rows rows) b) no_row;
+  borders =
+      replicate (base_of net blocks (outer_rows (nodes net) rows) (b + 1) - base_of net blocks (outer_rows (nodes net) rows) b)
+      no_border;
+}
+
 abbrev pub firsts_made : Network → ℕ → List ℕ
 firsts_made net blocks = table blocks (first_of (nodes net) blocks)
+
+-- ---- the blocks as they are filled
+
+abbrev pub rows_at : List BlockRows → ℕ → BlockRows
+rows_at lists b = slice_index_or lists b no_rows
+
+-- the lists have room for all directions, and those of which this holds stand at their slots
+pub record AreHeld (net : Network) (blocks : ℕ) (rows : ByNode) (held : Direction → Type 0) (lists : List BlockRows) : Type 0 where
+  pub many : length lists ≡ blocks
+  pub lanes_len : (b : ℕ) → b < blocks → length (rows_at lists b).lanes
+      ≡ base_of net blocks (inner_rows rows) (b + 1) - base_of net blocks (inner_rows rows) b
+  pub borders_len : (b : ℕ) → b < blocks → length (rows_at lists b).borders
+      ≡ base_of net blocks (outer_rows (nodes net) rows) (b + 1) - base_of net blocks (outer_rows (nodes net) rows) b
+  pub lanes : (x : Direction) → IsDirection net x → held x → is_border net blocks x ≡ false
+      → slice_index_or (rows_at lists (block_of net blocks (near net x))).lanes (slice_index rows.slots (index_of net x)) no_row
+      ≡ lane_made net rows.slots (first_of (nodes net) blocks (block_of net blocks (near net x))) x
+  pub borders : (x : Direction) → IsDirection net x → held x → is_border net blocks x ≡ true
+      → slice_index_or (rows_at lists (block_of net blocks (near net x))).borders (slice_index rows.slots (index_of net x)) no_border
+      ≡ border_made net blocks rows.slots (first_of (nodes net) blocks (block_of net blocks (near net x))) x
+
+-- of the first so many arcs the table has slots, and of the others ranks
+pub record AreSlots (net : Network) (rows : ByNode) (ranks : List ℕ) (many : ℕ) (table : List ℕ) : Type 0 where
+  pub len : length table ≡ directions net
+  pub done : (x : Direction) → IsDirection net x → x.arc < many → slice_index table (index_of net x) ≡ slice_index rows.slots (index_of net x)
+  pub rest : (x : Direction) → IsDirection net x → many ≤ x.arc → slice_index table (index_of net x) ≡ slice_index ranks (index_of net x)
 
 -- ---- the whole
 

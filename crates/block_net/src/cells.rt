@@ -1,13 +1,16 @@
 ghost use Rattle.std.specs.Prelude.{◌≡◌, ◌≢◌, ◌+◌, ◌^◌, ◌<◌, ◌≤◌, All, IfOk, None, length};
 ghost use Rattle.flow_network.specs.Limits.{node_limit};
 ghost use Rattle.flow_network.specs.Progress.{top_label};
-ghost use Rattle.block_net.specs.Split.{CanSplit, AreGrouped, block_made};
+ghost use Rattle.block_net.specs.Split.{CanSplit, starts_made, rows_made, block_rows, block_made};
 ghost use Rattle.block_net.specs.Views.{BlockView, count, excess_in, label_in, room_in, lane_in, border_in, first_lane, first_border, out_of, pushed, given, labelled, sent, accepted, settled, returned, informed, lane_allows, border_allows, highest};
 
+use crate::by_node::outer_starts;
 use crate::compact::CompactBorder;
 use crate::ends::bounds;
-use crate::opening::{inner_of, nodes_from, outer_of};
-use crate::{Border, ByNode, Lane};
+use crate::leaving::Leaving;
+use crate::make::starts_from;
+use crate::opening::nodes_from;
+use crate::{Border, Lane};
 use flow_network::Net;
 use parcel::Flight;
 use std::alloc::{AllocError, Global};
@@ -55,32 +58,36 @@ impl Model for Cells {
 }
 
 impl Cells {
-    /// A block of a net as it is at the opening: each node has what its source sends it.
+    /// A block of a net as it is at the opening, with the directions that leave its nodes: each node has what its source
+    /// sends it.
     pub(crate) fn at_opening(
         alloc: Global,
         net: &Net,
         blocks: usize,
-        rows: &ByNode,
+        starts: &[u32],
         block: usize,
+        leaving: Leaving,
     ) -> Result<Cells, AllocError>
         requires split { CanSplit net.now blocks }
-        requires rows { AreGrouped net.now blocks rows.now }
+        requires starts { starts.now ≡ starts_made net.now blocks }
         requires block { block < blocks }
-        ensures { IfOk result (λ cells. cells ≡ block_made net.now blocks rows.now block) }
+        requires leaving { leaving ≡ block_rows net.now blocks (rows_made net.now blocks) block }
+        ensures { IfOk result (λ cells. cells ≡ block_made net.now blocks (rows_made net.now blocks) block) }
     {
         let (first, next) = bounds(net, blocks, block);
         let nodes = nodes_from(alloc, net, first, next)?;
-        let inner = inner_of(alloc, net, blocks, rows, block)?;
-        let outer = outer_of(alloc, net, blocks, rows, block)?;
+        let border_starts = starts_from(alloc, outer_starts(net, starts), first, next)?;
+        let starts = starts_from(alloc, starts, first, next)?;
+        let (lanes, borders) = leaving.into_parts();
         Ok(Cells {
             top: net.nodes() as u32 + 2,
             excess: nodes.excess,
             labels: nodes.labels,
             rooms: nodes.rooms,
-            starts: inner.starts,
-            lanes: inner.lanes,
-            border_starts: outer.starts,
-            borders: outer.borders,
+            starts,
+            lanes,
+            border_starts,
+            borders,
         })
     }
 

@@ -11,15 +11,15 @@ mod by_node;
 mod cells;
 mod compact;
 mod ends;
+mod filling;
 mod homes;
+mod leaving;
 mod limits;
 mod make;
 mod opening;
 mod parts;
 mod rows;
-mod slots;
 
-pub use by_node::ByNode;
 pub use cells::Cells;
 pub use homes::homes_of;
 pub use limits::{ARC_LIMIT, BLOCK_LIMIT};

@@ -1,11 +1,16 @@
 ghost use Rattle.std.specs.Prelude.{◌≡◌, ◌≤◌, IfOk};
 ghost use Rattle.flow_network.specs.Cut.{IsNet};
-ghost use Rattle.block_net.specs.Split.{CanSplit, AreGrouped, IsSplit, blocks_made, firsts_made};
+ghost use Rattle.block_net.specs.Split.{CanSplit, IsSplit, blocks_made, firsts_made, starts_made, rows_made, all_rows};
 
-use crate::by_node::{ByNode, grouped};
+use crate::by_node::directions_by_node;
 use crate::cells::Cells;
 use crate::ends::first_of;
+use crate::filling::put_arcs;
+use crate::homes::homes_of;
+use crate::leaving::Leaving;
+use crate::make::blanks;
 use flow_network::Net;
+use grouping::Ranked;
 use std::alloc::{AllocError, Global};
 
 /// A net in blocks, as it is at the opening.
@@ -20,20 +25,26 @@ pub struct Parts {
     pub slots: Vec<u32>,
 }
 
-/// The blocks of a net.
+/// The blocks of a net, by the directions that leave their nodes.
 fn blocks_of(
     alloc: Global,
     net: &Net,
     blocks: usize,
-    rows: &ByNode,
+    starts: &[u32],
+    lists: Vec<Leaving>,
 ) -> Result<Vec<Cells>, AllocError>
     requires split { CanSplit net.now blocks }
-    requires rows { AreGrouped net.now blocks rows.now }
-    ensures { IfOk result (λ list. list.items ≡ blocks_made net.now blocks rows.now) }
+    requires starts { starts.now ≡ starts_made net.now blocks }
+    requires lists { lists.items ≡ all_rows net.now blocks (rows_made net.now blocks) }
+    ensures { IfOk result (λ list. list.items ≡ blocks_made net.now blocks (rows_made net.now blocks)) }
 {
     let mut list = Vec::with_capacity(alloc, blocks)?;
+    let mut lists = lists.into_iter();
     for block in 0..blocks {
-        list.push_reserved(Cells::at_opening(alloc, net, blocks, rows, block)?);
+        let Some(leaving) = lists.next() else {
+            unreachable!()
+        };
+        list.push_reserved(Cells::at_opening(alloc, net, blocks, starts, block, leaving)?);
     }
     Ok(list)
 }
@@ -62,13 +73,26 @@ impl Parts {
         ensures { IfOk result (λ parts. IsSplit net.now blocks
             parts.firsts.items parts.slots.items parts.blocks.items) }
     {
-        let rows = grouped(alloc, net, blocks)?;
+        let homes = homes_of(alloc, net, blocks)?;
+        let Ranked { starts, ranks } = directions_by_node(alloc, net, blocks, homes.as_slice())?;
         let firsts = firsts_of(alloc, net, blocks)?;
-        let blocks = blocks_of(alloc, net, blocks, &rows)?;
+        let starts = starts.as_slice();
+        let mut slots = ranks;
+        let mut lists = blanks(alloc, net, blocks, starts)?;
+        put_arcs(
+            net,
+            blocks,
+            homes.as_slice(),
+            firsts.as_slice(),
+            starts,
+            slots.as_mut_slice(),
+            lists.as_mut_slice(),
+        );
+        let blocks = blocks_of(alloc, net, blocks, starts, lists)?;
         Ok(Parts {
             blocks,
             firsts,
-            slots: rows.slots,
+            slots,
         })
     }
 }

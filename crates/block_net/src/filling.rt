@@ -1,0 +1,190 @@
+ghost use Rattle.std.specs.Prelude.{◌≡◌, ◌+◌, ◌-◌, ◌<◌, ◌≤◌, IfOk, length, slice_index, slice_set};
+ghost use Rattle.flow_network.specs.Cut.{nodes, IsNet};
+ghost use Rattle.parcel.specs.Directions.{IsDirection, near, far};
+ghost use Rattle.parcel.specs.States.{block_of};
+ghost use Rattle.parcel.specs.Soundness.{first_residual};
+ghost use Rattle.block_net.specs.Limits.{arc_limit, block_limit};
+ghost use Rattle.block_net.specs.Whole.{table};
+ghost use Rattle.block_net.specs.Split.{CanSplit, homes_made, firsts_made, rows_made, ranks_made, starts_made, lane_by, border_by, all_rows, blank_rows, AreHeld, AreSlots};
+
+use crate::ends::{far, near};
+use crate::leaving::Leaving;
+use crate::{Border, Lane};
+use flow_network::Net;
+use parcel::Direction;
+use std::alloc::{AllocError, Global};
+
+/// The block of a node, by the block of each.
+fn home_of(net: &Net, blocks: usize, homes: &[u8], node: u32) -> usize
+    requires node { node < nodes net.now }
+    requires some { 1 ≤ blocks }
+    requires homes { homes.now ≡ homes_made net.now blocks }
+    ensures value { result ≡ block_of net.now blocks node }
+    ensures below { result < blocks }
+{
+    if blocks == 1 {
+        return 0;
+    }
+    homes[node as usize] as usize
+}
+
+/// The slot of a direction takes the place of its rank: it is counted from where those of its block begin.
+fn take_slot(slots: &mut [u32], index: usize, base: u32) -> u32
+    requires index { index < length slots.old }
+    requires base { base ≤ slice_index slots.old index }
+    ensures value { result ≡ slice_index slots.old index - base }
+    ensures slots { slots.new ≡ slice_set slots.old index (slice_index slots.old index - base) }
+{
+    let slot = slots[index] - base;
+    slots[index] = slot;
+    slot
+}
+
+/// What a direction can carry before any flow.
+fn first_residual(net: &Net, direction: Direction) -> u64
+    requires { IsDirection net.now direction }
+    ensures { result ≡ first_residual net.now direction }
+{
+    if direction.back {
+        0
+    } else {
+        net.arcs()[direction.arc].capacity
+    }
+}
+
+/// A direction within the block whose first node this is stands at its slot.
+fn put_lane(
+    net: &Net,
+    direction: Direction,
+    first: usize,
+    slot: u32,
+    opposite: u32,
+    list: &mut Leaving,
+)
+    requires direction { IsDirection net.now direction }
+    requires far { first ≤ far net.now direction }
+    requires slot { slot < length list.old.lanes }
+    ensures { list.new ≡ record list.old {
+      lanes = slice_set list.old.lanes slot (lane_by net.now first opposite direction);
+    } }
+{
+    list.set_lane(
+        slot as usize,
+        Lane {
+            residual: first_residual(net, direction),
+            far: (far(net, direction) as usize - first) as u32,
+            opposite,
+        },
+    );
+}
+
+/// A direction from the block whose first node this is to another stands at its slot.
+fn put_border(
+    net: &Net,
+    direction: Direction,
+    first: usize,
+    to: usize,
+    slot: u32,
+    opposite: u32,
+    list: &mut Leaving,
+)
+    requires direction { IsDirection net.now direction }
+    requires arcs { length net.now.arcs ≤ arc_limit }
+    requires near { first ≤ near net.now direction }
+    requires to { to < block_limit }
+    requires slot { slot < length list.old.borders }
+    ensures { list.new ≡ record list.old {
+      borders = slice_set list.old.borders slot (border_by net.now first to opposite direction);
+    } }
+{
+    list.set_border(
+        slot as usize,
+        Border {
+            direction,
+            near: (near(net, direction) as usize - first) as u32,
+            to: to as u32,
+            opposite,
+            capacity: net.arcs()[direction.arc].capacity,
+            residual: first_residual(net, direction),
+            known: 0,
+            flight: None,
+        },
+    );
+}
+
+/// Both directions of an arc stand at their slots, which take the place of their ranks.
+fn put_arc(
+    net: &Net,
+    blocks: usize,
+    homes: &[u8],
+    firsts: &[usize],
+    starts: &[u32],
+    arc: usize,
+    slots: &mut [u32],
+    lists: &mut [Leaving],
+)
+    requires net { IsNet net.now }
+    requires split { CanSplit net.now blocks }
+    requires homes { homes.now ≡ homes_made net.now blocks }
+    requires firsts { firsts.now ≡ firsts_made net.now blocks }
+    requires starts { starts.now ≡ starts_made net.now blocks }
+    requires arc { arc < length net.now.arcs }
+    requires slots { AreSlots net.now (rows_made net.now blocks) (ranks_made net.now blocks) arc slots.old }
+    requires lists { AreHeld net.now blocks (rows_made net.now blocks) (λ x. x.arc < arc) lists.old }
+    ensures slots { AreSlots net.now (rows_made net.now blocks) (ranks_made net.now blocks) (arc + 1) slots.new }
+    ensures lists { AreHeld net.now blocks (rows_made net.now blocks) (λ x. x.arc < arc + 1) lists.new }
+{
+    let forth = Direction { arc, back: false };
+    let back = Direction { arc, back: true };
+    let arcs = net.arcs().len();
+    let from = home_of(net, blocks, homes, near(net, forth));
+    let to = home_of(net, blocks, homes, far(net, forth));
+    let tail = firsts[from];
+    let head = firsts[to];
+    if from == to {
+        let base = starts[tail];
+        let forth_slot = take_slot(slots, arc, base);
+        let back_slot = take_slot(slots, arcs + arc, base);
+        put_lane(net, forth, tail, forth_slot, back_slot, &mut lists[from]);
+        put_lane(net, back, head, back_slot, forth_slot, &mut lists[to]);
+    } else {
+        let nodes = net.nodes();
+        let forth_slot = take_slot(slots, arc, starts[nodes + tail]);
+        let back_slot = take_slot(slots, arcs + arc, starts[nodes + head]);
+        put_border(
+            net,
+            forth,
+            tail,
+            to,
+            forth_slot,
+            back_slot,
+            &mut lists[from],
+        );
+        put_border(net, back, head, from, back_slot, forth_slot, &mut lists[to]);
+    }
+}
+
+/// The directions of all blocks stand at their slots, which take the place of the ranks.
+pub(crate) fn put_arcs(
+    net: &Net,
+    blocks: usize,
+    homes: &[u8],
+    firsts: &[usize],
+    starts: &[u32],
+    slots: &mut [u32],
+    lists: &mut [Leaving],
+)
+    requires net { IsNet net.now }
+    requires split { CanSplit net.now blocks }
+    requires homes { homes.now ≡ homes_made net.now blocks }
+    requires firsts { firsts.now ≡ firsts_made net.now blocks }
+    requires starts { starts.now ≡ starts_made net.now blocks }
+    requires slots { slots.old ≡ ranks_made net.now blocks }
+    requires lists { lists.old ≡ table blocks (blank_rows net.now blocks (rows_made net.now blocks)) }
+    ensures slots { slots.new ≡ (rows_made net.now blocks).slots }
+    ensures lists { lists.new ≡ all_rows net.now blocks (rows_made net.now blocks) }
+{
+    for arc in 0..net.arcs().len() {
+        put_arc(net, blocks, homes, firsts, starts, arc, slots, lists);
+    }
+}
