@@ -1,8 +1,8 @@
 -- The lists of the blocks as they are filled, arc by arc.
-use Rattle.std.proofs.Common.{◌≡◌, ◌≢◌, ℕ, ◌+◌, ◌-◌, ◌<◌, ◌≤◌, ◌⊎◌, Bool, true, false, not, cond, eqb, List, [], ◌∷◌, length, get_or, set, slice_index, slice_range, drop, replicate, refl, sym, ◌∙◌, ap, subst, inl, inr, arith, get_or-set_same, get_or-set_other}
+use Rattle.std.proofs.Common.{◌≡◌, ◌≢◌, ℕ, ◌+◌, ◌-◌, ◌<◌, ◌≤◌, ◌⊎◌, Bool, true, false, not, eqb, List, [], ◌∷◌, length, get_or, set, slice_index, slice_range, drop, replicate, refl, sym, ◌∙◌, ap, subst, inl, inr, arith, get_or-set_other}
 use Rattle.std.proofs.lemmas.Bool.{cases_lt, cases_eq, true≢false, false≢true}
 use Rattle.std.proofs.lemmas.Bool.Decides.{nat_tests}
-use Rattle.std.proofs.lemmas.Grind.{get_or-set_at, same_number_lists}
+use Rattle.std.proofs.lemmas.Grind.{get_or-set_at}
 use Rattle.std.proofs.lemmas.List.{length-set, length-map, length-replicate, get_or_default, get_or-drop, length-drop, same_lists}
 use Rattle.std.proofs.lemmas.List.{drop-drop}
 use Rattle.flow_network.specs.Cut.{Network, nodes, IsNet}
@@ -15,9 +15,10 @@ use Rattle.block_net.specs.declared.rows.Lane.{Lane}
 use Rattle.block_net.specs.declared.rows.Border.{Border}
 use Rattle.block_net.specs.Views.{BlockView, IsBlock, no_row, no_border}
 use Rattle.block_net.specs.Whole.{table, index_of}
-use Rattle.block_net.specs.Split.{ByNode, BlockRows, no_rows, starts_from, block_made, inner_rows, outer_rows, CanSplit, directions, direction_in, AreGrouped, first_of, base_of, span, lane_by, border_by, lane_made, border_made, lanes_made, borders_made, firsts_made, starts_made, ranks_made, rows_made, block_rows, all_rows, blank_rows, rows_at, AreHeld, AreSlots}
+use Rattle.block_net.specs.Split.{ByNode, BlockRows, no_rows, starts_from, block_made, inner_rows, outer_rows, CanSplit, directions, direction_in, first_of, base_of, span, lane_by, border_by, lane_made, border_made, lanes_made, borders_made, firsts_made, starts_made, ranks_made, rows_made, block_rows, all_rows, blank_rows, rows_at, AreHeld}
 use Rattle.block_net.proofs.Tables.{length_table, table_at}
 use Rattle.block_net.proofs.Numbers.{is_direction, index_forth, index_small, first_low, first_within, first_grows, home_below, home_is}
+use Rattle.block_net.proofs.Written.{of_arc}
 use Rattle.block_net.proofs.Spots.{starts_grow}
 use Rattle.block_net.proofs.Spans.{stands_in, length_span}
 use Rattle.block_net.proofs.Made.{inner_blocks, block_from_is}
@@ -96,62 +97,6 @@ pub far_above : (net : Network) (blocks : ℕ) (x : Direction) → IsNet net →
     → first_of (nodes net) blocks (block_of net blocks (near net x)) ≤ far net x
 far_above net blocks x h some d e =
     subst (λ (b : ℕ). first_of (nodes net) blocks b ≤ far net x) (sym (inner_blocks net blocks x e)) (first_low (nodes net) blocks (far net x) some (far_in net x h d))
-
--- ---- the table
-
-direction_of_arc : (k : ℕ) (a : ℕ) (b : Bool) → a ≡ k → (record { arc = a; back = b } ≡ forward k) ⊎ (record { arc = a; back = b } ≡ backward k)
-direction_of_arc k a true e = inr (ap backward e)
-direction_of_arc k a false e = inl (ap forward e)
-
-of_arc : (k : ℕ) (y : Direction) → y.arc ≡ k → (y ≡ forward k) ⊎ (y ≡ backward k)
-of_arc k y e = direction_of_arc k y.arc y.back e
-
--- the index of another arc's direction
-index_off : (m k a : ℕ) (b : Bool) → a < m → k < m → a ≢ k → (cond b (m + a) a ≢ k) × (cond b (m + a) a ≢ m + k)
-index_off m k a true la lk off = (λ e. omega (arith, e, lk), λ e. off (omega (arith, e)))
-index_off m k a false la lk off = (λ e. off e, λ e. omega (arith, e, la))
-
-pub slots_more : (net : Network) (rows : ByNode) (ranks slots : List ℕ) (k s t : ℕ) → AreSlots net rows ranks k slots → k < length net.arcs
-    → s ≡ slice_index rows.slots (index_of net (forward k)) → t ≡ slice_index rows.slots (index_of net (backward k))
-    → AreSlots net rows ranks (k + 1) (set (set slots k s) (length net.arcs + k) t)
-slots_more net rows ranks slots k s t are lk es et =
-    let m = length net.arcs in
-    let one = set slots k s in
-    let len1 : length one ≡ directions net = length-set slots k s ∙ are.len in
-    record {
-      len = length-set one (m + k) t ∙ len1;
-      done = λ y d l. elim (cases_lt y.arc k) [
-        | inl less ↦
-            let off = index_off m k y.arc y.back d lk (λ e. omega (arith, e, less)) in
-            get_or-set_other one (m + k) (index_of net y) t 0 off.1 ∙ (get_or-set_other slots k (index_of net y) s 0 off.0 ∙ are.done y d less)
-        | inr more ↦ elim (of_arc k y (omega (arith, l, more))) [
-          | inl e ↦
-              subst (λ (y : Direction). get_or (set one (m + k) t) (index_of net y) 0 ≡ get_or rows.slots (index_of net y) 0) (sym e)
-              (get_or-set_other one (m + k) k t 0 (λ e. omega (arith, e, lk)) ∙ (get_or-set_same slots k s 0 (omega (arith, lk, are.len)) ∙ es))
-          | inr e ↦
-              subst (λ (y : Direction). get_or (set one (m + k) t) (index_of net y) 0 ≡ get_or rows.slots (index_of net y) 0) (sym e)
-              (get_or-set_same one (m + k) t 0 (omega (arith, lk, len1)) ∙ et)
-        ]
-      ];
-      rest = λ y d l.
-          let off = index_off m k y.arc y.back d lk (λ e. omega (arith, e, l)) in
-          get_or-set_other one (m + k) (index_of net y) t 0 off.1 ∙ (get_or-set_other slots k (index_of net y) s 0 off.0 ∙ are.rest y d (omega (arith, l)));
-    }
-
-pub slots_none : (net : Network) (rows : ByNode) (ranks slots : List ℕ) → slots ≡ ranks → length ranks ≡ directions net → AreSlots net rows ranks 0 slots
-slots_none net rows ranks slots e len = record {
-  len = ap length e ∙ len;
-  done = λ y d l. absurd (omega (arith, l));
-  rest = λ y d l. ap (λ (xs : List ℕ). slice_index xs (index_of net y)) e;
-}
-
-pub slots_all : (net : Network) (blocks k : ℕ) (rows : ByNode) (ranks slots : List ℕ) → AreGrouped net blocks rows → AreSlots net rows ranks k slots → k ≡ length net.arcs → slots ≡ rows.slots
-slots_all net blocks k rows ranks slots is are e = same_number_lists slots rows.slots (are.len ∙ sym is.slots_len) (λ i l.
-    let li : i < directions net = omega (arith, l, are.len) in
-    let x = direction_in net i in
-    let d = is_direction net i li in
-    let at = index_forth net i li in
-    ap (slice_index slots) (sym at) ∙ (are.done x d (omega (arith, d, e)) ∙ ap (slice_index rows.slots) at))
 
 -- ---- the lists
 
@@ -447,16 +392,6 @@ border_room net blocks rows ranks D lists x b s held eb lb step es =
 
 pub length_there : {A : Type 0} (f : BlockRows → List A) (lists : List BlockRows) (b : ℕ) (d : BlockRows) → b < length lists → length (f (get_or lists b d)) ≡ length (f (rows_at lists b))
 length_there f lists b d l = ap (λ (r : BlockRows). length (f r)) (get_or_default lists b d no_rows l)
-
--- the entry of the other direction after the first is written
-pub back_read : (net : Network) (slots new : List ℕ) (k s m : ℕ) → m ≡ length net.arcs → k < length net.arcs → new ≡ set slots k s
-    → slice_index new (m + k) ≡ slice_index slots (index_of net (backward k))
-back_read net slots new k s m em lk e =
-    ap (λ (xs : List ℕ). slice_index xs (m + k)) e ∙ (get_or-set_other slots k (m + k) s 0 (λ h. omega (arith, h, em, lk)) ∙ ap (λ a. slice_index slots (a + k)) em)
-
-pub written_twice : (net : Network) (slots one two : List ℕ) (k m s t : ℕ) → m ≡ length net.arcs → one ≡ set slots k s → two ≡ set one (m + k) t
-    → two ≡ set (set slots k s) (length net.arcs + k) t
-written_twice net slots one two k m s t em e1 e2 = e2 ∙ (ap (λ a. set one (a + k) t) em ∙ ap (λ (xs : List ℕ). set xs (length net.arcs + k) t) e1)
 
 pub same_lane : (net : Network) (x : Direction) (f g o p : ℕ) → f ≡ g → o ≡ p → lane_by net f o x ≡ lane_by net g p x
 same_lane net x f g o p e1 e2 = ap (λ i. lane_by net i o x) e1 ∙ ap (λ i. lane_by net g i x) e2

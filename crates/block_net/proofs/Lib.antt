@@ -8,4 +8,5 @@ mod Once
 mod Made
 mod Splitting
 mod Ordered
+mod Written
 mod Held

@@ -264,11 +264,11 @@ pub record AreHeld (net : Network) (blocks : ℕ) (rows : ByNode) (held : Direct
       → slice_index_or (rows_at lists (block_of net blocks (near net x))).borders (slice_index rows.slots (index_of net x)) no_border
       ≡ border_made net blocks rows.slots (first_of (nodes net) blocks (block_of net blocks (near net x))) x
 
--- of the first so many arcs the table has slots, and of the others ranks
-pub record AreSlots (net : Network) (rows : ByNode) (ranks : List ℕ) (many : ℕ) (table : List ℕ) : Type 0 where
+-- a table of all directions has what comes after at those of the first so many arcs, and at the others what was before
+pub record AreWritten (net : Network) (after before : List ℕ) (many : ℕ) (table : List ℕ) : Type 0 where
   pub len : length table ≡ directions net
-  pub done : (x : Direction) → IsDirection net x → x.arc < many → slice_index table (index_of net x) ≡ slice_index rows.slots (index_of net x)
-  pub rest : (x : Direction) → IsDirection net x → many ≤ x.arc → slice_index table (index_of net x) ≡ slice_index ranks (index_of net x)
+  pub done : (x : Direction) → IsDirection net x → x.arc < many → slice_index table (index_of net x) ≡ slice_index after (index_of net x)
+  pub rest : (x : Direction) → IsDirection net x → many ≤ x.arc → slice_index table (index_of net x) ≡ slice_index before (index_of net x)
 
 -- ---- the whole
 

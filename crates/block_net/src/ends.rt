@@ -2,29 +2,12 @@ ghost use Rattle.std.specs.Prelude.{◌≡◌, ◌+◌, ◌*◌, ◌<◌, ◌≤
 ghost use Rattle.flow_network.specs.Limits.{node_limit};
 ghost use Rattle.flow_network.specs.Cut.{nodes, IsNet};
 ghost use Rattle.parcel.specs.Directions.{IsDirection, near, far};
-ghost use Rattle.parcel.specs.States.{block_of, is_border};
+ghost use Rattle.parcel.specs.States.{is_border};
 ghost use Rattle.block_net.specs.Limits.{block_limit};
-ghost use Rattle.block_net.specs.Split.{CanSplit, direction_of, first_of, homes_made};
+ghost use Rattle.block_net.specs.Split.{CanSplit, first_of, homes_made};
 
 use flow_network::Net;
 use parcel::Direction;
-
-/// The direction at an index of the table of slots, for so many arcs.
-pub(crate) fn direction_at(arcs: usize, index: usize) -> Direction
-    ensures { result ≡ direction_of arcs index }
-{
-    if index < arcs {
-        Direction {
-            arc: index,
-            back: false,
-        }
-    } else {
-        Direction {
-            arc: index - arcs,
-            back: true,
-        }
-    }
-}
 
 /// The node that a direction leaves.
 pub(crate) fn near(net: &Net, direction: Direction) -> u32
@@ -44,19 +27,6 @@ pub(crate) fn far(net: &Net, direction: Direction) -> u32
 {
     let arc = net.arcs()[direction.arc];
     if direction.back { arc.from } else { arc.to }
-}
-
-/// The block of a node.
-pub(crate) fn block_of(net: &Net, blocks: usize, node: u32) -> usize
-    requires node { node < nodes net.now }
-    requires split { CanSplit net.now blocks }
-    ensures value { result ≡ block_of net.now blocks node }
-    ensures below { result < blocks }
-{
-    if blocks == 1 {
-        return 0;
-    }
-    node as usize * blocks / net.nodes()
 }
 
 /// The first node of a block; for the number of blocks, the number of nodes.

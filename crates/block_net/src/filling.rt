@@ -5,12 +5,16 @@ ghost use Rattle.parcel.specs.States.{block_of};
 ghost use Rattle.parcel.specs.Soundness.{first_residual};
 ghost use Rattle.block_net.specs.Limits.{arc_limit, block_limit};
 ghost use Rattle.block_net.specs.Whole.{table};
-ghost use Rattle.block_net.specs.Split.{CanSplit, homes_made, firsts_made, rows_made, ranks_made, starts_made, lane_by, border_by, all_rows, blank_rows, AreHeld, AreSlots};
+ghost use Rattle.block_net.specs.Split.{CanSplit, homes_made, firsts_made, rows_made, ranks_made, starts_made, lane_by, border_by, all_rows, blank_rows, AreHeld, AreWritten};
 
+use crate::by_node::directions_by_node;
 use crate::ends::{far, near};
+use crate::homes::homes_of;
 use crate::leaving::Leaving;
+use crate::make::blanks;
 use crate::{Border, Lane};
 use flow_network::Net;
+use grouping::Ranked;
 use parcel::Direction;
 use std::alloc::{AllocError, Global};
 
@@ -129,9 +133,9 @@ fn put_arc(
     requires firsts { firsts.now ≡ firsts_made net.now blocks }
     requires starts { starts.now ≡ starts_made net.now blocks }
     requires arc { arc < length net.now.arcs }
-    requires slots { AreSlots net.now (rows_made net.now blocks) (ranks_made net.now blocks) arc slots.old }
+    requires slots { AreWritten net.now (rows_made net.now blocks).slots (ranks_made net.now blocks) arc slots.old }
     requires lists { AreHeld net.now blocks (rows_made net.now blocks) (λ x. x.arc < arc) lists.old }
-    ensures slots { AreSlots net.now (rows_made net.now blocks) (ranks_made net.now blocks) (arc + 1) slots.new }
+    ensures slots { AreWritten net.now (rows_made net.now blocks).slots (ranks_made net.now blocks) (arc + 1) slots.new }
     ensures lists { AreHeld net.now blocks (rows_made net.now blocks) (λ x. x.arc < arc + 1) lists.new }
 {
     let forth = Direction { arc, back: false };
@@ -187,4 +191,49 @@ pub(crate) fn put_arcs(
     for arc in 0..net.arcs().len() {
         put_arc(net, blocks, homes, firsts, starts, arc, slots, lists);
     }
+}
+
+/// The directions of all blocks at their slots.
+#[derive(Drop)]
+pub(crate) struct Filling {
+    /// Where the directions of each node begin in the order of all: those within blocks, and after them those to others.
+    pub starts: Vec<u32>,
+    /// The slot of each direction: first of all arcs from tail to head, then of all arcs back.
+    pub slots: Vec<u32>,
+    /// The directions of each block.
+    pub lists: Vec<Leaving>,
+}
+
+/// The directions of all blocks at their slots, by the first node of each block. The only error is that memory runs out.
+pub(crate) fn fill_blocks(
+    alloc: Global,
+    net: &Net,
+    blocks: usize,
+    firsts: &[usize],
+) -> Result<Filling, AllocError>
+    requires net { IsNet net.now }
+    requires split { CanSplit net.now blocks }
+    requires firsts { firsts.now ≡ firsts_made net.now blocks }
+    ensures starts { IfOk result (λ made. made.starts.items ≡ starts_made net.now blocks) }
+    ensures slots { IfOk result (λ made. made.slots.items ≡ (rows_made net.now blocks).slots) }
+    ensures lists { IfOk result (λ made. made.lists.items ≡ all_rows net.now blocks (rows_made net.now blocks)) }
+{
+    let homes = homes_of(alloc, net, blocks)?;
+    let Ranked { starts, ranks } = directions_by_node(alloc, net, blocks, homes.as_slice())?;
+    let mut slots = ranks;
+    let mut lists = blanks(alloc, net, blocks, starts.as_slice())?;
+    put_arcs(
+        net,
+        blocks,
+        homes.as_slice(),
+        firsts,
+        starts.as_slice(),
+        slots.as_mut_slice(),
+        lists.as_mut_slice(),
+    );
+    Ok(Filling {
+        starts,
+        slots,
+        lists,
+    })
 }

@@ -2,15 +2,11 @@ ghost use Rattle.std.specs.Prelude.{◌≡◌, ◌≤◌, IfOk};
 ghost use Rattle.flow_network.specs.Cut.{IsNet};
 ghost use Rattle.block_net.specs.Split.{CanSplit, IsSplit, blocks_made, firsts_made, starts_made, rows_made, all_rows};
 
-use crate::by_node::directions_by_node;
 use crate::cells::Cells;
 use crate::ends::first_of;
-use crate::filling::put_arcs;
-use crate::homes::homes_of;
+use crate::filling::{Filling, fill_blocks};
 use crate::leaving::Leaving;
-use crate::make::blanks;
 use flow_network::Net;
-use grouping::Ranked;
 use std::alloc::{AllocError, Global};
 
 /// A net in blocks, as it is at the opening.
@@ -73,22 +69,13 @@ impl Parts {
         ensures { IfOk result (λ parts. IsSplit net.now blocks
             parts.firsts.items parts.slots.items parts.blocks.items) }
     {
-        let homes = homes_of(alloc, net, blocks)?;
-        let Ranked { starts, ranks } = directions_by_node(alloc, net, blocks, homes.as_slice())?;
         let firsts = firsts_of(alloc, net, blocks)?;
-        let starts = starts.as_slice();
-        let mut slots = ranks;
-        let mut lists = blanks(alloc, net, blocks, starts)?;
-        put_arcs(
-            net,
-            blocks,
-            homes.as_slice(),
-            firsts.as_slice(),
+        let Filling {
             starts,
-            slots.as_mut_slice(),
-            lists.as_mut_slice(),
-        );
-        let blocks = blocks_of(alloc, net, blocks, starts, lists)?;
+            slots,
+            lists,
+        } = fill_blocks(alloc, net, blocks, firsts.as_slice())?;
+        let blocks = blocks_of(alloc, net, blocks, starts.as_slice(), lists)?;
         Ok(Parts {
             blocks,
             firsts,

@@ -5,10 +5,11 @@ use Rattle.parcel.specs.declared.direction.Direction.{Direction}
 use Rattle.parcel.specs.Directions.{forward, backward, near}
 use Rattle.parcel.specs.States.{block_of}
 use Rattle.block_net.specs.Whole.{index_of}
-use Rattle.block_net.specs.Split.{BlockRows, no_rows, first_of, rows_made, ranks_made, lane_by, border_by, AreSlots}
+use Rattle.block_net.specs.Split.{BlockRows, no_rows, first_of, rows_made, ranks_made, lane_by, border_by, AreWritten}
 use Rattle.block_net.proofs.Tables.{length_table}
 use Rattle.block_net.proofs.Ordered.{starts_length}
-use Rattle.block_net.proofs.Held.{ready_made, first_read, inner_base, outer_base, step_of, far_above, inside, across, lane_room, border_room, length_there, back_read, written_twice, same_lane, same_border, slots_more, held_lane, held_border, held_less, arc_done}
+use Rattle.block_net.proofs.Written.{back_read, written_twice, slots_more}
+use Rattle.block_net.proofs.Held.{ready_made, first_read, inner_base, outer_base, step_of, far_above, inside, across, lane_room, border_room, length_there, same_lane, same_border, held_lane, held_border, held_less, arc_done}
 use Rattle.block_net.proofs.filling.put_arc.Goals as goal
 
 pub bounds-firsts-from : goal.bounds-firsts-from
@@ -570,8 +571,8 @@ returns-then-from-to-clause-slots c =
     let et : c.take_slot-back_slot.result ≡ slice_index rows.slots (index_of net y) = omega (arith, c.take_slot-back_slot.ensures.value, there, ry, bz, sy.slot) in
     let second = c.take_slot-back_slot.ensures.slots in
     let whole = written_twice net c.args.slots.now c.take_slot-forth_slot.new.slots c.take_slot-back_slot.new.slots k (length c.arcs-arcs.result.now) _ _ em c.take_slot-forth_slot.ensures.slots second in
-    subst (AreSlots net rows (ranks_made net blocks) (k + 1)) (sym whole)
-    (slots_more net rows (ranks_made net blocks) c.args.slots.now k _ _ c.requires.slots c.requires.arc (sym c.take_slot-forth_slot.ensures.value ∙ es) (sym c.take_slot-back_slot.ensures.value ∙ et))
+    subst (AreWritten net rows.slots (ranks_made net blocks) (k + 1)) (sym whole)
+    (slots_more net rows.slots (ranks_made net blocks) c.args.slots.now k _ _ c.requires.slots c.requires.arc (sym c.take_slot-forth_slot.ensures.value ∙ es) (sym c.take_slot-back_slot.ensures.value ∙ et))
 
 pub returns-then-from-to-clause-lists : goal.returns-then-from-to-clause-lists
 returns-then-from-to-clause-lists c =
@@ -648,8 +649,8 @@ returns-else-from-to-clause-slots c =
     let et : c.take_slot-back_slot-else-from-to.result ≡ slice_index rows.slots (index_of net y) = omega (arith, c.take_slot-back_slot-else-from-to.ensures.value, there, ry, bz, sy.slot) in
     let second = c.take_slot-back_slot-else-from-to.ensures.slots in
     let whole = written_twice net c.args.slots.now c.take_slot-forth_slot-else-from-to.new.slots c.take_slot-back_slot-else-from-to.new.slots k (length c.arcs-arcs.result.now) _ _ em c.take_slot-forth_slot-else-from-to.ensures.slots second in
-    subst (AreSlots net rows (ranks_made net blocks) (k + 1)) (sym whole)
-    (slots_more net rows (ranks_made net blocks) c.args.slots.now k _ _ c.requires.slots c.requires.arc (sym c.take_slot-forth_slot-else-from-to.ensures.value ∙ es) (sym c.take_slot-back_slot-else-from-to.ensures.value ∙ et))
+    subst (AreWritten net rows.slots (ranks_made net blocks) (k + 1)) (sym whole)
+    (slots_more net rows.slots (ranks_made net blocks) c.args.slots.now k _ _ c.requires.slots c.requires.arc (sym c.take_slot-forth_slot-else-from-to.ensures.value ∙ es) (sym c.take_slot-back_slot-else-from-to.ensures.value ∙ et))
 
 pub returns-else-from-to-clause-lists : goal.returns-else-from-to-clause-lists
 returns-else-from-to-clause-lists c =

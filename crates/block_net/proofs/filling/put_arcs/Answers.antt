@@ -1,7 +1,8 @@
 use Rattle.std.proofs.Common.{◌≡◌, length, ap, arith}
 use Rattle.block_net.specs.Split.{directions, rows_made, ranks_made}
 use Rattle.block_net.proofs.Tables.{length_table}
-use Rattle.block_net.proofs.Held.{ready_made, slots_none, slots_all, held_none, held_all}
+use Rattle.block_net.proofs.Written.{slots_none, slots_all}
+use Rattle.block_net.proofs.Held.{ready_made, held_none, held_all}
 use Rattle.block_net.proofs.filling.put_arcs.Goals as goal
 
 pub loop-arc-init : goal.loop-arc-init
@@ -9,7 +10,7 @@ loop-arc-init c =
     let net = c.args.net.now in
     let rows = rows_made net c.args.blocks in
     record {
-      slots = slots_none net rows (ranks_made net c.args.blocks) c.args.slots.now c.requires.slots (length_table (directions net) _);
+      slots = slots_none net rows.slots (ranks_made net c.args.blocks) c.args.slots.now c.requires.slots (length_table (directions net) _);
       lists = held_none net c.args.blocks rows c.args.lists.now c.requires.lists;
     }
 
@@ -29,6 +30,6 @@ returns c =
     let ready = ready_made net c.args.blocks c.requires.net c.requires.split in
     let all : c.loop-arc.arc ≡ length net.arcs = omega (arith, ap length c.arcs-arc-end.ensures.value) in
     record {
-      slots = slots_all net c.args.blocks c.loop-arc.arc rows (ranks_made net c.args.blocks) c.loop-arc.slots ready.rows_are c.loop-arc.invariant.slots all;
+      slots = slots_all net c.loop-arc.arc rows.slots (ranks_made net c.args.blocks) c.loop-arc.slots ready.rows_are.slots_len c.loop-arc.invariant.slots all;
       lists = held_all net c.args.blocks c.loop-arc.arc rows c.loop-arc.lists ready all c.loop-arc.invariant.lists;
     }
