@@ -48,3 +48,6 @@ returns-clause-table g c = λ cost answers.
     (to_z-of_z w64 c.pair_cost-second_alone.result second_alone ∙ c.pair_cost-second_alone.ensures.cost cost answers)
     (to_z-of_z w64 c.pair_cost-first_alone.result first_alone ∙ c.pair_cost-first_alone.ensures.cost cost answers)
     (to_z-of_z w64 c.pair_cost-both.result both ∙ c.pair_cost-both.ensures.cost cost answers)
+
+pub pair_cost-both-requires-clause-inside : goal.pair_cost-both-requires-clause-inside
+pair_cost-both-requires-clause-inside g c = (c.requires.first.1, c.requires.second.1)

@@ -1,6 +1,7 @@
 use Rattle.std.proofs.Common.{rules, ◌∙◌, ap, true, refl}
 use Rattle.labellings.specs.Moves.{label_in}
-use Rattle.move_energy.proofs.Values.{first_adds, second_adds, none_adds, ends_fit}
+use Rattle.move_energy.proofs.Values.{first_adds, second_adds, none_adds, ends_fit, label_below}
+use Rattle.move_energy.proofs.Steps.{longer_still}
 use Rattle.move_energy.proofs.ends.add_ends.Goals as goal
 
 pub returns-then-is_open-clause-adds : goal.returns-then-is_open-clause-adds
@@ -63,7 +64,10 @@ pub add_first-requires-clause-weight : goal.add_first-requires-clause-weight
 add_first-requires-clause-weight g c = c.requires.weight
 
 pub add_first-requires-clause-inside : goal.add_first-requires-clause-inside
-add_first-requires-clause-inside g c = search rules
+add_first-requires-clause-inside g c = (
+  c.requires.inside.0,
+  label_below _ c.args.change c.args.second.label c.label-other.result c.bit.result c.requires.change c.requires.inside.1 c.label-other.ensures,
+)
 
 pub add_first-requires-clause-change : goal.add_first-requires-clause-change
 add_first-requires-clause-change g c = c.requires.change
@@ -78,7 +82,7 @@ pub returns-then-is_open-clause-longer : goal.returns-then-is_open-clause-longer
 returns-then-is_open-clause-longer g c = c.add_first.ensures.longer
 
 pub returns-then-not-is_open-clause-longer : goal.returns-then-not-is_open-clause-longer
-returns-then-not-is_open-clause-longer g c = search rules
+returns-then-not-is_open-clause-longer g c = longer_still _
 
 pub add_second-requires-clause-smooth : goal.add_second-requires-clause-smooth
 add_second-requires-clause-smooth g c = c.requires.smooth
@@ -87,7 +91,10 @@ pub add_second-requires-clause-weight : goal.add_second-requires-clause-weight
 add_second-requires-clause-weight g c = c.requires.weight
 
 pub add_second-requires-clause-inside : goal.add_second-requires-clause-inside
-add_second-requires-clause-inside g c = search rules
+add_second-requires-clause-inside g c = (
+  c.requires.inside.1,
+  label_below _ c.args.change c.args.first.label c.label-other-2.result c.bit-2.result c.requires.change c.requires.inside.0 c.label-other-2.ensures,
+)
 
 pub add_second-requires-clause-change : goal.add_second-requires-clause-change
 add_second-requires-clause-change g c = c.requires.change

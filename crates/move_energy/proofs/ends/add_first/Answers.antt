@@ -1,7 +1,7 @@
-use Rattle.std.proofs.Common.{◌*◌, ◌∙◌, ap, pos, Bool, w64, FitsSigned}
+use Rattle.std.proofs.Common.{◌*◌, ◌∙◌, ap, pos, Bool, w64, FitsSigned, true, false}
 use Rattle.std.proofs.lemmas.Int.{to_z-of_z}
 use Rattle.labellings.specs.Moves.{label_in}
-use Rattle.move_energy.proofs.Values.{one_adds}
+use Rattle.move_energy.proofs.Values.{one_adds, label_below}
 use Rattle.move_energy.proofs.Steps.{longer_term}
 use Rattle.move_energy.proofs.ends.add_first.Goals as goal
 
@@ -33,3 +33,12 @@ pair_cost-turns-requires-clause-weight g c = c.requires.weight
 
 pub add_one-requires-clause-bounded : goal.add_one-requires-clause-bounded
 add_one-requires-clause-bounded g c = c.requires.bounded
+
+pub pair_cost-stays-requires-clause-inside : goal.pair_cost-stays-requires-clause-inside
+pair_cost-stays-requires-clause-inside g c = (label_below _ c.args.change c.args.end.label c.label.result false c.requires.change c.requires.inside.0 c.label.ensures, c.requires.inside.1)
+
+pub pair_cost-turns-requires-clause-inside : goal.pair_cost-turns-requires-clause-inside
+pair_cost-turns-requires-clause-inside g c = (label_below _ c.args.change c.args.end.label c.label-2.result true c.requires.change c.requires.inside.0 c.label-2.ensures, c.requires.inside.1)
+
+pub add_one-requires-clause-first : goal.add_one-requires-clause-first
+add_one-requires-clause-first g c = c.requires.variable
