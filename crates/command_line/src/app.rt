@@ -5,6 +5,7 @@ ghost use Rattle.command_line.specs.App.{Makes, gco_app, requiring_subcommand};
 ghost use Rattle.command_line.specs.Tables.{AddsChapters, app_for, with_chapters};
 
 use crate::help;
+use crate::help::After;
 use crate::rules::{Choice, RESTORE, SEGMENT, STEREO, with_options};
 use clap::Command;
 use std::alloc::{AllocError, Global};
@@ -14,7 +15,7 @@ pub(crate) struct Chapter {
     pub(crate) name: &'static str,
     pub(crate) about: &'static str,
     /// What help says after the options.
-    pub(crate) after: &'static str,
+    pub(crate) after: After,
     pub(crate) options: &'static [Choice],
 }
 
@@ -23,31 +24,31 @@ const CHAPTERS: &[Chapter] = &[
     Chapter {
         name: "restore",
         about: help::RESTORE,
-        after: help::RESTORE_AFTER,
+        after: After::Restore,
         options: RESTORE,
     },
     Chapter {
         name: "stereo",
         about: help::STEREO,
-        after: help::STEREO_AFTER,
+        after: After::Stereo,
         options: STEREO,
     },
     Chapter {
         name: "segment",
         about: help::SEGMENT,
-        after: help::SEGMENT_AFTER,
+        after: After::Segment,
         options: SEGMENT,
     },
     Chapter {
         name: "energy",
         about: help::ENERGY,
-        after: help::ENERGY_AFTER,
+        after: After::Energy,
         options: &[],
     },
     Chapter {
         name: "label",
         about: help::LABEL,
-        after: help::LABEL_AFTER,
+        after: After::Label,
         options: &[],
     },
 ];
@@ -97,6 +98,6 @@ fn chapter_command<'a>(alloc: Global, chapter: &Chapter) -> Result<Command<'a>, 
 {
     let command = Command::new(alloc, chapter.name)
         .about(chapter.about)
-        .after_help(chapter.after);
+        .after_help(chapter.after.text());
     with_options(alloc, command, chapter.options)
 }

@@ -17,11 +17,33 @@ Example:
 
 `gco COMMAND --help` says what a command reads and writes.";
 
+/// The command whose help has a text after the options.
+pub enum After {
+    Restore,
+    Stereo,
+    Segment,
+    Energy,
+    Label,
+}
+
+impl After {
+    /// What the command reads and writes.
+    pub fn text(&self) -> &'static str {
+        match self {
+            After::Restore => RESTORE_AFTER,
+            After::Stereo => STEREO_AFTER,
+            After::Segment => SEGMENT_AFTER,
+            After::Energy => ENERGY_AFTER,
+            After::Label => LABEL_AFTER,
+        }
+    }
+}
+
 /// What `gco restore` is.
 pub const RESTORE: &str = "Restores a picture: reads one PGM image, writes one";
 
 /// What `gco restore` reads and writes.
-pub const RESTORE_AFTER: &str = "\
+const RESTORE_AFTER: &str = "\
 Reads a PGM image of at most 256 grey levels and writes one of the same size and levels: each pixel gets a
 level near its own, with few and small jumps between neighbours. The energy is the sum of the differences
 between old and new levels, plus the weight times the cost of each two neighbours' levels. It is made
@@ -38,7 +60,7 @@ pub const STEREO: &str =
     "Matches two pictures: reads the left and the right PGM image, writes how far each pixel moved";
 
 /// What `gco stereo` reads and writes.
-pub const STEREO_AFTER: &str = "\
+const STEREO_AFTER: &str = "\
 Reads two PGM images of one size, the left one first, and writes an image with a label for each pixel of the
 left one: label l says that it stands l columns further left in the right one. A label costs the difference
 of the two samples, or the cap where that is less or no such column is there, plus the weight times the
@@ -54,7 +76,7 @@ pub const SEGMENT: &str =
     "Parts a picture in two: reads a PGM image and one of seeds, writes one of 0 and 1";
 
 /// What `gco segment` reads and writes.
-pub const SEGMENT_AFTER: &str = "\
+const SEGMENT_AFTER: &str = "\
 Reads two PGM images of one size, the picture and then its seeds (0 free, 1 label 0, 2 label 1), and writes
 an image with the label of each pixel. A free pixel's label costs its difference from the low sample (label
 0) or the high one (label 1), a seed's other label 10000000. Two neighbours of unlike labels cost `strong`,
@@ -97,7 +119,7 @@ pub const EDGE: &str = "Greatest difference of samples that is no edge, 0 to 655
 pub const ENERGY: &str = "The least value of an energy of yes-no variables, and where it stands";
 
 /// What `gco energy` reads and writes.
-pub const ENERGY_AFTER: &str = "\
+const ENERGY_AFTER: &str = "\
 Reads a TOML file: the number of variables, a constant, and terms of one, two or three variables
 with the table of their values. Each term has to be regular.
 
@@ -116,7 +138,7 @@ prints
 pub const LABEL: &str = "A labelling of low energy, by expansions of labels or swaps of two";
 
 /// What `gco label` reads and writes.
-pub const LABEL_AFTER: &str = "\
+const LABEL_AFTER: &str = "\
 Reads a TOML file: the numbers of sites and labels, the cost of each label at each site (data), the cost
 of two labels at the sites of a pair (smooth, trunc), the pairs with their weights (pairs), the
 labelling to start from (start), and the moves to make (moves, cycles). What is left out has a default,
