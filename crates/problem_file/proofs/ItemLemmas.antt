@@ -1,6 +1,7 @@
 -- Reading a list of terms, item by item.
-use Rattle.std.proofs.Common.{◌≡◌, ℕ, ◌+◌, ◌<◌, ◌≤◌, List, [], ◌∷◌, ◌++◌, length, length-append, nat_le, true, false, codes, Some, get_or, drop, Result, Ok, Err, refl, ap, ◌∙◌, arith, append_assoc, suc}
+use Rattle.std.proofs.Common.{◌≡◌, ℕ, ◌+◌, ◌<◌, ◌≤◌, List, [], ◌∷◌, ◌++◌, length, length-append, append-nil, nat_le, true, false, codes, Some, get_or, drop, Result, Ok, Err, refl, ap, ◌∙◌, arith, append_assoc, suc}
 use Rattle.std.proofs.lemmas.Bool.Decides.{nat_tests}
+use Rattle.std.proofs.lemmas.List.{drop_all}
 use Rattle.toml.specs.Data.{Data, Members, as_array, get_member}
 use Rattle.toml.specs.View.{items_view, view}
 use Rattle.toml.specs.declared.value.Value.{Value}
@@ -10,7 +11,7 @@ use Rattle.pseudo_bool.specs.declared.term.Term.{Term}
 use Rattle.pseudo_bool.specs.Formula.{Formula}
 use Rattle.problem_file.specs.declared.fault.ProblemFault.{ProblemFault}
 use Rattle.problem_file.specs.declared.fault.ProblemFault.TheVariants.{TooManyTerms}
-use Rattle.problem_file.specs.Added.{Gains}
+use Rattle.problem_file.specs.Added.{Gains, GainsAll, IsFirstOf}
 use Rattle.problem_file.specs.Problem.{and_then, item_count, term_at, terms_from, terms_in}
 
 -- the terms that stand, and those that the items from place i on name
@@ -48,6 +49,29 @@ read_step start now new vs i v within at read gain =
     ≡ and_then (term_at now.variables i (view v)) (λ term. and_then (terms_from start.variables (i + 1) (items_view (drop (i + 1) vs))) (λ terms. Ok (term ∷ terms)))
     = rw (items_view-drop vs i v within, ← at, variables) refl in
     record { count = omega (arith, step.count, read.count); same = step.same; whole = read.whole ∙ ap (with_rest now.terms) here ∙ step.whole }
+
+-- at first no item is read
+with_none : (rest : Result (List Term) ProblemFault) → rest ≡ with_rest [] rest
+with_none (Err fault) = refl
+with_none (Ok terms) = refl
+
+pub none_read : (start : Formula) (vs : List Value) → start.terms ≡ [] → HasRead start start vs 0
+none_read start vs empty =
+    record { count = rw empty refl; same = refl; whole = rw empty (with_none (terms_from start.variables 0 (items_view vs))) }
+
+-- at the end all are
+pub all_read : (start now : Formula) (vs : List Value) (i : ℕ) → start.terms ≡ [] → length vs ≤ i → HasRead start now vs i
+    → GainsAll start now (terms_from start.variables 0 (items_view vs))
+all_read start now vs i empty over read = rw (read.whole, drop_all i vs over, empty, append-nil) read.same
+
+-- the first fault of an item is that of the whole
+pub first_fault : (start now : Formula) (vs : List Value) (i : ℕ) (v : Value) (fault : ProblemFault) → i < length vs → v ≡ get_or vs i v
+    → HasRead start now vs i → IsFirstOf (term_at now.variables i (view v)) fault
+    → IsFirstOf (terms_from start.variables 0 (items_view vs)) fault
+first_fault start now vs i v fault within at read first = λ memory.
+    let variables : now.variables ≡ start.variables = ap (λ (e : Formula). e.variables) read.same in
+    let found : term_at start.variables i (view v) ≡ Err fault = rw variables at (first memory) in
+    rw (read.whole, items_view-drop vs i v within, ← at, found) refl
 
 item_count-items_view : (vs : List Value) → item_count (items_view vs) ≡ length vs
 item_count-items_view [] = refl
