@@ -1,4 +1,4 @@
-use Rattle.std.proofs.Common.{◌≡◌, ◌≤◌, ◌++◌, ◌+◌, [], arith, refl, sym, ap, ◌∙◌, append_assoc, length, length-append}
+use Rattle.std.proofs.Common.{◌≡◌, ◌≤◌, ◌++◌, ◌+◌, [], ℕ, arith, refl, sym, ap, ◌∙◌, append_assoc, length, length-append}
 use Rattle.std.proofs.lemmas.List.{take-append-drop}
 use Rattle.std.proofs.lemmas.List.Elements.{All-take, All-drop}
 use Rattle.std.proofs.KnownBytes.{Appends-nil, Appends-trans}
@@ -15,8 +15,7 @@ raster_of-piece-requires-clause-small g c = rw c.split_at.ensures.front (All-tak
 
 pub put_piece-requires : goal.put_piece-requires
 put_piece-requires g c =
-    let e = ap length (c.as_slice.ensures.value ∙ c.raster_of-piece.ensures) in
-    let n = ap length c.split_at.ensures.front in
+    let e : length c.as_slice.result.now ≡ length (raster c.args.maxval c.split_at.result.0.now) = ap (length {A = ℕ}) (c.as_slice.ensures.value ∙ c.raster_of-piece.ensures) in
     omega (arith, raster_length c.args.maxval c.split_at.result.0.now, c.split_at.ensures.front_len, c.split_at.ensures.back_len, c.loop-rest.invariant.4)
 
 pub loop-rest-preserved : goal.loop-rest-preserved
