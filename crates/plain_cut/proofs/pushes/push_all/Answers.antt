@@ -1,6 +1,7 @@
 use Rattle.plain_cut.specs.State.{IsSteps}
 use Rattle.plain_cut.proofs.Steps.{steps_more}
 use Rattle.plain_cut.proofs.Passes.{pass_stuck}
+use Rattle.std.proofs.lemmas.Result.{IfOk-from_err}
 use Rattle.plain_cut.proofs.pushes.push_all.Goals as goal
 
 pub returns : goal.returns
@@ -16,3 +17,13 @@ returns c =
           c.in_ok-push_out.ensures.push c.in_ok-push_out.ensures.spent
           c.in_ok-push_into.ensures.push c.in_ok-push_into.ensures.arcs c.in_ok-push_into.ensures.spent;
     }
+
+pub returns-in_err-push_out : goal.returns-in_err-push_out
+returns-in_err-push_out c =
+    let e = c.from_residual.ensures.0 in
+    record { steps = IfOk-from_err _ _ e; stuck = IfOk-from_err _ _ e }
+
+pub returns-in_err-push_into : goal.returns-in_err-push_into
+returns-in_err-push_into c =
+    let e = c.from_residual-in_err-push_into.ensures.0 in
+    record { steps = IfOk-from_err _ _ e; stuck = IfOk-from_err _ _ e }

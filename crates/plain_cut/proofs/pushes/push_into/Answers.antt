@@ -8,6 +8,7 @@ use Rattle.plain_cut.specs.State.{IsPush, ChangesOnly}
 use Rattle.plain_cut.proofs.Steps.{steps_more}
 use Rattle.plain_cut.proofs.Passes.{push_more, spent_back_more}
 use Rattle.plain_cut.proofs.Neighbours.{into_ends, place_here, place_arc}
+use Rattle.std.proofs.lemmas.Result.{IfOk-from_err}
 use Rattle.plain_cut.proofs.pushes.push_into.Goals as goal
 
 pub into-preserved : goal.into-preserved
@@ -62,3 +63,29 @@ index-requires-in-into c = omega (arith, place_here (nodes c.args.net.now) (leng
 
 pub try_push_back-requires-clause-arc : goal.try_push_back-requires-clause-arc
 try_push_back-requires-clause-arc c = place_arc (nodes c.args.net.now) (length c.args.net.now.arcs) (λ k. (arc_at c.args.net.now k).to) c.args.adjacency.now.into (into_ends c.args.net.now c.args.adjacency.now c.requires.adjacency) c.args.v c.into.p c.index-p.result.now c.index-p-end.result.now c.index-in-into.result.now c.requires.node c.index-p.ensures c.index-p-end.ensures c.index-in-into.ensures c.into.auto.p c.into-test.true
+
+pub returns-in_err-try_push_back : goal.returns-in_err-try_push_back
+returns-in_err-try_push_back c =
+    let e = c.from_residual.ensures.0 in
+    record { steps = IfOk-from_err _ _ e; push = IfOk-from_err _ _ e; arcs = IfOk-from_err _ _ e; spent = IfOk-from_err _ _ e }
+
+pub try_push_back-requires-clause-work : goal.try_push_back-requires-clause-work
+try_push_back-requires-clause-work c = c.into.invariant.steps.work
+
+pub returns-then-index-eq0-clause-steps : goal.returns-then-index-eq0-clause-steps
+returns-then-index-eq0-clause-steps c = c.into.invariant.steps
+
+pub returns-then-index-eq0-clause-push : goal.returns-then-index-eq0-clause-push
+returns-then-index-eq0-clause-push c = c.into.invariant.push
+
+pub returns-then-index-eq0-clause-arcs : goal.returns-then-index-eq0-clause-arcs
+returns-then-index-eq0-clause-arcs c = c.into.invariant.arcs
+
+pub returns-clause-steps : goal.returns-clause-steps
+returns-clause-steps c = c.into.invariant.steps
+
+pub returns-clause-push : goal.returns-clause-push
+returns-clause-push c = c.into.invariant.push
+
+pub returns-clause-arcs : goal.returns-clause-arcs
+returns-clause-arcs c = c.into.invariant.arcs

@@ -8,6 +8,7 @@ use Rattle.plain_cut.specs.State.{IsPush, ChangesOnly}
 use Rattle.plain_cut.proofs.Steps.{steps_more}
 use Rattle.plain_cut.proofs.Passes.{push_more, spent_more}
 use Rattle.plain_cut.proofs.Neighbours.{out_ends, place_here, place_arc}
+use Rattle.std.proofs.lemmas.Result.{IfOk-from_err}
 use Rattle.plain_cut.proofs.pushes.push_out.Goals as goal
 
 pub out-preserved : goal.out-preserved
@@ -61,3 +62,23 @@ index-requires-in-out c = omega (arith, place_here (nodes c.args.net.now) (lengt
 
 pub try_push_forward-requires-clause-arc : goal.try_push_forward-requires-clause-arc
 try_push_forward-requires-clause-arc c = place_arc (nodes c.args.net.now) (length c.args.net.now.arcs) (λ k. (arc_at c.args.net.now k).from) c.args.adjacency.now.out (out_ends c.args.net.now c.args.adjacency.now c.requires.adjacency) c.args.v c.out.p c.index-p.result.now c.index-p-end.result.now c.index-in-out.result.now c.requires.node c.index-p.ensures c.index-p-end.ensures c.index-in-out.ensures c.out.auto.p c.out-test.true
+
+pub returns-in_err-try_push_forward : goal.returns-in_err-try_push_forward
+returns-in_err-try_push_forward c =
+    let e = c.from_residual.ensures.0 in
+    record { steps = IfOk-from_err _ _ e; push = IfOk-from_err _ _ e; spent = IfOk-from_err _ _ e }
+
+pub try_push_forward-requires-clause-work : goal.try_push_forward-requires-clause-work
+try_push_forward-requires-clause-work c = c.out.invariant.steps.work
+
+pub returns-then-index-eq0-clause-steps : goal.returns-then-index-eq0-clause-steps
+returns-then-index-eq0-clause-steps c = c.out.invariant.steps
+
+pub returns-then-index-eq0-clause-push : goal.returns-then-index-eq0-clause-push
+returns-then-index-eq0-clause-push c = c.out.invariant.push
+
+pub returns-clause-steps : goal.returns-clause-steps
+returns-clause-steps c = c.out.invariant.steps
+
+pub returns-clause-push : goal.returns-clause-push
+returns-clause-push c = c.out.invariant.push

@@ -2,6 +2,7 @@ use Rattle.std.proofs.lemmas.Grind.{common_steps}
 use Rattle.std.proofs.Common.{arith, rules}
 use Rattle.plain_cut.specs.State.{IsSteps}
 use Rattle.plain_cut.proofs.Steps.{steps_more, steps_one}
+use Rattle.std.proofs.lemmas.Result.{IfOk-from_err}
 use Rattle.plain_cut.proofs.turns.discharge.Goals as goal
 
 pub steps-preserved : goal.steps-preserved
@@ -26,3 +27,31 @@ relabel-requires-clause-stuck c = c.steps.invariant.stuck (grind (arith, common_
 
 pub returns-after-steps-clause-done : goal.returns-after-steps-clause-done
 returns-after-steps-clause-done c = search rules
+
+pub push_all-requires : goal.push_all-requires
+push_all-requires c = record { adjacency = c.requires.adjacency; work = c.requires.work; node = c.requires.node }
+
+pub returns-in_err-push_all : goal.returns-in_err-push_all
+returns-in_err-push_all c =
+    let e = c.from_residual.ensures.0 in
+    record { steps = IfOk-from_err _ _ e; done = IfOk-from_err _ _ e }
+
+pub steps-init : goal.steps-init
+steps-init c = record { steps = c.in_ok-push_all.ensures.steps; stuck = c.in_ok-push_all.ensures.stuck }
+
+pub steps-smaller : goal.steps-smaller
+steps-smaller c = omega (arith, c.relabel.ensures.lower, c.in_ok-push_all-2.ensures.steps.fall)
+
+pub push_all-requires-in-steps : goal.push_all-requires-in-steps
+push_all-requires-in-steps c = record { adjacency = c.requires.adjacency; work = c.relabel.ensures.work; node = c.requires.node }
+
+pub returns-in_err-push_all-2 : goal.returns-in_err-push_all-2
+returns-in_err-push_all-2 c =
+    let e = c.from_residual-in_err-push_all-2.ensures.0 in
+    record { steps = IfOk-from_err _ _ e; done = IfOk-from_err _ _ e }
+
+pub returns-else-index-top-clause-steps : goal.returns-else-index-top-clause-steps
+returns-else-index-top-clause-steps c = c.steps.invariant.steps
+
+pub returns-after-steps-clause-steps : goal.returns-after-steps-clause-steps
+returns-after-steps-clause-steps c = c.steps.invariant.steps

@@ -3,6 +3,7 @@ use Rattle.flow_network.specs.Cut.{nodes}
 use Rattle.plain_cut.specs.State.{left}
 use Rattle.plain_cut.proofs.Steps.{turn_lowers, round_lowers}
 use Rattle.plain_cut.proofs.Queue.{pop_queued, pop_work, done_queued}
+use Rattle.std.proofs.lemmas.Result.{IfOk-from_err}
 use Rattle.plain_cut.proofs.turns.run.Goals as goal
 
 pub discharge-requires-clause-work : goal.discharge-requires-clause-work
@@ -39,3 +40,22 @@ turns-smaller-in-Continue-branch-2 c =
     round_lowers (nodes net) (left net old + old.relabels) (left net new + new.relabels)
     (left net old + length old.queue.items) (left net new + length new.queue.items)
     (omega (arith, steps.counted, round.counted, c.if-work-most.true)) (omega (arith, steps.fall, round.fall, round.queue))
+
+pub turns-init : goal.turns-init
+turns-init c = (c.requires.work, c.requires.queued)
+
+pub returns-in_err-discharge : goal.returns-in_err-discharge
+returns-in_err-discharge c =
+    let e = c.from_residual.ensures.0 in
+    record { work = IfOk-from_err _ _ e; done = IfOk-from_err _ _ e }
+
+pub begin_round-requires-clause-work : goal.begin_round-requires-clause-work
+begin_round-requires-clause-work c = c.in_ok-discharge.ensures.steps.work
+
+pub turns-preserved-in-Continue-branch-2 : goal.turns-preserved-in-Continue-branch-2
+turns-preserved-in-Continue-branch-2 c = (c.in_ok-begin_round.ensures.round.work, c.in_ok-begin_round.ensures.round.queued)
+
+pub returns-in_err-begin_round : goal.returns-in_err-begin_round
+returns-in_err-begin_round c =
+    let e = c.from_residual-in_err-begin_round.ensures.0 in
+    record { work = IfOk-from_err _ _ e; done = IfOk-from_err _ _ e }
