@@ -1,12 +1,12 @@
--- The fault of a job as a fault of the input that names it.
-use Rattle.std.proofs.Common.{ℕ, ◌≤◌, List, Result, Ok, Err, MatchResult, IfErr, refl}
+-- What a job makes, and its fault, as those of the input that names it.
+use Rattle.std.proofs.Common.{ℕ, ◌≤◌, List, Result, Ok, Err, MatchResult, IfOk, IfErr, refl}
 use Rattle.pgm_image.specs.Picture.{Picture}
 use Rattle.image_options.specs.declared.options.RestoreOptions.{RestoreOptions}
 use Rattle.image_options.specs.declared.options.StereoOptions.{StereoOptions}
 use Rattle.image_options.specs.declared.options.SegmentOptions.{SegmentOptions}
 use Rattle.vision.specs.Faults.{HasRunFault, HasRestoreFault, HasStereoFault, HasSegmentFault}
-use Rattle.vision.specs.Inputs.{HoldsPicture, HoldsTwo, SameSizes, AreSeeds}
-use Rattle.vision.specs.Jobs.{IsFinished, restore_job, stereo_job, segment_job}
+use Rattle.vision.specs.Inputs.{HoldsPicture, HoldsTwo, SameSizes, AreSeeds, IsRestoreJob, IsStereoJob, IsSegmentJob}
+use Rattle.vision.specs.Jobs.{Job, IsFinished, restore_job, stereo_job, segment_job}
 use Rattle.vision.specs.declared.error.VisionError.{VisionError}
 use Rattle.vision.specs.declared.error.VisionError.TheVariants.{OutOfMemory, Image, SizesDiffer, BadSeed, TooManyLevels, Move, Write}
 use Rattle.vision.specs.declared.job.Finished.{Finished}
@@ -55,3 +55,18 @@ pub segment_refused : (o : SegmentOptions) (input : List ℕ) (p seeds : Picture
     → AreSeeds seeds → MatchResult r (IsFinished (segment_job o p seeds)) (HasRunFault (segment_job o p seeds)) → IfErr r (HasSegmentFault o input)
 segment_refused o input p seeds (Ok f) held sizes marks h = tt
 segment_refused o input p seeds (Err e) held sizes marks h = segment_fault o input p seeds e held sizes marks h
+
+pub restore_finished : (o : RestoreOptions) (input : List ℕ) (p : Picture) (r : Result Finished VisionError) → HoldsPicture input p → p.maxval ≤ 255
+    → MatchResult r (IsFinished (restore_job o p)) (HasRunFault (restore_job o p)) → IfOk r (λ (f : Finished). (job : Job) × IsRestoreJob o input job × IsFinished job f)
+restore_finished o input p (Ok f) held levels h = (restore_job o p, (p, held, levels, refl), h)
+restore_finished o input p (Err e) held levels h = tt
+
+pub stereo_finished : (o : StereoOptions) (input : List ℕ) (a b : Picture) (r : Result Finished VisionError) → HoldsTwo input a b → SameSizes a b
+    → MatchResult r (IsFinished (stereo_job o a b)) (HasRunFault (stereo_job o a b)) → IfOk r (λ (f : Finished). (job : Job) × IsStereoJob o input job × IsFinished job f)
+stereo_finished o input a b (Ok f) held sizes h = (stereo_job o a b, (a, b, held, sizes, refl), h)
+stereo_finished o input a b (Err e) held sizes h = tt
+
+pub segment_finished : (o : SegmentOptions) (input : List ℕ) (p seeds : Picture) (r : Result Finished VisionError) → HoldsTwo input p seeds → SameSizes p seeds → AreSeeds seeds
+    → MatchResult r (IsFinished (segment_job o p seeds)) (HasRunFault (segment_job o p seeds)) → IfOk r (λ (f : Finished). (job : Job) × IsSegmentJob o input job × IsFinished job f)
+segment_finished o input p seeds (Ok f) held sizes marks h = (segment_job o p seeds, (p, seeds, held, sizes, marks, refl), h)
+segment_finished o input p seeds (Err e) held sizes marks h = tt

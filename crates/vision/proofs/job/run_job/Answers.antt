@@ -28,3 +28,25 @@ pub returns-in_err-run-clause-cut : goal.returns-in_err-run-clause-cut
 returns-in_err-run-clause-cut g c =
     let p = err_from_is_err_and c.from_residual-in_err-run.result c.from_residual-in_err-run.ensures.1 in
     rw (p.1, p.2) (run_may_come (g.H.How.refuses c.args.how.now) _ c.in_err-run.ensures.refused)
+
+pub returns-in_err-start : goal.returns-in_err-start
+returns-in_err-start g c =
+    let p = err_from_is_err_and c.from_residual.result c.from_residual.ensures.1 in
+    record { run = λ m is. rw (p.1, p.2) tt; cut = rw (p.1, p.2) tt; metric = λ metric m is. rw (p.1, p.2) (λ tells. tells) }
+
+pub returns-in_err-finish : goal.returns-in_err-finish
+returns-in_err-finish g c =
+    let p = err_from_is_err_and c.from_residual-in_err-finish.result c.from_residual-in_err-finish.ensures.1 in
+    record { run = λ m is. rw (p.1, p.2) tt; cut = rw (p.1, p.2) tt; metric = λ metric m is. rw (p.1, p.2) (λ tells. tells) }
+
+pub run_with_table-requires-clause-ready : goal.run_with_table-requires-clause-ready
+run_with_table-requires-clause-ready g c = c.requires.ready
+
+pub run_with_table-requires-clause-costs : goal.run_with_table-requires-clause-costs
+run_with_table-requires-clause-costs g c = c.requires.costs
+
+pub returns-clause-cut : goal.returns-clause-cut
+returns-clause-cut g c = tt
+
+pub returns-clause-metric : goal.returns-clause-metric
+returns-clause-metric g c = λ metric m is. tt
