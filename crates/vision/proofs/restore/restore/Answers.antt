@@ -9,6 +9,7 @@ use Rattle.vision.specs.Jobs.{IsFinished, job_of}
 use Rattle.vision.specs.Problems.{restore_problem}
 use Rattle.vision.specs.declared.job.Plan.{Plan}
 use Rattle.vision.proofs.Metrics.{shape_metric_table}
+use Rattle.std.proofs.lemmas.Result.{err_from_is_err_and}
 use Rattle.vision.proofs.restore.restore.Goals as goal
 
 pub returns-clause-run : goal.returns-clause-run
@@ -45,3 +46,16 @@ returns-clause-metric g c = λ apart.
       data_are = λ a b z la lb is. is ∙ ap (λ xs. pos (distance (slice_index xs a) b)) c.samples-samples.ensures.value;
       smooth_are = table;
     }))
+
+pub returns-in_err-smooth : goal.returns-in_err-smooth
+returns-in_err-smooth g c =
+    let p = err_from_is_err_and c.from_residual.result c.from_residual.ensures.1 in
+    record { run = rw (p.1, p.2) tt; cut = rw (p.1, p.2) tt; metric = λ apart. rw (p.1, p.2) (λ tells. tells) }
+
+pub returns-in_err-pairs : goal.returns-in_err-pairs
+returns-in_err-pairs g c =
+    let p = err_from_is_err_and c.from_residual-in_err-pairs.result c.from_residual-in_err-pairs.ensures.1 in
+    record { run = rw (p.1, p.2) tt; cut = rw (p.1, p.2) tt; metric = λ apart. rw (p.1, p.2) (λ tells. tells) }
+
+pub returns-clause-cut : goal.returns-clause-cut
+returns-clause-cut g c = c.run_job.ensures.cut

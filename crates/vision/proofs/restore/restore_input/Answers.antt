@@ -35,3 +35,9 @@ returns-clause-cut g c = c.restore.ensures.cut
 
 pub returns-clause-metric : goal.returns-clause-metric
 returns-clause-metric g c = c.restore.ensures.metric
+
+pub restore-requires-clause-options : goal.restore-requires-clause-options
+restore-requires-clause-options g c = c.requires.options
+
+pub restore-requires-clause-ready : goal.restore-requires-clause-ready
+restore-requires-clause-ready g c = c.requires.ready

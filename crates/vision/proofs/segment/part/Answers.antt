@@ -6,6 +6,7 @@ use Rattle.run_options.specs.declared.shape.Shape.TheVariants.{Potts}
 use Rattle.vision.specs.Problems.{segment_problem, part_cost}
 use Rattle.vision.proofs.Metrics.{potts_metric_table}
 use Rattle.vision.proofs.Parts.{part_keeps, samples_long, samples_small}
+use Rattle.std.proofs.lemmas.Result.{err_from_is_err_and}
 use Rattle.vision.proofs.segment.part.Goals as goal
 
 pub new-data_cost-requires : goal.new-data_cost-requires
@@ -42,3 +43,16 @@ returns-clause-metric g c =
       data_are = λ a b z la lb is. is ∙ (λ k. pos (part_cost o (slice_index (c.samples-samples.ensures.value k) a) (slice_index (c.samples-marks.ensures.value k) a) b));
       smooth_are = table;
     }))
+
+pub returns-in_err-smooth : goal.returns-in_err-smooth
+returns-in_err-smooth g c =
+    let p = err_from_is_err_and c.from_residual.result c.from_residual.ensures.1 in
+    record { run = rw (p.1, p.2) tt; cut = rw (p.1, p.2) tt; metric = rw (p.1, p.2) (λ tells. tells) }
+
+pub returns-in_err-pairs : goal.returns-in_err-pairs
+returns-in_err-pairs g c =
+    let p = err_from_is_err_and c.from_residual-in_err-pairs.result c.from_residual-in_err-pairs.ensures.1 in
+    record { run = rw (p.1, p.2) tt; cut = rw (p.1, p.2) tt; metric = rw (p.1, p.2) (λ tells. tells) }
+
+pub returns-clause-cut : goal.returns-clause-cut
+returns-clause-cut g c = c.run_job.ensures.cut

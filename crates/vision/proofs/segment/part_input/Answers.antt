@@ -1,4 +1,3 @@
-use Rattle.std.proofs.Common.{rules}
 use Rattle.vision.specs.Inputs.{AreSeeds}
 use Rattle.vision.proofs.Refusing.{segment_finished, segment_refused}
 use Rattle.std.proofs.lemmas.Result.{IfOk-from_err, err_from_is_err_and}
@@ -8,7 +7,7 @@ use Rattle.vision.proofs.segment.part_input.Goals as goal
 
 pub returns-clause-refused : goal.returns-clause-refused
 returns-clause-refused g c =
-    let marks : AreSeeds c.in_ok-picture.seeds = search rules in
+    let marks : AreSeeds c.in_ok-picture.seeds = rw c.samples.ensures.value at c.in_default.ensures in
     segment_refused c.args.options.now c.args.input.now c.in_ok-picture.picture c.in_ok-picture.seeds c.part.result
     c.in_ok-picture.ensures.held.0 c.in_ok-picture.ensures.held.1 marks c.part.ensures.run
 
@@ -27,7 +26,7 @@ returns-in_err-picture-clause-metric g c =
 
 pub returns-clause-finished : goal.returns-clause-finished
 returns-clause-finished g c =
-    let marks : AreSeeds c.in_ok-picture.seeds = search rules in
+    let marks : AreSeeds c.in_ok-picture.seeds = rw c.samples.ensures.value at c.in_default.ensures in
     segment_finished c.args.options.now c.args.input.now c.in_ok-picture.picture c.in_ok-picture.seeds c.part.result c.in_ok-picture.ensures.held.0 c.in_ok-picture.ensures.held.1 marks c.part.ensures.run
 
 pub returns-clause-cut : goal.returns-clause-cut
@@ -35,3 +34,14 @@ returns-clause-cut g c = c.part.ensures.cut
 
 pub returns-clause-metric : goal.returns-clause-metric
 returns-clause-metric g c = c.part.ensures.metric
+
+pub returns-in-Some : goal.returns-in-Some
+returns-in-Some g c = record {
+  finished = tt;
+  refused = (c.in_ok-picture.picture, c.in_ok-picture.seeds, c.in_ok-picture.ensures.held.0, c.in_ok-picture.ensures.held.1, rw c.samples.ensures.value at c.in-Some.ensures);
+  cut = tt;
+  metric = λ tells. tells;
+}
+
+pub part-requires : goal.part-requires
+part-requires g c = record { options = c.requires.options; sizes = c.in_ok-picture.ensures.held.1; ready = c.requires.ready }

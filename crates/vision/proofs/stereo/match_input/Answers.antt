@@ -30,3 +30,6 @@ returns-clause-cut g c = c.match_pictures.ensures.cut
 
 pub returns-clause-metric : goal.returns-clause-metric
 returns-clause-metric g c = c.match_pictures.ensures.metric
+
+pub match_pictures-requires : goal.match_pictures-requires
+match_pictures-requires g c = record { options = c.requires.options; sizes = c.in_ok-left.ensures.held.1; ready = c.requires.ready }

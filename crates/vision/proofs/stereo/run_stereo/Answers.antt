@@ -4,6 +4,9 @@ use Rattle.vision.specs.Faults.{HasStereoFault}
 use Rattle.vision.specs.Inputs.{IsStereoJob}
 use Rattle.vision.specs.Jobs.{Job}
 use Rattle.vision.proofs.Writing.{does, leaves, told_as_write}
+use Rattle.std.proofs.lemmas.Result.{IfErr-weaker, err_from_is_err_and}
+use Rattle.vision.proofs.Coming.{stop_may_come}
+use Rattle.vision.proofs.Metrics.{stop_tells_none}
 use Rattle.vision.proofs.stereo.run_stereo.Goals as goal
 
 pub returns-in_err-finished-clause-refused : goal.returns-in_err-finished-clause-refused
@@ -30,3 +33,22 @@ pub returns-clause-unchanged : goal.returns-clause-unchanged
 returns-clause-unchanged g c =
     told_as_write (λ (count : ℕ). Stops (g.S.Sink.held c.args.sink.now) (g.S.Sink.held c.put_finished.new.sink) 0 (written c.in_ok-finished.finished.image) count)
     (c.put_finished.new.sink ≡ c.args.sink.now) c.put_finished.result c.put_finished.ensures.failed
+
+pub returns-in_err-finished-clause-cut : goal.returns-in_err-finished-clause-cut
+returns-in_err-finished-clause-cut g c =
+    let p = err_from_is_err_and c.from_residual.result c.from_residual.ensures.1 in
+    rw (p.1, p.2) c.in_err-finished.ensures.cut
+
+pub returns-in_err-finished-clause-metric : goal.returns-in_err-finished-clause-metric
+returns-in_err-finished-clause-metric g c =
+    let p = err_from_is_err_and c.from_residual.result c.from_residual.ensures.1 in
+    λ apart. rw (p.1, p.2) (c.in_err-finished.ensures.metric apart)
+
+pub returns-clause-cut : goal.returns-clause-cut
+returns-clause-cut g c = IfErr-weaker c.put_finished.result _ _ (λ e stops. stop_may_come (g.H.How.refuses c.args.how.now) _ e stops) c.put_finished.ensures.failed
+
+pub returns-clause-metric : goal.returns-clause-metric
+returns-clause-metric g c = λ apart. IfErr-weaker c.put_finished.result _ _ (λ e stops. stop_tells_none _ e stops) c.put_finished.ensures.failed
+
+pub returns-clause-kept : goal.returns-clause-kept
+returns-clause-kept g c = c.put_finished.ensures.kept
