@@ -53,7 +53,8 @@ fn send_up(cells: &mut Cells, v: usize)
     }
 }
 
-/// Gives the sink what it can take of the node's excess, and sends the rest to lower nodes.
+/// Gives the sink what it can take of the node's excess, and sends the rest to lower nodes, by its last direction
+/// first.
 fn send_down(cells: &mut Cells, v: usize)
     requires { v < count cells.old }
     ensures { Opens cells.old cells.new }
@@ -63,7 +64,7 @@ fn send_down(cells: &mut Cells, v: usize)
     }
     give(cells, v);
     let (first, end) = cells.range(v);
-    'lanes: for j in first..end {
+    'lanes: for j in (first..end).rev() {
         if cells.excess(v) == 0 {
             return;
         }
@@ -95,8 +96,8 @@ fn send_again(cells: &mut Cells, v: usize)
 }
 
 /// Three passes over the nodes of a block: by rising nodes, each sends on to higher ones; then by falling nodes, each
-/// to lower ones; then by rising nodes again, each by its last direction first. So excess goes as far as it can one
-/// way, what the sink has not taken then the other way, and what is left goes other ways.
+/// to lower ones; then by rising nodes again; the last two by each node's last direction first. So excess goes as far
+/// as it can one way, what the sink has not taken then the other way, and what is left goes other ways.
 fn open_block(cells: &mut Cells)
     ensures { Opens cells.old cells.new }
 {
