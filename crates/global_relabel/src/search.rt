@@ -219,6 +219,36 @@ fn mark_borders(
     count
 }
 
+/// Labels the nodes that have a residual direction to the node, one above its label, where there is one block: a
+/// node's place there is its number, and no direction comes from another block.
+fn mark_within(
+    split: &Split<'_>,
+    labels: &mut [u32],
+    order: &mut [u32],
+    count: usize,
+    w: usize,
+) -> usize
+    requires laid { IsLaid (whole_by split.now.net.now split.now.parts.now) }
+    requires one { length split.now.parts.now.blocks.items ≡ 1 }
+    requires node { w < nodes split.now.net.now }
+    requires len { length labels.old ≡ nodes split.now.net.now }
+    requires ready { IsReady (slice_index labels.old w + 1) (found_of labels.old order.old count) }
+    ensures grows { Grows (slice_index labels.old w + 1)
+        (LeadsTo split.now.net.now (shown (whole_by split.now.net.now split.now.parts.now)).lanes w)
+        (found_of labels.old order.old count) (found_of labels.new order.new result) }
+    ensures marked { (v : ℕ) →
+        LeadsTo split.now.net.now (shown (whole_by split.now.net.now split.now.parts.now)).lanes w v →
+        slice_index labels.new v ≤ slice_index labels.old w + 1 }
+{
+    let at = Spot {
+        node: w,
+        block: 0,
+        place: w,
+    };
+    let label = labels[w] + 1;
+    mark_lanes(split, at, labels, order, count, label)
+}
+
 /// Labels the nodes that have a residual direction to the node, one above its label.
 fn mark_into(
     split: &Split<'_>,
@@ -268,6 +298,14 @@ pub(crate) fn write_exact(state: &State, homes: &[u8], labels: &mut [u32], order
     };
     let mut count = mark_rooms(state, labels, order);
     let mut next = 0;
+    if split.parts.blocks.len() == 1 {
+        'within: while next < count {
+            let w = order[next] as usize;
+            count = mark_within(&split, labels, order, count, w);
+            next += 1;
+        }
+        return;
+    }
     'search: while next < count {
         let w = order[next] as usize;
         count = mark_into(&split, labels, order, count, w);

@@ -8,3 +8,9 @@ invariant-search l = IsExpanded l.state l.next (found_of l.labels l.order l.coun
 
 abbrev pub decreases-search : goal.decreases-search
 decreases-search l = length l.initial.labels - l.next
+
+abbrev pub invariant-within : goal.invariant-within
+invariant-within l = IsExpanded l.state l.next (found_of l.labels l.order l.count)
+
+abbrev pub decreases-within : goal.decreases-within
+decreases-within l = length l.initial.labels - l.next
