@@ -148,3 +148,65 @@ impl Gate for Open {
         true
     }
 }
+
+/// Says no to each of two blocks from turn 1 on.
+#[derive(Drop)]
+pub struct Closed {
+    first: AtomicBool,
+    second: AtomicBool,
+    calls: AtomicU32,
+    noes: AtomicU32,
+    went_on: AtomicBool,
+}
+
+impl Closed {
+    /// A gate of which no turn was called for yet.
+    pub fn new() -> Closed {
+        Closed {
+            first: AtomicBool::new(false),
+            second: AtomicBool::new(false),
+            calls: AtomicU32::new(0),
+            noes: AtomicU32::new(0),
+            went_on: AtomicBool::new(false),
+        }
+    }
+
+    /// Whether the last answer for a block was no.
+    fn of(&self, block: u32) -> &AtomicBool {
+        if block == 0 {
+            &self.first
+        } else {
+            &self.second
+        }
+    }
+
+    /// How many turns were called for.
+    pub fn calls(&self) -> u32 {
+        self.calls.load(Ordering::SeqCst)
+    }
+
+    /// How many of them got a no.
+    pub fn noes(&self) -> u32 {
+        self.noes.load(Ordering::SeqCst)
+    }
+
+    /// Whether a block called for a turn other than its first after a no.
+    pub fn went_on(&self) -> bool {
+        self.went_on.load(Ordering::SeqCst)
+    }
+}
+
+impl Gate for Closed {
+    fn pass(&self, block: u32, turn: u32) -> bool {
+        self.calls.fetch_add(1, Ordering::SeqCst);
+        if turn == 0 {
+            self.of(block).store(false, Ordering::SeqCst);
+            return true;
+        }
+        if self.of(block).swap(true, Ordering::SeqCst) {
+            self.went_on.store(true, Ordering::SeqCst);
+        }
+        self.noes.fetch_add(1, Ordering::SeqCst);
+        false
+    }
+}

@@ -1,5 +1,6 @@
 //! Tests of rounds of running workers: that their turns overlap, that a round goes on while work and turns are
-//! left, and that after rounds of any options the solver over blocks finds the one answer.
+//! left, and that after rounds of any options the solver over blocks finds the one answer. The same of the solver that
+//! makes the rounds itself.
 #![tactic(auto)]
 
 #[cfg(test)]
@@ -12,3 +13,5 @@ mod gates;
 mod overlap;
 #[cfg(test)]
 mod picture;
+#[cfg(test)]
+mod solving;

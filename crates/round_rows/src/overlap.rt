@@ -7,7 +7,7 @@ use std::test::Fail;
 use worker_options::Options;
 
 /// Two threads over two blocks, with the other options as the program has them where none is told.
-const TWO: Options = Options {
+pub const TWO: Options = Options {
     threads: 2,
     blocks: 2,
     ring: 64,
