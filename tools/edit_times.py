@@ -4,9 +4,9 @@
     python3 tools/edit_times.py [CRATE ..]
 
 To be run at the top of the repository, where the crates below those that are asked for are proved; with no
-name it takes each crate that has edits. It runs `rt must-fail CRATE`, which tries the edits of a crate one
-after the other, by name, each over the work of those before it, and at the end the crate without an edit. So
-the first edit's seconds hold a proof of the whole crate.
+name it takes each crate that has edits. It runs `rt must-fail --anew CRATE` with one lane (RT_JOBS=1), which
+proves the crate as it stands, tries its edits over that one after the other, by name, and at the end the crate
+without an edit once more. A crate's one edit is tried from nothing, and its seconds hold a proof of the whole.
 
 The seconds of one check are those by which the finished children of that command grew. They are read from
 /proc while it runs, so this works on Linux alone. The status is 1 where an edit is not refused, or where a
@@ -47,7 +47,8 @@ def watched(command):
     """Runs a command. Gives what it wrote, and the processor seconds of each child that took a while."""
     spent, before = [], 0.0
     with tempfile.TemporaryFile("w+", encoding="utf-8", errors="replace") as out:
-        with subprocess.Popen(command, stdout=out, stderr=subprocess.STDOUT, stdin=subprocess.DEVNULL) as run:
+        how = {"stdout": out, "stderr": subprocess.STDOUT, "stdin": subprocess.DEVNULL}
+        with subprocess.Popen(command, env={**os.environ, "RT_JOBS": "1"}, **how) as run:
             while run.poll() is None:
                 now = seconds_of_children(run.pid)
                 if now is not None and now - before >= LEAST:
@@ -72,20 +73,22 @@ def outcome(text, crate, edit):
 
 def table(crate, edits):
     """Prints the rows of a crate. Gives its processor seconds, and whether all is well."""
-    text, spent = watched(["rt", "must-fail", crate])
+    text, spent = watched(["rt", "must-fail", "--anew", crate])
     said = [outcome(text, crate, edit) for edit in edits]
-    checks = len(edits) + (len(edits) > 1)
+    around = 1 if len(edits) > 1 else 0
+    checks = len(edits) + 2 * around
     are_refused = all(it.startswith("refused") for it in said)
     if len(spent) < checks or not are_refused:
         print(text)
-    # what is built below the crate comes before its checks; a second try of an edit comes after them
-    mine = spent[-checks:] if are_refused else spent[:checks]
-    for edit, seconds, words in zip(edits, mine, said):
+    # what is built below the crate comes before its checks; an edit that is not refused is tried a second time
+    mine = spent[-checks:]
+    own = mine[around:len(mine) - around]
+    for edit, seconds, words in zip(edits, own, said):
         print(f"{seconds:8.1f}  {crate}/{edit}: {words}", flush=True)
-    later = mine[1:len(edits)]
-    mean = sum(later) / len(later) if later else 0.0
-    most = max(later, default=0.0)
-    words = f"{len(edits)} edits; after the first, mean {mean:.1f}, most {most:.1f}"
+    mean = sum(own) / len(own) if own else 0.0
+    most = max(own, default=0.0)
+    ground = f", the crate before and after them {mine[0]:.1f} and {mine[-1]:.1f}" if around and mine else ""
+    words = f"{len(edits)} edits, mean {mean:.1f}, most {most:.1f}{ground}"
     print(f"{sum(mine):8.1f}  {crate}: {words}\n", flush=True)
     return sum(mine), are_refused
 
