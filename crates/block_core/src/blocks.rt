@@ -24,9 +24,9 @@ use std::marker::Model;
 
 /// What the blocks of a net hold of its nodes and of its directions.
 ///
-/// Beside the net that is 28 bytes a node (excess and room 8 each, its two starts and the label 4 each), 40
-/// bytes an arc within a block (of each direction 16, and 4 for its place), and 104 bytes an arc between two
-/// blocks (of each direction 48, and 4 for its place).
+/// Beside the net that is 48 bytes a node (excess and room 8 each, its two starts and the label 4 each, and 20 for where
+/// it stands in the rows of its block's turns), 40 bytes an arc within a block (of each direction 16, and 4 for its
+/// place), and 104 bytes an arc between two blocks (of each direction 48, and 4 for its place).
 #[derive(Drop)]
 pub struct Blocks {
     net: Net,
@@ -69,9 +69,8 @@ fn home_of(v: usize, nodes: usize, blocks: usize) -> usize
 }
 
 /// The same net once more.
-fn copy_of(alloc: Global, net: &Net) -> Result<Net, AllocError>
-    ensures copy { IfOk result (λ copy. copy ≡ net.now) }
-    ensures limits { IfOk result (λ copy. IsNet net.now) }
+pub fn copy_of(alloc: Global, net: &Net) -> Result<Net, AllocError>
+    ensures { IfOk result (λ copy. copy ≡ net.now) }
 {
     let sources = Vec::from_slice(alloc, net.sources())?;
     let sinks = Vec::from_slice(alloc, net.sinks())?;
@@ -132,14 +131,16 @@ fn row(net: &Net, parts: &Parts, direction: Direction) -> (usize, usize)
 }
 
 impl Blocks {
-    /// A net in so many blocks before any flow: what the source can send is excess, and all labels are 0.
-    pub fn open(alloc: Global, net: &Net, blocks: usize) -> Result<Blocks, AllocError>
-        requires { CanSplit net.now blocks }
-        ensures first { IfOk result (λ b. b ≡ first_of net.now blocks) }
-        ensures limits { IfOk result (λ b. IsNet net.now) }
+    /// A net in so many blocks before any flow: what the source can send is excess, and all labels are 0. It takes
+    /// the net over.
+    pub fn open(alloc: Global, net: Net, blocks: usize) -> Result<Blocks, AllocError>
+        requires { CanSplit net blocks }
+        ensures first { IfOk result (λ b. b ≡ first_of net blocks) }
+        ensures limits { IsNet net }
     {
-        let parts = Parts::split(alloc, net, blocks)?;
-        let net = copy_of(alloc, net)?;
+        // Asking the net for a number brings its limits to hand.
+        let _nodes = net.nodes();
+        let parts = Parts::split(alloc, &net, blocks)?;
         Ok(Blocks { net, parts })
     }
 

@@ -1,6 +1,6 @@
-ghost use Rattle.std.specs.Prelude.{◌≤◌, IfOk};
+ghost use Rattle.std.specs.Prelude.{◌≡◌, ◌≤◌, IfOk, length};
 ghost use Rattle.flow_network.specs.Limits.{capacity_limit};
-ghost use Rattle.flow_network.specs.Cut.{IsSmallestLeastCut};
+ghost use Rattle.flow_network.specs.Cut.{nodes, set_of, IsSmallestLeastCut};
 ghost use Rattle.flow_network.specs.Answer.{side_of, IsRightCut};
 ghost use Rattle.parcel.specs.Soundness.{IsFinished};
 ghost use Rattle.parcel.specs.Reach.{AreExact};
@@ -12,12 +12,8 @@ use sink_distances::sink_side;
 use std::alloc::{AllocError, Global};
 
 /// The answer of a finished state whose exact labels are at hand: the nodes that reach the sink, and the flow that the
-/// state shows.
-pub(crate) fn answer_of(
-    alloc: Global,
-    state: &State,
-    workspace: Workspace,
-) -> Result<Solved, AllocError>
+/// state shows. Refuses only where memory runs out.
+pub fn answer_of(alloc: Global, state: &State, workspace: Workspace) -> Result<Solved, AllocError>
     requires exact { AreExact state.now workspace.labels.items }
     requires finished { IsFinished state.now }
     ensures certified { IfOk result (λ s. IsRightCut state.now.net s) }
@@ -33,4 +29,20 @@ pub(crate) fn answer_of(
         sink_side: side,
         value: state.got(),
     })
+}
+
+/// The nodes of a finished state that reach the sink, by its exact labels that are at hand, one bit for each node. Refuses
+/// only where memory runs out.
+pub fn least_side(
+    alloc: Global,
+    state: &State,
+    workspace: &Workspace,
+) -> Result<Vec<bool>, AllocError>
+    requires exact { AreExact state.now workspace.now.labels.items }
+    requires finished { IsFinished state.now }
+    ensures bits { IfOk result (λ side. length side.items ≡ nodes state.now.net) }
+    ensures smallest { IfOk result (λ side. IsSmallestLeastCut state.now.net (set_of side.items)) }
+{
+    let side = sink_side(alloc, state.net().graph(), workspace.labels.as_slice())?;
+    Ok(side)
 }

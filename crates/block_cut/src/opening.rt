@@ -1,4 +1,5 @@
 ghost use Rattle.std.specs.Prelude.{◌≡◌, ◌<◌, IsTrue, length};
+ghost use Rattle.parcel.specs.Events.{IsQuiet};
 ghost use Rattle.block_core.specs.Mails.{IsHeld};
 ghost use Rattle.block_core.specs.Pieces.{whole_within, state_in};
 ghost use Rattle.block_core.specs.Views.{IsLaid};
@@ -6,6 +7,7 @@ ghost use Rattle.block_net.specs.Views.{count};
 ghost use Rattle.discharge.specs.Steps.{IsOfNode};
 ghost use Rattle.block_cut.specs.Opening.{Opens, AreOpening, AreLabelsZero, IsFlat};
 
+use crate::takes::take_in;
 use block_core::{Pieces, State};
 use block_net::Cells;
 use std::snapshot::Snapshot;
@@ -157,6 +159,19 @@ fn are_labels_zero(state: &State) -> bool
         }
     }
     true
+}
+
+/// The state after the first pushes within its blocks, with no message on the way: each node gives the sink what it
+/// takes, and what is left goes on to neighbours within the block and by them to the sink, where all labels are 0; else
+/// the flow stays as it is. Before a first search from the sink this is worth several of them. No clause says how far
+/// excess goes. Takes no memory.
+pub fn push_first(state: State) -> State
+    ensures net { result.net ≡ state.net }
+    ensures quiet { IsQuiet result }
+{
+    let mut state = open_if_new(state);
+    take_in(&mut state);
+    state
 }
 
 /// The state after the first pushes within its blocks, where all labels are 0; else the state as it is. Takes no

@@ -129,7 +129,7 @@ fn blocks_of(
     'filling: for each in cells {
         let order = orders.next().unwrap_or(Vec::new(alloc));
         let most_rises = each.len() / NODES_A_RISE;
-        blocks.push(Block::with_order(alloc, each, order, most_rises)?)?;
+        blocks.push(Block::with_order(alloc, each, order, most_rises, usize::MAX)?)?;
     }
     Ok(blocks)
 }

@@ -25,7 +25,7 @@ fn is_block_at_rest(cells: &Cells, first: usize, labels: &[u32]) -> bool
 
 /// Whether a state with no message on the way is finished, by its exact labels: whether none of them that belongs to a
 /// node with excess lies below the top one.
-pub(crate) fn is_at_rest(state: &State, labels: &[u32]) -> bool
+pub fn is_at_rest(state: &State, labels: &[u32]) -> bool
     requires quiet { IsQuiet state.now }
     requires exact { AreExact state.now labels.now }
     ensures { IsTrue result ↔ IsFinished state.now }

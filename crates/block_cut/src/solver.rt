@@ -1,12 +1,12 @@
-ghost use Rattle.std.specs.Prelude.{◌≡◌, ◌<◌, ◌≤◌, IfOk};
+ghost use Rattle.std.specs.Prelude.{◌≡◌, ◌<◌, ◌≤◌, IfOk, length};
 ghost use Rattle.flow_network.specs.Limits.{capacity_limit};
-ghost use Rattle.flow_network.specs.Cut.{IsSmallestLeastCut};
+ghost use Rattle.flow_network.specs.Cut.{nodes, set_of, IsSmallestLeastCut};
 ghost use Rattle.flow_network.specs.Answer.{side_of, IsRightCut};
 ghost use Rattle.parcel.specs.Reach.{AreExact};
 ghost use Rattle.parcel.specs.Events.{IsQuiet};
 ghost use Rattle.parcel.specs.Soundness.{IsSound, IsFinished, count};
 
-use crate::answers::answer_of;
+use crate::answers::{answer_of, least_side};
 use crate::opening::open_if_new;
 use crate::passes::work;
 use crate::rest::is_at_rest;
@@ -54,6 +54,24 @@ pub fn finish(alloc: Global, state: State) -> Result<Solved, AllocError>
         workspace.find(&state);
         if is_at_rest(&state, workspace.labels.as_slice()) {
             return answer_of(alloc, &state, workspace);
+        }
+        state = advance(alloc, state, &workspace)?;
+    }
+}
+
+/// The sink side of the smallest least cut that a state of a net comes to, one bit for each node: that which `finish`
+/// answers, found in the same way and refused for the same reasons. Makes no list of what arcs carry.
+pub fn finish_side(alloc: Global, state: State) -> Result<Vec<bool>, AllocError>
+    ensures bits { IfOk result (λ side. length side.items ≡ nodes state.net) }
+    ensures smallest { IfOk result (λ side. IsSmallestLeastCut state.net (set_of side.items)) }
+{
+    let mut state = open_if_new(state);
+    let mut workspace = Workspace::reserve(alloc, state.net())?;
+    'rounds: loop {
+        take_in(&mut state);
+        workspace.find(&state);
+        if is_at_rest(&state, workspace.labels.as_slice()) {
+            return least_side(alloc, &state, &workspace);
         }
         state = advance(alloc, state, &workspace)?;
     }

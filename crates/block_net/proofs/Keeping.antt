@@ -44,6 +44,7 @@ push_keeps b v j a k lv lj le lr =
     record {
       top = k.top;
       above = k.above;
+      small = omega (arith, e1, k.small);
       labels_len = k.labels_len ∙ sym e1;
       rooms_len = k.rooms_len ∙ sym e1;
       starts_len = k.starts_len ∙ ap (λ n. n + 1) (sym e1);
@@ -75,6 +76,7 @@ accept_keeps b j a d k lj fits ld =
     record {
       top = k.top;
       above = k.above;
+      small = omega (arith, e1, k.small);
       labels_len = k.labels_len ∙ sym e1;
       rooms_len = k.rooms_len ∙ sym e1;
       starts_len = k.starts_len ∙ ap (λ n. n + 1) (sym e1);

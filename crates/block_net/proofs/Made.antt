@@ -161,6 +161,7 @@ block_from_is net blocks rows b first next h split is ef en lf ln =
     record {
       top = omega (arith, h.count);
       above = omega arith;
+      small = omega (arith, excess_len, ln, h.count);
       labels_len = length-replicate (next - first) 0 ∙ sym excess_len;
       rooms_len = rooms_len ∙ sym excess_len;
       starts_len = length_table (next - first + 1) _ ∙ ap (λ k. k + 1) (sym excess_len);

@@ -82,6 +82,7 @@ pub record IsBorder (nodes top : ℕ) (x : Border) : Type 0 where
 pub record IsBlock (b : BlockView) : Type 0 where
   pub top : b.top ≤ top_label node_limit
   pub above : 1 ≤ b.top
+  pub small : length b.excess ≤ node_limit
   pub labels_len : length b.labels ≡ length b.excess
   pub rooms_len : length b.rooms ≡ length b.excess
   pub starts_len : length b.starts ≡ length b.excess + 1

@@ -12,6 +12,7 @@ use crate::make::starts_from;
 use crate::opening::nodes_from;
 use crate::{Border, Lane};
 use flow_network::Net;
+use label_buckets::Buckets;
 use parcel::Flight;
 use std::alloc::{AllocError, Global};
 use std::marker::Model;
@@ -27,6 +28,8 @@ pub struct Cells {
     lanes: Vec<Lane>,
     border_starts: Vec<u32>,
     borders: Vec<CompactBorder>,
+    /// Room for the rows of its nodes, while no one works with them.
+    rows: Option<Buckets>,
 }
 
 impl Model for Cells {
@@ -79,6 +82,7 @@ impl Cells {
         let border_starts = starts_from(alloc, outer_starts(net, starts), first, next)?;
         let starts = starts_from(alloc, starts, first, next)?;
         let (lanes, borders) = leaving.into_parts();
+        let rows = Buckets::new(alloc, next - first, (next - first) as u32 + 2)?;
         Ok(Cells {
             top: net.nodes() as u32 + 2,
             excess: nodes.excess,
@@ -88,12 +92,28 @@ impl Cells {
             lanes,
             border_starts,
             borders,
+            rows: Some(rows),
         })
+    }
+
+    /// The room for the rows of its nodes, where it is there: a bucket for each label up to one more than there are nodes.
+    pub fn take_rows(&mut self) -> Option<Buckets>
+        ensures { self.new ≡ self.old }
+    {
+        self.rows.take()
+    }
+
+    /// The room for the rows of its nodes comes back.
+    pub fn keep_rows(&mut self, rows: Buckets)
+        ensures { self.new ≡ self.old }
+    {
+        self.rows = Some(rows);
     }
 
     /// How many nodes it has.
     pub fn len(&self) -> usize
-        ensures { result ≡ count self.now }
+        ensures value { result ≡ count self.now }
+        ensures limit { result ≤ node_limit }
     {
         self.excess.len()
     }

@@ -1,15 +1,15 @@
 -- One event in code is one event of the block.
-use Rattle.std.proofs.Common.{◌≡◌, ◌≢◌, ℕ, ◌+◌, ◌-◌, ◌<◌, inl, inr, min, List, length, set, get_or, slice_index, Contains, ◌++◌, refl, sym, ◌∙◌, ap, subst, arith, get_or-set_same, get_or-set_other}
+use Rattle.std.proofs.Common.{◌≡◌, ℕ, ◌-◌, ◌<◌, inl, inr, min, List, length, set, get_or, refl, sym, ◌∙◌, ap, subst, arith, get_or-set_same, get_or-set_other}
 use mathlib.Core.Path.{fun_ext}
 use Rattle.std.proofs.lemmas.Bool.{cases_eq, cases_lt}
 use Rattle.std.proofs.lemmas.List.{length-set, set_past}
-use Rattle.std.proofs.lemmas.List.Elements.{Contains-append_left}
 use Rattle.parcel.specs.declared.message.Message.TheVariants.{Parcel}
 use Rattle.block_net.specs.declared.rows.Border.{Border}
-use Rattle.block_net.specs.Views.{BlockView, count, excess_in, label_in, room_in, lane_in, border_in, no_border, pushed, given, labelled, sent, highest}
+use Rattle.block_net.specs.Views.{BlockView, excess_in, label_in, room_in, lane_in, border_in, no_border, pushed, given, labelled, sent, highest}
 use Rattle.discharge.specs.Seen.{Seen, IsLook, IsPut, add_to}
-use Rattle.discharge.specs.Steps.{Push, Give, Rise, Send, IsActive, IsOfNode, IsBorderOfNode, MayPush, MaySend, parcel_of}
-use Rattle.discharge.specs.Works.{IsAlike, Does, Waits}
+use Rattle.discharge.specs.Steps.{Push, Give, Rise, Send, IsOfNode, IsBorderOfNode, MayPush, MaySend, parcel_of}
+use Rattle.block_buckets.specs.Active.{IsActive}
+use Rattle.discharge.specs.Works.{IsAlike, Does}
 use Rattle.discharge.proofs.Runs.{does_one, look_sent, look_taken}
 
 -- a row that leads to the same block in a row's stead
@@ -39,31 +39,6 @@ does_give b b' s v a active room label is made =
     } in
     subst (λ (x : BlockView). Does b s 1 x s) (sym at) (does_one b _ s s (Give v) (active, room, label) refl alike)
 
-less_active : (b b' : BlockView) (v a w : ℕ) → b'.excess ≡ set b.excess v (excess_in b v - a) → b'.labels ≡ b.labels → b'.top ≡ b.top → IsActive b' w → IsActive b w
-less_active b b' v a w ee el et active =
-    let len = ap length ee ∙ length-set b.excess v (excess_in b v - a) in
-    let below = ap (λ (xs : List ℕ). slice_index xs w) el in
-    let value = ap (λ (xs : List ℕ). slice_index xs w) ee in
-    let node : w < count b = omega (arith, active.node, len) in
-    record {
-      node = node;
-      excess = elim (cases_eq w v) [
-        | inl same ↦
-            let here = get_or-set_same b.excess v (excess_in b v - a) 0 (omega (arith, node, same)) in
-            let at = ap (slice_index (set b.excess v (excess_in b v - a))) same in
-            let at' = ap (slice_index b.excess) same in
-            omega (arith, active.excess, value, here, at, at')
-        | inr other ↦ omega (arith, active.excess, value, get_or-set_other b.excess v w (excess_in b v - a) 0 other)
-      ];
-      below = omega (arith, active.below, below, et);
-    }
-
-pub given_active : (b b' : BlockView) (v a w : ℕ) → b' ≡ given b v a → IsActive b' w → IsActive b w
-given_active b b' v a w made active = less_active b (given b v a) v a w refl refl refl (subst (λ (x : BlockView). IsActive x w) made active)
-
-pub sent_active : (b b' : BlockView) (v j a w : ℕ) → b' ≡ sent b v j a → IsActive b' w → IsActive b w
-sent_active b b' v j a w made active = less_active b (sent b v j a) v a w refl refl refl (subst (λ (x : BlockView). IsActive x w) made active)
-
 -- ---- a direction within the block
 
 pub does_push : (b b' : BlockView) (s : Seen) (v j a : ℕ) → IsActive b v → IsOfNode b v j → MayPush b v j → a ≡ min (excess_in b v) (lane_in b j).residual → b' ≡ pushed b v j a
@@ -83,27 +58,6 @@ does_push b b' s v j a active lane may is made =
       tos = λ i. refl;
     } in
     subst (λ (x : BlockView). Does b s 1 x s) (sym at) (does_one b _ s s (Push v j) (active, lane, may) refl alike)
-
-pushed_active : (b : BlockView) (v j a w : ℕ) → w ≢ v → w ≢ (lane_in b j).far → IsActive (pushed b v j a) w → IsActive b w
-pushed_active b v j a w off off' active =
-    let less = set b.excess v (excess_in b v - a) in
-    let z = slice_index less (lane_in b j).far + a in
-    record {
-      node = omega (arith, active.node, length-set less (lane_in b j).far z, length-set b.excess v (excess_in b v - a));
-      excess = omega (arith, active.excess, get_or-set_other less (lane_in b j).far w z 0 off', get_or-set_other b.excess v w (excess_in b v - a) 0 off);
-      below = active.below;
-    }
-
-pub push_waits : (b b' : BlockView) (v j a : ℕ) (q q' : List ℕ) → b' ≡ pushed b v j a → (tail : List ℕ) × (q' ≡ q ++ tail) → Contains q' (lane_in b j).far → Waits v b q b' q'
-push_waits b b' v j a q q' made longer has = record {
-  longer = longer;
-  queued = λ h w active off. elim (cases_eq w (lane_in b j).far) [
-    | inl same ↦ rw same has
-    | inr other ↦
-        let before = h w (pushed_active b v j a w off other (subst (λ (x : BlockView). IsActive x w) made active)) off in
-        rw longer.1 (Contains-append_left q longer.0 w before)
-  ];
-}
 
 -- ---- another block
 
@@ -135,8 +89,3 @@ does_rise b b' s v d active high is made =
     let alike : IsAlike b (labelled b v (highest b v)) = record { top = refl; count = refl; starts = refl; lanes = refl; border_starts = refl; borders = refl; tos = λ i. refl } in
     let high' : label_in b v < highest b v = omega (arith, high, is) in
     subst (λ (x : BlockView). Does b s 1 x s) (sym at) (does_one b _ s s (Rise v) (active, high') refl alike)
-
-pub labelled_active : (b b' : BlockView) (v d w : ℕ) → b' ≡ labelled b v d → IsActive b' w → ¬ (w ≡ v) → IsActive b w
-labelled_active b b' v d w made active off =
-    let active' : IsActive (labelled b v d) w = subst (λ (x : BlockView). IsActive x w) made active in
-    record { node = active'.node; excess = active'.excess; below = omega (arith, active'.below, get_or-set_other b.labels v w d 0 off) }

@@ -1,4 +1,3 @@
-pub mod Queues
 pub mod Runs
 pub mod Doing
 pub mod Passing

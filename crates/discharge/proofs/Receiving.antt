@@ -1,18 +1,16 @@
 -- One message taken in code is one event of the block.
-use Rattle.std.proofs.Common.{◌≡◌, ℕ, ◌+◌, inl, inr, max, cond, List, ◌++◌, length, set, slice_index, None, Contains, refl, sym, ◌∙◌, ap, subst, arith, get_or-set_other}
+use Rattle.std.proofs.Common.{◌≡◌, ℕ, ◌+◌, max, cond, None, refl, sym, ◌∙◌, subst}
 use Rattle.std.specs.Option.{is_some}
 use mathlib.Core.Path.{fun_ext}
-use Rattle.std.proofs.lemmas.Bool.{cases_eq}
 use Rattle.std.proofs.lemmas.List.{length-set}
-use Rattle.std.proofs.lemmas.List.Elements.{Contains-append_left}
 use Rattle.parcel.specs.declared.direction.Direction.{Direction}
 use Rattle.parcel.specs.declared.message.Message.TheVariants.{Parcel, Accepted, Refused}
 use Rattle.block_net.specs.declared.rows.Border.{Border}
 use Rattle.block_net.specs.Views.{BlockView, label_in, border_in, accepted, settled, returned}
 use Rattle.discharge.specs.declared.letter.Letter.{Letter}
 use Rattle.discharge.specs.Seen.{Seen, IsLook, IsPut, IsTake, add_to}
-use Rattle.discharge.specs.Steps.{IsActive, Accept, Refuse, Settle, MayAccept, MayRefuse, MaySettle}
-use Rattle.discharge.specs.Works.{IsAlike, Does, IsQueued}
+use Rattle.discharge.specs.Steps.{Accept, Refuse, Settle, MayAccept, MayRefuse, MaySettle}
+use Rattle.discharge.specs.Works.{IsAlike, Does}
 use Rattle.discharge.proofs.Runs.{does_one, alike_same, look_sent, look_taken}
 use Rattle.discharge.proofs.Doing.{to_kept}
 
@@ -74,32 +72,3 @@ does_return b b' s w c x a d told j may made take =
     } in
     let letter : Letter = record { message = Refused x a d told; place = j } in
     subst (λ (z : BlockView). Does b s 1 z w) (sym made) (does_one b _ s w (Settle c letter) may (rw (fun_ext take.sent, fun_ext take.taken) refl) alike)
-
--- one node gets more, and it waits
-more_queued : (b b' : BlockView) (v z : ℕ) (q q' : List ℕ) → b'.excess ≡ set b.excess v z → b'.labels ≡ b.labels → b'.top ≡ b.top → (tail : List ℕ) × (q' ≡ q ++ tail) → Contains q' v
-    → IsQueued b q → IsQueued b' q'
-more_queued b b' v z q q' ee el et longer has h w active = elim (cases_eq w v) [
-  | inl same ↦ subst (λ (u : ℕ). Contains q' u) (sym same) has
-  | inr other ↦
-      let len = ap length ee ∙ length-set b.excess v z in
-      let value = ap (λ (xs : List ℕ). slice_index xs w) ee in
-      let below = ap (λ (xs : List ℕ). slice_index xs w) el in
-      let before : IsActive b w = record {
-        node = omega (arith, active.node, len);
-        excess = omega (arith, active.excess, value, get_or-set_other b.excess v w z 0 other);
-        below = omega (arith, active.below, below, et);
-      } in
-      rw longer.1 (Contains-append_left q longer.0 w (h w before))
-]
-
-pub accept_queued : (b b' : BlockView) (j a d : ℕ) (q q' : List ℕ) → b' ≡ accepted b j a d → (tail : List ℕ) × (q' ≡ q ++ tail) → Contains q' (border_in b j).near → IsQueued b q → IsQueued b' q'
-accept_queued b b' j a d q q' made longer has h =
-    subst (λ (x : BlockView). IsQueued x q') (sym made) (more_queued b (accepted b j a d) (border_in b j).near _ q q' refl refl refl longer has h)
-
-pub return_queued : (b b' : BlockView) (j a told : ℕ) (q q' : List ℕ) → b' ≡ returned b j a told → (tail : List ℕ) × (q' ≡ q ++ tail) → Contains q' (border_in b j).near → IsQueued b q → IsQueued b' q'
-return_queued b b' j a told q q' made longer has h =
-    subst (λ (x : BlockView). IsQueued x q') (sym made) (more_queued b (returned b j a told) (border_in b j).near _ q q' refl refl refl longer has h)
-
-pub settle_queued : (b b' : BlockView) (j : ℕ) (q : List ℕ) → b' ≡ settled b j → IsQueued b q → IsQueued b' q
-settle_queued b b' j q made h =
-    subst (λ (x : BlockView). IsQueued x q) (sym made) (λ w active. h w (record { node = active.node; excess = active.excess; below = active.below }))

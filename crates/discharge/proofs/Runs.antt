@@ -1,13 +1,14 @@
 -- Lists of events, one after another.
 use Rattle.std.proofs.Common.{◌≡◌, ℕ, ◌+◌, ◌-◌, ◌<◌, List, [], ◌∷◌, ◌++◌, false, Option, Some, None, refl, sym, ◌∙◌, ap, subst, arith}
 use mathlib.Core.Path.{fun_ext}
-use Rattle.std.proofs.lemmas.List.{append-nil, append_assoc, length-append}
+use Rattle.std.proofs.lemmas.List.{length-append}
 use Rattle.parcel.specs.declared.message.Message.{Message}
 use Rattle.discharge.specs.declared.letter.Letter.{Letter}
 use Rattle.block_net.specs.Views.{BlockView}
 use Rattle.discharge.specs.Seen.{Seen, IsLook}
-use Rattle.discharge.specs.Steps.{Step, Push, Give, Rise, Send, Held, held, Enabled, after, Run, DoesMany, IsActive, IsSure}
-use Rattle.discharge.specs.Works.{IsAlike, Does, Waits, IsIdle, IsStuck, IsIdleFrom}
+use Rattle.discharge.specs.Steps.{Step, Push, Give, Rise, Send, Held, held, Enabled, after, Run, DoesMany, IsSure}
+use Rattle.block_buckets.specs.Active.{IsActive}
+use Rattle.discharge.specs.Works.{IsAlike, Does, IsIdle, IsStuck, IsIdleFrom}
 
 pub run_append : (es fs : List Step) (h g k : Held) → Run h es g → Run g fs k → Run h (es ++ fs) k
 run_append [] fs h g k first second = subst (λ (x : Held). Run x fs k) first second
@@ -85,17 +86,6 @@ does_more a b c s t u m n h k = record {
 pub does_as : (a b : BlockView) (s t : Seen) (m n : ℕ) → m ≡ n → Does a s m b t → Does a s n b t
 does_as a b s t m n e h = subst (λ (k : ℕ). Does a s k b t) e h
 
--- the queue
-
-pub waits_same : (but : ℕ) (b : BlockView) (q : List ℕ) → Waits but b q b q
-waits_same but b q = record { longer = ([], sym (append-nil q)); queued = λ h. h }
-
-pub waits_more : (but : ℕ) (a b c : BlockView) (p q r : List ℕ) → Waits but a p b q → Waits but b q c r → Waits but a p c r
-waits_more but a b c p q r h k = record {
-  longer = (h.longer.0 ++ k.longer.0, k.longer.1 ∙ (ap (λ (x : List ℕ). x ++ k.longer.0) h.longer.1 ∙ append_assoc p h.longer.0 k.longer.0));
-  queued = λ x. k.queued (h.queued x);
-}
-
 -- nothing seen
 abbrev pub no_seen : Seen
 no_seen = record { sent = λ c. []; taken = λ c. []; room = λ c. false; front = λ c. None }
@@ -117,10 +107,6 @@ idle_look b s t v look idle = record {
   rise = idle.rise;
   sends = λ j on. idle.sends j (on.0, look.room _ on.1);
 }
-
--- fewer nodes are active, but for one
-pub waits_fewer : (but : ℕ) (b b' : BlockView) (q : List ℕ) → ((w : ℕ) → IsActive b' w → ¬ (w ≡ but) → IsActive b w) → Waits but b q b' q
-waits_fewer but b b' q h = record { longer = ([], sym (append-nil q)); queued = λ old v active off. old v (h v active off) off }
 
 -- the three ways in which a node passes on what it has
 pub push_does : (a b c d : BlockView) (s t : Seen) (k l m : ℕ) → ((u : Seen) → Does a u k b u) → ((u : Seen) → Does b u l c u) → Does c s m d t → Does a s (k + l + m) d t

@@ -4,7 +4,8 @@ use Rattle.parcel.specs.declared.message.Message.{Message}
 use Rattle.parcel.specs.declared.message.Message.TheVariants.{Parcel, Accepted, Refused}
 use Rattle.parcel.specs.Directions.{opposite}
 use Rattle.round_laws.specs.Workers.{IsFair}
-use Rattle.block_net.specs.Views.{BlockView, count, excess_in, label_in, room_in, lane_in, border_in, first_lane, first_border, out_of, pushed, given, labelled, sent, accepted, settled, returned, highest}
+use Rattle.block_net.specs.Views.{BlockView, excess_in, label_in, room_in, lane_in, border_in, first_lane, first_border, out_of, pushed, given, labelled, sent, accepted, settled, returned, highest}
+use Rattle.block_buckets.specs.Active.{IsActive}
 use Rattle.discharge.specs.declared.letter.Letter.{Letter}
 use Rattle.discharge.specs.Seen.{Seen, add_to}
 
@@ -20,12 +21,6 @@ pub data Step : Type 0 where
   Settle : ℕ → Letter → Step
 
 -- ---- when each is enabled
-
--- the node has excess, and is not cut off
-pub record IsActive (b : BlockView) (v : ℕ) : Type 0 where
-  pub node : v < count b
-  pub excess : 0 < excess_in b v
-  pub below : label_in b v < b.top
 
 -- a place of the directions of node v within the block
 pub record IsOfNode (b : BlockView) (v j : ℕ) : Type 0 where

@@ -1,9 +1,9 @@
--- What a part of a turn does to the block, its queue and its ways.
-use Rattle.std.specs.Prelude.{◌≡◌, ℕ, List, ◌++◌, length, Contains}
+-- What a part of a turn does to the block and its ways.
+use Rattle.std.specs.Prelude.{◌≡◌, ℕ, length}
 use Rattle.block_net.specs.Views.{BlockView, border_in}
 use Rattle.discharge.specs.declared.letter.Letter.{Letter}
 use Rattle.discharge.specs.Seen.{Seen, IsLook}
-use Rattle.discharge.specs.Steps.{held, DoesMany, IsActive, IsSure, Push, Give, Rise, Send, Accept, Refuse, Settle}
+use Rattle.discharge.specs.Steps.{held, DoesMany, IsSure, Push, Give, Rise, Send, Accept, Refuse, Settle}
 
 -- what no event changes
 pub record IsAlike (a b : BlockView) : Type 0 where
@@ -20,19 +20,6 @@ pub record Does (b : BlockView) (s : Seen) (n : ℕ) (b' : BlockView) (s' : Seen
   pub run : DoesMany (held b s) n (held b' s')
   pub alike : IsAlike b b'
   pub still : n ≡ 0 → (b' ≡ b) × IsLook s s'
-
--- ---- the queue
-
--- each node with excess and a label below the top waits
-abbrev pub IsQueued : BlockView → List ℕ → Type 0
-IsQueued b q = (v : ℕ) → IsActive b v → Contains q v
-
--- the queue gets longer at its end alone, and no node with excess and a label below the top is forgotten, but
--- for one
-pub record Waits (but : ℕ) (b : BlockView) (q : List ℕ) (b' : BlockView) (q' : List ℕ) : Type 0 where
-  pub longer : (tail : List ℕ) × (q' ≡ q ++ tail)
-  pub queued : ((v : ℕ) → IsActive b v → ¬ (v ≡ but) → Contains q v)
-      → (v : ℕ) → IsActive b' v → ¬ (v ≡ but) → Contains q' v
 
 -- ---- where nothing is to be done
 

@@ -1,28 +1,21 @@
-ghost use Rattle.std.specs.Prelude.{◌≡◌, ◌↔◌, ◌+◌, ◌<◌, ◌≤◌, ℕ, IsTrue, length};
-ghost use Rattle.block_net.specs.Views.{count, label_in, room_in, highest};
+ghost use Rattle.std.specs.Prelude.{◌≡◌, ◌<◌, ◌≤◌, ℕ, length};
+ghost use Rattle.block_net.specs.Views.{label_in, room_in, highest};
 ghost use Rattle.discharge.specs.Seen.{Seen};
-ghost use Rattle.discharge.specs.Steps.{IsActive, IsOfNode, IsBorderOfNode, MayPush, IsSure, Send};
-ghost use Rattle.discharge.specs.Works.{Does, Waits};
+ghost use Rattle.block_buckets.specs.Active.{IsActive};
+ghost use Rattle.discharge.specs.Steps.{IsOfNode, IsBorderOfNode, MayPush, IsSure, Send};
+ghost use Rattle.discharge.specs.Works.{Does};
 
-use crate::{Letter, Queue, Ways};
-use block_net::Cells;
+use crate::{Letter, Ways};
+use block_buckets::Bucketed;
 use parcel::Message;
 
-/// Whether a node has excess and is not cut off.
-pub(crate) fn is_active(cells: &Cells, v: usize) -> bool
-    requires { v < count cells.now }
-    ensures { IsTrue result ↔ IsActive cells.now v }
-{
-    cells.excess(v) > 0 && cells.label(v) < cells.top()
-}
-
 /// Excess of an active node goes to the sink, where that is enabled.
-pub(crate) fn try_give(cells: &mut Cells, v: usize) -> u32
-    requires { IsActive cells.old v }
+pub(crate) fn try_give(cells: &mut Bucketed, v: usize) -> u32
+    requires { IsActive cells.old.block v }
     ensures few { result ≤ 1 }
-    ensures does { (s : Seen) → Does cells.old s result cells.new s }
-    ensures idle { result ≡ 0 → ¬ ((0 < room_in cells.old v) × (label_in cells.old v ≡ 1)) }
-    ensures queue { (w : ℕ) → IsActive cells.new w → IsActive cells.old w }
+    ensures still { result ≡ 0 → cells.new ≡ cells.old }
+    ensures does { (s : Seen) → Does cells.old.block s result cells.new.block s }
+    ensures idle { result ≡ 0 → ¬ ((0 < room_in cells.old.block v) × (label_in cells.old.block v ≡ 1)) }
 {
     let room = cells.room(v);
     if room == 0 || cells.label(v) != 1 {
@@ -34,17 +27,14 @@ pub(crate) fn try_give(cells: &mut Cells, v: usize) -> u32
 }
 
 /// Excess of an active node goes along a direction within the block, where that is enabled.
-pub(crate) fn try_push(cells: &mut Cells, queue: &mut Queue, v: usize, j: usize) -> u32
-    requires active { IsActive cells.old v }
-    requires lane { IsOfNode cells.old v j }
-    requires place { j < length cells.old.lanes }
-    requires size { queue.old.size ≡ count cells.old }
+pub(crate) fn try_push(cells: &mut Bucketed, v: usize, j: usize) -> u32
+    requires active { IsActive cells.old.block v }
+    requires lane { IsOfNode cells.old.block v j }
+    requires place { j < length cells.old.block.lanes }
     ensures few { result ≤ 1 }
-    ensures does { (s : Seen) → Does cells.old s result cells.new s }
-    ensures waits { Waits v cells.old queue.old.order cells.new queue.new.order }
-    ensures still { result ≡ 0 → queue.new.order ≡ queue.old.order }
-    ensures size { queue.new.size ≡ queue.old.size }
-    ensures idle { result ≡ 0 → ¬ MayPush cells.old v j }
+    ensures still { result ≡ 0 → cells.new ≡ cells.old }
+    ensures does { (s : Seen) → Does cells.old.block s result cells.new.block s }
+    ensures idle { result ≡ 0 → ¬ MayPush cells.old.block v j }
 {
     let lane = cells.lane(j);
     if lane.residual == 0 || cells.label(v) != cells.label(lane.far as usize) + 1 {
@@ -52,20 +42,19 @@ pub(crate) fn try_push(cells: &mut Cells, queue: &mut Queue, v: usize, j: usize)
     }
     let amount = u64::min(cells.excess(v), lane.residual);
     cells.push(v, j, amount);
-    queue.push(lane.far as usize);
     1
 }
 
 /// Excess of an active node leaves for another block, where that is enabled and there is room.
-pub(crate) fn try_send<W: Ways>(cells: &mut Cells, ways: &mut W, v: usize, j: usize) -> u32
-    requires active { IsActive cells.old v }
-    requires border { IsBorderOfNode cells.old v j }
-    requires place { j < length cells.old.borders }
+pub(crate) fn try_send<W: Ways>(cells: &mut Bucketed, ways: &mut W, v: usize, j: usize) -> u32
+    requires active { IsActive cells.old.block v }
+    requires border { IsBorderOfNode cells.old.block v j }
+    requires place { j < length cells.old.block.borders }
     ensures fixed { W.fixed ways.new ≡ W.fixed ways.old }
     ensures few { result ≤ 1 }
-    ensures does { Does cells.old (W.seen ways.old) result cells.new (W.seen ways.new) }
-    ensures idle { result ≡ 0 → ¬ IsSure cells.old (W.seen ways.old) (Send v j) }
-    ensures queue { (w : ℕ) → IsActive cells.new w → IsActive cells.old w }
+    ensures still { result ≡ 0 → cells.new ≡ cells.old }
+    ensures does { Does cells.old.block (W.seen ways.old) result cells.new.block (W.seen ways.new) }
+    ensures idle { result ≡ 0 → ¬ IsSure cells.old.block (W.seen ways.old) (Send v j) }
 {
     let border = cells.border(j);
     let label = cells.label(v);
@@ -93,12 +82,12 @@ pub(crate) fn try_send<W: Ways>(cells: &mut Cells, ways: &mut W, v: usize, j: us
 }
 
 /// An active node gets the highest label that it may have, where that is higher.
-pub(crate) fn try_rise(cells: &mut Cells, v: usize) -> u32
-    requires { IsActive cells.old v }
+pub(crate) fn try_rise(cells: &mut Bucketed, v: usize) -> u32
+    requires { IsActive cells.old.block v }
     ensures few { result ≤ 1 }
-    ensures does { (s : Seen) → Does cells.old s result cells.new s }
-    ensures idle { result ≡ 0 → ¬ (label_in cells.old v < highest cells.old v) }
-    ensures queue { (w : ℕ) → IsActive cells.new w → ¬ (w ≡ v) → IsActive cells.old w }
+    ensures still { result ≡ 0 → cells.new ≡ cells.old }
+    ensures does { (s : Seen) → Does cells.old.block s result cells.new.block s }
+    ensures idle { result ≡ 0 → ¬ (label_in cells.old.block v < highest cells.old.block v) }
 {
     let label = cells.highest_label(v);
     if label <= cells.label(v) {

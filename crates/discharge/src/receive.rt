@@ -1,11 +1,11 @@
 ghost use Rattle.std.specs.Prelude.{◌≡◌, ◌↔◌, ◌<◌, ◌≤◌, ℕ, List, Some, IsTrue, length, slice_index};
 ghost use Rattle.parcel.specs.declared.message.Message.TheVariants.{Parcel, Accepted, Refused};
 ghost use Rattle.parcel.specs.Directions.{opposite};
-ghost use Rattle.block_net.specs.Views.{count};
 ghost use Rattle.discharge.specs.Steps.{IsFrom, MayAccept, MayRefuse, MaySettle};
-ghost use Rattle.discharge.specs.Works.{Does, IsQueued, IsIdleFrom};
+ghost use Rattle.discharge.specs.Works.{Does, IsIdleFrom};
 
-use crate::{Letter, Queue, Ways};
+use crate::{Letter, Ways};
+use block_buckets::Bucketed;
 use block_net::Cells;
 use parcel::{Direction, Flight, Message};
 
@@ -71,8 +71,7 @@ fn may_refuse(
 
 /// Takes the parcel in front, where that is enabled and there is room for the answer: one event or none.
 fn receive_parcel<W: Ways>(
-    cells: &mut Cells,
-    queue: &mut Queue,
+    cells: &mut Bucketed,
     ways: &mut W,
     from: u32,
     place: u32,
@@ -82,17 +81,14 @@ fn receive_parcel<W: Ways>(
 ) -> u32
     requires front { (W.seen ways.old).front from
         ≡ Some (record { message = Parcel direction amount label; place = place }) }
-    requires size { queue.old.size ≡ count cells.old }
     ensures fixed { W.fixed ways.new ≡ W.fixed ways.old }
     ensures few { result ≤ 1 }
-    ensures does { Does cells.old (W.seen ways.old) result cells.new (W.seen ways.new) }
-    ensures queued { IsQueued cells.old queue.old.order → IsQueued cells.new queue.new.order }
-    ensures size { queue.new.size ≡ queue.old.size }
-    ensures still { result ≡ 0 → queue.new.order ≡ queue.old.order }
-    ensures idle { result ≡ 0 → IsIdleFrom cells.old (W.seen ways.old) from }
+    ensures still { result ≡ 0 → cells.new ≡ cells.old }
+    ensures does { Does cells.old.block (W.seen ways.old) result cells.new.block (W.seen ways.new) }
+    ensures idle { result ≡ 0 → IsIdleFrom cells.old.block (W.seen ways.old) from }
 {
-    let accepts = may_accept(cells, from, place, direction, amount, label);
-    let refuses = may_refuse(cells, from, place, direction, amount, label);
+    let accepts = may_accept(cells.cells(), from, place, direction, amount, label);
+    let refuses = may_refuse(cells.cells(), from, place, direction, amount, label);
     if !accepts && !refuses {
         return 0;
     }
@@ -110,7 +106,6 @@ fn receive_parcel<W: Ways>(
         );
         ways.take(from);
         cells.accept(place as usize, amount, label);
-        queue.push(border.near as usize);
     } else {
         let told = cells.label(border.near as usize);
         ways.put(
@@ -184,7 +179,7 @@ fn may_return(
 
 /// Takes the answer in front that a parcel was taken, where that is enabled: one event or none.
 fn receive_accepted<W: Ways>(
-    cells: &mut Cells,
+    cells: &mut Bucketed,
     ways: &mut W,
     from: u32,
     place: u32,
@@ -195,11 +190,11 @@ fn receive_accepted<W: Ways>(
         ≡ Some (record { message = Accepted direction amount; place = place }) }
     ensures fixed { W.fixed ways.new ≡ W.fixed ways.old }
     ensures few { result ≤ 1 }
-    ensures does { Does cells.old (W.seen ways.old) result cells.new (W.seen ways.new) }
-    ensures queued { (q : List ℕ) → IsQueued cells.old q → IsQueued cells.new q }
-    ensures idle { result ≡ 0 → IsIdleFrom cells.old (W.seen ways.old) from }
+    ensures still { result ≡ 0 → cells.new ≡ cells.old }
+    ensures does { Does cells.old.block (W.seen ways.old) result cells.new.block (W.seen ways.new) }
+    ensures idle { result ≡ 0 → IsIdleFrom cells.old.block (W.seen ways.old) from }
 {
-    if !may_settle(cells, from, place, direction, amount) {
+    if !may_settle(cells.cells(), from, place, direction, amount) {
         return 0;
     }
     ways.take(from);
@@ -209,8 +204,7 @@ fn receive_accepted<W: Ways>(
 
 /// Takes the answer in front that a parcel was not taken, where that is enabled: one event or none.
 fn receive_refused<W: Ways>(
-    cells: &mut Cells,
-    queue: &mut Queue,
+    cells: &mut Bucketed,
     ways: &mut W,
     from: u32,
     place: u32,
@@ -220,35 +214,28 @@ fn receive_refused<W: Ways>(
 ) -> u32
     requires front { (W.seen ways.old).front from
         ≡ Some (record { message = Refused direction flight.amount flight.label told; place = place }) }
-    requires size { queue.old.size ≡ count cells.old }
     ensures fixed { W.fixed ways.new ≡ W.fixed ways.old }
     ensures few { result ≤ 1 }
-    ensures does { Does cells.old (W.seen ways.old) result cells.new (W.seen ways.new) }
-    ensures queued { IsQueued cells.old queue.old.order → IsQueued cells.new queue.new.order }
-    ensures size { queue.new.size ≡ queue.old.size }
-    ensures still { result ≡ 0 → queue.new.order ≡ queue.old.order }
-    ensures idle { result ≡ 0 → IsIdleFrom cells.old (W.seen ways.old) from }
+    ensures still { result ≡ 0 → cells.new ≡ cells.old }
+    ensures does { Does cells.old.block (W.seen ways.old) result cells.new.block (W.seen ways.new) }
+    ensures idle { result ≡ 0 → IsIdleFrom cells.old.block (W.seen ways.old) from }
 {
-    if !may_return(cells, from, place, direction, flight, told) {
+    if !may_return(cells.cells(), from, place, direction, flight, told) {
         return 0;
     }
     let near = cells.border(place as usize).near;
     ways.take(from);
     cells.take_back(place as usize, flight.amount, told);
-    queue.push(near as usize);
     1
 }
 
 /// Takes the message in front from a block, where that is enabled: one event or none.
-fn receive<W: Ways>(cells: &mut Cells, queue: &mut Queue, ways: &mut W, from: u32) -> u32
-    requires size { queue.old.size ≡ count cells.old }
+fn receive<W: Ways>(cells: &mut Bucketed, ways: &mut W, from: u32) -> u32
     ensures fixed { W.fixed ways.new ≡ W.fixed ways.old }
     ensures few { result ≤ 1 }
-    ensures does { Does cells.old (W.seen ways.old) result cells.new (W.seen ways.new) }
-    ensures queued { IsQueued cells.old queue.old.order → IsQueued cells.new queue.new.order }
-    ensures size { queue.new.size ≡ queue.old.size }
-    ensures still { result ≡ 0 → queue.new.order ≡ queue.old.order }
-    ensures idle { result ≡ 0 → IsIdleFrom cells.old (W.seen ways.old) from }
+    ensures still { result ≡ 0 → cells.new ≡ cells.old }
+    ensures does { Does cells.old.block (W.seen ways.old) result cells.new.block (W.seen ways.new) }
+    ensures idle { result ≡ 0 → IsIdleFrom cells.old.block (W.seen ways.old) from }
 {
     match ways.front(from) {
         Some(
@@ -260,7 +247,7 @@ fn receive<W: Ways>(cells: &mut Cells, queue: &mut Queue, ways: &mut W, from: u3
                 },
                 place,
             },
-        ) => receive_parcel(cells, queue, ways, from, place, direction, amount, label),
+        ) => receive_parcel(cells, ways, from, place, direction, amount, label),
         Some(
             Letter {
                 message: Message::Accepted { direction, amount },
@@ -279,7 +266,6 @@ fn receive<W: Ways>(cells: &mut Cells, queue: &mut Queue, ways: &mut W, from: u3
             },
         ) => receive_refused(
             cells,
-            queue,
             ways,
             from,
             place,
@@ -292,24 +278,15 @@ fn receive<W: Ways>(cells: &mut Cells, queue: &mut Queue, ways: &mut W, from: u3
 }
 
 /// Takes the messages from a block, as long as they are enabled: at most `limit` events.
-fn receive_from<W: Ways>(
-    cells: &mut Cells,
-    queue: &mut Queue,
-    ways: &mut W,
-    from: u32,
-    limit: u32,
-) -> u32
-    requires size { queue.old.size ≡ count cells.old }
+fn receive_from<W: Ways>(cells: &mut Bucketed, ways: &mut W, from: u32, limit: u32) -> u32
     ensures fixed { W.fixed ways.new ≡ W.fixed ways.old }
     ensures few { result ≤ limit }
-    ensures does { Does cells.old (W.seen ways.old) result cells.new (W.seen ways.new) }
-    ensures queued { IsQueued cells.old queue.old.order → IsQueued cells.new queue.new.order }
-    ensures size { queue.new.size ≡ queue.old.size }
-    ensures still { result ≡ 0 → queue.new.order ≡ queue.old.order }
-    ensures idle { result ≡ 0 → 0 < limit → IsIdleFrom cells.old (W.seen ways.old) from }
+    ensures still { result ≡ 0 → cells.new ≡ cells.old }
+    ensures does { Does cells.old.block (W.seen ways.old) result cells.new.block (W.seen ways.new) }
+    ensures idle { result ≡ 0 → 0 < limit → IsIdleFrom cells.old.block (W.seen ways.old) from }
 {
     'messages: for count in 0..limit {
-        if receive(cells, queue, ways, from) == 0 {
+        if receive(cells, ways, from) == 0 {
             return count;
         }
     }
@@ -318,24 +295,21 @@ fn receive_from<W: Ways>(
 
 /// Takes the messages from all these blocks, as long as they are enabled: at most `limit` events.
 pub(crate) fn receive_all<W: Ways>(
-    cells: &mut Cells,
-    queue: &mut Queue,
+    cells: &mut Bucketed,
     ways: &mut W,
     others: &[u32],
     limit: u32,
 ) -> u32
-    requires size { queue.old.size ≡ count cells.old }
     ensures fixed { W.fixed ways.new ≡ W.fixed ways.old }
     ensures few { result ≤ limit }
-    ensures does { Does cells.old (W.seen ways.old) result cells.new (W.seen ways.new) }
-    ensures queued { IsQueued cells.old queue.old.order → IsQueued cells.new queue.new.order }
-    ensures size { queue.new.size ≡ queue.old.size }
+    ensures still { result ≡ 0 → cells.new ≡ cells.old }
+    ensures does { Does cells.old.block (W.seen ways.old) result cells.new.block (W.seen ways.new) }
     ensures idle { result ≡ 0 → 0 < limit → (k : ℕ) → k < length others.now
-        → IsIdleFrom cells.old (W.seen ways.old) (slice_index others.now k) }
+        → IsIdleFrom cells.old.block (W.seen ways.old) (slice_index others.now k) }
 {
     let mut count = 0;
     'others: for i in 0..others.len() {
-        count += receive_from(cells, queue, ways, others[i], limit - count);
+        count += receive_from(cells, ways, others[i], limit - count);
     }
     count
 }

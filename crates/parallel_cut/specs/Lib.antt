@@ -1,2 +1,2 @@
-pub mod Active
+pub mod Ended
 pub mod Refusals

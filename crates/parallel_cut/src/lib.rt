@@ -4,9 +4,9 @@
 //! each. What they leave goes on to the end on one thread (`block_cut`), so that the answer rests on no round.
 #![tactic(auto)]
 
-mod active;
+mod ended;
 mod error;
 mod solver;
 
 pub use error::ParallelError;
-pub use solver::solve_parallel;
+pub use solver::{side_parallel, solve_parallel};

@@ -8,8 +8,11 @@ use regular::check;
 use std::process::Abort;
 use std::test::Fail;
 
-/// How many sites each row and each column of the picture has.
+/// How many sites each row and each column of a small picture has.
 const SIDE: u32 = 16;
+
+/// And of a large one, in whose net excess goes on within blocks before the first round.
+const LARGE_SIDE: u32 = 128;
 
 /// The label to which all sites, which have label 0, may turn.
 const LABEL: i64 = 3;
@@ -27,30 +30,42 @@ fn sample(x: u32, y: u32) -> u32
     (x / 4).wrapping_add(noise % 5) % 8
 }
 
-/// Adds what the site costs, and what it and its neighbours on the right and below cost.
-fn add_site(energy: &mut Energy, x: u32, y: u32) -> Result<(), EnergyError> {
-    let site = y.wrapping_mul(SIDE).wrapping_add(x);
+/// Adds what the site of a picture of `side` by `side` costs, and what it and its neighbours on the right and below cost.
+fn add_site(energy: &mut Energy, side: u32, x: u32, y: u32) -> Result<(), EnergyError> {
+    let site = y.wrapping_mul(side).wrapping_add(x);
     let seen = i64::from(sample(x, y));
     energy.add_term1(site, [seen, (seen - LABEL).abs()])?;
-    if x.wrapping_add(1) < SIDE {
+    if x.wrapping_add(1) < side {
         energy.add_term2(site, site.wrapping_add(1), [0, WEIGHT, WEIGHT, 0])?;
     }
-    if y.wrapping_add(1) < SIDE {
-        energy.add_term2(site, site.wrapping_add(SIDE), [0, WEIGHT, WEIGHT, 0])?;
+    if y.wrapping_add(1) < side {
+        energy.add_term2(site, site.wrapping_add(side), [0, WEIGHT, WEIGHT, 0])?;
     }
     Ok(())
 }
 
-/// The net of the move in which each site of the picture keeps label 0 or turns to label 3: data costs are distances
+/// The net of the move in which each site of a picture keeps label 0 or turns to label 3: data costs are distances
 /// to the sample.
-pub fn net_of_move(rt: &(impl Abort + AllocGlobal)) -> Result<Net, Fail> {
+fn net_of_side(rt: &(impl Abort + AllocGlobal), side: u32) -> Result<Net, Fail> {
+    let sites = side.wrapping_mul(side);
+    assert!(rt; sites <= LARGE_SIDE * LARGE_SIDE);
     let mut energy = Energy::new(rt.alloc());
-    energy.clear(SIDE * SIDE);
-    for y in 0..SIDE {
-        for x in 0..SIDE {
-            add_site(&mut energy, x, y)?;
+    energy.clear(sites);
+    for y in 0..side {
+        for x in 0..side {
+            add_site(&mut energy, side, x, y)?;
         }
     }
     let compiled = compile(rt.alloc(), check(&energy).expect(rt, "regular"))?;
     Ok(compiled.net)
+}
+
+/// The net of such a move of a small picture.
+pub fn net_of_move(rt: &(impl Abort + AllocGlobal)) -> Result<Net, Fail> {
+    net_of_side(rt, SIDE)
+}
+
+/// And of a large one.
+pub fn large_net_of_move(rt: &(impl Abort + AllocGlobal)) -> Result<Net, Fail> {
+    net_of_side(rt, LARGE_SIDE)
 }

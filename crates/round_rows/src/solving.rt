@@ -2,9 +2,9 @@
 use crate::building::{long_way, two_nodes};
 use crate::gates::{Alternate, Closed, Open, Overlap};
 use crate::overlap::TWO;
-use crate::picture::net_of_move;
+use crate::picture::{large_net_of_move, net_of_move};
 use flow_network::{Net, Solved, check_cut};
-use parallel_cut::{ParallelError, solve_parallel};
+use parallel_cut::{ParallelError, side_parallel, solve_parallel};
 use plain_cut::solve;
 use std::alloc::AllocError;
 use std::process::Abort;
@@ -92,6 +92,26 @@ fn solver_ends_alike(rt: HostRuntime) -> Result<(), Fail> {
             is_plain(&rt, &few, &few_wanted, &options, &Open)?,
             "at {number}"
         );
+    }
+    Ok(())
+}
+
+/// A large net, in which excess goes on within the blocks first: the solver and the side alone, in rounds to the end, in
+/// one round and in none.
+#[test]
+fn large_nets_end_alike(rt: HostRuntime) -> Result<(), Fail> {
+    let net = large_net_of_move(&rt)?;
+    let wanted = solve(rt.alloc(), &net)?;
+    for rounds in ROUNDS {
+        let options = Options {
+            blocks: 16,
+            rounds: *rounds,
+            ..TWO
+        };
+        assert!(rt; is_plain(&rt, &net, &wanted, &options, &Open)?);
+        let net = large_net_of_move(&rt)?;
+        let side = side_parallel(&rt, rt.alloc(), net, &options, &Open)?;
+        assert!(rt; side.as_slice() == wanted.sink_side.as_slice());
     }
     Ok(())
 }

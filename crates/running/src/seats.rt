@@ -11,13 +11,19 @@ use block_workers::{Ends, Seat};
 use discharge::Block;
 use std::alloc::{AllocError, Global};
 
-/// A block before its first turn, with its ends.
+/// A round makes one new label for so many nodes, and each block its part of them. In a round no labels become exact,
+/// and what was cut off from the sink in it climbs by new labels that are done in vain.
+const NODES_A_RISE: usize = 4;
+
+/// A block before its first turn, with its ends. Its turns together make one new label for `NODES_A_RISE` of its nodes,
+/// the first of them as many as they can: then a turn takes its messages and does one event.
 fn seat_of(alloc: Global, number: u32, cells: Cells, ends: Ends) -> Result<Seat, AllocError>
     requires { count cells ≤ node_limit }
     ensures { IfOk result (λ seat. IsNewSeat number cells ends seat) }
 {
     let nodes = cells.len() as u32;
-    let block = Block::new(alloc, cells)?;
+    let rises = cells.len() / NODES_A_RISE;
+    let block = Block::with_order(alloc, cells, Vec::new(alloc), usize::MAX, rises)?;
     Ok(Seat::new(number, block, nodes, ends))
 }
 
@@ -32,7 +38,8 @@ pub(crate) fn seats_of(
     requires small { AreSmall blocks.items }
     ensures { IfOk result (λ seats. AreSeated blocks.items ends.items seats.items) }
 {
-    let mut seats = Vec::with_capacity(alloc, blocks.len())?;
+    let count = blocks.len();
+    let mut seats = Vec::with_capacity(alloc, count)?;
     let mut rest = ends.into_iter();
     let mut number = 0;
     for cells in blocks {

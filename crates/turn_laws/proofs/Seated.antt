@@ -14,6 +14,7 @@ use Rattle.block_net.specs.Whole.{Whole, block_at, block_with, home, place, Stan
 use Rattle.block_core.specs.Views.{BlocksView, blocks_in, state_of, IsSpot, IsRow}
 use Rattle.block_core.proofs.Writing.{spot_put, row_put, block_same}
 use Rattle.block_core.proofs.Steps.{IsAt, excess_read, label_read, top_read}
+use Rattle.block_buckets.specs.Active as standing
 use Rattle.discharge.specs.Steps as steps
 use Rattle.discharge.specs.Steps.{Held}
 use Rattle.turn_laws.specs.Seats.{IsSeated, shown_by}
@@ -79,7 +80,7 @@ module _ (w : Whole) (v : BlocksView) (b : ℕ) (B : BlockView) (at : IsAt w v b
   home_is u p spot = ap (λ (q : BlocksView). core.block_of q.net q.blocks u) (sym at.view) ∙ spot.home
 
   -- a node that is active in its block is active
-  pub active_is : (u p : ℕ) → IsSpot w u b p → steps.IsActive B p → events.IsActive (state_of v ways got) u
+  pub active_is : (u p : ℕ) → IsSpot w u b p → standing.IsActive B p → events.IsActive (state_of v ways got) u
   active_is u p spot active = record {
     node = subst (λ (q : BlocksView). u < nodes q.net) at.view spot.node;
     excess = omega (arith, active.excess, excess_read w v b B u p at spot);

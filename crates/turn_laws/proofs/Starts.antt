@@ -1,5 +1,5 @@
 -- An event that takes no message, where the block may do it, is a step that is sure.
-use Rattle.std.proofs.Common.{◌≡◌, ℕ, ◌+◌, ◌<◌, true, false, List, length, refl, sym, ◌∙◌, ap, arith}
+use Rattle.std.proofs.Common.{◌≡◌, ℕ, ◌+◌, ◌<◌, true, false, List, length, refl, ◌∙◌, ap, arith}
 use Rattle.std.proofs.lemmas.List.{length-set}
 use Rattle.parcel.specs.declared.direction.Direction.{Direction}
 use Rattle.parcel.specs.declared.message.Message.{Message}
@@ -8,22 +8,19 @@ use Rattle.parcel.specs.declared.event.Event.TheVariants.{PushInner, PushSink, R
 use Rattle.parcel.specs.Directions.{near, far}
 use Rattle.parcel.specs.States as core
 use Rattle.parcel.specs.Events as events
-use Rattle.parcel.proofs.Ends.{far_in}
 use Rattle.round_laws.specs.Workers.{MayStart}
-use Rattle.block_net.specs.declared.rows.Border.{Border}
-use Rattle.block_net.specs.Views.{BlockView, label_in, room_in, lane_in, border_in, highest}
-use Rattle.block_net.specs.Whole.{Whole, home, place, slot, put_block}
+use Rattle.block_net.specs.Views.{BlockView, label_in, room_in, lane_in, highest}
+use Rattle.block_net.specs.Whole.{Whole, place, slot, put_block}
 use Rattle.block_core.specs.Views.{BlocksView, state_of, IsSpot, IsRow}
 use Rattle.block_core.proofs.Allowing.{highest_is}
-use Rattle.block_core.proofs.Effects.{border_apart}
 use Rattle.block_core.proofs.Steps.{IsAt, node_below, excess_read, label_read, room_read, top_read, inner_read, border_read, far_spot}
 use Rattle.discharge.specs.Seen.{Seen}
+use Rattle.block_buckets.specs.Active as standing
 use Rattle.discharge.specs.Steps as steps
 use Rattle.discharge.specs.Steps.{Step, Held, IsSure}
 use Rattle.turn_laws.specs.Laws.{HasRoom}
 use Rattle.turn_laws.specs.Seats.{IsSeated, logs_of, shown_by}
 use Rattle.turn_laws.proofs.Seated.{view_with, at_seat, with_is, read_at}
-use Rattle.turn_laws.proofs.Acts.{border_row}
 
 -- the place of a node of the block
 node_spot : (w : Whole) (b : ℕ) (B : BlockView) (ways : List (List (List Message))) (got u : ℕ) → IsSeated w b B → core.block_of (view_with w b B).net (view_with w b B).blocks u ≡ b
@@ -37,7 +34,7 @@ node_spot w b B ways got u seat here active = record {
 
 -- a node that is active is active in its block
 still_active : (w : Whole) (v : BlocksView) (b : ℕ) (B : BlockView) (ways : List (List (List Message))) (got u p : ℕ) → IsAt w v b B → IsSpot w u b p
-    → events.IsActive (state_of v ways got) u → steps.IsActive B p
+    → events.IsActive (state_of v ways got) u → standing.IsActive B p
 still_active w v b B ways got u p at spot active = record {
   node = node_below w v b B u p at spot;
   excess = omega (arith, active.excess, excess_read w v b B u p at spot);

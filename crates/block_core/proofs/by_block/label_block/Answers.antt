@@ -14,26 +14,26 @@ use Rattle.block_core.proofs.by_block.label_block.Goals as goal
 pub overflow_add-part : goal.overflow_add-part
 overflow_add-part c =
     let w : Whole = whole_by c.args.net.now c.args.parts.now in
-    let read = read_block w c.args.block c.index.result.now c.len-nodes.result c.index-first.result.now c.requires.laid c.requires.block c.index.ensures c.len-nodes.ensures c.if-nodes-eq0.false c.index-first.ensures in
+    let read = read_block w c.args.block c.index.result.now c.len-nodes.result c.index-first.result.now c.requires.laid c.requires.block c.index.ensures c.len-nodes.ensures.value c.if-nodes-eq0.false c.index-first.ensures in
     omega (arith, read.within, c.requires.laid.net.count)
 
 pub offset_bounds-labels-first : goal.offset_bounds-labels-first
 offset_bounds-labels-first c =
     let w : Whole = whole_by c.args.net.now c.args.parts.now in
-    let read = read_block w c.args.block c.index.result.now c.len-nodes.result c.index-first.result.now c.requires.laid c.requires.block c.index.ensures c.len-nodes.ensures c.if-nodes-eq0.false c.index-first.ensures in
+    let read = read_block w c.args.block c.index.result.now c.len-nodes.result c.index-first.result.now c.requires.laid c.requires.block c.index.ensures c.len-nodes.ensures.value c.if-nodes-eq0.false c.index-first.ensures in
     omega (arith, read.within, c.requires.laid.net.count)
 
 pub slice_bounds-part-end : goal.slice_bounds-part-end
 slice_bounds-part-end c =
     let w : Whole = whole_by c.args.net.now c.args.parts.now in
-    let read = read_block w c.args.block c.index.result.now c.len-nodes.result c.index-first.result.now c.requires.laid c.requires.block c.index.ensures c.len-nodes.ensures c.if-nodes-eq0.false c.index-first.ensures in
+    let read = read_block w c.args.block c.index.result.now c.len-nodes.result c.index-first.result.now c.requires.laid c.requires.block c.index.ensures c.len-nodes.ensures.value c.if-nodes-eq0.false c.index-first.ensures in
     let le : c.index-first.result.now + c.len-nodes.result ≤ length c.args.labels.now = omega (arith, read.within, c.requires.len) in
     grind (arith, common_steps, le)
 
 pub write_labels-requires-clause-limit : goal.write_labels-requires-clause-limit
 write_labels-requires-clause-limit c =
     let w : Whole = whole_by c.args.net.now c.args.parts.now in
-    let read = read_block w c.args.block c.index.result.now c.len-nodes.result c.index-first.result.now c.requires.laid c.requires.block c.index.ensures c.len-nodes.ensures c.if-nodes-eq0.false c.index-first.ensures in
+    let read = read_block w c.args.block c.index.result.now c.len-nodes.result c.index-first.result.now c.requires.laid c.requires.block c.index.ensures c.len-nodes.ensures.value c.if-nodes-eq0.false c.index-first.ensures in
     let le : c.index-first.result.now + c.len-nodes.result ≤ length c.args.labels.now = omega (arith, read.within, c.requires.len) in
     let first = c.index-first.result.now in
     let at = at_read w (blocks_in w) c.args.block c.index_mut.result.now c.requires.laid refl c.requires.block c.index_mut.ensures.value in
@@ -49,7 +49,7 @@ returns c =
     let b = c.args.block in
     let labels = c.args.labels.now in
     let first = c.index-first.result.now in
-    let read = read_block w b c.index.result.now c.len-nodes.result first c.requires.laid c.requires.block c.index.ensures c.len-nodes.ensures c.if-nodes-eq0.false c.index-first.ensures in
+    let read = read_block w b c.index.result.now c.len-nodes.result first c.requires.laid c.requires.block c.index.ensures c.len-nodes.ensures.value c.if-nodes-eq0.false c.index-first.ensures in
     let at = at_read w (blocks_in w) b c.index_mut.result.now c.requires.laid refl c.requires.block c.index_mut.ensures.value in
     let part : slice_range labels first (first + c.len-nodes.result) ≡ slice_range labels (slice_index w.firsts b) (slice_index w.firsts b + count (block_at w b)) =
     rw (sym read.first, sym read.many) refl in

@@ -13,35 +13,35 @@ pub overflow_add-given : goal.overflow_add-given
 overflow_add-given c =
     let w : Whole = whole_by c.args.net.now c.args.parts.now in
     let at = read_node w c.args.block c.index-cells.result.now c.index-first.result.now c.places.place c.requires.laid c.requires.block c.index-cells.ensures c.index-first.ensures
-    (omega (arith, c.places-test.true, c.len-place-end.ensures)) c.requires.rooms in
+    (omega (arith, c.places-test.true, c.len-place-end.ensures.value)) c.requires.rooms in
     omega (arith, at.node, c.requires.laid.net.count)
 
 pub offset_bounds-sinks-first : goal.offset_bounds-sinks-first
 offset_bounds-sinks-first c =
     let w : Whole = whole_by c.args.net.now c.args.parts.now in
     let at = read_node w c.args.block c.index-cells.result.now c.index-first.result.now c.places.place c.requires.laid c.requires.block c.index-cells.ensures c.index-first.ensures
-    (omega (arith, c.places-test.true, c.len-place-end.ensures)) c.requires.rooms in
+    (omega (arith, c.places-test.true, c.len-place-end.ensures.value)) c.requires.rooms in
     omega (arith, at.node, c.requires.laid.net.count)
 
 pub bounds-sinks-first : goal.bounds-sinks-first
 bounds-sinks-first c =
     let w : Whole = whole_by c.args.net.now c.args.parts.now in
     let at = read_node w c.args.block c.index-cells.result.now c.index-first.result.now c.places.place c.requires.laid c.requires.block c.index-cells.ensures c.index-first.ensures
-    (omega (arith, c.places-test.true, c.len-place-end.ensures)) c.requires.rooms in
+    (omega (arith, c.places-test.true, c.len-place-end.ensures.value)) c.requires.rooms in
     omega (arith, at.node, c.requires.laid.net.same, ap (λ (xs : List ℕ). length xs) c.sinks-sinks.ensures.value)
 
 pub overflow_sub-given : goal.overflow_sub-given
 overflow_sub-given c =
     let w : Whole = whole_by c.args.net.now c.args.parts.now in
     let at = read_node w c.args.block c.index-cells.result.now c.index-first.result.now c.places.place c.requires.laid c.requires.block c.index-cells.ensures c.index-first.ensures
-    (omega (arith, c.places-test.true, c.len-place-end.ensures)) c.requires.rooms in
+    (omega (arith, c.places-test.true, c.len-place-end.ensures.value)) c.requires.rooms in
     omega (arith, at.fits, c.room.ensures, ap (λ (xs : List ℕ). slice_index xs (c.index-first.result.now + c.places.place)) c.sinks-sinks.ensures.value)
 
 pub overflow_add-given-in-places : goal.overflow_add-given-in-places
 overflow_add-given-in-places c =
     let w : Whole = whole_by c.args.net.now c.args.parts.now in
     let p = c.places.place in
-    let lp : p < count c.index-cells.result.now = omega (arith, c.places-test.true, c.len-place-end.ensures) in
+    let lp : p < count c.index-cells.result.now = omega (arith, c.places-test.true, c.len-place-end.ensures.value) in
     let at = read_node w c.args.block c.index-cells.result.now c.index-first.result.now p c.requires.laid c.requires.block c.index-cells.ensures c.index-first.ensures lp c.requires.rooms in
     let sink = ap (λ (xs : List ℕ). slice_index xs (c.index-first.result.now + p)) c.sinks-sinks.ensures.value in
     let f = λ (i : ℕ). given_at w (slice_index w.firsts c.args.block + i) in
@@ -53,7 +53,7 @@ places-preserved c =
     let w : Whole = whole_by c.args.net.now c.args.parts.now in
     let p = c.places.place in
     let at = read_node w c.args.block c.index-cells.result.now c.index-first.result.now p c.requires.laid c.requires.block c.index-cells.ensures c.index-first.ensures
-    (omega (arith, c.places-test.true, c.len-place-end.ensures)) c.requires.rooms in
+    (omega (arith, c.places-test.true, c.len-place-end.ensures.value)) c.requires.rooms in
     let sink = ap (λ (xs : List ℕ). slice_index xs (c.index-first.result.now + p)) c.sinks-sinks.ensures.value in
     let f = λ (i : ℕ). given_at w (slice_index w.firsts c.args.block + i) in
     let here : slice_index c.sinks-sinks.result.now (c.index-first.result.now + p) - c.room.result ≡ f p = omega (arith, sink, c.room.ensures, at.given) in
@@ -64,5 +64,5 @@ returns c =
     let w : Whole = whole_by c.args.net.now c.args.parts.now in
     let at = at_read w (blocks_in w) c.args.block c.index-cells.result.now c.requires.laid refl c.requires.block c.index-cells.ensures in
     let f = λ (i : ℕ). given_at w (slice_index w.firsts c.args.block + i) in
-    let all : c.places.place ≡ count (block_at w c.args.block) = omega (arith, c.places-test.false, c.places.auto.place-end, c.len-place-end.ensures, ap (λ (q : BlockView). count q) at.is) in
+    let all : c.places.place ≡ count (block_at w c.args.block) = omega (arith, c.places-test.false, c.places.auto.place-end, c.len-place-end.ensures.value, ap (λ (q : BlockView). count q) at.is) in
     c.places.invariant ∙ (ap (λ k. sum_below k f) all ∙ in_a_row w c.args.block c.requires.laid c.requires.block)

@@ -1,20 +1,15 @@
-use Rattle.std.proofs.Common.{◌≡◌, ◌+◌, ◌<◌, min, Contains, ap, subst, arith}
+use Rattle.std.proofs.Common.{◌≡◌, ◌+◌, ◌<◌, min, ap, arith}
 use Rattle.block_net.specs.declared.rows.Lane.{Lane}
 use Rattle.block_net.specs.Views.{lane_in, label_in, excess_in}
-use Rattle.discharge.proofs.Doing.{does_push, push_waits}
+use Rattle.discharge.proofs.Doing.{does_push}
 use Rattle.discharge.proofs.acts.try_push.Goals as goal
 
 pub returns-clause-does : goal.returns-clause-does
 returns-clause-does c =
-    let now = c.args.cells.now in
+    let now = c.args.cells.now.block in
     let residual = ap (λ (x : Lane). x.residual) c.lane-lane.ensures.value in
     let far = ap (λ (x : Lane). label_in now x.far) c.lane-lane.ensures.value in
     let some : 0 < (lane_in now c.args.j).residual = omega (arith, residual) in
     let level : label_in now c.args.v ≡ label_in now (lane_in now c.args.j).far + 1 = omega (arith, far) in
     let amount : c.min-amount.result ≡ min (excess_in now c.args.v) (lane_in now c.args.j).residual = omega (arith, residual) in
-    λ s. does_push now c.push.new.self s c.args.v c.args.j c.min-amount.result c.requires.active c.requires.lane (record { residual = some; level = level }) amount c.push.ensures
-
-pub returns-clause-waits : goal.returns-clause-waits
-returns-clause-waits c =
-    push_waits c.args.cells.now c.push.new.self c.args.v c.args.j c.min-amount.result c.args.queue.now.order c.push-2.new.self.order c.push.ensures c.push-2.ensures.kept
-    (subst (λ (x : Lane). Contains c.push-2.new.self.order x.far) c.lane-lane.ensures.value c.push-2.ensures.waits)
+    λ s. does_push now c.push.new.self.block s c.args.v c.args.j c.min-amount.result c.requires.active c.requires.lane (record { residual = some; level = level }) amount c.push.ensures.block

@@ -5,5 +5,5 @@ use Rattle.discharge.proofs.acts.try_rise.Goals as goal
 
 pub returns-clause-does : goal.returns-clause-does
 returns-clause-does c =
-    let high : label_in c.args.cells.now c.args.v < c.highest_label-label.result = omega arith in
-    λ s. does_rise c.args.cells.now c.relabel.new.self s c.args.v c.highest_label-label.result c.requires high c.highest_label-label.ensures.value c.relabel.ensures.labelled
+    let high : label_in c.args.cells.now.block c.args.v < c.highest_label-label.result = omega arith in
+    λ s. does_rise c.args.cells.now.block c.relabel.new.self.block s c.args.v c.highest_label-label.result c.requires high c.highest_label-label.ensures.value c.relabel.ensures.block

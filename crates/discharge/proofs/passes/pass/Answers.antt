@@ -1,44 +1,66 @@
-use Rattle.std.proofs.Common.{◌≡◌, ℕ, ◌+◌, inl, inr, slice_index, sym, ◌∙◌, ap, subst, arith}
-use Rattle.std.proofs.lemmas.Bool.{cases_lt}
-use Rattle.block_net.specs.Views.{BlockView}
-use Rattle.discharge.specs.Works.{IsIdle}
-use Rattle.discharge.proofs.Runs.{does_more, idle_look}
-use Rattle.discharge.proofs.Passing.{pass_queued, pass_rest, pass_idle, PassRest}
+use Rattle.std.proofs.Common.{◌≡◌, ℕ, ◌+◌, ◌<◌, inl, inr, refl, sym, ◌∙◌, ap, subst, arith}
+use Rattle.block_net.specs.Views.{BlockView, count}
+use Rattle.block_buckets.specs.Active.{IsActive}
+use Rattle.block_buckets.specs.Standing.{BucketedView, IsAside, waiting}
+use Rattle.discharge.specs.Works.{Does, IsIdle}
+use Rattle.discharge.proofs.Runs.{does_look, does_more, does_as, look_more, idle_look}
+use Rattle.discharge.proofs.Passing.{active_idle}
 use Rattle.discharge.proofs.passes.pass.Goals as goal
 
 pub nodes-preserved : goal.nodes-preserved
 nodes-preserved g c =
-    let old = c.args.cells.now in
+    let old = c.args.cells.now.block in
     let inv = c.nodes.invariant in
     let told = c.visit-did.ensures in
     let was = g.W.Ways.seen c.args.ways.now in
     let seen = g.W.Ways.seen c.nodes.ways in
+    let now = g.W.Ways.seen c.visit-did.new.ways in
     let v = c.in-Some.v in
-    let popped = c.in-Some.ensures.some in
-    let b = c.visit-did.new.cells in
-    let rest : c.nodes.count + c.visit-did.result.0 ≡ 0 → PassRest c.args.queue.now.order c.wait_if_active.new.queue.order c.nodes.i v =
-    λ none. pass_rest c.args.queue.now.order c.nodes.queue.order c.pop.new.self.order c.visit-did.new.queue.order c.wait_if_active.new.queue.order c.nodes.i v
-    (omega arith) (inv.rest (omega arith)) popped.1 (told.still (omega arith)) c.wait_if_active.ensures.longer in
+    let none : c.visit-did.result.0 ≡ 0 = omega arith in
+    let first = inv.does.still refl in
+    let second = told.does.still none in
+    let high : c.highest.new.self.block ≡ old = ap (λ (x : BucketedView). x.block) c.in-Some.ensures.same ∙ first.0 in
+    let same : c.visit-did.new.cells ≡ c.nodes.cells = told.still none ∙ c.in-Some.ensures.same in
+    let last : c.set_aside.new.self.block ≡ old = c.set_aside.ensures.block ∙ (second.0 ∙ high) in
     record {
       fixed = told.fixed ∙ inv.fixed;
-      few = omega arith;
-      rises = omega (arith, inv.rises, told.rises);
-      does = does_more old c.nodes.cells b was seen (g.W.Ways.seen c.visit-did.new.ways) c.nodes.count c.visit-did.result.0 inv.does told.does;
-      size = omega (arith, c.wait_if_active.ensures.size, told.size, c.in-Some.ensures.size, inv.size);
-      queued = pass_queued c.nodes.cells b v c.nodes.queue.order c.pop.new.self.order c.visit-did.new.queue.order c.wait_if_active.new.queue.order inv.queued popped.1 told.waits
-          c.wait_if_active.ensures.longer c.wait_if_active.ensures.waits;
-      rest = λ none. (rest none).rest;
-      idle = λ none k low. elim (cases_lt k c.nodes.i) [
-        | inl before ↦ inv.idle (omega arith) k before
-        | inr last ↦
-            let still = inv.does.still (omega arith) in
-            let here : k ≡ c.nodes.i = omega arith in
-            let idle' = idle_look c.nodes.cells was seen v still.1 (told.idle (omega arith) (omega arith)) in
-            let node : v ≡ slice_index c.args.queue.now.order k = (rest none).node ∙ ap (slice_index c.args.queue.now.order) (sym here) in
-            subst (λ (x : BlockView). IsIdle x was (slice_index c.args.queue.now.order k)) still.0 (subst (λ (u : ℕ). IsIdle c.nodes.cells was u) node idle')
+      does = subst (λ (b : BlockView). Does old was 0 b now) (sym last) (does_look old was now (look_more was seen now first.1 second.1));
+      idle = λ some u out. elim (c.set_aside.ensures.aside u out) [
+        | inl e ↦
+            let idle : IsIdle c.highest.new.self.block was v = idle_look c.highest.new.self.block was seen v first.1 (told.idle none some) in
+            inr (subst (λ (k : ℕ). IsIdle old was k) (sym e) (subst (λ (b : BlockView). IsIdle b was v) high idle))
+        | inr before ↦ inv.idle some u (subst (λ (x : BucketedView). IsAside x u) same before)
       ];
     }
 
+pub rest-requires : goal.rest-requires
+rest-requires g c = omega (arith, c.in-Some.ensures.node.0.node, ap (λ (x : BucketedView). count x.block) c.in-Some.ensures.same, c.visit-did.ensures.does.alike.count)
+
+pub returns-then-rises-gt0-clause-does : goal.returns-then-rises-gt0-clause-does
+returns-then-rises-gt0-clause-does g c =
+    let old = c.args.cells.now.block in
+    let was = g.W.Ways.seen c.args.ways.now in
+    let seen = g.W.Ways.seen c.nodes.ways in
+    let now = g.W.Ways.seen c.visit-did.new.ways in
+    let told = subst (λ (b : BlockView). Does b seen c.visit-did.result.0 c.visit-did.new.cells.block now) (ap (λ (x : BucketedView). x.block) c.in-Some.ensures.same) c.visit-did.ensures.does in
+    let all = does_more old c.nodes.cells.block c.visit-did.new.cells.block was seen now 0 c.visit-did.result.0 c.nodes.invariant.does told in
+    let all' : Does old was c.visit-did.result.0 c.visit-did.new.cells.block now = does_as old _ was now (0 + c.visit-did.result.0) c.visit-did.result.0 (omega arith) all in
+    subst (λ (b : BlockView). Does old was c.visit-did.result.0 b now) (sym c.rest.ensures) all'
+
+pub nodes-smaller : goal.nodes-smaller
+nodes-smaller g c =
+    let none : c.visit-did.result.0 ≡ 0 = omega arith in
+    let same : c.visit-did.new.cells ≡ c.nodes.cells = c.visit-did.ensures.still none ∙ c.in-Some.ensures.same in
+    subst (λ (x : BucketedView). waiting c.set_aside.new.self < waiting x) same c.set_aside.ensures.fewer
+
 pub returns-clause-idle : goal.returns-clause-idle
-returns-clause-idle g c = λ none some.
-    pass_idle c.args.cells.now (g.W.Ways.seen c.args.ways.now) c.args.queue.now.order c.requires.queued (λ k l. c.nodes.invariant.idle none k (omega arith))
+returns-clause-idle g c = λ none some fresh.
+    let old = c.args.cells.now.block in
+    let was = g.W.Ways.seen c.args.ways.now in
+    let first = c.nodes.invariant.does.still refl in
+    active_idle old was (λ v on.
+    let on' : IsActive c.nodes.cells.block v = subst (λ (b : BlockView). IsActive b v) (sym first.0) on in
+    elim (c.nodes.invariant.idle some v (c.in_default.ensures.node v on')) [
+      | inl out ↦ absurd (fresh v on.node out)
+      | inr idle ↦ idle
+    ])

@@ -9,8 +9,7 @@ wave-preserved g c =
     record {
       fixed = told.fixed ∙ inv.fixed;
       few = omega arith;
-      does = does_more c.args.cells.now c.wave.cells c.push_if_active-count.new.cells (g.W.Ways.seen c.args.ways.now) (g.W.Ways.seen c.wave.ways) (g.W.Ways.seen c.push_if_active-count.new.ways)
+      same = λ none. told.still (omega arith) ∙ inv.same (omega arith);
+      does = does_more c.args.cells.now.block c.wave.cells.block c.push_if_active-count.new.cells.block (g.W.Ways.seen c.args.ways.now) (g.W.Ways.seen c.wave.ways) (g.W.Ways.seen c.push_if_active-count.new.ways)
           c.wave.count c.push_if_active-count.result inv.does told.does;
-      size = told.size ∙ inv.size;
-      queued = told.queued;
     }

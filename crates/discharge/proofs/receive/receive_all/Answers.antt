@@ -14,16 +14,15 @@ others-preserved g c =
     record {
       fixed = told.fixed ∙ inv.fixed;
       few = omega arith;
-      does = does_more c.args.cells.now c.others.cells c.receive_from-count.new.cells was seen (g.W.Ways.seen c.receive_from-count.new.ways) c.others.count c.receive_from-count.result inv.does told.does;
-      queued = λ h. told.queued (inv.queued h);
-      size = told.size ∙ inv.size;
+      does = does_more c.args.cells.now.block c.others.cells.block c.receive_from-count.new.cells.block was seen (g.W.Ways.seen c.receive_from-count.new.ways) c.others.count c.receive_from-count.result inv.does told.does;
+      same = λ none. told.still (omega arith) ∙ inv.same (omega arith);
       idle = λ none some k low. elim (cases_lt k c.others.i) [
         | inl before ↦ inv.idle (omega arith) some k before
         | inr last ↦
             let still = inv.does.still (omega arith) in
             let here : k ≡ c.others.i = omega arith in
-            let idle' = idle_from_look c.others.cells was seen (slice_index c.args.others.now c.others.i) still.1 (told.idle (omega arith) (omega arith)) in
+            let idle' = idle_from_look c.others.cells.block was seen (slice_index c.args.others.now c.others.i) still.1 (told.idle (omega arith) (omega arith)) in
             let node = ap (slice_index c.args.others.now) (sym here) in
-            subst (λ (x : BlockView). IsIdleFrom x was (slice_index c.args.others.now k)) still.0 (subst (λ (u : ℕ). IsIdleFrom c.others.cells was u) node idle')
+            subst (λ (x : BlockView). IsIdleFrom x was (slice_index c.args.others.now k)) still.0 (subst (λ (u : ℕ). IsIdleFrom c.others.cells.block was u) node idle')
       ];
     }

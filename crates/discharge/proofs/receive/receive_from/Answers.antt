@@ -9,10 +9,8 @@ messages-preserved g c =
     let one : c.messages.count + c.receive.result ≡ c.messages.count + 1 = omega arith in
     record {
       fixed = told.fixed ∙ inv.fixed;
-      does = does_as c.args.cells.now c.receive.new.cells (g.W.Ways.seen c.args.ways.now) (g.W.Ways.seen c.receive.new.ways) (c.messages.count + c.receive.result) (c.messages.count + 1) one
-          (does_more c.args.cells.now c.messages.cells c.receive.new.cells (g.W.Ways.seen c.args.ways.now) (g.W.Ways.seen c.messages.ways) (g.W.Ways.seen c.receive.new.ways)
+      does = does_as c.args.cells.now.block c.receive.new.cells.block (g.W.Ways.seen c.args.ways.now) (g.W.Ways.seen c.receive.new.ways) (c.messages.count + c.receive.result) (c.messages.count + 1) one
+          (does_more c.args.cells.now.block c.messages.cells.block c.receive.new.cells.block (g.W.Ways.seen c.args.ways.now) (g.W.Ways.seen c.messages.ways) (g.W.Ways.seen c.receive.new.ways)
           c.messages.count c.receive.result inv.does told.does);
-      queued = λ h. told.queued (inv.queued h);
-      size = told.size ∙ inv.size;
-      still = λ none. absurd (omega arith);
+      same = λ none. absurd (omega arith);
     }

@@ -1,8 +1,9 @@
 use Rattle.std.proofs.Common.{◌≡◌, ℕ, ◌+◌, inl, inr, List, slice_index, sym, ◌∙◌, ap, subst, arith}
 use Rattle.std.proofs.lemmas.Bool.{cases_lt, false≢true}
 use Rattle.block_net.specs.Views.{BlockView}
-use Rattle.discharge.specs.Steps.{IsActive, MayPush}
-use Rattle.discharge.proofs.Runs.{no_seen, does_more, waits_more}
+use Rattle.discharge.specs.Steps.{MayPush}
+use Rattle.block_buckets.specs.Active.{IsActive}
+use Rattle.discharge.proofs.Runs.{no_seen, does_more}
 use Rattle.discharge.proofs.visits.push_all.Goals as goal
 
 pub is_active-requires : goal.is_active-requires
@@ -11,7 +12,7 @@ is_active-requires c = omega (arith, c.requires.node, (c.lanes.invariant.does no
 pub returns-then-not-is_active-clause-idle : goal.returns-then-not-is_active-clause-idle
 returns-then-not-is_active-clause-idle c = λ none some j on.
     let same = ((c.lanes.invariant.does no_seen).still none).0 in
-    let active : IsActive c.lanes.cells c.args.v = subst (λ (b : BlockView). IsActive b c.args.v) (sym same) on.0 in
+    let active : IsActive c.lanes.cells.block c.args.v = subst (λ (b : BlockView). IsActive b c.args.v) (sym same) on.0 in
     false≢true (sym c.if-not-is_active.true ∙ c.is_active.ensures.1 active)
 
 pub try_push-count-requires-clause-lane : goal.try_push-count-requires-clause-lane
@@ -27,20 +28,15 @@ try_push-count-requires-clause-lane c =
 pub try_push-count-requires-clause-place : goal.try_push-count-requires-clause-place
 try_push-count-requires-clause-place c = omega (arith, c.range-first.ensures.limit, c.lanes-test.true, (c.lanes.invariant.does no_seen).alike.lanes)
 
-pub try_push-count-requires-clause-size : goal.try_push-count-requires-clause-size
-try_push-count-requires-clause-size c = omega (arith, c.lanes.invariant.size, c.requires.size, (c.lanes.invariant.does no_seen).alike.count)
-
 pub lanes-preserved : goal.lanes-preserved
 lanes-preserved c =
-    let old = c.args.cells.now in
+    let old = c.args.cells.now.block in
     let inv = c.lanes.invariant in
     let told = c.try_push-count.ensures in
     record {
       few = omega arith;
-      does = λ s. does_more old c.lanes.cells c.try_push-count.new.cells s s s c.lanes.count c.try_push-count.result (inv.does s) (told.does s);
-      waits = waits_more c.args.v old c.lanes.cells c.try_push-count.new.cells c.args.queue.now.order c.lanes.queue.order c.try_push-count.new.queue.order inv.waits told.waits;
-      size = told.size ∙ inv.size;
-      still = λ none. told.still (omega arith) ∙ inv.still (omega arith);
+      does = λ s. does_more old c.lanes.cells.block c.try_push-count.new.cells.block s s s c.lanes.count c.try_push-count.result (inv.does s) (told.does s);
+      same = λ none. told.still (omega arith) ∙ inv.same (omega arith);
       idle = λ none i low high. elim (cases_lt i c.lanes.j) [
         | inl before ↦ inv.idle (omega arith) i low before
         | inr last ↦

@@ -7,7 +7,7 @@ use Rattle.discharge.proofs.visits.send_all.Goals as goal
 
 pub borders-preserved : goal.borders-preserved
 borders-preserved g c =
-    let old = c.args.cells.now in
+    let old = c.args.cells.now.block in
     let inv = c.borders.invariant in
     let told = c.try_send-count.ensures in
     let was = g.W.Ways.seen c.args.ways.now in
@@ -15,8 +15,8 @@ borders-preserved g c =
     record {
       fixed = told.fixed ∙ inv.fixed;
       few = omega arith;
-      does = does_more old c.borders.cells c.try_send-count.new.cells was seen (g.W.Ways.seen c.try_send-count.new.ways) c.borders.count c.try_send-count.result inv.does told.does;
-      queue = λ w active. inv.queue w (told.queue w active);
+      does = does_more old c.borders.cells.block c.try_send-count.new.cells.block was seen (g.W.Ways.seen c.try_send-count.new.ways) c.borders.count c.try_send-count.result inv.does told.does;
+      same = λ none. told.still (omega arith) ∙ inv.same (omega arith);
       idle = λ none i low high. elim (cases_lt i c.borders.j) [
         | inl before ↦ inv.idle (omega arith) i low before
         | inr last ↦

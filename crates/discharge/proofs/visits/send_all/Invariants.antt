@@ -1,6 +1,6 @@
 use Rattle.std.proofs.Common.{◌≡◌, ℕ, ◌<◌, ◌≤◌}
 use Rattle.block_net.specs.Views.{first_border}
-use Rattle.discharge.specs.Steps.{IsActive, IsSure, Send}
+use Rattle.discharge.specs.Steps.{IsSure, Send}
 use Rattle.discharge.specs.Works.{Does}
 use Rattle.discharge.proofs.visits.send_all.Given as goal
 
@@ -8,7 +8,7 @@ abbrev pub invariant-borders : goal.invariant-borders
 invariant-borders g l = record {
   fixed : g.W.Ways.fixed l.ways ≡ g.W.Ways.fixed l.fn.ways;
   few : l.count ≤ l.limit;
-  does : Does l.fn.cells (g.W.Ways.seen l.fn.ways) l.count l.cells (g.W.Ways.seen l.ways);
-  queue : (w : ℕ) → IsActive l.cells w → IsActive l.fn.cells w;
-  idle : l.count ≡ 0 → (i : ℕ) → first_border l.fn.cells l.v ≤ i → i < l.j → ¬ IsSure l.fn.cells (g.W.Ways.seen l.fn.ways) (Send l.v i);
+  does : Does l.fn.cells.block (g.W.Ways.seen l.fn.ways) l.count l.cells.block (g.W.Ways.seen l.ways);
+  same : l.count ≡ 0 → l.cells ≡ l.fn.cells;
+  idle : l.count ≡ 0 → (i : ℕ) → first_border l.fn.cells.block l.v ≤ i → i < l.j → ¬ IsSure l.fn.cells.block (g.W.Ways.seen l.fn.ways) (Send l.v i);
 }

@@ -20,7 +20,7 @@ write_block-requires c =
     let at = at_read w (blocks_in w) c.each.b c.index-in-each.result.now laid refl lb c.index-in-each.ensures in
     let first : c.index.result.now ≡ slice_index p.firsts.items c.each.b =
     get_or_read p.firsts.items c.each.b c.index.result.now (omega (arith, lb, laid.placed.firsts_len)) c.index.ensures 0 in
-    let size : c.len.result ≡ count (block_at w c.each.b) = omega (arith, c.len.ensures, ap (λ (B : BlockView). count B) at.is) in
+    let size : c.len.result ≡ count (block_at w c.each.b) = omega (arith, c.len.ensures.value, ap (λ (B : BlockView). count B) at.is) in
     λ q lq. omega (arith, number_below w laid c.each.b lb q (omega (arith, lq, size)), first, c.each.invariant.0)
 
 pub each-preserved : goal.each-preserved
@@ -33,7 +33,7 @@ each-preserved c =
     let at = at_read w (blocks_in w) c.each.b c.index-in-each.result.now laid refl lb c.index-in-each.ensures in
     let first : c.index.result.now ≡ slice_index p.firsts.items c.each.b =
     get_or_read p.firsts.items c.each.b c.index.result.now (omega (arith, lb, laid.placed.firsts_len)) c.index.ensures 0 in
-    let size : c.len.result ≡ count (block_at w c.each.b) = omega (arith, c.len.ensures, ap (λ (B : BlockView). count B) at.is) in
+    let size : c.len.result ≡ count (block_at w c.each.b) = omega (arith, c.len.ensures.value, ap (λ (B : BlockView). count B) at.is) in
     let blocks : length p.blocks.items ≡ s.blocks = ap (λ (t : State). t.blocks) c.parts-parts.ensures.shown in
     let is = c.write_block.ensures in
     let was = subst (λ k. (v : ℕ) → v < nodes s.net → block_of s.net k v < c.each.b → slice_index c.each.homes v ≡ block_of s.net k v) (sym blocks) c.each.invariant.1 in (

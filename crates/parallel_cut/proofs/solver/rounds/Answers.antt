@@ -1,8 +1,11 @@
 use Rattle.std.proofs.Common.{rules}
 use Rattle.parallel_cut.proofs.solver.rounds.Goals as goal
 
+pub rounds-init : goal.rounds-init
+rounds-init g c = (search, search rules, search rules)
+
 pub rounds-preserved : goal.rounds-preserved
 rounds-preserved g c = (search, search rules, search rules)
 
-pub returns-then-is_none_active-clause-net : goal.returns-then-is_none_active-clause-net
-returns-then-is_none_active-clause-net g c = search
+pub returns-clause-ended : goal.returns-clause-ended
+returns-clause-ended g c = search rules
