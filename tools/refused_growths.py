@@ -5,8 +5,9 @@
 
 For each input and each N, the N-th call that asks for memory (malloc or realloc) answers none, until a run meets
 none. Such a run has to end with `refused 0` and nothing written, or with exactly the answer that ample memory gives
-(a library may do without what it was refused). The calls are counted and refused by a small library that is loaded
-before the C library; a C compiler is needed to build it. The status is 1 where a run ended otherwise.
+(a library may do without what it was refused); with workers also with `refused 22`, where one could not be started.
+The calls are counted and refused by a small library that is loaded before the C library; a C compiler is needed to
+build it. The status is 1 where a run ended otherwise.
 """
 import argparse
 import os
@@ -17,8 +18,9 @@ import tempfile
 SHIM = r'''
 #define _GNU_SOURCE
 #include <dlfcn.h>
-#include <stdio.h>
+#include <fcntl.h>
 #include <stdlib.h>
+#include <unistd.h>
 static long count, refused = -1;
 static void *(*next_malloc)(size_t);
 static void *(*next_realloc)(void *, size_t);
@@ -28,12 +30,15 @@ static void begin(void) {
   next_realloc = (void *(*)(void *, size_t))dlsym(RTLD_NEXT, "realloc");
   if (getenv("REFUSED_GROWTH")) refused = atol(getenv("REFUSED_GROWTH"));
 }
-void *malloc(size_t size) { begin(); return ++count == refused ? 0 : next_malloc(size); }
-void *realloc(void *old, size_t size) { begin(); return ++count == refused ? 0 : next_realloc(old, size); }
-__attribute__((destructor)) static void end(void) {
-  FILE *file = getenv("GROWTHS") ? fopen(getenv("GROWTHS"), "w") : 0;
-  if (file) { fprintf(file, "%ld", count); fclose(file); }
+static int is_refused(void) {
+  if (__atomic_add_fetch(&count, 1, __ATOMIC_SEQ_CST) != refused) return 0;
+  int file = open(getenv("MET"), O_WRONLY);
+  (void)!write(file, "x", 1);
+  close(file);
+  return 1;
 }
+void *malloc(size_t size) { begin(); return is_refused() ? 0 : next_malloc(size); }
+void *realloc(void *old, size_t size) { begin(); return is_refused() ? 0 : next_realloc(old, size); }
 '''
 
 PAIR = b'P5\n4 1\n9\n\0\t\0\0P5\n4 1\n9\n\t\0\0\0'
@@ -49,17 +54,21 @@ CASES = [
     (['restore', '--weight', '1', '--moves', 'swap'], b'P5\n3 1\n3\n\0\3\0'),
     (['stereo', '--labels', '2', '--cap', '9', '--weight', '1'], PAIR),
     (['segment', '--low', '11', '--high', '200'], SEEDED),
+    (['label', '--bound'], b'sites = 2\nlabels = 3\ndata = [0,3,9,9,3,0]\nlabel_costs = [5,5,5]'),
+    (['restore', '--label-cost', '1', '--bound'], b'P5\n3 1\n3\n\0\3\0'),
+    (['restore', '--weight', '1', '--threads', '2'], b'P5\n3 1\n3\n\0\3\0'),
+    (['label', '--threads', '2', '--blocks', '2'], b'sites = 2\nlabels = 2\ndata = [0,3,3,0]\npairs = [[0,1],[0,1]]'),
     (['restore', '--help'], b''),
     (['paint'], b''),
 ]
 
 
-def run(gco, words, given, shim, **more):
-    """The status and both streams of a run, and how many growths it asked for."""
-    with tempfile.NamedTemporaryFile() as told:
-        environment = dict(os.environ, LD_PRELOAD=shim, GROWTHS=told.name, **more)
+def run(gco, words, given, shim, growth):
+    """The status and both streams of a run whose growth of this number is refused, and whether it had so many."""
+    with tempfile.NamedTemporaryFile() as met:
+        environment = dict(os.environ, LD_PRELOAD=shim, MET=met.name, REFUSED_GROWTH=str(growth))
         done = subprocess.run([gco] + words, input=given, capture_output=True, env=environment)
-        return (done.returncode, done.stdout, done.stderr), int(told.read() or b'0')
+        return (done.returncode, done.stdout, done.stderr), met.read() != b''
 
 
 def main():
@@ -71,14 +80,19 @@ def main():
         shim = folder + '/shim.so'
         subprocess.run(['cc', '-O1', '-shared', '-fPIC', '-x', 'c', '-', '-o', shim, '-ldl'], input=SHIM.encode(), check=True)
         for words, given in CASES:
-            whole, growths = run(gco, words, given, shim)
-            refused = 0
-            for growth in range(1, growths + 1):
-                ended, _ = run(gco, words, given, shim, REFUSED_GROWTH=str(growth))
-                refused += ended == (1, b'', b'refused 0\n')
-                if ended not in (whole, (1, b'', b'refused 0\n')):
+            whole, met = run(gco, words, given, shim, -1)
+            right = [whole, (1, b'', b'refused 0\n')]
+            if '--threads' in words:
+                right.append((1, b'', b'refused 22\n'))
+            growths = refused = 0
+            ended, met = run(gco, words, given, shim, 1)
+            while met:
+                growths += 1
+                refused += ended != whole
+                if ended not in right:
                     wrong += 1
-                    print('growth %d of gco %s: %r' % (growth, ' '.join(words), ended))
+                    print('growth %d of gco %s: %r' % (growths, ' '.join(words), ended))
+                ended, met = run(gco, words, given, shim, growths + 1)
             print('%4d growths, %4d times refused: gco %s' % (growths, refused, ' '.join(words)))
     sys.exit(1 if wrong else 0)
 

@@ -3,25 +3,24 @@ use Rattle.std.specs.Prelude.{◌≡◌, false, true, codes}
 use Rattle.clap.specs.Words.{App, app_of, new_app, with_subcommand}
 use Rattle.clap.specs.declared.builder.command.Command.{Command}
 use Rattle.clap.specs.declared.builder.command.Command.TheViews.{out-Command}
-use Rattle.command_line.specs.Rules.{restore_rules, segment_rules, stereo_rules, with_rules}
+use Rattle.command_line.specs.Rules.{label_rules, restore_rules, segment_rules, shared_rules, stereo_rules, with_rules, worker_rules}
 
--- `energy` has no options of its own
+-- each command has the options of the workers; `energy` has none of its own
 unfoldable pub energy_app : App
-energy_app = new_app (codes "energy")
+energy_app = with_rules (new_app (codes "energy")) worker_rules
 
--- nor has `label`
 unfoldable pub label_app : App
-label_app = new_app (codes "label")
+label_app = with_rules (with_rules (new_app (codes "label")) label_rules) worker_rules
 
 unfoldable pub restore_app : App
-restore_app = with_rules (new_app (codes "restore")) restore_rules
+restore_app = with_rules (with_rules (with_rules (new_app (codes "restore")) shared_rules) restore_rules) worker_rules
 
--- `stereo` has the options of `restore`, and two more
+-- `stereo` shares options with `restore`, and has others
 unfoldable pub stereo_app : App
-stereo_app = with_rules (with_rules (new_app (codes "stereo")) restore_rules) stereo_rules
+stereo_app = with_rules (with_rules (with_rules (new_app (codes "stereo")) shared_rules) stereo_rules) worker_rules
 
 unfoldable pub segment_app : App
-segment_app = with_rules (new_app (codes "segment")) segment_rules
+segment_app = with_rules (with_rules (new_app (codes "segment")) segment_rules) worker_rules
 
 -- the words have to name a subcommand
 abbrev pub requiring_subcommand : App → App

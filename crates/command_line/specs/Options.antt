@@ -1,5 +1,6 @@
 -- What the options of a subcommand say, by its matches.
-use Rattle.std.specs.Prelude.{◌≡◌, ◌≢◌, ℕ, ◌≤◌, Option, Some, None, option_and_then, IsSomeAnd, List, codes}
+use Rattle.block_net.specs.Limits.{block_limit}
+use Rattle.std.specs.Prelude.{◌≡◌, ◌≢◌, ◌↔◌, ℕ, ◌≤◌, Bool, IsTrue, Option, Some, None, option_and_then, IsSomeAnd, List, codes}
 use Rattle.std.specs.Str.Parse.{IsNumeral, digits_value, without_leading_plus}
 use Rattle.clap.specs.Words.{Row, Text, first_of, one_of}
 use Rattle.image_options.specs.Limits.{cap_limit, maxval_limit}
@@ -9,10 +10,13 @@ use Rattle.image_options.specs.declared.options.RestoreOptions.{RestoreOptions}
 use Rattle.image_options.specs.declared.options.StereoOptions.{StereoOptions}
 use Rattle.image_options.specs.declared.options.SegmentOptions.{SegmentOptions}
 use Rattle.label_field.specs.Limits.{label_limit, weight_limit}
-use Rattle.run_options.specs.Limits.{cycle_limit, trunc_limit}
+use Rattle.run_options.specs.Limits.{cycle_limit, label_cost_limit, trunc_limit}
 use Rattle.run_options.specs.Names.{moves_named, shape_named}
 use Rattle.run_options.specs.declared.moves.Moves.{Moves}
 use Rattle.run_options.specs.declared.shape.Shape.{Shape}
+use Rattle.worker_options.specs.Limits.{ring_limit, round_limit, thread_limit, turn_limit}
+use Rattle.worker_options.specs.declared.options.Options.{Options}
+use Rattle.command_line.specs.declared.values.Shared.{Shared}
 use Rattle.command_line.specs.declared.task.OptionName.{OptionName}
 use Rattle.command_line.specs.declared.task.OptionName.TheVariants as option
 
@@ -52,26 +56,53 @@ pub record AreNames (rows : List Row) (smooth : Shape) (neighbours : Neighbours)
   pub neighbours_are : HasNeighbours rows neighbours
   pub moves_are : moves_of rows ≡ Some moves
 
--- these are the options of `restore`
-pub record IsRestore (rows : List Row) (o : RestoreOptions) : Type 0 where
+-- the flag of this name is up exactly where its value is `true`, as clap has it where the words have the flag
+abbrev pub HasFlag : List Row → Text → Bool → Type 0
+HasFlag rows name flag = IsTrue flag ↔ (first_of name rows ≡ Some (codes "true"))
+
+-- the options that `restore` and `stereo` share
+pub record IsShared (rows : List Row) (o : Shared) : Type 0 where
   pub names : AreNames rows o.smooth o.neighbours o.moves
   pub trunc : HasNumber rows (codes "trunc") 1 trunc_limit o.trunc
   pub weight : HasNumber rows (codes "weight") 0 weight_limit o.weight
   pub cycles : HasNumber rows (codes "cycles") 0 cycle_limit o.cycles
+  pub bound : HasFlag rows (codes "bound") o.bound
 
--- the options that `stereo` shares with `restore`
-abbrev pub shared : StereoOptions → RestoreOptions
-shared o = record {
+-- the cost of each label by itself, where it is asked for
+abbrev pub HasLabelCost : List Row → Option ℕ → Type 0
+HasLabelCost rows None = (cost : ℕ) → ¬ HasNumber rows (codes "label-cost") 0 label_cost_limit cost
+HasLabelCost rows (Some cost) = HasNumber rows (codes "label-cost") 0 label_cost_limit cost
+
+-- these are the options of `restore`
+abbrev pub restore_shared : RestoreOptions → Shared
+restore_shared o = record {
   smooth = o.smooth;
   trunc = o.trunc;
   weight = o.weight;
   neighbours = o.neighbours;
   moves = o.moves;
   cycles = o.cycles;
+  bound = o.bound;
+}
+
+pub record IsRestore (rows : List Row) (o : RestoreOptions) : Type 0 where
+  pub shared : IsShared rows (restore_shared o)
+  pub label_cost : HasLabelCost rows o.label_cost
+
+-- these are the options of `stereo`
+abbrev pub stereo_shared : StereoOptions → Shared
+stereo_shared o = record {
+  smooth = o.smooth;
+  trunc = o.trunc;
+  weight = o.weight;
+  neighbours = o.neighbours;
+  moves = o.moves;
+  cycles = o.cycles;
+  bound = o.bound;
 }
 
 pub record IsStereo (rows : List Row) (o : StereoOptions) : Type 0 where
-  pub restore : IsRestore rows (shared o)
+  pub shared : IsShared rows (stereo_shared o)
   pub labels : HasNumber rows (codes "labels") 1 label_limit o.labels
   pub cap : HasNumber rows (codes "cap") 0 cap_limit o.cap
 
@@ -83,6 +114,19 @@ pub record IsSegment (rows : List Row) (o : SegmentOptions) : Type 0 where
   pub edge : HasNumber rows (codes "edge") 0 maxval_limit o.edge
   pub neighbours : HasNeighbours rows o.neighbours
   pub cycles : HasNumber rows (codes "cycles") 0 cycle_limit o.cycles
+
+-- these are the options of the workers
+pub record AreWorkers (rows : List Row) (o : Options) : Type 0 where
+  pub threads : HasNumber rows (codes "threads") 1 thread_limit o.threads
+  pub blocks : HasNumber rows (codes "blocks") 1 block_limit o.blocks
+  pub ring : HasNumber rows (codes "ring") 1 ring_limit o.ring
+  pub turns : HasNumber rows (codes "turns") 0 turn_limit o.turns
+  pub rounds : HasNumber rows (codes "rounds") 0 round_limit o.rounds
+
+-- whether workers are asked for, and which: all but the number of threads have defaults
+abbrev pub HasWorkers : List Row → Option Options → Type 0
+HasWorkers rows None = (o : Options) → ¬ AreWorkers rows o
+HasWorkers rows (Some o) = AreWorkers rows o
 
 -- the value of this option is no name that it takes
 abbrev pub IsBad : List Row → OptionName → Type 0

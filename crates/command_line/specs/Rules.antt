@@ -1,12 +1,15 @@
 -- The options of the commands, as `clap` is told of them.
 use Rattle.std.specs.Prelude.{◌≡◌, ℕ, pos, true, List, [], ◌∷◌, Some, codes}
 use Rattle.clap.specs.Words.{App, Rule, Text, app_of, new_rule, with_rule}
+use Rattle.clap.specs.declared.builder.action.ArgAction.TheVariants.{SetTrue}
 use Rattle.clap.specs.declared.builder.command.Command.{Command}
 use Rattle.clap.specs.declared.builder.command.Command.TheViews.{out-Command}
 use Rattle.clap.specs.declared.builder.value_parser.ValueParser.TheVariants.{Signed}
 use Rattle.image_options.specs.Limits.{cap_limit, maxval_limit}
 use Rattle.label_field.specs.Limits.{label_limit, weight_limit}
-use Rattle.run_options.specs.Limits.{cycle_limit, trunc_limit}
+use Rattle.run_options.specs.Limits.{cycle_limit, label_cost_limit, trunc_limit}
+use Rattle.block_net.specs.Limits.{block_limit}
+use Rattle.worker_options.specs.Limits.{ring_limit, round_limit, thread_limit, turn_limit}
 
 -- `--name` with any text as its value, or else the default
 abbrev pub text_rule : Text → Text → Rule
@@ -34,9 +37,16 @@ neighbours_rule = defaulted_rule (codes "neighbours") 4 8 (codes "4")
 abbrev pub cycles_rule : Rule
 cycles_rule = defaulted_rule (codes "cycles") 0 cycle_limit (codes "100")
 
--- the options of `restore`
-abbrev pub restore_rules : List Rule
-restore_rules =
+-- the flag `--name`
+abbrev pub flag_rule : Text → Rule
+flag_rule name = record (new_rule name) { long = Some name; action = Some SetTrue }
+
+abbrev pub bound_rule : Rule
+bound_rule = flag_rule (codes "bound")
+
+-- the options that `restore` and `stereo` share
+abbrev pub shared_rules : List Rule
+shared_rules =
     text_rule (codes "smooth") (codes "potts")
     ∷ defaulted_rule (codes "trunc") 1 trunc_limit (codes "1")
     ∷ defaulted_rule (codes "weight") 0 weight_limit (codes "1")
@@ -45,12 +55,21 @@ restore_rules =
     ∷ cycles_rule
     ∷ []
 
--- those that `stereo` has after these
+-- those that `restore` has after these
+abbrev pub restore_rules : List Rule
+restore_rules = number_rule (codes "label-cost") 0 label_cost_limit ∷ bound_rule ∷ []
+
+-- and those that `stereo` has
 abbrev pub stereo_rules : List Rule
 stereo_rules =
     defaulted_rule (codes "labels") 1 label_limit (codes "16")
     ∷ defaulted_rule (codes "cap") 0 cap_limit (codes "20")
+    ∷ bound_rule
     ∷ []
+
+-- the options of `label`
+abbrev pub label_rules : List Rule
+label_rules = bound_rule ∷ []
 
 -- the options of `segment`
 abbrev pub segment_rules : List Rule
@@ -62,6 +81,16 @@ segment_rules =
     ∷ defaulted_rule (codes "edge") 0 maxval_limit (codes "5")
     ∷ neighbours_rule
     ∷ cycles_rule
+    ∷ []
+
+-- the options of the workers, which each command has after its own
+abbrev pub worker_rules : List Rule
+worker_rules =
+    number_rule (codes "threads") 1 thread_limit
+    ∷ defaulted_rule (codes "blocks") 1 block_limit (codes "16")
+    ∷ defaulted_rule (codes "ring") 1 ring_limit (codes "64")
+    ∷ defaulted_rule (codes "turns") 0 turn_limit (codes "4096")
+    ∷ defaulted_rule (codes "rounds") 0 round_limit (codes "64")
     ∷ []
 
 -- the command with these options after its own

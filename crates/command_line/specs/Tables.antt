@@ -5,11 +5,11 @@ use Rattle.clap.specs.Words.{Text as Word}
 use Rattle.clap.specs.declared.builder.command.Command.{Command}
 use Rattle.clap.specs.declared.builder.command.Command.TheViews.{out-Command}
 use Rattle.clap.specs.declared.builder.value_parser.ValueParser.TheVariants.{Signed}
-use Rattle.command_line.specs.Rules.{defaulted_rule, required_rule, text_rule, with_rules}
+use Rattle.command_line.specs.Rules.{defaulted_rule, flag_rule, number_rule, required_rule, text_rule, with_rules, worker_rules}
 use Rattle.command_line.specs.declared.app.Chapter.{Chapter}
 use Rattle.command_line.specs.declared.rules.Choice.{Choice}
 use Rattle.command_line.specs.declared.rules.Value.{Value}
-use Rattle.command_line.specs.declared.rules.Value.TheVariants.{Text, Number, Required}
+use Rattle.command_line.specs.declared.rules.Value.TheVariants.{Text, Number, Required, Optional, Flag}
 
 -- a rule whose value is a number from the least to the most
 abbrev pub with_range : Rule → ℕ → ℕ → Rule
@@ -20,6 +20,8 @@ abbrev pub rule_of_value : Word → Value → Rule
 rule_of_value name (Text default) = text_rule name default.now
 rule_of_value name (Number least most default) = defaulted_rule name least most default.now
 rule_of_value name (Required least most) = required_rule name least most
+rule_of_value name (Optional least most) = number_rule name least most
+rule_of_value name Flag = flag_rule name
 
 abbrev pub rule_for : Choice → Rule
 rule_for choice = rule_of_value choice.name.now choice.value
@@ -30,7 +32,7 @@ rules_for (choice ∷ choices) = rule_for choice ∷ rules_for choices
 
 -- what a command of the table is
 abbrev pub app_for : Chapter → App
-app_for chapter = with_rules (new_app chapter.name.now) (rules_for chapter.options.now)
+app_for chapter = with_rules (with_rules (new_app chapter.name.now) (rules_for chapter.options.now)) worker_rules
 
 abbrev pub with_chapters : App → List Chapter → App
 with_chapters a [] = a

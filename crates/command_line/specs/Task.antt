@@ -1,15 +1,17 @@
 -- What the words of a command line ask for.
-use Rattle.std.specs.Prelude.{◌≡◌, ◌≢◌, ◌⊎◌, ⊤, [], List, IsSomeAnd, codes}
+use Rattle.std.specs.Prelude.{◌≡◌, ◌≢◌, ◌⊎◌, ⊤, [], List, IfSome, IsSomeAnd, codes}
 use Rattle.clap.specs.Words.{IsAmong, Row, Text, fault_of, kind_of, subcommand_of}
 use Rattle.clap.specs.declared.error.Error.{Error}
 use Rattle.clap.specs.declared.error.ErrorKind.{ErrorKind}
 use Rattle.clap.specs.declared.error.ErrorKind.TheVariants as kind
 use Rattle.image_options.specs.Ranges.{AreRestoreOptions, AreSegmentOptions, AreStereoOptions}
 use Rattle.command_line.specs.App.{gco_app}
-use Rattle.command_line.specs.Options.{IsFirstBad, IsOnlyBad, IsRestore, IsSegment, IsStereo}
+use Rattle.command_line.specs.Options.{HasFlag, HasWorkers, IsFirstBad, IsOnlyBad, IsRestore, IsSegment, IsStereo}
 use Rattle.command_line.specs.declared.task.NoTask.{NoTask}
 use Rattle.command_line.specs.declared.task.NoTask.TheVariants.{OutOfMemory, Help, Refused, BadOption}
 use Rattle.command_line.specs.declared.task.OptionName.{OptionName}
+use Rattle.worker_options.specs.Ranges.{AreInRange}
+use Rattle.command_line.specs.declared.task.Request.{Request}
 use Rattle.command_line.specs.declared.task.Task.{Task}
 use Rattle.command_line.specs.declared.task.Task.TheVariants.{Energy, Label, Restore, Stereo, Segment}
 use Rattle.command_line.specs.declared.values.Unmet.{Unmet}
@@ -22,10 +24,14 @@ IsAccepted words = fault_of gco_app words ≡ []
 -- the task of a subcommand, by its name and its matches
 abbrev pub IsTaskOf : Text → List Row → Task → Type 0
 IsTaskOf name rows Energy = name ≡ codes "energy"
-IsTaskOf name rows Label = name ≡ codes "label"
+IsTaskOf name rows (Label bound) = (name ≡ codes "label") × HasFlag rows (codes "bound") bound
 IsTaskOf name rows (Restore o) = (name ≡ codes "restore") × IsRestore rows o
 IsTaskOf name rows (Stereo o) = (name ≡ codes "stereo") × IsStereo rows o
 IsTaskOf name rows (Segment o) = (name ≡ codes "segment") × IsSegment rows o
+
+-- what a subcommand asks for: its task, and the workers that are to do it
+abbrev pub IsRequestOf : Text → List Row → Request → Type 0
+IsRequestOf name rows request = IsTaskOf name rows request.task × HasWorkers rows request.workers
 
 -- this option of a subcommand is the first whose value is no name that it takes
 abbrev pub IsBadOptionOf : Text → List Row → OptionName → Type 0
@@ -33,9 +39,9 @@ IsBadOptionOf name rows option =
     (((name ≡ codes "restore") ⊎ (name ≡ codes "stereo")) × IsFirstBad rows option)
     ⊎ ((name ≡ codes "segment") × IsOnlyBad rows option)
 
--- the words are a command line that names a subcommand, and it has this task
-abbrev pub Asks : List Text → Task → Type 0
-Asks words task = IsAccepted words × IsSomeAnd (subcommand_of gco_app words) (λ p. IsTaskOf p.0 p.1 task)
+-- the words are a command line that names a subcommand, and it asks for this
+abbrev pub Asks : List Text → Request → Type 0
+Asks words request = IsAccepted words × IsSomeAnd (subcommand_of gco_app words) (λ p. IsRequestOf p.0 p.1 request)
 
 -- the words are a command line, and this option of its subcommand is the first bad one
 abbrev pub NamesBadOption : List Text → OptionName → Type 0
@@ -43,12 +49,16 @@ NamesBadOption words option =
     IsAccepted words × IsSomeAnd (subcommand_of gco_app words) (λ p. IsBadOptionOf p.0 p.1 option)
 
 -- the options of the task are in their ranges
-abbrev pub Fits : Task → Type 0
-Fits Energy = ⊤
-Fits Label = ⊤
-Fits (Restore o) = AreRestoreOptions o
-Fits (Stereo o) = AreStereoOptions o
-Fits (Segment o) = AreSegmentOptions o
+abbrev pub FitsTask : Task → Type 0
+FitsTask Energy = ⊤
+FitsTask (Label bound) = ⊤
+FitsTask (Restore o) = AreRestoreOptions o
+FitsTask (Stereo o) = AreStereoOptions o
+FitsTask (Segment o) = AreSegmentOptions o
+
+-- and those of the workers
+abbrev pub Fits : Request → Type 0
+Fits request = FitsTask request.task × IfSome request.workers AreInRange
 
 -- what clap tells is help that was asked for
 abbrev pub IsHelp : ErrorKind → Type 0
@@ -62,7 +72,7 @@ AsksForHelp words = (k : ErrorKind) × IsHelp k × IsAmong k (fault_of gco_app w
 -- option. Of the word `help` both are said by clap: help, and that it is no subcommand.
 abbrev pub AreRefused : List Text → Type 0
 AreRefused words = ((k : ErrorKind) × (¬ IsHelp k) × IsAmong k (fault_of gco_app words))
-    ⊎ (IsAccepted words × ((task : Task) → ¬ Asks words task)
+    ⊎ (IsAccepted words × ((request : Request) → ¬ Asks words request)
     × ((option : OptionName) → ¬ NamesBadOption words option))
 
 -- why these words give no task: memory may always be refused

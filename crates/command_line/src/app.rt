@@ -6,7 +6,7 @@ ghost use Rattle.command_line.specs.Tables.{AddsChapters, app_for, with_chapters
 
 use crate::help;
 use crate::help::After;
-use crate::rules::{Choice, RESTORE, SEGMENT, STEREO, with_options};
+use crate::rules::{Choice, LABEL, RESTORE, SEGMENT, STEREO, with_options, worker_choices};
 use clap::Command;
 use std::alloc::{AllocError, Global};
 
@@ -49,7 +49,7 @@ const CHAPTERS: &[Chapter] = &[
         name: "label",
         about: help::LABEL,
         after: After::Label,
-        options: &[],
+        options: LABEL,
     },
 ];
 
@@ -99,5 +99,6 @@ fn chapter_command<'a>(alloc: Global, chapter: &Chapter) -> Result<Command<'a>, 
     let command = Command::new(alloc, chapter.name)
         .about(chapter.about)
         .after_help(chapter.after.text());
-    with_options(alloc, command, chapter.options)
+    let command = with_options(alloc, command, chapter.options)?;
+    with_options(alloc, command, worker_choices())
 }

@@ -15,7 +15,7 @@ Exit status:
 Example:
   gco restore --smooth linear --trunc 40 < noisy.pgm > restored.pgm
 
-`gco COMMAND --help` says what a command reads and writes.";
+`gco COMMAND --help` says what a command reads and writes, and when `--threads` pays.";
 
 /// The command whose help has a text after the options.
 pub enum After {
@@ -46,9 +46,17 @@ pub const RESTORE: &str = "Restores a picture: reads one PGM image, writes one";
 const RESTORE_AFTER: &str = "\
 Reads a PGM image of at most 256 grey levels and writes one of the same size and levels: each pixel gets a
 level near its own, with few and small jumps between neighbours. The energy is the sum of the differences
-between old and new levels, plus the weight times the cost of each two neighbours' levels. It is made
-smaller by moves, each to the best picture that it reaches. Then standard error has the line
-`energy E data D smooth S`.
+between old and new levels, plus the weight times the cost of each two neighbours' levels, plus the label
+cost for each level that some pixel has (gco-v3's setLabelCost, for all labels). It is made smaller by
+moves, each to the best picture that it reaches. Then standard error has the line
+`energy E data D smooth S`, with ` label L` at its end where `--label-cost` was given.
+
+With `--bound` the line `bound A B` comes after it: A times the energy is at most B times that of any
+picture. It is `bound none` where no such numbers are known: after swaps, where the last cycle still
+changed something, with a label cost above 0, and for costs that are no metric, as quadratic ones mostly.
+
+`--threads` pays for large pictures with heavy cuts, as of weights from 4 on.
+Where moves leave fewer than some 20000 pixels undecided, threads cost more time than they save.
 
 Exit status: 0 answered, 1 refused (standard error has one line `refused N ..`), 2 not understood.
 
@@ -66,6 +74,13 @@ left one: label l says that it stands l columns further left in the right one. A
 of the two samples, or the cap where that is less or no such column is there, plus the weight times the
 cost of each two neighbours' labels. Then standard error has the line `energy E data D smooth S`.
 
+With `--bound` the line `bound A B` comes after it: A times the energy is at most B times that of any
+labels. It is `bound none` where no such numbers are known: after swaps, where the last cycle still
+changed something, and for costs that are no metric, as quadratic ones mostly are.
+
+`--threads` pays for large pictures with heavy cuts, as of weights from 4 on.
+Where moves leave fewer than some 20000 pixels undecided, threads cost more time than they save.
+
 Exit status: 0 answered, 1 refused (standard error has one line `refused N ..`), 2 not understood.
 
 Example:
@@ -81,6 +96,9 @@ Reads two PGM images of one size, the picture and then its seeds (0 free, 1 labe
 an image with the label of each pixel. A free pixel's label costs its difference from the low sample (label
 0) or the high one (label 1), a seed's other label 10000000. Two neighbours of unlike labels cost `strong`,
 or `weak` where an edge runs between them. Then standard error has the line `energy E data D smooth S`.
+
+`--threads` pays for large pictures with heavy cuts, as of weights from 4 on.
+Where moves leave fewer than some 20000 pixels undecided, threads cost more time than they save.
 
 Exit status: 0 answered, 1 refused (standard error has one line `refused N ..`), 2 not understood.
 
@@ -101,6 +119,11 @@ pub const MOVES: &str = "Moves to make: expansion (of one label) or swap (of two
 
 pub const CYCLES: &str = "Most cycles of moves, 0 to 1000; one that changes nothing is the last";
 
+pub const LABEL_COST: &str =
+    "Cost of each label that some pixel has, 0 to 10000000; above 0 with expansions alone";
+
+pub const BOUND: &str = "Also say how near the energy is to the least, by a line `bound A B`";
+
 pub const LABELS: &str = "How many labels, 1 to 256";
 
 pub const CAP: &str = "Greatest cost of a label at a pixel, 0 to 10000000";
@@ -115,6 +138,20 @@ pub const WEAK: &str = "Cost of unlike labels across an edge, 0 to 1000";
 
 pub const EDGE: &str = "Greatest difference of samples that is no edge, 0 to 65535";
 
+pub const THREADS: &str =
+    "Workers that make each cut together, 1 to 64; without it one thread cuts. The answer is the same";
+
+pub const BLOCKS: &str = "With --threads: blocks that a cut is split in, 1 to 256";
+
+pub const RING: &str =
+    "With --threads: most messages on the way from one block to another, 1 to 65536";
+
+pub const TURNS: &str =
+    "With --threads: most turns drawn in a round, beside the first of each block, 0 to 1000000";
+
+pub const ROUNDS: &str =
+    "With --threads: most rounds of a cut; one thread then ends it, 0 to 10000";
+
 /// What `gco energy` is.
 pub const ENERGY: &str = "The least value of an energy of yes-no variables, and where it stands";
 
@@ -125,6 +162,8 @@ with the table of their values. Each term has to be regular.
 
 Writes two lines: `minimum M`, and `assignment` with one digit for each variable. Of the least
 assignments it is the one with the fewest ones.
+
+`--threads` pays for large energies, of some 200000 variables and more.
 
 Exit status: 0 answered, 1 refused (standard error has one line `refused N ..`), 2 not understood.
 
@@ -141,12 +180,20 @@ pub const LABEL: &str = "A labelling of low energy, by expansions of labels or s
 const LABEL_AFTER: &str = "\
 Reads a TOML file: the numbers of sites and labels, the cost of each label at each site (data), the cost
 of two labels at the sites of a pair (smooth, trunc), the pairs with their weights (pairs), the
-labelling to start from (start), and the moves to make (moves, cycles). What is left out has a default,
-but for sites, labels and data.
+labelling to start from (start), the moves to make (moves, cycles), and the cost of each label that some
+site has (label_costs, gco-v3's setLabelCost, for expansions alone). What is left out has a default, but
+for sites, labels and data.
 
 Makes cycles of moves, each to the best labelling that it reaches, until one changes nothing or as many
-as are allowed are done. Writes two lines: `energy E data D smooth S`, the energy and its two parts, and
-`labels` with the label of each site.
+as are allowed are done. Writes two lines: `energy E data D smooth S`, the energy and its parts, with
+` label L` at its end where the file has label_costs, and `labels` with the label of each site.
+
+With `--bound` a third line is `bound A B`: A times the energy is at most B times that of any labelling.
+It is `bound none` where no such numbers are known: after swaps, where the last cycle still changed
+something, with a label cost above 0, and where smooth is no metric, as quadratic costs mostly are none.
+
+`--threads` pays for many sites with heavy cuts, as of weights from 4 on.
+Where moves leave fewer than some 20000 sites undecided, threads cost more time than they save.
 
 Exit status: 0 answered, 1 refused (standard error has one line `refused N ..`), 2 not understood.
 

@@ -1,16 +1,18 @@
 //! The options of the commands, as `clap` is told of them.
 ghost use Rattle.std.specs.Prelude.{◌≡◌, false, IfOk};
 ghost use Rattle.clap.specs.Words.{rule_of};
-ghost use Rattle.command_line.specs.Rules.{Adds};
+ghost use Rattle.command_line.specs.Rules.{Adds, worker_rules};
 ghost use Rattle.command_line.specs.Tables.{rule_for, rules_for, with_range};
 
 use crate::help;
+use block_net::BLOCK_LIMIT;
 use clap::builder::ValueParser;
-use clap::{Arg, Command};
+use clap::{Arg, ArgAction, Command};
 use image_options::{CAP_LIMIT, MAXVAL_LIMIT};
 use label_field::{LABEL_LIMIT, WEIGHT_LIMIT};
-use run_options::{CYCLE_LIMIT, TRUNC_LIMIT};
+use run_options::{CYCLE_LIMIT, LABEL_COST_LIMIT, TRUNC_LIMIT};
 use std::alloc::{AllocError, Global};
+use worker_options::{RING_LIMIT, ROUND_LIMIT, THREAD_LIMIT, TURN_LIMIT};
 
 /// What the value of an option is.
 pub(crate) enum Value {
@@ -20,9 +22,13 @@ pub(crate) enum Value {
     Number(u32, u32, &'static str),
     /// A number from the first to the second, which has to be given.
     Required(u32, u32),
+    /// A number from the first to the second, or none.
+    Optional(u32, u32),
+    /// No value: the option stands there or not.
+    Flag,
 }
 
-/// The option `--name`, which takes one value.
+/// The option `--name`, which takes one value or, a flag, none.
 pub(crate) struct Choice {
     pub(crate) name: &'static str,
     pub(crate) value: Value,
@@ -63,6 +69,18 @@ const CYCLES: Choice = Choice {
     name: "cycles",
     value: Value::Number(0, CYCLE_LIMIT, "100"),
     help: help::CYCLES,
+};
+
+const LABEL_COST: Choice = Choice {
+    name: "label-cost",
+    value: Value::Optional(0, LABEL_COST_LIMIT),
+    help: help::LABEL_COST,
+};
+
+const BOUND: Choice = Choice {
+    name: "bound",
+    value: Value::Flag,
+    help: help::BOUND,
 };
 
 const LABELS: Choice = Choice {
@@ -107,16 +125,64 @@ const EDGE: Choice = Choice {
     help: help::EDGE,
 };
 
-/// The options of `restore`.
-pub(crate) const RESTORE: &[Choice] = &[SMOOTH, TRUNC, WEIGHT, NEIGHBOURS, MOVES, CYCLES];
+const THREADS: Choice = Choice {
+    name: "threads",
+    value: Value::Optional(1, THREAD_LIMIT),
+    help: help::THREADS,
+};
 
-/// The options of `stereo`: those of `restore`, and two more.
+const BLOCKS: Choice = Choice {
+    name: "blocks",
+    value: Value::Number(1, MOST_BLOCKS, "16"),
+    help: help::BLOCKS,
+};
+
+const RING: Choice = Choice {
+    name: "ring",
+    value: Value::Number(1, RING_LIMIT, "64"),
+    help: help::RING,
+};
+
+const TURNS: Choice = Choice {
+    name: "turns",
+    value: Value::Number(0, TURN_LIMIT, "4096"),
+    help: help::TURNS,
+};
+
+const ROUNDS: Choice = Choice {
+    name: "rounds",
+    value: Value::Number(0, ROUND_LIMIT, "64"),
+    help: help::ROUNDS,
+};
+
+/// The options of the workers, which each command has after its own.
+const WORKERS: &[Choice] = &[THREADS, BLOCKS, RING, TURNS, ROUNDS];
+
+/// The most blocks.
+pub(crate) const MOST_BLOCKS: u32 = BLOCK_LIMIT as u32;
+
+/// The options of `restore`.
+pub(crate) const RESTORE: &[Choice] = &[
+    SMOOTH, TRUNC, WEIGHT, NEIGHBOURS, MOVES, CYCLES, LABEL_COST, BOUND,
+];
+
+/// The options of `stereo`.
 pub(crate) const STEREO: &[Choice] = &[
-    SMOOTH, TRUNC, WEIGHT, NEIGHBOURS, MOVES, CYCLES, LABELS, CAP,
+    SMOOTH, TRUNC, WEIGHT, NEIGHBOURS, MOVES, CYCLES, LABELS, CAP, BOUND,
 ];
 
 /// The options of `segment`.
 pub(crate) const SEGMENT: &[Choice] = &[LOW, HIGH, STRONG, WEAK, EDGE, NEIGHBOURS, CYCLES];
+
+/// The options of `label`.
+pub(crate) const LABEL: &[Choice] = &[BOUND];
+
+/// The options of the workers.
+pub(crate) fn worker_choices() -> &'static [Choice]
+    ensures { rules_for result.now ≡ worker_rules }
+{
+    WORKERS
+}
 
 /// Adds the options to the command.
 pub(crate) fn with_options<'a>(
@@ -146,6 +212,8 @@ fn option_of<'a>(alloc: Global, choice: &Choice) -> Arg<'a>
             default,
         ),
         Value::Required(least, most) => with_number(option, least, most).required(true),
+        Value::Optional(least, most) => with_number(option, least, most),
+        Value::Flag => option.action(ArgAction::SetTrue),
     }
 }
 

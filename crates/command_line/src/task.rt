@@ -4,6 +4,7 @@ ghost use Rattle.command_line.specs.declared.task.NoTask.TheVariants.{OutOfMemor
 
 use image_options::{RestoreOptions, SegmentOptions, StereoOptions};
 use std::alloc::AllocError;
+use worker_options::Options;
 
 /// What a command line asks for.
 #[derive(Clone, Copy, Debug, PartialEq, Eq)]
@@ -11,13 +12,25 @@ pub enum Task {
     /// `gco energy`: the minimum of a yes-no energy.
     Energy,
     /// `gco label`: moves to labellings of lower energy.
-    Label,
+    Label {
+        /// Whether it is to be told how near the labelling is to the least energy.
+        bound: bool,
+    },
     /// `gco restore`: a picture with few and small jumps between neighbours.
     Restore(RestoreOptions),
     /// `gco stereo`: how far the pixels of a left picture have moved in the right one.
     Stereo(StereoOptions),
     /// `gco segment`: a picture in two parts.
     Segment(SegmentOptions),
+}
+
+/// What a command line asks for: a task, and the workers that do it, or none where one thread does.
+#[derive(Clone, Copy, Debug, PartialEq, Eq)]
+pub struct Request {
+    /// What is to be done.
+    pub task: Task,
+    /// How workers share it, where they are asked for.
+    pub workers: Option<Options>,
 }
 
 /// An option whose value is a name.

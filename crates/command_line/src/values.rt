@@ -2,16 +2,18 @@
 ghost use Rattle.std.specs.Prelude.{◌≡◌, ℕ, ◌≤◌, ◌<◌, ◌^◌, Some, option_map, IfOk, IfErr, IfSome, IfNone};
 ghost use Rattle.clap.specs.Words.{first_of, found_of, rows_of};
 ghost use Rattle.image_options.specs.declared.options.Neighbours.{Neighbours};
-ghost use Rattle.command_line.specs.Options.{AreNames, HasNeighbours, HasNumber, HasValue, IsFirstBad, IsFirstNone, IsOnlyBad, IsRestore, IsSegment, IsStereo, moves_of, smooth_of};
+ghost use Rattle.command_line.specs.Options.{AreNames, AreWorkers, HasFlag, HasLabelCost, HasNeighbours, HasNumber, HasValue, IsFirstBad, IsFirstNone, IsOnlyBad, IsRestore, IsSegment, IsShared, IsStereo, moves_of, smooth_of};
 ghost use Rattle.command_line.specs.Task.{HasNo};
 
 use crate::OptionName;
+use crate::rules::MOST_BLOCKS;
 use clap::ArgMatches;
 use image_options::{
     CAP_LIMIT, MAXVAL_LIMIT, Neighbours, RestoreOptions, SegmentOptions, StereoOptions,
 };
 use label_field::{LABEL_LIMIT, WEIGHT_LIMIT};
-use run_options::{CYCLE_LIMIT, Moves, Shape, TRUNC_LIMIT};
+use run_options::{CYCLE_LIMIT, LABEL_COST_LIMIT, Moves, Shape, TRUNC_LIMIT};
+use worker_options::{Options, RING_LIMIT, ROUND_LIMIT, THREAD_LIMIT, TURN_LIMIT};
 
 /// Why the options of a subcommand are not had.
 #[derive(Clone, Copy)]
@@ -30,10 +32,44 @@ struct Names {
     moves: Moves,
 }
 
+/// The options that `restore` and `stereo` share.
+#[derive(Clone, Copy)]
+struct Shared {
+    smooth: Shape,
+    trunc: u32,
+    weight: u32,
+    neighbours: Neighbours,
+    moves: Moves,
+    cycles: u32,
+    bound: bool,
+}
+
 /// The options of `restore`.
 pub(crate) fn restore_in(matches: &ArgMatches<'_>) -> Result<RestoreOptions, Unmet>
     ensures options { IfOk result (IsRestore (rows_of (found_of matches.now))) }
     ensures unmet { IfErr result (HasNo (IsRestore (rows_of (found_of matches.now)))
+        (IsFirstBad (rows_of (found_of matches.now)))) }
+{
+    let shared = match shared_in(matches) {
+        Ok(shared) => shared,
+        Err(unmet) => return Err(unmet),
+    };
+    Ok(RestoreOptions {
+        smooth: shared.smooth,
+        trunc: shared.trunc,
+        weight: shared.weight,
+        neighbours: shared.neighbours,
+        moves: shared.moves,
+        cycles: shared.cycles,
+        label_cost: label_cost_in(matches),
+        bound: shared.bound,
+    })
+}
+
+// The options that `restore` and `stereo` share.
+fn shared_in(matches: &ArgMatches<'_>) -> Result<Shared, Unmet>
+    ensures options { IfOk result (IsShared (rows_of (found_of matches.now))) }
+    ensures unmet { IfErr result (HasNo (IsShared (rows_of (found_of matches.now)))
         (IsFirstBad (rows_of (found_of matches.now)))) }
 {
     let names = match names_in(matches) {
@@ -49,13 +85,14 @@ pub(crate) fn restore_in(matches: &ArgMatches<'_>) -> Result<RestoreOptions, Unm
     let Some(cycles) = number_in(matches, "cycles", 0, CYCLE_LIMIT) else {
         return Err(Unmet::NoTask);
     };
-    Ok(RestoreOptions {
+    Ok(Shared {
         smooth: names.smooth,
         trunc,
         weight,
         neighbours: names.neighbours,
         moves: names.moves,
         cycles,
+        bound: flag_in(matches, "bound"),
     })
 }
 
@@ -65,7 +102,7 @@ pub(crate) fn stereo_in(matches: &ArgMatches<'_>) -> Result<StereoOptions, Unmet
     ensures unmet { IfErr result (HasNo (IsStereo (rows_of (found_of matches.now)))
         (IsFirstBad (rows_of (found_of matches.now)))) }
 {
-    let shared = match restore_in(matches) {
+    let shared = match shared_in(matches) {
         Ok(shared) => shared,
         Err(unmet) => return Err(unmet),
     };
@@ -84,6 +121,7 @@ pub(crate) fn stereo_in(matches: &ArgMatches<'_>) -> Result<StereoOptions, Unmet
         cycles: shared.cycles,
         labels,
         cap,
+        bound: shared.bound,
     })
 }
 
@@ -116,6 +154,20 @@ fn segment_with(matches: &ArgMatches<'_>, neighbours: Neighbours) -> Option<Segm
         edge: number_in(matches, "edge", 0, MAXVAL_LIMIT)?,
         neighbours,
         cycles: number_in(matches, "cycles", 0, CYCLE_LIMIT)?,
+    })
+}
+
+/// The options of the workers, where threads are asked for.
+pub(crate) fn workers_in(matches: &ArgMatches<'_>) -> Option<Options>
+    ensures options { IfSome result (AreWorkers (rows_of (found_of matches.now))) }
+    ensures none { IfNone result ((o : _) → ¬ AreWorkers (rows_of (found_of matches.now)) o) }
+{
+    Some(Options {
+        threads: number_in(matches, "threads", 1, THREAD_LIMIT)?,
+        blocks: number_in(matches, "blocks", 1, MOST_BLOCKS)?,
+        ring: number_in(matches, "ring", 1, RING_LIMIT)?,
+        turns: number_in(matches, "turns", 0, TURN_LIMIT)?,
+        rounds: number_in(matches, "rounds", 0, ROUND_LIMIT)?,
     })
 }
 
@@ -185,6 +237,23 @@ fn neighbours_in(matches: &ArgMatches<'_>) -> Option<Neighbours>
         Some(4) => Some(Neighbours::Four),
         Some(8) => Some(Neighbours::Eight),
         _ => None,
+    }
+}
+
+// What each label costs by itself, where it is asked for.
+fn label_cost_in(matches: &ArgMatches<'_>) -> Option<u32>
+    ensures { HasLabelCost (rows_of (found_of matches.now)) result }
+{
+    number_in(matches, "label-cost", 0, LABEL_COST_LIMIT)
+}
+
+/// Whether a flag is up.
+pub(crate) fn flag_in(matches: &ArgMatches<'_>, name: &str) -> bool
+    ensures { HasFlag (rows_of (found_of matches.now)) name.now result }
+{
+    match text_in(matches, name) {
+        Some("true") => true,
+        _ => false,
     }
 }
 

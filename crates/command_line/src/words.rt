@@ -2,32 +2,32 @@
 ghost use Rattle.std.specs.Prelude.{◌≡◌, Some, None, OnOk, IfOk, IfErr, IsSomeAnd, MatchOption, map};
 ghost use Rattle.clap.specs.Words.{found_of, rows_of, subcommand_of, subcommand_rows_of};
 ghost use Rattle.command_line.specs.App.{gco_app};
-ghost use Rattle.command_line.specs.Task.{Asks, Fits, HasNo, IsAccepted, IsBadOptionOf, IsNoTaskFor, IsNoTaskOf, IsTaskOf};
+ghost use Rattle.command_line.specs.Task.{Asks, Fits, HasNo, IsAccepted, IsBadOptionOf, IsNoTaskFor, IsNoTaskOf, IsRequestOf, IsTaskOf};
 
 use crate::app::gco_command;
-use crate::values::{Unmet, restore_in, segment_in, stereo_in};
-use crate::{NoTask, Task};
+use crate::values::{Unmet, flag_in, restore_in, segment_in, stereo_in, workers_in};
+use crate::{NoTask, Request, Task};
 use clap::ArgMatches;
 use clap::error::ErrorKind;
 use std::alloc::Global;
 use std::convert::AsStr;
 use std::string::ToString;
 
-/// The task that the words ask for. The first word is the program's name.
+/// The task that the words ask for, and the workers that are to do it. The first word is the program's name.
 ///
 /// The words are read by `clap`: a subcommand is required, and each command takes `--help`. Each option takes
 /// the next word as its value, and a number out of its range is refused by `clap`; a name that is not listed
 /// is the answer `BadOption`, of the first such option in the order `smooth`, `neighbours`, `moves`. Of `help`
 /// in the place of a subcommand the answer is `Help` or `Refused`, or memory: which of them follows from the
 /// word after it is not said.
-pub fn parse<S: AsStr>(alloc: Global, words: &[S]) -> Result<Task, NoTask>
+pub fn parse<S: AsStr>(alloc: Global, words: &[S]) -> Result<Request, NoTask>
     ensures asked { IfOk result (Asks (map S.text words.now)) }
     ensures fits { IfOk result Fits }
     ensures refused { IfErr result (IsNoTaskFor (map S.text words.now)) }
 {
     let matches = matches_of(alloc, words)?;
-    match entered_task(&matches) {
-        Ok(task) => Ok(task),
+    match entered_request(&matches) {
+        Ok(request) => Ok(request),
         Err(Unmet::BadOption(option)) => Err(NoTask::BadOption(option)),
         Err(Unmet::NoTask) => {
             Err(NoTask::Refused(String::from_str(alloc, "error: no such command\n")?))
@@ -64,16 +64,16 @@ fn no_task(alloc: Global, error: &clap::Error) -> NoTask
     }
 }
 
-// The task of the subcommand that was used.
-fn entered_task(matches: &ArgMatches<'_>) -> Result<Task, Unmet>
-    ensures task { IfOk result (λ task. IsSomeAnd (subcommand_rows_of matches.now)
-        (λ p. IsTaskOf p.0 p.1 task)) }
+// What the subcommand that was used asks for.
+fn entered_request(matches: &ArgMatches<'_>) -> Result<Request, Unmet>
+    ensures request { IfOk result (λ request. IsSomeAnd (subcommand_rows_of matches.now)
+        (λ p. IsRequestOf p.0 p.1 request)) }
     ensures unmet { IfErr result (HasNo
-        (λ task. IsSomeAnd (subcommand_rows_of matches.now) (λ p. IsTaskOf p.0 p.1 task))
+        (λ request. IsSomeAnd (subcommand_rows_of matches.now) (λ p. IsRequestOf p.0 p.1 request))
         (λ option. IsSomeAnd (subcommand_rows_of matches.now) (λ p. IsBadOptionOf p.0 p.1 option))) }
 {
     match entered(matches) {
-        Some((name, inner)) => task_of(name, inner),
+        Some((name, inner)) => request_of(name, inner),
         None => Err(Unmet::NoTask),
     }
 }
@@ -86,6 +86,21 @@ fn entered<'m, 'a>(matches: &'m ArgMatches<'a>) -> Option<(&'a str, &'m ArgMatch
     matches.subcommand()
 }
 
+// What a subcommand of this name asks for.
+fn request_of(name: &str, matches: &ArgMatches<'_>) -> Result<Request, Unmet>
+    ensures request { IfOk result (IsRequestOf name.now (rows_of (found_of matches.now))) }
+    ensures unmet { IfErr result (HasNo (IsRequestOf name.now (rows_of (found_of matches.now)))
+        (IsBadOptionOf name.now (rows_of (found_of matches.now)))) }
+{
+    match task_of(name, matches) {
+        Ok(task) => Ok(Request {
+            task,
+            workers: workers_in(matches),
+        }),
+        Err(unmet) => Err(unmet),
+    }
+}
+
 // The task of a subcommand of this name.
 fn task_of(name: &str, matches: &ArgMatches<'_>) -> Result<Task, Unmet>
     ensures task { IfOk result (IsTaskOf name.now (rows_of (found_of matches.now))) }
@@ -94,7 +109,9 @@ fn task_of(name: &str, matches: &ArgMatches<'_>) -> Result<Task, Unmet>
 {
     match name {
         "energy" => Ok(Task::Energy),
-        "label" => Ok(Task::Label),
+        "label" => Ok(Task::Label {
+            bound: flag_in(matches, "bound"),
+        }),
         "restore" => Ok(Task::Restore(restore_in(matches)?)),
         "stereo" => Ok(Task::Stereo(stereo_in(matches)?)),
         "segment" => Ok(Task::Segment(segment_in(matches)?)),

@@ -5,3 +5,4 @@ pub mod CapacityLemmas
 pub mod TermLemmas
 pub mod Composes
 pub mod Best
+pub mod TiedLemmas

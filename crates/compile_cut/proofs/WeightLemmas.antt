@@ -100,14 +100,14 @@ not_eqb : (a b : ℕ) → a ≢ b → eqb a b ≡ false
 not_eqb a b ne = elim (eqb_tells a b) [ inl h ↦ absurd (ne h.1) | inr h ↦ h.0 ]
 
 -- a set with one node more
-extended : (ℕ → Bool) → ℕ → Bool → ℕ → Bool
+pub extended : (ℕ → Bool) → ℕ → Bool → ℕ → Bool
 extended x m w v = cond (eqb v m) w (x v)
 
-extended-at : (x : ℕ → Bool) (m : ℕ) (w : Bool) → extended x m w m ≡ w
+pub extended-at : (x : ℕ → Bool) (m : ℕ) (w : Bool) → extended x m w m ≡ w
 unfolding extended
 extended-at x m w = ap (λ b. cond b w (x m)) (eq-eqb m m refl)
 
-extended-below : (x : ℕ → Bool) (m : ℕ) (w : Bool) (v : ℕ) → v < m → extended x m w v ≡ x v
+pub extended-below : (x : ℕ → Bool) (m : ℕ) (w : Bool) (v : ℕ) → v < m → extended x m w v ≡ x v
 unfolding extended
 extended-below x m w v l = let other : v ≢ m = omega arith in ap (λ b. cond b w (x v)) (not_eqb v m other)
 

@@ -32,6 +32,18 @@ pub record AddsTerm (old new : Quadratic) (term : Term) : Type 0 where
       → (y : ℕ → Bool) × Shows (vec_len old.weights) x y
       × (quadratic_value new y ≡ quadratic_value old x +ℤ term_value x term)
 
+-- of the sets that are the same on the old nodes, the least new value is the old one and a cost
+pub record AddsLeast (old new : Quadratic) (cost : (ℕ → Bool) → ℕ) : Type 0 where
+  pub lower : (x : ℕ → Bool) → (quadratic_value old x +ℤ pos (cost x)) ≤ℤ quadratic_value new x
+  pub reached : (x : ℕ → Bool)
+      → (y : ℕ → Bool) × Shows (vec_len old.weights) x y
+      × (quadratic_value new y ≡ quadratic_value old x +ℤ pos (cost x))
+
+-- one node more, and at most as many terms more as come to that many times the cost
+pub record IsTied (times cost : ℕ) (old new : Quadratic) : Type 0 where
+  pub nodes : vec_len new.weights ≡ vec_len old.weights + 1
+  pub bounded : (k terms : ℕ) → cost * times ≤ value_limit * terms → IsBounded k old → IsBounded (k + terms) new
+
 -- of the sets that show an assignment, the least value is the energy's
 pub record SaysValues (e : Formula) (q : Quadratic) : Type 0 where
   pub lower : (x : ℕ → Bool) → value_at e x ≤ℤ quadratic_value q x

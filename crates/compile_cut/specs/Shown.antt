@@ -8,6 +8,13 @@ use Rattle.flow_network.specs.Cut.{Network, capacity_of, LiesWithin}
 abbrev pub Shows : ℕ → (ℕ → Bool) → (ℕ → Bool) → Type 0
 Shows variables x side = (i : ℕ) → i < variables → side i ≡ x i
 
+-- a function of more variables, hidden behind the first n: the least of its values at the sets that are the same on
+-- these is another function's value, but for a fixed number
+pub record Hides (n : ℕ) (value hiding : (ℕ → Bool) → ℤ) : Type 0 where
+  pub offset : ℤ
+  pub lower : (x : ℕ → Bool) → value x ≤ℤ (hiding x +ℤ offset)
+  pub reached : (x : ℕ → Bool) → (y : ℕ → Bool) × Shows n x y × (hiding y +ℤ offset ≡ value x)
+
 -- of all cuts that show x, one has this capacity, and none has a lower one
 pub record IsLeastShown (net : Network) (variables : ℕ) (x : ℕ → Bool) (least : ℕ) : Type 0 where
   pub side : ℕ → Bool

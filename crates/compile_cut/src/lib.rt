@@ -9,6 +9,7 @@ mod laws;
 mod parts;
 mod quadratic;
 mod three;
+mod tied;
 
 pub use capacities::net_of;
 pub use compiled::{Compiled, compile};

@@ -4,7 +4,7 @@ use Rattle.std.proofs.lemmas.Int.{ints}
 use Rattle.std.proofs.lemmas.Bool.{cases_eq, cases_lt}
 use Rattle.label_field.specs.declared.pair.Pair.{Pair}
 use Rattle.labellings.specs.declared.change.Move.{Move}
-use Rattle.labellings.specs.Energies.{Instance, energy, labelling}
+use Rattle.labellings.specs.Energies.{Instance, plain_energy, labelling}
 use Rattle.labellings.specs.Moves.{label_in, made, pair_entry, IsRegularPair}
 use Rattle.move_energy.specs.declared.choice.Choice.{Choice}
 use Rattle.move_energy.specs.declared.choice.Choice.TheVariants.{Open, Zero, One}
@@ -107,7 +107,7 @@ level_rise a b same = omega (arith, ints, same)
 
 fixed_passes : (m : Instance) (move : Move) (f : ℕ → ℕ) (ds : List Decision) (u : ℕ) → IsFixed move (f u) → Passes (move_value m move f) ds u false
 fixed_passes m move f ds u fixed =
-    level_rise _ _ (ap (λ (g : ℕ → ℕ). pos (energy m g)) (λ j p. label_set move f u (put ds (λ k. true)) fixed p j))
+    level_rise _ _ (ap (λ (g : ℕ → ℕ). pos (plain_energy m g)) (λ j p. label_set move f u (put ds (λ k. true)) fixed p j))
 
 with_passed : (m : Instance) (move : Move) (f : ℕ → ℕ) (n : ℕ) (c : Choice) (ds : List Decision) → (c ≢ Open → IsFixed move (f n)) → c ≢ One
     → HavePassed (move_value m move f) ds → HavePassed (move_value m move f) (with_choice n c ds)
@@ -146,4 +146,4 @@ made_put move f choices n x u b fixed p = elim (cases_eq p u) [
 pub rise_shown : (m : Instance) (move : Move) (f : ℕ → ℕ) (choices : List Choice) (n : ℕ) (x : ℕ → Bool) (u : ℕ) → ((p : ℕ) → p < n → choice_at choices p ≢ Open → IsFixed move (f p))
     → rise (move_value m move f) u (put (shown_by choices n) x) ≡ rise (move_value m move f) u x
 rise_shown m move f choices n x u fixed =
-    (λ j. pos (energy m (λ p. made_put move f choices n x u true fixed p j)) -ℤ pos (energy m (λ p. made_put move f choices n x u false fixed p j)))
+    (λ j. pos (plain_energy m (λ p. made_put move f choices n x u true fixed p j)) -ℤ pos (plain_energy m (λ p. made_put move f choices n x u false fixed p j)))

@@ -12,14 +12,14 @@ use Rattle.label_field.specs.PairLists.{IsPair}
 use Rattle.labellings.specs.declared.change.Move.{Move}
 use Rattle.labellings.specs.Energies.{Instance, IsInstance, data_energy, pair_cost}
 use Rattle.labellings.specs.Moves.{label_in, made, pair_entry, IsRegularPair, IsAllowed}
-use Rattle.labellings.proofs.Energy.{energy-same}
+use Rattle.labellings.proofs.Energy.{plain-same}
 use Rattle.deciding.specs.Decisions.{set_bit, rise, OnesWithin, IsSubmodular, IsOver}
 use Rattle.deciding.specs.MoveValues.{move_value, data_rise, pair_rise}
 use Rattle.deciding.proofs.Putting.{set_at, set_other}
 
 -- the energy depends on the values of the sites alone
 pub move_over : (m : Instance) (move : Move) (f : ℕ → ℕ) → IsInstance m → IsOver m.sites (move_value m move f)
-move_over m move f pairs x y same = ap pos (energy-same m (made move f x) (made move f y) pairs (λ p l. ap (label_in move (f p)) (same p l)))
+move_over m move f pairs x y same = ap pos (plain-same m (made move f x) (made move f y) pairs (λ p l. ap (label_in move (f p)) (same p l)))
 
 data_parts : (m : Instance) (move : Move) (f : ℕ → ℕ) (u : ℕ) (x : ℕ → Bool) → u < m.sites
     → pos (data_energy m (made move f (set_bit x u true))) -ℤ pos (data_energy m (made move f (set_bit x u false))) ≡ data_rise m move f u

@@ -216,7 +216,7 @@ pub metric_term : (m : Instance) (k : ℕ) (move : Move) (f : ℕ → ℕ) (pair
     → IsRegularPair m move f pair
 metric_term m k move f pair metric here below =
     let one : Pair = record { first = 0; second = 1; weight = 1 } in
-    let two : Instance = record { sites = 2; labels = k; data_cost = m.data_cost; smooth_cost = m.smooth_cost; pairs = one ∷ [] } in
+    let two : Instance = record { sites = 2; labels = k; data_cost = m.data_cost; smooth_cost = m.smooth_cost; pairs = one ∷ []; label_cost = λ l. 0 } in
     let is_pair : IsPair 2 one = record { first = omega arith; second = omega arith; unequal = λ same. omega (arith, same); weight = omega arith } in
     let all = metric_allows two move (λ p. slice_index (f pair.first ∷ f pair.second ∷ []) p) (All-cons (IsPair 2) one [] is_pair (All-nil (IsPair 2))) metric here
     (two_labels k (f pair.first) (f pair.second) below.0 below.1) in

@@ -2,13 +2,13 @@
 use Rattle.std.specs.Prelude.{ℕ, Bool, true, false, ℤ, pos, ◌-ℤ◌, List, [], ◌∷◌}
 use Rattle.label_field.specs.declared.pair.Pair.{Pair}
 use Rattle.labellings.specs.declared.change.Move.{Move}
-use Rattle.labellings.specs.Energies.{Instance, energy, pair_cost}
+use Rattle.labellings.specs.Energies.{Instance, plain_energy, pair_cost}
 use Rattle.labellings.specs.Moves.{label_in, made, pair_entry}
 use Rattle.deciding.specs.Decisions.{set_bit}
 
--- the energy of the labelling that a value for each site makes
+-- what the labels that a value for each site makes cost the sites and the pairs
 abbrev pub move_value : Instance → Move → (ℕ → ℕ) → (ℕ → Bool) → ℤ
-move_value m move f x = pos (energy m (made move f x))
+move_value m move f x = pos (plain_energy m (made move f x))
 
 -- how much more the label costs a site where its value turns from 0 to 1
 abbrev pub data_rise : Instance → Move → (ℕ → ℕ) → ℕ → ℤ

@@ -1,7 +1,8 @@
 //! Laws of deciding variables one after another: each function does nothing, and its contract is the law. The first
-//! three are of any function of an assignment, the last of the labellings that a move makes.
+//! four are of any function of an assignment, the last of the labellings that a move makes.
 
-ghost use Rattle.std.specs.Prelude.{◌≡◌, ℕ, ◌<◌, Bool, List, ℤ};
+ghost use Rattle.std.specs.Prelude.{◌≡◌, ℕ, ◌<◌, ◌≤◌, Bool, List, ℤ};
+ghost use Rattle.compile_cut.specs.Shown.{Hides};
 ghost use Rattle.labellings.specs.declared.change.Move.{Move};
 ghost use Rattle.labellings.specs.Energies.{Instance, IsInstance};
 ghost use Rattle.labellings.specs.Moves.{IsAllowed};
@@ -27,6 +28,13 @@ pub fn rest_and_forced_is_least()
     ensures { (n : ℕ) (E : (ℕ → Bool) → ℤ) (ds : List Decision) (r : ℕ) (R : (ℕ → Bool) → ℤ) (number
         variable : ℕ → ℕ) (z : ℕ → Bool) → IsOver n E → AreForced E ds → IsRest n E ds r R number variable →
         IsSmallestLeast r R z → IsSmallestLeast n E (put ds (λ i. z (number i))) }
+{}
+
+/// The least assignment with the fewest ones of a function that hides variables is, on the variables that are not hidden,
+/// that of what it is least to.
+pub fn hidden_is_least()
+    ensures { (n r : ℕ) (E F : (ℕ → Bool) → ℤ) (z : ℕ → Bool) → n ≤ r → Hides n E F →
+        IsSmallestLeast r F z → IsSmallestLeast n E z }
 {}
 
 /// Of a move whose terms are regular, the energies of the labellings that it makes have rises that fall, and depend on

@@ -27,7 +27,7 @@ const TERMS: &[Term] = &[
 ];
 
 /// The values of the terms and the constant -9 at 000, 001, and so on.
-const VALUES: &[i64] = &[
+pub const VALUES: &[i64] = &[
     -999_999_994,
     146,
     -999_999_974,
@@ -39,7 +39,7 @@ const VALUES: &[i64] = &[
 ];
 
 /// Adds all terms.
-fn add_terms(energy: &mut Energy) -> Result<(), EnergyError> {
+pub fn add_terms(energy: &mut Energy) -> Result<(), EnergyError> {
     for term in TERMS {
         add_term(energy, *term)?;
     }

@@ -1,4 +1,4 @@
-//! Tests of energies: what is put in, what is refused, which terms are regular, and minima.
+//! Tests of energies: what is put in, what is refused, costs over named variables, which terms are regular, and minima.
 #![tactic(auto)]
 
 #[cfg(test)]
@@ -13,3 +13,5 @@ mod rows;
 mod small_answers;
 #[cfg(test)]
 mod small_tables;
+#[cfg(test)]
+mod tied;

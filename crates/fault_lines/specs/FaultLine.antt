@@ -8,6 +8,7 @@ use Rattle.problem_file.specs.declared.fault.ProblemFault.{ProblemFault}
 use Rattle.problem_file.specs.declared.fault.ProblemFault.TheVariants as problem
 use Rattle.label_file.specs.FieldNames.{field_name as label_field_name}
 use Rattle.label_file.specs.declared.fault.Field.{Field}
+use Rattle.label_file.specs.declared.fault.Field.TheVariants.{LabelCosts}
 use Rattle.label_file.specs.declared.fault.LabelFault.{LabelFault}
 use Rattle.label_file.specs.declared.fault.LabelFault.TheVariants as label
 use Rattle.moves.specs.declared.error.MoveError.{MoveError}
@@ -53,6 +54,11 @@ problem_words (problem.BadElement field index) = codes "29 " ++ field_name field
 abbrev pub element_words : Field → ℕ → List ℕ
 element_words field place = label_field_name field ++ codes " " ++ decimal place
 
+-- a cost out of its range: a label goes by its number, another cost by its place in the list of its field
+abbrev pub cost_words : Field → ℕ → List ℕ
+cost_words LabelCosts label = codes "label " ++ decimal label
+cost_words field place = element_words field place
+
 -- why a problem file names no problem of labels
 abbrev pub label_words : LabelFault → List ℕ
 label_words label.OutOfMemory = codes "0"
@@ -61,7 +67,7 @@ label_words (label.NoSuchLabel site) = codes "11 site " ++ decimal site
 label_words (label.SamePair pair) = codes "12 pair " ++ decimal pair
 label_words label.TooManyPairs = codes "13"
 label_words (label.WeightRange pair) = codes "14 pair " ++ decimal pair
-label_words (label.CostRange field place) = codes "15 " ++ element_words field place
+label_words (label.CostRange field place) = codes "15 " ++ cost_words field place
 label_words label.BadToml = codes "28"
 label_words (label.BadField field) = codes "29 " ++ label_field_name field
 label_words (label.BadElement field place) = codes "29 " ++ element_words field place
@@ -71,12 +77,14 @@ abbrev pub beta_words : Option ℕ → List ℕ
 beta_words None = []
 beta_words (Some beta) = codes " beta " ++ decimal beta
 
--- why a move was refused
+-- why a move was refused: no run is refused for want of a bound
 abbrev pub move_words : MoveError → List ℕ
 move_words move.OutOfMemory = codes "0"
 move_words move.NoSuchLabel = codes "11"
 move_words move.Workers = codes "22"
 move_words move.BadOptions = codes "23"
+move_words move.LabelCostInSwap = codes "27"
+move_words move.NoBound = codes "33"
 move_words (move.PairNotRegular pair alpha beta) =
     codes "24 pair " ++ decimal pair ++ codes " alpha " ++ decimal alpha ++ beta_words beta
 

@@ -1,3 +1,4 @@
+pub mod EnergyFaults
 mod InputLemmas
 mod RefusalLemmas
 mod PictureLemmas

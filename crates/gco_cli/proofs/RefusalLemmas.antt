@@ -4,10 +4,10 @@ use Rattle.std.specs.Result.{IsErrAnd}
 use Rattle.command_line.specs.Task.{Asks, AsksForHelp, IsNoTaskFor}
 use Rattle.command_line.specs.declared.task.NoTask.{NoTask}
 use Rattle.command_line.specs.declared.task.NoTask.TheVariants.{OutOfMemory, Help, Refused, BadOption}
-use Rattle.command_line.specs.declared.task.Task.{Task}
+use Rattle.command_line.specs.declared.task.Request.{Request}
 use Rattle.fault_lines.specs.declared.fault.Fault.{Fault}
 use Rattle.fault_lines.specs.declared.fault.Fault.TheVariants as fault
-use Rattle.gco_cli.specs.Commands.{IsDueFor, StandsFor}
+use Rattle.gco_cli.specs.Commands.{IsDueFor, StandsForAsked}
 use Rattle.gco_cli.specs.Refusals.{IsHelp, IsRefusalFor, IsRefusalOf, SaysRefusal, ShowsHelp, status_of}
 use Rattle.gco_cli.specs.Run.{IsCut, IsCutIn, IsDue, IsRun, Leaves, Refuses, Streams, Writes, is_failed_read, is_bad_option}
 use Rattle.gco_cli.specs.Streams.{Stream, Took}
@@ -29,15 +29,15 @@ leaves : (old new : Stream) (fault : Fault) → is_bad_option fault ≡ false
 leaves old new fault is failed = record { failed = failed; unread = λ is_too. cc }
 
 -- a refusal of a command that was asked for is one of the run
-pub of_command : (words : List (List ℕ)) (task : Task) (source source_new old new : Stream) (fault : Fault) → Asks words task
-    → Refuses (IsDueFor task source.bytes) (StandsFor task source.bytes) old new fault
+pub of_command : (words : List (List ℕ)) (request : Request) (source source_new old new : Stream) (fault : Fault) → Asks words request
+    → Refuses (IsDueFor request.task source.bytes) (StandsForAsked request source.bytes) old new fault
     → is_bad_option fault ≡ false → source_new.has_failed ≡ (is_failed_read fault || source.has_failed)
     → IsRefusalFor words source source_new old new (Faulty fault)
-of_command words task source source_new old new fault asks refuses asked read = (
+of_command words request source source_new old new fault asks refuses asked read = (
   elim refuses [
-    | inl stands ↦ inl (inr (inr (task, asks, stands.0)), stands.1, stands.2)
-    | inr stops ↦ inr (cut_weaker (IsDueFor task source.bytes) (IsDue words source.bytes) old new fault
-        (λ text said due. inr (task, asks, due)) stops)
+    | inl stands ↦ inl (inr (inr (request, asks, stands.0)), stands.1, stands.2)
+    | inr stops ↦ inr (cut_weaker (IsDueFor request.task source.bytes) (IsDue words source.bytes) old new fault
+        (λ text said due. inr (request, asks, due)) stops)
   ],
   leaves source source_new fault asked read,
 )

@@ -1,42 +1,53 @@
 -- What `gco label` is.
-use Rattle.std.specs.Prelude.{◌≡◌, ◌≤◌, ◌+◌, ◌++◌, ◌⊎◌, ⊤, ℕ, List, length, Ok, Err, IsUtf8, codes, decimal, unsigned_abs}
+use Rattle.std.specs.Prelude.{◌≡◌, ◌≤◌, ◌+◌, ◌++◌, ⊤, ℕ, Bool, List, length, Ok, Err, IsUtf8, codes, decimal, is_some, unsigned_abs}
 use Rattle.std.specs.List.{flat_map}
 use Rattle.byte_streams.specs.Input.{IsReadRefusal, input_limit}
 use Rattle.label_file.specs.Names.{Problem, problem_in}
 use Rattle.label_file.specs.declared.fault.LabelFault.{LabelFault}
 use Rattle.label_file.specs.declared.fault.LabelFault.TheVariants as label
-use Rattle.moves.specs.Problems.{TellsPairNotRegular}
-use Rattle.moves.specs.declared.error.MoveError.{MoveError}
-use Rattle.moves.specs.declared.error.MoveError.TheVariants as move
+use Rattle.moves.specs.Problems.{IsRunRefusal}
+use Rattle.moves.specs.declared.error.SolveError.{SolveError}
 use Rattle.table_moves.specs.Instances.{instance_named}
 use Rattle.labelling_runs.specs.Runs.{Answers}
 use Rattle.labelling_runs.specs.declared.Run.{Run}
 use Rattle.fault_lines.specs.declared.fault.Fault.{Fault}
 use Rattle.fault_lines.specs.declared.fault.Fault.TheVariants.{OutOfMemory, Write, Read, Problem as EnergyFile, Regularity, Label, Move, Vision, BadOption}
+use Rattle.gco_cli.specs.Lines.{bound_line, energy_words}
+use Rattle.gco_cli.specs.declared.lines.Parts.{Parts}
 
 -- a blank and the number of each label, in the order of the sites
 abbrev pub numbers_text : List ℕ → List ℕ
 numbers_text labels = flat_map (λ label. codes " " ++ decimal label) labels
 
--- the energy with its two parts, and the label of each site
-abbrev pub labels_text : ℕ → ℕ → List ℕ → List ℕ
-labels_text sites pairs labels =
-    codes "energy " ++ decimal (sites + pairs) ++ codes " data " ++ decimal sites
-    ++ codes " smooth " ++ decimal pairs ++ codes "\nlabels" ++ numbers_text labels ++ codes "\n"
+-- the energy of a run, which is the sum of its parts
+abbrev pub parts_of : Run → Parts
+parts_of run = record {
+  whole = unsigned_abs run.«data» + unsigned_abs run.smooth + unsigned_abs run.label;
+  sites = unsigned_abs run.«data»;
+  pairs = unsigned_abs run.smooth;
+  labels = unsigned_abs run.label;
+}
+
+-- the energy with its parts, the label of each site, and the bound where it is asked for
+abbrev pub run_text : Bool → Bool → Run → List ℕ
+run_text tells asked run =
+    energy_words tells (parts_of run) ++ codes "\nlabels" ++ numbers_text run.labelling.at ++ codes "\n"
+    ++ bound_line asked run.bound
 
 -- the input is not too long, and names this problem
 abbrev pub HoldsProblem : List ℕ → Problem → Type 0
 HoldsProblem input p = (length input ≤ input_limit) × IsUtf8 input × (problem_in input ≡ Ok p)
 
--- the text tells where a run of the problem's moves from its start ends
-pub record AnswersProblem (p : Problem) (text : List ℕ) : Type 0 where
+-- the text tells where a run of the problem's moves from its start ends: the part of the labels where the problem has
+-- costs of labels, and the bound where it is asked for
+pub record AnswersProblem (p : Problem) (asked : Bool) (text : List ℕ) : Type 0 where
   pub run : Run
   pub ended : Answers (instance_named p) p.moves p.cycles p.start.at (Ok run)
-  pub is : text ≡ labels_text (unsigned_abs run.«data») (unsigned_abs run.smooth) run.labelling.at
+  pub is : text ≡ run_text (is_some p.label_costs) asked run
 
 -- the text is the answer to the problem that the input names
-abbrev pub AnswersLabels : List ℕ → List ℕ → Type 0
-AnswersLabels input text = (p : Problem) × HoldsProblem input p × AnswersProblem p text
+abbrev pub AnswersLabels : Bool → List ℕ → List ℕ → Type 0
+AnswersLabels asked input text = (p : Problem) × HoldsProblem input p × AnswersProblem p asked text
 
 -- the input is no TOML text, or a text with this first fault
 abbrev pub HasProblemFault : List ℕ → LabelFault → Type 0
@@ -44,32 +55,34 @@ HasProblemFault input label.OutOfMemory = ⊤
 HasProblemFault input label.BadToml = IsUtf8 input → problem_in input ≡ Err label.BadToml
 HasProblemFault input fault = IsUtf8 input × (problem_in input ≡ Err fault)
 
--- on one thread a move is refused for a pair or for memory alone
-abbrev pub IsPairOrMemory : MoveError → Type 0
-IsPairOrMemory error = TellsPairNotRegular error ⊎ (error ≡ move.OutOfMemory)
+-- a run of the problem's moves from its start has this fault: memory may always be refused, and a move for a pair or
+-- for its cut
+abbrev pub IsRunFault : (SolveError → Type 0) → Problem → Fault → Type 0
+IsRunFault refuses p OutOfMemory = ⊤
+IsRunFault refuses p (Write failed) = ⊥
+IsRunFault refuses p (Read error) = ⊥
+IsRunFault refuses p (EnergyFile fault) = ⊥
+IsRunFault refuses p (Regularity failing) = ⊥
+IsRunFault refuses p (Label fault) = ⊥
+IsRunFault refuses p (Move error) =
+    IsRunRefusal refuses error × Answers (instance_named p) p.moves p.cycles p.start.at (Err error)
+IsRunFault refuses p (Vision error) = ⊥
+IsRunFault refuses p (BadOption option) = ⊥
 
--- a run of the problem's moves from its start has this fault: memory may always be refused
-abbrev pub IsRunFault : Problem → Fault → Type 0
-IsRunFault p OutOfMemory = ⊤
-IsRunFault p (Write failed) = ⊥
-IsRunFault p (Read error) = ⊥
-IsRunFault p (EnergyFile fault) = ⊥
-IsRunFault p (Regularity failing) = ⊥
-IsRunFault p (Label fault) = ⊥
-IsRunFault p (Move error) =
-    IsPairOrMemory error × Answers (instance_named p) p.moves p.cycles p.start.at (Err error)
-IsRunFault p (Vision error) = ⊥
-IsRunFault p (BadOption option) = ⊥
+-- the fault that the reading of the input has: memory may always be refused, and a read may fail
+abbrev pub HasReadingFault : List ℕ → Fault → Type 0
+HasReadingFault input OutOfMemory = ⊤
+HasReadingFault input (Write failed) = ⊥
+HasReadingFault input (Read error) = IsReadRefusal input error
+HasReadingFault input (EnergyFile fault) = ⊥
+HasReadingFault input (Regularity failing) = ⊥
+HasReadingFault input (Label fault) = (length input ≤ input_limit) × HasProblemFault input fault
+HasReadingFault input (Move error) = ⊥
+HasReadingFault input (Vision error) = ⊥
+HasReadingFault input (BadOption option) = ⊥
 
--- the fault that the input has: memory may always be refused, a read may fail, and so may a move of the run
-abbrev pub HasLabelFault : List ℕ → Fault → Type 0
-HasLabelFault input OutOfMemory = ⊤
-HasLabelFault input (Write failed) = ⊥
-HasLabelFault input (Read error) = IsReadRefusal input error
-HasLabelFault input (EnergyFile fault) = ⊥
-HasLabelFault input (Regularity failing) = ⊥
-HasLabelFault input (Label fault) = (length input ≤ input_limit) × HasProblemFault input fault
-HasLabelFault input (Move error) =
-    (p : Problem) × HoldsProblem input p × IsRunFault p (Move error)
-HasLabelFault input (Vision error) = ⊥
-HasLabelFault input (BadOption option) = ⊥
+-- the fault that the input has: one of its reading, or a move of the run is refused
+abbrev pub HasLabelFault : (SolveError → Type 0) → List ℕ → Fault → Type 0
+HasLabelFault refuses input (Move error) =
+    (p : Problem) × HoldsProblem input p × IsRunFault refuses p (Move error)
+HasLabelFault refuses input fault = HasReadingFault input fault

@@ -2,6 +2,7 @@ pub mod Answer
 pub mod Commands
 pub mod Energy
 pub mod Label
+pub mod Lines
 pub mod Pictures
 pub mod Refusals
 pub mod Run

@@ -6,24 +6,24 @@ use Rattle.byte_streams.specs.declared.sink.WriteFailed.{WriteFailed}
 use Rattle.command_line.specs.Task.{Asks, AsksForHelp, IsNoTaskFor, NamesBadOption}
 use Rattle.command_line.specs.declared.task.NoTask.TheVariants.{Refused}
 use Rattle.command_line.specs.declared.task.OptionName.{OptionName}
-use Rattle.command_line.specs.declared.task.Task.{Task}
+use Rattle.command_line.specs.declared.task.Request.{Request}
 use Rattle.fault_lines.specs.FaultLine.{fault_line}
 use Rattle.fault_lines.specs.declared.fault.Fault.{Fault}
 use Rattle.fault_lines.specs.declared.fault.Fault.TheVariants.{OutOfMemory, Write, Read, BadOption}
-use Rattle.gco_cli.specs.Commands.{IsDueFor, StandsFor}
+use Rattle.gco_cli.specs.Commands.{IsDueFor, StandsForAsked}
 use Rattle.gco_cli.specs.Streams.{Stream, Stops, Takes, Took, stream}
 
 -- what a run of these words writes, and says beside it: help that was asked for, or the answer of a command
 abbrev pub IsDue : List (List ℕ) → Option (List ℕ) → List ℕ → List ℕ → Type 0
 IsDue words known text said = (AsksForHelp words × (said ≡ []))
-    ⊎ ((task : Task) × Asks words task × IsDueFor task known text said)
+    ⊎ ((request : Request) × Asks words request × IsDueFor request.task known text said)
 
 -- the fault is one of a run of these words: memory may always be refused, the words may name a bad option,
 -- and a command has its faults
 abbrev pub Stands : List (List ℕ) → Option (List ℕ) → Fault → Type 0
 Stands words known fault = (fault ≡ OutOfMemory)
     ⊎ (((option : OptionName) × NamesBadOption words option × (fault ≡ BadOption option))
-    ⊎ ((task : Task) × Asks words task × StandsFor task known fault))
+    ⊎ ((request : Request) × Asks words request × StandsForAsked request known fault))
 
 -- the fault says that a sink failed
 abbrev pub is_write : Fault → Bool

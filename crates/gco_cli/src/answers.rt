@@ -1,18 +1,36 @@
 //! The text of the answer to an energy.
-ghost use Rattle.std.specs.Prelude.{◌≡◌, ◌++◌, IfOk, OnOk};
+ghost use Rattle.std.specs.Prelude.{◌≡◌, ◌++◌, IfOk, IfErr, OnOk};
 ghost use Rattle.gco_cli.specs.Answer.{AnswersEnergy, answer_text, digits_text};
+ghost use Rattle.gco_cli.specs.Energy.{IsCutFault, cut_fault};
 
+use fault_lines::Fault;
 use itoa::Buffer;
-use minimum::minimise;
+use minimum_by::minimise_by;
+use moves::{How, MoveError, SolveError};
 use regular::Regular;
 use std::alloc::{AllocError, Global};
 
-/// The text of the answer to an energy.
-pub fn answer(alloc: Global, energy: Regular<'_>) -> Result<Vec<u8>, AllocError>
-    ensures { IfOk result (λ text. AnswersEnergy energy.entry text.items) }
+/// The text of the answer to an energy. Refused where memory runs out, and as the cut is refused.
+pub fn answer<H: How>(alloc: Global, energy: Regular<'_>, how: &H) -> Result<Vec<u8>, Fault>
+    requires { H.ready how.now }
+    ensures told { IfOk result (λ text. AnswersEnergy energy.entry text.items) }
+    ensures refused { IfErr result (IsCutFault (H.refuses how.now)) }
 {
-    let minimum = minimise(alloc, energy)?;
-    text_of(alloc, minimum.value, minimum.assignment.as_slice())
+    match minimise_by(alloc, energy, how) {
+        Ok(minimum) => Ok(text_of(alloc, minimum.value, minimum.assignment.as_slice())?),
+        Err(error) => Err(cut_fault(error)),
+    }
+}
+
+// The fault of a cut that was refused.
+fn cut_fault(error: SolveError) -> Fault
+    ensures { result ≡ cut_fault error }
+{
+    match error {
+        SolveError::OutOfMemory => Fault::OutOfMemory,
+        SolveError::Workers => Fault::Move(MoveError::Workers),
+        SolveError::BadOptions => Fault::Move(MoveError::BadOptions),
+    }
 }
 
 fn text_of(alloc: Global, minimum: i64, bits: &[bool]) -> Result<Vec<u8>, AllocError>

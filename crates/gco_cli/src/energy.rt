@@ -2,7 +2,7 @@
 ghost use Rattle.std.specs.Prelude.{◌≡◌, false, IfOk, IfErr};
 ghost use Rattle.command_line.specs.declared.task.Task.TheVariants.{Energy as EnergyTask};
 ghost use Rattle.gco_cli.specs.Commands.{IsDueFor, StandsFor};
-ghost use Rattle.gco_cli.specs.Energy.{HasEnergyFault, HoldsEnergy};
+ghost use Rattle.gco_cli.specs.Energy.{HasFileFault, HoldsEnergy};
 ghost use Rattle.gco_cli.specs.Run.{TellsRead, is_bad_option, is_write};
 ghost use Rattle.gco_cli.specs.Streams.{OfSomeInput};
 
@@ -10,15 +10,21 @@ use crate::answers::answer;
 use crate::written::Answer;
 use byte_streams::{Source, read_input};
 use fault_lines::{Fault, Line};
+use moves::How;
 use problem_file::read_energy;
 use pseudo_bool::Energy;
 use regular::check;
 use std::alloc::Global;
 
 /// The answer to the problem file that the input is. Nothing is said beside it.
-pub fn answer_energy<R: Source>(alloc: Global, source: &mut R) -> Result<Answer, Fault>
+pub fn answer_energy<H: How, R: Source>(
+    alloc: Global,
+    how: &H,
+    source: &mut R,
+) -> Result<Answer, Fault>
+    requires { H.ready how.now }
     ensures due { IfOk result (λ a. IsDueFor EnergyTask (R.remaining source.old) a.text.items a.said.bytes) }
-    ensures stands { IfErr result (StandsFor EnergyTask (R.remaining source.old)) }
+    ensures stands { IfErr result (StandsFor (H.refuses how.now) EnergyTask (R.remaining source.old)) }
     ensures unwritten { IfErr result (λ fault. is_write fault ≡ false) }
     ensures asked { IfErr result (λ fault. is_bad_option fault ≡ false) }
     ensures read { TellsRead (R.has_failed source.old) (R.has_failed source.new) result }
@@ -26,7 +32,7 @@ pub fn answer_energy<R: Source>(alloc: Global, source: &mut R) -> Result<Answer,
     let energy = read_problem(alloc, source)?;
     let regular = check(&energy)?;
     Ok(Answer {
-        text: answer(alloc, regular)?,
+        text: answer(alloc, regular, how)?,
         said: Line::new(),
     })
 }
@@ -36,7 +42,7 @@ fn read_problem<R: Source>(alloc: Global, source: &mut R) -> Result<Energy, Faul
     ensures named { IfOk result (λ energy.
         OfSomeInput (R.remaining source.old) (λ input. HoldsEnergy input energy)) }
     ensures stands { IfErr result (λ fault.
-        OfSomeInput (R.remaining source.old) (λ input. HasEnergyFault input fault)) }
+        OfSomeInput (R.remaining source.old) (λ input. HasFileFault input fault)) }
     ensures unwritten { IfErr result (λ fault. is_write fault ≡ false) }
     ensures asked { IfErr result (λ fault. is_bad_option fault ≡ false) }
     ensures read { TellsRead (R.has_failed source.old) (R.has_failed source.new) result }

@@ -1,33 +1,46 @@
 //! `gco label`.
-ghost use Rattle.std.specs.Prelude.{◌≡◌, ◌++◌, false, decimal, pos, ◌≤ℤ◌, unsigned_abs, OnOk, IfOk, IfErr};
+ghost use Rattle.std.specs.Prelude.{◌≡◌, ◌≤◌, ◌++◌, false, decimal, OnOk, IfOk, IfErr, IfSome};
 ghost use Rattle.command_line.specs.declared.task.Task.TheVariants.{Label as LabelTask};
 ghost use Rattle.label_file.specs.Limits.{IsInLimits};
 ghost use Rattle.label_file.specs.Names.{told};
+ghost use Rattle.label_field.specs.LabelFields.{LabelField};
+ghost use Rattle.labelling_runs.specs.Runs.{IsSized};
+ghost use Rattle.run_options.specs.Limits.{smooth_limit};
 ghost use Rattle.gco_cli.specs.Commands.{IsDueFor, StandsFor};
-ghost use Rattle.gco_cli.specs.Label.{AnswersProblem, HasLabelFault, HoldsProblem, IsRunFault, labels_text, numbers_text};
+ghost use Rattle.gco_cli.specs.Label.{AnswersProblem, HasReadingFault, HoldsProblem, IsRunFault, numbers_text, parts_of, run_text};
 ghost use Rattle.gco_cli.specs.Run.{TellsRead, is_bad_option, is_write};
 ghost use Rattle.gco_cli.specs.Streams.{OfSomeInput};
 
+use crate::lines::{Parts, bound_line, energy_words};
 use crate::written::Answer;
 use byte_streams::{Source, read_input};
 use fault_lines::{Fault, Line};
 use itoa::Buffer;
 use label_file::{LabelProblem, read_label};
-use moves::Alone;
+use labelling_runs::Run;
+use moves::How;
 use std::alloc::{AllocError, Global};
 use table_moves::run_tables;
 
-/// Where the moves of the problem that the input is end. Nothing is said beside it.
-pub fn answer_label<R: Source>(alloc: Global, source: &mut R) -> Result<Answer, Fault>
-    ensures due { IfOk result (λ a. IsDueFor LabelTask (R.remaining source.old) a.text.items a.said.bytes) }
-    ensures stands { IfErr result (StandsFor LabelTask (R.remaining source.old)) }
+/// Where the moves of the problem that the input is end, and how near that is to the least energy where it is asked for.
+/// Nothing is said beside it.
+pub fn answer_label<H: How, R: Source>(
+    alloc: Global,
+    bound: bool,
+    how: &H,
+    source: &mut R,
+) -> Result<Answer, Fault>
+    requires { H.ready how.now }
+    ensures due { IfOk result (λ a.
+        IsDueFor (LabelTask bound) (R.remaining source.old) a.text.items a.said.bytes) }
+    ensures stands { IfErr result (StandsFor (H.refuses how.now) (LabelTask bound) (R.remaining source.old)) }
     ensures unwritten { IfErr result (λ fault. is_write fault ≡ false) }
     ensures asked { IfErr result (λ fault. is_bad_option fault ≡ false) }
     ensures read { TellsRead (R.has_failed source.old) (R.has_failed source.new) result }
 {
     let problem = read_problem(alloc, source)?;
     Ok(Answer {
-        text: answer_problem(alloc, problem)?,
+        text: answer_problem(alloc, problem, bound, how)?,
         said: Line::new(),
     })
 }
@@ -38,7 +51,7 @@ fn read_problem<R: Source>(alloc: Global, source: &mut R) -> Result<LabelProblem
         (λ input. HoldsProblem input (told problem))) }
     ensures limits { IfOk result (λ problem. IsInLimits (told problem)) }
     ensures stands { IfErr result (λ fault. OfSomeInput (R.remaining source.old)
-        (λ input. HasLabelFault input fault)) }
+        (λ input. HasReadingFault input fault)) }
     ensures unwritten { IfErr result (λ fault. is_write fault ≡ false) }
     ensures asked { IfErr result (λ fault. is_bad_option fault ≡ false) }
     ensures read { TellsRead (R.has_failed source.old) (R.has_failed source.new) result }
@@ -48,33 +61,51 @@ fn read_problem<R: Source>(alloc: Global, source: &mut R) -> Result<LabelProblem
 }
 
 // The text of the answer to a problem.
-fn answer_problem(alloc: Global, problem: LabelProblem) -> Result<Vec<u8>, Fault>
-    requires { IsInLimits (told problem) }
-    ensures told { IfOk result (λ text. AnswersProblem (told problem) text.items) }
-    ensures refused { IfErr result (IsRunFault (told problem)) }
+fn answer_problem<H: How>(
+    alloc: Global,
+    problem: LabelProblem,
+    bound: bool,
+    how: &H,
+) -> Result<Vec<u8>, Fault>
+    requires limits { IsInLimits (told problem) }
+    requires ready { H.ready how.now }
+    ensures told { IfOk result (λ text. AnswersProblem (told problem) bound text.items) }
+    ensures refused { IfErr result (IsRunFault (H.refuses how.now) (told problem)) }
 {
-    let run = run_tables(alloc, problem, &Alone)?;
-    Ok(labels_text(alloc, run.data, run.smooth, run.labelling.as_slice())?)
+    let tells = problem.label_costs.is_some();
+    let run = run_tables(alloc, problem, how)?;
+    Ok(run_text(alloc, &run, tells, bound)?)
 }
 
-fn labels_text(alloc: Global, sites: i64, pairs: i64, labels: &[u8]) -> Result<Vec<u8>, AllocError>
-    requires sites { pos 0 ≤ℤ sites }
-    requires pairs { pos 0 ≤ℤ pairs }
-    ensures { IfOk result (λ text. text.items
-        ≡ labels_text (unsigned_abs sites) (unsigned_abs pairs) labels.now) }
+// What is printed of a run: the cost of the labels by themselves where it is to be told, the bound where it is asked for.
+fn run_text(alloc: Global, run: &Run, tells: bool, bound: bool) -> Result<Vec<u8>, AllocError>
+    requires sized { (start : LabelField) × IsSized start run.now }
+    requires bounded { IfSome run.now.bound (λ bound. bound.vmax ≤ smooth_limit) }
+    ensures { IfOk result (λ text. text.items ≡ run_text tells bound run.now) }
 {
     let mut text = Vec::new(alloc);
-    push_number(
-        &mut text,
-        b"energy ",
-        sites.unsigned_abs() + pairs.unsigned_abs(),
-    )?;
-    push_number(&mut text, b" data ", sites.unsigned_abs())?;
-    push_number(&mut text, b" smooth ", pairs.unsigned_abs())?;
+    text.extend_from_slice(energy_words(parts_of(run), tells).as_str().as_bytes())?;
     text.extend_from_slice(b"\nlabels")?;
-    push_labels(&mut text, labels)?;
+    push_labels(&mut text, run.labelling.as_slice())?;
     text.push(b'\n')?;
+    text.extend_from_slice(bound_line(run.bound, bound).as_str().as_bytes())?;
     Ok(text)
+}
+
+// The energy of a run, and its parts.
+fn parts_of(run: &Run) -> Parts
+    requires { (start : LabelField) × IsSized start run.now }
+    ensures { result ≡ parts_of run.now }
+{
+    let sites = run.data.unsigned_abs();
+    let pairs = run.smooth.unsigned_abs();
+    let labels = run.label.unsigned_abs();
+    Parts {
+        whole: sites + pairs + labels,
+        sites,
+        pairs,
+        labels,
+    }
 }
 
 fn push_labels(text: &mut Vec<u8>, labels: &[u8]) -> Result<(), AllocError>

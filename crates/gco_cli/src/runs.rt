@@ -1,23 +1,31 @@
 //! One whole run.
-ghost use Rattle.std.specs.Prelude.{◌≡◌, IfOk, IfErr, map};
+ghost use Rattle.std.specs.Prelude.{◌≡◌, false, IfOk, IfErr, map};
+ghost use Rattle.command_line.specs.Task.{Fits, FitsTask};
+ghost use Rattle.workers.specs.Refusals.{MayRefuse};
+ghost use Rattle.gco_cli.specs.Commands.{IsDueFor, StandsFor, StandsForAsked};
 ghost use Rattle.gco_cli.specs.Refusals.{IsRefusalFor};
-ghost use Rattle.gco_cli.specs.Run.{IsDue, IsRun, IsSomeRun, Writes, streams};
+ghost use Rattle.gco_cli.specs.Run.{IsDue, IsRun, IsSomeRun, Refuses, TellsRead, Writes, is_bad_option, streams};
 ghost use Rattle.gco_cli.specs.Streams.{stream};
 
 use crate::ends::say_end;
 use crate::refusal::Refusal;
 use crate::tasks::{end_without_task, run_task};
 use byte_streams::{Sink, Source, Watched, WatchedReader};
-use command_line::parse;
-use fault_lines::Line;
+use command_line::{Request, Task, parse};
+use fault_lines::{Fault, Line};
+use moves::Alone;
 use std::alloc::Global;
 use std::convert::AsStr;
 use std::io::{Read, Write};
+use std::sync::Wait;
+use std::thread::Threads;
+use worker_options::{Gate, Options};
+use workers::{Open, Workers};
 
 /// One whole run over a reader, a writer and a writer for faults. The first word is the program's
 /// name. Answers the exit status: 0 where the due text was written, 1 where the run was refused and
 /// its line said, 2 where the words were refused.
-pub fn run<A: AllocGlobal, S: AsStr, R: Read, W: Write, E: Write>(
+pub fn run<A: AllocGlobal + Threads + Wait + Sync, S: AsStr, R: Read, W: Write, E: Write>(
     rt: &A,
     words: &[S],
     reader: &mut R,
@@ -44,7 +52,7 @@ pub fn run<A: AllocGlobal, S: AsStr, R: Read, W: Write, E: Write>(
 }
 
 // As `run_streams`, over readers and writers of std.
-fn run_watched<A: AllocGlobal, S: AsStr, R: Read, W: Write, E: Write>(
+fn run_watched<A: AllocGlobal + Threads + Wait + Sync, S: AsStr, R: Read, W: Write, E: Write>(
     rt: &A,
     words: &[S],
     source: &mut WatchedReader<'_, R>,
@@ -67,7 +75,7 @@ fn run_watched<A: AllocGlobal, S: AsStr, R: Read, W: Write, E: Write>(
 /// As `run`, over streams that remember their failures: a failed read is told exactly where the source
 /// failed, a write stops only where the sink failed, and what is said is whole where its sink did not
 /// fail.
-pub fn run_streams<A: AllocGlobal, S: AsStr, R: Source, W: Sink, E: Sink>(
+pub fn run_streams<A: AllocGlobal + Threads + Wait + Sync, S: AsStr, R: Source, W: Sink, E: Sink>(
     rt: &A,
     words: &[S],
     source: &mut R,
@@ -83,12 +91,13 @@ pub fn run_streams<A: AllocGlobal, S: AsStr, R: Source, W: Sink, E: Sink>(
         (stream (E.held faults.new) (E.has_failed faults.new))) result }
     ensures kept { (W.loan sink.new ≡ W.loan sink.old) × (E.loan faults.new ≡ E.loan faults.old) }
 {
-    let end = perform(rt.alloc(), words, source, sink);
+    let end = perform(rt, rt.alloc(), words, source, sink);
     say_end(faults, end)
 }
 
 // Does what the words ask for, and answers what is to be said beside it.
-fn perform<S: AsStr, R: Source, W: Sink>(
+fn perform<A: Threads + Wait + Sync, S: AsStr, R: Source, W: Sink>(
+    rt: &A,
     alloc: Global,
     words: &[S],
     source: &mut R,
@@ -106,7 +115,64 @@ fn perform<S: AsStr, R: Source, W: Sink>(
     ensures kept { W.loan sink.new ≡ W.loan sink.old }
 {
     match parse(alloc, words) {
-        Ok(task) => Ok(run_task(alloc, task, source, sink)?),
+        Ok(request) => Ok(answer_request(rt, alloc, request, source, sink)?),
         Err(no_task) => end_without_task(no_task, sink),
     }
+}
+
+// One command over its input, by the workers that are asked for, or else on one thread.
+fn answer_request<A: Threads + Wait + Sync, R: Source, W: Sink>(
+    rt: &A,
+    alloc: Global,
+    request: Request,
+    source: &mut R,
+    sink: &mut W,
+) -> Result<Line, Fault>
+    requires { Fits request }
+    ensures done { IfOk result (λ said. Writes (IsDueFor request.task (R.remaining source.old))
+        (stream (W.held sink.old) (W.has_failed sink.old))
+        (stream (W.held sink.new) (W.has_failed sink.new)) said.bytes) }
+    ensures refused { IfErr result (Refuses (IsDueFor request.task (R.remaining source.old))
+        (StandsForAsked request (R.remaining source.old))
+        (stream (W.held sink.old) (W.has_failed sink.old))
+        (stream (W.held sink.new) (W.has_failed sink.new))) }
+    ensures asked { IfErr result (λ fault. is_bad_option fault ≡ false) }
+    ensures read { TellsRead (R.has_failed source.old) (R.has_failed source.new) result }
+    ensures kept { W.loan sink.new ≡ W.loan sink.old }
+{
+    match request.workers {
+        None => run_task(alloc, request.task, &Alone, source, sink),
+        Some(options) => run_by_workers(rt, alloc, request.task, options, source, sink),
+    }
+}
+
+// One command over its input, its cuts by workers whose gate lets each turn pass.
+fn run_by_workers<A: Threads + Wait + Sync, R: Source, W: Sink>(
+    rt: &A,
+    alloc: Global,
+    task: Task,
+    options: Options,
+    source: &mut R,
+    sink: &mut W,
+) -> Result<Line, Fault>
+    requires { FitsTask task }
+    ensures done { IfOk result (λ said. Writes (IsDueFor task (R.remaining source.old))
+        (stream (W.held sink.old) (W.has_failed sink.old))
+        (stream (W.held sink.new) (W.has_failed sink.new)) said.bytes) }
+    ensures refused { IfErr result (Refuses (IsDueFor task (R.remaining source.old))
+        (StandsFor (MayRefuse options) task (R.remaining source.old))
+        (stream (W.held sink.old) (W.has_failed sink.old))
+        (stream (W.held sink.new) (W.has_failed sink.new))) }
+    ensures asked { IfErr result (λ fault. is_bad_option fault ≡ false) }
+    ensures read { TellsRead (R.has_failed source.old) (R.has_failed source.new) result }
+    ensures kept { W.loan sink.new ≡ W.loan sink.old }
+{
+    let open = Open;
+    let gate: &(dyn Gate + Sync) = &open;
+    let how = Workers {
+        rt,
+        options,
+        gate: &gate,
+    };
+    run_task(alloc, task, &how, source, sink)
 }

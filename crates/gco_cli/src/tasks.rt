@@ -1,6 +1,6 @@
 //! What the words ask for, done.
 ghost use Rattle.std.specs.Prelude.{◌≡◌, false, IfOk, IfErr};
-ghost use Rattle.command_line.specs.Task.{Fits};
+ghost use Rattle.command_line.specs.Task.{FitsTask};
 ghost use Rattle.gco_cli.specs.Commands.{IsDueFor, StandsFor};
 ghost use Rattle.gco_cli.specs.Refusals.{IsCutHelp, IsHelp, IsRefusalOf, ShowsHelp};
 ghost use Rattle.gco_cli.specs.Run.{Refuses, TellsRead, Writes, is_bad_option};
@@ -14,21 +14,24 @@ use crate::written::write_text;
 use byte_streams::{Sink, Source};
 use command_line::{NoTask, Task};
 use fault_lines::{Fault, Line};
+use moves::How;
 use std::alloc::Global;
 
 /// One command over its input. Nothing is written before the whole answer is there.
-pub fn run_task<R: Source, W: Sink>(
+pub fn run_task<H: How, R: Source, W: Sink>(
     alloc: Global,
     task: Task,
+    how: &H,
     source: &mut R,
     sink: &mut W,
 ) -> Result<Line, Fault>
-    requires { Fits task }
+    requires fits { FitsTask task }
+    requires ready { H.ready how.now }
     ensures done { IfOk result (λ said. Writes (IsDueFor task (R.remaining source.old))
         (stream (W.held sink.old) (W.has_failed sink.old))
         (stream (W.held sink.new) (W.has_failed sink.new)) said.bytes) }
     ensures refused { IfErr result (Refuses (IsDueFor task (R.remaining source.old))
-        (StandsFor task (R.remaining source.old))
+        (StandsFor (H.refuses how.now) task (R.remaining source.old))
         (stream (W.held sink.old) (W.has_failed sink.old))
         (stream (W.held sink.new) (W.has_failed sink.new))) }
     ensures asked { IfErr result (λ fault. is_bad_option fault ≡ false) }
@@ -37,16 +40,16 @@ pub fn run_task<R: Source, W: Sink>(
 {
     match task {
         Task::Energy => {
-            let answer = answer_energy(alloc, source)?;
+            let answer = answer_energy(alloc, how, source)?;
             write_text(sink, answer.text.as_slice(), answer.said)
         }
-        Task::Label => {
-            let answer = answer_label(alloc, source)?;
+        Task::Label { bound } => {
+            let answer = answer_label(alloc, bound, how, source)?;
             write_text(sink, answer.text.as_slice(), answer.said)
         }
-        Task::Restore(options) => restore(alloc, options, source, sink),
-        Task::Stereo(options) => stereo(alloc, options, source, sink),
-        Task::Segment(options) => segment(alloc, options, source, sink),
+        Task::Restore(options) => restore(alloc, options, how, source, sink),
+        Task::Stereo(options) => stereo(alloc, options, how, source, sink),
+        Task::Segment(options) => segment(alloc, options, how, source, sink),
     }
 }
 

@@ -1,13 +1,20 @@
 //! Whole runs of `gco energy`.
-use crate::streams::{ROOM, SlowReader, ends};
+use crate::streams::ends_alike;
+use std::sync::Wait;
+use std::thread::Threads;
 
 mod answers;
 mod picture;
 mod refusals;
 
-/// Whether a run over this file ends with this status, and writes and says this.
-fn is_minimised(rt: &impl AllocGlobal, file: &[u8], status: u8, written: &str, said: &str) -> bool {
-    let mut reader = SlowReader::new(file, ROOM, false);
+/// Whether a run over this file ends with this status, and writes and says this, whatever workers are asked for.
+fn is_minimised(
+    rt: &(impl AllocGlobal + Threads + Wait + Sync),
+    file: &[u8],
+    status: u8,
+    written: &str,
+    said: &str,
+) -> bool {
     let written = written.as_bytes();
-    ends(rt, &["gco", "energy"], &mut reader, status, written, said)
+    ends_alike(rt, &["gco", "energy"], file, status, written, said)
 }

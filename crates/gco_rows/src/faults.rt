@@ -4,6 +4,8 @@ use crate::streams::{CutWriter, ROOM, SlowReader, ends};
 use byte_streams::{Watched, WatchedReader};
 use gco_cli::{run, run_streams};
 use std::process::Abort;
+use std::sync::Wait;
+use std::thread::Threads;
 
 /// Words, an input, what is written and what is said.
 type Command = (
@@ -27,17 +29,17 @@ const COMMANDS: &[Command] = &[
     (&["gco", "energy"], FILE, ANSWER, ""),
     // Two sites that each want their own of two labels.
     (
-        &["gco", "label"],
+        &["gco", "label", "--bound"],
         b"sites = 2\nlabels = 2\ndata = [0,3,3,0]\npairs = [[0,1],[0,1]]",
-        b"energy 2 data 0 smooth 2\nlabels 0 1\n",
+        b"energy 2 data 0 smooth 2\nlabels 0 1\nbound 1 2\n",
         "",
     ),
     // Expanding 2 reaches 3 at best, a tie; expanding 3 reaches 2.
     (
-        &["gco", "restore"],
+        &["gco", "restore", "--bound"],
         b"P5\n3 1\n3\n\x00\x03\x00",
         b"P5\n3 1\n3\n\x00\x03\x00",
-        "energy 2 data 0 smooth 2\n",
+        "energy 2 data 0 smooth 2\nbound 1 2\n",
     ),
     // Label 0 costs 9 9 0 0, label 1 costs 9 0 0 0.
     (
@@ -57,7 +59,7 @@ const COMMANDS: &[Command] = &[
 /// Whether a run of a command whose writer and fault writer stop after so many bytes, of so many a call, ends
 /// with this status, and writes and says this.
 fn is_held(
-    rt: &impl AllocGlobal,
+    rt: &(impl AllocGlobal + Threads + Wait + Sync),
     command: &Command,
     writer: &mut CutWriter,
     faults: &mut CutWriter,
@@ -72,7 +74,13 @@ fn is_held(
 }
 
 /// Whether a run whose writer stops here tells so.
-fn is_cut(rt: &impl AllocGlobal, command: &Command, line: &[u8], room: usize, step: usize) -> bool {
+fn is_cut(
+    rt: &(impl AllocGlobal + Threads + Wait + Sync),
+    command: &Command,
+    line: &[u8],
+    room: usize,
+    step: usize,
+) -> bool {
     let mut writer = CutWriter::new(room, step);
     let mut faults = CutWriter::ample();
     let written = &command.2[..room.min(command.2.len())];
@@ -80,7 +88,11 @@ fn is_cut(rt: &impl AllocGlobal, command: &Command, line: &[u8], room: usize, st
 }
 
 /// Each cut of the answer of a command, by one byte a call, by three, and at once.
-fn expect_cuts(rt: &(impl AllocGlobal + Abort), command: &Command, room: usize) {
+fn expect_cuts(
+    rt: &(impl AllocGlobal + Abort + Threads + Wait + Sync),
+    command: &Command,
+    room: usize,
+) {
     let line = format!(in rt.alloc(); "refused 9 after {room}\n").expect(rt, "memory");
     let line = line.as_bytes();
     expect(
@@ -103,7 +115,12 @@ fn writers_that_stop(rt: HostRuntime) {
 }
 
 /// Whether an answer is written though the fault writer stops here.
-fn is_answered(rt: &impl AllocGlobal, command: &Command, room: usize, step: usize) -> bool {
+fn is_answered(
+    rt: &(impl AllocGlobal + Threads + Wait + Sync),
+    command: &Command,
+    room: usize,
+    step: usize,
+) -> bool {
     let mut writer = CutWriter::new(command.2.len(), step);
     let mut faults = CutWriter::new(room, step);
     let said = command.3.as_bytes();
@@ -115,7 +132,12 @@ fn is_answered(rt: &impl AllocGlobal, command: &Command, room: usize, step: usiz
 const NOTHING: &[u8] = b"refused 9 after 0\n";
 
 /// Whether the run is refused, as its writer takes nothing, though the fault writer stops here.
-fn is_refused(rt: &impl AllocGlobal, command: &Command, room: usize, step: usize) -> bool {
+fn is_refused(
+    rt: &(impl AllocGlobal + Threads + Wait + Sync),
+    command: &Command,
+    room: usize,
+    step: usize,
+) -> bool {
     let mut writer = CutWriter::new(512, 0);
     let mut faults = CutWriter::new(room, step);
     let said = &NOTHING[..room.min(NOTHING.len())];
@@ -123,7 +145,11 @@ fn is_refused(rt: &impl AllocGlobal, command: &Command, room: usize, step: usize
 }
 
 /// Each cut of what a command says after an answer, and where its writer takes nothing.
-fn expect_status(rt: &(impl AllocGlobal + Abort), command: &Command, step: usize) {
+fn expect_status(
+    rt: &(impl AllocGlobal + Abort + Threads + Wait + Sync),
+    command: &Command,
+    step: usize,
+) {
     for room in 0..command.3.len() + 1 {
         expect(rt, "answered", room, is_answered(rt, command, room, step));
     }
@@ -142,20 +168,33 @@ fn fault_writers_that_stop(rt: HostRuntime) {
 }
 
 /// Whether a fault of the reader before this byte of the input is told.
-fn fails_at(rt: &impl AllocGlobal, command: &Command, count: usize, step: usize) -> bool {
+fn fails_at(
+    rt: &(impl AllocGlobal + Threads + Wait + Sync),
+    command: &Command,
+    count: usize,
+    step: usize,
+) -> bool {
     let input = &command.1[..count.min(command.1.len())];
     let mut reader = SlowReader::new(input, step, true);
     ends(rt, command.0, &mut reader, 1, b"", "refused 31\n")
 }
 
 /// Whether the whole input is answered.
-fn is_read(rt: &impl AllocGlobal, command: &Command, step: usize) -> bool {
+fn is_read(
+    rt: &(impl AllocGlobal + Threads + Wait + Sync),
+    command: &Command,
+    step: usize,
+) -> bool {
     let mut reader = SlowReader::new(command.1, step, false);
     ends(rt, command.0, &mut reader, 0, command.2, command.3)
 }
 
 /// A fault before each byte of the input and behind the last; and none.
-fn expect_faults(rt: &(impl AllocGlobal + Abort), command: &Command, step: usize) {
+fn expect_faults(
+    rt: &(impl AllocGlobal + Abort + Threads + Wait + Sync),
+    command: &Command,
+    step: usize,
+) {
     expect(rt, "whole", step, is_read(rt, command, step));
     for count in 0..command.1.len() + 1 {
         expect(rt, "broken", count, fails_at(rt, command, count, step));
@@ -181,7 +220,7 @@ const REMEMBERED: &[Remembered] = &[
 ];
 
 /// Whether the run remembers of each stream if it failed.
-fn is_remembered(rt: &impl AllocGlobal, row: &Remembered) -> bool {
+fn is_remembered(rt: &(impl AllocGlobal + Threads + Wait + Sync), row: &Remembered) -> bool {
     let (room, is_broken, status, written) = row;
     let mut reader = SlowReader::new(FILE, 5, *is_broken);
     let mut writer = CutWriter::new(*room, 5);

@@ -1,8 +1,11 @@
 //! Pictures, and what the image commands make of them. The small ones were worked by hand.
 use crate::rows::expect;
-use crate::streams::{ROOM, SlowReader, ends};
+use crate::streams::{ROOM, SlowReader, ends, ends_alike};
+use std::alloc::{AllocError, Global};
 
 const RESTORED: &[u8] = b"P5\n3 1\n3\n\x00\x03\x00";
+
+const BLACK: &[u8] = b"P5\n3 1\n3\n\x00\x00\x00";
 
 const PARTED: &[u8] = b"P5\n3 1\n255\n\x0a\x0c\xc8P5\n3 1\n2\n\x01\x00\x02";
 
@@ -28,8 +31,122 @@ const ROWS: &[Row] = &[
         &["gco", "restore", "--weight=2"],
         RESTORED,
         0,
-        b"P5\n3 1\n3\n\x00\x00\x00",
+        BLACK,
         "energy 3 data 3 smooth 0\n",
+    ),
+    // A level costs 1 by itself: three black pixels cost 3 and their level 1, the picture as it is 2 and its two levels 2.
+    (
+        &["gco", "restore", "--label-cost", "1"],
+        RESTORED,
+        0,
+        BLACK,
+        "energy 4 data 3 smooth 0 label 1\n",
+    ),
+    (
+        &["gco", "restore", "--label-cost", "0"],
+        RESTORED,
+        0,
+        RESTORED,
+        "energy 2 data 0 smooth 2 label 0\n",
+    ),
+    // Swaps are made only where no label costs anything by itself.
+    (
+        &["gco", "restore", "--label-cost", "1", "--moves", "swap"],
+        RESTORED,
+        1,
+        b"",
+        "refused 27\n",
+    ),
+    (
+        &[
+            "gco",
+            "restore",
+            "--label-cost",
+            "1",
+            "--moves",
+            "swap",
+            "--cycles",
+            "0",
+        ],
+        RESTORED,
+        1,
+        b"",
+        "refused 27\n",
+    ),
+    (
+        &["gco", "restore", "--label-cost", "0", "--moves", "swap"],
+        RESTORED,
+        0,
+        RESTORED,
+        "energy 2 data 0 smooth 2 label 0\n",
+    ),
+    // The bound of a run that its second cycle did not change, and that of none that is cut off before.
+    (
+        &["gco", "restore", "--bound"],
+        RESTORED,
+        0,
+        RESTORED,
+        "energy 2 data 0 smooth 2\nbound 1 2\n",
+    ),
+    (
+        &["gco", "restore", "--bound", "--cycles", "1"],
+        RESTORED,
+        0,
+        RESTORED,
+        "energy 2 data 0 smooth 2\nbound none\n",
+    ),
+    (
+        &["gco", "restore", "--bound", "--cycles", "2"],
+        RESTORED,
+        0,
+        RESTORED,
+        "energy 2 data 0 smooth 2\nbound 1 2\n",
+    ),
+    (
+        &[
+            "gco", "restore", "--bound", "--smooth", "linear", "--trunc", "2",
+        ],
+        RESTORED,
+        0,
+        BLACK,
+        "energy 3 data 3 smooth 0\nbound 1 4\n",
+    ),
+    // The square of a distance is no metric.
+    (
+        &[
+            "gco",
+            "restore",
+            "--bound",
+            "--smooth",
+            "quadratic",
+            "--trunc",
+            "4",
+        ],
+        RESTORED,
+        0,
+        BLACK,
+        "energy 3 data 3 smooth 0\nbound none\n",
+    ),
+    (
+        &["gco", "restore", "--bound", "--label-cost", "1"],
+        RESTORED,
+        0,
+        BLACK,
+        "energy 4 data 3 smooth 0 label 1\nbound none\n",
+    ),
+    (
+        &["gco", "restore", "--bound", "--label-cost", "0"],
+        RESTORED,
+        0,
+        RESTORED,
+        "energy 2 data 0 smooth 2 label 0\nbound 1 2\n",
+    ),
+    (
+        &["gco", "restore", "--bound", "--moves", "swap"],
+        RESTORED,
+        0,
+        RESTORED,
+        "energy 2 data 0 smooth 2\nbound none\n",
     ),
     // Label 0 costs 9 9 0 0, label 1 costs 9 0 0 0.
     (
@@ -40,6 +157,13 @@ const ROWS: &[Row] = &[
         0,
         b"P5\n4 1\n1\n\x01\x01\x01\x01",
         "energy 9 data 9 smooth 0\n",
+    ),
+    (
+        &["gco", "stereo", "--bound", "--labels", "2", "--cap", "9"],
+        b"P5\n4 1\n9\n\x00\x09\x00\x00P5\n4 1\n9\n\x09\x00\x00\x00",
+        0,
+        b"P5\n4 1\n1\n\x01\x01\x01\x01",
+        "energy 9 data 9 smooth 0\nbound 1 2\n",
     ),
     (
         &["gco", "segment", "--low", "11", "--high", "200"],
@@ -96,8 +220,38 @@ const ROWS: &[Row] = &[
 #[test]
 fn pictures(rt: HostRuntime) {
     for (place, (words, input, status, written, said)) in ROWS.iter().enumerate() {
-        let mut reader = SlowReader::new(input, ROOM, false);
-        let is_right = ends(&rt, words, &mut reader, *status, written, said);
+        let is_right = ends_alike(&rt, words, input, *status, written, said);
         expect(&rt, "ROWS", place, is_right);
+    }
+}
+
+/// How the striped picture is restored.
+const SHARED: &[&[&str]] = &[
+    &["gco", "restore"],
+    &["gco", "restore", "--ring", "1", "--threads", "2"],
+    &["gco", "restore", "--blocks", "256", "--threads", "2"],
+    &["gco", "restore", "--turns", "16", "--threads", "8"],
+    &["gco", "restore", "--rounds", "0", "--threads", "1"],
+    &["gco", "restore", "--turns", "0", "--threads", "3"],
+];
+
+/// A picture of 64 by 64 samples, 3 in each fourth column and else 0.
+fn striped(alloc: Global) -> Result<Vec<u8>, AllocError> {
+    let mut picture = Vec::from_slice(alloc, b"P5\n64 64\n3\n")?;
+    for _ in 0..1024 {
+        picture.extend_from_slice(&[0, 3, 0, 0])?;
+    }
+    Ok(picture)
+}
+
+// In each row a stripe costs 2, its two borders, and would cost 3 if it were black.
+#[test]
+fn stripes(rt: HostRuntime) {
+    let picture = striped(rt.alloc()).expect(&rt, "memory");
+    let said = "energy 2048 data 0 smooth 2048\n";
+    for (place, words) in SHARED.iter().enumerate() {
+        let mut reader = SlowReader::new(picture.as_slice(), ROOM, false);
+        let is_right = ends(&rt, words, &mut reader, 0, picture.as_slice(), said);
+        expect(&rt, "SHARED", place, is_right);
     }
 }

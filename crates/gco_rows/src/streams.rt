@@ -3,8 +3,11 @@ ghost use Rattle.std.specs.Prelude.{Some};
 
 use arrayvec::ArrayVec;
 use gco_cli::run;
+use std::alloc::{AllocError, Global};
 use std::io;
 use std::io::{Error, ErrorKind, Read, Write};
+use std::sync::Wait;
+use std::thread::Threads;
 
 /// The most bytes that a writer holds.
 pub const ROOM: usize = 8192;
@@ -89,7 +92,7 @@ impl Read for SlowReader<'_> {
 
 /// Whether a run with these words ends with this status, and writes and says this.
 pub fn ends(
-    rt: &impl AllocGlobal,
+    rt: &(impl AllocGlobal + Threads + Wait + Sync),
     words: &[&str],
     reader: &mut SlowReader<'_>,
     status: u8,
@@ -101,4 +104,45 @@ pub fn ends(
     run(rt, words, reader, &mut writer, &mut faults) == status
         && writer.held.as_slice() == written
         && faults.held.as_slice() == said.as_bytes()
+}
+
+/// Words that ask for no workers, or for some: what a run writes and says is the same.
+pub const WORKERS: &[&[&str]] = &[
+    &[],
+    &["--threads", "1"],
+    &["--threads", "2"],
+    &["--threads", "8"],
+];
+
+/// Words, and further ones after them.
+pub fn joined<'a>(
+    alloc: Global,
+    words: &[&'a str],
+    more: &[&'a str],
+) -> Result<Vec<&'a str>, AllocError> {
+    let mut all = Vec::from_slice(alloc, words)?;
+    all.extend_from_slice(more)?;
+    Ok(all)
+}
+
+/// Whether a run with these words and those for workers ends with this status, and writes and says this, whatever
+/// workers are asked for.
+pub fn ends_alike(
+    rt: &(impl AllocGlobal + Threads + Wait + Sync),
+    words: &[&str],
+    input: &[u8],
+    status: u8,
+    written: &[u8],
+    said: &str,
+) -> bool {
+    for more in WORKERS {
+        let Ok(words) = joined(rt.alloc(), words, more) else {
+            return false;
+        };
+        let mut reader = SlowReader::new(input, ROOM, false);
+        if !ends(rt, words.as_slice(), &mut reader, status, written, said) {
+            return false;
+        }
+    }
+    true
 }

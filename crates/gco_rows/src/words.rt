@@ -6,6 +6,8 @@ use crate::words::helps::{
 };
 use byte_streams::Watched;
 use gco_cli::{refuse_argument, refuse_memory, run};
+use std::sync::Wait;
+use std::thread::Threads;
 
 mod helps;
 
@@ -30,9 +32,49 @@ const ROWS: &[Row] = &[
         "error: unexpected argument 'more'",
     ),
     (
-        &["gco", "energy", "--threads", "1"],
+        &["gco", "energy", "--threads", "65"],
         2,
-        "error: unexpected argument '--threads'",
+        "error: invalid value '65' for '--threads <N>': 65 is not in 1..=64",
+    ),
+    (
+        &["gco", "restore", "--threads", "0"],
+        2,
+        "error: invalid value '0' for '--threads <N>': 0 is not in 1..=64",
+    ),
+    (
+        &["gco", "stereo", "--blocks", "257"],
+        2,
+        "error: invalid value '257' for '--blocks <N>': 257 is not in 1..=256",
+    ),
+    (
+        &["gco", "segment", "--ring", "0"],
+        2,
+        "error: invalid value '0' for '--ring <N>': 0 is not in 1..=65536",
+    ),
+    (
+        &["gco", "label", "--turns", "1000001"],
+        2,
+        "error: invalid value '1000001' for '--turns <N>': 1000001 is not in 0..=1000000",
+    ),
+    (
+        &["gco", "label", "--rounds", "10001"],
+        2,
+        "error: invalid value '10001' for '--rounds <N>': 10001 is not in 0..=10000",
+    ),
+    (
+        &["gco", "restore", "--label-cost", "10000001"],
+        2,
+        "error: invalid value '10000001' for '--label-cost <N>': 10000001 is not in 0..=10000000",
+    ),
+    (
+        &["gco", "stereo", "--label-cost", "1"],
+        2,
+        "error: unexpected argument '--label-cost'",
+    ),
+    (
+        &["gco", "restore", "--bound=1"],
+        2,
+        "error: unexpected value '1' for '--bound'",
     ),
     (
         &["gco", "energy", "--bound"],
@@ -75,7 +117,7 @@ const ROWS: &[Row] = &[
 ];
 
 /// Whether nothing is read, and the text is written for help and said else.
-fn is_told(rt: &impl AllocGlobal, row: &Row) -> bool {
+fn is_told(rt: &(impl AllocGlobal + Threads + Wait + Sync), row: &Row) -> bool {
     let (words, status, front) = row;
     let mut reader = SlowReader::new(b"variables = 1", ROOM, false);
     let mut writer = CutWriter::ample();

@@ -1,7 +1,7 @@
 -- The ranges of options.
-use Rattle.std.specs.Prelude.{ℕ, ◌≤◌}
+use Rattle.std.specs.Prelude.{ℕ, ◌≤◌, IfSome}
 use Rattle.label_field.specs.Limits.{label_limit, weight_limit}
-use Rattle.run_options.specs.Limits.{cycle_limit, trunc_limit}
+use Rattle.run_options.specs.Limits.{cycle_limit, label_cost_limit, trunc_limit}
 use Rattle.image_options.specs.Limits.{cap_limit, maxval_limit}
 use Rattle.image_options.specs.declared.options.RestoreOptions.{RestoreOptions}
 use Rattle.image_options.specs.declared.options.StereoOptions.{StereoOptions}
@@ -14,8 +14,9 @@ pub record AreRunOptions (trunc weight cycles : ℕ) : Type 0 where
   pub weight_most : weight ≤ weight_limit
   pub cycles_most : cycles ≤ cycle_limit
 
-abbrev pub AreRestoreOptions : RestoreOptions → Type 0
-AreRestoreOptions o = AreRunOptions o.trunc o.weight o.cycles
+pub record AreRestoreOptions (o : RestoreOptions) : Type 0 where
+  pub run : AreRunOptions o.trunc o.weight o.cycles
+  pub label_cost : IfSome o.label_cost (λ cost. cost ≤ label_cost_limit)
 
 pub record AreStereoOptions (o : StereoOptions) : Type 0 where
   pub run : AreRunOptions o.trunc o.weight o.cycles

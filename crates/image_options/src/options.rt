@@ -1,9 +1,10 @@
-ghost use Rattle.std.specs.Prelude.{◌↔◌, IsTrue};
+ghost use Rattle.std.specs.Prelude.{◌↔◌, ◌≤◌, IfSome, IsTrue};
 ghost use Rattle.image_options.specs.Ranges.{AreRestoreOptions, AreRunOptions, AreSegmentOptions, AreStereoOptions};
+ghost use Rattle.run_options.specs.Limits.{label_cost_limit};
 
 use crate::{CAP_LIMIT, MAXVAL_LIMIT};
 use label_field::{LABEL_LIMIT, WEIGHT_LIMIT};
-use run_options::{CYCLE_LIMIT, Moves, Shape, TRUNC_LIMIT};
+use run_options::{CYCLE_LIMIT, LABEL_COST_LIMIT, Moves, Shape, TRUNC_LIMIT};
 
 /// Which pixels of a picture are in a pair.
 #[derive(Clone, Copy, Debug, PartialEq, Eq)]
@@ -29,6 +30,11 @@ pub struct RestoreOptions {
     pub moves: Moves,
     /// The most cycles of the run, from 0 to `CYCLE_LIMIT`.
     pub cycles: u32,
+    /// What each label costs by itself, wherever some pixel has it, from 0 to `LABEL_COST_LIMIT`, where that is asked
+    /// for.
+    pub label_cost: Option<u32>,
+    /// Whether it is to be told how near the picture is to the least energy.
+    pub bound: bool,
 }
 
 /// The options of matching a left and a right picture: a label is how far a pixel of the left one has moved
@@ -51,6 +57,8 @@ pub struct StereoOptions {
     pub labels: u32,
     /// At what the cost of a label at a pixel is cut off, from 0 to `CAP_LIMIT`.
     pub cap: u32,
+    /// Whether it is to be told how near the picture is to the least energy.
+    pub bound: bool,
 }
 
 /// The options of parting a picture in two: label 0 is near the one sample, label 1 near the other.
@@ -77,7 +85,7 @@ impl RestoreOptions {
     pub fn fits(&self) -> bool
         ensures { IsTrue result ↔ AreRestoreOptions self.now }
     {
-        run_fits(self.trunc, self.weight, self.cycles)
+        run_fits(self.trunc, self.weight, self.cycles) && cost_fits(self.label_cost)
     }
 }
 
@@ -111,4 +119,13 @@ fn run_fits(trunc: u32, weight: u32, cycles: u32) -> bool
     ensures { IsTrue result ↔ AreRunOptions trunc weight cycles }
 {
     1 <= trunc && trunc <= TRUNC_LIMIT && weight <= WEIGHT_LIMIT && cycles <= CYCLE_LIMIT
+}
+
+fn cost_fits(label_cost: Option<u32>) -> bool
+    ensures { IsTrue result ↔ IfSome label_cost (λ cost. cost ≤ label_cost_limit) }
+{
+    match label_cost {
+        Some(cost) => cost <= LABEL_COST_LIMIT,
+        None => true,
+    }
 }

@@ -1,3 +1,4 @@
+pub mod CostLemmas
 pub mod ItemLemmas
 pub mod LimitLemmas
 pub mod Listed

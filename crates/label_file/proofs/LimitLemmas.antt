@@ -7,6 +7,7 @@ use Rattle.std.proofs.lemmas.List.{length-map}
 use Rattle.std.proofs.lemmas.List.Elements.{All-map}
 use Rattle.toml.specs.Data.{Data, string, integer, float, boolean, datetime, array, table, Items, Members, as_array, get_member}
 use Rattle.label_file.specs.FieldNames.{and_then, field_name, out_of_range, unless}
+use Rattle.label_file.specs.LabelCostFields.{AreLabelCosts, label_costs_at, label_costs_from, label_costs_in}
 use Rattle.label_file.specs.ListFields.{checked, checked_items, data_at, data_from, data_in, integer_of, is_beyond, is_other, list_from, list_of, number_of}
 use Rattle.label_file.specs.SmoothFields.{listed_from, smooth_at, smooth_from, smooth_in, table_named}
 use Rattle.label_file.specs.declared.fault.Field.{Field}
@@ -15,7 +16,7 @@ use Rattle.label_file.specs.declared.fault.LabelFault.{LabelFault}
 use Rattle.label_file.specs.declared.fault.LabelFault.TheVariants.{BadElement, BadField}
 use Rattle.label_file.proofs.Listed.{none_passes}
 use Rattle.run_options.proofs.Tables.{rows_kept, table_long}
-use Rattle.run_options.specs.Limits.{IsSmoothCost, data_limit, smooth_limit, trunc_limit}
+use Rattle.run_options.specs.Limits.{IsLabelCost, IsSmoothCost, data_limit, label_cost_limit, smooth_limit, trunc_limit}
 use Rattle.run_options.specs.Names.{shape_named}
 use Rattle.run_options.specs.Shapes.{shape_table}
 use Rattle.run_options.specs.declared.shape.Shape.{Shape}
@@ -127,3 +128,26 @@ pub smooth_kept : (ms : Members) (k most : ℕ) (f : ℕ → List ℤ) → most 
     → (length (f most) ≡ k * k) × All IsSmoothCost (f most)
 unfolding smooth_in
 smooth_kept ms k most f few e = at_kept k most (get_member (field_name field.Smooth) ms) f few e
+
+costs_from_kept : (k : ℕ) (d : Data) (costs : Option (List ℤ)) → label_costs_from k d ≡ Ok costs → AreLabelCosts k costs
+unfolding label_costs_from
+costs_from_kept k d costs e =
+    let (ds, read, made) = then_ok (list_from field.LabelCosts k label_cost_limit d) (λ ds. let r : Result (Option (List ℤ)) LabelFault = Ok (Some (map integer_of ds)) in r) costs e in
+    let kept = list_kept field.LabelCosts k label_cost_limit d ds read in
+    let listed : Option (List ℤ) = Some (map integer_of ds) in
+    let same : listed ≡ costs = let is = made in cc in
+    let P : Option (List ℤ) → Type 0 = λ o. AreLabelCosts k o in
+    subst P same (simp length-map kept.long, All-map IsLabelCost integer_of ds kept.limit)
+
+costs_at_kept : (k : ℕ) (o : Option Data) (costs : Option (List ℤ)) → label_costs_at k o ≡ Ok costs → AreLabelCosts k costs
+costs_at_kept k None costs e =
+    let none : Option (List ℤ) = None in
+    let same : none ≡ costs = let is = e in cc in
+    let P : Option (List ℤ) → Type 0 = λ o. AreLabelCosts k o in
+    subst P same tt
+costs_at_kept k (Some d) costs e = costs_from_kept k d costs e
+
+-- the costs of k labels that a table names are in their range
+pub label_costs_kept : (ms : Members) (k : ℕ) (costs : Option (List ℤ)) → label_costs_in ms k ≡ Ok costs → AreLabelCosts k costs
+unfolding label_costs_in
+label_costs_kept ms k costs e = costs_at_kept k (get_member (field_name field.LabelCosts) ms) costs e

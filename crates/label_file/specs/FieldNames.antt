@@ -1,7 +1,7 @@
 -- The keys of a problem file, and the faults of its fields.
 use Rattle.std.specs.Prelude.{ℕ, List, Option, Some, None, Result, Ok, Err, codes}
 use Rattle.label_file.specs.declared.fault.Field.{Field}
-use Rattle.label_file.specs.declared.fault.Field.TheVariants.{Sites, Labels, Data, Smooth, Trunc, Pairs, Start, Moves, Cycles}
+use Rattle.label_file.specs.declared.fault.Field.TheVariants.{Sites, Labels, Data, Smooth, Trunc, Pairs, Start, Moves, Cycles, LabelCosts}
 use Rattle.label_file.specs.declared.fault.LabelFault.{LabelFault}
 use Rattle.label_file.specs.declared.fault.LabelFault.TheVariants.{CostRange, NoSuchLabel}
 
@@ -15,6 +15,7 @@ field_name Pairs = codes "pairs"
 field_name Start = codes "start"
 field_name Moves = codes "moves"
 field_name Cycles = codes "cycles"
+field_name LabelCosts = codes "label_costs"
 
 -- the fault of a number out of its range, at a place of a field's list
 abbrev pub out_of_range : Field → ℕ → LabelFault

@@ -1,5 +1,6 @@
 pub mod FieldNames
 pub mod Gains
+pub mod LabelCostFields
 pub mod Limits
 pub mod ListFields
 pub mod MoveFields

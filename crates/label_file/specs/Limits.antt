@@ -2,6 +2,7 @@
 use Rattle.std.specs.Prelude.{◌≡◌, ℕ, ◌*◌, ◌≤◌, List, length, All, ℤ}
 use Rattle.label_field.specs.LabelFields.{AreSizes}
 use Rattle.run_options.specs.Limits.{IsSmoothCost, cycle_limit, data_limit}
+use Rattle.label_file.specs.LabelCostFields.{AreLabelCosts}
 use Rattle.label_file.specs.Names.{Problem}
 
 -- the costs of a problem of these sizes, in their limits
@@ -22,3 +23,4 @@ pub record IsInLimits (p : Problem) : Type 0 where
   pub start_sites : length p.start.at ≡ p.sites
   pub start_labels : p.start.labels ≡ p.labels
   pub cycles_most : p.cycles ≤ cycle_limit
+  pub label_costs : AreLabelCosts p.labels p.label_costs

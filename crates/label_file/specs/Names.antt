@@ -6,6 +6,7 @@ use Rattle.label_field.specs.LabelFields.{LabelField}
 use Rattle.label_field.specs.PairLists.{PairList}
 use Rattle.label_field.specs.Limits.{site_limit, label_limit}
 use Rattle.label_file.specs.FieldNames.{and_then}
+use Rattle.label_file.specs.LabelCostFields.{costs_told, label_costs_in}
 use Rattle.label_file.specs.ListFields.{data_in}
 use Rattle.label_file.specs.MoveFields.{moves_in}
 use Rattle.label_file.specs.NumberFields.{number_in, number_or}
@@ -29,6 +30,7 @@ pub record Problem : Type 0 where
   pub start : LabelField
   pub moves : Moves
   pub cycles : ℕ
+  pub label_costs : Option (List ℤ)
 
 -- what the problem that was read says
 abbrev pub told : LabelProblem → Problem
@@ -41,6 +43,7 @@ told p = record {
   start = p.start;
   moves = p.moves;
   cycles = p.cycles;
+  label_costs = costs_told p.label_costs;
 }
 
 -- the problem of these sizes and costs whose other fields a table names
@@ -50,6 +53,7 @@ names_rest ms sites labels data_costs smooth_costs =
     and_then (start_in ms sites labels) (λ start.
     and_then (moves_in ms) (λ moves.
     and_then (number_or ms Cycles 0 cycle_limit 100) (λ cycles.
+    and_then (label_costs_in ms labels) (λ label_costs.
     Ok (record {
       sites = sites;
       labels = labels;
@@ -59,7 +63,8 @@ names_rest ms sites labels data_costs smooth_costs =
       start = start;
       moves = moves;
       cycles = cycles;
-    })))))
+      label_costs = label_costs;
+    }))))))
 
 -- the problem that a table names: the fields in this order, and the first fault of the first that has one
 abbrev pub names : Members → Result Problem LabelFault

@@ -1,12 +1,13 @@
 ghost use Rattle.std.specs.Prelude.{◌≡◌, ◌≢◌, ◌≤◌, IfOk, IfErr, All, length};
 ghost use Rattle.toml.specs.View.{table_view, view};
 ghost use Rattle.label_file.specs.declared.fault.LabelFault.TheVariants.{OutOfMemory};
+ghost use Rattle.label_file.specs.LabelCostFields.{costs_told, label_costs_from, label_costs_in};
 ghost use Rattle.label_file.specs.ListFields.{data_from, data_in};
 
-use crate::lists::{list_from, numbers_of};
+use crate::lists::{integers_of, list_from, numbers_of};
 use crate::numbers::value_of;
 use crate::{Field, LabelFault};
-use run_options::DATA_LIMIT;
+use run_options::{DATA_LIMIT, LABEL_COST_LIMIT};
 use std::alloc::Global;
 use toml::{Table, Value};
 
@@ -32,6 +33,40 @@ fn data_from(alloc: Global, value: &Value, count: usize) -> Result<Vec<u32>, Lab
     let items = list_from(value, Field::Data, count, DATA_LIMIT)?;
     match numbers_of(alloc, items) {
         Ok(costs) => Ok(costs),
+        Err(_) => Err(LabelFault::OutOfMemory),
+    }
+}
+
+/// What each of so many labels costs by itself, where a table names it.
+#[tactic(auto, unfolding(crate::specs::LabelCostFields::label_costs_in))]
+pub(crate) fn label_costs_in(
+    alloc: Global,
+    table: &Table,
+    labels: u32,
+) -> Result<Option<Vec<i64>>, LabelFault>
+    ensures ok { IfOk result (λ costs. label_costs_in (table_view table.now) labels ≡ Ok (costs_told costs)) }
+    ensures refused { IfErr result (λ fault. fault ≢ OutOfMemory →
+        label_costs_in (table_view table.now) labels ≡ Err fault) }
+{
+    match value_of(table, Field::LabelCosts) {
+        Some(value) => label_costs_from(alloc, value, labels),
+        None => Ok(None),
+    }
+}
+
+#[tactic(auto, unfolding(crate::specs::LabelCostFields::label_costs_from))]
+fn label_costs_from(
+    alloc: Global,
+    value: &Value,
+    labels: u32,
+) -> Result<Option<Vec<i64>>, LabelFault>
+    ensures ok { IfOk result (λ costs. label_costs_from labels (view value.now) ≡ Ok (costs_told costs)) }
+    ensures refused { IfErr result (λ fault. fault ≢ OutOfMemory →
+        label_costs_from labels (view value.now) ≡ Err fault) }
+{
+    let items = list_from(value, Field::LabelCosts, labels as usize, LABEL_COST_LIMIT)?;
+    match integers_of(alloc, items) {
+        Ok(costs) => Ok(Some(costs)),
         Err(_) => Err(LabelFault::OutOfMemory),
     }
 }

@@ -24,6 +24,8 @@ pub enum Field {
     Moves,
     /// `cycles`
     Cycles,
+    /// `label_costs`
+    LabelCosts,
 }
 
 impl Field {
@@ -41,6 +43,7 @@ impl Field {
             Field::Start => "start",
             Field::Moves => "moves",
             Field::Cycles => "cycles",
+            Field::LabelCosts => "label_costs",
         }
     }
 }
@@ -60,7 +63,7 @@ pub enum LabelFault {
     /// The element at this place of a field's list has another kind or another shape.
     #[error("bad element {1}")]
     BadElement(Field, usize),
-    /// The cost at this place of `data` or of `smooth` is out of its range.
+    /// The cost at this place of `data`, of `smooth` or of `label_costs` is out of its range.
     #[error("a cost out of range at {1}")]
     CostRange(Field, usize),
     /// A pair names a site that is not there.

@@ -21,4 +21,7 @@ pub struct LabelProblem {
     pub moves: Moves,
     /// The most cycles of the run, at most `CYCLE_LIMIT`.
     pub cycles: u32,
+    /// What each label costs by itself, wherever some site has it: one for each label, each from 0 to
+    /// `LABEL_COST_LIMIT`, where the file names them.
+    pub label_costs: Option<Vec<i64>>,
 }

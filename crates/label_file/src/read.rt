@@ -5,7 +5,7 @@ ghost use Rattle.label_file.specs.declared.fault.LabelFault.TheVariants.{BadToml
 ghost use Rattle.label_file.specs.Limits.{AreCosts, IsInLimits};
 ghost use Rattle.label_file.specs.Names.{names, names_rest, problem_in, told};
 
-use crate::costs::data_in;
+use crate::costs::{data_in, label_costs_in};
 use crate::move_names::moves_in;
 use crate::numbers::{number_in, number_or};
 use crate::pairs::pairs_in;
@@ -35,7 +35,7 @@ pub fn read_label(alloc: Global, bytes: &[u8]) -> Result<LabelProblem, LabelFaul
 }
 
 /// The problem of labels that a table names, or its first fault. The fields are read in the order `sites`,
-/// `labels`, `data`, `smooth`, `trunc`, `pairs`, `start`, `moves`, `cycles`; other fields are ignored.
+/// `labels`, `data`, `smooth`, `trunc`, `pairs`, `start`, `moves`, `cycles`, `label_costs`; other fields are ignored.
 pub fn problem_of(alloc: Global, table: &Table) -> Result<LabelProblem, LabelFault>
     ensures ok { IfOk result (λ problem. names (table_view table.now) ≡ Ok (told problem)) }
     ensures limits { IfOk result (λ problem. IsInLimits (told problem)) }
@@ -73,6 +73,7 @@ fn rest_of(
     let start = start_in(alloc, table, sites, labels)?;
     let moves = moves_in(table)?;
     let cycles = number_or(table, Field::Cycles, 0, CYCLE_LIMIT, 100)?;
+    let label_costs = label_costs_in(alloc, table, labels)?;
     Ok(LabelProblem {
         sites,
         labels,
@@ -82,5 +83,6 @@ fn rest_of(
         start,
         moves,
         cycles,
+        label_costs,
     })
 }

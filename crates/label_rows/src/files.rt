@@ -12,6 +12,7 @@ struct Row {
     start: &'static [u8],
     moves: Moves,
     cycles: u32,
+    label_costs: Option<&'static [i64]>,
 }
 
 const ONCE: Pair = Pair {
@@ -42,17 +43,20 @@ const ROWS: [Row; 5] = [
         start: &[0, 0],
         moves: Moves::Expansion,
         cycles: 100,
+        label_costs: None,
     },
-    // A table that is not symmetric, pairs with and without a weight, and fields that are passed over.
+    // A table that is not symmetric, pairs with and without a weight, costs of labels, and fields that are passed over.
     Row {
         file: "title = 'two'\nsites = 2\nlabels = 3\ndata = [0,9,9,9,9,0]\nsmooth = [0,1,4,2,0,1,10000,3,0]\n\
-               pairs = [[0,1],[1,0,1000],[0,1,0]]\nstart = [0,2]\nmoves = 'swap'\ncycles = 0\ntrunc = 7",
+               pairs = [[0,1],[1,0,1000],[0,1,0]]\nstart = [0,2]\nmoves = 'swap'\ncycles = 0\ntrunc = 7\n\
+               label_costs = [0,10000000,5]",
         data: &[0, 9, 9, 9, 9, 0],
         smooth: &[0, 1, 4, 2, 0, 1, 10_000, 3, 0],
         pairs: &[ONCE, HEAVY, FREE],
         start: &[0, 2],
         moves: Moves::Swap,
         cycles: 0,
+        label_costs: Some(&[0, 10_000_000, 5]),
     },
     // The least of min(|a - b|, 2).
     Row {
@@ -63,6 +67,7 @@ const ROWS: [Row; 5] = [
         start: &[],
         moves: Moves::Expansion,
         cycles: 100,
+        label_costs: None,
     },
     // The least of (a - b) squared and 5.
     Row {
@@ -73,6 +78,7 @@ const ROWS: [Row; 5] = [
         start: &[3],
         moves: Moves::Expansion,
         cycles: 1000,
+        label_costs: None,
     },
     // Potts does not look at the cut.
     Row {
@@ -83,6 +89,7 @@ const ROWS: [Row; 5] = [
         start: &[0],
         moves: Moves::Expansion,
         cycles: 100,
+        label_costs: None,
     },
 ];
 
@@ -93,6 +100,16 @@ fn is_read(problem: &LabelProblem, row: &Row) -> bool {
         && problem.start.as_slice() == row.start
         && problem.moves == row.moves
         && problem.cycles == row.cycles
+        && are_costs(&problem.label_costs, row.label_costs)
+}
+
+/// Whether the costs of labels are these, or both are none.
+fn are_costs(costs: &Option<Vec<i64>>, told: Option<&[i64]>) -> bool {
+    match (costs, told) {
+        (Some(costs), Some(told)) => costs.as_slice() == told,
+        (None, None) => true,
+        _ => false,
+    }
 }
 
 #[test]

@@ -1,7 +1,7 @@
 //! The first fault of a file.
 use label_file::{Field, LabelFault, read_label};
 
-const BAD: [(&str, LabelFault); 38] = [
+const BAD: [(&str, LabelFault); 46] = [
     ("sites = ", LabelFault::BadToml),
     ("labels = 2\ndata = []", LabelFault::BadField(Field::Sites)),
     ("sites = -1", LabelFault::BadField(Field::Sites)),
@@ -127,6 +127,38 @@ const BAD: [(&str, LabelFault); 38] = [
     (
         "sites = 2\nlabels = 1\ndata = [0, 0]\npairs = [[0, 1], [1, 0, -1], 'x']\nstart = 3",
         LabelFault::WeightRange(1),
+    ),
+    (
+        "sites = 0\nlabels = 2\ndata = []\ncycles = 1001\nlabel_costs = 3",
+        LabelFault::BadField(Field::Cycles),
+    ),
+    (
+        "sites = 0\nlabels = 2\ndata = []\nlabel_costs = 3",
+        LabelFault::BadField(Field::LabelCosts),
+    ),
+    (
+        "sites = 0\nlabels = 2\ndata = []\nlabel_costs = []",
+        LabelFault::BadField(Field::LabelCosts),
+    ),
+    (
+        "sites = 0\nlabels = 2\ndata = []\nlabel_costs = [-1]",
+        LabelFault::BadField(Field::LabelCosts),
+    ),
+    (
+        "sites = 0\nlabels = 2\ndata = []\nlabel_costs = [-1, 'x']",
+        LabelFault::BadElement(Field::LabelCosts, 1),
+    ),
+    (
+        "sites = 0\nlabels = 2\ndata = []\nlabel_costs = [10000000, -1]",
+        LabelFault::CostRange(Field::LabelCosts, 1),
+    ),
+    (
+        "sites = 0\nlabels = 2\ndata = []\nlabel_costs = [10000001, -1]",
+        LabelFault::CostRange(Field::LabelCosts, 0),
+    ),
+    (
+        "sites = 0\nlabels = 2\ndata = []\nlabel_costs = [0, 10000001]",
+        LabelFault::CostRange(Field::LabelCosts, 1),
     ),
 ];
 

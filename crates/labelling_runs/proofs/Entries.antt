@@ -1,5 +1,5 @@
 -- Entries of the table of smooth costs, and what a refused run over a metric tells.
-use Rattle.std.proofs.Common.{◌≡◌, ℕ, ◌+◌, ◌*◌, ◌<◌, ◌≤◌, List, length, All, ℤ, pos, negsuc, ◌≤ℤ◌, unsigned_abs, Err, refl, sym, ap, ◌∙◌, subst, arith}
+use Rattle.std.proofs.Common.{◌≡◌, ℕ, ◌+◌, ◌*◌, ◌<◌, ◌≤◌, List, length, All, ℤ, pos, negsuc, ◌≤ℤ◌, unsigned_abs, Err, refl, sym, ap, ◌∙◌, subst, inl, inr, arith}
 use Rattle.std.proofs.lemmas.Int.{ints}
 use Rattle.std.proofs.lemmas.Nat.{mul-add-lt}
 use Rattle.std.proofs.Math.Nat.{mul_comm}
@@ -11,7 +11,7 @@ use Rattle.moves.specs.Problems.{IsRun, TellsPairNotRegular}
 use Rattle.moves.specs.declared.error.MoveError.{MoveError}
 use Rattle.moves.proofs.Answers.{metric_refusal}
 
-place_in : (a b k n len : ℕ) → a < n → b < k → len ≡ n * k → a * k + b < len
+pub place_in : (a b k n len : ℕ) → a < n → b < k → len ≡ n * k → a * k + b < len
 place_in a b k n len la lb size = omega (arith, mul-add-lt a k b n la lb, mul_comm n k, size)
 
 -- a closure that reads a table of costs in range may be called everywhere, and answers costs in range
@@ -54,9 +54,34 @@ metric_kept k table metric cost entries =
       triangle = λ a b c la lb lc. omega (arith, same a b la lb, same a c la lc, same c b lc lb, m.triangle a b c la lb lc);
     }
 
+-- the table of costs that are a metric
+pub metric_table : (k : ℕ) (cost : ℕ → ℕ → ℕ) (table : List ℤ) → 0 < k → IsTable k k cost table → IsMetric k cost → IsMetricTable k table
+metric_table k cost table some is m =
+    let same = λ (a b : ℕ) (la : a < k) (lb : b < k). let number : cost_in k table a b ≡ cost a b = ap unsigned_abs (is.each a b la lb) in number in
+    record {
+      some = some;
+      entries = record { size = is.size; each = λ a b la lb. is.each a b la lb ∙ ap pos (sym (same a b la lb)) };
+      metric = record {
+        equal = λ a la. same a a la la ∙ m.equal a la;
+        unequal = λ a b la lb apart. (let P : ℕ → Type 0 = λ n. 0 < n in subst P (sym (same a b la lb)) (m.unequal a b la lb apart));
+        symmetric = λ a b la lb. same a b la lb ∙ m.symmetric a b la lb ∙ sym (same b a lb la);
+        triangle = λ a b c la lb lc. omega (arith, same a b la lb, same a c la lc, same c b lc lb, m.triangle a b c la lb lc);
+      };
+    }
+
+-- where a closure answers the table's entries, and its costs are a metric, the table is one
+pub table_metric : (m : Instance) (k l : ℕ) (table : List ℤ) → 0 < k → length table ≡ k * k → m.labels ≡ l → l ≡ k
+    → ((a b : ℕ) (z : ℤ) → a < l → b < l → z ≡ entry_at k table a b → z ≡ pos (m.smooth_cost a b)) → IsMetric m.labels m.smooth_cost → IsMetricTable k table
+table_metric m k l table some size labels same entries metric =
+    let M : ℕ → Type 0 = λ n. IsMetric n m.smooth_cost in
+    metric_table k m.smooth_cost table some
+    (record { size = size; each = λ a b la lb. entries a b (entry_at k table a b) (below_along a k l la (sym same)) (below_along b k l lb (sym same)) refl })
+    (subst M (labels ∙ same) metric)
+
 -- over a metric no run is refused for a pair whose term is not regular
 pub metric_run : (m : Instance) (moves : List Move) (allowed : ℕ) (f : List ℕ) (field : LabelField) (e : MoveError)
     → All (λ label. label < field.labels) field.at → IsInstance m → length field.at ≡ m.sites → field.labels ≡ m.labels
     → IsMetric m.labels m.smooth_cost → IsRun m moves allowed f field.at (Err e) → ¬ TellsPairNotRegular e
-metric_run m moves allowed f field e below pairs sites labels metric run =
+metric_run m moves allowed f field e below pairs sites labels metric (inl run) =
     metric_refusal m run.0 field e below pairs sites labels metric run.2
+metric_run m moves allowed f field e below pairs sites labels metric (inr never) = (let P : MoveError → Type 0 = λ told. ¬ TellsPairNotRegular told in subst P (sym never.1) (λ told. told))

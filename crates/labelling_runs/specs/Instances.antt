@@ -3,6 +3,7 @@ use Rattle.std.specs.Prelude.{◌≡◌, ℕ, ℤ, List}
 use Rattle.label_field.specs.PairLists.{PairList}
 use Rattle.cost_store.specs.Promises.{Answers, IsTable, cost_in}
 use Rattle.labellings.specs.Energies.{Instance}
+use Rattle.label_costs.specs.Costs.{cost_at}
 
 -- the instance has these pairs and their sites, and so many labels; the closure answers its data costs, and
 -- the table has its smooth costs, a row for each label of a pair's first site
@@ -14,12 +15,13 @@ pub record IsInstanceOf (data_post : ℕ → ℕ → ℤ → Type 0) (pairs : Pa
   pub data_are : Answers data_post m.data_cost pairs.sites labels
   pub smooth_are : IsTable labels labels m.smooth_cost smooth
 
--- the one whose smooth costs are the entries of the table
-abbrev pub instance_of : PairList → ℕ → (ℕ → ℕ → ℕ) → List ℤ → Instance
-instance_of pairs labels data_cost smooth = record {
+-- the one whose smooth costs are the entries of the table, and whose label costs those of the list
+abbrev pub instance_of : PairList → ℕ → (ℕ → ℕ → ℕ) → List ℤ → List ℤ → Instance
+instance_of pairs labels data_cost smooth costs = record {
   sites = pairs.sites;
   labels = labels;
   data_cost = data_cost;
   smooth_cost = cost_in labels smooth;
   pairs = pairs.list;
+  label_cost = cost_at costs;
 }

@@ -1,12 +1,11 @@
 -- A move made once more, with no change since, changes nothing and is not refused.
-use Rattle.std.proofs.Common.{◌≡◌, ◌≢◌, ℕ, ◌+◌, ◌*◌, ◌<◌, ◌≤◌, ◌⊎◌, Bool, true, false, cond, List, refl, sym, ap, ◌∙◌, inl, inr, subst, length, arith}
-use Rattle.std.specs.List.{All}
+use Rattle.std.proofs.Common.{◌≡◌, ℕ, ◌⊎◌, Bool, true, false, cond, List, refl, sym, ap, ◌∙◌, inl, inr, subst, arith}
 use Rattle.label_field.specs.declared.pair.Pair.{Pair}
 use Rattle.label_field.specs.PairLists.{IsPair}
 use Rattle.labellings.specs.declared.change.Move.{Move}
 use Rattle.labellings.specs.declared.change.Move.TheVariants.{Expand, Swap}
-use Rattle.labellings.specs.Energies.{Instance, IsInstance, energy, labelling}
-use Rattle.labellings.specs.Moves.{IsOneOf, MayBecome, IsReached, IsBest, label_in, IsRegularPair, IsAllowed}
+use Rattle.labellings.specs.Energies.{Instance, IsInstance, labelling}
+use Rattle.labellings.specs.Moves.{IsOneOf, MayBecome, IsBest, label_in, IsRegularPair, IsAllowed}
 use Rattle.labellings.proofs.Reaching.{cases_one, neither, swap_one}
 use Rattle.labellings.proofs.Best.{stays-reached}
 

@@ -13,7 +13,7 @@ use Rattle.by_site.specs.BySite.{AreBySite, degree, pair_of, is_counted, has_cho
 use Rattle.by_site.proofs.Listings.{listed_sites_are_summed}
 use Rattle.by_site.proofs.Meetings.{pairs_are_met_once}
 use Rattle.labellings.specs.declared.change.Move.{Move}
-use Rattle.labellings.specs.Energies.{Instance, labelling, pair_cost, energy}
+use Rattle.labellings.specs.Energies.{Instance, labelling, pair_cost, plain_energy}
 use Rattle.labellings.specs.Moves.{label_in}
 use Rattle.compile_cut.specs.declared.quadratic.Quadratic.{Quadratic}
 use Rattle.compile_cut.specs.Form.{IsBounded, IsConstant}
@@ -219,7 +219,7 @@ left_pairs_same m move f choices x y =
 -- the energy is what the listed sites and their pairs cost, and what is left out
 energy_listed : (m : Instance) (move : Move) (f : ℕ → ℕ) (choices : List Choice) (opened : List ℕ) (ends : Groups) → length choices ≡ m.sites → AreOpenSites choices opened
     → All (IsPair m.sites) m.pairs → AreBySite (record { sites = m.sites; list = m.pairs }) ends → (x : ℕ → Bool)
-    → energy m (made_by move f (choice_at choices) (rank choices) x)
+    → plain_energy m (made_by move f (choice_at choices) (rank choices) x)
     ≡ sum_by (λ p. m.data_cost p (made_by move f (choice_at choices) (rank choices) x p)) opened
     + sum_by (met_at m.pairs ends (open_at choices) (pair_cost m (made_by move f (choice_at choices) (rank choices) x))) opened
     + (left_sites m move f choices x + left_pairs m move f choices x)

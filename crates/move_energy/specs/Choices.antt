@@ -4,7 +4,7 @@ use Rattle.std.specs.Prelude.{◌≡◌, ◌≢◌, ◌↔◌, ℕ, ◌<◌, Boo
 use Rattle.sums.specs.Sums.{sum_below}
 use Rattle.by_site.specs.BySite.{IsListing}
 use Rattle.labellings.specs.declared.change.Move.{Move}
-use Rattle.labellings.specs.Energies.{Instance, labelling, energy}
+use Rattle.labellings.specs.Energies.{Instance, labelling, plain_energy}
 use Rattle.labellings.specs.Moves.{label_in, made}
 use Rattle.pseudo_bool.specs.Formula.{assignment}
 use Rattle.compile_cut.specs.declared.quadratic.Quadratic.{Quadratic}
@@ -86,12 +86,12 @@ abbrev pub made_by : Move → (ℕ → ℕ) → (ℕ → Choice) → (ℕ → �
 made_by move f choice variable x = made move f (λ p. bit_of (choice p) (x (variable p)))
 
 -- the form stands for the partly decided move from f: but for a fixed number, its value at each assignment
--- is the energy of the labelling that the assignment and what was decided make. `variable` is each
+-- is what the labels that the assignment and what was decided make cost the sites and the pairs. `variable` is each
 -- site's variable, and `site` each variable's site (Boykov, Veksler, Zabih 2001, section 4)
 pub record StandsFor (m : Instance) (move : Move) (f : ℕ → ℕ) (choice : ℕ → Choice) (q : Quadratic)
     (variable : ℕ → ℕ) : Type 0 where
   pub rest : ℤ
   pub site : ℕ → ℕ
-  pub value : (x : ℕ → Bool) → quadratic_value q x +ℤ rest ≡ pos (energy m (made_by move f choice variable x))
+  pub value : (x : ℕ → Bool) → quadratic_value q x +ℤ rest ≡ pos (plain_energy m (made_by move f choice variable x))
   pub covers : (p : ℕ) → p < m.sites → choice p ≡ Open → (variable p < vec_len q.weights)
       × (site (variable p) ≡ p)

@@ -4,6 +4,7 @@ ghost use Rattle.labellings.specs.Moves.{IsMoveOf};
 ghost use Rattle.cost_store.specs.Limits.{data_limit};
 ghost use Rattle.cost_store.specs.Promises.{Keeps, KeepsSmooth};
 ghost use Rattle.move_energy.specs.Problems.{AreSized};
+ghost use Rattle.moves.specs.LabelCosts.{AreLabelCosts};
 
 use crate::listed::LISTED;
 use crate::opened::open_in;
@@ -84,7 +85,7 @@ fn change_of(row: &[u8; BYTES], labels: u32) -> Move
 }
 
 /// Whether a move ends with the wanted labels, and says that a label changes just where one does in the row.
-fn ends_right<F: Fn(u32, u32) -> i64, V: Fn(u32, u32) -> i64, H: How>(
+fn ends_right<F: Fn(u32, u32) -> i64 + Sync, V: Fn(u32, u32) -> i64 + Sync, H: How>(
     problem: &Problem<F, V>,
     alloc: Global,
     labelling: &mut Labelling,
@@ -100,6 +101,7 @@ fn ends_right<F: Fn(u32, u32) -> i64, V: Fn(u32, u32) -> i64, H: How>(
         problem.now.data_cost.sites problem.now.data_cost.labels data_limit }
     requires smooth { KeepsSmooth (V.pre problem.now.smooth_cost.v) (V.post problem.now.smooth_cost.v)
         problem.now.smooth_cost.labels problem.now.smooth_cost.by_metric }
+    requires label_costs { AreLabelCosts problem.now.data_cost.labels problem.now.label_costs }
 {
     let told = match change {
         Move::Expand(alpha) => problem.expand(alloc, labelling, alpha, how),
@@ -110,7 +112,7 @@ fn ends_right<F: Fn(u32, u32) -> i64, V: Fn(u32, u32) -> i64, H: How>(
 
 /// Whether a move leaves so many sites open as the row says, and ends as it says: with sites decided first, and
 /// without. The labellings are that before the move, twice, and that after it.
-fn is_told<F: Fn(u32, u32) -> i64, V: Fn(u32, u32) -> i64>(
+fn is_told<F: Fn(u32, u32) -> i64 + Sync, V: Fn(u32, u32) -> i64 + Sync>(
     problem: &Problem<F, V>,
     alloc: Global,
     labelling: &mut Labelling,
@@ -127,6 +129,7 @@ fn is_told<F: Fn(u32, u32) -> i64, V: Fn(u32, u32) -> i64>(
         problem.now.data_cost.sites problem.now.data_cost.labels data_limit }
     requires smooth { KeepsSmooth (V.pre problem.now.smooth_cost.v) (V.post problem.now.smooth_cost.v)
         problem.now.smooth_cost.labels problem.now.smooth_cost.by_metric }
+    requires label_costs { AreLabelCosts problem.now.data_cost.labels problem.now.label_costs }
 {
     let change = change_of(row, problem.data_cost.labels);
     let opened = open_in(alloc, problem, labelling, change)?;
@@ -160,6 +163,7 @@ fn is_right(rt: &impl Abort, alloc: Global, row: &[u8; BYTES]) -> Result<bool, F
             { i64::from(number(row, 80 + (first * 3 + second) as usize)) },
             labels,
         ),
+        label_costs: None,
     };
     is_told(&problem, alloc, &mut labelling, &mut again, &wanted, row)
 }

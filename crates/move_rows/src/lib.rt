@@ -1,12 +1,16 @@
 //! Tests of moves between labellings, as tables: by hand, and small random ones and runs with what scripts
-//! answer that try every labelling; how many sites deciding leaves open on a picture; and listed moves of which
-//! few sites, none or all are left open.
+//! answer that try every labelling, without label costs and with them, and the bounds of runs; how many sites
+//! deciding leaves open on a picture; and listed moves of which few sites, none or all are left open.
 #![tactic(auto)]
 
 #[cfg(test)]
 mod cases;
 #[cfg(test)]
 mod chains;
+#[cfg(test)]
+mod costed;
+#[cfg(test)]
+mod costs;
 #[cfg(test)]
 mod few_open;
 #[cfg(test)]

@@ -4,6 +4,7 @@ ghost use Rattle.labellings.specs.Moves.{IsMoveOf};
 ghost use Rattle.cost_store.specs.Limits.{data_limit};
 ghost use Rattle.cost_store.specs.Promises.{Keeps, KeepsSmooth};
 ghost use Rattle.move_energy.specs.Problems.{AreSized};
+ghost use Rattle.moves.specs.LabelCosts.{AreLabelCosts};
 
 use cost_store::{DataCost, SmoothCost};
 use deciding::Deciding;
@@ -52,7 +53,7 @@ fn count_changed(old: &[u8], new: &[u8]) -> usize {
 }
 
 /// How many sites a move leaves open; none where it is refused.
-pub fn open_in<F: Fn(u32, u32) -> i64, V: Fn(u32, u32) -> i64>(
+pub fn open_in<F: Fn(u32, u32) -> i64 + Sync, V: Fn(u32, u32) -> i64 + Sync>(
     alloc: Global,
     problem: &Problem<F, V>,
     labelling: &Labelling,
@@ -65,6 +66,7 @@ pub fn open_in<F: Fn(u32, u32) -> i64, V: Fn(u32, u32) -> i64>(
         problem.now.data_cost.sites problem.now.data_cost.labels data_limit }
     requires smooth { KeepsSmooth (V.pre problem.now.smooth_cost.v) (V.post problem.now.smooth_cost.v)
         problem.now.smooth_cost.labels problem.now.smooth_cost.by_metric }
+    requires label_costs { AreLabelCosts problem.now.data_cost.labels problem.now.label_costs }
 {
     let mut deciding = Deciding::new(alloc, &problem.pairs)?;
     let decided = deciding.decide(
@@ -81,7 +83,7 @@ pub fn open_in<F: Fn(u32, u32) -> i64, V: Fn(u32, u32) -> i64>(
 }
 
 /// Expands a label, and answers how many sites are left open, and how many change; none where it was refused.
-fn expand<F: Fn(u32, u32) -> i64, V: Fn(u32, u32) -> i64>(
+fn expand<F: Fn(u32, u32) -> i64 + Sync, V: Fn(u32, u32) -> i64 + Sync>(
     alloc: Global,
     problem: &Problem<F, V>,
     labelling: &mut Labelling,
@@ -94,6 +96,7 @@ fn expand<F: Fn(u32, u32) -> i64, V: Fn(u32, u32) -> i64>(
         problem.now.data_cost.sites problem.now.data_cost.labels data_limit }
     requires smooth { KeepsSmooth (V.pre problem.now.smooth_cost.v) (V.post problem.now.smooth_cost.v)
         problem.now.smooth_cost.labels problem.now.smooth_cost.by_metric }
+    requires label_costs { AreLabelCosts problem.now.data_cost.labels problem.now.label_costs }
 {
     let opened = open_in(alloc, problem, labelling, Move::Expand(alpha))?;
     let before = Vec::from_slice(alloc, labelling.as_slice())?;
@@ -132,6 +135,7 @@ fn expand_picture(
             { if first == second { 0 } else { 2 } },
             4,
         ),
+        label_costs: None,
     };
     expand(alloc, &problem, labelling, alpha)
 }

@@ -4,6 +4,7 @@ ghost use Rattle.std.specs.Prelude.{◌≡◌, ◌≤◌, ◌<◌, ◌+◌, ◌*
 ghost use Rattle.cost_store.specs.Limits.{data_limit};
 ghost use Rattle.cost_store.specs.Promises.{Keeps, KeepsSmooth};
 ghost use Rattle.move_energy.specs.Problems.{AreSized};
+ghost use Rattle.moves.specs.LabelCosts.{AreLabelCosts};
 ghost use Rattle.moves.specs.declared.error.SolveError.TheVariants.{OutOfMemory};
 
 use crate::cases::MOVES;
@@ -17,16 +18,17 @@ use std::process::Abort;
 
 /// How many bytes a row has: how many sites, labels and pairs; 0 for an expansion, 1 for a swap, 2 for a run
 /// of expansions, 3 for a run of swaps; the cycles that are allowed; the answer: 0 kept or stopped, 1 changed
-/// or settled, 2 not regular, 3 no such label; how many cycles were done, or the place of the pair; alpha, beta. Then four
+/// or settled, 2 not regular, 3 no such label, 4 a swap where a label costs something by itself; how many cycles were
+/// done, or the place of the pair; alpha, beta. Then four
 /// data costs of each of six sites, four smooth costs of each of four labels, the labels of six sites before
 /// and after, seven pairs with their weights, and the data energy and the smooth energy after, each of eight
 /// digits.
 pub const BYTES: usize = 98;
 
 /// The greatest data cost, smooth cost and weight.
-const DATA: u32 = 10_000_000;
+pub const DATA: u32 = 10_000_000;
 
-const SMOOTH: u32 = 10_000;
+pub const SMOOTH: u32 = 10_000;
 
 const WEIGHT: u32 = 1_000;
 
@@ -48,13 +50,20 @@ impl How for CutAlone {
     }
 }
 
-/// A number of a row, at most so great: a digit is itself, a small letter the limit less its place in the
-/// alphabet from 0, a capital so many parts of 27 of the limit, from 1.
-fn number(row: &[u8; BYTES], place: usize, most: u32) -> u32
+/// A number of a row, at most so great.
+pub fn number(row: &[u8; BYTES], place: usize, most: u32) -> u32
     requires { place < 98 }
     ensures { result ≤ most }
 {
-    let byte = u32::from(row[place]);
+    number_of(row[place], most)
+}
+
+/// The number that a byte stands for, at most so great: a digit is itself, a small letter the limit less its place in the
+/// alphabet from 0, a capital so many parts of 27 of the limit, from 1.
+pub fn number_of(byte: u8, most: u32) -> u32
+    ensures { result ≤ most }
+{
+    let byte = u32::from(byte);
     let number = if byte >= 97 {
         most.saturating_sub(byte - 97)
     } else if byte >= 65 {
@@ -66,7 +75,7 @@ fn number(row: &[u8; BYTES], place: usize, most: u32) -> u32
 }
 
 /// A digit of a row.
-fn digit(row: &[u8; BYTES], place: usize) -> u32
+pub fn digit(row: &[u8; BYTES], place: usize) -> u32
     requires { place < 98 }
     ensures { result ≤ 9 }
 {
@@ -85,7 +94,7 @@ fn energy_at(row: &[u8; BYTES], from: usize) -> i64
 }
 
 /// The pairs of a row.
-fn pairs_of(rt: &impl Abort, alloc: Global, row: &[u8; BYTES], sites: u32) -> Pairs
+pub fn pairs_of(rt: &impl Abort, alloc: Global, row: &[u8; BYTES], sites: u32) -> Pairs
     requires { sites ≤ 6 }
 {
     let mut pairs = Pairs::new(alloc, sites);
@@ -100,7 +109,13 @@ fn pairs_of(rt: &impl Abort, alloc: Global, row: &[u8; BYTES], sites: u32) -> Pa
 }
 
 /// The labels before the move of a row.
-fn start_of(rt: &impl Abort, alloc: Global, row: &[u8; BYTES], sites: u32, labels: u32) -> Labelling
+pub fn start_of(
+    rt: &impl Abort,
+    alloc: Global,
+    row: &[u8; BYTES],
+    sites: u32,
+    labels: u32,
+) -> Labelling
     requires { (sites ≤ 6) × (1 ≤ labels) × (labels ≤ 4) }
 {
     let mut labelling = Labelling::new(alloc, sites, labels).expect(rt, "memory");
@@ -138,12 +153,13 @@ fn wanted(row: &[u8; BYTES]) -> Result<(bool, u32), MoveError> {
             alpha: digit(row, 7),
             beta: (digit(row, 3) % 2 == 1).then_some(digit(row, 8)),
         }),
-        _ => Err(MoveError::NoSuchLabel),
+        3 => Err(MoveError::NoSuchLabel),
+        _ => Err(MoveError::LabelCostInSwap),
     }
 }
 
 /// Makes the move or the run of a row, and answers as `wanted` does.
-fn answer_of<F: Fn(u32, u32) -> i64, V: Fn(u32, u32) -> i64, H: How>(
+fn answer_of<F: Fn(u32, u32) -> i64 + Sync, V: Fn(u32, u32) -> i64 + Sync, H: How>(
     problem: &Problem<F, V>,
     alloc: Global,
     labelling: &mut Labelling,
@@ -157,6 +173,7 @@ fn answer_of<F: Fn(u32, u32) -> i64, V: Fn(u32, u32) -> i64, H: How>(
         problem.now.data_cost.sites problem.now.data_cost.labels data_limit }
     requires smooth { KeepsSmooth (V.pre problem.now.smooth_cost.v) (V.post problem.now.smooth_cost.v)
         problem.now.smooth_cost.labels problem.now.smooth_cost.by_metric }
+    requires label_costs { AreLabelCosts problem.now.data_cost.labels problem.now.label_costs }
     ensures sizes { (labelling.new.labels ≡ labelling.old.labels)
         × (length labelling.new.at ≡ length labelling.old.at) }
 {
@@ -176,10 +193,11 @@ fn answer_of<F: Fn(u32, u32) -> i64, V: Fn(u32, u32) -> i64, H: How>(
 }
 
 /// Whether these are the labels of a row after its move, and their energies are those of the row.
-fn is_after<F: Fn(u32, u32) -> i64, V: Fn(u32, u32) -> i64>(
+fn is_after<F: Fn(u32, u32) -> i64 + Sync, V: Fn(u32, u32) -> i64 + Sync>(
     problem: &Problem<F, V>,
     labelling: &Labelling,
     row: &[u8; BYTES],
+    label_energy: i64,
 ) -> bool
     requires sizes { AreSized problem.now.pairs problem.now.data_cost.sites problem.now.data_cost.labels
         problem.now.smooth_cost.labels labelling.now }
@@ -187,18 +205,55 @@ fn is_after<F: Fn(u32, u32) -> i64, V: Fn(u32, u32) -> i64>(
         problem.now.data_cost.sites problem.now.data_cost.labels data_limit }
     requires smooth { KeepsSmooth (V.pre problem.now.smooth_cost.v) (V.post problem.now.smooth_cost.v)
         problem.now.smooth_cost.labels problem.now.smooth_cost.by_metric }
+    requires label_costs { AreLabelCosts problem.now.data_cost.labels problem.now.label_costs }
 {
     let data_energy = energy_at(row, 82);
     let smooth_energy = energy_at(row, 90);
     are_labels(labelling.as_slice(), row, 55)
         && problem.data_energy(labelling) == data_energy
         && problem.smooth_energy(labelling) == smooth_energy
-        && problem.energy(labelling) == data_energy.saturating_add(smooth_energy)
+        && problem.label_energy(labelling) == label_energy
+        && problem.energy(labelling)
+            == data_energy
+                .saturating_add(smooth_energy)
+                .saturating_add(label_energy)
 }
 
 /// Makes the move or the run of a row; whether what it says, the labels and the energies are those of the row.
 /// Where a growth is refused, the labels are those before or, in a run, stand in its chain, and the move is made
 /// once more.
+pub fn is_answered<F: Fn(u32, u32) -> i64 + Sync, V: Fn(u32, u32) -> i64 + Sync, H: How>(
+    problem: &Problem<F, V>,
+    alloc: Global,
+    labelling: &mut Labelling,
+    row: &[u8; BYTES],
+    label_energy: i64,
+    chain: &[[u8; 4]],
+    how: &H,
+) -> bool
+    requires ready { H.ready how.now }
+    requires sizes { AreSized problem.now.pairs problem.now.data_cost.sites problem.now.data_cost.labels
+        problem.now.smooth_cost.labels labelling.old }
+    requires costs { Keeps (F.pre problem.now.data_cost.f) (F.post problem.now.data_cost.f)
+        problem.now.data_cost.sites problem.now.data_cost.labels data_limit }
+    requires smooth { KeepsSmooth (V.pre problem.now.smooth_cost.v) (V.post problem.now.smooth_cost.v)
+        problem.now.smooth_cost.labels problem.now.smooth_cost.by_metric }
+    requires label_costs { AreLabelCosts problem.now.data_cost.labels problem.now.label_costs }
+    ensures sizes { (labelling.new.labels ≡ labelling.old.labels)
+        × (length labelling.new.at ≡ length labelling.old.at) }
+{
+    let first = answer_of(problem, alloc, labelling, row, how);
+    if first != Err(MoveError::OutOfMemory) {
+        return first == wanted(row) && is_after(problem, labelling, row, label_energy);
+    }
+    let stands = are_labels(labelling.as_slice(), row, 49)
+        || chain.iter().any(|it| labelling.as_slice() == it.as_slice());
+    let again = answer_of(problem, alloc, labelling, row, how);
+    let is_told = again == wanted(row) || matches!(again, Ok((true, _)));
+    stands && is_told && is_after(problem, labelling, row, label_energy)
+}
+
+/// Whether a row is right, where no label costs anything by itself.
 pub fn is_right<H: How>(
     rt: &impl Abort,
     alloc: Global,
@@ -232,16 +287,9 @@ pub fn is_right<H: How>(
             { i64::from(number(row, 33 + (first * 4 + second) as usize, SMOOTH)) },
             labels,
         ),
+        label_costs: None,
     };
-    let first = answer_of(&problem, alloc, &mut labelling, row, how);
-    if first != Err(MoveError::OutOfMemory) {
-        return first == wanted(row) && is_after(&problem, &labelling, row);
-    }
-    let stands = are_labels(labelling.as_slice(), row, 49)
-        || chain.iter().any(|it| labelling.as_slice() == it.as_slice());
-    let again = answer_of(&problem, alloc, &mut labelling, row, how);
-    let is_told = again == wanted(row) || matches!(again, Ok((true, _)));
-    stands && is_told && is_after(&problem, &labelling, row)
+    is_answered(&problem, alloc, &mut labelling, row, 0, chain, how)
 }
 
 /// Each row of a table, of which there are so many: with sites decided first, and without.

@@ -3,7 +3,7 @@ ghost use Rattle.std.specs.Prelude.{◌≤◌, ◌<◌, ◌+◌, ◌*◌, ◌≤
 
 use crate::random::{BYTES, is_right};
 use cost_store::{DataCost, SmoothCost};
-use moves::Alone;
+use moves::{Alone, How};
 use std::test::Fail;
 
 /// Costs of two labels at two sites, site first, and of each two labels.
@@ -31,6 +31,10 @@ fn costs_stay_in_range(rt: HostRuntime) -> Result<(), Fail> {
     );
     let table = data_cost.table_of(rt.alloc())?;
     assert!(rt; table.as_slice() == [3i64, 0, 3, 0].as_slice());
+    for (label, wanted) in [3i64, 0].iter().enumerate() {
+        let column = Alone.column(rt.alloc(), &data_cost, label as u32)?;
+        assert!(rt; column.as_slice() == [*wanted; 2].as_slice());
+    }
     assert!(rt; smooth_cost.cost(0, 1) == 1 && smooth_cost.cost(1, 1) == 0);
     Ok(())
 }

@@ -1,7 +1,7 @@
 -- The energy of a move, and what its least assignment says of the sites.
-use Rattle.std.specs.Prelude.{◌≡◌, ◌<◌, ◌==◌, ℕ, Bool, true, false, not, List, length, vec_len, IsTrue, Result, Ok, Err}
+use Rattle.std.specs.Prelude.{◌≡◌, ◌<◌, ◌==◌, ℕ, Bool, true, false, not, List, length, vec_len, IsTrue, Result, Ok, Err, ℤ, pos}
 use Rattle.labellings.specs.declared.change.Move.{Move}
-use Rattle.labellings.specs.Energies.{Instance, labelling}
+use Rattle.labellings.specs.Energies.{Instance, labelling, energy}
 use Rattle.labellings.specs.Moves.{IsAllowed, made}
 use Rattle.pseudo_bool.specs.Formula.{assignment}
 use Rattle.compile_cut.specs.Form.{quadratic_value}
@@ -56,14 +56,29 @@ pub record AreChangesListed (pairs : PairList) (move : Move) (f : List ℕ) (roo
   pub by_site : AreBySite pairs room.deciding.ends
   pub changes : HasChanges move f room.built.variables.choices.items room.deciding.lists.changing.items
 
--- the least assignment of the form with the fewest ones makes, with what was decided, the least values of all
--- sites with the fewest ones
+-- the energy of the labelling that a value for each site makes
+abbrev pub made_value : Instance → Move → (ℕ → ℕ) → (ℕ → Bool) → ℤ
+made_value m move f x = pos (energy m (made move f x))
+
+-- the least assignment of the form with the fewest ones makes the least values of all sites with the fewest ones
 abbrev pub MakesLeast : Instance → Move → List ℕ → MoveEnergy → Type 0
 MakesLeast m move f made = (bits : List Bool)
     → IsSmallestLeast (vec_len made.form.weights) (quadratic_value made.form) (assignment bits)
-    → IsSmallestLeast m.sites (move_value m move (labelling f)) (value_of made.variables.choices.items bits)
+    → IsSmallestLeast m.sites (made_value m move (labelling f)) (value_of made.variables.choices.items bits)
 
 -- what the building of the energy of a move answers
 abbrev pub IsBuiltMove : Instance → Move → List ℕ → MoveEnergy → Result Unit BuildError → Type 0
 IsBuiltMove m move f made (Ok done) = IsAllowed m move (labelling f) × MakesLeast m move f made
 IsBuiltMove m move f made (Err e) = IsPrepareRefusal m move (labelling f) e
+
+-- without label costs: the least assignment of the form with the fewest ones makes, with what was decided, the least
+-- values of all sites with the fewest ones
+abbrev pub MakesPlain : Instance → Move → List ℕ → MoveEnergy → Type 0
+MakesPlain m move f made = (bits : List Bool)
+    → IsSmallestLeast (vec_len made.form.weights) (quadratic_value made.form) (assignment bits)
+    → IsSmallestLeast m.sites (move_value m move (labelling f)) (value_of made.variables.choices.items bits)
+
+-- what the building of the energy of such a move answers
+abbrev pub IsBuiltPlain : Instance → Move → List ℕ → MoveEnergy → Result Unit BuildError → Type 0
+IsBuiltPlain m move f made (Ok done) = IsAllowed m move (labelling f) × MakesPlain m move f made
+IsBuiltPlain m move f made (Err e) = IsPrepareRefusal m move (labelling f) e

@@ -8,3 +8,7 @@ data_energy_limit = 10485760000000
 -- what they cost the pairs at most: 2^22 pairs, 10^7 each
 abbrev pub smooth_energy_limit : ℕ
 smooth_energy_limit = 41943040000000
+
+-- what labels cost by themselves at most: 2^8 labels, 10^7 each
+abbrev pub label_energy_limit : ℕ
+label_energy_limit = 2560000000

@@ -4,6 +4,7 @@ ghost use Rattle.label_field.specs.Limits.{label_limit};
 ghost use Rattle.labellings.specs.Moves.{IsMoveOf};
 ghost use Rattle.labellings.specs.Chains.{swaps};
 ghost use Rattle.moves.specs.Cycles.{moves_of};
+ghost use Rattle.moves.specs.LabelCosts.{IsSwap};
 
 use labellings::Move;
 
@@ -33,6 +34,7 @@ impl Kind {
         requires { place < length (moves_of self labels) }
         ensures at { slice_get (moves_of self labels) place ≡ Some result }
         ensures below { IsMoveOf labels result }
+        ensures kind { IsSwap result → self ≡ Kind.Swap }
     {
         match self {
             Kind::Expansion => Move::Expand(place),

@@ -4,7 +4,7 @@ ghost use Rattle.sums.specs.Sums.{counted};
 ghost use Rattle.label_field.specs.Limits.{site_limit};
 ghost use Rattle.label_field.specs.PairLists.{IsPair};
 ghost use Rattle.by_site.specs.BySite.{AreBySite, is_counted as is_counted_at, met_at};
-ghost use Rattle.labellings.specs.Energies.{Instance, labelling, energy, data_energy, smooth_energy, pair_cost as cost_of_pair};
+ghost use Rattle.labellings.specs.Energies.{Instance, labelling, plain_energy, data_energy, smooth_energy, pair_cost as cost_of_pair};
 ghost use Rattle.labellings.specs.Moves.{IsMoveOf, made};
 ghost use Rattle.cost_store.specs.Limits.{data_limit};
 ghost use Rattle.cost_store.specs.Promises.{Keeps, KeepsSmooth, Answers};
@@ -40,7 +40,7 @@ fn is_counted(at: &[u8], change: Move, choices: &[Choice], site: u32, pair: Pair
     pair.first == site || !is_moved(at, change, choices, pair.first)
 }
 
-impl<F: Fn(u32, u32) -> i64, V: Fn(u32, u32) -> i64> Problem<F, V> {
+impl<F: Fn(u32, u32) -> i64 + Sync, V: Fn(u32, u32) -> i64 + Sync> Problem<F, V> {
     /// By how much more the labels that the values make cost the sites, of which those that change are listed.
     fn data_rise_listed(&self, at: &[u8], change: Move, choices: &[Choice], sites: &[u32]) -> i64
         requires costs { Keeps (F.pre self.now.data_cost.f) (F.post self.now.data_cost.f)
@@ -208,8 +208,8 @@ impl<F: Fn(u32, u32) -> i64, V: Fn(u32, u32) -> i64> Problem<F, V> {
         ensures { (m : Instance) →
             IsMeant (F.post self.now.data_cost.f) (V.post self.now.smooth_cost.v) self.now.pairs
             self.now.data_cost.labels m →
-            IsTrue result ↔ energy m (made change (labelling at.now)
-            (site_values room.now.built.variables.choices.items)) < energy m (labelling at.now) }
+            IsTrue result ↔ plain_energy m (made change (labelling at.now)
+            (site_values room.now.built.variables.choices.items)) < plain_energy m (labelling at.now) }
     {
         let _sites = self.pairs.sites();
         let choices = room.built.variables.choices.as_slice();
@@ -235,8 +235,8 @@ impl<F: Fn(u32, u32) -> i64, V: Fn(u32, u32) -> i64> Problem<F, V> {
         ensures { (m : Instance) →
             IsMeant (F.post self.now.data_cost.f) (V.post self.now.smooth_cost.v) self.now.pairs
             self.now.data_cost.labels m →
-            IsTrue result ↔ energy m (made change (labelling at.now)
-            (site_values room.now.built.variables.choices.items)) < energy m (labelling at.now) }
+            IsTrue result ↔ plain_energy m (made change (labelling at.now)
+            (site_values room.now.built.variables.choices.items)) < plain_energy m (labelling at.now) }
     {
         if room.deciding.lists.listed {
             self.lowers_listed(at, change, room)

@@ -2,7 +2,7 @@
 ghost use Rattle.std.specs.Prelude.{◌≡◌, ◌<◌, ◌≤◌, ◌↔◌, ℕ, pos, ◌-ℤ◌, ◌<ℤ◌, All, length, unsigned_abs, IsTrue};
 ghost use Rattle.label_field.specs.Limits.{site_limit};
 ghost use Rattle.label_field.specs.PairLists.{IsPair};
-ghost use Rattle.labellings.specs.Energies.{Instance, labelling, energy, data_energy, smooth_energy, pair_cost as cost_of_pair};
+ghost use Rattle.labellings.specs.Energies.{Instance, labelling, plain_energy, data_energy, smooth_energy, pair_cost as cost_of_pair};
 ghost use Rattle.labellings.specs.Moves.{IsMoveOf, label_in, made};
 ghost use Rattle.cost_store.specs.Limits.{data_limit};
 ghost use Rattle.cost_store.specs.Promises.{Keeps, KeepsSmooth, Answers};
@@ -33,7 +33,7 @@ pub(crate) fn is_negative(rise: i64) -> bool
     rise < 0
 }
 
-impl<F: Fn(u32, u32) -> i64, V: Fn(u32, u32) -> i64> Problem<F, V> {
+impl<F: Fn(u32, u32) -> i64 + Sync, V: Fn(u32, u32) -> i64 + Sync> Problem<F, V> {
     /// By how much more the label that a site's value makes costs it.
     pub(crate) fn site_rise(&self, at: &[u8], change: Move, choices: &[Choice], site: u32) -> i64
         requires costs { Keeps (F.pre self.now.data_cost.f) (F.post self.now.data_cost.f)
@@ -142,8 +142,8 @@ impl<F: Fn(u32, u32) -> i64, V: Fn(u32, u32) -> i64> Problem<F, V> {
         ensures { (m : Instance) →
             IsMeant (F.post self.now.data_cost.f) (V.post self.now.smooth_cost.v) self.now.pairs
             self.now.data_cost.labels m →
-            IsTrue result ↔ energy m (made change (labelling at.now) (site_values choices.now))
-            < energy m (labelling at.now) }
+            IsTrue result ↔ plain_energy m (made change (labelling at.now) (site_values choices.now))
+            < plain_energy m (labelling at.now) }
     {
         let _sites = self.pairs.sites();
         let rise = self.data_rise(at, change, choices);

@@ -1,9 +1,9 @@
 //! The energy of a move, of which sites are decided before it is built.
-ghost use Rattle.std.specs.Prelude.{◌≡◌, ◌<◌, ◌≤◌, All, length, vec_len, false, OnOk, IsTrue};
+ghost use Rattle.std.specs.Prelude.{◌≡◌, ◌+◌, ◌<◌, ◌≤◌, All, length, vec_len, false, OnOk, IsTrue};
 ghost use Rattle.by_site.specs.BySite.{AreBySite};
 ghost use Rattle.labellings.specs.Energies.{Instance, labelling};
 ghost use Rattle.labellings.specs.Moves.{IsMoveOf, IsAllowed};
-ghost use Rattle.label_field.specs.Limits.{site_limit};
+ghost use Rattle.label_field.specs.Limits.{site_limit, label_limit};
 ghost use Rattle.pseudo_bool.specs.Limits.{term_limit};
 ghost use Rattle.compile_cut.specs.Form.{IsBounded};
 ghost use Rattle.cost_store.specs.Limits.{data_limit};
@@ -11,10 +11,15 @@ ghost use Rattle.cost_store.specs.Promises.{Keeps, KeepsSmooth};
 ghost use Rattle.move_energy.specs.Choices.{AreOpenSites, AreSettled};
 ghost use Rattle.move_energy.specs.Problems.{IsMeant, Stands};
 ghost use Rattle.deciding.specs.Decided.{IsDecidedMove};
-ghost use Rattle.moves.specs.Building.{IsGroupedFor, IsNear, IsNearWhereListed, IsBuiltMove};
+ghost use Rattle.moves.specs.Building.{IsGroupedFor, IsNear, IsNearWhereListed, IsBuiltPlain, IsBuiltMove};
+ghost use Rattle.moves.specs.LabelCosts.{costs_of, AreCosts, AreLabelCosts, HasCosts, IsFreeFor};
+ghost use Rattle.labellings.specs.declared.change.Move.TheVariants.{Expand};
+ghost use Rattle.label_costs.specs.Costs.{AreCostsOf};
 
 use crate::Problem;
+use crate::by_label::{costs_of, has_cost};
 use deciding::{Bounds, Deciding};
+use label_costs::add_label_costs;
 use label_field::Pairs;
 use labellings::Move;
 use move_energy::{BuildError, MoveEnergy};
@@ -110,7 +115,7 @@ impl Room {
     }
 }
 
-impl<F: Fn(u32, u32) -> i64, V: Fn(u32, u32) -> i64> Problem<F, V> {
+impl<F: Fn(u32, u32) -> i64 + Sync, V: Fn(u32, u32) -> i64 + Sync> Problem<F, V> {
     /// Decides the sites of a move, which the room then knows.
     fn decide(
         &self,
@@ -303,7 +308,7 @@ impl<F: Fn(u32, u32) -> i64, V: Fn(u32, u32) -> i64> Problem<F, V> {
         ensures built { (m : Instance) →
             IsMeant (F.post self.now.data_cost.f) (V.post self.now.smooth_cost.v) self.now.pairs
             self.now.data_cost.labels m →
-            IsBuiltMove m change at.now room.new.built result }
+            IsBuiltPlain m change at.now room.new.built result }
     {
         let _pairs = self.pairs.as_slice();
         self.decide(alloc, room, at, change)?;
@@ -337,7 +342,7 @@ impl<F: Fn(u32, u32) -> i64, V: Fn(u32, u32) -> i64> Problem<F, V> {
         ensures built { (m : Instance) →
             IsMeant (F.post self.now.data_cost.f) (V.post self.now.smooth_cost.v) self.now.pairs
             self.now.data_cost.labels m →
-            IsBuiltMove m change at.now room.new.built result }
+            IsBuiltPlain m change at.now room.new.built result }
     {
         let _pairs = self.pairs.as_slice();
         room.deciding.lists.listed = false;
@@ -351,8 +356,8 @@ impl<F: Fn(u32, u32) -> i64, V: Fn(u32, u32) -> i64> Problem<F, V> {
         )
     }
 
-    /// The energy of a move, its sites decided first or not.
-    pub(crate) fn build_move(
+    /// The energy of a move where no label costs anything by itself, its sites decided first or not.
+    fn build_plain(
         &self,
         alloc: Global,
         room: &mut Room,
@@ -378,12 +383,113 @@ impl<F: Fn(u32, u32) -> i64, V: Fn(u32, u32) -> i64> Problem<F, V> {
         ensures built { (m : Instance) →
             IsMeant (F.post self.now.data_cost.f) (V.post self.now.smooth_cost.v) self.now.pairs
             self.now.data_cost.labels m →
-            IsBuiltMove m change at.now room.new.built result }
+            IsBuiltPlain m change at.now room.new.built result }
     {
         if decides {
             self.build_decided(alloc, room, at, change)
         } else {
             self.build_whole(alloc, room, at, change)
+        }
+    }
+
+    /// The energy of an expansion where labels cost something by themselves. What a site costs then depends on all sites
+    /// of its label, so nothing is decided.
+    fn build_costed(
+        &self,
+        alloc: Global,
+        room: &mut Room,
+        at: &[u8],
+        alpha: u32,
+        costs: &[i64],
+    ) -> Result<(), BuildError>
+        requires sites { (length at.now ≡ self.now.pairs.sites)
+            × (self.now.data_cost.sites ≡ self.now.pairs.sites) }
+        requires labels { (self.now.smooth_cost.labels ≡ self.now.data_cost.labels)
+            × All (λ label. label < self.now.data_cost.labels) at.now }
+        requires change { IsMoveOf self.now.data_cost.labels (Expand alpha) }
+        requires costs { Keeps (F.pre self.now.data_cost.f) (F.post self.now.data_cost.f)
+            self.now.data_cost.sites self.now.data_cost.labels data_limit }
+        requires smooth { KeepsSmooth (V.pre self.now.smooth_cost.v) (V.post self.now.smooth_cost.v)
+            self.now.smooth_cost.labels self.now.smooth_cost.by_metric }
+        requires label_costs { AreCosts self.now.data_cost.labels costs.now }
+        requires few { self.now.data_cost.labels ≤ label_limit }
+        requires by_site { IsGroupedFor self.now.pairs room.old }
+        ensures by_site { IsGroupedFor self.now.pairs room.new }
+        ensures near { OnOk result (IsNearWhereListed self.now.pairs (Expand alpha) at.now room.new) }
+        ensures choices { OnOk result (length room.new.built.variables.choices.items ≡ length at.now) }
+        ensures bounded { OnOk result (IsBounded term_limit room.new.built.form) }
+        ensures few { OnOk result (vec_len room.new.built.form.weights ≤ site_limit + label_limit) }
+        ensures built { (m : Instance) →
+            IsMeant (F.post self.now.data_cost.f) (V.post self.now.smooth_cost.v) self.now.pairs
+            self.now.data_cost.labels m →
+            AreCostsOf m costs.now →
+            IsBuiltMove m (Expand alpha) at.now room.new.built result }
+    {
+        let _pairs = self.pairs.as_slice();
+        let _sites = self.pairs.sites();
+        room.deciding.lists.listed = false;
+        room.built.prepare(
+            alloc,
+            &self.pairs,
+            &self.data_cost,
+            &self.smooth_cost,
+            at,
+            Move::Expand(alpha),
+        )?;
+        add_label_costs(
+            alloc,
+            &mut room.built.form,
+            &room.built.variables,
+            at,
+            alpha,
+            costs,
+        )?;
+        Ok(())
+    }
+
+    /// The energy of a move: with label costs nothing is decided, and without them its sites are decided first or not.
+    pub(crate) fn build_move(
+        &self,
+        alloc: Global,
+        room: &mut Room,
+        at: &[u8],
+        change: Move,
+        decides: bool,
+    ) -> Result<(), BuildError>
+        requires sites { (length at.now ≡ self.now.pairs.sites)
+            × (self.now.data_cost.sites ≡ self.now.pairs.sites) }
+        requires labels { (self.now.smooth_cost.labels ≡ self.now.data_cost.labels)
+            × All (λ label. label < self.now.data_cost.labels) at.now }
+        requires change { IsMoveOf self.now.data_cost.labels change }
+        requires costs { Keeps (F.pre self.now.data_cost.f) (F.post self.now.data_cost.f)
+            self.now.data_cost.sites self.now.data_cost.labels data_limit }
+        requires smooth { KeepsSmooth (V.pre self.now.smooth_cost.v) (V.post self.now.smooth_cost.v)
+            self.now.smooth_cost.labels self.now.smooth_cost.by_metric }
+        requires label_costs { AreLabelCosts self.now.data_cost.labels self.now.label_costs }
+        requires few { self.now.data_cost.labels ≤ label_limit }
+        requires free { IsFreeFor change (costs_of self.now.label_costs) }
+        requires by_site { IsGroupedFor self.now.pairs room.old }
+        ensures by_site { IsGroupedFor self.now.pairs room.new }
+        ensures near { OnOk result (IsNearWhereListed self.now.pairs change at.now room.new) }
+        ensures choices { OnOk result (length room.new.built.variables.choices.items ≡ length at.now) }
+        ensures bounded { OnOk result (IsBounded term_limit room.new.built.form) }
+        ensures few { OnOk result (vec_len room.new.built.form.weights ≤ site_limit + label_limit) }
+        ensures built { (m : Instance) →
+            IsMeant (F.post self.now.data_cost.f) (V.post self.now.smooth_cost.v) self.now.pairs
+            self.now.data_cost.labels m →
+            HasCosts m self.now.label_costs →
+            IsBuiltMove m change at.now room.new.built result }
+    {
+        let costs = costs_of(&self.label_costs);
+        let costly = has_cost(costs);
+        match change {
+            Move::Swap(_, _) => self.build_plain(alloc, room, at, change, decides),
+            Move::Expand(alpha) => {
+                if costly {
+                    return self.build_costed(alloc, room, at, alpha, costs);
+                }
+                self.build_plain(alloc, room, at, change, decides)
+            }
         }
     }
 }

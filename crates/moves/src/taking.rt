@@ -6,8 +6,8 @@ ghost use Rattle.cost_store.specs.Limits.{data_limit};
 ghost use Rattle.cost_store.specs.Promises.{Keeps, KeepsSmooth};
 ghost use Rattle.move_energy.specs.Problems.{AreSized, IsMeant};
 ghost use Rattle.deciding.specs.Decisions.{IsSmallestLeast};
-ghost use Rattle.deciding.specs.MoveValues.{move_value};
-ghost use Rattle.moves.specs.Building.{site_values, HasChanges, AreChangesListed};
+ghost use Rattle.moves.specs.Building.{site_values, made_value, HasChanges, AreChangesListed};
+ghost use Rattle.moves.specs.LabelCosts.{costs_of, HasCosts, IsFreeFor};
 ghost use Rattle.moves.specs.Problems.{IsMade};
 
 use crate::Problem;
@@ -16,7 +16,7 @@ use label_field::Labelling;
 use labellings::Move;
 use move_energy::Choice;
 
-impl<F: Fn(u32, u32) -> i64, V: Fn(u32, u32) -> i64> Problem<F, V> {
+impl<F: Fn(u32, u32) -> i64 + Sync, V: Fn(u32, u32) -> i64 + Sync> Problem<F, V> {
     /// Takes the labels that the least values of the sites with the fewest ones make. Where no labels are better, an
     /// expansion makes the labels as they are; a swap need not, so it takes them only where their energy is lower.
     pub(crate) fn take_best(&self, field: &mut Labelling, change: Move, room: &Room) -> bool
@@ -26,6 +26,7 @@ impl<F: Fn(u32, u32) -> i64, V: Fn(u32, u32) -> i64> Problem<F, V> {
             self.now.data_cost.sites self.now.data_cost.labels data_limit }
         requires smooth { KeepsSmooth (V.pre self.now.smooth_cost.v) (V.post self.now.smooth_cost.v)
             self.now.smooth_cost.labels self.now.smooth_cost.by_metric }
+        requires free { IsFreeFor change (costs_of self.now.label_costs) }
         requires below { IsMoveOf field.old.labels change }
         requires choices { length room.now.built.variables.choices.items ≡ length field.old.at }
         requires changes { IsTrue room.now.deciding.lists.listed →
@@ -35,7 +36,8 @@ impl<F: Fn(u32, u32) -> i64, V: Fn(u32, u32) -> i64> Problem<F, V> {
         ensures best { (m : Instance) →
             IsMeant (F.post self.now.data_cost.f) (V.post self.now.smooth_cost.v) self.now.pairs
             self.now.data_cost.labels m →
-            IsSmallestLeast m.sites (move_value m change (labelling field.old.at))
+            HasCosts m self.now.label_costs →
+            IsSmallestLeast m.sites (made_value m change (labelling field.old.at))
             (site_values room.now.built.variables.choices.items) →
             (IsBest m change field.old.at field.new.at × ((IsTrue result → field.new.at ≢ field.old.at)
             × (IsFalse result → field.new.at ≡ field.old.at))) }

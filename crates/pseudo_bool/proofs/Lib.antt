@@ -1,3 +1,4 @@
 mod RowLemmas
 mod TableLemmas
+mod HiddenLemmas
 pub mod RefusalLemmas

@@ -56,7 +56,7 @@ triple_added ts t rows h =
     ∙ ap (λ us. us ++ triple_term (triple_at (ts ++ t ∷ []) (length ts)) ∷ []) (terms_of-more ts t rows h.each)
     ∙ ap (λ u. terms_of ts rows ++ triple_term u ∷ []) seam
 
-kept_more : (n m : ℕ) (row : Row) → n ≤ m → IsKept n row → IsKept m row
+pub kept_more : (n m : ℕ) (row : Row) → n ≤ m → IsKept n row → IsKept m row
 kept_more n m (RowOne first table) l h = h
 kept_more n m (RowTwo first second table) l h = h
 kept_more n m (RowThree place) l h = omega arith
@@ -72,7 +72,7 @@ triple_kept ts t rows h =
     }
 
 -- a row that names no triple
-plain_row : (ts : List Triple) (row : Row) → IsKept 0 row → term_of ts row ≡ term_of [] row
+pub plain_row : (ts : List Triple) (row : Row) → IsKept 0 row → term_of ts row ≡ term_of [] row
 plain_row ts (RowOne first table) h = refl
 plain_row ts (RowTwo first second table) h = refl
 plain_row ts (RowThree place) h = absurd (omega arith)

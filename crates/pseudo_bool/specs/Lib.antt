@@ -2,3 +2,4 @@ pub mod Limits
 pub mod Formula
 pub mod Refusals
 pub mod Rows
+pub mod Hidden

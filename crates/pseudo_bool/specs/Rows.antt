@@ -1,4 +1,4 @@
-use Rattle.std.specs.Prelude.{ℕ, ◌+◌, ◌*◌, ◌<◌, ◌≤◌, List, [], All, length, map, slice_index, slice_index_or}
+use Rattle.std.specs.Prelude.{◌≡◌, ◌++◌, ℕ, ◌+◌, ◌*◌, ◌<◌, ◌≤◌, List, [], All, length, map, slice_index, slice_index_or}
 use Rattle.pseudo_bool.specs.declared.term.Term.{Term}
 use Rattle.pseudo_bool.specs.declared.term.Term.TheVariants.{One, Two, Three}
 use Rattle.pseudo_bool.specs.declared.row.Row.{Row}
@@ -38,3 +38,10 @@ IsKept count (RowThree place) = place < count
 pub record AreKept (triples : List Triple) (rows : List Row) : Type 0 where
   pub each : All (IsKept (length triples)) rows
   pub count : length triples ≤ length rows
+
+-- rows were added at the end, which keep these terms and name no triple
+pub record AddsRows (old new : List Row) (terms : List Term) : Type 0 where
+  pub more : List Row
+  pub rows : new ≡ old ++ more
+  pub are : terms_of [] more ≡ terms
+  pub kept : All (IsKept 0) more

@@ -1,10 +1,13 @@
-ghost use Rattle.std.specs.Prelude.{◌≡◌, ◌+◌, ◌<◌, ◌≤◌, ◌↔◌, [], All, length, pos, ◌+ℤ◌, slice_get, IsTrue, IsOk, IfOk, IfErr, OnOk, OnErr};
+ghost use Rattle.std.specs.Prelude.{◌≡◌, ◌+◌, ◌<◌, ◌≤◌, ◌≤ℤ◌, ◌↔◌, ℕ, Bool, not, [], ◌∷◌, ◌++◌, All, length, pos, ◌+ℤ◌, slice_get, IsTrue, IsOk, IfOk, IfErr, OnOk, OnErr};
+ghost use Rattle.std.specs.List.{list_all, list_any};
+ghost use Rattle.sums.specs.IntegerSums.{int_counted};
 ghost use Rattle.pseudo_bool.specs.Limits.{variable_limit, constant_limit};
 ghost use Rattle.pseudo_bool.specs.Formula.{IsEnergy, IsTerm, IsWithin, IsValue, value_at, assignment};
 ghost use Rattle.pseudo_bool.specs.Refusals.{IsAccepted, IsAdded, IsRefusal};
 ghost use Rattle.pseudo_bool.specs.Rows.{term_of, triple_term, IsKept};
+ghost use Rattle.pseudo_bool.specs.Hidden.{IsLeastOver, tied_terms, unless_all_terms, if_any_terms, with_terms, IsCost, CanTie, IsTieable, IsTieRefusal, IsTieFault};
 
-use crate::row::{Row, Triple, narrow, shorten};
+use crate::row::{Row, Triple, narrow, push_tied, shorten};
 use crate::{CONSTANT_LIMIT, EnergyError, TERM_LIMIT, Term, VALUE_LIMIT, VARIABLE_LIMIT};
 use std::alloc::Global;
 use std::marker::Model;
@@ -251,6 +254,85 @@ impl Energy {
         Ok(())
     }
 
+    /// Adds a cost that is paid unless each named variable is 1, by a further variable, which answers its number: the
+    /// least value over that variable is the old value and the cost, or the old value where all named ones are 1. No
+    /// name counts as all. It adds a term of the new variable, and one of each name and it, at the end of the list. Refused, the
+    /// first that holds: `NoSuchVariable` where a name is not one of the energy's, or there are `VARIABLE_LIMIT`
+    /// variables already; `ValueRange` where the cost is not from 0 to `VALUE_LIMIT`; `TooManyTerms` where the list has
+    /// no room for all these terms; `OutOfMemory` where a growth was refused.
+    pub fn add_unless_all(&mut self, names: &[u32], cost: i64) -> Result<u32, EnergyError>
+        ensures accepted { OnOk result (IsTieable self.old names.now cost) }
+        ensures number { IfOk result (λ number. number ≡ self.old.variables) }
+        ensures added { OnOk result (self.new
+            ≡ with_terms self.old (unless_all_terms names.now self.old.variables cost)) }
+        ensures least { OnOk result ((x : ℕ → Bool) → IsLeastOver self.new self.old.variables x
+            (value_at self.old x +ℤ int_counted (not (list_all x names.now)) cost)) }
+        ensures refused { IfErr result (IsTieRefusal self.old names.now cost) }
+        ensures unchanged { OnErr result (self.new ≡ self.old) }
+    {
+        self.test_tie(names, cost)?;
+        self.add_tied(names, cost, &[cost, 0], &[0, cost, 0, 0])
+    }
+
+    /// Adds a cost that is paid if any of the named variables is 1, by a further variable, which answers its number:
+    /// the least value over that variable is the old value, or the old value and the cost where a named one is 1. No name
+    /// counts as none. It adds the terms that `add_unless_all` adds, and refuses as it does.
+    pub fn add_if_any(&mut self, names: &[u32], cost: i64) -> Result<u32, EnergyError>
+        ensures accepted { OnOk result (IsTieable self.old names.now cost) }
+        ensures number { IfOk result (λ number. number ≡ self.old.variables) }
+        ensures added { OnOk result (self.new
+            ≡ with_terms self.old (if_any_terms names.now self.old.variables cost)) }
+        ensures least { OnOk result ((x : ℕ → Bool) → IsLeastOver self.new self.old.variables x
+            (value_at self.old x +ℤ int_counted (list_any x names.now) cost)) }
+        ensures refused { IfErr result (IsTieRefusal self.old names.now cost) }
+        ensures unchanged { OnErr result (self.new ≡ self.old) }
+    {
+        self.test_tie(names, cost)?;
+        self.add_tied(names, cost, &[0, cost], &[0, 0, cost, 0])
+    }
+
+    /// Whether a cost over named variables may be added; memory is not asked.
+    fn test_tie(&self, names: &[u32], cost: i64) -> Result<(), EnergyError>
+        ensures accepted { OnOk result (IsTieable self.now names.now cost) }
+        ensures refused { IfErr result (IsTieFault self.now names.now cost) }
+    {
+        if self.variables >= VARIABLE_LIMIT || !are_below(names, self.variables) {
+            return Err(EnergyError::NoSuchVariable);
+        }
+        if !is_cost(cost) {
+            return Err(EnergyError::ValueRange);
+        }
+        if names.len() >= TERM_LIMIT - self.rows.len() {
+            return Err(EnergyError::TooManyTerms);
+        }
+        Ok(())
+    }
+
+    /// Adds a variable, a term of it alone and a term of each named variable and it, if there is memory.
+    fn add_tied(
+        &mut self,
+        names: &[u32],
+        cost: i64,
+        alone: &[i64; 2],
+        beside: &[i64; 4],
+    ) -> Result<u32, EnergyError>
+        requires tie { IsTieable self.old names.now cost }
+        requires alone { All IsValue alone.now }
+        requires beside { All IsValue beside.now }
+        ensures number { IfOk result (λ number. number ≡ self.old.variables) }
+        ensures added { OnOk result (self.new
+            ≡ with_terms self.old (tied_terms names.now self.old.variables alone.now beside.now)) }
+        ensures limits { IsEnergy self.old }
+        ensures refused { IfErr result (λ e. e ≡ EnergyError.OutOfMemory) }
+        ensures unchanged { OnErr result (self.new ≡ self.old) }
+    {
+        self.rows.reserve(names.len() + 1)?;
+        let hidden = self.variables;
+        push_tied(&mut self.rows, names, hidden, alone, beside);
+        self.variables = hidden + 1;
+        Ok(hidden)
+    }
+
     /// The value at an assignment, one bit for each variable in their order: the constant plus what each
     /// term's table has there (Kolmogorov and Zabih, PAMI 2004, section 2). Its size is at most
     /// `CONSTANT_LIMIT + TERM_LIMIT * VALUE_LIMIT`. It takes no memory.
@@ -279,4 +361,18 @@ fn are_values(table: &[i64]) -> bool
     ensures { IsTrue result ↔ All IsValue table.now }
 {
     table.iter().all(|value| is_within(*value, VALUE_LIMIT))
+}
+
+/// Whether each variable is below a number.
+fn are_below(names: &[u32], variables: u32) -> bool
+    ensures { IsTrue result ↔ All (λ name. name < variables) names.now }
+{
+    names.iter().all(|name| *name < variables)
+}
+
+/// Whether a number is a cost.
+fn is_cost(cost: i64) -> bool
+    ensures { IsTrue result ↔ IsCost cost }
+{
+    cost >= 0 && is_within(cost, VALUE_LIMIT)
 }

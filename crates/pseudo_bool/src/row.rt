@@ -1,6 +1,7 @@
-ghost use Rattle.std.specs.Prelude.{◌≡◌, ◌<◌, ◌^◌, All, length};
+ghost use Rattle.std.specs.Prelude.{◌≡◌, ◌+◌, ◌<◌, ◌≤◌, ◌^◌, [], ◌∷◌, All, length, map, vec_len, vec_capacity};
 ghost use Rattle.pseudo_bool.specs.Formula.{term_value, assignment, IsTerm, IsValue};
-ghost use Rattle.pseudo_bool.specs.Rows.{number_of, term_of, triple_term, IsKept};
+ghost use Rattle.pseudo_bool.specs.Hidden.{tied_terms};
+ghost use Rattle.pseudo_bool.specs.Rows.{number_of, term_of, triple_term, IsKept, AddsRows};
 
 use crate::Term;
 
@@ -124,4 +125,49 @@ impl Row {
             Row::Three(place) => triples[*place as usize].value(bits),
         }
     }
+}
+
+/// Adds a row of one variable, for which there is room.
+fn push_alone(rows: &mut Vec<Row>, variable: u32, alone: &[i64; 2])
+    requires variable { variable < 2 ^ 24 }
+    requires values { All IsValue alone.now }
+    requires room { vec_len rows.old < vec_capacity rows.old }
+    ensures added { AddsRows rows.old.items rows.new.items (Term.One variable alone.now ∷ []) }
+    ensures len { vec_len rows.new ≡ vec_len rows.old + 1 }
+    ensures room { vec_capacity rows.new ≡ vec_capacity rows.old }
+{
+    rows.push_reserved(Row::One(shorten(variable), narrow(alone)));
+}
+
+/// Adds a row of each named variable and this one, for which there is room.
+fn push_beside(rows: &mut Vec<Row>, names: &[u32], variable: u32, beside: &[i64; 4])
+    requires names { All (λ name. name < 2 ^ 24) names.now }
+    requires variable { variable < 2 ^ 24 }
+    requires values { All IsValue beside.now }
+    requires room { vec_len rows.old + length names.now ≤ vec_capacity rows.old }
+    ensures added { AddsRows rows.old.items rows.new.items
+        (map (λ name. Term.Two name variable beside.now) names.now) }
+{
+    for name in names {
+        rows.push_reserved(Row::Two(shorten(*name), shorten(variable), narrow(beside)));
+    }
+}
+
+/// Adds a row of a variable alone, and one of each named variable and it, for which there is room.
+pub fn push_tied(
+    rows: &mut Vec<Row>,
+    names: &[u32],
+    variable: u32,
+    alone: &[i64; 2],
+    beside: &[i64; 4],
+)
+    requires names { All (λ name. name < 2 ^ 24) names.now }
+    requires variable { variable < 2 ^ 24 }
+    requires alone { All IsValue alone.now }
+    requires beside { All IsValue beside.now }
+    requires room { vec_len rows.old + 1 + length names.now ≤ vec_capacity rows.old }
+    ensures { AddsRows rows.old.items rows.new.items (tied_terms names.now variable alone.now beside.now) }
+{
+    push_alone(rows, variable, alone);
+    push_beside(rows, names, variable, beside);
 }

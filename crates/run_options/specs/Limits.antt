@@ -9,6 +9,10 @@ smooth_limit = 10000
 abbrev pub data_limit : ℕ
 data_limit = 10000000
 
+-- the greatest cost of a label by itself, as that of a label at a site
+abbrev pub label_cost_limit : ℕ
+label_cost_limit = data_limit
+
 -- the greatest number at which a cost by distance may be cut off, so that what is cut off is a cost in range
 abbrev pub trunc_limit : ℕ
 trunc_limit = smooth_limit
@@ -20,3 +24,7 @@ cycle_limit = 1000
 -- a cost of two labels in its range
 abbrev pub IsSmoothCost : ℤ → Type 0
 IsSmoothCost cost = (pos 0 ≤ℤ cost) × (cost ≤ℤ pos smooth_limit)
+
+-- a cost of a label by itself in its range
+abbrev pub IsLabelCost : ℤ → Type 0
+IsLabelCost cost = (pos 0 ≤ℤ cost) × (cost ≤ℤ pos label_cost_limit)

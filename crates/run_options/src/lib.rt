@@ -6,7 +6,7 @@ mod moves;
 mod shape;
 mod table;
 
-pub use limits::{CYCLE_LIMIT, DATA_LIMIT, SMOOTH_LIMIT, TRUNC_LIMIT};
+pub use limits::{CYCLE_LIMIT, DATA_LIMIT, LABEL_COST_LIMIT, SMOOTH_LIMIT, TRUNC_LIMIT};
 pub use moves::Moves;
 pub use shape::Shape;
 pub use table::smooth_table;

@@ -4,6 +4,9 @@ pub const SMOOTH_LIMIT: u32 = 10_000;
 /// The greatest cost of a label at a site: as much as a pair costs at the greatest weight. The least is 0.
 pub const DATA_LIMIT: u32 = 10_000_000;
 
+/// The greatest cost of a label by itself, wherever some site has it. The least is 0.
+pub const LABEL_COST_LIMIT: u32 = DATA_LIMIT;
+
 /// The greatest cost at which a cost by distance may be cut off, that of two labels. The least is 1.
 pub const TRUNC_LIMIT: u32 = SMOOTH_LIMIT;
 

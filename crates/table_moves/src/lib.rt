@@ -1,14 +1,15 @@
 //! Runs of moves over tables of costs, as problem files of labellings give them.
 #![tactic(auto)]
 
-ghost use Rattle.std.specs.Prelude.{◌≡◌, pos, ◌+◌, ◌*◌, ◌<◌, ◌≤◌, All, IfErr, IfOk, length, slice_index};
+ghost use Rattle.std.specs.Prelude.{◌≡◌, pos, ◌+◌, ◌*◌, ◌<◌, ◌≤◌, ◌≤ℤ◌, All, IfErr, IfOk, IfSome, length, slice_index};
 ghost use Rattle.label_file.specs.Limits.{IsInLimits};
 ghost use Rattle.label_file.specs.Names.{told};
-ghost use Rattle.run_options.specs.Limits.{data_limit};
+ghost use Rattle.run_options.specs.Limits.{data_limit, smooth_limit as cost_limit};
 ghost use Rattle.cost_store.specs.Limits.{smooth_limit};
 ghost use Rattle.cost_store.specs.Promises.{IsCost};
 ghost use Rattle.labelling_runs.specs.Instances.{instance_of};
 ghost use Rattle.labelling_runs.specs.Runs.{Answers, IsSized};
+ghost use Rattle.moves.specs.LabelCosts.{AreLabelCosts, costs_of};
 ghost use Rattle.moves.specs.Problems.{IsRunRefusal};
 ghost use Rattle.table_moves.specs.Instances.{data_entry, instance_named};
 
@@ -22,8 +23,9 @@ use std::alloc::Global;
 
 /// Makes the moves that a problem asks for, from its start, and answers where they ended.
 ///
-/// Refused: `PairNotRegular` where the next move of the chain has a term that is not regular; what `how` refuses; and out
-/// of memory.
+/// Refused: `LabelCostInSwap`, before any move, exactly where swaps are asked for and some label costs something by itself;
+/// `PairNotRegular` where the next move of the chain has a term that is not regular; what `how` refuses; and out of
+/// memory.
 pub fn run_tables<H: How>(alloc: Global, problem: LabelProblem, how: &H) -> Result<Run, MoveError>
     requires limits { IsInLimits (told problem) }
     requires ready { H.ready how.now }
@@ -31,6 +33,7 @@ pub fn run_tables<H: How>(alloc: Global, problem: LabelProblem, how: &H) -> Resu
         result }
     ensures refused { IfErr result (IsRunRefusal (H.refuses how.now)) }
     ensures sized { IfOk result (IsSized problem.start) }
+    ensures bounded { IfOk result (λ run. IfSome run.bound (λ bound. bound.vmax ≤ cost_limit)) }
 {
     let pairs = problem.pairs;
     let start = problem.start;
@@ -41,6 +44,7 @@ pub fn run_tables<H: How>(alloc: Global, problem: LabelProblem, how: &H) -> Resu
         pairs,
         data.as_slice(),
         smooth.as_slice(),
+        problem.label_costs,
         start,
         problem.moves,
         problem.cycles,
@@ -54,6 +58,7 @@ fn run_over<H: How>(
     pairs: Pairs,
     data: &[u32],
     smooth: &[i64],
+    label_costs: Option<Vec<i64>>,
     start: Labelling,
     moves: Moves,
     cycles: u32,
@@ -65,10 +70,12 @@ fn run_over<H: How>(
         × All (λ cost. cost ≤ data_limit) data.now }
     requires smooth { (length smooth.now ≡ start.labels * start.labels)
         × All (IsCost smooth_limit) smooth.now }
-    ensures run { Answers (instance_of pairs start.labels (data_entry start.labels data.now) smooth.now)
-        moves cycles start.at result }
+    requires label_costs { AreLabelCosts start.labels label_costs }
+    ensures run { Answers (instance_of pairs start.labels (data_entry start.labels data.now) smooth.now
+        (costs_of label_costs)) moves cycles start.at result }
     ensures refused { IfErr result (IsRunRefusal (H.refuses how.now)) }
     ensures sized { IfOk result (IsSized start) }
+    ensures bounded { IfOk result (λ run. IfSome run.bound (λ bound. pos bound.vmax ≤ℤ smooth_limit)) }
 {
     let labels = start.labels();
     let sites = start.sites();
@@ -80,5 +87,15 @@ fn run_over<H: How>(
         sites,
         labels,
     );
-    run_with_table(alloc, pairs, data_cost, smooth, start, moves, cycles, how)
+    run_with_table(
+        alloc,
+        pairs,
+        data_cost,
+        smooth,
+        label_costs,
+        start,
+        moves,
+        cycles,
+        how,
+    )
 }

@@ -11,9 +11,11 @@ use Rattle.vision.specs.declared.error.VisionError.TheVariants.{OutOfMemory, Ima
 -- a refused run
 pub run_may_come : (refuses : SolveError → Type 0) (e : MoveError) → IsRunRefusal refuses e → MayCome refuses (of_move e)
 run_may_come refuses move.NoSuchLabel may = may
+run_may_come refuses move.LabelCostInSwap may = may
 run_may_come refuses (move.PairNotRegular pair alpha beta) may = may
 run_may_come refuses move.Workers may = may
 run_may_come refuses move.BadOptions may = may
+run_may_come refuses move.NoBound may = may
 run_may_come refuses move.OutOfMemory may = may
 
 -- nothing but a run refuses a move

@@ -1,6 +1,7 @@
 -- Potts and linear costs are a metric, and nothing but a move tells a pair.
-use Rattle.std.proofs.Common.{◌≡◌, ◌≢◌, ℕ, ◌+◌, ◌<◌, ◌≤◌, ◌==◌, List, ℤ, pos, unsigned_abs, if◌then◌else◌, refl, sym, ap, ◌∙◌, subst, arith}
-use Rattle.cost_store.specs.Promises.{IsMetricTable, IsTable, cost_in}
+use Rattle.std.proofs.Common.{◌≡◌, ◌≢◌, ℕ, ◌+◌, ◌<◌, ◌≤◌, ◌==◌, List, ℤ, if◌then◌else◌, refl, arith}
+use Rattle.cost_store.specs.Promises.{IsMetricTable, IsTable}
+use Rattle.labelling_runs.proofs.Entries.{metric_table}
 use Rattle.labellings.specs.Energies.{IsMetric}
 use Rattle.moves.specs.Problems.{TellsPairNotRegular}
 use Rattle.moves.specs.declared.error.MoveError.{MoveError}
@@ -43,21 +44,6 @@ shape_metric Linear k most some apart = record {
 }
 shape_metric Quadratic k most some apart = absurd (apart refl)
 
--- the table of costs that are a metric
-metric_table : (k : ℕ) (cost : ℕ → ℕ → ℕ) (table : List ℤ) → 0 < k → IsTable k k cost table → IsMetric k cost → IsMetricTable k table
-metric_table k cost table some is m =
-    let same = λ (a b : ℕ) (la : a < k) (lb : b < k). let number : cost_in k table a b ≡ cost a b = ap unsigned_abs (is.each a b la lb) in number in
-    record {
-      some = some;
-      entries = record { size = is.size; each = λ a b la lb. is.each a b la lb ∙ ap pos (sym (same a b la lb)) };
-      metric = record {
-        equal = λ a la. same a a la la ∙ m.equal a la;
-        unequal = λ a b la lb apart. (let P : ℕ → Type 0 = λ n. 0 < n in subst P (sym (same a b la lb)) (m.unequal a b la lb apart));
-        symmetric = λ a b la lb. same a b la lb ∙ m.symmetric a b la lb ∙ sym (same b a lb la);
-        triangle = λ a b c la lb lc. omega (arith, same a b la lb, same a c la lc, same c b lc lb, m.triangle a b c la lb lc);
-      };
-    }
-
 pub shape_metric_table : (shape : Shape) (k most : ℕ) (table : List ℤ) → 0 < k → 1 ≤ most → shape ≢ Quadratic
     → IsTable k k (shape_cost shape most) table → IsMetricTable k table
 shape_metric_table shape k most table some cut apart is =
@@ -69,9 +55,11 @@ potts_metric_table k most table some cut is = shape_metric_table Potts k most ta
 -- a move tells what its own refusal tells
 pub move_tells : (e : MoveError) → (¬ TellsPairNotRegular e) → ¬ TellsPair (of_move e)
 move_tells move.NoSuchLabel none = none
+move_tells move.LabelCostInSwap none = none
 move_tells (move.PairNotRegular pair alpha beta) none = none
 move_tells move.Workers none = none
 move_tells move.BadOptions none = none
+move_tells move.NoBound none = none
 move_tells move.OutOfMemory none = none
 
 pub first_tells_none : (input : List ℕ) (e : VisionError) → HasFirstFault input e → ¬ TellsPair e

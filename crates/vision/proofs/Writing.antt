@@ -21,7 +21,7 @@ does IsJob f old new (Ok report) is told took = (
     labels = f.image.samples;
     ends = is.2.ends;
     took = subst (λ (p : Picture). Appends old new (written p)) is.2.image_is took;
-    tells = subst (λ (q : Report). Tells is.0 f.image.samples q) (sym told) is.2.tells;
+    tells = subst (λ (q : Report). Tells is.0 f.image.samples is.2.ends.settled q) (sym told) is.2.tells;
   },
 )
 does IsJob f old new (Err e) is told took = tt
@@ -42,6 +42,8 @@ stop_leaves IsJob HasFault f old new failed (Write stop) is stops only = (
     labels = f.image.samples;
     ends = is.2.ends;
     took = subst (λ (p : Picture). Stops old new 0 (written p) stop.count) is.2.image_is stops;
+    report = f.report;
+    tells = is.2.tells;
   },
   only,
 )

@@ -1,6 +1,6 @@
 -- The problems of labels that pictures and options name. A site is a pixel, row by row from the top, each row
 -- from the left.
-use Rattle.std.specs.Prelude.{ℕ, ◌+◌, ◌-◌, ◌*◌, ◌==◌, nat_lt, nat_le, min, List, map, slice_index, if◌then◌else◌}
+use Rattle.std.specs.Prelude.{ℕ, ◌+◌, ◌-◌, ◌*◌, ◌==◌, nat_lt, nat_le, min, List, map, slice_index, unwrap_or, if◌then◌else◌}
 use Rattle.label_field.specs.declared.pair.Pair.{Pair}
 use Rattle.label_field.specs.Grids.{grid, steps4, steps8, column, distance}
 use Rattle.labellings.specs.Energies.{Instance}
@@ -22,7 +22,8 @@ abbrev pub pairs_of : Neighbours → ℕ → Picture → List Pair
 pairs_of Four weight p = grid p.width p.height weight steps4
 pairs_of Eight weight p = grid p.width p.height weight steps8
 
--- restore: a label is a grey level, and costs a pixel as much as it is away from its sample
+-- restore: a label is a grey level, and costs a pixel as much as it is away from its sample, and by itself what is given,
+-- or nothing
 abbrev pub restore_problem : RestoreOptions → Picture → Instance
 restore_problem o p = record {
   sites = p.width * p.height;
@@ -30,6 +31,7 @@ restore_problem o p = record {
   data_cost = λ site label. distance (sample p site) label;
   smooth_cost = shape_cost o.smooth o.trunc;
   pairs = pairs_of o.neighbours o.weight p;
+  label_cost = λ label. unwrap_or o.label_cost 0;
 }
 
 -- what a shift to the left costs a pixel of the left picture: how far its sample is from the one so many
@@ -48,6 +50,7 @@ stereo_problem o left right = record {
   data_cost = shift_cost o.cap left right;
   smooth_cost = shape_cost o.smooth o.trunc;
   pairs = pairs_of o.neighbours o.weight left;
+  label_cost = λ label. 0;
 }
 
 -- what the label that is not a seed's costs it: as much as the dearest label
@@ -79,4 +82,5 @@ segment_problem o p seeds = record {
   data_cost = λ site label. part_cost o (sample p site) (sample seeds site) label;
   smooth_cost = shape_cost Potts 1;
   pairs = map (weighted (edge_weight o p)) (pairs_of o.neighbours 0 p);
+  label_cost = λ label. 0;
 }

@@ -1,15 +1,17 @@
 //! The run of a problem of labels over the pixels of a picture, and the picture that it makes.
-ghost use Rattle.std.specs.Prelude.{◌≡◌, ◌+◌, ◌*◌, ◌≤◌, pos, ◌≤ℤ◌, ◌+ℤ◌, All, IfOk, IfErr, MatchResult, OnOk, OnErr, length, true};
+ghost use Rattle.std.specs.Prelude.{◌≡◌, ℕ, ◌+◌, ◌*◌, ◌<◌, ◌≤◌, pos, ◌≤ℤ◌, ◌+ℤ◌, All, IfOk, IfErr, IfSome, MatchResult, OnOk, OnErr, length, true, unwrap_or, if◌then◌else◌};
 ghost use Rattle.std.specs.Io.KnownBytes.{Appends};
 ghost use Rattle.label_field.specs.LabelFields.{AreSizes};
 ghost use Rattle.labellings.specs.Energies.{Instance};
 ghost use Rattle.cost_store.specs.Limits.{data_limit, smooth_limit};
+ghost use Rattle.label_costs.specs.Costs.{cost_at};
+ghost use Rattle.moves.specs.LabelCosts.{AreLabelCosts, HasCosts, costs_of};
 ghost use Rattle.cost_store.specs.Promises.{IsCost, IsMetricTable, IsTable, Keeps};
 ghost use Rattle.labelling_runs.specs.Instances.{IsInstanceOf};
 ghost use Rattle.labelling_runs.specs.Runs.{IsSized};
 ghost use Rattle.pgm_image.specs.Picture.{IsPicture, picture};
 ghost use Rattle.pgm_image.specs.Written.{written, Stops};
-ghost use Rattle.run_options.specs.Limits.{trunc_limit};
+ghost use Rattle.run_options.specs.Limits.{label_cost_limit, trunc_limit};
 ghost use Rattle.run_options.specs.Shapes.{shape_cost};
 ghost use Rattle.vision.specs.Faults.{HasRunFault, IsStop, MayCome, TellsPair};
 ghost use Rattle.vision.specs.Jobs.{IsFinished, job_of};
@@ -19,16 +21,17 @@ use byte_streams::Sink;
 use cost_store::DataCost;
 use label_field::{Labelling, Pairs};
 use labelling_runs::{Run, run_with_table};
-use moves::How;
+use moves::{Bound, How};
 use pgm_image::{Image, put_image};
 use run_options::{Moves, Shape, smooth_table};
 use std::alloc::{AllocError, Global};
 
-/// How a problem is run, and the maxval of the picture that its labels make.
+/// How a problem is run, whether a bound is asked for, and the maxval of the picture that its labels make.
 #[derive(Clone, Copy)]
 pub(crate) struct Plan {
     pub moves: Moves,
     pub cycles: u32,
+    pub bound: bool,
     pub maxval: u32,
 }
 
@@ -41,13 +44,14 @@ pub(crate) struct Finished {
 
 /// Makes the moves of a problem on the pixels of a picture, from the label 0 everywhere, and the picture of the last
 /// labels, which are its samples.
-pub(crate) fn run_job<F: Fn(u32, u32) -> i64, H: How>(
+pub(crate) fn run_job<F: Fn(u32, u32) -> i64 + Sync, H: How>(
     alloc: Global,
     picture: &Image,
     plan: Plan,
     pairs: Pairs,
     data_cost: DataCost<F>,
     smooth: &[i64],
+    label_costs: Option<Vec<i64>>,
     how: &H,
 ) -> Result<Finished, VisionError>
     requires ready { H.ready how.now }
@@ -59,13 +63,16 @@ pub(crate) fn run_job<F: Fn(u32, u32) -> i64, H: How>(
         data_limit }
     requires smooth { (length smooth.now ≡ data_cost.labels * data_cost.labels)
         × All (IsCost smooth_limit) smooth.now }
+    requires label_costs { AreLabelCosts data_cost.labels label_costs }
     ensures run { (m : Instance) →
         IsInstanceOf (F.post data_cost.f) pairs data_cost.labels smooth.now m →
-        MatchResult result (IsFinished (job_of m plan.moves plan.cycles picture.now plan.maxval))
-        (HasRunFault (job_of m plan.moves plan.cycles picture.now plan.maxval)) }
+        HasCosts m label_costs →
+        MatchResult result (IsFinished (job_of m plan.moves plan.cycles plan.bound picture.now plan.maxval))
+        (HasRunFault (job_of m plan.moves plan.cycles plan.bound picture.now plan.maxval)) }
     ensures cut { IfErr result (MayCome (H.refuses how.now)) }
     ensures metric { IsMetricTable data_cost.labels smooth.now → (m : Instance) →
         IsInstanceOf (F.post data_cost.f) pairs data_cost.labels smooth.now m →
+        HasCosts m label_costs →
         IfErr result (λ e. ¬ TellsPair e) }
 {
     let _valid = picture.samples();
@@ -75,40 +82,69 @@ pub(crate) fn run_job<F: Fn(u32, u32) -> i64, H: How>(
         pairs,
         data_cost,
         smooth,
+        label_costs,
         start,
         plan.moves,
         plan.cycles,
         how,
     )?;
-    Ok(finish(alloc, picture, plan.maxval, &run)?)
+    Ok(finish(alloc, picture, plan, &run)?)
 }
 
 /// The picture whose samples are the labels of a run, of the size of another picture, and the run's report.
-fn finish(alloc: Global, source: &Image, maxval: u32, run: &Run) -> Result<Finished, AllocError>
+fn finish(alloc: Global, source: &Image, plan: Plan, run: &Run) -> Result<Finished, AllocError>
     requires sites { length run.now.labelling.at ≡ source.now.width * source.now.height }
-    requires labels { run.now.labelling.labels ≤ maxval + 1 }
-    requires maxval { (1 ≤ maxval) × (maxval ≤ 65535) }
+    requires labels { run.now.labelling.labels ≤ plan.maxval + 1 }
+    requires maxval { (1 ≤ plan.maxval) × (plan.maxval ≤ 65535) }
     requires data { (pos 0 ≤ℤ run.now.«data») × (run.now.«data» ≤ℤ pos 10485760000000) }
     requires smooth { (pos 0 ≤ℤ run.now.smooth) × (run.now.smooth ≤ℤ pos 41943040000000) }
+    requires label { (pos 0 ≤ℤ run.now.label) × (run.now.label ≤ℤ pos 2560000000) }
     ensures image { IfOk result (λ f. f.image
-        ≡ picture source.now.width source.now.height maxval run.now.labelling.at) }
+        ≡ picture source.now.width source.now.height plan.maxval run.now.labelling.at) }
     ensures valid { IfOk result (λ f. IsPicture f.image) }
     ensures report { IfOk result (λ f. f.report ≡ record {
-      energy = run.now.«data» +ℤ run.now.smooth;
+      energy = (run.now.«data» +ℤ run.now.smooth) +ℤ run.now.label;
       data_part = run.now.«data»;
       smooth_part = run.now.smooth;
+      label_part = run.now.label;
+      bound = (if plan.bound then run.now.bound else None);
     }) }
 {
     let _valid = source.samples();
     let samples = samples_of(alloc, run.labelling.as_slice())?;
     Ok(Finished {
-        image: Image::new(source.width(), source.height(), maxval, samples),
-        report: Report {
-            energy: run.data + run.smooth,
-            data_part: run.data,
-            smooth_part: run.smooth,
-        },
+        image: Image::new(source.width(), source.height(), plan.maxval, samples),
+        report: report_of(plan.bound, run),
     })
+}
+
+/// What a run says of its labels, and of how near they are where that is asked for.
+fn report_of(asked: bool, run: &Run) -> Report
+    requires data { (pos 0 ≤ℤ run.now.«data») × (run.now.«data» ≤ℤ pos 10485760000000) }
+    requires smooth { (pos 0 ≤ℤ run.now.smooth) × (run.now.smooth ≤ℤ pos 41943040000000) }
+    requires label { (pos 0 ≤ℤ run.now.label) × (run.now.label ≤ℤ pos 2560000000) }
+    ensures { result ≡ record {
+      energy = (run.now.«data» +ℤ run.now.smooth) +ℤ run.now.label;
+      data_part = run.now.«data»;
+      smooth_part = run.now.smooth;
+      label_part = run.now.label;
+      bound = (if asked then run.now.bound else None);
+    } }
+{
+    Report {
+        energy: run.data + run.smooth + run.label,
+        data_part: run.data,
+        smooth_part: run.smooth,
+        label_part: run.label,
+        bound: if_asked(asked, run.bound),
+    }
+}
+
+/// The bound, where one is asked for.
+fn if_asked(asked: bool, bound: Option<Bound>) -> Option<Bound>
+    ensures { result ≡ (if asked then bound else None) }
+{
+    if asked { bound } else { None }
 }
 
 /// The labels as samples.
@@ -135,6 +171,23 @@ pub(crate) fn smooth_costs(
     ensures costs { IfOk result (λ table. All (IsCost smooth_limit) table.items) }
 {
     smooth_table(alloc, shape, trunc, labels)
+}
+
+/// The same cost for each label by itself, where one is given.
+pub(crate) fn equal_costs(
+    alloc: Global,
+    cost: Option<u32>,
+    labels: u32,
+) -> Result<Option<Vec<i64>>, AllocError>
+    requires { IfSome cost (λ given. given ≤ label_cost_limit) }
+    ensures costs { IfOk result (AreLabelCosts labels) }
+    ensures each { IfOk result (λ costs. (label : ℕ) → label < labels →
+        cost_at (costs_of costs) label ≡ unwrap_or cost 0) }
+{
+    match cost {
+        Some(cost) => Ok(Some(vec![in alloc; i64::from(cost); labels as usize]?)),
+        None => Ok(None),
+    }
 }
 
 /// Writes the picture, and answers the report.

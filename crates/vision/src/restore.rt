@@ -8,7 +8,7 @@ ghost use Rattle.vision.specs.Inputs.{IsRestoreJob};
 ghost use Rattle.vision.specs.Jobs.{Does, IsFinished, Job, restore_job};
 
 use crate::inputs::read_one;
-use crate::job::{Finished, Plan, put_finished, run_job, smooth_costs};
+use crate::job::{Finished, Plan, equal_costs, put_finished, run_job, smooth_costs};
 use crate::pairs::pairs_of;
 use crate::{Report, VisionError};
 use byte_streams::Sink;
@@ -23,16 +23,17 @@ const LEVEL_LIMIT: u32 = 255;
 
 /// Restores the picture at the front of the input, and writes the result as `P5`.
 ///
-/// A label is a grey level from 0 to maxval. It costs a pixel the distance to its sample, and two labels cost a pair of
-/// neighbours the weight times their smooth cost. The picture that is written has the labels where the chain of best moves
-/// from all 0 ends, as samples, and the input's maxval; the report has their energy. Nothing is written before the
-/// last move is finished. What follows the image in the input is not looked at.
+/// A label is a grey level from 0 to maxval. It costs a pixel the distance to its sample, two labels cost a pair of
+/// neighbours the weight times their smooth cost, and each label that some pixel has costs the label cost once, where
+/// one is given. The picture that is written has the labels where the chain of best moves from all 0 ends, as samples,
+/// and the input's maxval; the report has their energy, and how near it is to the least where that is asked for. Nothing
+/// is written before the last move is finished. What follows the image in the input is not looked at.
 ///
 /// Refused, the first that holds: `Image` where no image is at the front of the input, `TooManyLevels` where
-/// maxval is above 255, `Move` as the run of moves is, `Write` where the sink failed, which then took the
-/// first bytes of the picture's written form, as many as are told. `OutOfMemory` may come before the first
-/// byte is written. `Potts` and `Linear` costs are a metric: with them no move is refused for a pair. The
-/// options are to be in their ranges, which `fits` tells.
+/// maxval is above 255, `Move` as the run of moves is: of `LabelCostInSwap` exactly where swaps are asked for and the
+/// label cost is above 0; `Write` where the sink failed, which then took the first bytes of the picture's written form,
+/// as many as are told. `OutOfMemory` may come before the first byte is written. `Potts` and `Linear` costs are a
+/// metric: with them no move is refused for a pair. The options are to be in their ranges, which `fits` tells.
 pub fn run_restore<H: How, S: Sink>(
     alloc: Global,
     input: &[u8],
@@ -97,6 +98,7 @@ fn restore<H: How>(
     let maxval = picture.maxval();
     let smooth = smooth_costs(alloc, options.smooth, options.trunc, maxval + 1)?;
     let pairs = pairs_of(alloc, picture, options.neighbours, options.weight)?;
+    let label_costs = equal_costs(alloc, options.label_cost, maxval + 1)?;
     let plan = restore_plan(options, maxval);
     let data_cost = DataCost::new(
         |site: u32, label: u32| -> i64
@@ -113,6 +115,7 @@ fn restore<H: How>(
         pairs,
         data_cost,
         smooth.as_slice(),
+        label_costs,
         how,
     )
 }
@@ -122,12 +125,14 @@ fn restore_plan(options: &RestoreOptions, maxval: u32) -> Plan
     ensures { result ≡ record {
       moves = options.now.moves;
       cycles = options.now.cycles;
+      bound = options.now.bound;
       maxval = maxval;
     } }
 {
     Plan {
         moves: options.moves,
         cycles: options.cycles,
+        bound: options.bound,
         maxval,
     }
 }

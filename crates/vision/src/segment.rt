@@ -117,6 +117,7 @@ fn part<H: How>(
     let plan = Plan {
         moves: Moves::Expansion,
         cycles: options.cycles,
+        bound: false,
         maxval: 1,
     };
     let samples = picture.samples();
@@ -141,6 +142,7 @@ fn part<H: How>(
         pairs,
         data_cost,
         smooth.as_slice(),
+        None,
         how,
     )
 }

@@ -26,8 +26,8 @@ use std::alloc::Global;
 /// pixel the distance of the two samples, as they stand, but at most the cap, and the cap where the picture has no such
 /// column; two labels cost a pair of neighbours the weight times their smooth cost. The picture that is written has the
 /// labels where the chain of best moves from all 0 ends, as samples, and as maxval the greatest label, but at least 1;
-/// the report has their energy. Nothing is written before the last move is finished. Between the images there may be
-/// white space, and what follows the second is not looked at.
+/// the report has their energy, and how near it is to the least where that is asked for. Nothing is written before the
+/// last move is finished. Between the images there may be white space, and what follows the second is not looked at.
 ///
 /// Refused, the first that holds: `Image` where no image is at the front of the input, or none behind it,
 /// `SizesDiffer` where they differ in width or height, `Move` as the run of moves is, `Write` where the sink
@@ -99,6 +99,7 @@ fn match_pictures<H: How>(
     let plan = Plan {
         moves: options.moves,
         cycles: options.cycles,
+        bound: options.bound,
         maxval: (labels - 1).max(1),
     };
     let _left = left.samples();
@@ -112,7 +113,16 @@ fn match_pictures<H: How>(
         left.width() * left.height(),
         labels,
     );
-    run_job(alloc, left, plan, pairs, data_cost, smooth.as_slice(), how)
+    run_job(
+        alloc,
+        left,
+        plan,
+        pairs,
+        data_cost,
+        smooth.as_slice(),
+        None,
+        how,
+    )
 }
 
 /// What a shift costs a pixel of the left picture.

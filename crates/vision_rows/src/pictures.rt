@@ -1,12 +1,12 @@
 //! Pictures and their answers.
-use crate::tasks::{RESTORE, SEGMENT, STEREO, Task, expect};
+use crate::tasks::{RESTORE, SEGMENT, STEREO, Task, expect, plain};
 use image_options::{Neighbours, RestoreOptions, SegmentOptions, StereoOptions};
 use run_options::{Moves, Shape};
 use std::test::Fail;
 
-const ROW: &[u8] = b"P5\n3 1\n3\n\x00\x03\x00";
+pub const ROW: &[u8] = b"P5\n3 1\n3\n\x00\x03\x00";
 
-const ZEROS: &[u8] = b"P5\n3 1\n3\n\x00\x00\x00";
+pub const ZEROS: &[u8] = b"P5\n3 1\n3\n\x00\x00\x00";
 
 const SQUARE: &[u8] = b"P5\n2 2\n3\n\x00\x03\x03\x00";
 
@@ -17,9 +17,15 @@ const HEAVY: RestoreOptions = RestoreOptions {
     ..RESTORE
 };
 
-const LINEAR: RestoreOptions = RestoreOptions {
+pub const LINEAR: RestoreOptions = RestoreOptions {
     smooth: Shape::Linear,
     trunc: 2,
+    ..RESTORE
+};
+
+pub const SQUARED: RestoreOptions = RestoreOptions {
+    smooth: Shape::Quadratic,
+    trunc: 4,
     ..RESTORE
 };
 
@@ -28,7 +34,7 @@ const TOUCHING: RestoreOptions = RestoreOptions {
     ..RESTORE
 };
 
-const SWAPS: RestoreOptions = RestoreOptions {
+pub const SWAPS: RestoreOptions = RestoreOptions {
     moves: Moves::Swap,
     ..RESTORE
 };
@@ -39,7 +45,7 @@ pub const SHIFTS: StereoOptions = StereoOptions {
     ..STEREO
 };
 
-const ONE: StereoOptions = StereoOptions {
+pub const ONE: StereoOptions = StereoOptions {
     labels: 1,
     ..STEREO
 };
@@ -83,16 +89,7 @@ const ROWS: [(Task, &[u8], &[u8], (i64, i64)); 21] = [
         (3, 0),
     ),
     (Task::Restore(LINEAR), ROW, ZEROS, (3, 0)),
-    (
-        Task::Restore(RestoreOptions {
-            smooth: Shape::Quadratic,
-            trunc: 4,
-            ..RESTORE
-        }),
-        ROW,
-        ZEROS,
-        (3, 0),
-    ),
+    (Task::Restore(SQUARED), ROW, ZEROS, (3, 0)),
     (Task::Restore(SWAPS), ROW, ROW, (0, 2)),
     (
         Task::Restore(RESTORE),
@@ -185,7 +182,7 @@ const ROWS: [(Task, &[u8], &[u8], (i64, i64)); 21] = [
 #[test]
 fn pictures_are_written(rt: HostRuntime) {
     for (task, input, written, parts) in &ROWS {
-        expect(&rt, rt.alloc(), task, input, written, *parts);
+        expect(&rt, rt.alloc(), task, input, written, plain(*parts));
     }
 }
 
@@ -203,7 +200,7 @@ fn stripes(rt: HostRuntime) -> Result<(), Fail> {
         &Task::Restore(RESTORE),
         &picture,
         &picture,
-        (0, 2048),
+        plain((0, 2048)),
     );
     Ok(())
 }

@@ -1,14 +1,23 @@
 //! Inputs that are refused: nothing is written then.
+use crate::pictures::{ROW, SWAPS};
 use crate::streams::CutWriter;
 use crate::tasks::{RESTORE, SEGMENT, STEREO, Task, run};
 use byte_streams::Watched;
+use image_options::RestoreOptions;
+use moves::MoveError;
 use pgm_image::PgmError;
 use vision::VisionError;
 
 const PART: Task = Task::Segment(SEGMENT);
 
+/// Swaps do not take what a label costs by itself.
+const COSTLY: RestoreOptions = RestoreOptions {
+    label_cost: Some(1),
+    ..SWAPS
+};
+
 /// A command, its input, and why it is refused.
-const ROWS: [(Task, &[u8], VisionError); 13] = [
+const ROWS: [(Task, &[u8], VisionError); 17] = [
     (
         Task::Restore(RESTORE),
         b"",
@@ -76,6 +85,31 @@ const ROWS: [(Task, &[u8], VisionError); 13] = [
         Task::Stereo(STEREO),
         b"P5\n1 2\n9\n\x01\x02P5\n2 1\n9\n\x01\x02",
         VisionError::SizesDiffer,
+    ),
+    (
+        Task::Restore(COSTLY),
+        ROW,
+        VisionError::Move(MoveError::LabelCostInSwap),
+    ),
+    // Also where no move is made.
+    (
+        Task::Restore(RestoreOptions {
+            cycles: 0,
+            ..COSTLY
+        }),
+        ROW,
+        VisionError::Move(MoveError::LabelCostInSwap),
+    ),
+    // The image is looked at first.
+    (
+        Task::Restore(COSTLY),
+        b"P5\n1 1\n256\n\x01\x00",
+        VisionError::TooManyLevels,
+    ),
+    (
+        Task::Restore(COSTLY),
+        b"P5\n1 1\n256\n\x01",
+        VisionError::Image(PgmError::Truncated),
     ),
 ];
 

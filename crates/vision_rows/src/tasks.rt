@@ -16,6 +16,8 @@ pub const RESTORE: RestoreOptions = RestoreOptions {
     neighbours: Neighbours::Four,
     moves: Moves::Expansion,
     cycles: 100,
+    label_cost: None,
+    bound: false,
 };
 
 pub const STEREO: StereoOptions = StereoOptions {
@@ -27,6 +29,7 @@ pub const STEREO: StereoOptions = StereoOptions {
     cycles: 100,
     labels: 16,
     cap: 20,
+    bound: false,
 };
 
 pub const SEGMENT: SegmentOptions = SegmentOptions {
@@ -70,14 +73,26 @@ pub fn run(
     }
 }
 
-/// The command gives this picture, and these two parts of the energy.
+/// The report of labels that cost nothing by themselves, from what they cost the pixels and the pairs, where no bound is
+/// asked for.
+pub fn plain(parts: (i64, i64)) -> Report {
+    Report {
+        energy: parts.0.saturating_add(parts.1),
+        data_part: parts.0,
+        smooth_part: parts.1,
+        label_part: 0,
+        bound: None,
+    }
+}
+
+/// The command gives this picture, and this report.
 pub fn expect(
     rt: &impl Abort,
     alloc: Global,
     task: &Task,
     input: &[u8],
     written: &[u8],
-    parts: (i64, i64),
+    wanted: Report,
 ) {
     let mut writer = CutWriter {
         held: Vec::new(alloc),
@@ -91,10 +106,5 @@ pub fn expect(
     };
     let report = run(rt, alloc, task, input, &mut sink);
     assert!(*rt; !sink.has_failed);
-    let wanted = Report {
-        energy: parts.0.saturating_add(parts.1),
-        data_part: parts.0,
-        smooth_part: parts.1,
-    };
     assert!(*rt; report == Ok(wanted) && writer.held.as_slice() == written);
 }

@@ -8,6 +8,8 @@ use problem_file::{Field, ProblemFault};
 use regular::{Fixed, NotRegular};
 use std::alloc::{AllocError, Global};
 use std::process::Abort;
+use std::sync::Wait;
+use std::thread::Threads;
 
 /// The terms of an energy of two variables, and the line that refuses it.
 const TERMS: &[(&str, &str)] = &[
@@ -114,7 +116,11 @@ const TERMS: &[(&str, &str)] = &[
 ];
 
 /// Whether an energy of these terms is refused by this line.
-fn are_refused(rt: &(impl AllocGlobal + Abort), terms: &str, said: &str) -> bool {
+fn are_refused(
+    rt: &(impl AllocGlobal + Abort + Threads + Wait + Sync),
+    terms: &str,
+    said: &str,
+) -> bool {
     let file = format!(in rt.alloc(); "variables = 2\nterms = [{terms}]").expect(rt, "memory");
     is_minimised(rt, file.as_bytes(), 1, "", said)
 }

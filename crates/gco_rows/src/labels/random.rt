@@ -3,9 +3,11 @@ use crate::labels::is_labelled;
 use crate::labels::problems::PROBLEMS;
 use crate::rows::expect;
 use std::process::Abort;
+use std::sync::Wait;
+use std::thread::Threads;
 
 /// Whether a run over the file of a problem says what its line tells.
-fn is_answered(rt: &(impl AllocGlobal + Abort), problem: &str) -> bool {
+fn is_answered(rt: &(impl AllocGlobal + Abort + Threads + Wait + Sync), problem: &str) -> bool {
     let lines = problem.replace(rt.alloc(), ';', "\n").expect(rt, "memory");
     let Some((file, said)) = lines.split_once('|') else {
         return false;

@@ -1,7 +1,9 @@
 //! Runs over small files. What each writes was worked by hand.
-use crate::labels::is_labelled;
 use crate::rows::expect;
+use crate::streams::ends_alike;
 use std::process::Abort;
+use std::sync::Wait;
+use std::thread::Threads;
 
 // Two sites at labels 0 and 2, which cost 4 beside each other. Label 1 costs 1 beside each.
 const APART: &str =
@@ -9,6 +11,9 @@ const APART: &str =
 
 // Two sites that each want their own of two labels.
 const UNLIKE: &str = "sites = 2\nlabels = 2\ndata = [0,3,3,0]\n";
+
+// Two sites without pairs, each with a label of its own and one that both can have.
+const FREE: &str = "sites = 2\nlabels = 3\ndata = [0,3,9,9,3,0]\n";
 
 const DISTRICTS: &str = "sites = 5\nlabels = 3\ndata = [4,6,9,7,5,6,8,4,7,9,7,3,6,8,5]\n\
                          pairs = [[0,1,3],[1,2,2],[2,3,2],[3,4,4],[1,3],[0,4]]\n";
@@ -125,6 +130,66 @@ const ROWS: &[Row] = &[
         "energy 0 data 0 smooth 0\nlabels\n",
         "",
     ),
+    // Each label that some site has costs 5: both sites at label 1 cost 6 and 5.
+    (
+        FREE,
+        "label_costs = [5,5,5]",
+        0,
+        "energy 11 data 6 smooth 0 label 5\nlabels 1 1\n",
+        "",
+    ),
+    (
+        FREE,
+        "label_costs = [2,2,2]",
+        0,
+        "energy 4 data 0 smooth 0 label 4\nlabels 0 2\n",
+        "",
+    ),
+    // 0 1 and 1 1 are both 9.
+    (
+        "sites = 2\nlabels = 2\ndata = [0,3,9,3]\n",
+        "label_costs = [3,3]",
+        0,
+        "energy 9 data 3 smooth 0 label 6\nlabels 0 1\n",
+        "",
+    ),
+    (
+        UNLIKE,
+        "label_costs = [0,1]\nmoves = 'swap'",
+        1,
+        "",
+        "refused 27\n",
+    ),
+    // Before the first move, and where none is to be made.
+    (
+        "sites = 2\nlabels = 2\ndata = [0,0,0,0]\nsmooth = [0,0,0,1]\npairs = [[0,1]]\n",
+        "label_costs = [0,1]\nmoves = 'swap'\ncycles = 0",
+        1,
+        "",
+        "refused 27\n",
+    ),
+    // But behind every field.
+    (
+        UNLIKE,
+        "label_costs = [0,1,1]\nmoves = 'swap'",
+        1,
+        "",
+        "refused 29 label_costs\n",
+    ),
+    (
+        UNLIKE,
+        "label_costs = [0,10000001]\nmoves = 'swap'",
+        1,
+        "",
+        "refused 15 label 1\n",
+    ),
+    (
+        UNLIKE,
+        "label_costs = [0,0]\nmoves = 'swap'",
+        0,
+        "energy 0 data 0 smooth 0 label 0\nlabels 0 1\n",
+        "",
+    ),
     ("sites = ", "", 1, "", "refused 28\n"),
     (
         "sites = 1\nlabels = 2\n",
@@ -146,16 +211,87 @@ const ROWS: &[Row] = &[
     ),
 ];
 
-/// Whether a run over the two parts of a row's file ends as the row tells.
-fn is_run(rt: &(impl AllocGlobal + Abort), row: &Row) -> bool {
+/// The same where a bound is asked for.
+const BOUNDS: &[Row] = &[
+    (
+        UNLIKE,
+        "pairs = [[0,1],[0,1]]",
+        0,
+        "energy 2 data 0 smooth 2\nlabels 0 1\nbound 1 2\n",
+        "",
+    ),
+    // A cycle that changed something was the last.
+    (
+        UNLIKE,
+        "pairs = [[0,1],[0,1]]\ncycles = 1",
+        0,
+        "energy 2 data 0 smooth 2\nlabels 0 1\nbound none\n",
+        "",
+    ),
+    (
+        UNLIKE,
+        "pairs = [[0,1],[0,1]]\nmoves = 'swap'",
+        0,
+        "energy 2 data 0 smooth 2\nlabels 0 1\nbound none\n",
+        "",
+    ),
+    (
+        FREE,
+        "label_costs = [5,5,5]",
+        0,
+        "energy 11 data 6 smooth 0 label 5\nlabels 1 1\nbound none\n",
+        "",
+    ),
+    (
+        FREE,
+        "label_costs = [0,0,0]\nsmooth = 'linear'\ntrunc = 2",
+        0,
+        "energy 0 data 0 smooth 0 label 0\nlabels 0 2\nbound 1 4\n",
+        "",
+    ),
+    // By way of label 1 the labels 0 and 2 are nearer.
+    (
+        APART,
+        "data = [0,9,9,0,9,9]",
+        0,
+        "energy 0 data 0 smooth 0\nlabels 0 0\nbound none\n",
+        "",
+    ),
+    // One label alone is the least.
+    (
+        "sites = 1\nlabels = 1\n",
+        "data = [7]",
+        0,
+        "energy 7 data 7 smooth 0\nlabels 0\nbound 1 2\n",
+        "",
+    ),
+    (UNLIKE, "pairs = [[1,1]]", 1, "", "refused 12 pair 0\n"),
+];
+
+/// Whether a run with these words over the two parts of a row's file ends as the row tells, whatever workers are
+/// asked for.
+fn is_run(
+    rt: &(impl AllocGlobal + Abort + Threads + Wait + Sync),
+    words: &[&str],
+    row: &Row,
+) -> bool {
     let (first, second, status, written, said) = row;
     let file = format!(in rt.alloc(); "{first}{second}").expect(rt, "memory");
-    is_labelled(rt, file.as_str(), *status, written, said)
+    let written = written.as_bytes();
+    ends_alike(rt, words, file.as_bytes(), *status, written, said)
 }
 
 #[test]
 fn runs(rt: HostRuntime) {
     for (place, row) in ROWS.iter().enumerate() {
-        expect(&rt, "ROWS", place, is_run(&rt, row));
+        expect(&rt, "ROWS", place, is_run(&rt, &["gco", "label"], row));
+    }
+}
+
+#[test]
+fn bounds(rt: HostRuntime) {
+    for (place, row) in BOUNDS.iter().enumerate() {
+        let is_right = is_run(&rt, &["gco", "label", "--bound"], row);
+        expect(&rt, "BOUNDS", place, is_right);
     }
 }

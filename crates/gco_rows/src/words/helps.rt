@@ -26,7 +26,7 @@ Exit status:
 Example:
   gco restore --smooth linear --trunc 40 < noisy.pgm > restored.pgm
 
-`gco COMMAND --help` says what a command reads and writes.
+`gco COMMAND --help` says what a command reads and writes, and when `--threads` pays.
 ";
 
 pub const RESTORE_HELP: &str = "\
@@ -41,13 +41,28 @@ Options:
       --neighbours <N>  Neighbours of a pixel: 4 (by an edge) or 8 (by an edge or a corner) [default: 4]
       --moves <NAME>    Moves to make: expansion (of one label) or swap (of two) [default: expansion]
       --cycles <N>      Most cycles of moves, 0 to 1000; one that changes nothing is the last [default: 100]
+      --label-cost <N>  Cost of each label that some pixel has, 0 to 10000000; above 0 with expansions alone
+      --bound           Also say how near the energy is to the least, by a line `bound A B`
+      --threads <N>     Workers that make each cut together, 1 to 64; without it one thread cuts. The answer is the same
+      --blocks <N>      With --threads: blocks that a cut is split in, 1 to 256 [default: 16]
+      --ring <N>        With --threads: most messages on the way from one block to another, 1 to 65536 [default: 64]
+      --turns <N>       With --threads: most turns drawn in a round, beside the first of each block, 0 to 1000000 [default: 4096]
+      --rounds <N>      With --threads: most rounds of a cut; one thread then ends it, 0 to 10000 [default: 64]
   -h, --help            Print help
 
 Reads a PGM image of at most 256 grey levels and writes one of the same size and levels: each pixel gets a
 level near its own, with few and small jumps between neighbours. The energy is the sum of the differences
-between old and new levels, plus the weight times the cost of each two neighbours' levels. It is made
-smaller by moves, each to the best picture that it reaches. Then standard error has the line
-`energy E data D smooth S`.
+between old and new levels, plus the weight times the cost of each two neighbours' levels, plus the label
+cost for each level that some pixel has (gco-v3's setLabelCost, for all labels). It is made smaller by
+moves, each to the best picture that it reaches. Then standard error has the line
+`energy E data D smooth S`, with ` label L` at its end where `--label-cost` was given.
+
+With `--bound` the line `bound A B` comes after it: A times the energy is at most B times that of any
+picture. It is `bound none` where no such numbers are known: after swaps, where the last cycle still
+changed something, with a label cost above 0, and for costs that are no metric, as quadratic ones mostly.
+
+`--threads` pays for large pictures with heavy cuts, as of weights from 4 on.
+Where moves leave fewer than some 20000 pixels undecided, threads cost more time than they save.
 
 Exit status: 0 answered, 1 refused (standard error has one line `refused N ..`), 2 not understood.
 
@@ -69,12 +84,25 @@ Options:
       --cycles <N>      Most cycles of moves, 0 to 1000; one that changes nothing is the last [default: 100]
       --labels <N>      How many labels, 1 to 256 [default: 16]
       --cap <N>         Greatest cost of a label at a pixel, 0 to 10000000 [default: 20]
+      --bound           Also say how near the energy is to the least, by a line `bound A B`
+      --threads <N>     Workers that make each cut together, 1 to 64; without it one thread cuts. The answer is the same
+      --blocks <N>      With --threads: blocks that a cut is split in, 1 to 256 [default: 16]
+      --ring <N>        With --threads: most messages on the way from one block to another, 1 to 65536 [default: 64]
+      --turns <N>       With --threads: most turns drawn in a round, beside the first of each block, 0 to 1000000 [default: 4096]
+      --rounds <N>      With --threads: most rounds of a cut; one thread then ends it, 0 to 10000 [default: 64]
   -h, --help            Print help
 
 Reads two PGM images of one size, the left one first, and writes an image with a label for each pixel of the
 left one: label l says that it stands l columns further left in the right one. A label costs the difference
 of the two samples, or the cap where that is less or no such column is there, plus the weight times the
 cost of each two neighbours' labels. Then standard error has the line `energy E data D smooth S`.
+
+With `--bound` the line `bound A B` comes after it: A times the energy is at most B times that of any
+labels. It is `bound none` where no such numbers are known: after swaps, where the last cycle still
+changed something, and for costs that are no metric, as quadratic ones mostly are.
+
+`--threads` pays for large pictures with heavy cuts, as of weights from 4 on.
+Where moves leave fewer than some 20000 pixels undecided, threads cost more time than they save.
 
 Exit status: 0 answered, 1 refused (standard error has one line `refused N ..`), 2 not understood.
 
@@ -95,12 +123,20 @@ Options:
       --edge <N>        Greatest difference of samples that is no edge, 0 to 65535 [default: 5]
       --neighbours <N>  Neighbours of a pixel: 4 (by an edge) or 8 (by an edge or a corner) [default: 4]
       --cycles <N>      Most cycles of moves, 0 to 1000; one that changes nothing is the last [default: 100]
+      --threads <N>     Workers that make each cut together, 1 to 64; without it one thread cuts. The answer is the same
+      --blocks <N>      With --threads: blocks that a cut is split in, 1 to 256 [default: 16]
+      --ring <N>        With --threads: most messages on the way from one block to another, 1 to 65536 [default: 64]
+      --turns <N>       With --threads: most turns drawn in a round, beside the first of each block, 0 to 1000000 [default: 4096]
+      --rounds <N>      With --threads: most rounds of a cut; one thread then ends it, 0 to 10000 [default: 64]
   -h, --help            Print help
 
 Reads two PGM images of one size, the picture and then its seeds (0 free, 1 label 0, 2 label 1), and writes
 an image with the label of each pixel. A free pixel's label costs its difference from the low sample (label
 0) or the high one (label 1), a seed's other label 10000000. Two neighbours of unlike labels cost `strong`,
 or `weak` where an edge runs between them. Then standard error has the line `energy E data D smooth S`.
+
+`--threads` pays for large pictures with heavy cuts, as of weights from 4 on.
+Where moves leave fewer than some 20000 pixels undecided, threads cost more time than they save.
 
 Exit status: 0 answered, 1 refused (standard error has one line `refused N ..`), 2 not understood.
 
@@ -111,16 +147,23 @@ Example:
 pub const ENERGY_HELP: &str = "\
 The least value of an energy of yes-no variables, and where it stands
 
-Usage: gco energy
+Usage: gco energy [OPTIONS]
 
 Options:
-  -h, --help  Print help
+      --threads <N>  Workers that make each cut together, 1 to 64; without it one thread cuts. The answer is the same
+      --blocks <N>   With --threads: blocks that a cut is split in, 1 to 256 [default: 16]
+      --ring <N>     With --threads: most messages on the way from one block to another, 1 to 65536 [default: 64]
+      --turns <N>    With --threads: most turns drawn in a round, beside the first of each block, 0 to 1000000 [default: 4096]
+      --rounds <N>   With --threads: most rounds of a cut; one thread then ends it, 0 to 10000 [default: 64]
+  -h, --help         Print help
 
 Reads a TOML file: the number of variables, a constant, and terms of one, two or three variables
 with the table of their values. Each term has to be regular.
 
 Writes two lines: `minimum M`, and `assignment` with one digit for each variable. Of the least
 assignments it is the one with the fewest ones.
+
+`--threads` pays for large energies, of some 200000 variables and more.
 
 Exit status: 0 answered, 1 refused (standard error has one line `refused N ..`), 2 not understood.
 
@@ -134,19 +177,33 @@ prints
 pub const LABEL_HELP: &str = "\
 A labelling of low energy, by expansions of labels or swaps of two
 
-Usage: gco label
+Usage: gco label [OPTIONS]
 
 Options:
-  -h, --help  Print help
+      --bound        Also say how near the energy is to the least, by a line `bound A B`
+      --threads <N>  Workers that make each cut together, 1 to 64; without it one thread cuts. The answer is the same
+      --blocks <N>   With --threads: blocks that a cut is split in, 1 to 256 [default: 16]
+      --ring <N>     With --threads: most messages on the way from one block to another, 1 to 65536 [default: 64]
+      --turns <N>    With --threads: most turns drawn in a round, beside the first of each block, 0 to 1000000 [default: 4096]
+      --rounds <N>   With --threads: most rounds of a cut; one thread then ends it, 0 to 10000 [default: 64]
+  -h, --help         Print help
 
 Reads a TOML file: the numbers of sites and labels, the cost of each label at each site (data), the cost
 of two labels at the sites of a pair (smooth, trunc), the pairs with their weights (pairs), the
-labelling to start from (start), and the moves to make (moves, cycles). What is left out has a default,
-but for sites, labels and data.
+labelling to start from (start), the moves to make (moves, cycles), and the cost of each label that some
+site has (label_costs, gco-v3's setLabelCost, for expansions alone). What is left out has a default, but
+for sites, labels and data.
 
 Makes cycles of moves, each to the best labelling that it reaches, until one changes nothing or as many
-as are allowed are done. Writes two lines: `energy E data D smooth S`, the energy and its two parts, and
-`labels` with the label of each site.
+as are allowed are done. Writes two lines: `energy E data D smooth S`, the energy and its parts, with
+` label L` at its end where the file has label_costs, and `labels` with the label of each site.
+
+With `--bound` a third line is `bound A B`: A times the energy is at most B times that of any labelling.
+It is `bound none` where no such numbers are known: after swaps, where the last cycle still changed
+something, with a label cost above 0, and where smooth is no metric, as quadratic costs mostly are none.
+
+`--threads` pays for many sites with heavy cuts, as of weights from 4 on.
+Where moves leave fewer than some 20000 sites undecided, threads cost more time than they save.
 
 Exit status: 0 answered, 1 refused (standard error has one line `refused N ..`), 2 not understood.
 

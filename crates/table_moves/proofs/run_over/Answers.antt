@@ -1,6 +1,7 @@
 use Rattle.std.proofs.Common.{◌∙◌, ◌*◌, refl, sym, pos}
 use Rattle.run_options.specs.Limits.{data_limit}
 use Rattle.labelling_runs.specs.Instances.{instance_of}
+use Rattle.moves.specs.LabelCosts.{costs_of}
 use Rattle.labelling_runs.proofs.Entries.{table_of_costs}
 use Rattle.table_moves.specs.Instances.{data_entry}
 use Rattle.table_moves.proofs.Entries.{data_keeps, data_along}
@@ -14,7 +15,7 @@ new-data_cost-requires g c =
 
 pub returns-clause-run : goal.returns-clause-run
 returns-clause-run g c =
-    c.run_with_table.ensures.run (instance_of c.args.pairs c.args.start.labels (data_entry c.args.start.labels c.args.data.now) c.args.smooth.now)
+    c.run_with_table.ensures.run (instance_of c.args.pairs c.args.start.labels (data_entry c.args.start.labels c.args.data.now) c.args.smooth.now (costs_of c.args.label_costs))
     (record {
       sites_are = refl;
       labels_are = refl;
@@ -22,3 +23,16 @@ returns-clause-run g c =
       data_are = rw c.new-data_cost.ensures.stored (λ a b z la lb is. data_along c.args.data.now a b z _ _ c.labels-labels.ensures.value is);
       smooth_are = table_of_costs (pos 10000) c.args.smooth.now c.args.start.labels c.requires.smooth.0 c.requires.smooth.1;
     })
+    (record { each = λ label below. refl })
+
+pub returns-clause-bounded : goal.returns-clause-bounded
+returns-clause-bounded g c =
+    c.run_with_table.ensures.bounded (instance_of c.args.pairs c.args.start.labels (data_entry c.args.start.labels c.args.data.now) c.args.smooth.now (costs_of c.args.label_costs))
+    (record {
+      sites_are = refl;
+      labels_are = refl;
+      pairs_are = refl;
+      data_are = rw c.new-data_cost.ensures.stored (λ a b z la lb is. data_along c.args.data.now a b z _ _ c.labels-labels.ensures.value is);
+      smooth_are = table_of_costs (pos 10000) c.args.smooth.now c.args.start.labels c.requires.smooth.0 c.requires.smooth.1;
+    })
+    (record { each = λ label below. refl })

@@ -1,7 +1,9 @@
-use Rattle.std.proofs.Common.{◌∙◌, ◌*◌, ℕ, sym, subst}
+use Rattle.std.proofs.Common.{◌∙◌, ◌*◌, ℕ, ℤ, List, sym, subst}
 use Rattle.labelling_runs.specs.Instances.{instance_of}
 use Rattle.labelling_runs.specs.Runs.{Answers}
+use Rattle.moves.specs.LabelCosts.{AreLabelCosts, costs_of}
 use Rattle.table_moves.specs.Instances.{data_entry}
+use Rattle.table_moves.proofs.Entries.{bound_in_range, costs_are, costs_kept}
 use Rattle.table_moves.proofs.run_tables.Goals as goal
 
 pub run_over-requires-clause-sites : goal.run_over-requires-clause-sites
@@ -19,6 +21,17 @@ run_over-requires-clause-smooth g c =
 
 pub returns-clause-run : goal.returns-clause-run
 returns-clause-run g c =
-    let P : ℕ → Type 0 = λ labels. Answers (instance_of c.args.problem.pairs labels (data_entry labels c.args.problem.data.items) c.args.problem.smooth.items)
-    c.args.problem.moves c.args.problem.cycles c.args.problem.start.at c.run_over.result in
-    subst P c.requires.limits.start_labels (rw (c.as_slice.ensures.value, c.as_slice-2.ensures.value) at c.run_over.ensures.run)
+    let P : ℕ → Type 0 = λ labels. Answers (instance_of c.args.problem.pairs labels (data_entry labels c.args.problem.data.items) c.args.problem.smooth.items
+    (costs_of c.args.problem.label_costs)) c.args.problem.moves c.args.problem.cycles c.args.problem.start.at c.run_over.result in
+    let Q : List ℤ → Type 0 = λ costs. Answers (instance_of c.args.problem.pairs c.args.problem.labels (data_entry c.args.problem.labels c.args.problem.data.items)
+    c.args.problem.smooth.items costs) c.args.problem.moves c.args.problem.cycles c.args.problem.start.at c.run_over.result in
+    subst Q (costs_are c.args.problem.label_costs)
+    (subst P c.requires.limits.start_labels (rw (c.as_slice.ensures.value, c.as_slice-2.ensures.value) at c.run_over.ensures.run))
+
+pub run_over-requires-clause-label_costs : goal.run_over-requires-clause-label_costs
+run_over-requires-clause-label_costs g c =
+    let A : ℕ → Type 0 = λ k. AreLabelCosts k c.args.problem.label_costs in
+    subst A (sym c.requires.limits.start_labels) (costs_kept c.args.problem.labels c.args.problem.label_costs c.requires.limits.label_costs)
+
+pub returns-clause-bounded : goal.returns-clause-bounded
+returns-clause-bounded g c = bound_in_range c.run_over.result c.run_over.ensures.bounded

@@ -5,9 +5,9 @@ use Rattle.gco_cli.proofs.LabelFaults.{run_fault}
 use Rattle.gco_cli.proofs.label.answer_problem.Goals as goal
 
 pub returns-in_err-run-clause-refused : goal.returns-in_err-run-clause-refused
-returns-in_err-run-clause-refused c =
+returns-in_err-run-clause-refused g c =
     let p = err_from_is_err_and c.from_residual.result c.from_residual.ensures.1 in
-    rw (p.1, p.2) (run_fault (told c.args.problem) c.in_err-run.field-0.0 c.in_err-run.ensures.run c.in_err-run.ensures.refused)
+    rw (p.1, p.2) (run_fault (g.H.How.refuses c.args.how.now) (told c.args.problem) c.in_err-run.field-0.0 c.in_err-run.ensures.run c.in_err-run.ensures.refused)
 
 pub returns-clause-told : goal.returns-clause-told
-returns-clause-told c = search rules
+returns-clause-told g c = search rules

@@ -6,18 +6,20 @@ use Rattle.gco_cli.proofs.tasks.run_task.Goals as goal
 
 pub returns-in_ok-answer-in-Energy-clause-refused : goal.returns-in_ok-answer-in-Energy-clause-refused
 returns-in_ok-answer-in-Energy-clause-refused g c =
+    let refuses = g.H.How.refuses c.args.how.now in
     let known = g.R.Source.remaining c.args.source.now in
     let old = stream (g.W.Sink.held c.args.sink.now) (g.W.Sink.has_failed c.args.sink.now) in
     let new = stream (g.W.Sink.held c.write_text.new.sink) (g.W.Sink.has_failed c.write_text.new.sink) in
     let answer = c.in_ok-answer-in-Energy.answer in
-    rw c.in-Energy.is (cut_in (IsDueFor Energy known) (StandsFor Energy known) old new c.as_slice.result.now answer.text.items answer.said.bytes
+    rw c.in-Energy.is (cut_in (IsDueFor Energy known) (StandsFor refuses Energy known) old new c.as_slice.result.now answer.text.items answer.said.bytes
     c.write_text.result c.as_slice.ensures.value c.in_ok-answer-in-Energy.ensures.due c.write_text.ensures.cut)
 
 pub returns-in_ok-answer-in-Label-clause-refused : goal.returns-in_ok-answer-in-Label-clause-refused
 returns-in_ok-answer-in-Label-clause-refused g c =
+    let refuses = g.H.How.refuses c.args.how.now in
     let known = g.R.Source.remaining c.args.source.now in
     let old = stream (g.W.Sink.held c.args.sink.now) (g.W.Sink.has_failed c.args.sink.now) in
     let new = stream (g.W.Sink.held c.write_text-in-Label.new.sink) (g.W.Sink.has_failed c.write_text-in-Label.new.sink) in
     let answer = c.in_ok-answer-in-Label.answer in
-    rw c.in-Label.is (cut_in (IsDueFor Label known) (StandsFor Label known) old new c.as_slice-in-Label.result.now answer.text.items answer.said.bytes
+    rw c.in-Label.is (cut_in (IsDueFor (Label c.in-Label.bound) known) (StandsFor refuses (Label c.in-Label.bound) known) old new c.as_slice-in-Label.result.now answer.text.items answer.said.bytes
     c.write_text-in-Label.result c.as_slice-in-Label.ensures.value c.in_ok-answer-in-Label.ensures.due c.write_text-in-Label.ensures.cut)

@@ -1,4 +1,7 @@
 use Rattle.std.proofs.Common.{arith}
+use Rattle.toml.specs.View.{table_view}
+use Rattle.label_file.specs.LabelCostFields.{costs_told}
+use Rattle.label_file.proofs.LimitLemmas.{label_costs_kept}
 use Rattle.label_file.proofs.read.rest_of.Goals as goal
 
 pub returns-clause-limits : goal.returns-clause-limits
@@ -12,4 +15,5 @@ returns-clause-limits c = record {
   start_sites = c.in_ok-start.ensures.sizes.0;
   start_labels = c.in_ok-start.ensures.sizes.1;
   cycles_most = (c.in_ok-cycles.ensures.range (omega arith, omega arith)).1;
+  label_costs = label_costs_kept (table_view c.args.table.now) c.args.labels (costs_told c.in_ok-label_costs.label_costs) c.in_ok-label_costs.ensures.ok;
 }

@@ -7,7 +7,7 @@ use Rattle.vision.proofs.job.finish.Goals as goal
 pub new-requires : goal.new-requires
 new-requires c =
     rw (c.width.ensures, c.height.ensures)
-    (labels_fit c.args.source.now c.args.maxval c.args.run.now.labelling.labels c.in_ok-samples.samples.items c.as_slice.result.now
+    (labels_fit c.args.source.now c.args.plan.maxval c.args.run.now.labelling.labels c.in_ok-samples.samples.items c.as_slice.result.now
     c.samples-valid.ensures.valid c.requires.maxval.0 c.requires.maxval.1 (ap length c.as_slice.ensures.value ∙ c.requires.sites)
     c.as_slice.ensures.below c.requires.labels c.in_ok-samples.ensures)
 
@@ -19,11 +19,11 @@ returns-in_err-samples c =
 pub returns-clause-image : goal.returns-clause-image
 returns-clause-image c =
     let same : c.in_ok-samples.samples.items ≡ c.args.run.now.labelling.at = c.in_ok-samples.ensures ∙ c.as_slice.ensures.value in
-    c.new.ensures ∙ (λ k. picture (c.width.ensures k) (c.height.ensures k) c.args.maxval (same k))
+    c.new.ensures ∙ (λ k. picture (c.width.ensures k) (c.height.ensures k) c.args.plan.maxval (same k))
 
 pub returns-clause-valid : goal.returns-clause-valid
 returns-clause-valid c =
     rw (c.new.ensures, c.width.ensures, c.height.ensures)
-    (labels_fit c.args.source.now c.args.maxval c.args.run.now.labelling.labels c.in_ok-samples.samples.items c.as_slice.result.now
+    (labels_fit c.args.source.now c.args.plan.maxval c.args.run.now.labelling.labels c.in_ok-samples.samples.items c.as_slice.result.now
     c.samples-valid.ensures.valid c.requires.maxval.0 c.requires.maxval.1 (ap length c.as_slice.ensures.value ∙ c.requires.sites)
     c.as_slice.ensures.below c.requires.labels c.in_ok-samples.ensures)

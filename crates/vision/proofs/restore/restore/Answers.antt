@@ -1,4 +1,4 @@
-use Rattle.std.proofs.Common.{arith, ◌∙◌, ℕ, ◌+◌, List, ℤ, pos, MatchResult, slice_index, sym, ap, subst}
+use Rattle.std.proofs.Common.{arith, ◌∙◌, ℕ, ◌+◌, Bool, List, ℤ, pos, MatchResult, slice_index, sym, ap, subst}
 use Rattle.cost_store.specs.Promises.{IsTable}
 use Rattle.label_field.specs.Grids.{distance}
 use Rattle.label_field.specs.PairLists.{PairList}
@@ -18,16 +18,16 @@ returns-clause-run g c =
     let p = c.args.picture.now in
     let maxval = c.maxval-maxval.ensures in
     let problem = restore_problem o p in
-    let M : Moves → ℕ → ℕ → Type 0 = λ m k v. MatchResult c.run_job.result (IsFinished (job_of problem m k p v)) (HasRunFault (job_of problem m k p v)) in
-    let J : Plan → Type 0 = λ q. M q.moves q.cycles q.maxval in
+    let M : Moves → ℕ → Bool → ℕ → Type 0 = λ m k b v. MatchResult c.run_job.result (IsFinished (job_of problem m k b p v)) (HasRunFault (job_of problem m k b p v)) in
+    let J : Plan → Type 0 = λ q. M q.moves q.cycles q.bound q.maxval in
     let S : List ℤ → Type 0 = λ t. IsTable (c.maxval-maxval.result + 1) (c.maxval-maxval.result + 1) (shape_cost o.smooth o.trunc) t in
-    subst (M o.moves o.cycles) maxval (subst J c.restore_plan-plan.ensures (c.run_job.ensures.run problem (rw c.new-data_cost.ensures.stored (record {
+    subst (M o.moves o.cycles o.bound) maxval (subst J c.restore_plan-plan.ensures (c.run_job.ensures.run problem (rw c.new-data_cost.ensures.stored (record {
       sites_are = sym (ap (λ (l : PairList). l.sites) c.in_ok-pairs.ensures);
       labels_are = ap (λ v. v + 1) (sym maxval);
       pairs_are = sym (ap (λ (l : PairList). l.list) c.in_ok-pairs.ensures);
       data_are = λ a b z la lb is. is ∙ ap (λ xs. pos (distance (slice_index xs a) b)) c.samples-samples.ensures.value;
       smooth_are = subst S (sym c.as_slice.ensures.value) c.in_ok-smooth.ensures.table;
-    }))))
+    })) (record { each = λ label l. sym (c.in_ok-label_costs.ensures.each label (omega (arith, l, maxval))) })))
 
 pub returns-clause-metric : goal.returns-clause-metric
 returns-clause-metric g c = λ apart.
@@ -38,14 +38,14 @@ returns-clause-metric g c = λ apart.
     let S : List ℤ → Type 0 = λ t. IsTable k k (shape_cost o.smooth o.trunc) t in
     let table = subst S (sym c.as_slice.ensures.value) c.in_ok-smooth.ensures.table in
     c.run_job.ensures.metric (rw c.new-data_cost.ensures.stored
-    (shape_metric_table o.smooth k o.trunc c.as_slice.result.now (omega arith) c.requires.options.trunc_least apart table))
+    (shape_metric_table o.smooth k o.trunc c.as_slice.result.now (omega arith) c.requires.options.run.trunc_least apart table))
     (restore_problem o p) (rw c.new-data_cost.ensures.stored (record {
       sites_are = sym (ap (λ (l : PairList). l.sites) c.in_ok-pairs.ensures);
       labels_are = ap (λ v. v + 1) (sym maxval);
       pairs_are = sym (ap (λ (l : PairList). l.list) c.in_ok-pairs.ensures);
       data_are = λ a b z la lb is. is ∙ ap (λ xs. pos (distance (slice_index xs a) b)) c.samples-samples.ensures.value;
       smooth_are = table;
-    }))
+    })) (record { each = λ label l. sym (c.in_ok-label_costs.ensures.each label (omega (arith, l, maxval))) })
 
 pub returns-in_err-smooth : goal.returns-in_err-smooth
 returns-in_err-smooth g c =
@@ -59,3 +59,8 @@ returns-in_err-pairs g c =
 
 pub returns-clause-cut : goal.returns-clause-cut
 returns-clause-cut g c = c.run_job.ensures.cut
+
+pub returns-in_err-label_costs : goal.returns-in_err-label_costs
+returns-in_err-label_costs g c =
+    let p = err_from_is_err_and c.from_residual-in_err-label_costs.result c.from_residual-in_err-label_costs.ensures.1 in
+    record { run = rw (p.1, p.2) tt; cut = rw (p.1, p.2) tt; metric = λ apart. rw (p.1, p.2) (λ tells. tells) }

@@ -28,7 +28,7 @@ returns-clause-run g c =
       pairs_are = sym (ap (λ (l : PairList). l.list) c.in_ok-pairs.ensures);
       data_are = λ a b z la lb is. is ∙ (λ k. pos (part_cost o (slice_index (c.samples-samples.ensures.value k) a) (slice_index (c.samples-marks.ensures.value k) a) b));
       smooth_are = subst S (sym c.as_slice.ensures.value) c.in_ok-smooth.ensures.table;
-    }))
+    })) (record { each = λ label l. refl })
 
 pub returns-clause-metric : goal.returns-clause-metric
 returns-clause-metric g c =
@@ -42,7 +42,7 @@ returns-clause-metric g c =
       pairs_are = sym (ap (λ (l : PairList). l.list) c.in_ok-pairs.ensures);
       data_are = λ a b z la lb is. is ∙ (λ k. pos (part_cost o (slice_index (c.samples-samples.ensures.value k) a) (slice_index (c.samples-marks.ensures.value k) a) b));
       smooth_are = table;
-    }))
+    })) (record { each = λ label l. refl })
 
 pub returns-in_err-smooth : goal.returns-in_err-smooth
 returns-in_err-smooth g c =

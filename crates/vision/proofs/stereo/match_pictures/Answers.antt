@@ -14,7 +14,7 @@ returns-clause-run g c =
     let o = c.args.options.now in
     let left = c.args.left.now in
     let problem = stereo_problem o left c.args.right.now in
-    let J : ℕ → Type 0 = λ v. MatchResult c.run_job.result (IsFinished (job_of problem o.moves o.cycles left v)) (HasRunFault (job_of problem o.moves o.cycles left v)) in
+    let J : ℕ → Type 0 = λ v. MatchResult c.run_job.result (IsFinished (job_of problem o.moves o.cycles o.bound left v)) (HasRunFault (job_of problem o.moves o.cycles o.bound left v)) in
     let S : List ℤ → Type 0 = λ t. IsTable o.labels o.labels (shape_cost o.smooth o.trunc) t in
     subst J c.max.ensures (c.run_job.ensures.run problem (rw c.new-data_cost.ensures.stored (record {
       sites_are = sym (ap (λ (l : PairList). l.sites) c.in_ok-pairs.ensures);
@@ -22,7 +22,7 @@ returns-clause-run g c =
       pairs_are = sym (ap (λ (l : PairList). l.list) c.in_ok-pairs.ensures);
       data_are = λ a b z la lb is. is;
       smooth_are = subst S (sym c.as_slice.ensures.value) c.in_ok-smooth.ensures.table;
-    })))
+    })) (record { each = λ label l. refl }))
 
 pub returns-clause-metric : goal.returns-clause-metric
 returns-clause-metric g c = λ apart.
@@ -37,7 +37,7 @@ returns-clause-metric g c = λ apart.
       pairs_are = sym (ap (λ (l : PairList). l.list) c.in_ok-pairs.ensures);
       data_are = λ a b z la lb is. is;
       smooth_are = table;
-    }))
+    })) (record { each = λ label l. refl })
 
 pub returns-in_err-smooth : goal.returns-in_err-smooth
 returns-in_err-smooth g c =

@@ -138,3 +138,16 @@ pub returns-in_err-form-clause-variables : goal.returns-in_err-form-clause-varia
 returns-in_err-form-clause-variables g c =
     let p = err_from_is_err_and c.from_residual-in_err-form.result c.from_residual-in_err-form.ensures.1 in
     rw (p.1) tt
+
+pub returns-clause-small : goal.returns-clause-small
+returns-clause-small g c = c.add_pairs.ensures.small
+
+pub returns-in_err-count-clause-small : goal.returns-in_err-count-clause-small
+returns-in_err-count-clause-small g c =
+    let p = err_from_is_err_and c.from_residual.result c.from_residual.ensures.1 in
+    rw (p.1) tt
+
+pub returns-in_err-form-clause-small : goal.returns-in_err-form-clause-small
+returns-in_err-form-clause-small g c =
+    let p = err_from_is_err_and c.from_residual-in_err-form.result c.from_residual-in_err-form.ensures.1 in
+    rw (p.1) tt

@@ -63,3 +63,11 @@ pub returns-in_err-open_all-clause-few : goal.returns-in_err-open_all-clause-few
 returns-in_err-open_all-clause-few g c =
     let p = err_from_is_err_and c.from_residual.result c.from_residual.ensures.1 in
     rw (p.1) tt
+
+pub returns-clause-small : goal.returns-clause-small
+returns-clause-small g c = c.build.ensures.small
+
+pub returns-in_err-open_all-clause-small : goal.returns-in_err-open_all-clause-small
+returns-in_err-open_all-clause-small g c =
+    let p = err_from_is_err_and c.from_residual.result c.from_residual.ensures.1 in
+    rw (p.1) tt

@@ -15,7 +15,7 @@ returns-in_err-decide-clause-built g c = λ m meant.
     rw (p.1, p.2) (c.in_err-decide.ensures.decided m meant)
 
 pub build_open-requires-clause-allowed : goal.build_open-requires-clause-allowed
-build_open-requires-clause-allowed g c = λ m meant. (c.in_ok-decide.ensures.decided m meant).0
+build_open-requires-clause-allowed g c = λ κs lives m meant. (c.in_ok-decide.ensures.decided m meant).0
 
 pub returns-clause-built : goal.returns-clause-built
 returns-clause-built g c = λ m meant.

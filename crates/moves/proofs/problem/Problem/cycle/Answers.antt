@@ -1,29 +1,28 @@
 use Rattle.std.proofs.Common.{rules, ◌≡◌, ◌∙◌, ◌+◌, List, ℕ, length, Some, arith, sym, subst, take, drop, true, false, ap, refl}
 use Rattle.std.specs.Prelude.{slice_get}
-use Rattle.std.proofs.lemmas.Result.{err_from_is_err_and}
 use Rattle.labellings.specs.Moves.{IsMoveOf}
 use Rattle.labellings.specs.Chains.{Leads}
 use Rattle.move_energy.proofs.Whole.{pairs_meant}
 use Rattle.moves.specs.Problems.{IsRefusal}
 use Rattle.moves.specs.Cycles.{moves_of}
-use Rattle.moves.proofs.Answers.{sized_still, run_may_come}
+use Rattle.moves.proofs.Answers.{sized_still, run_may_come, costs_swap}
 use Rattle.moves.proofs.Running.{so_far_starts, so_far_more, moves_split, stopped_leads, ended_leads, ended_known}
 use Rattle.moves.proofs.problem.Problem.cycle.Goals.{then-turned, else-turned}
 use Rattle.moves.proofs.problem.Problem.cycle.Goals as goal
 
 pub returns-then-place-last-clause-cycled : goal.returns-then-place-last-clause-cycled
-returns-then-place-last-clause-cycled g c = λ m meant.
+returns-then-place-last-clause-cycled g c = λ m meant has.
     let stopped = stopped_leads m (moves_of c.args.kind c.args.self.now.data_cost.labels) c.loop-place.place c.args.labelling.now.at c.loop-place.labelling.at c.loop-place.changed c.loop-place.last
-    (c.loop-place.invariant.so_far m meant) c.if-place-last.true in
+    (c.loop-place.invariant.so_far m meant has) c.if-place-last.true in
     (stopped.0, ((λ turned. absurd (cc turned)), λ still. stopped.1))
 
 pub returns-in-Err-clause-cycled : goal.returns-in-Err-clause-cycled
-returns-in-Err-clause-cycled g c = λ m meant.
+returns-in-Err-clause-cycled g c = λ m meant has.
     let moves = moves_of c.args.kind c.args.self.now.data_cost.labels in
     let place = c.loop-place.place in
     let next = c.move_at.result in
-    let so_far = c.loop-place.invariant.so_far m meant in
-    let refused = c.in-Err.ensures.moved m meant in
+    let so_far = c.loop-place.invariant.so_far m meant has in
+    let refused = c.in-Err.ensures.moved m meant has in
     let S : ℕ → Type 0 = λ k. slice_get (moves_of c.args.kind k) place ≡ Some next in
     let here = subst S (c.labels-labels.ensures.value ∙ c.requires.sizes.field_labels) c.move_at.ensures.at in
     let P : List ℕ → Type 0 = λ x. Leads m (take place moves) c.args.labelling.now.at x in
@@ -35,8 +34,8 @@ loop-place-preserved g c = record {
   by_site = c.in-Ok.ensures.by_site;
   labels = c.in-Ok.ensures.sizes.0 ∙ c.loop-place.invariant.labels;
   sites = c.in-Ok.ensures.sizes.1 ∙ c.loop-place.invariant.sites;
-  so_far = λ m meant.
-      let moved = c.in-Ok.ensures.moved m meant in
+  so_far = λ m meant has.
+      let moved = c.in-Ok.ensures.moved m meant has in
       let S : ℕ → Type 0 = λ k. slice_get (moves_of c.args.kind k) c.loop-place.place ≡ Some c.move_at.result in
       let here = subst S (c.labels-labels.ensures.value ∙ c.requires.sizes.field_labels) c.move_at.ensures.at in
       let told : (c.in-Ok.turned ≡ true → (c.if-turned.changed ≡ true) × (c.if-turned.last ≡ c.loop-place.place))
@@ -48,20 +47,20 @@ loop-place-preserved g c = record {
       so_far_more m (moves_of c.args.kind c.args.self.now.data_cost.labels) c.loop-place.place c.move_at.result c.args.labelling.now.at c.loop-place.labelling.at c.make_move.new.labelling.at
       c.loop-place.changed c.if-turned.changed c.in-Ok.turned c.loop-place.last c.if-turned.last
       (pairs_meant _ _ _ _ m _ meant c.as_slice-pairs.ensures.value c.as_slice-pairs.ensures.pairs)
-      (c.loop-place.invariant.so_far m meant) here moved.1 moved.2 moved.3 told.0 told.1;
+      (c.loop-place.invariant.so_far m meant has) here moved.1 moved.2 moved.3 told.0 told.1;
 }
 
 pub returns-clause-cycled : goal.returns-clause-cycled
-returns-clause-cycled g c = λ m meant.
+returns-clause-cycled g c = λ m meant has.
     let all = c.count-place-end.ensures ∙ ap (λ k. length (moves_of c.args.kind k)) (c.labels-labels.ensures.value ∙ c.requires.sizes.field_labels) in
     ended_leads m (moves_of c.args.kind c.args.self.now.data_cost.labels) c.loop-place.place c.args.labelling.now.at c.loop-place.labelling.at c.loop-place.changed c.loop-place.last
-    (c.loop-place.invariant.so_far m meant) (omega (arith, all))
+    (c.loop-place.invariant.so_far m meant has) (omega (arith, all))
 
 pub returns-clause-known : goal.returns-clause-known
-returns-clause-known g c = λ m meant.
+returns-clause-known g c = λ m meant has.
     let all = c.count-place-end.ensures ∙ ap (λ k. length (moves_of c.args.kind k)) (c.labels-labels.ensures.value ∙ c.requires.sizes.field_labels) in
     ended_known m (moves_of c.args.kind c.args.self.now.data_cost.labels) c.loop-place.place c.args.labelling.now.at c.loop-place.labelling.at c.loop-place.changed c.loop-place.last
-    (c.loop-place.invariant.so_far m meant) (omega (arith, all))
+    (c.loop-place.invariant.so_far m meant has) (omega (arith, all))
 
 pub returns-in-Err-clause-metric : goal.returns-in-Err-clause-metric
 returns-in-Err-clause-metric g c = c.in-Err.ensures.metric
@@ -71,7 +70,7 @@ loop-place-init g c = record {
   by_site = c.requires.by_site;
   labels = refl;
   sites = refl;
-  so_far = λ m meant. so_far_starts m (moves_of c.args.kind c.args.self.now.data_cost.labels) c.args.labelling.now.at c.args.last.now (c.requires.known m meant);
+  so_far = λ m meant has. so_far_starts m (moves_of c.args.kind c.args.self.now.data_cost.labels) c.args.labelling.now.at c.args.last.now (c.requires.known m meant has);
 }
 
 pub returns-then-place-last-clause-by_site : goal.returns-then-place-last-clause-by_site
@@ -81,30 +80,30 @@ pub returns-then-place-last-clause-sizes : goal.returns-then-place-last-clause-s
 returns-then-place-last-clause-sizes g c = (c.loop-place.invariant.labels, c.loop-place.invariant.sites)
 
 pub returns-then-place-last-clause-known : goal.returns-then-place-last-clause-known
-returns-then-place-last-clause-known g c = λ m meant i move from here.
-    let so_far = c.loop-place.invariant.so_far m meant in
+returns-then-place-last-clause-known g c = λ m meant has i move from here.
+    let so_far = c.loop-place.invariant.so_far m meant has in
     so_far.known i move from (λ turned. (let l = so_far.passed turned in absurd (omega (arith, l, c.if-place-last.true)))) here
 
 pub returns-then-place-last-clause-refused : goal.returns-then-place-last-clause-refused
 returns-then-place-last-clause-refused g c = tt
 
 pub returns-then-place-last-clause-metric : goal.returns-then-place-last-clause-metric
-returns-then-place-last-clause-metric g c = λ stored m meant. tt
+returns-then-place-last-clause-metric g c = λ stored m meant has. tt
 
 pub make_move-requires-clause-ready : goal.make_move-requires-clause-ready
-make_move-requires-clause-ready g c = c.requires.ready
+make_move-requires-clause-ready g c = λ κs lives. c.requires.ready
 
 pub make_move-requires-clause-sizes : goal.make_move-requires-clause-sizes
-make_move-requires-clause-sizes g c = sized_still _ _ _ _ _ _ c.requires.sizes c.loop-place.invariant.labels c.loop-place.invariant.sites
+make_move-requires-clause-sizes g c = λ κs lives. sized_still _ _ _ _ _ _ c.requires.sizes c.loop-place.invariant.labels c.loop-place.invariant.sites
 
 pub make_move-requires-clause-costs : goal.make_move-requires-clause-costs
-make_move-requires-clause-costs g c = c.requires.costs
+make_move-requires-clause-costs g c = λ κs lives. c.requires.costs
 
 pub make_move-requires-clause-smooth : goal.make_move-requires-clause-smooth
-make_move-requires-clause-smooth g c = c.requires.smooth
+make_move-requires-clause-smooth g c = λ κs lives. c.requires.smooth
 
 pub make_move-requires-clause-by_site : goal.make_move-requires-clause-by_site
-make_move-requires-clause-by_site g c = c.loop-place.invariant.by_site
+make_move-requires-clause-by_site g c = λ κs lives. c.loop-place.invariant.by_site
 
 pub returns-in-Err-clause-by_site : goal.returns-in-Err-clause-by_site
 returns-in-Err-clause-by_site g c = c.in-Err.ensures.by_site
@@ -113,7 +112,7 @@ pub returns-in-Err-clause-sizes : goal.returns-in-Err-clause-sizes
 returns-in-Err-clause-sizes g c = (c.in-Err.ensures.sizes.0 ∙ c.loop-place.invariant.labels, c.in-Err.ensures.sizes.1 ∙ c.loop-place.invariant.sites)
 
 pub returns-in-Err-clause-known : goal.returns-in-Err-clause-known
-returns-in-Err-clause-known g c = λ m meant. tt
+returns-in-Err-clause-known g c = λ m meant has. tt
 
 pub returns-in-Err-clause-refused : goal.returns-in-Err-clause-refused
 returns-in-Err-clause-refused g c =
@@ -133,5 +132,18 @@ returns-clause-sizes g c = (c.loop-place.invariant.labels, c.loop-place.invarian
 pub returns-clause-refused : goal.returns-clause-refused
 returns-clause-refused g c = tt
 
+pub returns-in-Err-clause-own : goal.returns-in-Err-clause-own
+returns-in-Err-clause-own g c = λ is.
+    c.move_at.ensures.kind (costs_swap (g.H.How.refuses c.args.how.now) c.loop-place.labelling.labels c.move_at.result c.in-Err.refusal is c.in-Err.ensures.refused)
+
+pub returns-then-place-last-clause-own : goal.returns-then-place-last-clause-own
+returns-then-place-last-clause-own g c = tt
+
+pub returns-clause-own : goal.returns-clause-own
+returns-clause-own g c = tt
+
 pub returns-clause-metric : goal.returns-clause-metric
-returns-clause-metric g c = λ stored m meant. tt
+returns-clause-metric g c = λ stored m meant has. tt
+
+pub make_move-requires-clause-label_costs : goal.make_move-requires-clause-label_costs
+make_move-requires-clause-label_costs g c = λ κs lives. c.requires.label_costs

@@ -8,7 +8,7 @@ use Rattle.moves.proofs.Changes.{site_has, sites_few, unchosen, rise_more, rise_
 use Rattle.moves.proofs.problem.Problem.data_rise_listed.Goals as goal
 
 pub site_rise-total-requires-clause-site : goal.site_rise-total-requires-clause-site
-site_rise-total-requires-clause-site g c =
+site_rise-total-requires-clause-site g c = λ κs lives.
     let changes = c.requires.changes in
     ((site_has changes.chosen (length c.args.at.now) c.args.sites.now c.loop-index.index changes.listed c.loop-index-test.true).0, c.requires.sites.0)
 

@@ -1,16 +1,16 @@
 use Rattle.moves.proofs.problem.Problem.expand.Goals as goal
 
 pub make_lone_move-requires-clause-ready : goal.make_lone_move-requires-clause-ready
-make_lone_move-requires-clause-ready g c = c.requires.ready
+make_lone_move-requires-clause-ready g c = λ κs lives. c.requires.ready
 
 pub make_lone_move-requires-clause-sizes : goal.make_lone_move-requires-clause-sizes
-make_lone_move-requires-clause-sizes g c = c.requires.sizes
+make_lone_move-requires-clause-sizes g c = λ κs lives. c.requires.sizes
 
 pub make_lone_move-requires-clause-costs : goal.make_lone_move-requires-clause-costs
-make_lone_move-requires-clause-costs g c = c.requires.costs
+make_lone_move-requires-clause-costs g c = λ κs lives. c.requires.costs
 
 pub make_lone_move-requires-clause-smooth : goal.make_lone_move-requires-clause-smooth
-make_lone_move-requires-clause-smooth g c = c.requires.smooth
+make_lone_move-requires-clause-smooth g c = λ κs lives. c.requires.smooth
 
 pub returns-clause-sizes : goal.returns-clause-sizes
 returns-clause-sizes g c = c.make_lone_move.ensures.sizes
@@ -29,3 +29,6 @@ returns-clause-refused g c = c.make_lone_move.ensures.refused
 
 pub returns-clause-metric : goal.returns-clause-metric
 returns-clause-metric g c = c.make_lone_move.ensures.metric
+
+pub make_lone_move-requires-clause-label_costs : goal.make_lone_move-requires-clause-label_costs
+make_lone_move-requires-clause-label_costs g c = λ κs lives. c.requires.label_costs

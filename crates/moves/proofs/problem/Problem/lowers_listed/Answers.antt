@@ -1,6 +1,6 @@
 use Rattle.std.proofs.Common.{◌∙◌, ◌<◌, IsTrue, List, sym, subst}
 use Rattle.std.specs.Prelude.{◌↔◌}
-use Rattle.labellings.specs.Energies.{labelling, energy}
+use Rattle.labellings.specs.Energies.{labelling, plain_energy}
 use Rattle.labellings.specs.Moves.{made}
 use Rattle.move_energy.specs.declared.choice.Choice.{Choice}
 use Rattle.moves.specs.Building.{site_values}
@@ -11,7 +11,7 @@ use Rattle.moves.proofs.problem.Problem.lowers_listed.Goals as goal
 pub returns : goal.returns
 returns g c = λ m meant.
     let P : List Choice → Type 0 = λ choices.
-    IsTrue c.is_negative.result ↔ energy m (made c.args.change (labelling c.args.at.now) (site_values choices)) < energy m (labelling c.args.at.now) in
+    IsTrue c.is_negative.result ↔ plain_energy m (made c.args.change (labelling c.args.at.now) (site_values choices)) < plain_energy m (labelling c.args.at.now) in
     subst P c.as_slice-choices.ensures.value (lower_by c.is_negative.result _ c.data_rise_listed-rise.result c.smooth_rise_listed.result _ _ _ _
     (parts_sum c.data_rise_listed-rise.result c.smooth_rise_listed.result c.data_rise_listed-rise.ensures.range c.smooth_rise_listed.ensures.range)
     (c.data_rise_listed-rise.ensures.rise m (meant.sites_are ∙ sym c.requires.sites.0) (data_meant _ _ _ _ _ m meant c.requires.sites.1))

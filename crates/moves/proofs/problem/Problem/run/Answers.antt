@@ -1,4 +1,4 @@
-use Rattle.std.proofs.Common.{rules, ◌≡◌, ◌∙◌, ◌+◌, List, ℕ, length, suc, arith, ap, refl, sym, subst}
+use Rattle.std.proofs.Common.{rules, ◌≡◌, ◌∙◌, ◌+◌, List, ℕ, length, suc, arith, ap, refl, sym, subst, inl}
 use Rattle.std.proofs.lemmas.Option.{slice_get_within}
 use Rattle.std.proofs.lemmas.Result.{err_from_is_err_and}
 use Rattle.labellings.specs.Chains.{Leads, Cycles}
@@ -8,25 +8,25 @@ use Rattle.moves.proofs.Answers.{sized_still}
 use Rattle.moves.proofs.problem.Problem.run.Goals as goal
 
 pub cycle-requires-clause-known : goal.cycle-requires-clause-known
-cycle-requires-clause-known g c = λ m meant. (c.loop-done.invariant.so_far m meant).1
+cycle-requires-clause-known g c = λ κs lives m meant has. (c.loop-done.invariant.so_far m meant has).1
 
 pub returns-in_err-cycle-clause-run : goal.returns-in_err-cycle-clause-run
-returns-in_err-cycle-clause-run g c = λ m meant.
-    let so_far = (c.loop-done.invariant.so_far m meant).0 in
-    let cycle = c.in_err-cycle.ensures.cycled m meant in
+returns-in_err-cycle-clause-run g c = λ m meant has.
+    let so_far = (c.loop-done.invariant.so_far m meant has).0 in
+    let cycle = c.in_err-cycle.ensures.cycled m meant has in
     let p = err_from_is_err_and c.from_residual.result c.from_residual.ensures.1 in
-    rw (p.1, p.2) (
+    rw (p.1, p.2) (inl (
       cycle.2,
       chain_breaks m (moves_of c.args.kind c.args.self.now.data_cost.labels) c.args.cycles c.loop-done.done c.args.labelling.now.at c.loop-done.labelling.at c.cycle.new.labelling.at
           cycle.0 cycle.1 cycle.2 (omega arith) so_far cycle.3 cycle.4,
       cycle.5,
-    )
+    ))
 
 pub returns-then-not-branch-clause-run : goal.returns-then-not-branch-clause-run
-returns-then-not-branch-clause-run g c = λ m meant.
+returns-then-not-branch-clause-run g c = λ m meant has.
     let moves = moves_of c.args.kind c.args.self.now.data_cost.labels in
-    let so_far = (c.loop-done.invariant.so_far m meant).0 in
-    let cycle = c.in_ok-cycle.ensures.cycled m meant in
+    let so_far = (c.loop-done.invariant.so_far m meant has).0 in
+    let cycle = c.in_ok-cycle.ensures.cycled m meant has in
     let still = cycle.1.1 c.if-not-branch.true in
     let P : List ℕ → Type 0 = λ x. Cycles m moves c.loop-done.done c.args.labelling.now.at x in
     let Q : List ℕ → Type 0 = λ x. Leads m moves x c.cycle.new.labelling.at in
@@ -38,48 +38,59 @@ loop-done-preserved g c = record {
   by_site = c.in_ok-cycle.ensures.by_site;
   labels = c.in_ok-cycle.ensures.sizes.0 ∙ c.loop-done.invariant.labels;
   sites = c.in_ok-cycle.ensures.sizes.1 ∙ c.loop-done.invariant.sites;
-  so_far = λ m meant.
+  so_far = λ m meant has.
       let moves = moves_of c.args.kind c.args.self.now.data_cost.labels in
-      let so_far = (c.loop-done.invariant.so_far m meant).0 in
-      let cycle = c.in_ok-cycle.ensures.cycled m meant in
+      let so_far = (c.loop-done.invariant.so_far m meant has).0 in
+      let cycle = c.in_ok-cycle.ensures.cycled m meant has in
       let P : ℕ → Type 0 = λ n. Cycles m moves n c.args.labelling.now.at c.cycle.new.labelling.at in
       let next : suc c.loop-done.done ≡ c.loop-done.done + 1 = omega arith in (
         subst P next (cycles_more m moves c.loop-done.done c.args.labelling.now.at c.loop-done.labelling.at c.cycle.new.labelling.at so_far cycle.0
             (cycle.1.0 c.if-not-branch.false)),
-        c.in_ok-cycle.ensures.known m meant,
+        c.in_ok-cycle.ensures.known m meant has,
       );
 }
 
 pub returns-clause-run : goal.returns-clause-run
-returns-clause-run g c = λ m meant.
+returns-clause-run g c = λ m meant has.
     let moves = moves_of c.args.kind c.args.self.now.data_cost.labels in
-    let so_far = (c.loop-done.invariant.so_far m meant).0 in
+    let so_far = (c.loop-done.invariant.so_far m meant has).0 in
     let P : ℕ → Type 0 = λ n. Cycles m moves n c.args.labelling.now.at c.loop-done.labelling.at in
     let end : c.loop-done.done ≡ c.args.cycles = omega arith in
     chain_runs_out m moves c.args.cycles c.args.labelling.now.at c.loop-done.labelling.at (subst P end so_far)
 
 pub returns-in_err-cycle-clause-metric : goal.returns-in_err-cycle-clause-metric
-returns-in_err-cycle-clause-metric g c = λ stored m meant.
+returns-in_err-cycle-clause-metric g c = λ stored m meant has.
     let p = err_from_is_err_and c.from_residual.result c.from_residual.ensures.1 in
-    rw (p.1, p.2) (c.in_err-cycle.ensures.metric stored m meant)
+    rw (p.1, p.2) (c.in_err-cycle.ensures.metric stored m meant has)
 
 pub cycle-requires-clause-ready : goal.cycle-requires-clause-ready
-cycle-requires-clause-ready g c = c.requires.ready
+cycle-requires-clause-ready g c = λ κs lives. c.requires.ready
 
 pub cycle-requires-clause-sizes : goal.cycle-requires-clause-sizes
-cycle-requires-clause-sizes g c = sized_still _ _ _ _ _ _ c.requires.sizes c.loop-done.invariant.labels c.loop-done.invariant.sites
+cycle-requires-clause-sizes g c = λ κs lives. sized_still _ _ _ _ _ _ c.requires.sizes c.loop-done.invariant.labels c.loop-done.invariant.sites
 
 pub cycle-requires-clause-costs : goal.cycle-requires-clause-costs
-cycle-requires-clause-costs g c = c.requires.costs
+cycle-requires-clause-costs g c = λ κs lives. c.requires.costs
 
 pub cycle-requires-clause-smooth : goal.cycle-requires-clause-smooth
-cycle-requires-clause-smooth g c = c.requires.smooth
+cycle-requires-clause-smooth g c = λ κs lives. c.requires.smooth
 
 pub cycle-requires-clause-by_site : goal.cycle-requires-clause-by_site
-cycle-requires-clause-by_site g c = c.loop-done.invariant.by_site
+cycle-requires-clause-by_site g c = λ κs lives. c.loop-done.invariant.by_site
 
 pub returns-in_err-cycle-clause-sizes : goal.returns-in_err-cycle-clause-sizes
 returns-in_err-cycle-clause-sizes g c = (c.in_err-cycle.ensures.sizes.0 ∙ c.loop-done.invariant.labels, c.in_err-cycle.ensures.sizes.1 ∙ c.loop-done.invariant.sites)
+
+pub returns-in_err-cycle-clause-own : goal.returns-in_err-cycle-clause-own
+returns-in_err-cycle-clause-own g c =
+    let p = err_from_is_err_and c.from_residual.result c.from_residual.ensures.1 in
+    rw (p.1, p.2) c.in_err-cycle.ensures.own
+
+pub returns-then-not-branch-clause-own : goal.returns-then-not-branch-clause-own
+returns-then-not-branch-clause-own g c = tt
+
+pub returns-clause-own : goal.returns-clause-own
+returns-clause-own g c = tt
 
 pub returns-in_err-cycle-clause-refused : goal.returns-in_err-cycle-clause-refused
 returns-in_err-cycle-clause-refused g c =
@@ -96,7 +107,7 @@ pub returns-then-not-branch-clause-refused : goal.returns-then-not-branch-clause
 returns-then-not-branch-clause-refused g c = tt
 
 pub returns-then-not-branch-clause-metric : goal.returns-then-not-branch-clause-metric
-returns-then-not-branch-clause-metric g c = λ stored m meant. tt
+returns-then-not-branch-clause-metric g c = λ stored m meant has. tt
 
 pub loop-done-smaller : goal.loop-done-smaller
 loop-done-smaller g c = search rules
@@ -108,15 +119,18 @@ pub returns-clause-refused : goal.returns-clause-refused
 returns-clause-refused g c = tt
 
 pub returns-clause-metric : goal.returns-clause-metric
-returns-clause-metric g c = λ stored m meant. tt
+returns-clause-metric g c = λ stored m meant has. tt
 
 pub loop-done-init : goal.loop-done-init
 loop-done-init g c = record {
   by_site = c.requires.by_site;
   labels = refl;
   sites = refl;
-  so_far = λ m meant.
+  so_far = λ m meant has.
       let moves = moves_of c.args.kind c.args.self.now.data_cost.labels in
       let all = c.count-last.ensures ∙ ap (λ k. length (moves_of c.args.kind k)) (c.labels.ensures.value ∙ c.requires.sizes.field_labels) in
       (refl, λ i move from here. (let within = slice_get_within moves i move here in absurd (omega (arith, within, from, all))));
 }
+
+pub cycle-requires-clause-label_costs : goal.cycle-requires-clause-label_costs
+cycle-requires-clause-label_costs g c = λ κs lives. c.requires.label_costs

@@ -9,7 +9,7 @@ use Rattle.moves.proofs.Changes.{site_has, counts_few, counts_whole, rise_more, 
 use Rattle.moves.proofs.problem.Problem.smooth_rise_listed.Goals as goal
 
 pub moved_rise-total-requires-clause-site : goal.moved_rise-total-requires-clause-site
-moved_rise-total-requires-clause-site g c =
+moved_rise-total-requires-clause-site g c = λ κs lives.
     let changes = c.requires.changes in
     (site_has changes.chosen (length c.args.at.now) c.args.sites.now c.loop-index.index changes.listed c.loop-index-test.true).0
 

@@ -1,7 +1,10 @@
-use Rattle.std.proofs.Common.{rules, ◌∙◌, ℕ, List, length, ap, sym, refl, arith}
+use Rattle.std.proofs.Common.{rules, ◌∙◌, ℕ, List, length, ap, sym, subst, refl, arith}
 use Rattle.move_energy.proofs.Whole.{pairs_meant}
 use Rattle.moves.specs.Building.{site_values}
-use Rattle.moves.proofs.Least.{expanded_best, lower_best, kept_best}
+use Rattle.labellings.specs.declared.change.Move.{Move}
+use Rattle.moves.specs.LabelCosts.{costs_of, IsFreeFor}
+use Rattle.moves.proofs.Answers.{costs_free}
+use Rattle.moves.proofs.Least.{expanded_best, lower_best, kept_best, free_le, free_lt}
 use Rattle.labellings.specs.Energies.{labelling}
 use Rattle.labellings.proofs.Best.{stays-reached}
 use Rattle.moves.proofs.Relabelled.{values_reach}
@@ -9,7 +12,7 @@ use Rattle.moves.proofs.Rising.{not_lower}
 use Rattle.moves.proofs.problem.Problem.take_best.Goals as goal
 
 pub returns-in-Expand-clause-best : goal.returns-in-Expand-clause-best
-returns-in-Expand-clause-best g c = λ m meant least.
+returns-in-Expand-clause-best g c = λ m meant has least.
     let a = c.args in
     let pairs = pairs_meant _ _ _ _ m _ meant c.as_slice-pairs.ensures.value c.as_slice-pairs.ensures.pairs in
     let size = c.requires.sizes.field_sites ∙ sym meant.sites_are in (
@@ -19,22 +22,26 @@ returns-in-Expand-clause-best g c = λ m meant least.
     )
 
 pub returns-then-not-lowers-clause-best : goal.returns-then-not-lowers-clause-best
-returns-then-not-lowers-clause-best g c = λ m meant least.
+returns-then-not-lowers-clause-best g c = λ m meant has least.
     let a = c.args in
     let pairs = pairs_meant _ _ _ _ m _ meant c.as_slice-pairs.ensures.value c.as_slice-pairs.ensures.pairs in
+    let F : Move → Type 0 = λ mv. IsFreeFor mv (costs_of a.self.now.label_costs) in
+    let free = costs_free m a.self.now.label_costs has (subst F c.in-Swap.is c.requires.free) in
     let told = rw (c.as_slice.ensures.value) at (c.lowers.ensures m meant) in (
-      kept_best m a.change a.field.now.at (site_values a.room.now.built.variables.choices.items) pairs least (not_lower _ _ c.lowers.result told.1 c.if-not-lowers.true),
+      kept_best m a.change a.field.now.at (site_values a.room.now.built.variables.choices.items) pairs least (free_le m _ _ free (not_lower _ _ c.lowers.result told.1 c.if-not-lowers.true)),
       ((λ yes. absurd (cc yes)), λ still. refl),
     )
 
 pub returns-else-not-lowers-clause-best : goal.returns-else-not-lowers-clause-best
-returns-else-not-lowers-clause-best g c = λ m meant least.
+returns-else-not-lowers-clause-best g c = λ m meant has least.
     let a = c.args in
     let pairs = pairs_meant _ _ _ _ m _ meant c.as_slice-pairs.ensures.value c.as_slice-pairs.ensures.pairs in
     let size = c.requires.sizes.field_sites ∙ sym meant.sites_are in
+    let F : Move → Type 0 = λ mv. IsFreeFor mv (costs_of a.self.now.label_costs) in
+    let free = costs_free m a.self.now.label_costs has (subst F c.in-Swap.is c.requires.free) in
     let told = rw (c.as_slice.ensures.value) at (c.lowers.ensures m meant) in (
       lower_best m a.change a.field.now.at c.relabel-in-Swap.new.labelling.at (site_values a.room.now.built.variables.choices.items) pairs least
-          c.relabel-in-Swap.ensures.sizes.1 (λ p l. c.relabel-in-Swap.ensures.each p (omega (arith, l, size))) (told.0 c.if-not-lowers.false),
+          c.relabel-in-Swap.ensures.sizes.1 (λ p l. c.relabel-in-Swap.ensures.each p (omega (arith, l, size))) (free_lt m _ _ free (told.0 c.if-not-lowers.false)),
       c.relabel-in-Swap.ensures.changed,
     )
 
@@ -61,13 +68,13 @@ pub relabel-requires-clause-choices : goal.relabel-requires-clause-choices
 relabel-requires-clause-choices g c = c.requires.choices
 
 pub lowers-requires-clause-costs : goal.lowers-requires-clause-costs
-lowers-requires-clause-costs g c = c.requires.costs
+lowers-requires-clause-costs g c = λ κs lives. c.requires.costs
 
 pub lowers-requires-clause-smooth : goal.lowers-requires-clause-smooth
-lowers-requires-clause-smooth g c = c.requires.smooth
+lowers-requires-clause-smooth g c = λ κs lives. c.requires.smooth
 
 pub lowers-requires-clause-sites : goal.lowers-requires-clause-sites
-lowers-requires-clause-sites g c = (ap (λ (xs : List ℕ). length xs) c.as_slice.ensures.value ∙ c.requires.sizes.field_sites, c.requires.sizes.data_sites)
+lowers-requires-clause-sites g c = λ κs lives. (ap (λ (xs : List ℕ). length xs) c.as_slice.ensures.value ∙ c.requires.sizes.field_sites, c.requires.sizes.data_sites)
 
 pub lowers-requires-clause-labels : goal.lowers-requires-clause-labels
 lowers-requires-clause-labels g c = search rules
@@ -76,7 +83,7 @@ pub lowers-requires-clause-change : goal.lowers-requires-clause-change
 lowers-requires-clause-change g c = search rules
 
 pub lowers-requires-clause-choices : goal.lowers-requires-clause-choices
-lowers-requires-clause-choices g c = c.requires.choices ∙ sym (ap (λ (xs : List ℕ). length xs) c.as_slice.ensures.value)
+lowers-requires-clause-choices g c = λ κs lives. c.requires.choices ∙ sym (ap (λ (xs : List ℕ). length xs) c.as_slice.ensures.value)
 
 pub returns-then-not-lowers-clause-sizes : goal.returns-then-not-lowers-clause-sizes
 returns-then-not-lowers-clause-sizes g c = (refl, refl)

@@ -1,0 +1,78 @@
+//! Moves on a small grid, on one thread and by workers.
+ghost use Rattle.std.specs.Prelude.{◌≤◌, ◌<◌, ◌+◌, ◌*◌, ◌≤ℤ◌, pos};
+
+use crate::pictures::TWO;
+use cost_store::{DataCost, SmoothCost};
+use label_field::{Labelling, Pairs};
+use moves::{Alone, Ended, How, MoveError, Problem};
+use std::alloc::Global;
+use std::sync::Wait;
+use std::test::Fail;
+use std::thread::Threads;
+use worker_options::{Gate, Options};
+use workers::{Open, Workers};
+
+/// Costs of three labels at nine sites, site first.
+const DATA: [u8; 27] = [
+    0, 2, 3, 3, 0, 2, 1, 0, 3, 0, 1, 3, 3, 1, 0, 2, 0, 2, 3, 3, 0, 0, 2, 2, 1, 2, 0,
+];
+
+const POTTS: [u8; 9] = [0, 1, 1, 1, 0, 1, 1, 1, 0];
+
+/// What an expansion and a run of expansions after it come to, from the label 0 at each site of a grid of 3 by 3.
+fn expanded<H: How>(alloc: Global, how: &H) -> Result<(bool, Ended, Vec<u8>), MoveError>
+    requires { H.ready how.now }
+{
+    let problem = Problem {
+        pairs: Pairs::grid4(alloc, 3, 3, 1)?,
+        data_cost: DataCost::new(
+            |site: u32, label: u32| -> i64
+                requires { site * 3 + label < 27 }
+                ensures { (pos 0 ≤ℤ result) × (result ≤ℤ pos 255) }
+            { i64::from(DATA[(site * 3 + label) as usize]) },
+            9,
+            3,
+        ),
+        smooth_cost: SmoothCost::new(
+            |first: u32, second: u32| -> i64
+                requires { first * 3 + second < 9 }
+                ensures { (pos 0 ≤ℤ result) × (result ≤ℤ pos 255) }
+            { i64::from(POTTS[(first * 3 + second) as usize]) },
+            3,
+        ),
+        label_costs: None,
+    };
+    let mut labelling = Labelling::new(alloc, 9, 3)?;
+    let changed = problem.expand(alloc, &mut labelling, 1, how)?;
+    let ended = problem.run_expansion(alloc, &mut labelling, 10, how)?;
+    let labels = Vec::from_slice(alloc, labelling.as_slice())?;
+    Ok((changed, ended, labels))
+}
+
+/// The same by workers.
+fn expanded_by<R: Threads + Wait + Sync>(
+    rt: &R,
+    alloc: Global,
+    options: Options,
+) -> Result<(bool, Ended, Vec<u8>), MoveError> {
+    let open = Open;
+    let gate: &(dyn Gate + Sync) = &open;
+    let how = Workers {
+        rt,
+        options,
+        gate: &gate,
+    };
+    expanded(alloc, &how)
+}
+
+#[test]
+fn grids_are_alike(rt: HostRuntime) -> Result<(), Fail> {
+    let alloc = rt.alloc();
+    let alone = expanded(alloc, &Alone)?;
+    let two = expanded_by(&rt, alloc, TWO)?;
+    assert!(rt; alone.0 == two.0 && alone.1 == two.1);
+    assert!(rt; alone.2.as_slice() == two.2.as_slice());
+    let bad = expanded_by(&rt, alloc, Options { threads: 65, ..TWO });
+    assert!(rt; matches!(&bad, Err(MoveError::BadOptions)));
+    Ok(())
+}

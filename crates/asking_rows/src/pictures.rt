@@ -1,0 +1,180 @@
+//! A picture restored by workers.
+use byte_streams::Watched;
+use image_options::{Neighbours, RestoreOptions};
+use run_options::{Moves, Shape};
+use std::alloc::{AllocError, Global};
+use std::io;
+use std::io::Write;
+use std::process::Abort;
+use std::sync::Wait;
+use std::sync::atomic::{AtomicU32, Ordering};
+use std::test::Fail;
+use std::thread::Threads;
+use vision::{Report, run_restore};
+use worker_options::{Gate, Options};
+use workers::Workers;
+
+/// Two threads, and the other options as a command line has them that tells none.
+pub const TWO: Options = Options {
+    threads: 2,
+    blocks: 16,
+    ring: 64,
+    turns: 4_096,
+    rounds: 64,
+};
+
+/// The same with few turns and rounds, so that a test ends soon on a busy machine.
+const SHORT: Options = Options {
+    turns: 256,
+    rounds: 4,
+    ..TWO
+};
+
+const RESTORE: RestoreOptions = RestoreOptions {
+    smooth: Shape::Potts,
+    trunc: 1,
+    weight: 1,
+    neighbours: Neighbours::Four,
+    moves: Moves::Expansion,
+    cycles: 100,
+    label_cost: None,
+    bound: false,
+};
+
+/// Counts how often it is asked. Its answer is always the same.
+#[derive(Drop)]
+pub struct Counter {
+    pub calls: AtomicU32,
+    pub answer: bool,
+}
+
+impl Gate for Counter {
+    fn pass(&self, _block: u32, _turn: u32) -> bool {
+        self.calls.fetch_add(1, Ordering::SeqCst);
+        self.answer
+    }
+}
+
+/// A writer that keeps what it takes.
+#[derive(Drop)]
+pub struct Kept {
+    pub bytes: Vec<u8>,
+}
+
+impl Write for Kept {
+    fn write(&mut self, buf: &[u8]) -> io::Result<usize> {
+        self.bytes.extend_from_slice(buf)?;
+        Ok(buf.len())
+    }
+
+    fn flush(&mut self) -> io::Result<()> {
+        Ok(())
+    }
+}
+
+/// A picture of 64 by 64 samples, 3 in each fourth column and else 0.
+fn striped(alloc: Global) -> Result<Vec<u8>, AllocError> {
+    let mut picture = Vec::from_slice(alloc, b"P5\n64 64\n3\n")?;
+    for _ in 0..64 {
+        for _ in 0..16 {
+            picture.extend_from_slice(&[0, 3, 0, 0])?;
+        }
+    }
+    Ok(picture)
+}
+
+/// Whether workers restore the picture to itself, as energies say.
+fn is_kept<R: Threads + Wait + Sync + Abort>(
+    rt: &R,
+    alloc: Global,
+    picture: &[u8],
+    options: Options,
+    gate: &(dyn Gate + Sync),
+) -> bool {
+    let how = Workers {
+        rt,
+        options,
+        gate: &gate,
+    };
+    let mut writer = Kept {
+        bytes: Vec::new(alloc),
+    };
+    let mut sink = Watched {
+        writer: &mut writer,
+        has_failed: false,
+    };
+    assert!(*rt; RESTORE.fits());
+    let report = run_restore(alloc, picture, &RESTORE, &how, &mut sink);
+    report
+        == Ok(Report {
+            energy: 2_048,
+            data_part: 0,
+            smooth_part: 2_048,
+            label_part: 0,
+            bound: None,
+        })
+        && writer.bytes.as_slice() == picture
+}
+
+/// How often a gate that always gives this answer is asked, where the picture is restored to itself.
+fn asked<R: Threads + Wait + Sync + Abort>(
+    rt: &R,
+    alloc: Global,
+    options: Options,
+    answer: bool,
+) -> Result<Option<u32>, AllocError> {
+    let picture = striped(alloc)?;
+    let counter = Counter {
+        calls: AtomicU32::new(0),
+        answer,
+    };
+    if is_kept(rt, alloc, picture.as_slice(), options, &counter) {
+        Ok(Some(counter.calls.load(Ordering::SeqCst)))
+    } else {
+        Ok(None)
+    }
+}
+
+#[test]
+fn workers_asked(rt: HostRuntime) -> Result<(), Fail> {
+    let calls = asked(&rt, rt.alloc(), TWO, true)?;
+    assert!(rt; matches!(calls, Some(calls) if calls >= 16));
+    Ok(())
+}
+
+/// The picture is the same whatever the options are and whatever the gate answers. Without rounds the gate is not asked.
+#[test]
+fn pictures_are_alike(rt: HostRuntime) -> Result<(), Fail> {
+    let alloc = rt.alloc();
+    assert!(rt; asked(&rt, alloc, SHORT, false)?.is_some());
+    assert!(rt;
+        asked(
+            &rt,
+            alloc,
+            Options {
+                threads: 8,
+                ..SHORT
+            },
+            true
+        )?
+        .is_some()
+    );
+    assert!(rt; asked(&rt, alloc, Options { ring: 1, ..SHORT }, true)?.is_some());
+    assert!(rt; asked(&rt, alloc, Options { rounds: 0, ..SHORT }, true)? == Some(0));
+    Ok(())
+}
+
+#[test]
+fn many_blocks_are_alike(rt: HostRuntime) -> Result<(), Fail> {
+    let calls = asked(
+        &rt,
+        rt.alloc(),
+        Options {
+            blocks: 256,
+            ..SHORT
+        },
+        true,
+    )?;
+    assert!(rt; calls.is_some());
+    Ok(())
+}

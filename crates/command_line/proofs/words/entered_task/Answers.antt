@@ -1,7 +1,0 @@
-use Rattle.clap.specs.Words.{found_of, rows_of, subcommand_rows_of}
-use Rattle.command_line.proofs.Lacking.{not_met}
-use Rattle.command_line.proofs.words.entered_task.Goals as goal
-
-pub returns-in-Some-clause-unmet : goal.returns-in-Some-clause-unmet
-returns-in-Some-clause-unmet c =
-    not_met (subcommand_rows_of c.args.matches.now) c.in-Some.name.now (rows_of (found_of c.in-Some.inner.now)) c.task_of.result c.in-Some.ensures c.task_of.ensures.unmet

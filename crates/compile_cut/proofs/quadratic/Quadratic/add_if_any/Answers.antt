@@ -1,0 +1,38 @@
+use Rattle.std.proofs.Common.{arith, ◌≡◌, ◌<◌, ◌∙◌, ap, ℕ, Bool, true, false, not, ◌&&◌, pos, [], ◌∷◌, ◌++◌, All, length}
+use Rattle.std.specs.List.{list_any, sum_by}
+use Rattle.std.proofs.lemmas.Int.{ints}
+use Rattle.sums.specs.Sums.{counted}
+use Rattle.compile_cut.specs.declared.quadratic.Quadratic.{Quadratic}
+use Rattle.compile_cut.specs.Weights.{weights_value, arcs_value}
+use Rattle.compile_cut.specs.Form.{quadratic_value}
+use Rattle.compile_cut.proofs.WeightLemmas.{weights_value-push, weights_value-same, arcs_value-same}
+use Rattle.compile_cut.proofs.TiedLemmas.{paid, paid_once, paid_never, any-same, IsTiedAt, tied_lower, tied_reached, true_or_false, out_none, out_some, any_pays, any_saves, cast_is}
+use Rattle.compile_cut.proofs.quadratic.Quadratic.add_if_any.Goals as goal
+
+pub returns-clause-value : goal.returns-clause-value
+returns-clause-value c =
+    let old = c.args.self.now in
+    let ws = old.weights.items in
+    let nodes = c.args.nodes.now in
+    let cost = c.args.cost in
+    let full = old.weights.ok.0 in
+    let items : c.push.new.self.items ≡ ws ++ pos cost ∷ [] = rw (cast_is cost (omega (arith, c.requires.cost))) at c.in_ok-push.ensures.items in
+    let place : c.len-hidden.result ≡ length ws = c.len-hidden.ensures ∙ full in
+    let new : Quadratic = record { constant = old.constant; weights = c.push.new.self; arcs = c.add_arcs_from.new.arcs } in
+    let weights = λ (x : ℕ → Bool). ap (λ us. weights_value us x) items ∙ weights_value-push ws (pos cost) x in
+    let below : All (λ node. node < length ws) nodes = rw full at c.requires.nodes in
+    let tied : IsTiedAt (length ws) (quadratic_value old) (quadratic_value new) cost (λ x. list_any x nodes) (λ x. paid x nodes cost) true false = record {
+      either = true_or_false;
+      at_pays = λ x is. any_pays old.constant (weights_value ws x) (weights_value c.push.new.self.items x) (arcs_value old.arcs.items x) (arcs_value c.add_arcs_from.new.arcs.items x)
+          (sum_by (λ node. counted (x node && not (x (length ws))) cost) nodes) cost (x (length ws)) (weights x) (rw place at (c.in_ok-add_arcs_from.ensures.value x)) is (out_none x (length ws) nodes cost is);
+      at_saves = λ x is. any_saves old.constant (weights_value ws x) (weights_value c.push.new.self.items x) (arcs_value old.arcs.items x) (arcs_value c.add_arcs_from.new.arcs.items x)
+          (sum_by (λ node. counted (x node && not (x (length ws))) cost) nodes) (paid x nodes cost) cost (x (length ws)) (weights x) (rw place at (c.in_ok-add_arcs_from.ensures.value x)) is (out_some x (length ws) nodes cost is);
+      once = λ x. paid_once x nodes cost;
+      never = λ x none. paid_never x nodes cost none;
+      old_same = λ x y shown. omega (arith, ints, weights_value-same ws x y shown, arcs_value-same (length ws) old.arcs.items x y shown (rw full at c.requires.bounded.arcs));
+      some_same = λ x y shown. any-same (length ws) x y nodes below shown;
+    } in
+    record {
+      lower = λ x. tied_lower (length ws) (quadratic_value old) (quadratic_value new) cost (λ x. list_any x nodes) (λ x. paid x nodes cost) true false tied x;
+      reached = λ x. rw full (tied_reached (length ws) (quadratic_value old) (quadratic_value new) cost (λ x. list_any x nodes) (λ x. paid x nodes cost) true false tied x);
+    }

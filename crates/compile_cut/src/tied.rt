@@ -1,0 +1,86 @@
+ghost use Rattle.std.specs.Prelude.{◌≡◌, ℕ, ◌+◌, ◌*◌, ◌<◌, ◌≤◌, Bool, not, ◌&&◌, All, length, sum_by, vec_len, OnOk};
+ghost use Rattle.std.specs.List.{list_all, list_any};
+ghost use Rattle.sums.specs.Sums.{counted};
+ghost use Rattle.pseudo_bool.specs.Limits.{value_limit, term_limit};
+ghost use Rattle.flow_network.specs.Cut.{IsArc};
+ghost use Rattle.compile_cut.specs.Limits.{form_nodes};
+ghost use Rattle.compile_cut.specs.Weights.{arcs_value, arcs_size, IsAbove};
+ghost use Rattle.compile_cut.specs.Form.{IsBounded, AddsLeast, IsTied};
+
+use crate::adding::add_arc;
+use crate::quadratic::Quadratic;
+use flow_network::Arc;
+use std::alloc::AllocError;
+
+/// Adds an arc from each node to one node.
+fn add_arcs_to(arcs: &mut Vec<Arc>, nodes: &[u32], to: u32, capacity: u64) -> Result<(), AllocError>
+    ensures value { OnOk result ((x : ℕ → Bool) → arcs_value arcs.new.items x ≡ arcs_value arcs.old.items x
+        + sum_by (λ node. counted (x to && not (x node)) capacity) nodes.now) }
+    ensures size { OnOk result (arcs_size arcs.new.items ≡ arcs_size arcs.old.items
+        + capacity * length nodes.now) }
+    ensures nodes { OnOk result ((n : ℕ) → to < n → All (λ node. node < n) nodes.now
+        → All (IsArc n) arcs.old.items → All (IsArc n) arcs.new.items) }
+    ensures above { OnOk result (All IsAbove arcs.old.items → All IsAbove arcs.new.items) }
+{
+    for index in 0..nodes.len() {
+        add_arc(arcs, nodes[index], to, capacity)?;
+    }
+    Ok(())
+}
+
+/// Adds an arc from one node to each node.
+fn add_arcs_from(
+    arcs: &mut Vec<Arc>,
+    from: u32,
+    nodes: &[u32],
+    capacity: u64,
+) -> Result<(), AllocError>
+    ensures value { OnOk result ((x : ℕ → Bool) → arcs_value arcs.new.items x ≡ arcs_value arcs.old.items x
+        + sum_by (λ node. counted (x node && not (x from)) capacity) nodes.now) }
+    ensures size { OnOk result (arcs_size arcs.new.items ≡ arcs_size arcs.old.items
+        + capacity * length nodes.now) }
+    ensures nodes { OnOk result ((n : ℕ) → from < n → All (λ node. node < n) nodes.now
+        → All (IsArc n) arcs.old.items → All (IsArc n) arcs.new.items) }
+    ensures above { OnOk result (All IsAbove arcs.old.items → All IsAbove arcs.new.items) }
+{
+    for index in 0..nodes.len() {
+        add_arc(arcs, from, nodes[index], capacity)?;
+    }
+    Ok(())
+}
+
+impl Quadratic {
+    /// Adds a cost that is paid unless each of these nodes is 1, by a hidden node behind all others: of the sets that are
+    /// the same on the other nodes, the least value is the old one and the cost, or the old one where each is 1. Refuses
+    /// only where memory runs out, and then nothing is said of the form.
+    pub fn add_unless_all(&mut self, nodes: &[u32], cost: u64) -> Result<(), AllocError>
+        requires bounded { IsBounded term_limit self.old }
+        requires room { vec_len self.old.weights < form_nodes }
+        requires nodes { All (λ node. node < vec_len self.old.weights) nodes.now }
+        requires cost { cost ≤ value_limit }
+        ensures tied { OnOk result (IsTied (length nodes.now + 1) cost self.old self.new) }
+        ensures value { OnOk result (AddsLeast self.old self.new
+            (λ x. counted (not (list_all x nodes.now)) cost)) }
+    {
+        let hidden = self.weights.len() as u32;
+        self.weights.push(-(cost as i64))?;
+        add_arcs_to(&mut self.arcs, nodes, hidden, cost)?;
+        self.constant += cost as i64;
+        Ok(())
+    }
+
+    /// Adds a cost that is paid if any of these nodes is 1, by a hidden node, as `add_unless_all` does.
+    pub fn add_if_any(&mut self, nodes: &[u32], cost: u64) -> Result<(), AllocError>
+        requires bounded { IsBounded term_limit self.old }
+        requires room { vec_len self.old.weights < form_nodes }
+        requires nodes { All (λ node. node < vec_len self.old.weights) nodes.now }
+        requires cost { cost ≤ value_limit }
+        ensures tied { OnOk result (IsTied (length nodes.now + 1) cost self.old self.new) }
+        ensures value { OnOk result (AddsLeast self.old self.new (λ x. counted (list_any x nodes.now) cost)) }
+    {
+        let hidden = self.weights.len() as u32;
+        self.weights.push(cost as i64)?;
+        add_arcs_from(&mut self.arcs, hidden, nodes, cost)?;
+        Ok(())
+    }
+}

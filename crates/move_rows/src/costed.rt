@@ -1,0 +1,218 @@
+//! Small random moves and runs where labels cost something by themselves, and the bounds of settled runs, against answers
+//! worked out over all labellings.
+ghost use Rattle.std.specs.Prelude.{◌≡◌, ◌≤◌, ◌<◌, ◌+◌, ◌*◌, ◌≤ℤ◌, pos, length, ℕ, IsTrue, IfOk, All};
+ghost use Rattle.labellings.specs.Energies.{IsMetric};
+ghost use Rattle.cost_store.specs.Limits.{data_limit, smooth_limit};
+ghost use Rattle.cost_store.specs.Promises.{Answers, IsCost, Keeps, KeepsSmooth, entry_at};
+ghost use Rattle.move_energy.specs.Problems.{AreSized};
+ghost use Rattle.moves.specs.LabelCosts.{AreLabelCosts};
+
+use crate::costs::COSTED;
+use crate::random::{
+    BYTES, CutAlone, DATA, SMOOTH, digit, is_answered, number, number_of, pairs_of, start_of,
+};
+use cost_store::{DataCost, SmoothCost, check_table, is_metric};
+use label_field::Labelling;
+use moves::{Alone, How, MoveError, Problem};
+use std::alloc::{AllocError, Global};
+use std::process::Abort;
+use std::test::Fail;
+
+/// How many bytes a row has: those of `random`; what each of four labels costs by itself; the label energy after, of eight
+/// digits; the two numbers of the bound, of five digits each, 0 and 0 where there is none; and the least energy of all
+/// labellings, of nine digits.
+const COSTED_BYTES: usize = 129;
+
+/// A number of so many digits.
+fn decimal(row: &[u8; COSTED_BYTES], from: usize, digits: usize) -> u32
+    requires { from + digits ≤ 129 }
+{
+    let mut number: u32 = 0;
+    for place in from..from + digits {
+        number = number
+            .saturating_mul(10)
+            .saturating_add(number_of(row[place], 9));
+    }
+    number
+}
+
+/// What each of four labels costs by itself.
+fn costs_of(row: &[u8; COSTED_BYTES]) -> [i64; 4] {
+    [
+        i64::from(number_of(row[98], DATA)),
+        i64::from(number_of(row[99], DATA)),
+        i64::from(number_of(row[100], DATA)),
+        i64::from(number_of(row[101], DATA)),
+    ]
+}
+
+/// The table of the smooth costs of so many labels.
+fn smooth_of(
+    rt: &impl Abort,
+    alloc: Global,
+    row: &[u8; BYTES],
+    labels: u32,
+) -> Result<Vec<i64>, AllocError>
+    requires { labels ≤ 4 }
+    ensures size { IfOk result (λ table. length table.items ≡ labels * labels) }
+    ensures costs { IfOk result (λ table. All (IsCost smooth_limit) table.items) }
+{
+    let mut table = Vec::new(alloc);
+    for first in 0..labels {
+        for second in 0..labels {
+            let place = 33 + (first * 4 + second) as usize;
+            table.push(i64::from(number(row, place, SMOOTH)))?;
+        }
+    }
+    let is_table = check_table(table.as_slice(), 10_000).is_ok();
+    assert!(*rt; is_table && table.len() == labels as usize * labels as usize);
+    Ok(table)
+}
+
+/// Stores a closure of smooth costs, as a metric where its table is one.
+fn stored<V: Fn(u32, u32) -> i64>(cost: V, labels: u32, by_metric: bool) -> SmoothCost<V>
+    requires keeps { Keeps (V.pre cost) (V.post cost) labels labels smooth_limit }
+    requires metric { IsTrue by_metric → (table : ℕ → ℕ → ℕ) →
+        Answers (V.post cost) table labels labels → IsMetric labels table }
+    ensures stored { result ≡ record { v = cost; labels = labels; by_metric = by_metric } }
+    ensures keeps { KeepsSmooth (V.pre result.v) (V.post result.v) result.labels result.by_metric }
+{
+    if by_metric {
+        SmoothCost::metric(cost, labels)
+    } else {
+        SmoothCost::new(cost, labels)
+    }
+}
+
+/// Whether the bound is that of a row, and a settled run of expansions has ended within it.
+fn is_bounded<F: Fn(u32, u32) -> i64 + Sync, V: Fn(u32, u32) -> i64 + Sync>(
+    problem: &Problem<F, V>,
+    labelling: &Labelling,
+    row: &[u8; COSTED_BYTES],
+    is_settled: bool,
+) -> bool
+    requires sizes { AreSized problem.now.pairs problem.now.data_cost.sites problem.now.data_cost.labels
+        problem.now.smooth_cost.labels labelling.now }
+    requires costs { Keeps (F.pre problem.now.data_cost.f) (F.post problem.now.data_cost.f)
+        problem.now.data_cost.sites problem.now.data_cost.labels data_limit }
+    requires smooth { KeepsSmooth (V.pre problem.now.smooth_cost.v) (V.post problem.now.smooth_cost.v)
+        problem.now.smooth_cost.labels problem.now.smooth_cost.by_metric }
+    requires label_costs { AreLabelCosts problem.now.data_cost.labels problem.now.label_costs }
+{
+    let told = (decimal(row, 110, 5), decimal(row, 115, 5));
+    match problem.expansion_bound() {
+        Ok(bound) => {
+            let energy = problem.energy(labelling).unsigned_abs();
+            let least = u64::from(decimal(row, 120, 9));
+            let is_near = bound.vmin.saturating_mul(energy)
+                <= bound.vmax.saturating_mul(2).saturating_mul(least);
+            (bound.vmin, bound.vmax) == (u64::from(told.0), u64::from(told.1))
+                && (is_near || !is_settled)
+        }
+        Err(error) => error == MoveError::NoBound && told == (0, 0),
+    }
+}
+
+/// Whether a row is right.
+fn is_right<H: How>(
+    rt: &impl Abort,
+    alloc: Global,
+    row: &[u8; COSTED_BYTES],
+    how: &H,
+) -> Result<bool, AllocError>
+    requires { H.ready how.now }
+{
+    let mut moved = [0; BYTES];
+    moved.copy_from_slice(&row[..BYTES]);
+    let (sites, labels) = (digit(&moved, 0), digit(&moved, 1));
+    assert!(*rt; sites <= 6 && 1 <= labels && labels <= 4);
+    let pairs = pairs_of(rt, alloc, &moved, sites);
+    let mut labelling = start_of(rt, alloc, &moved, sites, labels);
+    assert!(*rt;
+        pairs.sites() == sites && labelling.sites() == sites && labelling.labels() == labels
+    );
+    let table = smooth_of(rt, alloc, &moved, labels)?;
+    let smooth = table.as_slice();
+    let cost = |first: u32, second: u32| -> i64
+        requires { (first * labels + second < length smooth.now) × (labels ≤ 256) }
+        ensures { result ≡ entry_at labels smooth.entry.now first second }
+    { smooth[first as usize * labels as usize + second as usize] };
+    let mut problem = Problem {
+        pairs,
+        data_cost: DataCost::new(
+            |site: u32, label: u32| -> i64
+                requires { (site < 6) × (label < 4) }
+                ensures { (pos 0 ≤ℤ result) × (result ≤ℤ pos 10000000) }
+            { i64::from(number(&moved, 9 + (site * 4 + label) as usize, DATA)) },
+            sites,
+            labels,
+        ),
+        smooth_cost: stored(cost, labels, is_metric(smooth, labels)),
+        label_costs: None,
+    };
+    let Ok(()) = problem.set_label_costs(alloc, &costs_of(row)[..labels as usize]) else {
+        return Ok(false);
+    };
+    let label_energy = i64::from(decimal(row, 102, 8));
+    let is_answered = is_answered(
+        &problem,
+        alloc,
+        &mut labelling,
+        &moved,
+        label_energy,
+        &[],
+        how,
+    );
+    let is_settled = digit(&moved, 3) == 2 && digit(&moved, 5) == 1;
+    Ok(is_answered && is_bounded(&problem, &labelling, row, is_settled))
+}
+
+/// Moves and runs worked by hand, each a row of this table's form.
+const WORKED: [&[u8; COSTED_BYTES]; 11] = [
+    // From 14, expanding 1 reaches 11 by 1 1; 0 1 costs 13.
+    b"230291200039093000000000000000000011010101100000000000011000000000000000000000000000000006000000005550000000050000000000000000011",
+    // With labels that cost 2 each, 0 2 is best.
+    b"230291200039093000000000000000000011010101100000000000002000000000000000000000000000000000000000002220000000040000000000000000004",
+    // 0 1 and 1 1 both cost 9: label 1 at the fewer sites.
+    b"220291200030093000000000000000000010010000000000000000001000000000000000000000000000000003000000003300000000060000000000000000009",
+    // Swaps where label 1 costs something by itself, in some cycles, in none, and one; label 2 is refused first.
+    b"220394000030093000000000000000000010010000000000000000000000000000000000000000000000000009000000000100000000000000000000000000004",
+    b"220304000030093000000000000000000010010000000000000000000000000000000000000000000000000009000000000100000000000000000000000000004",
+    b"220104001030093000000000000000000010010000000000000000000000000000000000000000000000000009000000000100000000000000000000000000004",
+    b"220103002030093000000000000000000010010000000000000000000000000000000000000000000000000009000000000100000000000000000000000000004",
+    // Label costs that are all 0 refuse no swap, and leave the bound.
+    b"220391200030093000000000000000000010010000000000000000001000000000000000000000000000000003000000000000000000000000100001000000003",
+    // A picture of three pixels, whose labels cost 1 each, and nothing.
+    b"342291100012332100123000000000000011110111101111000000000000001112100000000000000000000003000000001111000000010000000000000000004",
+    b"342291200012332100123000000000000011110111101111000000003000001112100000000000000000000000000000020000000000000000100001000000002",
+    // One label: both numbers of its bound are 1.
+    b"110211100700000000000000000000000000000000000000000000000000000000000000000000000000000007000000000000000000000000100001000000007",
+];
+
+/// Whether a row is right, with sites decided first where that may be, and without.
+fn is_right_both_ways(
+    rt: &impl Abort,
+    alloc: Global,
+    row: &[u8; COSTED_BYTES],
+) -> Result<bool, AllocError> {
+    Ok(is_right(rt, alloc, row, &Alone)? && is_right(rt, alloc, row, &CutAlone)?)
+}
+
+#[test]
+fn costed_moves_worked_by_hand(rt: HostRuntime) -> Result<(), Fail> {
+    for (place, row) in WORKED.iter().enumerate() {
+        assert!(rt; is_right_both_ways(&rt, rt.alloc(), row)?, "row {place}");
+    }
+    Ok(())
+}
+
+#[test]
+fn costed_moves_are_best(rt: HostRuntime) -> Result<(), Fail> {
+    assert!(rt; COSTED.len() == COSTED_BYTES * 600);
+    for place in 0..600 {
+        let mut row = [0; COSTED_BYTES];
+        row.copy_from_slice(&COSTED[COSTED_BYTES * place..COSTED_BYTES * place + COSTED_BYTES]);
+        assert!(rt; is_right_both_ways(&rt, rt.alloc(), &row)?, "row {place}");
+    }
+    Ok(())
+}
