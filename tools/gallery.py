@@ -4,7 +4,7 @@
     gallery.py --gco crates/gco/out/gco examples docs
 
 Reads the pictures of `examples/`, runs `gco restore`, `gco stereo` and `gco segment` on them, and writes
-`restored.png`, `disparities.png` and `segments.png` into the folder that is named last. Only Python's own library
+`restored.png`, `levels.png`, `disparities.png` and `segments.png` into the folder that is named last. Only Python's own library
 is used.
 """
 import argparse
@@ -101,6 +101,8 @@ def main():
     with open(noisy, 'rb') as file:
         picture = read_pgms(file.read())[0]
     write_png(options.docs + '/restored.png', beside([greys(picture), greys(potts), greys(linear)]))
+    few = run(options.gco, ['restore', '--weight', '4', '--label-cost', '50'], noisy)
+    write_png(options.docs + '/levels.png', beside([greys(picture), greys(potts), greys(few)]))
 
     dots = options.examples + '/dots.pgm'
     disparities = run(options.gco, ['stereo', '--labels', '8', '--weight', '30', '--cap', '80'], dots)
