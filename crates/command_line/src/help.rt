@@ -15,7 +15,7 @@ Exit status:
 Example:
   gco restore --smooth linear --trunc 40 < noisy.pgm > restored.pgm
 
-`gco COMMAND --help` says what a command reads and writes, and when `--threads` pays.";
+`gco COMMAND --help` says what a command reads and writes, and what `--threads` does.";
 
 /// The command whose help has a text after the options.
 pub enum After {
@@ -55,8 +55,8 @@ With `--bound` the line `bound A B` comes after it: A times the energy is at mos
 picture. It is `bound none` where no such numbers are known: after swaps, where the last cycle still
 changed something, with a label cost above 0, and for costs that are no metric, as quadratic ones mostly.
 
-`--threads` pays for large pictures with heavy cuts, as of weights from 4 on.
-Where moves leave fewer than some 20000 pixels undecided, threads cost more time than they save.
+`--threads` has workers make each cut; the picture is the same. A cut of some 250000 undecided pixels and
+more may be quicker so, by a tenth to a fifth; smaller cuts take longer, and so do most whole runs.
 
 Exit status: 0 answered, 1 refused (standard error has one line `refused N ..`), 2 not understood.
 
@@ -78,8 +78,8 @@ With `--bound` the line `bound A B` comes after it: A times the energy is at mos
 labels. It is `bound none` where no such numbers are known: after swaps, where the last cycle still
 changed something, and for costs that are no metric, as quadratic ones mostly are.
 
-`--threads` pays for large pictures with heavy cuts, as of weights from 4 on.
-Where moves leave fewer than some 20000 pixels undecided, threads cost more time than they save.
+`--threads` has workers make each cut; the picture is the same. A cut of some 250000 undecided pixels and
+more may be quicker so, by a tenth to a fifth; smaller cuts take longer, and so do most whole runs.
 
 Exit status: 0 answered, 1 refused (standard error has one line `refused N ..`), 2 not understood.
 
@@ -97,8 +97,8 @@ an image with the label of each pixel. A free pixel's label costs its difference
 0) or the high one (label 1), a seed's other label 10000000. Two neighbours of unlike labels cost `strong`,
 or `weak` where an edge runs between them. Then standard error has the line `energy E data D smooth S`.
 
-`--threads` pays for large pictures with heavy cuts, as of weights from 4 on.
-Where moves leave fewer than some 20000 pixels undecided, threads cost more time than they save.
+`--threads` has workers make each cut; the picture is the same. A cut of some 250000 undecided pixels and
+more may be quicker so, by a tenth to a fifth; smaller cuts take longer, and so do most whole runs.
 
 Exit status: 0 answered, 1 refused (standard error has one line `refused N ..`), 2 not understood.
 
@@ -163,7 +163,8 @@ with the table of their values. Each term has to be regular.
 Writes two lines: `minimum M`, and `assignment` with one digit for each variable. Of the least
 assignments it is the one with the fewest ones.
 
-`--threads` pays for large energies, of some 200000 variables and more.
+`--threads` has workers make the cut; the answer is the same. With some 250000 variables and more it may
+be quicker so, by a tenth to a fifth; with fewer it takes longer.
 
 Exit status: 0 answered, 1 refused (standard error has one line `refused N ..`), 2 not understood.
 
@@ -192,8 +193,8 @@ With `--bound` a third line is `bound A B`: A times the energy is at most B time
 It is `bound none` where no such numbers are known: after swaps, where the last cycle still changed
 something, with a label cost above 0, and where smooth is no metric, as quadratic costs mostly are none.
 
-`--threads` pays for many sites with heavy cuts, as of weights from 4 on.
-Where moves leave fewer than some 20000 sites undecided, threads cost more time than they save.
+`--threads` has workers make each cut; the labels are the same. A cut of some 250000 undecided sites and
+more may be quicker so, by a tenth to a fifth; smaller cuts take longer, and so do most whole runs.
 
 Exit status: 0 answered, 1 refused (standard error has one line `refused N ..`), 2 not understood.
 
