@@ -56,7 +56,7 @@ picture. It is `bound none` where no such numbers are known: after swaps, where 
 changed something, with a label cost above 0, and for costs that are no metric, as quadratic ones mostly.
 
 `--threads` has workers make each cut; the picture is the same. A cut of some 250000 undecided pixels and
-more may be quicker so, by a tenth to a fifth; smaller cuts take longer, and so do most whole runs.
+more takes about as long so, a smaller one longer, and so do most whole runs.
 
 Exit status: 0 answered, 1 refused (standard error has one line `refused N ..`), 2 not understood.
 
@@ -79,7 +79,7 @@ labels. It is `bound none` where no such numbers are known: after swaps, where t
 changed something, and for costs that are no metric, as quadratic ones mostly are.
 
 `--threads` has workers make each cut; the picture is the same. A cut of some 250000 undecided pixels and
-more may be quicker so, by a tenth to a fifth; smaller cuts take longer, and so do most whole runs.
+more takes about as long so, a smaller one longer, and so do most whole runs.
 
 Exit status: 0 answered, 1 refused (standard error has one line `refused N ..`), 2 not understood.
 
@@ -98,7 +98,7 @@ an image with the label of each pixel. A free pixel's label costs its difference
 or `weak` where an edge runs between them. Then standard error has the line `energy E data D smooth S`.
 
 `--threads` has workers make each cut; the picture is the same. A cut of some 250000 undecided pixels and
-more may be quicker so, by a tenth to a fifth; smaller cuts take longer, and so do most whole runs.
+more takes about as long so, a smaller one longer, and so do most whole runs.
 
 Exit status: 0 answered, 1 refused (standard error has one line `refused N ..`), 2 not understood.
 
@@ -163,8 +163,8 @@ with the table of their values. Each term has to be regular.
 Writes two lines: `minimum M`, and `assignment` with one digit for each variable. Of the least
 assignments it is the one with the fewest ones.
 
-`--threads` has workers make the cut; the answer is the same. With some 250000 variables and more it may
-be quicker so, by a tenth to a fifth; with fewer it takes longer.
+`--threads` has workers make the cut; the answer is the same. With some 250000 variables and more it takes
+about as long so, with fewer longer.
 
 Exit status: 0 answered, 1 refused (standard error has one line `refused N ..`), 2 not understood.
 
@@ -194,7 +194,7 @@ It is `bound none` where no such numbers are known: after swaps, where the last 
 something, with a label cost above 0, and where smooth is no metric, as quadratic costs mostly are none.
 
 `--threads` has workers make each cut; the labels are the same. A cut of some 250000 undecided sites and
-more may be quicker so, by a tenth to a fifth; smaller cuts take longer, and so do most whole runs.
+more takes about as long so, a smaller one longer, and so do most whole runs.
 
 Exit status: 0 answered, 1 refused (standard error has one line `refused N ..`), 2 not understood.
 
