@@ -24,8 +24,10 @@ fn example(alloc: Global) -> Result<Energy, EnergyError> {
 /// The least value over all assignments, or `None` exactly where some term is not regular.
 fn least_value(alloc: Global, energy: &Energy) -> Result<Option<i64>, AllocError>
     ensures none { IfOk result (λ found. IsNone found ↔ (¬ IsRegular energy.now)) }
-    ensures least { IfOk result (λ found. IfSome found (λ least. (x : ℕ → Bool) → least ≤ℤ value_at energy.now x)) }
-    ensures reached { IfOk result (λ found. IfSome found (λ least. (x : ℕ → Bool) × (value_at energy.now x ≡ least))) }
+    ensures least { IfOk result (λ found. IfSome found (λ least.
+        (x : ℕ → Bool) → least ≤ℤ value_at energy.now x)) }
+    ensures reached { IfOk result (λ found. IfSome found (λ least.
+        (x : ℕ → Bool) × (value_at energy.now x ≡ least))) }
 {
     let Ok(regular) = check(energy) else {
         return Ok(None);
