@@ -2,16 +2,16 @@
 //! and prints where they end.
 #![tactic(auto)]
 
-ghost use Rattle.std.specs.Prelude.{◌≡◌, ◌<◌, pos, IfErr, IfOk, Ok, length, replicate, slice_index};
+ghost use Rattle.std.specs.Prelude.{◌≡◌, ◌<◌, ◌*◌, ◌≤ℤ◌, ℕ, pos, IfErr, IfOk, IsTrue, Ok, length, replicate, slice_index};
 ghost use Rattle.label_field.specs.Grids.{distance};
-ghost use Rattle.labellings.specs.Energies.{energy as energy_of, labelling as labels_of};
+ghost use Rattle.labellings.specs.Energies.{IsLabelled, energy as energy_of, labelling as labels_of};
 ghost use Rattle.labellings.specs.Chains.{expansions};
 ghost use Rattle.moves.specs.Problems.{IsRun};
 ghost use Rattle.calling_labels.specs.Problems.{potts, problem_of};
 
 use cost_store::{DataCost, SmoothCost};
 use label_field::{Labelling, Pairs};
-use moves::{Alone, Ended, MoveError, Problem};
+use moves::{Alone, Ended, MoveError, Problem, settled_run_is_near};
 use std::alloc::Global;
 
 /// The columns and rows of the picture, and its grey levels.
@@ -30,13 +30,17 @@ struct Restored {
 }
 
 /// Makes expansions of the levels of a picture from level 0 everywhere, each to the best labelling that it reaches, in at
-/// most so many cycles. Refused where memory runs out, and for nothing else.
+/// most so many cycles. Once a cycle changes nothing, the energy is at most twice that of any labelling. Refused where memory
+/// runs out, and for nothing else.
 fn restore(alloc: Global, samples: &[u8], cycles: u32) -> Result<Restored, MoveError>
     requires { length samples.now ≡ 6 }
     ensures run { IfOk result (λ end. IsRun (problem_of samples.now) (expansions 3) cycles
         (replicate 6 0) end.labelling.at (Ok end.ended)) }
     ensures energy { IfOk result (λ end. end.energy
         ≡ pos (energy_of (problem_of samples.now) (labels_of end.labelling.at))) }
+    ensures near { IfOk result (λ end. IsTrue end.ended.settled → (h : ℕ → ℕ) →
+        IsLabelled (problem_of samples.now) h →
+        end.energy ≤ℤ pos (2 * energy_of (problem_of samples.now) h)) }
     ensures refused { IfErr result (λ e. e ≡ MoveError.OutOfMemory) }
 {
     let problem = Problem {
@@ -60,6 +64,7 @@ fn restore(alloc: Global, samples: &[u8], cycles: u32) -> Result<Restored, MoveE
     let mut labelling = Labelling::new(alloc, WIDTH * HEIGHT, LEVELS)?;
     let ended = problem.run_expansion(alloc, &mut labelling, cycles, &Alone)?;
     let energy = problem.energy(&labelling);
+    settled_run_is_near();
     Ok(Restored {
         labelling,
         ended,
@@ -75,6 +80,7 @@ fn main(rt: HostRuntime) -> anyhow::Result<()> {
     println!(rt; "energy {}", restored.energy)?;
     if restored.ended.settled {
         println!(rt; "settled after {} cycles", restored.ended.cycles)?;
+        println!(rt; "no labelling has less than half that energy")?;
     }
     Ok(())
 }
