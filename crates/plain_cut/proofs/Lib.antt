@@ -1,7 +1,6 @@
 pub mod Steps
 pub mod Queue
 pub mod Starting
-pub mod Neighbours
 pub mod Raising
 pub mod Solving
 pub mod Passes

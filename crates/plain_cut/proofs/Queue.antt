@@ -18,12 +18,12 @@ pop_queued net w w' v rest eq ee el er h x lx ne some low =
     rw er (contains_rest v x rest ne (rw eq at inside))
 
 pub pop_work : (net : Network) (w w' : Work) (v : ℕ) (rest : List ℕ) → w.queue.items ≡ v ∷ rest
-    → w'.arc_flow.items ≡ w.arc_flow.items → w'.rooms.items ≡ w.rooms.items
+    → w'.rows ≡ w.rows → w'.rooms.items ≡ w.rooms.items
     → w'.excess.items ≡ w.excess.items → w'.labels.items ≡ w.labels.items → w'.queue.items ≡ rest
     → IsWork net w → (v < nodes net) × IsWork net w'
 pop_work net w w' v rest eq ea es ee el er h =
     let all = rw eq at h.queue in
-    (all 0 0 (omega arith), record { sound = rw (ea, es, ee, el) h.sound; rooms = rw es h.rooms; queue = rw er (λ k d l. all (suc k) d (omega (arith, l))) })
+    (all 0 0 (omega arith), record { sound = rw (ea, es, ee, el) h.sound; shown = rw ea h.shown; rooms = rw es h.rooms; queue = rw er (λ k d l. all (suc k) d (omega (arith, l))) })
 
 pub done_queued : (net : Network) (w : Work) (v : ℕ) → (slice_index w.labels.items v < top net → slice_index w.excess.items v ≡ 0)
     → IsQueuedBut net v w → IsQueuedBut net (nodes net) w

@@ -62,7 +62,7 @@ raise_sound net flow kept labels new s fits low = record {
 -- ---- over the work
 
 pub raise_work : (net : Network) (old new : Work) → IsNet net → IsWork net old
-    → new.arc_flow.items ≡ old.arc_flow.items → new.rooms.items ≡ old.rooms.items
+    → new.rows ≡ old.rows → new.rooms.items ≡ old.rooms.items
     → new.excess.items ≡ old.excess.items → new.queue.items ≡ old.queue.items
     → AreDistances net (work_flow net old) new.labels.items → IsRaised net old new
 raise_work net old new h s ea es ee eq exact =
@@ -72,6 +72,7 @@ raise_work net old new h s ea es ee eq exact =
       work = record {
         sound = rw (ea, es, ee) (raise_sound net (work_flow net old) old.excess.items old.labels.items new.labels.items s.sound
             (distances_label net (work_flow net old) new.labels.items h exact) low);
+        shown = rw ea s.shown;
         rooms = rw es s.rooms;
         queue = rw eq s.queue;
       };

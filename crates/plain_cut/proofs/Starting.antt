@@ -1,11 +1,15 @@
 -- The work at the start is sound.
-use Rattle.std.proofs.Common.{◌≡◌, ℕ, zero, suc, ◌<◌, length, replicate, slice_index, All, refl, arith}
+use Rattle.std.proofs.Common.{◌≡◌, ℕ, zero, suc, ◌<◌, length, replicate, slice_index, All, refl, sym, ◌∙◌, arith}
 use Rattle.std.proofs.lemmas.List.{length-replicate}
 use Rattle.plain_cut.specs.declared.work.Work.{Work}
 use Rattle.flow_network.specs.Cut.{Network, nodes, IsNet}
 use Rattle.flow_network.specs.Preflow.{Flow, flow_by, given, inflow, outflow}
 use Rattle.flow_network.specs.Progress.{IsSound}
 use Rattle.flow_network.proofs.Given.{length-given, given_none, sinks_rooms}
+use Rattle.std.proofs.lemmas.Grind.{same_number_lists}
+use Rattle.sink_distances.specs.declared.rows.Rows.{Rows}
+use Rattle.sink_distances.specs.Rows.{residual_at, second_at, carried, IsRows}
+use Rattle.sink_distances.proofs.Showing.{carried_at, carried_len}
 use Rattle.plain_cut.specs.State.{IsUnlabelled}
 use Rattle.sums.proofs.SumLemmas.{sum_below-none, counted-zero}
 
@@ -39,9 +43,17 @@ start_sound net h =
       below_top = λ v l. omega (arith, zeros n v);
     }
 
-pub start_work : (net : Network) (w : Work) → IsNet net → w.arc_flow.items ≡ replicate (length net.arcs) 0 → w.rooms.items ≡ net.sinks
+none_carried : (net : Network) (rows : Rows) → IsRows net rows → ((k : ℕ) → k < length net.arcs → residual_at rows (second_at rows k) ≡ 0)
+    → carried rows ≡ replicate (length net.arcs) 0
+none_carried net rows r empty =
+    let len = carried_len net rows r in
+    same_number_lists (carried rows) (replicate (length net.arcs) 0) (len ∙ sym (length-replicate (length net.arcs) 0))
+    (λ k l. carried_at net rows k r (omega (arith, l, len)) ∙ (empty k (omega (arith, l, len)) ∙ sym (zeros (length net.arcs) k)))
+
+pub start_work : (net : Network) (w : Work) → IsNet net → IsRows net w.rows
+    → ((k : ℕ) → k < length net.arcs → residual_at w.rows (second_at w.rows k) ≡ 0) → w.rooms.items ≡ net.sinks
     → w.excess.items ≡ net.sources → w.labels.items ≡ replicate (nodes net) 0 → All (λ v. v < nodes net) w.queue.items → IsUnlabelled net w
-start_work net w h ea es ee el q = record {
-  work = record { sound = rw (ea, es, ee, el) (start_sound net h); rooms = rw es (sinks_rooms net h); queue = q };
+start_work net w h r empty es ee el q = record {
+  work = record { sound = rw (none_carried net w.rows r empty, es, ee, el) (start_sound net h); shown = r; rooms = rw es (sinks_rooms net h); queue = q };
   labels = λ v. rw el (zeros (nodes net) v);
 }

@@ -1,5 +1,5 @@
 -- Pushes where all labels are 0.
-use Rattle.std.proofs.Common.{◌≡◌, ◌≢◌, ℕ, ◌+◌, ◌-◌, ◌<◌, ◌≤◌, List, length, set, slice_index, sym, arith, get_or-set_same, get_or-set_other}
+use Rattle.std.proofs.Common.{◌≡◌, ◌≢◌, ℕ, ◌+◌, ◌-◌, ◌<◌, ◌≤◌, List, length, set, slice_index, inl, inr, sym, ◌∙◌, ap, arith, get_or-set_same, get_or-set_other}
 use Rattle.plain_cut.specs.declared.work.Work.{Work}
 use Rattle.flow_network.specs.Cut.{Network, nodes, IsNet}
 use Rattle.flow_network.specs.Preflow.{Flow, arc_at}
@@ -7,6 +7,8 @@ use Rattle.flow_network.specs.Progress.{IsSound}
 use Rattle.flow_network.proofs.Duality.{arc_is}
 use Rattle.flow_network.proofs.Push.{moved}
 use Rattle.flow_network.proofs.Moves.{relabel_sound, forward_sound, back_sound}
+use Rattle.sink_distances.specs.Rows.{head_at, residual_at, carried, IsPlace, IsOf, IsRows, IsSent}
+use Rattle.sink_distances.proofs.Showing.{carried_at, carried_forth, carried_back, rows_sent}
 use Rattle.plain_cut.specs.State.{work_flow, IsUnlabelled}
 
 -- labels of 0 fit every preflow
@@ -37,13 +39,13 @@ down labels u w l ne flat =
 
 -- ---- over the work
 
-pub send_work : (net : Network) (old new : Work) (k z : ℕ) → IsNet net → IsUnlabelled net old → k < length net.arcs
+send_work : (net : Network) (old new : Work) (k z : ℕ) → IsNet net → IsUnlabelled net old → IsRows net new.rows → k < length net.arcs
     → (arc_at net k).from ≢ (arc_at net k).to → z ≤ slice_index old.excess.items (arc_at net k).from
-    → slice_index old.arc_flow.items k + z ≤ (arc_at net k).capacity → slice_index old.arc_flow.items k < (arc_at net k).capacity
-    → new.arc_flow.items ≡ set old.arc_flow.items k (slice_index old.arc_flow.items k + z) → new.rooms.items ≡ old.rooms.items
+    → slice_index (carried old.rows) k + z ≤ (arc_at net k).capacity → slice_index (carried old.rows) k < (arc_at net k).capacity
+    → carried new.rows ≡ set (carried old.rows) k (slice_index (carried old.rows) k + z) → new.rooms.items ≡ old.rooms.items
     → new.excess.items ≡ moved old.excess.items (arc_at net k).from (arc_at net k).to z → new.labels.items ≡ old.labels.items
     → new.queue.items ≡ old.queue.items → IsUnlabelled net new
-send_work net old new k z h o l ne le fits room ea es ee el eq =
+send_work net old new k z h o shown l ne le fits room ea es ee el eq =
     let s = o.work.sound in
     let u = (arc_at net k).from in
     let w = (arc_at net k).to in
@@ -54,19 +56,20 @@ send_work net old new k z h o l ne le fits room ea es ee el eq =
     record {
       work = record {
         sound = rw (ea, es, ee, el) (flat_sound net _ _ (set old.labels.items u 1) old.labels.items sent s.labelling.len o.labels);
+        shown = shown;
         rooms = rw es o.work.rooms;
         queue = rw eq o.work.queue;
       };
       labels = λ v. rw el (o.labels v);
     }
 
-pub back_work : (net : Network) (old new : Work) (k z : ℕ) → IsNet net → IsUnlabelled net old → k < length net.arcs
+back_work : (net : Network) (old new : Work) (k z : ℕ) → IsNet net → IsUnlabelled net old → IsRows net new.rows → k < length net.arcs
     → (arc_at net k).from ≢ (arc_at net k).to → z ≤ slice_index old.excess.items (arc_at net k).to
-    → z ≤ slice_index old.arc_flow.items k → 0 < slice_index old.arc_flow.items k
-    → new.arc_flow.items ≡ set old.arc_flow.items k (slice_index old.arc_flow.items k - z) → new.rooms.items ≡ old.rooms.items
+    → z ≤ slice_index (carried old.rows) k → 0 < slice_index (carried old.rows) k
+    → carried new.rows ≡ set (carried old.rows) k (slice_index (carried old.rows) k - z) → new.rooms.items ≡ old.rooms.items
     → new.excess.items ≡ moved old.excess.items (arc_at net k).to (arc_at net k).from z → new.labels.items ≡ old.labels.items
     → new.queue.items ≡ old.queue.items → IsUnlabelled net new
-back_work net old new k z h o l ne le fits some ea es ee el eq =
+back_work net old new k z h o shown l ne le fits some ea es ee el eq =
     let s = o.work.sound in
     let u = (arc_at net k).to in
     let w = (arc_at net k).from in
@@ -77,8 +80,44 @@ back_work net old new k z h o l ne le fits some ea es ee el eq =
     record {
       work = record {
         sound = rw (ea, es, ee, el) (flat_sound net _ _ (set old.labels.items u 1) old.labels.items sent s.labelling.len o.labels);
+        shown = shown;
         rooms = rw es o.work.rooms;
         queue = rw eq o.work.queue;
       };
       labels = λ v. rw el (o.labels v);
     }
+
+along_of : (net : Network) (old new : Work) (v p z : ℕ) → IsNet net → IsUnlabelled net old → IsRows net new.rows → IsOf net old.rows v p
+    → v ≢ head_at old.rows p → z ≤ slice_index old.excess.items v → z ≤ residual_at old.rows p → 0 < residual_at old.rows p
+    → IsSent old.rows new.rows p z → new.rooms.items ≡ old.rooms.items
+    → new.excess.items ≡ moved old.excess.items v (head_at old.rows p) z → new.labels.items ≡ old.labels.items
+    → new.queue.items ≡ old.queue.items → IsUnlabelled net new
+along_of net old new v p z h o shown (k, l, inl (at, from)) ne le fits some sent es ee el eq =
+    let r = o.work.shown in
+    let a = r.arcs k l in
+    let head = ap (head_at old.rows) at ∙ a.head in
+    let ea = carried_forth net old.rows new.rows p z k r shown sent l at in
+    let room = carried_at net old.rows k r l in
+    let here = ap (residual_at old.rows) at in
+    let ee' = ee ∙ (ap (λ u. moved old.excess.items u (head_at old.rows p) z) (sym from) ∙ ap (λ w. moved old.excess.items (arc_at net k).from w z) head) in
+    send_work net old new k z h o shown l (λ e. ne (sym from ∙ (e ∙ sym head))) (omega (arith, le, ap (slice_index old.excess.items) from))
+    (omega (arith, fits, room, here, a.capacity)) (omega (arith, some, room, here, a.capacity)) ea es ee' el eq
+along_of net old new v p z h o shown (k, l, inr (at, to)) ne le fits some sent es ee el eq =
+    let r = o.work.shown in
+    let a = r.arcs k l in
+    let head = ap (head_at old.rows) at ∙ a.tail in
+    let ea = carried_back net old.rows new.rows p z k r shown sent l at in
+    let room = carried_at net old.rows k r l in
+    let here = ap (residual_at old.rows) at in
+    let ee' = ee ∙ (ap (λ u. moved old.excess.items u (head_at old.rows p) z) (sym to) ∙ ap (λ w. moved old.excess.items (arc_at net k).to w z) head) in
+    back_work net old new k z h o shown l (λ e. ne (sym to ∙ (sym e ∙ sym head))) (omega (arith, le, ap (slice_index old.excess.items) to))
+    (omega (arith, fits, room, here)) (omega (arith, some, room, here)) ea es ee' el eq
+
+-- an amount goes along a direction of a node
+pub along_work : (net : Network) (old new : Work) (v p z : ℕ) → IsNet net → IsUnlabelled net old → v < nodes net → IsPlace old.rows v p
+    → v ≢ head_at old.rows p → z ≤ slice_index old.excess.items v → z ≤ residual_at old.rows p → 0 < residual_at old.rows p
+    → IsSent old.rows new.rows p z → new.rooms.items ≡ old.rooms.items
+    → new.excess.items ≡ moved old.excess.items v (head_at old.rows p) z → new.labels.items ≡ old.labels.items
+    → new.queue.items ≡ old.queue.items → IsUnlabelled net new
+along_work net old new v p z h o lv place ne le fits some sent =
+    along_of net old new v p z h o (rows_sent net old.rows new.rows v p z o.work.shown lv place fits sent) (o.work.shown.each v p lv place) ne le fits some sent

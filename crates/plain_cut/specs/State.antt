@@ -1,16 +1,19 @@
 use Rattle.std.specs.Prelude.{◌≡◌, ◌≢◌, ℕ, ◌+◌, ◌<◌, ◌≤◌, length, slice_index, All, Contains}
 use Rattle.flow_network.specs.Cut.{Network, nodes}
-use Rattle.flow_network.specs.Preflow.{Flow, flow_by, given, arc_at, AreRooms, IsResidual}
+use Rattle.flow_network.specs.Preflow.{Flow, flow_by, given, AreRooms}
 use Rattle.flow_network.specs.Progress.{top, IsSound, work_left}
+use Rattle.sink_distances.specs.Rows.{head_at, residual_at, carried, IsPlace, IsRows}
 use Rattle.plain_cut.specs.declared.work.Work.{Work}
 
 -- the flow of the work
 abbrev pub work_flow : Network → Work → Flow
-work_flow net w = flow_by w.arc_flow.items (given net w.rooms.items)
+work_flow net w = flow_by (carried w.rows) (given net w.rooms.items)
 
--- a preflow with its excess, rooms for what the sink can still get, labels that fit it, and a queue of nodes
+-- a preflow with its excess, rows that show it, rooms for what the sink can still get, labels that fit it, and a queue
+-- of nodes
 pub record IsWork (net : Network) (w : Work) : Type 0 where
   pub sound : IsSound net (work_flow net w) w.excess.items w.labels.items
+  pub shown : IsRows net w.rows
   pub rooms : AreRooms net w.rooms.items
   pub queue : All (λ v. v < nodes net) w.queue.items
 
@@ -54,36 +57,34 @@ pub record IsSteps (net : Network) (but : ℕ) (old new : Work) : Type 0 where
 pub record IsLowest (net : Network) (w : Work) (v least : ℕ) : Type 0 where
   pub fits : least ≤ top net
   pub sinks : 0 < slice_index w.rooms.items v → least ≤ 1
-  pub arcs : (b : ℕ) → IsResidual net (work_flow net w) v b → least ≤ slice_index w.labels.items b + 1
+  pub row : (p : ℕ) → IsPlace w.rows v p → 0 < residual_at w.rows p
+      → least ≤ slice_index w.labels.items (head_at w.rows p) + 1
 
 -- no residual direction of the node leads down
-pub record IsStuck (net : Network) (w : Work) (v : ℕ) : Type 0 where
+pub record IsStuck (w : Work) (v : ℕ) : Type 0 where
   pub sinks : slice_index w.rooms.items v ≡ 0
-  pub arcs : (b : ℕ) → IsResidual net (work_flow net w) v b
-      → slice_index w.labels.items v ≤ slice_index w.labels.items b
+  pub row : (p : ℕ) → IsPlace w.rows v p → 0 < residual_at w.rows p
+      → slice_index w.labels.items v ≤ slice_index w.labels.items (head_at w.rows p)
 
--- pushes of a node along arcs: the labels and the gifts to the sink stay, and its excess does not grow
+-- pushes of a node along directions: the labels, the gifts to the sink and the ends of directions stay, and its excess
+-- does not grow
 pub record IsPush (v : ℕ) (old new : Work) : Type 0 where
   pub labels : new.labels.items ≡ old.labels.items
   pub sinks : new.rooms.items ≡ old.rooms.items
+  pub starts : new.rows.starts.items ≡ old.rows.starts.items
+  pub heads : (p : ℕ) → head_at new.rows p ≡ head_at old.rows p
   pub excess : slice_index new.excess.items v ≤ slice_index old.excess.items v
 
--- no arc but k carries more or less than before
-abbrev pub ChangesOnly : ℕ → Work → Work → Type 0
-ChangesOnly k old new = (j : ℕ) → j ≢ k → slice_index new.arc_flow.items j ≡ slice_index old.arc_flow.items j
+-- no other direction of the node than that at p can carry more or less than before
+abbrev pub ChangesOnly : ℕ → ℕ → Work → Work → Type 0
+ChangesOnly v p old new =
+    (q : ℕ) → q ≢ p → IsPlace old.rows v q → residual_at new.rows q ≡ residual_at old.rows q
 
--- where its first node has excess left, the arc is full or does not lead down
-abbrev pub IsSpent : Network → Work → ℕ → Type 0
-IsSpent net w k =
-    0 < slice_index w.excess.items (arc_at net k).from
-    → slice_index w.arc_flow.items k < (arc_at net k).capacity
-    → slice_index w.labels.items (arc_at net k).from ≤ slice_index w.labels.items (arc_at net k).to
-
--- where its last node has excess left, the arc is empty or does not lead down on the way back
-abbrev pub IsSpentBack : Network → Work → ℕ → Type 0
-IsSpentBack net w k =
-    0 < slice_index w.excess.items (arc_at net k).to → 0 < slice_index w.arc_flow.items k
-    → slice_index w.labels.items (arc_at net k).to ≤ slice_index w.labels.items (arc_at net k).from
+-- where the node has excess left, its direction at p is used up or does not lead down
+abbrev pub IsSpent : Work → ℕ → ℕ → Type 0
+IsSpent w v p =
+    0 < slice_index w.excess.items v → 0 < residual_at w.rows p
+    → slice_index w.labels.items v ≤ slice_index w.labels.items (head_at w.rows p)
 
 -- labels that did not fall, and all else as it was
 pub record IsRaised (net : Network) (old new : Work) : Type 0 where

@@ -1,19 +1,16 @@
 ghost use Rattle.std.specs.Prelude.{◌≡◌, ◌≢◌, ◌+◌, ◌-◌, ◌<◌, ◌≤◌, ◌^◌, ◌==◌, ◌++◌, ◌∷◌, [], ℕ, OnOk};
 ghost use Rattle.std.specs.Prelude.{length, slice_index, slice_set, if◌then◌else◌};
 ghost use Rattle.flow_network.specs.Cut.{nodes};
-ghost use Rattle.flow_network.specs.Preflow.{arc_at};
-ghost use Rattle.sink_distances.specs.Adjacency.{IsAdjacency};
-ghost use Rattle.plain_cut.specs.State.{IsWork, IsStep, IsSteps, IsPush, ChangesOnly};
-ghost use Rattle.plain_cut.specs.State.{IsSpent, IsSpentBack, IsStuck};
+ghost use Rattle.sink_distances.specs.Rows.{head_at, residual_at, IsPlace};
+ghost use Rattle.plain_cut.specs.State.{IsWork, IsStep, IsSteps, IsPush, ChangesOnly, IsSpent, IsStuck};
 
 use crate::work::Work;
 use flow_network::Graph;
-use sink_distances::Adjacency;
 use std::alloc::{AllocError, Global};
 use std::collections::VecDeque;
 
 /// Takes an amount from the one node's excess and gives it to the other's.
-pub fn carry(excess: &mut [u64], from: u32, to: u32, amount: u64)
+pub fn carry(excess: &mut [u64], from: usize, to: u32, amount: u64)
     requires from { from < length excess.old }
     requires to { to < length excess.old }
     requires other { from ≢ to }
@@ -23,7 +20,7 @@ pub fn carry(excess: &mut [u64], from: u32, to: u32, amount: u64)
         slice_set (slice_set excess.old from (slice_index excess.old from - amount))
         to (slice_index excess.old to + amount) }
 {
-    excess[from as usize] -= amount;
+    excess[from] -= amount;
     excess[to as usize] += amount;
 }
 
@@ -31,7 +28,7 @@ pub fn carry(excess: &mut [u64], from: u32, to: u32, amount: u64)
 fn shift(
     excess: &mut [u64],
     queue: &mut VecDeque<u32>,
-    from: u32,
+    from: usize,
     to: u32,
     amount: u64,
 ) -> Result<(), AllocError>
@@ -53,57 +50,31 @@ fn shift(
     Ok(())
 }
 
-/// Pushes along the arc what its first node has and the arc can still carry.
-fn push_forward(net: &Graph, work: &mut Work, k: usize) -> Result<(), AllocError>
+/// Pushes along the direction what the node has and it can still carry.
+fn push_along(net: &Graph, work: &mut Work, v: usize, p: usize) -> Result<(), AllocError>
     requires work { IsWork net.now work.old }
-    requires arc { k < length net.now.arcs }
-    requires residual { slice_index work.old.arc_flow.items k < (arc_at net.now k).capacity }
-    requires down { slice_index work.old.labels.items (arc_at net.now k).from ≡
-        slice_index work.old.labels.items (arc_at net.now k).to + 1 }
-    requires some { 0 < slice_index work.old.excess.items (arc_at net.now k).from }
-    ensures step { OnOk result (IsStep net.now (arc_at net.now k).from work.old work.new) }
-    ensures push { OnOk result (IsPush (arc_at net.now k).from work.old work.new) }
-    ensures arc { OnOk result (ChangesOnly k work.old work.new) }
-    ensures spent { OnOk result (IsSpent net.now work.new k) }
+    requires node { v < nodes net.now }
+    requires place { IsPlace work.old.rows v p }
+    requires residual { 0 < residual_at work.old.rows p }
+    requires down { slice_index work.old.labels.items v ≡
+        slice_index work.old.labels.items (head_at work.old.rows p) + 1 }
+    requires some { 0 < slice_index work.old.excess.items v }
+    ensures step { OnOk result (IsStep net.now v work.old work.new) }
+    ensures push { OnOk result (IsPush v work.old work.new) }
+    ensures others { OnOk result (ChangesOnly v p work.old work.new) }
+    ensures spent { OnOk result (IsSpent work.new v p) }
 {
-    let arc = net.arcs()[k];
-    let flow = work.arc_flow[k];
-    let amount = u64::min(work.excess[arc.from as usize], arc.capacity - flow);
+    let _nodes = net.nodes();
+    let cell = work.rows.cell(p);
+    let amount = u64::min(work.excess[v], cell.residual);
     shift(
         work.excess.as_mut_slice(),
         &mut work.queue,
-        arc.from,
-        arc.to,
+        v,
+        cell.head,
         amount,
     )?;
-    work.arc_flow[k] = flow + amount;
-    Ok(())
-}
-
-/// Pushes back along the arc what its last node has and the arc carries.
-fn push_back(net: &Graph, work: &mut Work, k: usize) -> Result<(), AllocError>
-    requires work { IsWork net.now work.old }
-    requires arc { k < length net.now.arcs }
-    requires residual { 0 < slice_index work.old.arc_flow.items k }
-    requires down { slice_index work.old.labels.items (arc_at net.now k).to ≡
-        slice_index work.old.labels.items (arc_at net.now k).from + 1 }
-    requires some { 0 < slice_index work.old.excess.items (arc_at net.now k).to }
-    ensures step { OnOk result (IsStep net.now (arc_at net.now k).to work.old work.new) }
-    ensures push { OnOk result (IsPush (arc_at net.now k).to work.old work.new) }
-    ensures arc { OnOk result (ChangesOnly k work.old work.new) }
-    ensures spent { OnOk result (IsSpentBack net.now work.new k) }
-{
-    let arc = net.arcs()[k];
-    let flow = work.arc_flow[k];
-    let amount = u64::min(work.excess[arc.to as usize], flow);
-    shift(
-        work.excess.as_mut_slice(),
-        &mut work.queue,
-        arc.to,
-        arc.from,
-        amount,
-    )?;
-    work.arc_flow[k] = flow - amount;
+    work.rows.send(p, amount);
     Ok(())
 }
 
@@ -114,6 +85,7 @@ fn push_sink(net: &Graph, work: &mut Work, v: usize)
     requires residual { 0 < slice_index work.old.rooms.items v }
     requires some { 0 < slice_index work.old.excess.items v }
     ensures step { IsStep net.now v work.old work.new }
+    ensures rows { work.new.rows ≡ work.old.rows }
     ensures labels { work.new.labels.items ≡ work.old.labels.items }
     ensures spent { 0 < slice_index work.new.excess.items v → slice_index work.new.rooms.items v ≡ 0 }
 {
@@ -128,6 +100,7 @@ pub fn try_push_sink(net: &Graph, work: &mut Work, v: usize)
     requires work { IsWork net.now work.old }
     requires node { v < nodes net.now }
     ensures steps { IsSteps net.now v work.old work.new }
+    ensures rows { work.new.rows ≡ work.old.rows }
     ensures labels { work.new.labels.items ≡ work.old.labels.items }
     ensures spent { 0 < slice_index work.new.excess.items v → slice_index work.new.rooms.items v ≡ 0 }
 {
@@ -136,104 +109,52 @@ pub fn try_push_sink(net: &Graph, work: &mut Work, v: usize)
     }
 }
 
-/// Pushes along the arc, where its first node has excess, it has room, and it leads down.
-fn try_push_forward(net: &Graph, work: &mut Work, k: usize) -> Result<(), AllocError>
+/// Pushes along the direction, where the node has excess, it can carry more, and it leads down.
+fn try_push(net: &Graph, work: &mut Work, v: usize, p: usize) -> Result<(), AllocError>
     requires work { IsWork net.now work.old }
-    requires arc { k < length net.now.arcs }
-    ensures steps { OnOk result (IsSteps net.now (arc_at net.now k).from work.old work.new) }
-    ensures push { OnOk result (IsPush (arc_at net.now k).from work.old work.new) }
-    ensures arc { OnOk result (ChangesOnly k work.old work.new) }
-    ensures spent { OnOk result (IsSpent net.now work.new k) }
+    requires node { v < nodes net.now }
+    requires place { IsPlace work.old.rows v p }
+    ensures steps { OnOk result (IsSteps net.now v work.old work.new) }
+    ensures push { OnOk result (IsPush v work.old work.new) }
+    ensures others { OnOk result (ChangesOnly v p work.old work.new) }
+    ensures spent { OnOk result (IsSpent work.new v p) }
 {
-    let arc = net.arcs()[k];
-    if work.excess[arc.from as usize] == 0
-        || work.arc_flow[k] >= arc.capacity
-        || work.labels[arc.from as usize] <= work.labels[arc.to as usize]
+    let _nodes = net.nodes();
+    let cell = work.rows.cell(p);
+    if work.excess[v] == 0
+        || cell.residual == 0
+        || work.labels[v] <= work.labels[cell.head as usize]
     {
         return Ok(());
     }
-    push_forward(net, work, k)
+    push_along(net, work, v, p)
 }
 
-/// Pushes back along the arc, where its last node has excess, it carries something, and it leads down.
-fn try_push_back(net: &Graph, work: &mut Work, k: usize) -> Result<(), AllocError>
-    requires work { IsWork net.now work.old }
-    requires arc { k < length net.now.arcs }
-    ensures steps { OnOk result (IsSteps net.now (arc_at net.now k).to work.old work.new) }
-    ensures push { OnOk result (IsPush (arc_at net.now k).to work.old work.new) }
-    ensures arc { OnOk result (ChangesOnly k work.old work.new) }
-    ensures spent { OnOk result (IsSpentBack net.now work.new k) }
-{
-    let arc = net.arcs()[k];
-    if work.excess[arc.to as usize] == 0
-        || work.arc_flow[k] == 0
-        || work.labels[arc.to as usize] <= work.labels[arc.from as usize]
-    {
-        return Ok(());
-    }
-    push_back(net, work, k)
-}
-
-/// Pushes along the arcs that leave the node, while it has excess.
-fn push_out(net: &Graph, adjacency: &Adjacency, work: &mut Work, v: usize) -> Result<(), AllocError>
-    requires adjacency { IsAdjacency net.now adjacency.now }
+/// Pushes along the node's directions, while it has excess.
+fn push_row(net: &Graph, work: &mut Work, v: usize) -> Result<(), AllocError>
     requires work { IsWork net.now work.old }
     requires node { v < nodes net.now }
     ensures steps { OnOk result (IsSteps net.now v work.old work.new) }
     ensures push { OnOk result (IsPush v work.old work.new) }
-    ensures spent { OnOk result ((k : ℕ) → k < length net.now.arcs → (arc_at net.now k).from ≡ v →
-        IsSpent net.now work.new k) }
+    ensures spent { OnOk result ((p : ℕ) → IsPlace work.old.rows v p → IsSpent work.new v p) }
 {
-    'out: for p in adjacency.out.starts[v]..adjacency.out.starts[v + 1] {
+    'row: for p in work.rows.starts[v]..work.rows.starts[v + 1] {
         if work.excess[v] == 0 {
             return Ok(());
         }
-        try_push_forward(net, work, adjacency.out.places[p as usize] as usize)?;
+        try_push(net, work, v, p as usize)?;
     }
     Ok(())
 }
 
-/// Pushes back along the arcs that enter the node, while it has excess.
-fn push_into(
-    net: &Graph,
-    adjacency: &Adjacency,
-    work: &mut Work,
-    v: usize,
-) -> Result<(), AllocError>
-    requires adjacency { IsAdjacency net.now adjacency.now }
+/// Pushes to the sink and along each direction of the node that leads down, while it has excess.
+pub fn push_all(net: &Graph, work: &mut Work, v: usize) -> Result<(), AllocError>
     requires work { IsWork net.now work.old }
     requires node { v < nodes net.now }
     ensures steps { OnOk result (IsSteps net.now v work.old work.new) }
-    ensures push { OnOk result (IsPush v work.old work.new) }
-    ensures arcs { OnOk result ((j : ℕ) → (arc_at net.now j).to ≢ v →
-        slice_index work.new.arc_flow.items j ≡ slice_index work.old.arc_flow.items j) }
-    ensures spent { OnOk result ((k : ℕ) → k < length net.now.arcs → (arc_at net.now k).to ≡ v →
-        IsSpentBack net.now work.new k) }
-{
-    'into: for p in adjacency.into.starts[v]..adjacency.into.starts[v + 1] {
-        if work.excess[v] == 0 {
-            return Ok(());
-        }
-        try_push_back(net, work, adjacency.into.places[p as usize] as usize)?;
-    }
-    Ok(())
-}
-
-/// Pushes along each direction of the node that leads down, while it has excess.
-pub fn push_all(
-    net: &Graph,
-    adjacency: &Adjacency,
-    work: &mut Work,
-    v: usize,
-) -> Result<(), AllocError>
-    requires adjacency { IsAdjacency net.now adjacency.now }
-    requires work { IsWork net.now work.old }
-    requires node { v < nodes net.now }
-    ensures steps { OnOk result (IsSteps net.now v work.old work.new) }
-    ensures stuck { OnOk result (0 < slice_index work.new.excess.items v → IsStuck net.now work.new v) }
+    ensures stuck { OnOk result (0 < slice_index work.new.excess.items v → IsStuck work.new v) }
 {
     try_push_sink(net, work, v);
-    push_out(net, adjacency, work, v)?;
-    push_into(net, adjacency, work, v)?;
+    push_row(net, work, v)?;
     Ok(())
 }

@@ -1,22 +1,15 @@
 ghost use Rattle.std.specs.Prelude.{◌≡◌, OnOk, length};
 ghost use Rattle.flow_network.specs.Cut.{nodes, IsNet};
-ghost use Rattle.sink_distances.specs.Adjacency.{IsAdjacency};
 ghost use Rattle.plain_cut.specs.State.{IsWork, IsWave, IsRound};
 
 use crate::pushes::push_all;
 use crate::work::{Work, queue_again, raise_all};
 use flow_network::Graph;
-use sink_distances::{Adjacency, top_label};
+use sink_distances::top_label;
 use std::alloc::AllocError;
 
 /// Pushes at each node of the order once, the last first. What is no node is passed over.
-fn push_wave(
-    net: &Graph,
-    adjacency: &Adjacency,
-    work: &mut Work,
-    order: &[u32],
-) -> Result<(), AllocError>
-    requires adjacency { IsAdjacency net.now adjacency.now }
+fn push_wave(net: &Graph, work: &mut Work, order: &[u32]) -> Result<(), AllocError>
     requires work { IsWork net.now work.old }
     ensures wave { OnOk result (IsWave net.now work.old work.new) }
 {
@@ -24,7 +17,7 @@ fn push_wave(
     'wave: for place in (0..order.len()).rev() {
         let v = order[place] as usize;
         if v < nodes && work.excess[v] > 0 {
-            push_all(net, adjacency, work, v)?;
+            push_all(net, work, v)?;
         }
     }
     Ok(())
@@ -32,22 +25,16 @@ fn push_wave(
 
 /// Begins a round: raises all labels to the exact distances, pushes at each node once, the farthest from the sink
 /// first, and queues anew the nodes that still have excess and reach the sink.
-pub fn begin_round(
-    net: &Graph,
-    adjacency: &Adjacency,
-    work: &mut Work,
-    order: &mut [u32],
-) -> Result<(), AllocError>
+pub fn begin_round(net: &Graph, work: &mut Work, order: &mut [u32]) -> Result<(), AllocError>
     requires limits { IsNet net.now }
-    requires adjacency { IsAdjacency net.now adjacency.now }
     requires work { IsWork net.now work.old }
     requires order { length order.old ≡ nodes net.now }
     ensures round { OnOk result (IsRound net.now work.old work.new) }
 {
     order.fill(u32::MAX);
-    raise_all(net, adjacency, work, order);
+    raise_all(net, work, order);
     work.queue.clear();
-    push_wave(net, adjacency, work, order)?;
+    push_wave(net, work, order)?;
     queue_again(
         &mut work.queue,
         work.excess.as_slice(),

@@ -4,8 +4,8 @@ ghost use Rattle.flow_network.specs.Limits.{capacity_limit};
 ghost use Rattle.flow_network.specs.Cut.{nodes, set_of, IsNet, IsSmallestLeastCut};
 ghost use Rattle.flow_network.specs.Preflow.{IsReach};
 ghost use Rattle.flow_network.specs.Answer.{side_of, IsRightCut};
-ghost use Rattle.sink_distances.specs.Adjacency.{IsAdjacency};
 ghost use Rattle.sink_distances.specs.Distances.{AreDistances};
+ghost use Rattle.sink_distances.specs.Rows.{carried, first_at, second_at};
 ghost use Rattle.plain_cut.specs.State.{work_flow, IsWork, IsFinished};
 
 use crate::opening::open;
@@ -13,7 +13,7 @@ use crate::rounds::begin_round;
 use crate::turns::run;
 use crate::work::{Work, raise_all};
 use flow_network::{Graph, Net, Solved, cut_capacity};
-use sink_distances::{Adjacency, arcs_by_node, sink_side};
+use sink_distances::{Rows, sink_side};
 use std::alloc::{AllocError, Global};
 
 /// The work at its end, whose labels are the exact distances. It takes the net's sources and sinks over.
@@ -31,31 +31,24 @@ fn finish(
     ensures exact { IfOk result (λ w. AreDistances net.now (work_flow net.now w) w.labels.items) }
 {
     let nodes = net.nodes();
-    let adjacency = arcs_by_node(alloc, net)?;
     let mut order = vec![in alloc; 0; nodes]?;
-    let mut work = open(alloc, net, sources, sinks, &adjacency)?;
-    settle(net, &adjacency, &mut work, order.as_mut_slice())?;
+    let mut work = open(alloc, net, sources, sinks)?;
+    settle(net, &mut work, order.as_mut_slice())?;
     Ok(work)
 }
 
 /// Rounds until no node that reaches the sink has excess; at the end the labels are the exact distances.
-fn settle(
-    net: &Graph,
-    adjacency: &Adjacency,
-    work: &mut Work,
-    order: &mut [u32],
-) -> Result<(), AllocError>
+fn settle(net: &Graph, work: &mut Work, order: &mut [u32]) -> Result<(), AllocError>
     requires limits { IsNet net.now }
-    requires adjacency { IsAdjacency net.now adjacency.now }
     requires work { IsWork net.now work.old }
     requires order { length order.old ≡ nodes net.now }
     ensures work { OnOk result (IsWork net.now work.new) }
     ensures finished { OnOk result (IsFinished net.now work.new) }
     ensures exact { OnOk result (AreDistances net.now (work_flow net.now work.new) work.new.labels.items) }
 {
-    begin_round(net, adjacency, work, order)?;
-    run(net, adjacency, work, order)?;
-    raise_all(net, adjacency, work, order);
+    begin_round(net, work, order)?;
+    run(net, work, order)?;
+    raise_all(net, work, order);
     Ok(())
 }
 
@@ -63,8 +56,8 @@ fn settle(
 /// lies within that of every other. Its capacity, `value`, is at most `CAPACITY_LIMIT`.
 ///
 /// The preflow method with one queue, first in and first out (Goldberg, Tarjan 1988, "A new approach to the
-/// maximum-flow problem", sections 2 to 4). First excess goes on along each arc, back along each, and on once
-/// more, with no labels yet; then come rounds: a round begins at the start and after each n / 32 new labels,
+/// maximum-flow problem", sections 2 to 4). First excess goes from each node to higher ones, back to lower ones,
+/// and up once more, with no labels yet; then come rounds: a round begins at the start and after each n / 32 new labels,
 /// where n is the number of nodes. It raises the labels to the exact distances (Cherkassky, Goldberg 1997, "On
 /// implementing the push-relabel method for the maximum flow problem") and pushes once at each node, the farthest
 /// from the sink first, so that excess moves down all the way in one pass. The method stops where no node that
@@ -72,7 +65,7 @@ fn settle(
 /// the sink over residual directions.
 ///
 /// Takes every net, also of no nodes, with parallel and opposite arcs, and with arcs from a node to itself.
-/// Refuses only where memory runs out; a net of 2^32 arcs or more counts as that.
+/// Refuses only where memory runs out; a net of 2^31 arcs or more counts as that.
 pub fn solve(alloc: Global, net: &Net) -> Result<Solved, AllocError>
     ensures certified { IfOk result (λ s. IsRightCut net.now s) }
     ensures smallest { IfOk result (λ s. IsSmallestLeastCut net.now (side_of s)) }
@@ -122,6 +115,21 @@ fn turn_to_given(sinks: &[u64], rooms: &mut [u64])
     }
 }
 
+/// What each arc carries: what its direction back can carry.
+fn carried_by(alloc: Global, rows: &Rows) -> Result<Vec<u64>, AllocError>
+    requires first { (k : ℕ) → k < length rows.now.firsts.items →
+        first_at rows.now k < length rows.now.cells.items }
+    requires second { (k : ℕ) → k < length rows.now.firsts.items →
+        second_at rows.now k < length rows.now.cells.items }
+    ensures { IfOk result (λ flow. flow.items ≡ carried rows.now) }
+{
+    let mut flow = vec![in alloc; 0u64; rows.firsts.len()]?;
+    'arcs: for k in 0..rows.firsts.len() {
+        flow[k] = rows.back(rows.firsts[k] as usize);
+    }
+    Ok(flow)
+}
+
 /// The answer of work that is finished, whose labels are the exact distances: the nodes that reach the sink, and
 /// the preflow.
 fn answer_of(alloc: Global, net: &Net, work: Work) -> Result<Solved, AllocError>
@@ -135,10 +143,11 @@ fn answer_of(alloc: Global, net: &Net, work: Work) -> Result<Solved, AllocError>
 {
     let side = least_side(alloc, net.graph(), &work)?;
     let value = cut_capacity(net, side.as_slice());
+    let arc_flow = carried_by(alloc, &work.rows)?;
     let mut sink_flow = work.rooms;
     turn_to_given(net.sinks(), sink_flow.as_mut_slice());
     Ok(Solved {
-        arc_flow: work.arc_flow,
+        arc_flow,
         sink_flow,
         sink_side: side,
         value,

@@ -1,7 +1,6 @@
 ghost use Rattle.std.specs.Prelude.{◌≡◌, ◌<◌, ℕ, OnOk, length, slice_index};
 ghost use Rattle.flow_network.specs.Cut.{nodes};
 ghost use Rattle.flow_network.specs.Progress.{top};
-ghost use Rattle.sink_distances.specs.Adjacency.{IsAdjacency};
 ghost use Rattle.plain_cut.specs.State.{IsWork, IsQueuedBut, IsSteps, IsFinished};
 
 use crate::pushes::push_all;
@@ -9,17 +8,11 @@ use crate::relabels::relabel;
 use crate::rounds::begin_round;
 use crate::work::Work;
 use flow_network::Graph;
-use sink_distances::{Adjacency, top_label};
+use sink_distances::top_label;
 use std::alloc::{AllocError, Global};
 
 /// Pushes and new labels until the node has no excess, or its label says that it has no path to the sink.
-pub fn discharge(
-    net: &Graph,
-    adjacency: &Adjacency,
-    work: &mut Work,
-    v: usize,
-) -> Result<(), AllocError>
-    requires adjacency { IsAdjacency net.now adjacency.now }
+pub fn discharge(net: &Graph, work: &mut Work, v: usize) -> Result<(), AllocError>
     requires work { IsWork net.now work.old }
     requires node { v < nodes net.now }
     ensures steps { OnOk result (IsSteps net.now v work.old work.new) }
@@ -27,23 +20,17 @@ pub fn discharge(
         slice_index work.new.excess.items v ≡ 0) }
 {
     let top = top_label(net);
-    push_all(net, adjacency, work, v)?;
+    push_all(net, work, v)?;
     'steps: while work.excess[v] > 0 && work.labels[v] < top {
-        relabel(net, adjacency, work, v);
-        push_all(net, adjacency, work, v)?;
+        relabel(net, work, v);
+        push_all(net, work, v)?;
     }
     Ok(())
 }
 
 /// Discharges the nodes in the order of the queue, until no node below the top label has excess. A new round begins
 /// once there were more than n / 32 new labels in this one, where n is the number of nodes.
-pub fn run(
-    net: &Graph,
-    adjacency: &Adjacency,
-    work: &mut Work,
-    order: &mut [u32],
-) -> Result<(), AllocError>
-    requires adjacency { IsAdjacency net.now adjacency.now }
+pub fn run(net: &Graph, work: &mut Work, order: &mut [u32]) -> Result<(), AllocError>
     requires work { IsWork net.now work.old }
     requires order { length order.old ≡ nodes net.now }
     requires queued { IsQueuedBut net.now (nodes net.now) work.old }
@@ -52,9 +39,9 @@ pub fn run(
 {
     let most = net.nodes() / 32;
     'turns: while let Some(v) = work.queue.pop_front() {
-        discharge(net, adjacency, work, v as usize)?;
+        discharge(net, work, v as usize)?;
         if work.relabels > most {
-            begin_round(net, adjacency, work, order)?;
+            begin_round(net, work, order)?;
         }
     }
     Ok(())

@@ -1,20 +1,19 @@
 ghost use Rattle.std.specs.Prelude.{◌≡◌, ◌<◌, ◌≤◌, ℕ, IfOk, OnOk, All, Contains, length, slice_index};
 ghost use Rattle.flow_network.specs.Limits.{node_limit};
 ghost use Rattle.flow_network.specs.Cut.{nodes, IsNet};
-ghost use Rattle.sink_distances.specs.Adjacency.{IsAdjacency};
 ghost use Rattle.sink_distances.specs.Distances.{AreDistances};
 ghost use Rattle.plain_cut.specs.State.{work_flow, IsWork, IsRaised, IsUnlabelled};
 
 use flow_network::Graph;
-use sink_distances::{Adjacency, write_distances};
+use sink_distances::{Rows, rows_by_node, write_row_distances};
 use std::alloc::{AllocError, Global};
 use std::collections::VecDeque;
 
 /// What the solver changes: a preflow, its excess, the labels, and the nodes that wait for their turn.
 #[derive(Drop)]
 pub struct Work {
-    /// What each arc carries.
-    pub arc_flow: Vec<u64>,
+    /// The directions of each node's arcs, and what each can still carry.
+    pub rows: Rows,
     /// What each node can still give the sink.
     pub rooms: Vec<u64>,
     /// What each node has got and not passed on.
@@ -64,9 +63,10 @@ pub fn start(
     ensures limits { IsNet net.now }
 {
     let nodes = net.nodes();
+    let rows = rows_by_node(alloc, net)?;
     let queue = VecDeque::with_capacity(alloc, nodes)?;
     Ok(Work {
-        arc_flow: vec![in alloc; 0; net.arcs().len()]?,
+        rows,
         rooms: sinks,
         excess: sources,
         labels: vec![in alloc; 0; nodes]?,
@@ -77,19 +77,17 @@ pub fn start(
 
 /// Raises all labels to the exact distances. `order` has one place for each node: the search leaves there the nodes
 /// that reach the sink, the nearest first.
-pub fn raise_all(net: &Graph, adjacency: &Adjacency, work: &mut Work, order: &mut [u32])
+pub fn raise_all(net: &Graph, work: &mut Work, order: &mut [u32])
     requires limits { IsNet net.now }
-    requires adjacency { IsAdjacency net.now adjacency.now }
     requires work { IsWork net.now work.old }
     requires order { length order.old ≡ nodes net.now }
     ensures raised { IsRaised net.now work.old work.new }
     ensures exact { AreDistances net.now (work_flow net.now work.new) work.new.labels.items }
     ensures counted { work.new.relabels ≡ 0 }
 {
-    write_distances(
+    write_row_distances(
         net,
-        adjacency,
-        work.arc_flow.as_slice(),
+        &work.rows,
         work.rooms.as_slice(),
         work.labels.as_mut_slice(),
         order,

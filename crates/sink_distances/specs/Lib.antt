@@ -1,3 +1,4 @@
 pub mod Adjacency
 pub mod Distances
 pub mod Search
+pub mod Rows

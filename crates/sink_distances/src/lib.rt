@@ -14,13 +14,15 @@ ghost use Rattle.sink_distances.specs.Distances.{AreDistances, is_below_top};
 mod adjacency;
 mod labels;
 mod rooms;
+mod rows;
 mod search;
 mod side;
 
 pub use adjacency::{Adjacency, arcs_by_node};
 pub use labels::top_label;
 pub use rooms::are_rooms;
-pub use search::{mark, write_distances};
+pub use rows::{Cell, Rows, rows_by_node};
+pub use search::{mark, write_distances, write_row_distances};
 pub use side::{distances, sink_side};
 
 /// A law: distances are labels that fall by at most 1 along each residual direction.

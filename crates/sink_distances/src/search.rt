@@ -3,9 +3,10 @@ ghost use Rattle.flow_network.specs.Cut.{nodes, IsNet};
 ghost use Rattle.flow_network.specs.Preflow.{arc_at, flow_by, given, AreRooms};
 ghost use Rattle.sink_distances.specs.Adjacency.{IsAdjacency};
 ghost use Rattle.sink_distances.specs.Distances.{AreDistances};
+ghost use Rattle.sink_distances.specs.Rows.{carried, head_at, opposite_at, residual_at, IsPlace, IsRows};
 ghost use Rattle.sink_distances.specs.Search.{found_of, AreStarts, IsBefore, IsReady, Grows};
 
-use crate::{Adjacency, top_label};
+use crate::{Adjacency, Rows, top_label};
 use flow_network::Graph;
 
 /// A net, its arcs by node, and what each arc carries.
@@ -232,6 +233,106 @@ pub fn write_distances(
     'search: while next < count {
         let w = order[next] as usize;
         count = mark_before(&carried, labels, order, count, w);
+        next += 1;
+    }
+}
+
+/// Labels the node to which the direction leads, where what the way back can carry is not used up.
+fn mark_place(
+    net: &Graph,
+    rows: &Rows,
+    labels: &mut [u32],
+    order: &mut [u32],
+    count: usize,
+    w: usize,
+    p: usize,
+    label: u32,
+) -> usize
+    requires limits { IsNet net.now }
+    requires rows { IsRows net.now rows.now }
+    requires len { length labels.old ≡ nodes net.now }
+    requires node { w < nodes net.now }
+    requires place { IsPlace rows.now w p }
+    requires ready { IsReady label (found_of labels.old order.old count) }
+    ensures grows { Grows label (IsBefore net.now (carried rows.now) w)
+        (found_of labels.old order.old count) (found_of labels.new order.new result) }
+    ensures marked { 0 < residual_at rows.now (opposite_at rows.now p) →
+        slice_index labels.new (head_at rows.now p) ≤ label }
+{
+    if rows.back(p) > 0 {
+        mark(labels, order, count, rows.cell(p).head, label)
+    } else {
+        count
+    }
+}
+
+/// Labels the nodes that have a residual direction to the node.
+fn mark_row(
+    net: &Graph,
+    rows: &Rows,
+    labels: &mut [u32],
+    order: &mut [u32],
+    mut count: usize,
+    w: usize,
+    label: u32,
+) -> usize
+    requires limits { IsNet net.now }
+    requires rows { IsRows net.now rows.now }
+    requires len { length labels.old ≡ nodes net.now }
+    requires node { w < nodes net.now }
+    requires ready { IsReady label (found_of labels.old order.old count) }
+    ensures grows { Grows label (IsBefore net.now (carried rows.now) w)
+        (found_of labels.old order.old count) (found_of labels.new order.new result) }
+    ensures marked { (v : ℕ) → IsBefore net.now (carried rows.now) w v → slice_index labels.new v ≤ label }
+{
+    'row: for p in rows.starts[w]..rows.starts[w + 1] {
+        count = mark_place(net, rows, labels, order, count, w, p as usize, label);
+    }
+    count
+}
+
+/// Labels the nodes that have a residual direction to the node, one above its label.
+fn mark_behind(
+    net: &Graph,
+    rows: &Rows,
+    labels: &mut [u32],
+    order: &mut [u32],
+    count: usize,
+    w: usize,
+) -> usize
+    requires limits { IsNet net.now }
+    requires rows { IsRows net.now rows.now }
+    requires len { length labels.old ≡ nodes net.now }
+    requires node { w < nodes net.now }
+    requires ready { IsReady (slice_index labels.old w + 1) (found_of labels.old order.old count) }
+    ensures grows { Grows (slice_index labels.old w + 1) (IsBefore net.now (carried rows.now) w)
+        (found_of labels.old order.old count) (found_of labels.new order.new result) }
+    ensures marked { (v : ℕ) → IsBefore net.now (carried rows.now) w v →
+        slice_index labels.new v ≤ slice_index labels.old w + 1 }
+{
+    let label = labels[w] + 1;
+    mark_row(net, rows, labels, order, count, w, label)
+}
+
+/// What `write_distances` writes, found over the rows of a net: `rows` tells what each arc carries.
+pub fn write_row_distances(
+    net: &Graph,
+    rows: &Rows,
+    rooms: &[u64],
+    labels: &mut [u32],
+    order: &mut [u32],
+)
+    requires rows { IsRows net.now rows.now }
+    requires rooms { AreRooms net.now rooms.now }
+    requires labels_len { length labels.old ≡ nodes net.now }
+    requires order_len { length order.old ≡ nodes net.now }
+    ensures { AreDistances net.now (flow_by (carried rows.now) (given net.now rooms.now)) labels.new }
+{
+    let mut count = mark_starts(net, rooms, labels, order);
+    let mut next = 0;
+    'levels: while next < count {
+        let w = order[next] as usize;
+        count = mark_behind(net, rows, labels, order, count, w);
         next += 1;
     }
 }

@@ -1,51 +1,71 @@
-use Rattle.std.proofs.lemmas.Grind.{common_steps}
-use Rattle.std.proofs.Common.{arith, refl, ◌∙◌, ap, set, length, ◌≡◌, ◌-◌, ◌+◌, ℕ, slice_index}
+use Rattle.std.proofs.Common.{arith, refl, sym, ◌∙◌, ap, set, length, ◌≡◌, ◌<◌, ◌+◌, ◌-◌, ℕ, slice_index}
 use Rattle.std.proofs.lemmas.List.{with_items_is, get_or_read, length-set}
-use Rattle.flow_network.specs.Preflow.{arc_at}
-use Rattle.flow_network.proofs.Push.{moved}
-use Rattle.flow_network.proofs.Duality.{arc_is}
-use Rattle.flow_network.proofs.Moves.{kept-le-total}
+use Rattle.sink_distances.specs.Rows.{head_at}
+use Rattle.sink_distances.proofs.Showing.{directed}
 use Rattle.plain_cut.specs.State.{work_flow}
-use Rattle.plain_cut.proofs.Unlabelled.{send_work}
+use Rattle.flow_network.proofs.Push.{moved}
+use Rattle.flow_network.proofs.Moves.{kept-le-total}
+use Rattle.plain_cut.proofs.Passes.{pair-le-limit}
+use Rattle.plain_cut.proofs.Unlabelled.{along_work}
 use Rattle.plain_cut.proofs.opening.send.Goals as goal
+
+pub carry-requires-clause-to : goal.carry-requires-clause-to
+carry-requires-clause-to c =
+    let d = directed c.args.net.now c.args.work.now.rows c.args.v c.args.p c.nodes-nodes.ensures.limits c.requires.work.work.shown c.requires.node c.requires.place in
+    rw c.as_mut_slice.ensures.value (omega (arith, d.head, c.cell-cell.ensures.head, c.requires.work.work.sound.kept_len))
 
 pub carry-requires-clause-small : goal.carry-requires-clause-small
 carry-requires-clause-small c =
     let net = c.args.net.now in
     let old = c.args.work.now in
-    let u = (arc_at net c.args.k).from in
-    let w = (arc_at net c.args.k).to in
-    let h = c.arcs.ensures.limits in
-    let ends = arc_is net h c.args.k c.requires.arc in
+    let v = c.args.v in
+    let p = c.args.p in
+    let z = c.min-amount.result in
+    let h = c.nodes-nodes.ensures.limits in
+    let d = directed net old.rows v p h c.requires.work.work.shown c.requires.node c.requires.place in
+    let w = head_at old.rows p in
     let s = c.requires.work.work.sound in
-    let read = rw c.arcs.ensures.value at c.index.ensures in
-    let kept : c.index.result.now ≡ slice_index old.excess.items u = get_or_read old.excess.items u c.index.result.now (omega (arith, s.kept_len, ends.from)) read 0 in
-    let b1 = kept-le-total net (work_flow net old) old.excess.items old.labels.items h s u ends.from in
-    let b2 = kept-le-total net (work_flow net old) old.excess.items old.labels.items h s w ends.to in
-    rw (c.arcs.ensures.value, c.as_mut_slice.ensures.value) (omega (arith, b1, b2, h.total, kept, c.min-amount.ensures))
+    let in_kept : v < length old.excess.items = omega (arith, s.kept_len, c.requires.node) in
+    let kept : c.index.result.now ≡ slice_index old.excess.items v = get_or_read old.excess.items v c.index.result.now in_kept c.index.ensures 0 in
+    let amount = c.min-amount.ensures in
+    let head = c.cell-cell.ensures.head in
+    let room = c.cell-cell.ensures.residual in
+    let b1 = kept-le-total net (work_flow net old) old.excess.items old.labels.items h s v c.requires.node in
+    let b2 = kept-le-total net (work_flow net old) old.excess.items old.labels.items h s w d.head in
+    rw (c.as_mut_slice.ensures.value, head) (omega (arith, b1, b2, h.total, kept, amount))
 
-pub returns : goal.returns
-returns c =
+pub send-requires-clause-opposite : goal.send-requires-clause-opposite
+send-requires-clause-opposite c =
+    (directed c.args.net.now c.args.work.now.rows c.args.v c.args.p c.nodes-nodes.ensures.limits c.requires.work.work.shown c.requires.node c.requires.place).back
+
+pub send-requires-clause-other : goal.send-requires-clause-other
+send-requires-clause-other c =
+    (directed c.args.net.now c.args.work.now.rows c.args.v c.args.p c.nodes-nodes.ensures.limits c.requires.work.work.shown c.requires.node c.requires.place).other
+
+pub send-requires-clause-small : goal.send-requires-clause-small
+send-requires-clause-small c =
+    let pair = pair-le-limit c.args.net.now c.args.work.now.rows c.args.v c.args.p c.nodes-nodes.ensures.limits c.requires.work.work.shown c.requires.node c.requires.place in
+    omega (arith, pair, c.min-amount.ensures, c.cell-cell.ensures.residual)
+
+pub returns-clause-work : goal.returns-clause-work
+returns-clause-work c =
     let net = c.args.net.now in
     let old = c.args.work.now in
-    let k = c.args.k in
-    let u = (arc_at net k).from in
-    let w = (arc_at net k).to in
+    let v = c.args.v in
+    let p = c.args.p in
     let z = c.min-amount.result in
-    let h = c.arcs.ensures.limits in
-    let ends = arc_is net h k c.requires.arc in
+    let h = c.nodes-nodes.ensures.limits in
+    let d = directed net old.rows v p h c.requires.work.work.shown c.requires.node c.requires.place in
+    let w = head_at old.rows p in
     let s = c.requires.work.work.sound in
-    let read = rw c.arcs.ensures.value at c.index.ensures in
-    let kept : c.index.result.now ≡ slice_index old.excess.items u = get_or_read old.excess.items u c.index.result.now (omega (arith, s.kept_len, ends.from)) read 0 in
-    let flow : c.index-flow.result.now ≡ slice_index old.arc_flow.items k = get_or_read old.arc_flow.items k c.index-flow.result.now (omega (arith, s.preflow.arcs_len, c.requires.arc)) c.index-flow.ensures 0 in
-    let amount = rw c.arcs.ensures.value at c.min-amount.ensures in
-    let carried : c.carry.new.excess ≡ moved old.excess.items u w z = rw (c.arcs.ensures.value, c.as_mut_slice.ensures.value) at c.carry.ensures in
+    let in_kept : v < length old.excess.items = omega (arith, s.kept_len, c.requires.node) in
+    let kept : c.index.result.now ≡ slice_index old.excess.items v = get_or_read old.excess.items v c.index.result.now in_kept c.index.ensures 0 in
+    let amount = c.min-amount.ensures in
+    let head = c.cell-cell.ensures.head in
+    let room = c.cell-cell.ensures.residual in
+    let shifted : c.carry.new.excess ≡ moved old.excess.items v w z = rw (c.as_mut_slice.ensures.value, head) at c.carry.ensures in
     let long : length c.carry.new.excess ≡ old.excess.len =
-    ap (length {A = ℕ}) carried ∙ (length-set (set old.excess.items u (slice_index old.excess.items u - z)) w (slice_index old.excess.items w + z) ∙ (length-set old.excess.items u (slice_index old.excess.items u - z) ∙ omega (arith, old.excess.ok.0))) in
-    send_work net old _ k z h c.requires.work c.requires.arc c.requires.other
-    (omega (arith, amount, kept)) (omega (arith, amount, flow, c.requires.residual)) c.requires.residual
-    (ap (λ (f : ℕ). set old.arc_flow.items k (f + z)) flow) refl
-    (with_items_is old.excess c.carry.new.excess long ∙ carried) refl refl
-
-pub carry-requires-clause-enough : goal.carry-requires-clause-enough
-carry-requires-clause-enough c = grind (arith, common_steps)
+    ap (length {A = ℕ}) shifted ∙ (length-set (set old.excess.items v (slice_index old.excess.items v - z)) w (slice_index old.excess.items w + z) ∙ (length-set old.excess.items v (slice_index old.excess.items v - z) ∙ omega (arith, old.excess.ok.0))) in
+    let excess = with_items_is old.excess c.carry.new.excess long ∙ shifted in
+    along_work net old _ v p z h c.requires.work c.requires.node c.requires.place (λ e. c.requires.other (sym e))
+    (omega (arith, amount, kept)) (omega (arith, amount, room)) c.requires.residual c.send.ensures refl excess refl refl

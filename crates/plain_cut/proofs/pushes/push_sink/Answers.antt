@@ -24,6 +24,7 @@ returns c =
       step = give_step net old _ v z c.nodes-nodes.ensures.limits c.requires.work c.requires.node
           (omega (arith, amount, kept)) (omega (arith, amount, kept, room, c.requires.some, c.requires.residual)) (omega (arith, amount, room))
           refl (ap (λ (f : ℕ). set old.rooms.items v (f - z)) room_again) (ap (λ (f : ℕ). set old.excess.items v (f - z)) again) refl refl refl;
+      rows = refl;
       labels = refl;
       spent = λ some. omega (arith, some, kept_set, room_set, amount, kept, again, room, room_again);
     }

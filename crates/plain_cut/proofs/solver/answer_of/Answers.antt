@@ -7,6 +7,12 @@ use Rattle.flow_network.proofs.Given.{length-given}
 use Rattle.plain_cut.proofs.Solving.{solved_certified}
 use Rattle.plain_cut.proofs.solver.answer_of.Goals as goal
 
+pub carried_by-requires-clause-first : goal.carried_by-requires-clause-first
+carried_by-requires-clause-first c = λ k l. (c.requires.work.shown.arcs k (omega (arith, l, c.requires.work.shown.firsts_len))).first
+
+pub carried_by-requires-clause-second : goal.carried_by-requires-clause-second
+carried_by-requires-clause-second c = λ k l. (c.requires.work.shown.arcs k (omega (arith, l, c.requires.work.shown.firsts_len))).second
+
 pub returns : goal.returns
 returns c =
     let net = c.args.net.now in
@@ -21,7 +27,7 @@ returns c =
     record {
       certified = record {
         bits = known.bits;
-        certified = rw (with_items_is w.rooms c.turn_to_given.new.rooms long ∙ turned)
+        certified = rw (c.in_ok-arc_flow.ensures, with_items_is w.rooms c.turn_to_given.new.rooms long ∙ turned)
             (solved_certified net w side c.cut_capacity-value.result h c.requires.work c.requires.finished c.requires.exact known.reach told);
       };
       smallest = known.smallest;

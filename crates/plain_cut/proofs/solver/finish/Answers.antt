@@ -1,14 +1,9 @@
 use Rattle.std.proofs.lemmas.Result.{IfOk-from_err}
 use Rattle.plain_cut.proofs.solver.finish.Goals as goal
 
-pub returns-in_err-adjacency : goal.returns-in_err-adjacency
-returns-in_err-adjacency c =
-    let e = c.from_residual.ensures.0 in
-    record { limits = c.nodes-nodes.ensures.limits; work = IfOk-from_err _ _ e; finished = IfOk-from_err _ _ e; exact = IfOk-from_err _ _ e }
-
 pub returns-in_err-order : goal.returns-in_err-order
 returns-in_err-order c =
-    let e = c.from_residual-in_err-order.ensures.0 in
+    let e = c.from_residual.ensures.0 in
     record { limits = c.nodes-nodes.ensures.limits; work = IfOk-from_err _ _ e; finished = IfOk-from_err _ _ e; exact = IfOk-from_err _ _ e }
 
 pub returns-in_err-work : goal.returns-in_err-work

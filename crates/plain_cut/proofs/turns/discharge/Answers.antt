@@ -29,7 +29,7 @@ pub returns-after-steps-clause-done : goal.returns-after-steps-clause-done
 returns-after-steps-clause-done c = search rules
 
 pub push_all-requires : goal.push_all-requires
-push_all-requires c = record { adjacency = c.requires.adjacency; work = c.requires.work; node = c.requires.node }
+push_all-requires c = record { work = c.requires.work; node = c.requires.node }
 
 pub returns-in_err-push_all : goal.returns-in_err-push_all
 returns-in_err-push_all c =
@@ -43,7 +43,7 @@ pub steps-smaller : goal.steps-smaller
 steps-smaller c = omega (arith, c.relabel.ensures.lower, c.in_ok-push_all-2.ensures.steps.fall)
 
 pub push_all-requires-in-steps : goal.push_all-requires-in-steps
-push_all-requires-in-steps c = record { adjacency = c.requires.adjacency; work = c.relabel.ensures.work; node = c.requires.node }
+push_all-requires-in-steps c = record { work = c.relabel.ensures.work; node = c.requires.node }
 
 pub returns-in_err-push_all-2 : goal.returns-in_err-push_all-2
 returns-in_err-push_all-2 c =

@@ -5,7 +5,7 @@ use Rattle.plain_cut.proofs.turns.discharge.Given as goal
 abbrev pub invariant-steps : goal.invariant-steps
 invariant-steps l = record {
   steps : IsSteps l.net l.v l.fn.work l.work;
-  stuck : 0 < slice_index l.work.excess.items l.v → IsStuck l.net l.work l.v;
+  stuck : 0 < slice_index l.work.excess.items l.v → IsStuck l.work l.v;
 }
 
 abbrev pub decreases-steps : goal.decreases-steps

@@ -14,7 +14,7 @@ pub turns-preserved : goal.turns-preserved
 turns-preserved c =
     let net = c.args.net.now in
     let popped = pop_queued net c.turns.work
-    (record { arc_flow = c.turns.work.arc_flow; rooms = c.turns.work.rooms; excess = c.turns.work.excess; labels = c.turns.work.labels; queue = c.pop_front.new.self; relabels = c.turns.work.relabels })
+    (record { rows = c.turns.work.rows; rooms = c.turns.work.rooms; excess = c.turns.work.excess; labels = c.turns.work.labels; queue = c.pop_front.new.self; relabels = c.turns.work.relabels })
     c.in-Some.v c.pop_front.new.self.items c.in-Some.ensures.items refl refl refl c.turns.invariant.1 in (
       c.in_ok-discharge.ensures.steps.work,
       done_queued net c.discharge.new.work c.in-Some.v c.in_ok-discharge.ensures.done (c.in_ok-discharge.ensures.steps.queued popped),

@@ -1,0 +1,67 @@
+use Rattle.std.proofs.Common.{arith, inl, inr, ◌≡◌, ◌+◌, slice_index}
+use Rattle.std.proofs.lemmas.Bool.{cases_lt}
+use Rattle.std.proofs.lemmas.List.{get_or_read}
+use Rattle.std.proofs.lemmas.Result.{IfOk-from_err}
+use Rattle.plain_cut.proofs.Steps.{steps_more}
+use Rattle.plain_cut.proofs.Passes.{push_more, push_place, spent_more}
+use Rattle.plain_cut.proofs.pushes.push_row.Goals as goal
+
+pub try_push-requires-clause-place : goal.try_push-requires-clause-place
+try_push-requires-clause-place c =
+    let first : c.index-p.result.now ≡ slice_index c.args.work.now.rows.starts.items c.args.v =
+    get_or_read c.args.work.now.rows.starts.items c.args.v c.index-p.result.now (omega (arith, c.requires.work.shown.starts_len, c.requires.node)) c.index-p.ensures 0 in
+    let last : c.index-p-end.result.now ≡ slice_index c.args.work.now.rows.starts.items (c.args.v + 1) =
+    get_or_read c.args.work.now.rows.starts.items (c.args.v + 1) c.index-p-end.result.now (omega (arith, c.requires.work.shown.starts_len, c.requires.node)) c.index-p-end.ensures 0 in
+    push_place c.args.v c.args.work.now c.row.work c.row.p c.row.invariant.push (omega (arith, first, c.row.auto.p), omega (arith, last, c.row-test.true))
+
+pub row-preserved : goal.row-preserved
+row-preserved c =
+    let net = c.args.net.now in
+    let v = c.args.v in
+    let p = c.row.p in
+    let old = c.args.work.now in
+    let now = c.row.work in
+    let new = c.try_push.new.work in
+    let made = c.in_ok-try_push.ensures in
+    let last : c.index-p-end.result.now ≡ slice_index c.args.work.now.rows.starts.items (c.args.v + 1) =
+    get_or_read c.args.work.now.rows.starts.items (c.args.v + 1) c.index-p-end.result.now (omega (arith, c.requires.work.shown.starts_len, c.requires.node)) c.index-p-end.ensures 0 in
+    record {
+      steps = steps_more net v old now new c.row.invariant.steps made.steps;
+      push = push_more v old now new c.row.invariant.push made.push;
+      spent = λ q from below. elim (cases_lt q p) [
+        | inl before ↦
+            spent_more now new v p q made.push made.others
+            (push_place v old now q c.row.invariant.push (from, omega (arith, before, last, c.row-test.true)))
+            made.spent (c.row.invariant.spent q from before)
+        | inr after ↦
+            let same : q ≡ p = omega (arith, below, after) in
+            rw same made.spent
+      ];
+    }
+
+-- every direction of the node was met
+pub returns-clause-spent : goal.returns-clause-spent
+returns-clause-spent c = λ p place.
+    let last : c.index-p-end.result.now ≡ slice_index c.args.work.now.rows.starts.items (c.args.v + 1) =
+    get_or_read c.args.work.now.rows.starts.items (c.args.v + 1) c.index-p-end.result.now (omega (arith, c.requires.work.shown.starts_len, c.requires.node)) c.index-p-end.ensures 0 in
+    c.row.invariant.spent p place.0 (omega (arith, place.1, last, c.row-test.false))
+
+pub try_push-requires-clause-work : goal.try_push-requires-clause-work
+try_push-requires-clause-work c = c.row.invariant.steps.work
+
+pub returns-in_err-try_push : goal.returns-in_err-try_push
+returns-in_err-try_push c =
+    let e = c.from_residual.ensures.0 in
+    record { steps = IfOk-from_err _ _ e; push = IfOk-from_err _ _ e; spent = IfOk-from_err _ _ e }
+
+pub returns-then-index-eq0-clause-steps : goal.returns-then-index-eq0-clause-steps
+returns-then-index-eq0-clause-steps c = c.row.invariant.steps
+
+pub returns-then-index-eq0-clause-push : goal.returns-then-index-eq0-clause-push
+returns-then-index-eq0-clause-push c = c.row.invariant.push
+
+pub returns-clause-steps : goal.returns-clause-steps
+returns-clause-steps c = c.row.invariant.steps
+
+pub returns-clause-push : goal.returns-clause-push
+returns-clause-push c = c.row.invariant.push
