@@ -1,15 +1,15 @@
 ghost use Rattle.std.specs.Prelude.{◌≡◌, ◌≢◌, ◌<◌, IfOk, IsTrue, length, slice_index};
 ghost use Rattle.flow_network.specs.Cut.{nodes, IsNet};
-ghost use Rattle.sink_distances.specs.Rows.{head_at, residual_at, IsPlace};
+ghost use Rattle.sink_distances.specs.Rows.{head_at, residual_at, IsPlace, IsRows, AreEmpty};
 ghost use Rattle.plain_cut.specs.State.{IsWork, IsUnlabelled};
 
 use crate::pushes::{carry, try_push_sink};
 use crate::work::{Work, start};
-use flow_network::Graph;
+use sink_distances::{Outline, Rows};
 use std::alloc::{AllocError, Global};
 
 /// Sends along the direction what the node has and it can still carry.
-fn send(net: &Graph, work: &mut Work, v: usize, p: usize)
+fn send(net: &Outline, work: &mut Work, v: usize, p: usize)
     requires work { IsUnlabelled net.now work.old }
     requires node { v < nodes net.now }
     requires place { IsPlace work.old.rows v p }
@@ -37,7 +37,7 @@ fn leads(head: u32, v: usize, up: bool) -> bool
 }
 
 /// Sends along the direction, where it leads up, or down, and can carry more.
-fn try_send(net: &Graph, work: &mut Work, v: usize, p: usize, up: bool)
+fn try_send(net: &Outline, work: &mut Work, v: usize, p: usize, up: bool)
     requires work { IsUnlabelled net.now work.old }
     requires node { v < nodes net.now }
     requires place { IsPlace work.old.rows v p }
@@ -53,7 +53,7 @@ fn try_send(net: &Graph, work: &mut Work, v: usize, p: usize, up: bool)
 
 /// Gives the sink what it can of the node's excess, and sends the rest along the node's directions to higher nodes, the
 /// first before the others.
-fn send_first(net: &Graph, work: &mut Work, v: usize)
+fn send_first(net: &Outline, work: &mut Work, v: usize)
     requires work { IsUnlabelled net.now work.old }
     requires node { v < nodes net.now }
     ensures { IsUnlabelled net.now work.new }
@@ -69,7 +69,7 @@ fn send_first(net: &Graph, work: &mut Work, v: usize)
 
 /// Gives the sink what it can of the node's excess, and sends the rest along the node's directions to higher nodes, or
 /// to lower ones, the last before the others.
-fn send_last(net: &Graph, work: &mut Work, v: usize, up: bool)
+fn send_last(net: &Outline, work: &mut Work, v: usize, up: bool)
     requires work { IsUnlabelled net.now work.old }
     requires node { v < nodes net.now }
     ensures { IsUnlabelled net.now work.new }
@@ -88,19 +88,22 @@ fn send_last(net: &Graph, work: &mut Work, v: usize, up: bool)
 /// higher nodes, all excess goes as far as it can in the first pass, what the sink has not taken comes back in the
 /// second, and goes other ways in the third.
 ///
-/// It takes the net's sources and sinks over.
+/// It takes the net's rows, sources and sinks over.
 pub fn open(
     alloc: Global,
-    net: &Graph,
+    net: &Outline,
+    rows: Rows,
     sources: Vec<u64>,
     sinks: Vec<u64>,
 ) -> Result<Work, AllocError>
+    requires rows { IsRows net.now rows }
+    requires empty { AreEmpty net.now rows }
     requires sources { sources.items ≡ net.now.sources }
     requires sinks { sinks.items ≡ net.now.sinks }
     ensures work { IfOk result (λ w. IsWork net.now w) }
     ensures limits { IsNet net.now }
 {
-    let mut work = start(alloc, net, sources, sinks)?;
+    let mut work = start(alloc, net, rows, sources, sinks)?;
     'up: for v in 0..net.nodes() {
         send_first(net, &mut work, v);
     }

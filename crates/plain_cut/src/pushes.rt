@@ -5,7 +5,7 @@ ghost use Rattle.sink_distances.specs.Rows.{head_at, residual_at, IsPlace};
 ghost use Rattle.plain_cut.specs.State.{IsWork, IsStep, IsSteps, IsPush, ChangesOnly, IsSpent, IsStuck};
 
 use crate::work::Work;
-use flow_network::Graph;
+use sink_distances::Outline;
 use std::alloc::{AllocError, Global};
 use std::collections::VecDeque;
 
@@ -51,7 +51,7 @@ fn shift(
 }
 
 /// Pushes along the direction what the node has and it can still carry.
-fn push_along(net: &Graph, work: &mut Work, v: usize, p: usize) -> Result<(), AllocError>
+fn push_along(net: &Outline, work: &mut Work, v: usize, p: usize) -> Result<(), AllocError>
     requires work { IsWork net.now work.old }
     requires node { v < nodes net.now }
     requires place { IsPlace work.old.rows v p }
@@ -79,7 +79,7 @@ fn push_along(net: &Graph, work: &mut Work, v: usize, p: usize) -> Result<(), Al
 }
 
 /// Gives the sink what the node has and its sink arc can still carry.
-fn push_sink(net: &Graph, work: &mut Work, v: usize)
+fn push_sink(net: &Outline, work: &mut Work, v: usize)
     requires work { IsWork net.now work.old }
     requires node { v < nodes net.now }
     requires residual { 0 < slice_index work.old.rooms.items v }
@@ -96,7 +96,7 @@ fn push_sink(net: &Graph, work: &mut Work, v: usize)
 }
 
 /// Gives the sink what the node has, where its sink arc has room.
-pub fn try_push_sink(net: &Graph, work: &mut Work, v: usize)
+pub fn try_push_sink(net: &Outline, work: &mut Work, v: usize)
     requires work { IsWork net.now work.old }
     requires node { v < nodes net.now }
     ensures steps { IsSteps net.now v work.old work.new }
@@ -110,7 +110,7 @@ pub fn try_push_sink(net: &Graph, work: &mut Work, v: usize)
 }
 
 /// Pushes along the direction, where the node has excess, it can carry more, and it leads down.
-fn try_push(net: &Graph, work: &mut Work, v: usize, p: usize) -> Result<(), AllocError>
+fn try_push(net: &Outline, work: &mut Work, v: usize, p: usize) -> Result<(), AllocError>
     requires work { IsWork net.now work.old }
     requires node { v < nodes net.now }
     requires place { IsPlace work.old.rows v p }
@@ -131,7 +131,7 @@ fn try_push(net: &Graph, work: &mut Work, v: usize, p: usize) -> Result<(), Allo
 }
 
 /// Pushes along the node's directions, while it has excess.
-fn push_row(net: &Graph, work: &mut Work, v: usize) -> Result<(), AllocError>
+fn push_row(net: &Outline, work: &mut Work, v: usize) -> Result<(), AllocError>
     requires work { IsWork net.now work.old }
     requires node { v < nodes net.now }
     ensures steps { OnOk result (IsSteps net.now v work.old work.new) }
@@ -148,7 +148,7 @@ fn push_row(net: &Graph, work: &mut Work, v: usize) -> Result<(), AllocError>
 }
 
 /// Pushes to the sink and along each direction of the node that leads down, while it has excess.
-pub fn push_all(net: &Graph, work: &mut Work, v: usize) -> Result<(), AllocError>
+pub fn push_all(net: &Outline, work: &mut Work, v: usize) -> Result<(), AllocError>
     requires work { IsWork net.now work.old }
     requires node { v < nodes net.now }
     ensures steps { OnOk result (IsSteps net.now v work.old work.new) }

@@ -5,11 +5,10 @@ ghost use Rattle.sink_distances.specs.Rows.{head_at, residual_at, IsPlace};
 ghost use Rattle.plain_cut.specs.State.{IsWork, IsStep, IsStuck, IsLowest};
 
 use crate::work::Work;
-use flow_network::Graph;
-use sink_distances::top_label;
+use sink_distances::Outline;
 
 /// The lesser of a label and one more than that to which the direction leads, where it can carry more.
-fn lower(net: &Graph, work: &Work, v: usize, p: usize, least: u32) -> u32
+fn lower(net: &Outline, work: &Work, v: usize, p: usize, least: u32) -> u32
     requires work { IsWork net.now work.now }
     requires node { v < nodes net.now }
     requires place { IsPlace work.now.rows v p }
@@ -30,7 +29,7 @@ fn lower(net: &Graph, work: &Work, v: usize, p: usize, least: u32) -> u32
 }
 
 /// The highest label that fits a node from which no residual direction leads down.
-fn highest_label(net: &Graph, work: &Work, v: usize) -> u32
+fn highest_label(net: &Outline, work: &Work, v: usize) -> u32
     requires work { IsWork net.now work.now }
     requires node { v < nodes net.now }
     requires stuck { IsStuck work.now v }
@@ -39,7 +38,7 @@ fn highest_label(net: &Graph, work: &Work, v: usize) -> u32
     ensures lowest { IsLowest net.now work.now v result }
     ensures limits { IsNet net.now }
 {
-    let mut least = top_label(net);
+    let mut least = net.top_label();
     'row: for p in work.rows.starts[v]..work.rows.starts[v + 1] {
         least = lower(net, work, v, p as usize, least);
     }
@@ -47,7 +46,7 @@ fn highest_label(net: &Graph, work: &Work, v: usize) -> u32
 }
 
 /// Gives the node the highest label that fits.
-pub fn relabel(net: &Graph, work: &mut Work, v: usize)
+pub fn relabel(net: &Outline, work: &mut Work, v: usize)
     requires work { IsWork net.now work.old }
     requires node { v < nodes net.now }
     requires stuck { IsStuck work.old v }

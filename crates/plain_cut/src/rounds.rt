@@ -4,12 +4,11 @@ ghost use Rattle.plain_cut.specs.State.{IsWork, IsWave, IsRound};
 
 use crate::pushes::push_all;
 use crate::work::{Work, queue_again, raise_all};
-use flow_network::Graph;
-use sink_distances::top_label;
+use sink_distances::Outline;
 use std::alloc::AllocError;
 
 /// Pushes at each node of the order once, the last first. What is no node is passed over.
-fn push_wave(net: &Graph, work: &mut Work, order: &[u32]) -> Result<(), AllocError>
+fn push_wave(net: &Outline, work: &mut Work, order: &[u32]) -> Result<(), AllocError>
     requires work { IsWork net.now work.old }
     ensures wave { OnOk result (IsWave net.now work.old work.new) }
 {
@@ -25,7 +24,7 @@ fn push_wave(net: &Graph, work: &mut Work, order: &[u32]) -> Result<(), AllocErr
 
 /// Begins a round: raises all labels to the exact distances, pushes at each node once, the farthest from the sink
 /// first, and queues anew the nodes that still have excess and reach the sink.
-pub fn begin_round(net: &Graph, work: &mut Work, order: &mut [u32]) -> Result<(), AllocError>
+pub fn begin_round(net: &Outline, work: &mut Work, order: &mut [u32]) -> Result<(), AllocError>
     requires limits { IsNet net.now }
     requires work { IsWork net.now work.old }
     requires order { length order.old ≡ nodes net.now }
@@ -39,6 +38,6 @@ pub fn begin_round(net: &Graph, work: &mut Work, order: &mut [u32]) -> Result<()
         &mut work.queue,
         work.excess.as_slice(),
         work.labels.as_slice(),
-        top_label(net),
+        net.top_label(),
     )
 }

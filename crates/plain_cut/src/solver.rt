@@ -5,24 +5,27 @@ ghost use Rattle.flow_network.specs.Cut.{nodes, set_of, IsNet, IsSmallestLeastCu
 ghost use Rattle.flow_network.specs.Preflow.{IsReach};
 ghost use Rattle.flow_network.specs.Answer.{side_of, IsRightCut};
 ghost use Rattle.sink_distances.specs.Distances.{AreDistances};
-ghost use Rattle.sink_distances.specs.Rows.{carried, first_at, second_at};
+ghost use Rattle.sink_distances.specs.Rows.{carried, first_at, second_at, places_of, IsRows, AreEmpty};
 ghost use Rattle.plain_cut.specs.State.{work_flow, IsWork, IsFinished};
 
 use crate::opening::open;
 use crate::rounds::begin_round;
 use crate::turns::run;
 use crate::work::{Work, raise_all};
-use flow_network::{Graph, Net, Solved, cut_capacity};
-use sink_distances::{Rows, sink_side};
+use flow_network::{Net, Solved, cut_capacity};
+use sink_distances::{Outline, Rows, rows_by_node, side_below};
 use std::alloc::{AllocError, Global};
 
-/// The work at its end, whose labels are the exact distances. It takes the net's sources and sinks over.
+/// The work at its end, whose labels are the exact distances. It takes the net's rows, sources and sinks over.
 fn finish(
     alloc: Global,
-    net: &Graph,
+    net: &Outline,
+    rows: Rows,
     sources: Vec<u64>,
     sinks: Vec<u64>,
 ) -> Result<Work, AllocError>
+    requires rows { IsRows net.now rows }
+    requires empty { AreEmpty net.now rows }
     requires sources { sources.items ≡ net.now.sources }
     requires sinks { sinks.items ≡ net.now.sinks }
     ensures limits { IsNet net.now }
@@ -32,13 +35,13 @@ fn finish(
 {
     let nodes = net.nodes();
     let mut order = vec![in alloc; 0; nodes]?;
-    let mut work = open(alloc, net, sources, sinks)?;
+    let mut work = open(alloc, net, rows, sources, sinks)?;
     settle(net, &mut work, order.as_mut_slice())?;
     Ok(work)
 }
 
 /// Rounds until no node that reaches the sink has excess; at the end the labels are the exact distances.
-fn settle(net: &Graph, work: &mut Work, order: &mut [u32]) -> Result<(), AllocError>
+fn settle(net: &Outline, work: &mut Work, order: &mut [u32]) -> Result<(), AllocError>
     requires limits { IsNet net.now }
     requires work { IsWork net.now work.old }
     requires order { length order.old ≡ nodes net.now }
@@ -73,26 +76,32 @@ pub fn solve(alloc: Global, net: &Net) -> Result<Solved, AllocError>
 {
     let sources = Vec::from_slice(alloc, net.sources())?;
     let sinks = Vec::from_slice(alloc, net.sinks())?;
-    let work = finish(alloc, net.graph(), sources, sinks)?;
-    answer_of(alloc, net, work)
+    let shape = Outline::of(net.graph());
+    let (rows, firsts) = rows_by_node(alloc, net.graph())?;
+    let work = finish(alloc, &shape, rows, sources, sinks)?;
+    answer_of(alloc, net, &shape, work, firsts.as_slice())
 }
 
 /// The sink side of the smallest least cut of the net, one bit for each node: that which `solve` answers, found in
 /// the same way and refused for the same reasons.
 ///
 /// It takes the net over: the net's own lists of sources and sinks become what the solver changes, so it needs 16
-/// bytes a node less than `solve`.
+/// bytes a node less than `solve`, and the arcs are given back once they stand in rows.
 pub fn smallest_side(alloc: Global, net: Net) -> Result<Vec<bool>, AllocError>
     ensures bits { IfOk result (λ side. length side.items ≡ nodes net) }
     ensures smallest { IfOk result (λ side. IsSmallestLeastCut net (set_of side.items)) }
 {
     let (graph, sources, sinks) = net.into_parts();
-    let work = finish(alloc, &graph, sources, sinks)?;
-    least_side(alloc, &graph, &work)
+    let outline = Outline::of(&graph);
+    let (rows, firsts) = rows_by_node(alloc, &graph)?;
+    drop(firsts);
+    drop(graph);
+    let work = finish(alloc, &outline, rows, sources, sinks)?;
+    least_side(alloc, &outline, &work)
 }
 
 /// The nodes that reach the sink, of work that is finished, whose labels are the exact distances.
-fn least_side(alloc: Global, net: &Graph, work: &Work) -> Result<Vec<bool>, AllocError>
+fn least_side(alloc: Global, net: &Outline, work: &Work) -> Result<Vec<bool>, AllocError>
     requires limits { IsNet net.now }
     requires work { IsWork net.now work.now }
     requires finished { IsFinished net.now work.now }
@@ -101,7 +110,7 @@ fn least_side(alloc: Global, net: &Graph, work: &Work) -> Result<Vec<bool>, Allo
     ensures reach { IfOk result (λ side. IsReach net.now (work_flow net.now work.now) (set_of side.items)) }
     ensures smallest { IfOk result (λ side. IsSmallestLeastCut net.now (set_of side.items)) }
 {
-    sink_side(alloc, net, work.labels.as_slice())
+    side_below(alloc, net, work.labels.as_slice())
 }
 
 /// Turns what each node can still give the sink into what it gives.
@@ -115,25 +124,32 @@ fn turn_to_given(sinks: &[u64], rooms: &mut [u64])
     }
 }
 
-/// What each arc carries: what its direction back can carry.
-fn carried_by(alloc: Global, rows: &Rows) -> Result<Vec<u64>, AllocError>
-    requires first { (k : ℕ) → k < length rows.now.firsts.items →
-        first_at rows.now k < length rows.now.cells.items }
-    requires second { (k : ℕ) → k < length rows.now.firsts.items →
-        second_at rows.now k < length rows.now.cells.items }
+/// What each arc carries: what its direction back can carry. `firsts` tells where each arc's other direction stands.
+fn carried_by(alloc: Global, rows: &Rows, firsts: &[u32]) -> Result<Vec<u64>, AllocError>
+    requires firsts { firsts.now ≡ rows.now.firsts.value.items }
+    requires first { (k : ℕ) → k < length firsts.now → first_at rows.now k < length rows.now.cells.items }
+    requires second { (k : ℕ) → k < length firsts.now → second_at rows.now k < length rows.now.cells.items }
     ensures { IfOk result (λ flow. flow.items ≡ carried rows.now) }
 {
-    let mut flow = vec![in alloc; 0u64; rows.firsts.len()]?;
-    'arcs: for k in 0..rows.firsts.len() {
-        flow[k] = rows.back(rows.firsts[k] as usize);
+    let mut flow = vec![in alloc; 0u64; firsts.len()]?;
+    'arcs: for k in 0..firsts.len() {
+        flow[k] = rows.back(firsts[k] as usize);
     }
     Ok(flow)
 }
 
 /// The answer of work that is finished, whose labels are the exact distances: the nodes that reach the sink, and
 /// the preflow.
-fn answer_of(alloc: Global, net: &Net, work: Work) -> Result<Solved, AllocError>
+fn answer_of(
+    alloc: Global,
+    net: &Net,
+    outline: &Outline,
+    work: Work,
+    firsts: &[u32],
+) -> Result<Solved, AllocError>
     requires limits { IsNet net.now }
+    requires outline { outline.now ≡ net.now }
+    requires firsts { firsts.now ≡ places_of net.now }
     requires work { IsWork net.now work }
     requires finished { IsFinished net.now work }
     requires exact { AreDistances net.now (work_flow net.now work) work.labels.items }
@@ -141,9 +157,9 @@ fn answer_of(alloc: Global, net: &Net, work: Work) -> Result<Solved, AllocError>
     ensures smallest { IfOk result (λ s. IsSmallestLeastCut net.now (side_of s)) }
     ensures bound { IfOk result (λ s. s.value ≤ capacity_limit) }
 {
-    let side = least_side(alloc, net.graph(), &work)?;
+    let side = least_side(alloc, outline, &work)?;
     let value = cut_capacity(net, side.as_slice());
-    let arc_flow = carried_by(alloc, &work.rows)?;
+    let arc_flow = carried_by(alloc, &work.rows, firsts)?;
     let mut sink_flow = work.rooms;
     turn_to_given(net.sinks(), sink_flow.as_mut_slice());
     Ok(Solved {

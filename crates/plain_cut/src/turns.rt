@@ -7,19 +7,18 @@ use crate::pushes::push_all;
 use crate::relabels::relabel;
 use crate::rounds::begin_round;
 use crate::work::Work;
-use flow_network::Graph;
-use sink_distances::top_label;
+use sink_distances::Outline;
 use std::alloc::{AllocError, Global};
 
 /// Pushes and new labels until the node has no excess, or its label says that it has no path to the sink.
-pub fn discharge(net: &Graph, work: &mut Work, v: usize) -> Result<(), AllocError>
+pub fn discharge(net: &Outline, work: &mut Work, v: usize) -> Result<(), AllocError>
     requires work { IsWork net.now work.old }
     requires node { v < nodes net.now }
     ensures steps { OnOk result (IsSteps net.now v work.old work.new) }
     ensures done { OnOk result (slice_index work.new.labels.items v < top net.now →
         slice_index work.new.excess.items v ≡ 0) }
 {
-    let top = top_label(net);
+    let top = net.top_label();
     push_all(net, work, v)?;
     'steps: while work.excess[v] > 0 && work.labels[v] < top {
         relabel(net, work, v);
@@ -30,7 +29,7 @@ pub fn discharge(net: &Graph, work: &mut Work, v: usize) -> Result<(), AllocErro
 
 /// Discharges the nodes in the order of the queue, until no node below the top label has excess. A new round begins
 /// once there were more than n / 32 new labels in this one, where n is the number of nodes.
-pub fn run(net: &Graph, work: &mut Work, order: &mut [u32]) -> Result<(), AllocError>
+pub fn run(net: &Outline, work: &mut Work, order: &mut [u32]) -> Result<(), AllocError>
     requires work { IsWork net.now work.old }
     requires order { length order.old ≡ nodes net.now }
     requires queued { IsQueuedBut net.now (nodes net.now) work.old }

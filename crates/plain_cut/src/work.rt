@@ -2,10 +2,10 @@ ghost use Rattle.std.specs.Prelude.{◌≡◌, ◌<◌, ◌≤◌, ℕ, IfOk, On
 ghost use Rattle.flow_network.specs.Limits.{node_limit};
 ghost use Rattle.flow_network.specs.Cut.{nodes, IsNet};
 ghost use Rattle.sink_distances.specs.Distances.{AreDistances};
+ghost use Rattle.sink_distances.specs.Rows.{IsRows, AreEmpty};
 ghost use Rattle.plain_cut.specs.State.{work_flow, IsWork, IsRaised, IsUnlabelled};
 
-use flow_network::Graph;
-use sink_distances::{Rows, rows_by_node, write_row_distances};
+use sink_distances::{Outline, Rows, write_row_distances};
 use std::alloc::{AllocError, Global};
 use std::collections::VecDeque;
 
@@ -49,21 +49,23 @@ pub fn queue_again(
     Ok(())
 }
 
-/// The work at the start: no flow but that of the source, all labels 0, no node queued. It takes the net's sources
-/// and sinks over: what the source sends each node is what the node has, and what it can send the sink its room.
+/// The work at the start: no flow but that of the source, all labels 0, no node queued. It takes the net's rows,
+/// sources and sinks over: what the source sends each node is what the node has, and what it can send the sink its room.
 pub fn start(
     alloc: Global,
-    net: &Graph,
+    net: &Outline,
+    rows: Rows,
     sources: Vec<u64>,
     sinks: Vec<u64>,
 ) -> Result<Work, AllocError>
+    requires rows { IsRows net.now rows }
+    requires empty { AreEmpty net.now rows }
     requires sources { sources.items ≡ net.now.sources }
     requires sinks { sinks.items ≡ net.now.sinks }
     ensures work { IfOk result (λ w. IsUnlabelled net.now w) }
     ensures limits { IsNet net.now }
 {
     let nodes = net.nodes();
-    let rows = rows_by_node(alloc, net)?;
     let queue = VecDeque::with_capacity(alloc, nodes)?;
     Ok(Work {
         rows,
@@ -77,7 +79,7 @@ pub fn start(
 
 /// Raises all labels to the exact distances. `order` has one place for each node: the search leaves there the nodes
 /// that reach the sink, the nearest first.
-pub fn raise_all(net: &Graph, work: &mut Work, order: &mut [u32])
+pub fn raise_all(net: &Outline, work: &mut Work, order: &mut [u32])
     requires limits { IsNet net.now }
     requires work { IsWork net.now work.old }
     requires order { length order.old ≡ nodes net.now }

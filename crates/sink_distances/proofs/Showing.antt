@@ -17,11 +17,11 @@ pub carried_at : (net : Network) (rows : Rows) (k : ℕ) → IsRows net rows →
     → slice_index (carried rows) k ≡ residual_at rows (second_at rows k)
 carried_at net rows k h l =
     let f = λ (p : ℕ). residual_at rows (opposite_at rows p) in
-    let long : k < length (map f rows.firsts.items) = omega (arith, length-map rows.firsts.items f, h.firsts_len) in
-    get_or_default (map f rows.firsts.items) k 0 (f 0) long ∙ get_or-map f rows.firsts.items k 0
+    let long : k < length (map f rows.firsts.value.items) = omega (arith, length-map rows.firsts.value.items f, h.firsts_len) in
+    get_or_default (map f rows.firsts.value.items) k 0 (f 0) long ∙ get_or-map f rows.firsts.value.items k 0
 
 pub carried_len : (net : Network) (rows : Rows) → IsRows net rows → length (carried rows) ≡ length net.arcs
-carried_len net rows h = length-map rows.firsts.items (λ p. residual_at rows (opposite_at rows p)) ∙ h.firsts_len
+carried_len net rows h = length-map rows.firsts.value.items (λ p. residual_at rows (opposite_at rows p)) ∙ h.firsts_len
 
 -- ---- a place of a row
 
@@ -193,6 +193,7 @@ rows_sent net old new v p z r lv place le s =
     let second : (k : ℕ) → second_at new k ≡ second_at old k = λ k. sent_opposite old new p z (first_at old k) (first_at new k) s (first k) in
     record {
       starts_len = ap (length {A = ℕ}) s.starts ∙ r.starts_len;
+      firsts = s.firsts ∙ r.firsts;
       firsts_len = ap (length {A = ℕ}) s.firsts ∙ r.firsts_len;
       within = λ u l. omega (arith, sent_starts old new p z u s, s.len, r.within u l);
       arcs = λ k l.

@@ -13,6 +13,7 @@ ghost use Rattle.sink_distances.specs.Distances.{AreDistances, is_below_top};
 
 mod adjacency;
 mod labels;
+mod outline;
 mod rooms;
 mod rows;
 mod search;
@@ -20,10 +21,11 @@ mod side;
 
 pub use adjacency::{Adjacency, arcs_by_node};
 pub use labels::top_label;
+pub use outline::Outline;
 pub use rooms::are_rooms;
 pub use rows::{Cell, Rows, rows_by_node};
 pub use search::{mark, write_distances, write_row_distances};
-pub use side::{distances, sink_side};
+pub use side::{distances, side_below, sink_side};
 
 /// A law: distances are labels that fall by at most 1 along each residual direction.
 pub fn distances_label()

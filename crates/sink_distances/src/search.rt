@@ -6,7 +6,7 @@ ghost use Rattle.sink_distances.specs.Distances.{AreDistances};
 ghost use Rattle.sink_distances.specs.Rows.{carried, head_at, opposite_at, residual_at, IsPlace, IsRows};
 ghost use Rattle.sink_distances.specs.Search.{found_of, AreStarts, IsBefore, IsReady, Grows};
 
-use crate::{Adjacency, Rows, top_label};
+use crate::{Adjacency, Outline, Rows};
 use flow_network::Graph;
 
 /// A net, its arcs by node, and what each arc carries.
@@ -38,14 +38,14 @@ pub fn mark(labels: &mut [u32], order: &mut [u32], count: usize, v: u32, label: 
 }
 
 /// Labels the nodes that can give the sink more.
-fn mark_starts(net: &Graph, rooms: &[u64], labels: &mut [u32], order: &mut [u32]) -> usize
+fn mark_starts(net: &Outline, rooms: &[u64], labels: &mut [u32], order: &mut [u32]) -> usize
     requires len { length labels.old ≡ nodes net.now }
     requires order_len { length order.old ≡ nodes net.now }
     requires rooms_len { length rooms.now ≡ nodes net.now }
     ensures limits { IsNet net.now }
     ensures starts { AreStarts net.now rooms.now (nodes net.now) (found_of labels.new order.new result) }
 {
-    labels.fill(top_label(net));
+    labels.fill(net.top_label());
     let mut count = 0;
     for v in 0..net.nodes() {
         if rooms[v] > 0 {
@@ -228,7 +228,8 @@ pub fn write_distances(
         adjacency,
         arc_flow,
     };
-    let mut count = mark_starts(net, rooms, labels, order);
+    let outline = Outline::of(net);
+    let mut count = mark_starts(&outline, rooms, labels, order);
     let mut next = 0;
     'search: while next < count {
         let w = order[next] as usize;
@@ -239,7 +240,7 @@ pub fn write_distances(
 
 /// Labels the node to which the direction leads, where what the way back can carry is not used up.
 fn mark_place(
-    net: &Graph,
+    net: &Outline,
     rows: &Rows,
     labels: &mut [u32],
     order: &mut [u32],
@@ -268,7 +269,7 @@ fn mark_place(
 
 /// Labels the nodes that have a residual direction to the node.
 fn mark_row(
-    net: &Graph,
+    net: &Outline,
     rows: &Rows,
     labels: &mut [u32],
     order: &mut [u32],
@@ -293,7 +294,7 @@ fn mark_row(
 
 /// Labels the nodes that have a residual direction to the node, one above its label.
 fn mark_behind(
-    net: &Graph,
+    net: &Outline,
     rows: &Rows,
     labels: &mut [u32],
     order: &mut [u32],
@@ -316,7 +317,7 @@ fn mark_behind(
 
 /// What `write_distances` writes, found over the rows of a net: `rows` tells what each arc carries.
 pub fn write_row_distances(
-    net: &Graph,
+    net: &Outline,
     rows: &Rows,
     rooms: &[u64],
     labels: &mut [u32],

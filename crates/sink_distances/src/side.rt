@@ -3,7 +3,7 @@ ghost use Rattle.flow_network.specs.Preflow.{Flow, flow_by, given, AreRooms, IsR
 ghost use Rattle.flow_network.specs.Progress.{top};
 ghost use Rattle.sink_distances.specs.Distances.{AreDistances};
 
-use crate::{arcs_by_node, top_label, write_distances};
+use crate::{Outline, arcs_by_node, write_distances};
 use flow_network::Graph;
 use std::alloc::{AllocError, Global};
 
@@ -44,6 +44,15 @@ pub fn sink_side(alloc: Global, net: &Graph, labels: &[u32]) -> Result<Vec<bool>
     ensures reach { IfOk result (λ side. (flow : Flow) → AreDistances net.now flow labels.now →
         IsReach net.now flow (λ v. slice_index_or side.items v false)) }
 {
-    let top = top_label(net);
+    side_below(alloc, &Outline::of(net), labels)
+}
+
+/// What `sink_side` answers, of a net whose arcs stand in rows.
+pub fn side_below(alloc: Global, net: &Outline, labels: &[u32]) -> Result<Vec<bool>, AllocError>
+    ensures bits { IfOk result (λ side. side.items ≡ map (λ label. nat_lt label (top net.now)) labels.now) }
+    ensures reach { IfOk result (λ side. (flow : Flow) → AreDistances net.now flow labels.now →
+        IsReach net.now flow (λ v. slice_index_or side.items v false)) }
+{
+    let top = net.top_label();
     labels.iter().map(|label| *label < top).collect(alloc)
 }

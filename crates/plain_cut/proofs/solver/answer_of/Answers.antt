@@ -7,18 +7,21 @@ use Rattle.flow_network.proofs.Given.{length-given}
 use Rattle.plain_cut.proofs.Solving.{solved_certified}
 use Rattle.plain_cut.proofs.solver.answer_of.Goals as goal
 
+pub carried_by-requires-clause-firsts : goal.carried_by-requires-clause-firsts
+carried_by-requires-clause-firsts c = c.requires.firsts ∙ sym c.requires.work.shown.firsts
+
 pub carried_by-requires-clause-first : goal.carried_by-requires-clause-first
-carried_by-requires-clause-first c = λ k l. (c.requires.work.shown.arcs k (omega (arith, l, c.requires.work.shown.firsts_len))).first
+carried_by-requires-clause-first c = λ k l. (c.requires.work.shown.arcs k (omega (arith, l, ap (length {A = ℕ}) (c.requires.firsts ∙ sym c.requires.work.shown.firsts), c.requires.work.shown.firsts_len))).first
 
 pub carried_by-requires-clause-second : goal.carried_by-requires-clause-second
-carried_by-requires-clause-second c = λ k l. (c.requires.work.shown.arcs k (omega (arith, l, c.requires.work.shown.firsts_len))).second
+carried_by-requires-clause-second c = λ k l. (c.requires.work.shown.arcs k (omega (arith, l, ap (length {A = ℕ}) (c.requires.firsts ∙ sym c.requires.work.shown.firsts), c.requires.work.shown.firsts_len))).second
 
 pub returns : goal.returns
 returns c =
     let net = c.args.net.now in
     let w = c.args.work in
     let h = c.requires.limits in
-    let known = rw c.graph.ensures at c.in_ok-side.ensures in
+    let known = rw c.requires.outline at c.in_ok-side.ensures in
     let side = set_of c.in_ok-side.side.items in
     let told = rw c.as_slice.ensures.value at c.cut_capacity-value.ensures in
     let turned : c.turn_to_given.new.rooms ≡ given net w.rooms.items = rw (c.sinks.ensures.value, c.as_mut_slice.ensures.value) at c.turn_to_given.ensures in

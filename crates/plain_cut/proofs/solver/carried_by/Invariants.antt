@@ -4,6 +4,6 @@ use Rattle.plain_cut.proofs.solver.carried_by.Given as goal
 
 abbrev pub invariant-arcs : goal.invariant-arcs
 invariant-arcs l = record {
-  len : length l.flow.items ≡ length l.rows.firsts.items;
+  len : length l.flow.items ≡ length l.firsts;
   done : (j : ℕ) → j < l.k → slice_index l.flow.items j ≡ residual_at l.rows (second_at l.rows j);
 }

@@ -13,12 +13,12 @@ returns c =
     let net = c.args.net.now in
     let w = c.args.work.now in
     let exact = c.requires.exact in
-    let reach : IfOk c.sink_side.result (λ side. IsReach net (work_flow net w) (set_of side.items)) =
-    IfOk-weaker c.sink_side.result _ _ (λ side known. known (work_flow net w) (rw c.as_slice.ensures.value exact)) c.sink_side.ensures.reach in
+    let reach : IfOk c.side_below.result (λ side. IsReach net (work_flow net w) (set_of side.items)) =
+    IfOk-weaker c.side_below.result _ _ (λ side known. known (work_flow net w) (rw c.as_slice.ensures.value exact)) c.side_below.ensures.reach in
     record {
-      bits = IfOk-weaker c.sink_side.result _ _ (λ side known.
-          ap (length {A = Bool}) known ∙ (length-map c.as_slice.result.now (λ label. nat_lt label (top net)) ∙ (ap (length {A = ℕ}) c.as_slice.ensures.value ∙ exact.len))) c.sink_side.ensures.bits;
+      bits = IfOk-weaker c.side_below.result _ _ (λ side known.
+          ap (length {A = Bool}) known ∙ (length-map c.as_slice.result.now (λ label. nat_lt label (top net)) ∙ (ap (length {A = ℕ}) c.as_slice.ensures.value ∙ exact.len))) c.side_below.ensures.bits;
       reach = reach;
-      smallest = IfOk-weaker c.sink_side.result _ _ (λ side known.
+      smallest = IfOk-weaker c.side_below.result _ _ (λ side known.
           solved_smallest net w (set_of side.items) c.requires.limits c.requires.work c.requires.finished exact known) reach;
     }

@@ -6,7 +6,7 @@ pub returns-clause-work : goal.returns-clause-work
 returns-clause-work c =
     let zero_to : ℕ → List ℕ = λ n. replicate n 0 in
     start_work c.args.net.now _ c.nodes-nodes.ensures.limits
-    c.in_ok-rows.ensures.rows c.in_ok-rows.ensures.empty
+    c.requires.rows c.requires.empty
     c.requires.sinks c.requires.sources
     (c.in_ok-vec.ensures.items_if_clones_equal (λ y e. e) ∙ ap zero_to c.nodes-nodes.ensures.value)
     (rw c.in_ok-queue.ensures.items (λ k d l. absurd (omega (arith, l))))

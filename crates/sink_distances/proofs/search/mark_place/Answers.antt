@@ -1,4 +1,4 @@
-use Rattle.std.proofs.Common.{◌≡◌, ap, subst, sym, arith}
+use Rattle.std.proofs.Common.{◌≡◌, subst, sym, arith}
 use Rattle.sink_distances.specs.Rows.{head_at, carried}
 use Rattle.sink_distances.specs.Search.{found_of, IsBefore}
 use Rattle.sink_distances.proofs.Showing.{directed, place_before}

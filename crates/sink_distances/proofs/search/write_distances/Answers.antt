@@ -6,7 +6,7 @@ use Rattle.sink_distances.proofs.search.write_distances.Goals as goal
 pub search-init : goal.search-init
 search-init c =
     searched_begins c.args.net.now c.args.arc_flow.now c.args.rooms.now (found_of c.mark_starts-count.new.labels c.mark_starts-count.new.order c.mark_starts-count.result)
-    c.mark_starts-count.ensures.limits c.requires.rooms c.mark_starts-count.ensures.starts
+    (rw c.of-outline.ensures at c.mark_starts-count.ensures.limits) c.requires.rooms (rw c.of-outline.ensures at c.mark_starts-count.ensures.starts)
 
 pub search-preserved : goal.search-preserved
 search-preserved c =
@@ -14,10 +14,10 @@ search-preserved c =
     let s = found_of c.search.labels c.search.order c.search.count in
     let t = found_of c.mark_before-count.new.labels c.mark_before-count.new.order c.mark_before-count.result in
     searched_more c.args.net.now flow c.search.next s t c.search.invariant c.search-test.true
-    c.mark_before-count.ensures.grows c.mark_before-count.ensures.marked c.mark_starts-count.ensures.limits
+    c.mark_before-count.ensures.grows c.mark_before-count.ensures.marked (rw c.of-outline.ensures at c.mark_starts-count.ensures.limits)
 
 pub returns : goal.returns
 returns c =
     let flow : Flow = flow_by c.args.arc_flow.now (given c.args.net.now c.args.rooms.now) in
     searched_exact c.args.net.now flow c.search.next (found_of c.search.labels c.search.order c.search.count)
-    c.mark_starts-count.ensures.limits c.search.invariant c.search-test.false
+    (rw c.of-outline.ensures at c.mark_starts-count.ensures.limits) c.search.invariant c.search-test.false
