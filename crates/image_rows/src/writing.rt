@@ -43,14 +43,19 @@ fn is_stopped(
         step,
         faults,
     };
-    let said = write_image(image, &mut writer);
+    let mut sink = Watched {
+        writer: &mut writer,
+        has_failed: false,
+    };
+    let said = write_image(image, &mut sink);
     let count = if step == 0 { 0 } else { room.min(whole.len()) };
     let wanted = if count < whole.len() {
         Err(WriteError::WriteFailed(count))
     } else {
         Ok(())
     };
-    said == wanted && writer.held.as_slice() == &whole[..count]
+    let has_failed = count < whole.len();
+    said == wanted && sink.has_failed == has_failed && writer.held.as_slice() == &whole[..count]
 }
 
 /// Writes the image to writers that stop at this byte of its written form.

@@ -149,19 +149,19 @@ pub fn put_image<S: Sink>(image: &Image, sink: &mut S) -> Result<(), WriteError>
     }
 }
 
-/// Writes the image as `P5`. Takes no memory.
+/// Writes the image as `P5` to a writer of std that is watched. Takes no memory.
 ///
-/// At `WriteFailed` the writer took exactly the told count of bytes, the first ones of the written form, which
-/// are fewer than all. That a call of the writer failed is said by `put_image`, whose sink remembers it.
-pub fn write_image<W: Write>(image: &Image, writer: &mut W) -> Result<(), WriteError>
-    ensures ok { OnOk result
-        (Appends (W.contents writer.old) (W.contents writer.new) (written image.now)) }
-    ensures failed { IfErr result (λ e.
-        StopsAfter (W.contents writer.old) (W.contents writer.new) 0 (written image.now) e) }
+/// `WriteFailed` comes only where a call of the writer answered a fault, or took no byte of a piece that was not
+/// empty. The writer then took exactly the told count of bytes, the first ones of the written form, which are
+/// fewer than all.
+pub fn write_image<W: Write>(image: &Image, sink: &mut Watched<'_, W>) -> Result<(), WriteError>
+    ensures ok { OnOk result (Appends (W.contents sink.old.writer.now)
+        (W.contents sink.new.writer.now) (written image.now)) }
+    ensures sound { OnOk result (sink.new.has_failed ≡ sink.old.has_failed) }
+    ensures failed { IfErr result (λ e. StopsAfter (W.contents sink.old.writer.now)
+        (W.contents sink.new.writer.now) 0 (written image.now) e) }
+    ensures only { OnErr result (sink.new.has_failed ≡ true) }
+    ensures kept { sink.new.writer.ghost_name ≡ sink.old.writer.ghost_name }
 {
-    let mut sink = Watched {
-        writer,
-        has_failed: false,
-    };
-    put_image(image, &mut sink)
+    put_image(image, sink)
 }
