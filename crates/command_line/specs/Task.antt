@@ -1,5 +1,5 @@
 -- What the words of a command line ask for.
-use Rattle.std.specs.Prelude.{◌≡◌, ◌≢◌, ◌⊎◌, ⊤, [], List, IfSome, IsSomeAnd, codes}
+use Rattle.std.specs.Prelude.{◌≡◌, ◌≢◌, ◌⊎◌, ◌<◌, ⊤, [], List, length, IfSome, IsSomeAnd, codes, string_bytes}
 use Rattle.clap.specs.Words.{IsAmong, Row, Text, fault_of, kind_of, subcommand_of}
 use Rattle.clap.specs.declared.error.Error.{Error}
 use Rattle.clap.specs.declared.error.ErrorKind.{ErrorKind}
@@ -81,6 +81,13 @@ IsNoTaskFor words OutOfMemory = ⊤
 IsNoTaskFor words (Help text) = AsksForHelp words
 IsNoTaskFor words (Refused text) = AreRefused words
 IsNoTaskFor words (BadOption option) = NamesBadOption words option
+
+-- what is told of the words is not empty
+abbrev pub HasText : NoTask → Type 0
+HasText OutOfMemory = ⊤
+HasText (Help text) = 0 < length (string_bytes text)
+HasText (Refused text) = 0 < length (string_bytes text)
+HasText (BadOption option) = ⊤
 
 -- what becomes of an error of the parse
 abbrev pub IsNoTaskOf : Error → NoTask → Type 0

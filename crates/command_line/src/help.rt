@@ -17,6 +17,10 @@ Example:
 
 `gco COMMAND --help` says what a command reads and writes, and what `--threads` does.";
 
+/// What is told where `clap` has no text.
+pub const COMMANDS: &str =
+    "gco takes one of the commands restore, stereo, segment, energy and label\n";
+
 /// The command whose help has a text after the options.
 pub enum After {
     Restore,

@@ -49,10 +49,10 @@ pub enum OptionName {
 pub enum NoTask {
     /// Memory was refused.
     OutOfMemory,
-    /// The words ask for help, by `--help` or by the word `help`. `clap` makes the text, of which nothing is said.
+    /// The words ask for help, by `--help` or by the word `help`. `clap` makes the text, which is not empty.
     Help(String),
-    /// The words are no command line of the program, or have the word `help`. `clap` says why by this text, of
-    /// which nothing is said.
+    /// The words are no command line of the program, or have the word `help`. `clap` says why by this text, which is
+    /// not empty.
     Refused(String),
     /// This option's value is no name that it takes: the first such of `smooth`, `neighbours`, `moves`.
     BadOption(OptionName),

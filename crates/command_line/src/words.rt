@@ -1,15 +1,15 @@
 //! From the words to the task.
-ghost use Rattle.std.specs.Prelude.{◌≡◌, Some, None, OnOk, IfOk, IfErr, IsSomeAnd, MatchOption, map};
+ghost use Rattle.std.specs.Prelude.{◌≡◌, ◌<◌, Some, None, OnOk, IfOk, IfErr, IsSomeAnd, MatchOption, length, map, string_bytes};
 ghost use Rattle.clap.specs.Words.{found_of, rows_of, subcommand_of, subcommand_rows_of};
 ghost use Rattle.command_line.specs.App.{gco_app};
-ghost use Rattle.command_line.specs.Task.{Asks, Fits, HasNo, IsAccepted, IsBadOptionOf, IsNoTaskFor, IsNoTaskOf, IsRequestOf, IsTaskOf};
+ghost use Rattle.command_line.specs.Task.{Asks, Fits, HasNo, HasText, IsAccepted, IsBadOptionOf, IsNoTaskFor, IsNoTaskOf, IsRequestOf, IsTaskOf};
 
 use crate::app::gco_command;
 use crate::values::{Unmet, flag_in, restore_in, segment_in, stereo_in, workers_in};
-use crate::{NoTask, Request, Task};
+use crate::{NoTask, Request, Task, help};
 use clap::ArgMatches;
 use clap::error::ErrorKind;
-use std::alloc::Global;
+use std::alloc::{AllocError, Global};
 use std::convert::AsStr;
 use std::string::ToString;
 
@@ -19,11 +19,12 @@ use std::string::ToString;
 /// the next word as its value, and a number out of its range is refused by `clap`; a name that is not listed
 /// is the answer `BadOption`, of the first such option in the order `smooth`, `neighbours`, `moves`. Of `help`
 /// in the place of a subcommand the answer is `Help` or `Refused`, or memory: which of them follows from the
-/// word after it is not said.
+/// word after it is not said. What is told is not empty.
 pub fn parse<S: AsStr>(alloc: Global, words: &[S]) -> Result<Request, NoTask>
     ensures asked { IfOk result (Asks (map S.text words.now)) }
     ensures fits { IfOk result Fits }
     ensures refused { IfErr result (IsNoTaskFor (map S.text words.now)) }
+    ensures told { IfErr result HasText }
 {
     let matches = matches_of(alloc, words)?;
     match entered_request(&matches) {
@@ -40,6 +41,7 @@ fn matches_of<'a, S: AsStr>(alloc: Global, words: &'a [S]) -> Result<ArgMatches<
     ensures matches { IfOk result (λ m. subcommand_rows_of m
         ≡ subcommand_of gco_app (map S.text words.entry.now)) }
     ensures refused { IfErr result (IsNoTaskFor (map S.text words.entry.now)) }
+    ensures told { IfErr result HasText }
 {
     let command = gco_command(alloc)?;
     match command.try_get_matches_from(words) {
@@ -49,12 +51,13 @@ fn matches_of<'a, S: AsStr>(alloc: Global, words: &'a [S]) -> Result<ArgMatches<
 }
 
 fn no_task(alloc: Global, error: &clap::Error) -> NoTask
-    ensures { IsNoTaskOf error.now result }
+    ensures cause { IsNoTaskOf error.now result }
+    ensures told { HasText result }
 {
     if error.kind() == ErrorKind::OutOfMemory {
         return NoTask::OutOfMemory;
     }
-    let Ok(text) = error.to_string(alloc) else {
+    let Ok(text) = text_of(alloc, error) else {
         return NoTask::OutOfMemory;
     };
     if error.use_stderr() {
@@ -62,6 +65,17 @@ fn no_task(alloc: Global, error: &clap::Error) -> NoTask
     } else {
         NoTask::Help(text)
     }
+}
+
+// What is told of an error: `clap`'s text, or one of our own where it has none.
+fn text_of(alloc: Global, error: &clap::Error) -> Result<String, AllocError>
+    ensures { IfOk result (λ text. 0 < length (string_bytes text)) }
+{
+    let mut text = error.to_string(alloc)?;
+    if text.is_empty() {
+        text.push_str(help::COMMANDS)?;
+    }
+    Ok(text)
 }
 
 // What the subcommand that was used asks for.

@@ -18,4 +18,4 @@ returns-in-Ok-clause-matches g c =
 pub returns-in-Err-clause-refused : goal.returns-in-Err-clause-refused
 returns-in-Err-clause-refused g c =
     let is = c.in_ok-command.ensures.0 in
-    refused_by _ is _ c.in-Err.error _ c.no_task.ensures (c.in-Err.ensures.kinds (ap is_simple_and_free is ∙ gco_is_free))
+    refused_by _ is _ c.in-Err.error _ c.no_task.ensures.cause (c.in-Err.ensures.kinds (ap is_simple_and_free is ∙ gco_is_free))
