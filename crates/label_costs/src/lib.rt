@@ -3,6 +3,7 @@
 #![tactic(auto)]
 
 mod adding;
+pub mod laws;
 mod marks;
 mod nodes;
 

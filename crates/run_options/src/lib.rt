@@ -1,6 +1,7 @@
 //! What runs of moves are told: how two labels cost, which moves to make, and the limits of both.
 #![tactic(auto)]
 
+pub mod laws;
 mod limits;
 mod moves;
 mod shape;

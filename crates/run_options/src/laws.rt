@@ -1,0 +1,14 @@
+//! A law of the limits. The function does nothing: its contract is the law.
+ghost use Rattle.std.specs.Prelude.{◌≡◌};
+ghost use Rattle.run_options.specs.Limits.{cycle_limit, data_limit, label_cost_limit, smooth_limit, trunc_limit};
+
+use crate::{CYCLE_LIMIT, DATA_LIMIT, LABEL_COST_LIMIT, SMOOTH_LIMIT, TRUNC_LIMIT};
+
+/// Each limit is the number that contracts cite.
+pub fn limits_are_cited()
+    ensures smooth { SMOOTH_LIMIT ≡ smooth_limit }
+    ensures data { DATA_LIMIT ≡ data_limit }
+    ensures label_cost { LABEL_COST_LIMIT ≡ label_cost_limit }
+    ensures trunc { TRUNC_LIMIT ≡ trunc_limit }
+    ensures cycles { CYCLE_LIMIT ≡ cycle_limit }
+{}
