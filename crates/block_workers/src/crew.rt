@@ -11,7 +11,8 @@ use std::thread::{Promise, Threads};
 use turn_book::{Job, TurnBook};
 use worker_options::Gate;
 
-/// Why no round of workers came about.
+/// Why no round of workers came about. Which of the two is told is in no clause: the standard library says of a growth
+/// and of a thread that it may be refused, and not when.
 #[derive(Clone, Copy, PartialEq, Eq, Debug)]
 pub enum CrewError {
     /// Memory ran out, before the first worker started.

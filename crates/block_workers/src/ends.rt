@@ -142,7 +142,8 @@ impl Ends {
             self.ports[k].take();
         }
     }
-    /// Whether a letter is in front of one of the rings.
+    /// Whether a letter is in front of one of the rings. That it answers so is shown by tests; the clauses say what it
+    /// leaves as it was.
     pub(crate) fn has_letter(&mut self) -> bool
         ensures look { IsLook (seen (ports self.old)) (seen (ports self.new)) }
         ensures same { AreSame (ports self.old) (ports self.new) }

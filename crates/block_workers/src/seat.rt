@@ -85,7 +85,7 @@ impl Seat {
         self.do_turn()
     }
 
-    /// Turn 0, which is free. Answers whether some block is marked busy after it.
+    /// Turn 0, which is free. Answers whether some block is marked busy after it, which no clause says.
     pub(crate) fn begin<J: Job, R: Wait, G: Gate>(
         &mut self,
         rt: &R,
@@ -100,8 +100,9 @@ impl Seat {
         book.lock(rt).mark(self.number, !self.did_event)
     }
 
-    /// The turn after the last one, for which a turn was drawn. Answers whether some block is marked busy after
-    /// it.
+    /// The turn after the last one, for which a turn was drawn; where the gate says no it does nothing, and the block
+    /// has ended. Answers whether some block is marked busy after it. No clause says what it answers, nor what the
+    /// gate's no ends.
     pub(crate) fn go_on<J: Job, R: Wait, G: Gate>(
         &mut self,
         rt: &R,
@@ -119,7 +120,7 @@ impl Seat {
     }
 
     /// Whether the block wants a turn: it has not ended, and its last turn did an event or a letter is in front
-    /// of one of its rings.
+    /// of one of its rings. That it answers so is shown by tests.
     pub(crate) fn wants(&mut self) -> bool
         ensures went { Went 0 self.old self.new }
         ensures turn { self.new.turn ≡ self.old.turn }

@@ -156,6 +156,8 @@ impl<J: Job> Worker<J> {
     /// number of the blocks, again and again. A block wants a turn where it has not ended, and its last turn did
     /// an event or a letter is in front of one of its rings. Where no block wants one, the lowest that has not
     /// ended has a turn, as long as some block of the round is marked busy. Takes no memory.
+    ///
+    /// Who gets a turn is shown by tests: the clauses say of any turns what they did.
     pub fn work<R: Wait, G: Gate>(&mut self, rt: &R, book: &Mutex<TurnBook<J>>, gate: &G)
         requires { AreNew self.old.seats.items }
         ensures { AllWorked self.old.seats.items self.new.seats.items }
