@@ -24,13 +24,13 @@ pub const TWO: Options = Options {
 };
 
 /// The same with few turns and rounds, so that a test ends soon on a busy machine.
-const SHORT: Options = Options {
+pub const SHORT: Options = Options {
     turns: 256,
     rounds: 4,
     ..TWO
 };
 
-const RESTORE: RestoreOptions = RestoreOptions {
+pub const RESTORE: RestoreOptions = RestoreOptions {
     smooth: Shape::Potts,
     trunc: 1,
     weight: 1,
@@ -73,7 +73,7 @@ impl Write for Kept {
 }
 
 /// A picture of 64 by 64 samples, 3 in each fourth column and else 0.
-fn striped(alloc: Global) -> Result<Vec<u8>, AllocError> {
+pub fn striped(alloc: Global) -> Result<Vec<u8>, AllocError> {
     let mut picture = Vec::from_slice(alloc, b"P5\n64 64\n3\n")?;
     for _ in 0..64 {
         for _ in 0..16 {
@@ -84,7 +84,7 @@ fn striped(alloc: Global) -> Result<Vec<u8>, AllocError> {
 }
 
 /// Whether workers restore the picture to itself, as energies say.
-fn is_kept<R: Threads + Wait + Sync + Abort>(
+pub fn is_kept<R: Threads + Wait + Sync + Abort>(
     rt: &R,
     alloc: Global,
     picture: &[u8],

@@ -1,0 +1,90 @@
+//! Gates that let blocks do their first turns alone.
+use crate::pictures::{SHORT, is_kept, striped};
+use std::alloc::{AllocError, Global};
+use std::process::Abort;
+use std::sync::Wait;
+use std::sync::atomic::{AtomicBool, AtomicU32, Ordering};
+use std::test::Fail;
+use std::thread::Threads;
+use worker_options::Gate;
+
+/// Says no to each block from a turn on.
+#[derive(Drop)]
+struct Until {
+    turn: u32,
+    noes: AtomicU32,
+    /// Of each block, whether its last answer was a no at a turn from 1 on.
+    ended: Vec<AtomicBool>,
+    /// A block called for a turn other than its first after such a no.
+    went_on: AtomicBool,
+}
+
+impl Until {
+    fn new(alloc: Global, turn: u32, blocks: u32) -> Result<Until, AllocError> {
+        let mut ended = Vec::new(alloc);
+        for _ in 0..blocks {
+            ended.push(AtomicBool::new(false))?;
+        }
+        Ok(Until {
+            turn,
+            noes: AtomicU32::new(0),
+            ended,
+            went_on: AtomicBool::new(false),
+        })
+    }
+
+    /// Notes an answer, and whether the block should have begun anew.
+    fn note(&self, block: u32, turn: u32, passes: bool) {
+        let is_over = turn >= 1 && !passes;
+        let was_over = match self.ended.get(block as usize) {
+            Some(ended) => ended.swap(is_over, Ordering::SeqCst),
+            None => true,
+        };
+        if was_over && turn >= 1 {
+            self.went_on.store(true, Ordering::SeqCst);
+        }
+        if is_over {
+            self.noes.fetch_add(1, Ordering::SeqCst);
+        }
+    }
+}
+
+impl Gate for Until {
+    fn pass(&self, block: u32, turn: u32) -> bool {
+        let passes = turn < self.turn;
+        self.note(block, turn, passes);
+        passes
+    }
+}
+
+/// How many noes a gate gives that says no from a turn on, where the picture is restored to itself, and no block goes
+/// on after a no but from its first turn.
+fn noes<R: Threads + Wait + Sync + Abort>(
+    rt: &R,
+    alloc: Global,
+    picture: &[u8],
+    turn: u32,
+) -> Result<Option<u32>, AllocError> {
+    let gate = Until::new(alloc, turn, SHORT.blocks)?;
+    let is_right = is_kept(rt, alloc, picture, SHORT, &gate);
+    let went_on = gate.went_on.load(Ordering::SeqCst);
+    let noes = gate.noes.load(Ordering::SeqCst);
+    Ok(if is_right && !went_on {
+        Some(noes)
+    } else {
+        None
+    })
+}
+
+#[test]
+fn gates_that_close(rt: HostRuntime) -> Result<(), Fail> {
+    let picture = striped(rt.alloc())?;
+    let mut all = 0u32;
+    for turn in 0..21 {
+        let noes = noes(&rt, rt.alloc(), picture.as_slice(), turn)?;
+        assert!(rt; noes.is_some(), "{turn}");
+        all = all.saturating_add(noes.unwrap_or(0));
+    }
+    assert!(rt; all > 0);
+    Ok(())
+}

@@ -1,0 +1,175 @@
+//! A cut that is refused: the moves made before it stand, and no picture is written.
+ghost use Rattle.std.specs.Prelude.{◌≤◌, ◌<◌, ◌+◌, ◌*◌, ◌≤ℤ◌, pos};
+
+use crate::pictures::{Kept, RESTORE};
+use byte_streams::Watched;
+use cost_store::{DataCost, SmoothCost};
+use flow_network::Net;
+use label_field::{Labelling, Pairs};
+use moves::{Alone, Ended, How, MoveError, Problem, SolveError};
+use std::alloc::Global;
+use std::process::Abort;
+use std::sync::atomic::{AtomicU32, Ordering};
+use vision::{Report, VisionError, run_restore};
+
+/// Cuts so many nets, and refuses each further one.
+#[derive(Drop)]
+struct Refusing {
+    left: AtomicU32,
+    error: SolveError,
+}
+
+impl Refusing {
+    fn new(left: u32, error: SolveError) -> Refusing {
+        Refusing {
+            left: AtomicU32::new(left),
+            error,
+        }
+    }
+}
+
+impl How for Refusing {
+    ghost ready = { λ _. Unit {0} };
+
+    ghost refuses = { λ _ _. Unit {0} };
+
+    fn solve(&self, alloc: Global, net: Net) -> Result<Vec<bool>, SolveError> {
+        if self.left.load(Ordering::SeqCst) == 0 {
+            return Err(self.error);
+        }
+        self.left.fetch_sub(1, Ordering::SeqCst);
+        Alone.solve(alloc, net)
+    }
+}
+
+/// Why a cut is refused, and what a run of moves and a command tell then.
+const ERRORS: &[(SolveError, MoveError, VisionError)] = &[
+    (
+        SolveError::OutOfMemory,
+        MoveError::OutOfMemory,
+        VisionError::OutOfMemory,
+    ),
+    (
+        SolveError::Workers,
+        MoveError::Workers,
+        VisionError::Move(MoveError::Workers),
+    ),
+];
+
+/// Costs of three labels at three sites in a row, site first. Two neighbours of unlike labels cost 1.
+const DATA: [u8; 9] = [3, 4, 2, 2, 0, 5, 3, 5, 1];
+
+const POTTS: [u8; 9] = [0, 1, 1, 1, 0, 1, 1, 1, 0];
+
+/// The labels before each move of the run from all 0, and after the last. The moves expand 0, 1, 2 in turn. The third
+/// gives the last site 2 (8 to 7), the fifth the second site 1 (7 to 6), the sixth the first site 2 (6 to 5).
+const CHAIN: [[u8; 3]; 9] = [
+    [0, 0, 0],
+    [0, 0, 0],
+    [0, 0, 0],
+    [0, 0, 2],
+    [0, 0, 2],
+    [0, 1, 2],
+    [2, 1, 2],
+    [2, 1, 2],
+    [2, 1, 2],
+];
+
+/// How a run of expansions from all 0 ends, and at which labels.
+fn labelled<H: How>(
+    alloc: Global,
+    how: &H,
+) -> Result<(Result<Ended, MoveError>, Vec<u8>), MoveError>
+    requires { H.ready how.now }
+{
+    let problem = Problem {
+        pairs: Pairs::grid4(alloc, 3, 1, 1)?,
+        data_cost: DataCost::new(
+            |site: u32, label: u32| -> i64
+                requires { site * 3 + label < 9 }
+                ensures { (pos 0 ≤ℤ result) × (result ≤ℤ pos 255) }
+            { i64::from(DATA[(site * 3 + label) as usize]) },
+            3,
+            3,
+        ),
+        smooth_cost: SmoothCost::new(
+            |first: u32, second: u32| -> i64
+                requires { first * 3 + second < 9 }
+                ensures { (pos 0 ≤ℤ result) × (result ≤ℤ pos 255) }
+            { i64::from(POTTS[(first * 3 + second) as usize]) },
+            3,
+        ),
+        label_costs: None,
+    };
+    let mut labelling = Labelling::new(alloc, 3, 3)?;
+    let ended = problem.run_expansion(alloc, &mut labelling, 10, how);
+    let labels = Vec::from_slice(alloc, labelling.as_slice())?;
+    Ok((ended, labels))
+}
+
+/// Whether a run that is refused its cut after so many leaves the labels that those gave, and tells this.
+fn is_left(alloc: Global, cuts: u32, error: SolveError, told: MoveError) -> bool {
+    let how = Refusing::new(cuts, error);
+    let Ok((ended, labels)) = labelled(alloc, &how) else {
+        return false;
+    };
+    let wanted = if cuts < 8 {
+        Err(told)
+    } else {
+        Ok(Ended {
+            cycles: 3,
+            settled: true,
+        })
+    };
+    match CHAIN.get(cuts as usize) {
+        Some(row) => ended == wanted && labels.as_slice() == row.as_slice(),
+        None => false,
+    }
+}
+
+#[test]
+fn refused_cuts_leave_the_moves_before(rt: HostRuntime) {
+    for (error, told, _) in ERRORS {
+        for cuts in 0..9 {
+            assert!(rt; is_left(rt.alloc(), cuts, *error, *told), "{cuts}");
+        }
+    }
+}
+
+/// A row of three pixels that is restored to itself, by seven cuts: 0 to 3 are expanded, the last of which changes the
+/// picture, then 0 to 2.
+const ROW: &[u8] = b"P5\n3 1\n3\n\x00\x03\x00";
+
+/// What a restoring whose cut is refused after so many tells, and what it writes.
+fn written(
+    rt: &impl Abort,
+    alloc: Global,
+    cuts: u32,
+    error: SolveError,
+) -> (Result<Report, VisionError>, Vec<u8>) {
+    let how = Refusing::new(cuts, error);
+    let mut writer = Kept {
+        bytes: Vec::new(alloc),
+    };
+    let mut sink = Watched {
+        writer: &mut writer,
+        has_failed: false,
+    };
+    assert!(*rt; RESTORE.fits());
+    let report = run_restore(alloc, ROW, &RESTORE, &how, &mut sink);
+    assert!(*rt; !sink.has_failed);
+    let Kept { bytes } = writer;
+    (report, bytes)
+}
+
+#[test]
+fn refused_cuts_write_nothing(rt: HostRuntime) {
+    for (error, _, told) in ERRORS {
+        for cuts in 0..7 {
+            let (report, bytes) = written(&rt, rt.alloc(), cuts, *error);
+            assert!(rt; report == Err(*told) && bytes.is_empty(), "{cuts}");
+        }
+        let (report, bytes) = written(&rt, rt.alloc(), 7, *error);
+        assert!(rt; report.is_ok() && bytes.as_slice() == ROW);
+    }
+}
