@@ -41,25 +41,39 @@ void *malloc(size_t size) { begin(); return is_refused() ? 0 : next_malloc(size)
 void *realloc(void *old, size_t size) { begin(); return is_refused() ? 0 : next_realloc(old, size); }
 '''
 
+ROW = b'P5\n3 1\n3\n\0\3\0'
+LONE = b'P5\n1 1\n255\n\7'
 PAIR = b'P5\n4 1\n9\n\0\t\0\0P5\n4 1\n9\n\t\0\0\0'
 SEEDED = b'P5\n3 1\n255\n\n\x0c\xc8P5\n3 1\n2\n\1\0\2'
 SWAP = b'sites = 2\nlabels = 3\ndata = [0,9,3,3,9,0]\nsmooth = [0,1,4,1,0,1,4,1,0]\npairs = [[0,1]]\nstart = [0,2]\nmoves = "swap"'
+TWICE = b'sites = 2\nlabels = 2\ndata = [0,3,3,0]\npairs = [[0,1],[0,1]]'
+COSTLY = b'sites = 2\nlabels = 3\ndata = [0,3,9,9,3,0]\nlabel_costs = [5,5,5]'
+TWO = b'variables = 2\nterms = [{ on = [0], values = [5,2] }, { on = [1], values = [1,6] }, { on = [0,1], values = [0,3,4,0] }]'
 TERMS = b'variables = 3\nterms = [{ on = [0], values = [5,2] }, { on = [0,1], values = [0,3,4,0] }, { on = [0,1,2], values = [0,0,0,0,0,0,0,-4] }]'
+IRREGULAR = b'variables = 2\nterms = [{ on = [0,1], values = [1,0,0,1] }]'
 
-CASES = [
+# Each command with its input: they are run on one thread, and by two workers.
+COMMANDS = [
+    (['energy'], TWO),
     (['energy'], TERMS),
+    (['energy'], IRREGULAR),
     (['label'], SWAP),
-    (['label'], b'sites = 2\nlabels = 2\ndata = [0,3,3,0]\npairs = [[0,1],[0,1]]'),
-    (['restore', '--weight', '1'], b'P5\n3 1\n3\n\0\3\0'),
-    (['restore', '--weight', '1', '--moves', 'swap'], b'P5\n3 1\n3\n\0\3\0'),
-    (['stereo', '--labels', '2', '--cap', '9', '--weight', '1'], PAIR),
+    (['label', '--bound'], TWICE),
+    (['label', '--bound'], COSTLY),
+    (['restore', '--weight', '1'], ROW),
+    (['restore', '--weight', '1', '--moves', 'swap'], ROW),
+    (['restore', '--label-cost', '1', '--bound'], ROW),
+    (['restore', '--blocks', '16'], LONE),
+    (['restore'], ROW[:11]),
+    (['stereo', '--labels', '2', '--cap', '9', '--weight', '1', '--bound'], PAIR),
     (['segment', '--low', '11', '--high', '200'], SEEDED),
-    (['label', '--bound'], b'sites = 2\nlabels = 3\ndata = [0,3,9,9,3,0]\nlabel_costs = [5,5,5]'),
-    (['restore', '--label-cost', '1', '--bound'], b'P5\n3 1\n3\n\0\3\0'),
-    (['restore', '--weight', '1', '--threads', '2'], b'P5\n3 1\n3\n\0\3\0'),
-    (['label', '--threads', '2', '--blocks', '2'], b'sites = 2\nlabels = 2\ndata = [0,3,3,0]\npairs = [[0,1],[0,1]]'),
+]
+
+CASES = [(words + more, given) for more in ([], ['--threads', '2']) for words, given in COMMANDS] + [
     (['restore', '--help'], b''),
+    (['help', 'segment'], b''),
     (['paint'], b''),
+    (['segment', '--low', '1'], b''),
 ]
 
 
