@@ -1,0 +1,5 @@
+pub mod Bits
+pub mod Entries
+pub mod Given
+pub mod Lists
+pub mod Parts

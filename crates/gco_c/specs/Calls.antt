@@ -1,0 +1,136 @@
+-- What a call from C means.
+use Rattle.std.specs.Prelude.{◌≡◌, ◌⊎◌, ℕ, ◌*◌, ◌<◌, Bool, cond, List, length, map, All, ℤ, pos, Option, Some, None, Ok}
+use Rattle.label_field.specs.LabelFields.{AreSizes}
+use Rattle.label_field.specs.PairLists.{PairList, IsPairList}
+use Rattle.label_field.specs.declared.pair.Pair.{Pair}
+use Rattle.cost_store.specs.Limits.{data_limit, smooth_limit}
+use Rattle.cost_store.specs.Promises.{IsCost, cost_in}
+use Rattle.label_costs.specs.Limits.{label_cost_limit}
+use Rattle.labellings.specs.declared.change.Move.{Move}
+use Rattle.labellings.specs.Energies.{Instance, labelling, data_energy, smooth_energy, label_energy}
+use Rattle.labellings.specs.Chains.{IsChain}
+use Rattle.moves.specs.declared.bound.Bound.{Bound}
+use Rattle.moves.specs.LabelCosts.{AreLabelCosts, costs_of}
+use Rattle.moves.specs.Problems.{IsMoved}
+use Rattle.labelling_runs.specs.declared.Run.{Run}
+use Rattle.labelling_runs.specs.Instances.{instance_of}
+use Rattle.labelling_runs.specs.Runs.{MayMake, TellsBound, cycle_of}
+use Rattle.run_options.specs.declared.moves.Moves.{Moves}
+use Rattle.run_options.specs.declared.moves.Moves.TheVariants.{Expansion, Swap}
+use Rattle.gco_c.specs.declared.pairs.GcoPair.{GcoPair}
+use Rattle.gco_c.specs.declared.outcome.GcoOutcome.{GcoOutcome}
+use Rattle.gco_c.specs.declared.ready.Ready.{Ready}
+
+-- the arrays of a call
+pub record Asked : Type 0 where
+  pub label_count : ℕ
+  pub data_costs : List ℤ
+  pub smooth_costs : List ℤ
+  pub label_costs : List ℤ
+  pub pairs : List GcoPair
+  pub start : List ℕ
+
+abbrev pub asked : ℕ → List ℤ → List ℤ → List ℤ → List GcoPair → List ℕ → Asked
+asked labels data_costs smooth_costs label_costs pairs start = record {
+  label_count = labels;
+  data_costs = data_costs;
+  smooth_costs = smooth_costs;
+  label_costs = label_costs;
+  pairs = pairs;
+  start = start;
+}
+
+-- the pair of sites that C hands over
+abbrev pub pair_of : GcoPair → Pair
+pair_of given = record { first = given.first; second = given.second; weight = given.weight }
+
+-- the list of the pairs, in their order
+abbrev pub list_given : ℕ → List GcoPair → PairList
+list_given sites pairs = record { sites = sites; list = map pair_of pairs }
+
+-- the problem that the arrays of a call are: site by site the cost of each label, label by label the cost of
+-- each beside it, the pairs in their order, and label by label what it costs by itself, 0 where there are no such costs
+abbrev pub instance_given : Asked → Instance
+instance_given a =
+    instance_of (list_given (length a.start) a.pairs) a.label_count (cost_in a.label_count a.data_costs) a.smooth_costs a.label_costs
+
+-- the tables of so many sites and labels are as long as they must be
+pub record AreCounted (sites labels data_count smooth_count cost_count : ℕ) : Type 0 where
+  pub sizes : AreSizes sites labels
+  pub data_is : data_count ≡ sites * labels
+  pub smooth_is : smooth_count ≡ labels * labels
+  pub costs_are : (cost_count ≡ 0) ⊎ (cost_count ≡ labels)
+
+-- so are those of a call
+abbrev pub AreLong : Asked → Type 0
+AreLong a = AreCounted (length a.start) a.label_count (length a.data_costs) (length a.smooth_costs) (length a.label_costs)
+
+-- each cost is in its range
+pub record AreInRange (data_costs smooth_costs label_costs : List ℤ) : Type 0 where
+  pub data_range : All (IsCost data_limit) data_costs
+  pub smooth_range : All (IsCost smooth_limit) smooth_costs
+  pub label_range : All (IsCost (pos label_cost_limit)) label_costs
+
+-- the tables of a call are as long as they must be, and each cost is in its range
+pub record AreTables (a : Asked) : Type 0 where
+  pub long : AreLong a
+  pub ranges : AreInRange a.data_costs a.smooth_costs a.label_costs
+
+-- all that a call was given is in order
+pub record IsGiven (a : Asked) : Type 0 where
+  pub tables : AreTables a
+  pub pairs : IsPairList (list_given (length a.start) a.pairs)
+  pub start : All (λ label. label < a.label_count) a.start
+
+-- the parts of a problem that are made of it
+pub record IsReady (a : Asked) (ready : Ready) : Type 0 where
+  pub given : IsGiven a
+  pub pairs_are : ready.pairs ≡ list_given (length a.start) a.pairs
+  pub start_is : ready.start ≡ record { labels = a.label_count; at = a.start }
+  pub costs_are : costs_of ready.label_costs ≡ a.label_costs
+  pub costs_kept : AreLabelCosts a.label_count ready.label_costs
+
+-- the number of the moves
+abbrev pub number_of : Moves → ℕ
+number_of Expansion = 0
+number_of Swap = 1
+
+-- the two numbers of a bound, or 0 and 0
+abbrev pub bound_numbers : Option Bound → ℕ × ℕ
+bound_numbers None = (0, 0)
+bound_numbers (Some bound) = (bound.vmin, bound.vmax)
+
+-- the outcome tells where a run ended
+pub record IsRunIn (run : Run) (told : GcoOutcome) : Type 0 where
+  pub data_is : told.«data» ≡ run.«data»
+  pub smooth_is : told.smooth ≡ run.smooth
+  pub label_is : told.label ≡ run.label
+  pub cycles_are : told.cycles ≡ run.ended.cycles
+  pub settled_is : told.settled ≡ cond run.ended.settled 1 0
+  pub bound_is : (told.vmin, told.vmax) ≡ bound_numbers run.bound
+
+-- the run from the start ended at the labels, and the outcome tells its cycles, the three parts of the energy there, and
+-- its bound, where it has one
+pub record IsRunTold (a : Asked) (number cycles : ℕ) (labels : List ℕ) (told : GcoOutcome) : Type 0 where
+  pub moves : Moves
+  pub numbered : number ≡ number_of moves
+  pub settled : Bool
+  pub settled_is : told.settled ≡ cond settled 1 0
+  pub chain : IsChain (instance_given a) (cycle_of moves a.label_count) cycles a.start labels told.cycles settled
+  pub data_is : told.«data» ≡ pos (data_energy (instance_given a) (labelling labels))
+  pub smooth_is : told.smooth ≡ pos (smooth_energy (instance_given a) (labelling labels))
+  pub label_is : told.label ≡ pos (label_energy (instance_given a) (labelling labels))
+  pub bound : Option Bound
+  pub bound_is : (told.vmin, told.vmax) ≡ bound_numbers bound
+  pub tells : TellsBound (instance_given a) moves labels settled bound
+  pub may : MayMake (instance_given a) moves
+
+-- one move from the start reached the labels, and the outcome tells whether they are others, and the three parts of the
+-- energy there
+pub record IsMoveTold (a : Asked) (move : Move) (labels : List ℕ) (told : GcoOutcome) : Type 0 where
+  pub changed : Bool
+  pub changed_is : told.changed ≡ cond changed 1 0
+  pub moved : IsMoved (instance_given a) move a.start labels (Ok changed)
+  pub data_is : told.«data» ≡ pos (data_energy (instance_given a) (labelling labels))
+  pub smooth_is : told.smooth ≡ pos (smooth_energy (instance_given a) (labelling labels))
+  pub label_is : told.label ≡ pos (label_energy (instance_given a) (labelling labels))

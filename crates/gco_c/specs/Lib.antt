@@ -1,0 +1,6 @@
+pub mod Calls
+pub mod Energies
+pub mod Moved
+pub mod Refusals
+pub mod Statuses
+pub mod TermRefusals

@@ -1,0 +1,55 @@
+-- The numbers that a call answers.
+use Rattle.std.specs.Prelude.{◌≡◌, ℕ, Option, Some, None}
+use Rattle.gco_c.specs.declared.outcome.GcoOutcome.{GcoOutcome}
+use Rattle.gco_c.specs.declared.refusal.Refusal.{Refusal}
+use Rattle.gco_c.specs.declared.refusal.Refusal.TheVariants as why
+
+abbrev pub status_of : Refusal → ℕ
+status_of why.OutOfMemory = 1
+status_of why.TooManySites = 2
+status_of why.LabelCount = 3
+status_of why.DataCount = 4
+status_of why.SmoothCount = 5
+status_of why.NoSuchMoves = 6
+status_of why.LabelCostCount = 7
+status_of why.NoSuchMove = 8
+status_of (why.NoSuchSite _) = 10
+status_of (why.NoSuchLabel _) = 11
+status_of (why.SameSite _) = 12
+status_of why.TooManyPairs = 13
+status_of (why.WeightRange _) = 14
+status_of (why.DataRange _) = 15
+status_of (why.SmoothRange _) = 16
+status_of (why.LabelCostRange _) = 17
+status_of why.ConstantRange = 18
+status_of (why.TermNotRegular _) = 20
+status_of (why.NotRegular _ _ _) = 24
+status_of why.LabelCostInSwap = 27
+
+-- the place that a refusal tells, or 0
+abbrev pub place_of : Refusal → ℕ
+place_of (why.NoSuchSite place) = place
+place_of (why.NoSuchLabel place) = place
+place_of (why.SameSite place) = place
+place_of (why.WeightRange place) = place
+place_of (why.DataRange place) = place
+place_of (why.SmoothRange place) = place
+place_of (why.LabelCostRange place) = place
+place_of (why.TermNotRegular place) = place
+place_of (why.NotRegular place alpha beta) = place
+place_of _ = 0
+
+-- the labels of the move that a refusal tells, twice the one of an expansion
+abbrev pub second_of : ℕ → Option ℕ → ℕ
+second_of alpha None = alpha
+second_of alpha (Some beta) = beta
+
+abbrev pub labels_of : Refusal → ℕ × ℕ
+labels_of (why.NotRegular place alpha beta) = (alpha, second_of alpha beta)
+labels_of _ = (0, 0)
+
+-- the status and the outcome tell a refusal
+pub record IsTold (refusal : Refusal) (status : ℕ) (told : GcoOutcome) : Type 0 where
+  pub status_is : status ≡ status_of refusal
+  pub place_is : told.place ≡ place_of refusal
+  pub labels_are : (told.alpha, told.beta) ≡ labels_of refusal

@@ -1,0 +1,57 @@
+//! Whether the arrays of a call are as long as they must be, and their costs in their ranges.
+ghost use Rattle.std.specs.Prelude.{◌≡◌, pos, IfOk, IfErr};
+ghost use Rattle.gco_c.specs.Calls.{AreCounted, AreInRange};
+ghost use Rattle.gco_c.specs.Refusals.{IsCountRefusal, IsRangeRefusal};
+
+use crate::refusal::Refusal;
+use cost_store::{CostError, DATA_LIMIT, SMOOTH_LIMIT, check_table};
+use label_costs::LABEL_COST_LIMIT;
+use label_field::{LABEL_LIMIT, SITE_LIMIT};
+
+/// Whether the numbers of sites and labels are in their limits, and there is a cost for each label at each site, one
+/// for each two labels, and one for each label or none: the number of sites.
+pub(crate) fn check_counts(
+    sites: usize,
+    labels: u32,
+    data_count: usize,
+    smooth_count: usize,
+    cost_count: usize,
+) -> Result<u32, Refusal>
+    ensures sites { IfOk result (λ number. number ≡ sites) }
+    ensures counted { IfOk result (λ number. AreCounted sites labels data_count smooth_count cost_count) }
+    ensures refused { IfErr result (IsCountRefusal sites labels data_count smooth_count cost_count) }
+{
+    if sites > SITE_LIMIT as usize {
+        return Err(Refusal::TooManySites);
+    }
+    if labels < 1 || labels > LABEL_LIMIT {
+        return Err(Refusal::LabelCount);
+    }
+    if data_count != sites * labels as usize {
+        return Err(Refusal::DataCount);
+    }
+    if smooth_count != labels as usize * labels as usize {
+        return Err(Refusal::SmoothCount);
+    }
+    if cost_count != 0 && cost_count != labels as usize {
+        return Err(Refusal::LabelCostCount);
+    }
+    Ok(sites as u32)
+}
+
+/// Whether each cost is in its range.
+pub(crate) fn check_ranges(data: &[i64], smooth: &[i64], label_costs: &[i64]) -> Result<(), Refusal>
+    ensures ok { IfOk result (λ _. AreInRange data.now smooth.now label_costs.now) }
+    ensures refused { IfErr result (IsRangeRefusal data.now smooth.now label_costs.now) }
+{
+    if let Err(CostError::CostRange(place)) = check_table(data, DATA_LIMIT) {
+        return Err(Refusal::DataRange(place));
+    }
+    if let Err(CostError::CostRange(place)) = check_table(smooth, SMOOTH_LIMIT) {
+        return Err(Refusal::SmoothRange(place));
+    }
+    if let Err(CostError::CostRange(place)) = check_table(label_costs, LABEL_COST_LIMIT) {
+        return Err(Refusal::LabelCostRange(place));
+    }
+    Ok(())
+}

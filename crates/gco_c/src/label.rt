@@ -1,0 +1,112 @@
+//! Runs of moves for C.
+ghost use Rattle.std.specs.Prelude.{◌≡◌, ◌≢◌, length, IfSome, IfOk, IfErr, None, Ok};
+ghost use Rattle.labelling_runs.specs.Runs.{Answers};
+ghost use Rattle.gco_c.specs.Calls.{IsGiven, IsRunTold, asked, instance_given, number_of};
+ghost use Rattle.gco_c.specs.Refusals.{IsRefusalTold, IsLabelRefusal};
+
+use crate::outcome::{GcoOutcome, refuse, tell_run};
+use crate::pairs::GcoPair;
+use crate::ready::ready_of;
+use crate::refusal::Refusal;
+use crate::running::{refusal_of, run_over};
+use labelling_runs::Run;
+use run_options::Moves;
+use std::alloc::Global;
+
+/// Makes moves from the labels that were given, until a whole cycle changes nothing or so many cycles are
+/// done, and writes the labels where they ended. `moves` is 0 for expansions and 1 for swaps. The answer is
+/// 0, or the status of a refusal, and then the labels are as they were.
+#[unsafe(no_mangle)]
+pub extern "C" fn gco_label(
+    alloc: Global,
+    label_count: u32,
+    data: &[i64],
+    smooth: &[i64],
+    label_costs: &[i64],
+    pairs: &[GcoPair],
+    moves: u32,
+    cycles: u32,
+    labels: &mut [u32],
+    outcome: &mut GcoOutcome,
+) -> u32
+    ensures given { result ≡ 0 →
+        IsGiven (asked label_count data.now smooth.now label_costs.now pairs.now labels.old) }
+    ensures ran { result ≡ 0 →
+        IsRunTold (asked label_count data.now smooth.now label_costs.now pairs.now labels.old)
+        moves cycles labels.new outcome.new }
+    ensures unchanged { result ≢ 0 → labels.new ≡ labels.old }
+    ensures refused { result ≢ 0 →
+        IsRefusalTold (asked label_count data.now smooth.now label_costs.now pairs.now labels.old)
+        moves cycles result outcome.new }
+{
+    let Some(kind) = moves_of(moves) else {
+        return refuse(outcome, Refusal::NoSuchMoves);
+    };
+    match run_call(
+        alloc,
+        label_count,
+        data,
+        smooth,
+        label_costs,
+        pairs,
+        kind,
+        cycles,
+        labels,
+    ) {
+        Ok(run) => {
+            copy_labels(run.labelling.as_slice(), labels);
+            tell_run(outcome, &run);
+            0
+        }
+        Err(refusal) => refuse(outcome, refusal),
+    }
+}
+
+/// Makes the moves that were asked for over the arrays that were given, and answers where they ended.
+fn run_call(
+    alloc: Global,
+    labels: u32,
+    data: &[i64],
+    smooth: &[i64],
+    label_costs: &[i64],
+    given: &[GcoPair],
+    moves: Moves,
+    cycles: u32,
+    at: &[u32],
+) -> Result<Run, Refusal>
+    ensures given { IfOk result (λ _.
+        IsGiven (asked labels data.now smooth.now label_costs.now given.now at.now)) }
+    ensures run { IfOk result (λ run.
+        Answers (instance_given (asked labels data.now smooth.now label_costs.now given.now at.now))
+        moves cycles at.now (Ok run)) }
+    ensures sized { IfOk result (λ run. length run.labelling.at ≡ length at.now) }
+    ensures refused { IfErr result
+        (IsLabelRefusal (asked labels data.now smooth.now label_costs.now given.now at.now)
+        moves cycles) }
+{
+    let ready = ready_of(alloc, labels, data, smooth, label_costs, given, at)?;
+    match run_over(alloc, ready, data, smooth, moves, cycles) {
+        Ok(run) => Ok(run),
+        Err(error) => Err(refusal_of(error)),
+    }
+}
+
+fn moves_of(number: u32) -> Option<Moves>
+    ensures some { IfSome result (λ moves. number ≡ number_of moves) }
+    ensures none { result ≡ None → (number ≢ 0) × (number ≢ 1) }
+{
+    match number {
+        0 => Some(Moves::Expansion),
+        1 => Some(Moves::Swap),
+        _ => None,
+    }
+}
+
+pub(crate) fn copy_labels(from: &[u8], to: &mut [u32])
+    requires { length from.now ≡ length to.old }
+    ensures { to.new ≡ from.now }
+{
+    for (place, label) in from.iter().enumerate() {
+        to[place] = u32::from(*label);
+    }
+}

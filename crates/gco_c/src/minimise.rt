@@ -1,0 +1,130 @@
+//! Least assignments for C.
+ghost use Rattle.std.specs.Prelude.{◌≡◌, ◌≢◌, ◌≤◌, length, map, IfOk, IfErr};
+ghost use Rattle.pseudo_bool.specs.Limits.{variable_limit};
+ghost use Rattle.pseudo_bool.specs.Formula.{IsEnergy, assignment, value_at};
+ghost use Rattle.compile_cut.specs.Shown.{IsSmallestLeastAssignment};
+ghost use Rattle.gco_c.specs.Energies.{bits, digit_of, formula_given};
+ghost use Rattle.gco_c.specs.Statuses.{place_of, status_of};
+ghost use Rattle.gco_c.specs.TermRefusals.{IsMinimumTold, IsMinimumRefusal, IsRefusedIn};
+
+use crate::refusal::Refusal;
+use crate::terms::{GcoOne, GcoThree, GcoTwo, energy_of};
+use minimum::{Minimum, minimise};
+use pseudo_bool::VARIABLE_LIMIT;
+use regular::check;
+use std::alloc::Global;
+
+/// What a call tells beside its status and its assignment. All of it is written by each call.
+#[repr(C)]
+#[derive(Clone, Copy)]
+pub struct GcoMinimum {
+    /// The least value.
+    pub value: i64,
+    /// The place that a refusal names.
+    pub place: u64,
+}
+
+/// The least value over all assignments of the variables, and of the assignments that have it the one with the
+/// fewest ones. The answer is 0, or the status of a refusal, and then the assignment is as it was.
+#[unsafe(no_mangle)]
+pub extern "C" fn gco_minimise(
+    alloc: Global,
+    constant: i64,
+    ones: &[GcoOne],
+    twos: &[GcoTwo],
+    threes: &[GcoThree],
+    assignment: &mut [u8],
+    minimum: &mut GcoMinimum,
+) -> u32
+    ensures given { result ≡ 0 →
+        IsEnergy (formula_given (length assignment.old) constant ones.now twos.now threes.now) }
+    ensures best { result ≡ 0 → IsSmallestLeastAssignment
+        (formula_given (length assignment.old) constant ones.now twos.now threes.now)
+        (bits assignment.new) }
+    ensures value { result ≡ 0 → minimum.new.value ≡ value_at
+        (formula_given (length assignment.old) constant ones.now twos.now threes.now)
+        (bits assignment.new) }
+    ensures unchanged { result ≢ 0 → assignment.new ≡ assignment.old }
+    ensures refused { result ≢ 0 → IsMinimumTold
+        (formula_given (length assignment.old) constant ones.now twos.now threes.now)
+        result minimum.new }
+{
+    match least(alloc, assignment.len(), constant, ones, twos, threes) {
+        Ok(found) => {
+            copy_bits(found.assignment.as_slice(), assignment);
+            put(minimum, &found);
+            0
+        }
+        Err(refusal) => refuse(minimum, refusal),
+    }
+}
+
+fn least(
+    alloc: Global,
+    variables: usize,
+    constant: i64,
+    ones: &[GcoOne],
+    twos: &[GcoTwo],
+    threes: &[GcoThree],
+) -> Result<Minimum, Refusal>
+    ensures given { IfOk result (λ m. IsEnergy
+        (formula_given variables constant ones.now twos.now threes.now)) }
+    ensures count { IfOk result (λ m. length m.assignment.items ≡ variables) }
+    ensures best { IfOk result (λ m. IsSmallestLeastAssignment
+        (formula_given variables constant ones.now twos.now threes.now)
+        (assignment m.assignment.items)) }
+    ensures value { IfOk result (λ m. m.value ≡ value_at
+        (formula_given variables constant ones.now twos.now threes.now)
+        (assignment m.assignment.items)) }
+    ensures refused { IfErr result (IsMinimumRefusal
+        (formula_given variables constant ones.now twos.now threes.now)) }
+{
+    if variables > VARIABLE_LIMIT as usize {
+        return Err(Refusal::TooManySites);
+    }
+    let energy = energy_of(alloc, variables as u32, constant, ones, twos, threes)?;
+    let regular = match check(&energy) {
+        Ok(regular) => regular,
+        Err(failing) => return Err(Refusal::TermNotRegular(failing.term)),
+    };
+    match minimise(alloc, regular) {
+        Ok(minimum) => Ok(minimum),
+        Err(_) => Err(Refusal::OutOfMemory),
+    }
+}
+
+fn copy_bits(from: &[bool], to: &mut [u8])
+    requires { length from.now ≡ length to.old }
+    ensures { to.new ≡ map digit_of from.now }
+{
+    for (place, bit) in from.iter().enumerate() {
+        to[place] = digit(*bit);
+    }
+}
+
+fn digit(bit: bool) -> u8
+    ensures { result ≡ digit_of bit }
+{
+    if bit { 1 } else { 0 }
+}
+
+fn put(minimum: &mut GcoMinimum, found: &Minimum)
+    ensures { minimum.new.value ≡ found.now.value }
+{
+    *minimum = GcoMinimum {
+        value: found.value,
+        place: 0,
+    };
+}
+
+/// Tells a refusal.
+fn refuse(minimum: &mut GcoMinimum, refusal: Refusal) -> u32
+    ensures some { result ≢ 0 }
+    ensures told { IsRefusedIn refusal result minimum.new }
+{
+    *minimum = GcoMinimum {
+        value: 0,
+        place: refusal.place() as u64,
+    };
+    refusal.status()
+}

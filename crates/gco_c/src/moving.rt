@@ -1,0 +1,311 @@
+//! Single moves for C.
+ghost use Rattle.std.specs.Prelude.{◌≡◌, ◌≢◌, ℕ, ◌+◌, ◌*◌, ◌<◌, ◌≤◌, All, Ok, IfOk, IfErr, length};
+ghost use Rattle.cost_store.specs.Limits.{data_limit, smooth_limit};
+ghost use Rattle.cost_store.specs.Promises.{IsCost, Keeps, KeepsSmooth, cost_in, entry_at};
+ghost use Rattle.labellings.specs.Energies.{Instance};
+ghost use Rattle.labellings.specs.declared.change.Move.TheVariants.{Expand, Swap};
+ghost use Rattle.labelling_runs.specs.Instances.{instance_of};
+ghost use Rattle.move_energy.specs.Problems.{AreSized, IsMeant};
+ghost use Rattle.moves.specs.LabelCosts.{AreLabelCosts, HasCosts, costs_of};
+ghost use Rattle.moves.specs.Problems.{IsMoved};
+ghost use Rattle.gco_c.specs.Calls.{IsGiven, IsMoveTold, asked, instance_given};
+ghost use Rattle.gco_c.specs.Moved.{IsMovedIn, IsMovedTo};
+ghost use Rattle.gco_c.specs.Refusals.{IsMoveCause, IsMoveRefusalTold};
+
+use crate::label::copy_labels;
+use crate::outcome::{GcoOutcome, digit, refuse};
+use crate::pairs::GcoPair;
+use crate::ready::{Ready, ready_of};
+use crate::refusal::Refusal;
+use crate::running::refusal_of;
+use cost_store::{DataCost, SmoothCost};
+use label_field::Labelling;
+use labellings::Move;
+use moves::{Alone, MoveError, Problem};
+use std::alloc::Global;
+
+/// Where a move ended.
+#[derive(Drop)]
+pub(crate) struct Moved {
+    pub(crate) labelling: Labelling,
+    pub(crate) changed: bool,
+    pub(crate) data: i64,
+    pub(crate) smooth: i64,
+    pub(crate) label: i64,
+}
+
+/// Lets every site keep its label or take the label `alpha`, and writes the best of these labellings. The answer is
+/// 0, or the status of a refusal, and then the labels are as they were.
+#[unsafe(no_mangle)]
+pub extern "C" fn gco_expand(
+    alloc: Global,
+    label_count: u32,
+    data: &[i64],
+    smooth: &[i64],
+    label_costs: &[i64],
+    pairs: &[GcoPair],
+    alpha: u32,
+    labels: &mut [u32],
+    outcome: &mut GcoOutcome,
+) -> u32
+    ensures given { result ≡ 0 →
+        IsGiven (asked label_count data.now smooth.now label_costs.now pairs.now labels.old) }
+    ensures moved { result ≡ 0 →
+        IsMoveTold (asked label_count data.now smooth.now label_costs.now pairs.now labels.old)
+        (Expand alpha) labels.new outcome.new }
+    ensures unchanged { result ≢ 0 → labels.new ≡ labels.old }
+    ensures refused { result ≢ 0 →
+        IsMoveRefusalTold (asked label_count data.now smooth.now label_costs.now pairs.now labels.old)
+        (Expand alpha) result outcome.new }
+{
+    let change = Move::Expand(alpha);
+    make(
+        alloc,
+        label_count,
+        data,
+        smooth,
+        label_costs,
+        pairs,
+        change,
+        labels,
+        outcome,
+    )
+}
+
+/// Lets every site that has one of the labels `alpha` and `beta` take either, and writes the best of these labellings.
+/// The answer is 0, or the status of a refusal, and then the labels are as they were.
+#[unsafe(no_mangle)]
+pub extern "C" fn gco_swap(
+    alloc: Global,
+    label_count: u32,
+    data: &[i64],
+    smooth: &[i64],
+    label_costs: &[i64],
+    pairs: &[GcoPair],
+    alpha: u32,
+    beta: u32,
+    labels: &mut [u32],
+    outcome: &mut GcoOutcome,
+) -> u32
+    ensures given { result ≡ 0 →
+        IsGiven (asked label_count data.now smooth.now label_costs.now pairs.now labels.old) }
+    ensures moved { result ≡ 0 →
+        IsMoveTold (asked label_count data.now smooth.now label_costs.now pairs.now labels.old)
+        (Swap alpha beta) labels.new outcome.new }
+    ensures unchanged { result ≢ 0 → labels.new ≡ labels.old }
+    ensures refused { result ≢ 0 →
+        IsMoveRefusalTold (asked label_count data.now smooth.now label_costs.now pairs.now labels.old)
+        (Swap alpha beta) result outcome.new }
+{
+    let change = Move::Swap(alpha, beta);
+    make(
+        alloc,
+        label_count,
+        data,
+        smooth,
+        label_costs,
+        pairs,
+        change,
+        labels,
+        outcome,
+    )
+}
+
+/// Makes one move over the arrays that were given, and tells where it ended.
+fn make(
+    alloc: Global,
+    label_count: u32,
+    data: &[i64],
+    smooth: &[i64],
+    label_costs: &[i64],
+    pairs: &[GcoPair],
+    change: Move,
+    labels: &mut [u32],
+    outcome: &mut GcoOutcome,
+) -> u32
+    ensures given { result ≡ 0 →
+        IsGiven (asked label_count data.now smooth.now label_costs.now pairs.now labels.old) }
+    ensures moved { result ≡ 0 →
+        IsMoveTold (asked label_count data.now smooth.now label_costs.now pairs.now labels.old)
+        change labels.new outcome.new }
+    ensures unchanged { result ≢ 0 → labels.new ≡ labels.old }
+    ensures refused { result ≢ 0 →
+        IsMoveRefusalTold (asked label_count data.now smooth.now label_costs.now pairs.now labels.old)
+        change result outcome.new }
+{
+    match move_call(
+        alloc,
+        label_count,
+        data,
+        smooth,
+        label_costs,
+        pairs,
+        change,
+        labels,
+    ) {
+        Ok(moved) => {
+            copy_labels(moved.labelling.as_slice(), labels);
+            tell_move(outcome, &moved);
+            0
+        }
+        Err(refusal) => refuse(outcome, refusal),
+    }
+}
+
+/// Makes one move over the arrays that were given, and answers where it ended.
+fn move_call(
+    alloc: Global,
+    labels: u32,
+    data: &[i64],
+    smooth: &[i64],
+    label_costs: &[i64],
+    given: &[GcoPair],
+    change: Move,
+    at: &[u32],
+) -> Result<Moved, Refusal>
+    ensures given { IfOk result (λ _.
+        IsGiven (asked labels data.now smooth.now label_costs.now given.now at.now)) }
+    ensures moved { IfOk result (λ moved.
+        IsMovedTo (instance_given (asked labels data.now smooth.now label_costs.now given.now at.now))
+        change at.now (Ok moved)) }
+    ensures sized { IfOk result (λ moved. length moved.labelling.at ≡ length at.now) }
+    ensures refused { IfErr result
+        (IsMoveCause (asked labels data.now smooth.now label_costs.now given.now at.now) change) }
+{
+    let ready = ready_of(alloc, labels, data, smooth, label_costs, given, at)?;
+    match move_over(alloc, ready, data, smooth, change) {
+        Ok(moved) => Ok(moved),
+        Err(error) => Err(refusal_of(error)),
+    }
+}
+
+/// Makes one move over tables of costs where they lie, in the caller's memory.
+fn move_over(
+    alloc: Global,
+    ready: Ready,
+    data: &[i64],
+    smooth: &[i64],
+    change: Move,
+) -> Result<Moved, MoveError>
+    requires sites { length ready.start.at ≡ ready.pairs.sites }
+    requires data { (length data.now ≡ ready.pairs.sites * ready.start.labels)
+        × All (IsCost data_limit) data.now }
+    requires smooth { (length smooth.now ≡ ready.start.labels * ready.start.labels)
+        × All (IsCost smooth_limit) smooth.now }
+    requires label_costs { AreLabelCosts ready.start.labels ready.label_costs }
+    ensures moved { IsMovedTo (instance_of ready.pairs ready.start.labels
+        (cost_in ready.start.labels data.now) smooth.now (costs_of ready.label_costs))
+        change ready.start.at result }
+    ensures sized { IfOk result (λ moved. length moved.labelling.at ≡ length ready.start.at) }
+{
+    let labels = ready.start.labels();
+    let sites = ready.start.sites();
+    let data_cost = DataCost::new(
+        |site: u32, label: u32| -> i64
+            requires { (site * labels + label < length data.now) × (labels ≤ 256) }
+            ensures { result ≡ entry_at labels data.entry.now site label }
+        { data[site as usize * labels as usize + label as usize] },
+        sites,
+        labels,
+    );
+    let smooth_cost = SmoothCost::new(
+        |first: u32, second: u32| -> i64
+            requires { (first * labels + second < length smooth.now) × (labels ≤ 256) }
+            ensures { result ≡ entry_at labels smooth.entry.now first second }
+        { smooth[first as usize * labels as usize + second as usize] },
+        labels,
+    );
+    let problem = Problem {
+        pairs: ready.pairs,
+        data_cost,
+        smooth_cost,
+        label_costs: ready.label_costs,
+    };
+    move_problem(alloc, &problem, ready.start, change)
+}
+
+/// Makes one move of a problem, and tells the energy where it ends.
+fn move_problem<F: Fn(u32, u32) -> i64 + Sync, V: Fn(u32, u32) -> i64 + Sync>(
+    alloc: Global,
+    problem: &Problem<F, V>,
+    start: Labelling,
+    change: Move,
+) -> Result<Moved, MoveError>
+    requires sizes { AreSized problem.now.pairs problem.now.data_cost.sites problem.now.data_cost.labels
+        problem.now.smooth_cost.labels start }
+    requires costs { Keeps (F.pre problem.now.data_cost.f) (F.post problem.now.data_cost.f)
+        problem.now.data_cost.sites problem.now.data_cost.labels data_limit }
+    requires smooth { KeepsSmooth (V.pre problem.now.smooth_cost.v) (V.post problem.now.smooth_cost.v)
+        problem.now.smooth_cost.labels problem.now.smooth_cost.by_metric }
+    requires label_costs { AreLabelCosts problem.now.data_cost.labels problem.now.label_costs }
+    ensures moved { (m : Instance) →
+        IsMeant (F.post problem.now.data_cost.f) (V.post problem.now.smooth_cost.v) problem.now.pairs
+        problem.now.data_cost.labels m →
+        HasCosts m problem.now.label_costs →
+        IsMovedTo m change start.at result }
+    ensures sized { IfOk result (λ moved. length moved.labelling.at ≡ length start.at) }
+{
+    let mut labelling = start;
+    match make_move(alloc, problem, &mut labelling, change) {
+        Ok(changed) => {
+            let data = problem.data_energy(&labelling);
+            let smooth = problem.smooth_energy(&labelling);
+            let label = problem.label_energy(&labelling);
+            Ok(Moved {
+                labelling,
+                changed,
+                data,
+                smooth,
+                label,
+            })
+        }
+        Err(error) => Err(error),
+    }
+}
+
+/// Makes one move of its kind.
+fn make_move<F: Fn(u32, u32) -> i64 + Sync, V: Fn(u32, u32) -> i64 + Sync>(
+    alloc: Global,
+    problem: &Problem<F, V>,
+    labelling: &mut Labelling,
+    change: Move,
+) -> Result<bool, MoveError>
+    requires sizes { AreSized problem.now.pairs problem.now.data_cost.sites problem.now.data_cost.labels
+        problem.now.smooth_cost.labels labelling.old }
+    requires costs { Keeps (F.pre problem.now.data_cost.f) (F.post problem.now.data_cost.f)
+        problem.now.data_cost.sites problem.now.data_cost.labels data_limit }
+    requires smooth { KeepsSmooth (V.pre problem.now.smooth_cost.v) (V.post problem.now.smooth_cost.v)
+        problem.now.smooth_cost.labels problem.now.smooth_cost.by_metric }
+    requires label_costs { AreLabelCosts problem.now.data_cost.labels problem.now.label_costs }
+    ensures sizes { (labelling.new.labels ≡ labelling.old.labels)
+        × (length labelling.new.at ≡ length labelling.old.at) }
+    ensures moved { (m : Instance) →
+        IsMeant (F.post problem.now.data_cost.f) (V.post problem.now.smooth_cost.v) problem.now.pairs
+        problem.now.data_cost.labels m →
+        HasCosts m problem.now.label_costs →
+        IsMoved m change labelling.old.at labelling.new.at result }
+{
+    match change {
+        Move::Expand(alpha) => problem.expand(alloc, labelling, alpha, &Alone),
+        Move::Swap(alpha, beta) => problem.swap(alloc, labelling, alpha, beta, &Alone),
+    }
+}
+
+/// Tells where a move ended.
+fn tell_move(outcome: &mut GcoOutcome, moved: &Moved)
+    ensures { IsMovedIn moved.now outcome.new }
+{
+    *outcome = GcoOutcome {
+        data: moved.data,
+        smooth: moved.smooth,
+        label: moved.label,
+        place: 0,
+        vmin: 0,
+        vmax: 0,
+        cycles: 0,
+        settled: 0,
+        changed: digit(moved.changed),
+        alpha: 0,
+        beta: 0,
+    };
+}

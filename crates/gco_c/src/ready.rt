@@ -1,0 +1,68 @@
+//! What a call was given, once it is tested.
+ghost use Rattle.std.specs.Prelude.{◌≡◌, length, IfOk, IfErr, None};
+ghost use Rattle.moves.specs.LabelCosts.{costs_of};
+ghost use Rattle.gco_c.specs.Calls.{IsReady, asked};
+ghost use Rattle.gco_c.specs.Refusals.{IsGivenRefusal};
+
+use crate::checks::{check_counts, check_ranges};
+use crate::pairs::{GcoPair, pairs_of};
+use crate::refusal::Refusal;
+use crate::start::start_of;
+use label_field::{Labelling, Pairs};
+use std::alloc::Global;
+
+/// The parts of a problem that a call makes of its arrays. The tables of costs stay where they are.
+#[derive(Drop)]
+pub(crate) struct Ready {
+    pub(crate) pairs: Pairs,
+    pub(crate) start: Labelling,
+    pub(crate) label_costs: Option<Vec<i64>>,
+}
+
+/// Tests what a call was given, in the order of its arrays, and makes the parts of its problem.
+pub(crate) fn ready_of(
+    alloc: Global,
+    labels: u32,
+    data: &[i64],
+    smooth: &[i64],
+    label_costs: &[i64],
+    given: &[GcoPair],
+    at: &[u32],
+) -> Result<Ready, Refusal>
+    ensures ready { IfOk result
+        (IsReady (asked labels data.now smooth.now label_costs.now given.now at.now)) }
+    ensures refused { IfErr result
+        (IsGivenRefusal (asked labels data.now smooth.now label_costs.now given.now at.now)) }
+{
+    let sites = check_counts(
+        at.len(),
+        labels,
+        data.len(),
+        smooth.len(),
+        label_costs.len(),
+    )?;
+    check_ranges(data, smooth, label_costs)?;
+    let pairs = pairs_of(alloc, sites, given)?;
+    let start = start_of(alloc, labels, at)?;
+    let label_costs = costs_given(alloc, label_costs)?;
+    Ok(Ready {
+        pairs,
+        start,
+        label_costs,
+    })
+}
+
+/// The label costs that were given, none where there are none.
+fn costs_given(alloc: Global, given: &[i64]) -> Result<Option<Vec<i64>>, Refusal>
+    ensures costs { IfOk result (λ costs. costs_of costs ≡ given.now) }
+    ensures empty { IfOk result (λ costs. length given.now ≡ 0 → costs ≡ None) }
+    ensures refused { IfErr result (λ e. e ≡ Refusal.OutOfMemory) }
+{
+    if given.is_empty() {
+        return Ok(None);
+    }
+    match given.to_vec(alloc) {
+        Ok(costs) => Ok(Some(costs)),
+        Err(_) => Err(Refusal::OutOfMemory),
+    }
+}

@@ -1,0 +1,114 @@
+//! Why a call was refused, and the numbers that tell it.
+ghost use Rattle.std.specs.Prelude.{◌≡◌, ◌≢◌};
+ghost use Rattle.gco_c.specs.Statuses.{labels_of, place_of, status_of};
+
+/// Why a call was refused. Pairs, sites, terms and entries go by their place in the array that was given, from 0.
+#[derive(Clone, Copy)]
+pub(crate) enum Refusal {
+    /// Memory was refused.
+    OutOfMemory,
+    /// There are more sites than a labelling may have, or more variables than an energy.
+    TooManySites,
+    /// There is no label, or there are more than a labelling may have.
+    LabelCount,
+    /// There is not one data cost for each label at each site.
+    DataCount,
+    /// There is not one smooth cost for each two labels.
+    SmoothCount,
+    /// The number names no moves.
+    NoSuchMoves,
+    /// There are label costs, and not one for each label.
+    LabelCostCount,
+    /// A label of the move is not there.
+    NoSuchMove,
+    /// A pair or a term names a site or a variable that is not there.
+    NoSuchSite(usize),
+    /// A site starts with a label that is not there.
+    NoSuchLabel(usize),
+    /// A pair or a term names a site or a variable twice.
+    SameSite(usize),
+    /// There are more pairs or terms than a list may have.
+    TooManyPairs,
+    /// The weight of a pair, or a number of a term, is out of its range.
+    WeightRange(usize),
+    /// A data cost is out of its range.
+    DataRange(usize),
+    /// A smooth cost is out of its range.
+    SmoothRange(usize),
+    /// What a label costs by itself is out of its range.
+    LabelCostRange(usize),
+    /// The constant is out of its range.
+    ConstantRange,
+    /// The term at a place is not regular.
+    TermNotRegular(usize),
+    /// The term of a pair is not regular in the move that is due.
+    NotRegular {
+        pair: usize,
+        alpha: u32,
+        beta: Option<u32>,
+    },
+    /// A swap, where a label costs something by itself.
+    LabelCostInSwap,
+}
+
+impl Refusal {
+    /// The number that a call answers for it.
+    pub(crate) fn status(self) -> u32
+        ensures value { result ≡ status_of self }
+        ensures some { result ≢ 0 }
+    {
+        match self {
+            Refusal::OutOfMemory => 1,
+            Refusal::TooManySites => 2,
+            Refusal::LabelCount => 3,
+            Refusal::DataCount => 4,
+            Refusal::SmoothCount => 5,
+            Refusal::NoSuchMoves => 6,
+            Refusal::LabelCostCount => 7,
+            Refusal::NoSuchMove => 8,
+            Refusal::NoSuchSite(_) => 10,
+            Refusal::NoSuchLabel(_) => 11,
+            Refusal::SameSite(_) => 12,
+            Refusal::TooManyPairs => 13,
+            Refusal::WeightRange(_) => 14,
+            Refusal::DataRange(_) => 15,
+            Refusal::SmoothRange(_) => 16,
+            Refusal::LabelCostRange(_) => 17,
+            Refusal::ConstantRange => 18,
+            Refusal::TermNotRegular(_) => 20,
+            Refusal::NotRegular { .. } => 24,
+            Refusal::LabelCostInSwap => 27,
+        }
+    }
+
+    /// The place that it tells, or 0.
+    pub(crate) fn place(self) -> usize
+        ensures { result ≡ place_of self }
+    {
+        match self {
+            Refusal::NoSuchSite(place)
+            | Refusal::NoSuchLabel(place)
+            | Refusal::SameSite(place)
+            | Refusal::WeightRange(place)
+            | Refusal::DataRange(place)
+            | Refusal::SmoothRange(place)
+            | Refusal::LabelCostRange(place)
+            | Refusal::TermNotRegular(place) => place,
+            Refusal::NotRegular { pair, .. } => pair,
+            _ => 0,
+        }
+    }
+
+    /// The labels of the move that it tells: twice the same of an expansion, and 0 and 0 of no move.
+    pub(crate) fn labels(self) -> (u32, u32)
+        ensures { result ≡ labels_of self }
+    {
+        match self {
+            Refusal::NotRegular { alpha, beta, .. } => match beta {
+                Some(beta) => (alpha, beta),
+                None => (alpha, alpha),
+            },
+            _ => (0, 0),
+        }
+    }
+}

@@ -1,0 +1,79 @@
+//! Runs and moves over tables of costs where they lie, in the caller's memory.
+ghost use Rattle.std.specs.Prelude.{◌≡◌, pos, ◌+◌, ◌*◌, ◌<◌, ◌≤◌, All, IfOk, IfErr, OnErr, length};
+ghost use Rattle.cost_store.specs.Limits.{data_limit, smooth_limit};
+ghost use Rattle.cost_store.specs.Promises.{IsCost, cost_in, entry_at};
+ghost use Rattle.labelling_runs.specs.Instances.{instance_of};
+ghost use Rattle.labelling_runs.specs.Runs.{Answers, IsSized};
+ghost use Rattle.moves.specs.LabelCosts.{AreLabelCosts, costs_of};
+ghost use Rattle.moves.specs.Problems.{IsRunRefusal};
+ghost use Rattle.moves.specs.declared.error.SolveError.TheVariants.{OutOfMemory};
+ghost use Rattle.gco_c.specs.Refusals.{move_refusal};
+
+use crate::ready::Ready;
+use crate::refusal::Refusal;
+use cost_store::DataCost;
+use labelling_runs::{Run, run_with_table};
+use moves::{Alone, MoveError};
+use run_options::Moves;
+use std::alloc::Global;
+
+/// Makes moves over tables of costs.
+pub(crate) fn run_over(
+    alloc: Global,
+    ready: Ready,
+    data: &[i64],
+    smooth: &[i64],
+    moves: Moves,
+    cycles: u32,
+) -> Result<Run, MoveError>
+    requires sites { length ready.start.at ≡ ready.pairs.sites }
+    requires data { (length data.now ≡ ready.pairs.sites * ready.start.labels)
+        × All (IsCost data_limit) data.now }
+    requires smooth { (length smooth.now ≡ ready.start.labels * ready.start.labels)
+        × All (IsCost smooth_limit) smooth.now }
+    requires label_costs { AreLabelCosts ready.start.labels ready.label_costs }
+    ensures run { Answers (instance_of ready.pairs ready.start.labels
+        (cost_in ready.start.labels data.now) smooth.now (costs_of ready.label_costs))
+        moves cycles ready.start.at result }
+    ensures refused { IfErr result (IsRunRefusal (λ e. e ≡ OutOfMemory)) }
+    ensures sized { IfOk result (IsSized ready.start) }
+{
+    let labels = ready.start.labels();
+    let sites = ready.start.sites();
+    let data_cost = DataCost::new(
+        |site: u32, label: u32| -> i64
+            requires { (site * labels + label < length data.now) × (labels ≤ 256) }
+            ensures { result ≡ entry_at labels data.entry.now site label }
+        { data[site as usize * labels as usize + label as usize] },
+        sites,
+        labels,
+    );
+    run_with_table(
+        alloc,
+        ready.pairs,
+        data_cost,
+        smooth,
+        ready.label_costs,
+        ready.start,
+        moves,
+        cycles,
+        &Alone,
+    )
+}
+
+/// The refusal of a call whose run or move was refused.
+pub(crate) fn refusal_of(error: MoveError) -> Refusal
+    ensures { result ≡ move_refusal error }
+{
+    match error {
+        MoveError::PairNotRegular { pair, alpha, beta } => Refusal::NotRegular {
+            pair,
+            alpha,
+            beta,
+        },
+        MoveError::LabelCostInSwap => Refusal::LabelCostInSwap,
+        MoveError::NoSuchLabel => Refusal::NoSuchMove,
+        MoveError::Workers | MoveError::BadOptions | MoveError::NoBound | MoveError::OutOfMemory =>
+            Refusal::OutOfMemory,
+    }
+}

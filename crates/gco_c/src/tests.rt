@@ -1,0 +1,175 @@
+//! Each call of C once, with a worked example.
+use crate::{
+    GcoMinimum, GcoOne, GcoOutcome, GcoPair, GcoThree, GcoTwo, gco_expand, gco_label, gco_minimise,
+    gco_swap,
+};
+use std::test::Fail;
+
+const DATA: [i64; 15] = [4, 6, 9, 7, 5, 6, 8, 4, 7, 9, 7, 3, 6, 8, 5];
+
+const POTTS: [i64; 9] = [0, 1, 1, 1, 0, 1, 1, 1, 0];
+
+const PAIRS: [GcoPair; 6] = [
+    GcoPair {
+        first: 0,
+        second: 1,
+        weight: 3,
+    },
+    GcoPair {
+        first: 1,
+        second: 2,
+        weight: 2,
+    },
+    GcoPair {
+        first: 2,
+        second: 3,
+        weight: 2,
+    },
+    GcoPair {
+        first: 3,
+        second: 4,
+        weight: 4,
+    },
+    GcoPair {
+        first: 1,
+        second: 3,
+        weight: 1,
+    },
+    GcoPair {
+        first: 0,
+        second: 4,
+        weight: 1,
+    },
+];
+
+/// Nothing told yet.
+fn no_outcome() -> GcoOutcome {
+    GcoOutcome {
+        data: -1,
+        smooth: -1,
+        label: -1,
+        place: 9,
+        vmin: 9,
+        vmax: 9,
+        cycles: 9,
+        settled: 9,
+        changed: 9,
+        alpha: 9,
+        beta: 9,
+    }
+}
+
+/// The five districts: the least energy is 27, which expansions reach from 0 everywhere.
+#[test]
+fn districts(rt: HostRuntime) -> Result<(), Fail> {
+    let mut labels = [0u32; 5];
+    let mut told = no_outcome();
+    let status = gco_label(
+        rt.alloc(),
+        3,
+        &DATA,
+        &POTTS,
+        &[],
+        &PAIRS,
+        0,
+        9,
+        &mut labels,
+        &mut told,
+    );
+    assert_eq!(rt; status, 0);
+    assert_eq!(rt; labels, [1, 1, 1, 2, 2]);
+    assert_eq!(rt; told.data, 23);
+    assert_eq!(rt; told.smooth, 4);
+    assert_eq!(rt; told.settled, 1);
+    assert_eq!(rt; told.vmin, 1);
+    assert_eq!(rt; told.vmax, 1);
+    Ok(())
+}
+
+/// One expansion of 2 from 0 everywhere, then one swap of 2 and 1: the energies after them are
+/// 25 + 4 and 21 + 7.
+#[test]
+fn single_moves(rt: HostRuntime) -> Result<(), Fail> {
+    let mut labels = [0u32; 5];
+    let mut told = no_outcome();
+    let status = gco_expand(
+        rt.alloc(),
+        3,
+        &DATA,
+        &POTTS,
+        &[],
+        &PAIRS,
+        2,
+        &mut labels,
+        &mut told,
+    );
+    assert_eq!(rt; status, 0);
+    assert_eq!(rt; labels, [0, 2, 2, 2, 2]);
+    assert_eq!(rt; told.changed, 1);
+    let status = gco_swap(
+        rt.alloc(),
+        3,
+        &DATA,
+        &POTTS,
+        &[],
+        &PAIRS,
+        2,
+        1,
+        &mut labels,
+        &mut told,
+    );
+    assert_eq!(rt; status, 0);
+    assert_eq!(rt; labels, [0, 1, 1, 2, 2]);
+    assert_eq!(rt; told.data, 21);
+    assert_eq!(rt; told.smooth, 7);
+    Ok(())
+}
+
+/// The three variables of a term that costs 3 unless all are 1, beside terms that cost 2 where the first is 1, and 4
+/// where the last two differ: all 1 costs 2 and the constant 10.
+#[test]
+fn three_variables(rt: HostRuntime) -> Result<(), Fail> {
+    let ones = [GcoOne {
+        variable: 0,
+        spare: 0,
+        at0: 0,
+        at1: 2,
+    }];
+    let twos = [GcoTwo {
+        first: 1,
+        second: 2,
+        at00: 0,
+        at01: 4,
+        at10: 4,
+        at11: 0,
+    }];
+    let threes = [GcoThree {
+        first: 0,
+        second: 1,
+        third: 2,
+        spare: 0,
+        at000: 3,
+        at001: 3,
+        at010: 3,
+        at011: 3,
+        at100: 3,
+        at101: 3,
+        at110: 3,
+        at111: 0,
+    }];
+    let mut assignment = [7u8; 3];
+    let mut told = GcoMinimum { value: 0, place: 0 };
+    let status = gco_minimise(
+        rt.alloc(),
+        10,
+        &ones,
+        &twos,
+        &threes,
+        &mut assignment,
+        &mut told,
+    );
+    assert_eq!(rt; status, 0);
+    assert_eq!(rt; assignment, [1, 1, 1]);
+    assert_eq!(rt; told.value, 12);
+    Ok(())
+}
