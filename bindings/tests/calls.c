@@ -1,0 +1,215 @@
+/* Each call of gco.h: worked examples, every status once, what a refusal leaves, and four threads at once. It exits with the
+ * first line that fails. */
+#include <pthread.h>
+#include <stdio.h>
+#include <stdlib.h>
+#include <string.h>
+#include "gco.h"
+
+#define WANT(x)                                                   \
+    do {                                                          \
+        if (!(x)) {                                               \
+            printf("tests/calls.c:%d: %s\n", __LINE__, #x);       \
+            return 1;                                             \
+        }                                                         \
+    } while (0)
+
+static int64_t data[] = {4, 6, 9, 7, 5, 6, 8, 4, 7, 9, 7, 3, 6, 8, 5};
+static int64_t smooth[] = {0, 1, 1, 1, 0, 1, 1, 1, 0};
+static gco_pair pairs[] = {{0, 1, 3}, {1, 2, 2}, {2, 3, 2}, {3, 4, 4}, {1, 3, 1}, {0, 4, 1}};
+static int64_t costs[] = {0, 0, 0};
+static uint32_t labels[5];
+static const uint32_t zero[5];
+static gco_outcome told;
+
+static uint32_t run(uint32_t label_count, size_t data_count, size_t smooth_count, size_t cost_count, uint32_t moves, uint32_t cycles) {
+    memset(&told, 0xff, sizeof told);
+    return gco_label(label_count, data, data_count, smooth, smooth_count, costs, cost_count, pairs, 6, moves, cycles, labels, 5, &told);
+}
+
+static int labels_are(uint32_t a, uint32_t b, uint32_t c, uint32_t d, uint32_t e) {
+    return labels[0] == a && labels[1] == b && labels[2] == c && labels[3] == d && labels[4] == e;
+}
+
+static int worked(void) {
+    WANT(run(3, 15, 9, 0, GCO_EXPANSION, GCO_ALL_CYCLES) == GCO_OK);
+    WANT(labels_are(1, 1, 1, 2, 2) && told.data == 23 && told.smooth == 4 && told.label == 0 && told.settled == 1);
+    WANT(told.vmin == 1 && told.vmax == 1 && told.place == 0 && told.alpha == 0 && told.beta == 0);
+    /* no cycle: the energy of the labels */
+    WANT(run(3, 15, 9, 0, GCO_EXPANSION, 0) == GCO_OK && told.data == 23 && told.smooth == 4 && told.cycles == 0 && told.settled == 0);
+    memset(labels, 0, sizeof labels);
+    WANT(run(3, 15, 9, 3, GCO_SWAP, GCO_ALL_CYCLES) == GCO_OK && told.settled == 1 && told.vmax == 0);
+    /* one move after another: docs/BINDINGS.md, "One move" */
+    memset(labels, 0, sizeof labels);
+    WANT(gco_expand(3, data, 15, smooth, 9, NULL, 0, pairs, 6, 2, labels, 5, &told) == GCO_OK);
+    WANT(labels_are(0, 2, 2, 2, 2) && told.changed == 1 && told.data + told.smooth == 29);
+    WANT(gco_swap(3, data, 15, smooth, 9, NULL, 0, pairs, 6, 2, 1, labels, 5, &told) == GCO_OK);
+    WANT(labels_are(0, 1, 1, 2, 2) && told.changed == 1 && told.data + told.smooth == 28);
+    WANT(gco_swap(3, data, 15, smooth, 9, NULL, 0, pairs, 6, 2, 1, labels, 5, &told) == GCO_OK && told.changed == 0);
+    /* a label that costs too much by itself goes: the labels 1 1 1 2 2 cost 27, 1 everywhere 30 and 2 everywhere 30 */
+    memset(labels, 0, sizeof labels);
+    costs[2] = 100;
+    WANT(run(3, 15, 9, 3, GCO_EXPANSION, GCO_ALL_CYCLES) == GCO_OK && labels_are(1, 1, 1, 1, 1) && told.data == 30 && told.label == 0);
+    costs[1] = 5;
+    WANT(run(3, 15, 9, 3, GCO_EXPANSION, 0) == GCO_OK && told.label == 5 && told.vmax == 0);
+    costs[1] = costs[2] = 0;
+    /* an asymmetric table: 0 beside 1 costs 5, 1 beside 0 costs 1, so the first site takes 1 */
+    int64_t free[] = {0, 0, 0, 0}, apart[] = {0, 5, 1, 0};
+    gco_pair one = {0, 1, 1};
+    uint32_t two[2] = {1, 0};
+    WANT(gco_label(2, free, 4, apart, 4, NULL, 0, &one, 1, GCO_EXPANSION, 0, two, 2, &told) == GCO_OK && told.smooth == 1);
+    two[0] = 0;
+    two[1] = 1;
+    WANT(gco_label(2, free, 4, apart, 4, NULL, 0, &one, 1, GCO_EXPANSION, 0, two, 2, &told) == GCO_OK && told.smooth == 5);
+    /* nothing at all */
+    WANT(gco_label(1, NULL, 0, smooth, 1, NULL, 0, NULL, 0, GCO_SWAP, 1, NULL, 0, &told) == GCO_OK && told.data == 0 && told.settled == 1);
+    return 0;
+}
+
+static int refused(void) {
+    memset(labels, 0, sizeof labels);
+    WANT(run(3, 15, 9, 0, 2, 1) == GCO_NO_SUCH_MOVES && told.data == 0 && told.place == 0);
+    WANT(gco_label(3, data, 15, smooth, 9, costs, 0, pairs, 6, 0, 1, labels, (size_t)GCO_SITE_LIMIT + 1, &told) == GCO_TOO_MANY_SITES);
+    WANT(run(0, 0, 0, 0, 0, 1) == GCO_LABEL_COUNT && run(257, 15, 9, 0, 0, 1) == GCO_LABEL_COUNT);
+    WANT(run(3, 14, 9, 0, 0, 1) == GCO_DATA_COUNT && run(3, 0, 9, 0, 0, 1) == GCO_DATA_COUNT);
+    WANT(run(3, 15, 8, 0, 0, 1) == GCO_SMOOTH_COUNT);
+    WANT(run(3, 15, 9, 2, 0, 1) == GCO_LABEL_COST_COUNT);
+    data[7] = -1;
+    WANT(run(3, 15, 9, 0, 0, 1) == GCO_DATA_RANGE && told.place == 7);
+    data[7] = GCO_DATA_LIMIT + 1;
+    WANT(run(3, 15, 9, 0, 0, 1) == GCO_DATA_RANGE && told.place == 7);
+    data[7] = 4;
+    smooth[5] = INT64_MIN;
+    WANT(run(3, 15, 9, 0, 0, 1) == GCO_SMOOTH_RANGE && told.place == 5);
+    smooth[5] = 1;
+    costs[1] = GCO_LABEL_COST_LIMIT + 1;
+    WANT(run(3, 15, 9, 3, 0, 1) == GCO_LABEL_COST_RANGE && told.place == 1);
+    costs[1] = 0;
+    pairs[4].second = 5;
+    WANT(run(3, 15, 9, 0, 0, 1) == GCO_NO_SUCH_SITE && told.place == 4);
+    pairs[4].second = 1;
+    WANT(run(3, 15, 9, 0, 0, 1) == GCO_SAME_SITE && told.place == 4);
+    pairs[4].second = 3;
+    pairs[2].weight = 1001;
+    WANT(run(3, 15, 9, 0, 0, 1) == GCO_WEIGHT_RANGE && told.place == 2);
+    pairs[2].weight = 2;
+    labels[3] = 3;
+    WANT(run(3, 15, 9, 0, 0, 1) == GCO_NO_SUCH_LABEL && told.place == 3 && labels[3] == 3);
+    labels[3] = 0;
+    costs[0] = 1;
+    WANT(run(3, 15, 9, 3, GCO_SWAP, 0) == GCO_LABEL_COST_IN_SWAP);
+    WANT(gco_swap(3, data, 15, smooth, 9, costs, 3, pairs, 6, 0, 1, labels, 5, &told) == GCO_LABEL_COST_IN_SWAP);
+    costs[0] = 0;
+    WANT(gco_swap(3, data, 15, smooth, 9, costs, 0, pairs, 6, 0, 3, labels, 5, &told) == GCO_NO_SUCH_MOVE);
+    WANT(gco_expand(3, data, 15, smooth, 9, costs, 0, pairs, 6, 3, labels, 5, &told) == GCO_NO_SUCH_MOVE);
+    WANT(gco_expand(3, data, 15, smooth, 8, costs, 0, pairs, 6, 3, labels, 5, &told) == GCO_SMOOTH_COUNT);
+    WANT(!memcmp(labels, zero, sizeof labels));
+    /* one more pair than there may be */
+    size_t many = (size_t)GCO_PAIR_LIMIT + 1;
+    gco_pair *list = malloc(many * sizeof *list);
+    WANT(list != NULL);
+    for (size_t i = 0; i < many; i++) list[i] = pairs[0];
+    WANT(gco_label(3, data, 15, smooth, 9, NULL, 0, list, many, 0, 1, labels, 5, &told) == GCO_TOO_MANY_PAIRS);
+    free(list);
+    /* docs/LABEL.md's example of a term that is not regular */
+    int64_t far[] = {0, 9, 9, 9, 9, 0}, square[] = {0, 1, 4, 1, 0, 1, 4, 1, 0};
+    gco_pair one[] = {{0, 1, 1}};
+    uint32_t ends[2] = {0, 2};
+    WANT(gco_label(3, far, 6, square, 9, NULL, 0, one, 1, 0, 1, ends, 2, &told) == GCO_NOT_REGULAR);
+    WANT(told.place == 0 && told.alpha == 1 && told.beta == 1 && ends[0] == 0 && ends[1] == 2);
+    return 0;
+}
+
+static int minimised(void) {
+    /* docs/ENERGY.md's first example */
+    gco_one ones[] = {{0, 0, 5, 2}, {1, 0, 1, 6}};
+    gco_two twos[] = {{0, 1, 0, 3, 4, 0}};
+    gco_three threes[] = {{0, 1, 2, 0, 3, 3, 3, 3, 3, 3, 3, 0}};
+    uint8_t bits[3] = {7, 7, 7};
+    gco_minimum found;
+    WANT(gco_minimise(0, ones, 2, twos, 1, NULL, 0, bits, 2, &found) == GCO_OK && found.value == 6 && bits[0] == 0 && bits[1] == 0 && bits[2] == 7);
+    /* an asymmetric term: 0 at 01 alone, so the second is 1 and the first 0 */
+    gco_two apart[] = {{0, 1, 1, 0, 1, 0}};
+    WANT(gco_minimise(7, NULL, 0, apart, 1, NULL, 0, bits, 2, &found) == GCO_OK && found.value == 7 && bits[0] == 0 && bits[1] == 1);
+    gco_one two[] = {{0, 0, 0, 2}};
+    gco_two same[] = {{1, 2, 0, 4, 4, 0}};
+    WANT(gco_minimise(10, two, 1, same, 1, threes, 1, bits, 3, &found) == GCO_OK && found.value == 12 && bits[0] == 1 && bits[1] == 1 && bits[2] == 1);
+    /* refusals, in their order; places are counted over all terms */
+    memset(bits, 9, sizeof bits);
+    WANT(gco_minimise(0, ones, 2, twos, 1, NULL, 0, bits, (size_t)GCO_VARIABLE_LIMIT + 1, &found) == GCO_TOO_MANY_SITES);
+    WANT(gco_minimise(GCO_VALUE_LIMIT + 1, ones, 2, twos, 1, NULL, 0, bits, 2, &found) == GCO_CONSTANT_RANGE);
+    WANT(gco_minimise(0, ones, 2, twos, 1, threes, 1, bits, 2, &found) == GCO_NO_SUCH_SITE && found.place == 3);
+    twos[0].second = 0;
+    WANT(gco_minimise(0, ones, 2, twos, 1, threes, 1, bits, 3, &found) == GCO_SAME_SITE && found.place == 2);
+    twos[0].second = 1;
+    threes[0].at110 = -GCO_VALUE_LIMIT - (int64_t)1;
+    WANT(gco_minimise(0, ones, 2, twos, 1, threes, 1, bits, 3, &found) == GCO_WEIGHT_RANGE && found.place == 3);
+    threes[0].at110 = 30;
+    threes[0].at111 = 30;
+    threes[0].at000 = 30;
+    WANT(gco_minimise(0, ones, 2, twos, 1, threes, 1, bits, 3, &found) == GCO_TERM_NOT_REGULAR && found.place == 3 && found.value == 0);
+    twos[0].at00 = 8;
+    WANT(gco_minimise(0, ones, 2, twos, 1, threes, 1, bits, 3, &found) == GCO_TERM_NOT_REGULAR && found.place == 2);
+    WANT(bits[0] == 9 && bits[1] == 9 && bits[2] == 9);
+    size_t many = (size_t)GCO_TERM_LIMIT + 1;
+    gco_one *list = calloc(many, sizeof *list);
+    WANT(list != NULL);
+    WANT(gco_minimise(0, list, many, NULL, 0, NULL, 0, bits, 1, &found) == GCO_TOO_MANY_PAIRS && bits[0] == 9);
+    free(list);
+    WANT(gco_minimise(-3, NULL, 0, NULL, 0, NULL, 0, NULL, 0, &found) == GCO_OK && found.value == -3);
+    return 0;
+}
+
+enum { W = 60, H = 60, K = 4, N = W * H, T = 4 };
+
+struct job {
+    int64_t data[N * K];
+    uint32_t labels[N];
+    gco_outcome told;
+    uint32_t status;
+};
+
+static int64_t potts[K * K];
+static gco_pair grid[2 * N];
+static size_t grid_count;
+
+static void *label_job(void *given) {
+    struct job *job = given;
+    memset(job->labels, 0, sizeof job->labels);
+    job->status = gco_label(K, job->data, N * K, potts, K * K, NULL, 0, grid, grid_count, GCO_EXPANSION, GCO_ALL_CYCLES, job->labels, N, &job->told);
+    return NULL;
+}
+
+static int at_once(void) {
+    static struct job alone[T], beside[T];
+    pthread_t threads[T];
+    for (int a = 0; a < K; a++)
+        for (int b = 0; b < K; b++) potts[a * K + b] = a != b ? 20 : 0;
+    for (uint32_t s = 0; s < N; s++) {
+        if (s % W + 1 < W) grid[grid_count++] = (gco_pair){s, s + 1, 1};
+        if (s + W < N) grid[grid_count++] = (gco_pair){s, s + W, 1};
+    }
+    uint64_t seed = 88172645463325252u;
+    for (int i = 0; i < T; i++) {
+        for (int k = 0; k < N * K; k++) {
+            seed ^= seed << 13;
+            seed ^= seed >> 7;
+            seed ^= seed << 17;
+            alone[i].data[k] = (int64_t)(seed % 100);
+        }
+        label_job(&alone[i]);
+        WANT(alone[i].status == GCO_OK && alone[i].told.settled == 1);
+        memcpy(beside[i].data, alone[i].data, sizeof alone[i].data);
+    }
+    for (int i = 0; i < T; i++) WANT(pthread_create(&threads[i], NULL, label_job, &beside[i]) == 0);
+    for (int i = 0; i < T; i++) WANT(pthread_join(threads[i], NULL) == 0);
+    for (int i = 0; i < T; i++)
+        WANT(!memcmp(alone[i].labels, beside[i].labels, sizeof alone[i].labels) && !memcmp(&alone[i].told, &beside[i].told, sizeof alone[i].told));
+    return 0;
+}
+
+int main(void) {
+    if (worked() || refused() || minimised() || at_once()) return 1;
+    printf("c: every call, every status, four threads\n");
+    return 0;
+}

@@ -1,0 +1,106 @@
+// A program in gco-v3's names: a grid of 10 by 5 sites with 7 labels, as in gco-v3's example, and each further method.
+#include <cstdio>
+#include <cstdlib>
+#include <string>
+#include "GCoptimization.h"
+
+#define WANT(x)                                                        \
+    do {                                                               \
+        if (!(x)) {                                                    \
+            std::printf("tests/gco_v3.cpp:%d: %s\n", __LINE__, #x);    \
+            return 1;                                                  \
+        }                                                              \
+    } while (0)
+
+static const int width = 10, height = 5, sites = width * height, labels = 7;
+
+static int data_of(int site, int label) {
+    if (site < 25) return label == 0 ? 0 : 10;
+    return label == 5 ? 0 : 10;
+}
+
+static int data_with(int site, int label, void *extra) { return data_of(site, label) + *static_cast<int *>(extra); }
+
+int main() {
+    int data[sites * labels], smooth[labels * labels], result[sites];
+    for (int i = 0; i < sites; i++)
+        for (int l = 0; l < labels; l++) data[i * labels + l] = data_of(i, l);
+    for (int a = 0; a < labels; a++)
+        for (int b = 0; b < labels; b++) smooth[a + b * labels] = std::abs(a - b) <= 2 ? std::abs(a - b) : 2;
+    // 25 sites want 0 and 25 want 5, and the border between rows 0 to 2 and the half of row 2 is 11 pairs long, of cost 2
+    GCoptimizationGridGraph grid(width, height, labels);
+    grid.setDataCost(data);
+    grid.setSmoothCost(smooth);
+    WANT(grid.compute_energy() == 250);
+    WANT(grid.expansion(2) == 22 && grid.giveDataEnergy() == 0 && grid.giveSmoothEnergy() == 22 && grid.giveLabelEnergy() == 0);
+    grid.whatLabel(0, sites, result);
+    for (int i = 0; i < sites; i++) WANT(result[i] == (i < 25 ? 0 : 5) && grid.whatLabel(i) == result[i]);
+    WANT(grid.numSites() == sites && grid.numLabels() == labels);
+    // the same by single moves, and by a function with a word of its own, which adds 1 at each site
+    int extra = 1;
+    grid.setDataCost(data_with, &extra);
+    for (int i = 0; i < sites; i++) grid.setLabel(i, 0);
+    WANT(!grid.alpha_expansion(0) && grid.alpha_expansion(5) && grid.compute_energy() == 72);
+    for (int i = 0; i < sites; i++) grid.setLabel(i, 0);
+    grid.alpha_beta_swap(0, 5);
+    WANT(grid.compute_energy() == 72);
+    // a label that costs 1,000 is left
+    grid.setDataCost(data_of);
+    int costs[labels] = {0, 0, 0, 0, 0, 1000, 0};
+    grid.setLabelCost(costs);
+    WANT(grid.compute_energy() == 1022 && grid.giveLabelEnergy() == 1000);
+    WANT(grid.expansion() <= 250 && grid.giveLabelEnergy() == 0);
+    try {
+        grid.swap();
+        return 1;
+    } catch (GCException e) {
+        WANT(std::string(e.message).find("swap") != std::string::npos);
+    }
+    // weights of 5,000 have a common factor, which goes over to the smooth costs
+    GCoptimizationGeneralGraph graph(sites, labels);
+    graph.setDataCost(data_of);
+    for (int a = 0; a < labels; a++)
+        for (int b = 0; b < labels; b++) graph.setSmoothCost(a, b, smooth[a + b * labels]);
+    for (int y = 0; y < height; y++)
+        for (int x = 1; x < width; x++) graph.setNeighbors(x + y * width, x - 1 + y * width, 5000);
+    for (int y = 1; y < height; y++)
+        for (int x = 0; x < width; x++) graph.setNeighbors(x + y * width, x + (y - 1) * width, 5000);
+    WANT(graph.swap() == 250 && graph.giveDataEnergy() == 250 && graph.giveSmoothEnergy() == 0);
+    // data costs below 0
+    graph.setDataCost(0, 3, -500000);
+    WANT(graph.expansion() < -400000 && graph.whatLabel(0) == 3);
+    // a smooth cost that is too large once the factor is in it
+    graph.setSmoothCost(0, 6, 36);
+    try {
+        graph.expansion();
+        return 1;
+    } catch (GCException e) {
+        WANT(std::string(e.message).find("smooth cost 6 ") != std::string::npos);
+    }
+    // a square is no metric: docs/LABEL.md's example of a term that is not regular
+    GCoptimizationGeneralGraph square(2, 3);
+    int far[] = {0, 9, 9, 9, 9, 0};
+    square.setDataCost(far);
+    for (int a = 0; a < 3; a++)
+        for (int b = 0; b < 3; b++) square.setSmoothCost(a, b, (a - b) * (a - b));
+    square.setNeighbors(0, 1);
+    square.setLabel(1, 2);
+    try {
+        square.expansion();
+        return 1;
+    } catch (GCException e) {
+        WANT(std::string(e.message).find("no metric") != std::string::npos);
+    }
+    WANT(square.swap() == 4 && square.whatLabel(0) == 0 && square.whatLabel(1) == 2);
+    // pairs of gco-v3's lists, each once: 0 beside 1 with weight 3
+    GCoptimizationGeneralGraph two(2, 2);
+    int counts[] = {1, 1}, of0[] = {1}, of1[] = {0}, w0[] = {3}, w1[] = {3};
+    int *neighbours[] = {of0, of1}, *weights[] = {w0, w1};
+    two.setAllNeighbors(counts, neighbours, weights);
+    two.setSmoothCost(0, 1, 1);
+    two.setSmoothCost(1, 0, 1);
+    two.setLabel(1, 1);
+    WANT(two.compute_energy() == 3);
+    std::printf("c++: gco-v3's names\n");
+    return 0;
+}

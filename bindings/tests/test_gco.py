@@ -1,0 +1,261 @@
+"""gco.py against worked examples, against the definitions tried in every case, and on what is refused."""
+import array
+import itertools
+import random
+import sys
+import threading
+
+import gco
+
+DATA = [[4, 6, 9], [7, 5, 6], [8, 4, 7], [9, 7, 3], [6, 8, 5]]
+PAIRS = [(0, 1, 3), (1, 2, 2), (2, 3, 2), (3, 4, 4), (1, 3, 1), (0, 4, 1)]
+
+
+def refused(kind, call, *words, status=None, place=None, **more):
+    try:
+        call(*words, **more)
+    except kind as error:
+        assert status is None or error.status == status, (error, error.status)
+        assert place is None or error.place == place, (error, error.place)
+        return str(error)
+    raise AssertionError(f"no {kind.__name__}")
+
+
+def districts():
+    found = gco.label(DATA, gco.potts(3), PAIRS)
+    assert list(found.labels) == [1, 1, 1, 2, 2]
+    assert (found.energy, found.data, found.smooth, found.label, found.settled, found.bound) == (27, 23, 4, 0, True, (1, 1))
+    again = gco.label(DATA, gco.potts(3), PAIRS, start=found.labels, cycles=0)
+    assert (again.energy, again.cycles, again.settled, again.bound) == (27, 0, False, None)
+    edges, weights = [p[:2] for p in PAIRS], [p[2] for p in PAIRS]
+    assert list(gco.cut_general_graph(edges, weights, DATA, gco.potts(3))) == [1, 1, 1, 2, 2]
+    assert list(gco.cut_general_graph(edges, weights, DATA, gco.potts(3), algorithm="swap", n_iter=3)) == [1, 1, 1, 2, 2]
+    moved = gco.expand(DATA, gco.potts(3), PAIRS, 2)
+    assert (list(moved.labels), moved.energy, moved.settled) == ([0, 2, 2, 2, 2], 29, False)
+    moved = gco.swap(DATA, gco.potts(3), PAIRS, 2, 1, start=moved.labels)
+    assert (list(moved.labels), moved.energy, moved.settled) == ([0, 1, 1, 2, 2], 28, False)
+
+
+# the definitions, by trying every case
+class Problem:
+    def __init__(self, data, smooth, pairs, costs):
+        self.data, self.smooth, self.pairs, self.costs = data, smooth, pairs, costs
+        self.sites, self.labels = len(data), len(smooth)
+
+    def parts(self, f):
+        return (sum(self.data[p][f[p]] for p in range(self.sites)), sum(w * self.smooth[f[p]][f[q]] for p, q, w in self.pairs),
+                sum(self.costs[label] for label in set(f)) if self.costs else 0)
+
+    def energy(self, f):
+        return sum(self.parts(f))
+
+    def label_in(self, move, old, bit):
+        if len(move) == 1:
+            return move[0] if bit else old
+        return move[bit] if old in move else old
+
+    def irregular(self, move, f):
+        for place, (p, q, w) in enumerate(self.pairs):
+            def entry(x, y):
+                return w * self.smooth[self.label_in(move, f[p], x)][self.label_in(move, f[q], y)]
+            if entry(0, 0) + entry(1, 1) > entry(0, 1) + entry(1, 0):
+                return place
+        return None
+
+    def best(self, move, f):
+        reached = {tuple(self.label_in(move, f[p], bits[p]) for p in range(self.sites)) for bits in itertools.product((0, 1), repeat=self.sites)}
+        least = min(map(self.energy, reached))
+        if least >= self.energy(f):
+            return f
+        return min((g for g in reached if self.energy(g) == least), key=lambda g: g.count(move[-1]))
+
+    def run(self, moves, cycles, f):
+        k = self.labels
+        if moves == "swap" and any(self.costs):
+            return ("refused", 27, 0, 0, 0)
+        order = [(a,) for a in range(k)] if moves == "expansion" else [(a, b) for a in range(k) for b in range(a + 1, k)]
+        for cycle in range(cycles):
+            before = f
+            for move in order:
+                place = self.irregular(move, f)
+                if place is not None:
+                    return ("refused", 24, place, move[0], move[-1])
+                f = self.best(move, f)
+            if f == before:
+                return (f, *self.parts(f), cycle + 1, True)
+        return (f, *self.parts(f), cycles, False)
+
+
+def by_definition(count):
+    rng = random.Random(5)
+    kinds = {"answered": 0, 24: 0, 27: 0, "bound": 0}
+    for turn in range(count):
+        sites, k = rng.randrange(0, 6), rng.randrange(1, 4)
+        data = [[rng.randrange(0, rng.choice([3, 10])) for _ in range(k)] for _ in range(sites)]
+        shape = rng.choice(["potts", "linear", "any"])
+        smooth = [[{"potts": int(a != b), "linear": min(abs(a - b), 2), "any": rng.randrange(0, 4)}[shape] for b in range(k)] for a in range(k)]
+        pairs = [(*rng.sample(range(sites), 2), rng.choice([0, 1, 2, 5])) for _ in range(rng.randrange(0, 2 * sites + 1) if sites > 1 else 0)]
+        costs = rng.choice([[], [], [rng.randrange(0, 5) for _ in range(k)]])
+        start = tuple(rng.randrange(k) for _ in range(sites))
+        moves, cycles = rng.choice(["expansion", "swap"]), rng.choice([0, 1, 2, 50])
+        problem = Problem(data, smooth, pairs, costs)
+        wanted = problem.run(moves, cycles, start)
+        for progress in (None, lambda *told: None):
+            try:
+                f = gco.label(data, array.array("q", [x for row in smooth for x in row]), pairs, label_costs=costs or None, moves=moves,
+                              cycles=cycles, start=start, progress=progress)
+                got = (tuple(f.labels), f.data, f.smooth, f.label, f.cycles, f.settled)
+                kinds["answered"] += 1
+                if f.bound:
+                    kinds["bound"] += 1
+                    least = min(map(problem.energy, itertools.product(range(k), repeat=sites)))
+                    assert f.bound[0] * f.energy <= 2 * f.bound[1] * least, (turn, f)
+            except gco.Refused as error:
+                got = ("refused", error.status, error.place, error.alpha, error.beta)
+                kinds[error.status] += 1
+            assert got == wanted, (turn, data, smooth, pairs, costs, start, moves, cycles, wanted, got)
+    assert all(kinds.values()), kinds
+    return kinds
+
+
+def assignments(count):
+    rng = random.Random(7)
+    kinds = {"answered": 0, 20: 0}
+    for turn in range(count):
+        n = rng.randrange(1, 6)
+
+        def some(variables):
+            if n < variables:
+                return []
+            return [(*rng.sample(range(n), variables), [rng.randrange(-4, 5) for _ in range(2 ** variables)]) for _ in range(rng.randrange(0, 3))]
+        ones, twos, threes, constant = some(1), some(2), some(3), rng.randrange(-9, 10)
+        terms = ones + twos + threes
+        irregular = [place for place, (*names, table) in enumerate(terms) if not regular(len(names), table)]
+
+        def value(x):
+            return constant + sum(table[int("".join(str(x[name]) for name in names), 2)] for *names, table in terms)
+        try:
+            got = gco.minimise(n, ones, twos, threes, constant)
+            least = min(map(value, itertools.product((0, 1), repeat=n)))
+            every = [x for x in itertools.product((0, 1), repeat=n) if value(x) == least]
+            assert not irregular and got == (least, array.array("B", min(every, key=sum))), (turn, got)
+            kinds["answered"] += 1
+        except gco.Refused as error:
+            assert irregular and (error.status, error.place) == (20, irregular[0]), (turn, error)
+            kinds[20] += 1
+    assert all(kinds.values()), kinds
+    return kinds
+
+
+def regular(variables, table):
+    if variables < 2:
+        return True
+    if variables == 2:
+        return table[0] + table[3] <= table[1] + table[2]
+    at = {bits: table[place] for place, bits in enumerate(itertools.product((0, 1), repeat=3))}
+    for fixed in range(3):
+        for bit in (0, 1):
+            four = [number for bits, number in at.items() if bits[fixed] == bit]
+            if four[0] + four[3] > four[1] + four[2]:
+                return False
+    return True
+
+
+def bad_input():
+    potts = gco.potts(3)
+    refused(TypeError, gco.label, [[0.5, 1, 2]] * 5, potts, PAIRS)
+    refused(OverflowError, gco.label, [[2**63, 1, 2]] * 5, potts, PAIRS)
+    refused(OverflowError, gco.label, DATA, potts, [(0, -1, 1)])
+    refused(OverflowError, gco.label, DATA, potts, [(0, 1, 2**32)])
+    refused(TypeError, gco.label, DATA, potts, [(0, 1, 0.5)])
+    refused(ValueError, gco.label, DATA, potts, [0, 1])
+    refused(ValueError, gco.label, DATA, potts, PAIRS, moves="both")
+    refused(TypeError, gco.label, DATA, potts, PAIRS, cycles=1.5)
+    refused(OverflowError, gco.label, DATA, potts, PAIRS, cycles=-1)
+    refused(gco.Refused, gco.label, DATA, potts, [(0, 5, 1)], status=10, place=0)
+    refused(gco.Refused, gco.label, DATA, potts, PAIRS[:2] + [(1, 1, 1)], status=12, place=2)
+    refused(gco.Refused, gco.label, DATA, potts, PAIRS[:3] + [(0, 1, 1001)], status=14, place=3)
+    refused(gco.Refused, gco.label, [[-1, 0, 0]] * 5, potts, PAIRS, status=15, place=0)
+    refused(gco.Refused, gco.label, DATA, gco.potts(3, 10001), PAIRS, status=16, place=1)
+    refused(gco.Refused, gco.label, DATA, potts, PAIRS, label_costs=[1, 2], status=7)
+    refused(gco.Refused, gco.label, DATA, potts, PAIRS, label_costs=[1, 2, -3], status=17, place=2)
+    refused(gco.Refused, gco.label, DATA, potts, PAIRS, label_costs=[0, 2, 0], moves="swap", cycles=0, status=27)
+    refused(gco.Refused, gco.label, DATA, potts, PAIRS, start=[0, 1, 2, 3, 4], status=11, place=3)
+    refused(gco.Refused, gco.label, DATA[:4] + [[1, 2]], potts, PAIRS, status=4)
+    refused(gco.Refused, gco.label, [], [], [], status=3)
+    refused(gco.Refused, gco.label, [[0]] * 1048577, [[0]], [], status=2)
+    refused(gco.Refused, gco.expand, DATA, potts, PAIRS, 3, status=8)
+    refused(gco.Refused, gco.swap, DATA, potts, PAIRS, 0, 3, status=8)
+    refused(gco.Refused, gco.label, [[0, 9, 9], [9, 9, 0]], [[0, 1, 4], [1, 0, 1], [4, 1, 0]], [(0, 1, 1)], start=[0, 2], status=24, place=0)
+    refused(gco.Refused, gco.minimise, 1, constant=10**9 + 1, status=18)
+    refused(gco.Refused, gco.minimise, 1, [(0, (1, 2)), (1, (0, 0))], status=10, place=1)
+    refused(gco.Refused, gco.minimise, 2, [(0, (1, 2))], [(1, 1, (0, 0, 0, 0))], status=12, place=1)
+    refused(gco.Refused, gco.minimise, 2, [(0, (1, 10**9 + 1))], status=14, place=0)
+    refused(OverflowError, gco.minimise, 2, [(0, (1, 2**63))])
+    refused(TypeError, gco.minimise, 2, [(0, (1, 0.5))])
+    refused(gco.Refused, gco.minimise, 2**21 + 1, status=2)
+    refused(ValueError, gco.minimise, 2, [(0, (1, 2, 3))])
+
+
+def progress():
+    told = []
+    whole = gco.label(DATA, gco.potts(3), PAIRS)
+    steps = gco.label(DATA, gco.potts(3), PAIRS, progress=lambda *words: told.append(words))
+    assert list(steps.labels) == list(whole.labels) and steps[1:] == whole[1:]
+    assert [words[:2] for words in told] == [(c, l) for c in range(1, whole.cycles + 1) for l in range(3)]
+    assert told[-1][3] == whole.energy and all(words[2] == 0 for words in told[-3:]) and any(words[2] for words in told)
+    stopped = gco.label(DATA, gco.potts(3), PAIRS, progress=lambda cycle, label, changed, energy: label < 1)
+    assert stopped.cycles == 1 and not stopped.settled and stopped.energy == told[1][3]
+
+
+def threads():
+    picture = [[[(x * 7 + y * 13 + k * 5) % 40 for k in range(6)] for x in range(60)] for y in range(50)]
+    one = list(gco.cut_grid_graph_simple(picture, gco.potts(6, 4), connect=8))
+    answers = [None] * 4
+
+    def run(i):
+        answers[i] = list(gco.cut_grid_graph_simple(picture, gco.potts(6, 4), connect=8))
+    running = [threading.Thread(target=run, args=(i,)) for i in range(4)]
+    for thread in running:
+        thread.start()
+    for thread in running:
+        thread.join()
+    assert answers == [one] * 4
+
+
+def graph():
+    g = gco.Graph()
+    ids = g.add_grid_nodes((3, 4))
+    g.add_grid_edges(ids, 2)
+    g.add_grid_tedges(ids, [[9, 9, 1, 0]] * 3, [[0, 1, 3, 9]] * 3)
+    assert g.maxflow() == 3 * (1 + 1 + 2)
+    assert [list(row) for row in g.get_grid_segments(ids)] == [[False, False, True, True]] * 3
+    assert (g.get_segment(0), g.get_segment(3)) == (0, 1)
+    g.add_edge(0, 1, -1, 0)
+    refused(gco.Refused, g.maxflow, status=20)
+
+
+def with_numpy():
+    import numpy as np
+    d, potts, pairs = np.array(DATA), np.array(gco.potts(3)), np.array(PAIRS)
+    f = gco.label(d, potts, pairs)
+    assert isinstance(f.labels, np.ndarray) and f.labels.tolist() == [1, 1, 1, 2, 2]
+    refused(TypeError, gco.label, d / 2, potts, pairs)
+    refused(OverflowError, gco.label, d.astype(np.uint64) + np.uint64(2**63), potts, pairs)
+    refused(OverflowError, gco.label, d, potts, -pairs)
+    refused(TypeError, gco.cut_general_graph, pairs[:, :2], pairs[:, 2] / 2, d, potts)
+    start = np.zeros(5, dtype=np.int32)
+    assert gco.label(d.astype(np.int32)[:, ::-1][:, ::-1], potts, pairs, start=start).energy == 27
+    assert start.tolist() == [0] * 5
+
+
+districts()
+kinds = by_definition(300)
+least = assignments(300)
+bad_input()
+progress()
+threads()
+graph()
+if gco.numpy is not None:
+    with_numpy()
+print("python", sys.version.split()[0], "with numpy" if gco.numpy is not None else "without numpy", "runs", kinds, "assignments", least)
