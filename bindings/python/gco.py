@@ -254,7 +254,9 @@ def potts(label_count, cost=1):
 
 def grid_pairs(width, height, weight=1, connect=4, right=None, down=None, down_right=None, down_left=None):
     """The pairs of a picture's neighbours, site x + y * width: of one weight, or of one for each pair, row by row."""
-    triples = array.array("I")
+    if numpy is not None:
+        return _grid_pairs_of_arrays(width, height, _weight(weight), connect, right, down, down_right, down_left)
+    weight, triples = _weight(weight), array.array("I")
     for y in range(height):
         for x in range(width):
             site = x + y * width
@@ -267,6 +269,27 @@ def grid_pairs(width, height, weight=1, connect=4, right=None, down=None, down_r
             if (connect == 8 or down_left is not None) and x > 0 and y + 1 < height:
                 triples.extend((site, site + width - 1, weight if down_left is None else _weight(down_left[y][x - 1])))
     return triples
+
+
+def _grid_pairs_of_arrays(width, height, weight, connect, right, down, down_right, down_left):
+    ids = numpy.arange(width * height, dtype=numpy.int64).reshape(height, width)
+    parts = [(ids[:, :-1], ids[:, 1:], right), (ids[:-1], ids[1:], down)]
+    if connect == 8 or down_right is not None:
+        parts.append((ids[:-1, :-1], ids[1:, 1:], down_right))
+    if connect == 8 or down_left is not None:
+        parts.append((ids[:-1, 1:], ids[1:, :-1], down_left))
+    rows = []
+    for first, second, weights in parts:
+        rows.append(numpy.empty((first.size, 3), dtype=numpy.int64))
+        rows[-1][:, 0], rows[-1][:, 1] = first.ravel(), second.ravel()
+        rows[-1][:, 2] = weight if weights is None else _numbers(weights, "weights")[:first.shape[0], :first.shape[1]].ravel()
+    rows = numpy.concatenate(rows)
+    return rows[numpy.argsort(rows[:, 0], kind="stable")]
+
+
+def _numbers(values, what):
+    """An array of whole numbers of 64 bits, none of which wraps."""
+    return _buffer(numpy.asarray(values), "q", what)[0]
 
 
 def _weight(value):
@@ -370,7 +393,18 @@ class Graph:
         # the two nodes are the two halves of the first 64 bits, as in gco_two
         self._twos.extend((self._node(first) | self._node(second) << 32, 0, capacity, reverse_capacity, 0))
 
+    def _nodes_of(self, ids):
+        ids = _numbers(ids, "nodes")
+        if ids.size and not (0 <= ids.min() and ids.max() < self._nodes):
+            raise ValueError("no such node")
+        return ids
+
     def add_grid_tedges(self, ids, cap_source, cap_sink):
+        if numpy is not None:
+            ids = self._nodes_of(ids)
+            caps = [numpy.broadcast_to(_numbers(cap, "capacities"), ids.shape).ravel() for cap in (cap_sink, cap_source)]
+            self._ones.frombytes(numpy.column_stack([ids.ravel(), *caps]).tobytes())
+            return
         for y, row in enumerate(ids):
             for x, node in enumerate(row):
                 self.add_tedge(node, _at(cap_source, y, x), _at(cap_sink, y, x))
@@ -378,6 +412,15 @@ class Graph:
     def add_grid_edges(self, ids, weights=1):
         """Edges both ways between each node and those on its right and below, of one weight or of the weight of the node
         where it begins."""
+        if numpy is not None:
+            ids = self._nodes_of(ids)
+            weights = numpy.broadcast_to(_numbers(weights, "weights"), ids.shape)
+            for here, there in [((slice(None), slice(-1)), (slice(None), slice(1, None))), ((slice(-1),), (slice(1, None),))]:
+                rows = numpy.zeros((ids[here].size, 5), dtype=numpy.int64)
+                rows[:, 0] = (ids[here] | ids[there] << 32).ravel()
+                rows[:, 2], rows[:, 3] = weights[here].ravel(), weights[there].ravel()
+                self._twos.frombytes(rows.tobytes())
+            return
         for y, row in enumerate(ids):
             for x, node in enumerate(row):
                 if x + 1 < len(row):

@@ -249,6 +249,25 @@ def with_numpy():
     assert start.tolist() == [0] * 5
 
 
+    # the pairs and edges of a grid, as they are made without numpy
+    rng = random.Random(3)
+    weights = [[[rng.randrange(9) for _ in range(5)] for _ in range(4)] for _ in range(4)]
+    grids = [dict(connect=4), dict(connect=8, weight=7), dict(zip(("right", "down", "down_right", "down_left"), weights))]
+
+    def cuts():
+        g = gco.Graph()
+        ids = g.add_grid_nodes((4, 5))
+        g.add_grid_edges(ids, weights[0])
+        g.add_grid_edges(ids, 2)
+        g.add_grid_tedges(ids, weights[1], weights[2])
+        return g.maxflow(), [bool(on) for row in g.get_grid_segments(ids) for on in row]
+    kept = [[int(x) for x in np.asarray(gco.grid_pairs(5, 4, **grid)).ravel()] for grid in grids], cuts()
+    gco.numpy = None
+    assert kept == ([list(gco.grid_pairs(5, 4, **grid)) for grid in grids], cuts())
+    gco.numpy = np
+    refused(TypeError, gco.cut_grid_graph, np.zeros((4, 5, 2), dtype=int), gco.potts(2), np.ones((4, 5)) / 2, np.ones((4, 5)) / 2)
+
+
 districts()
 kinds = by_definition(300)
 least = assignments(300)
