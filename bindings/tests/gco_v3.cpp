@@ -101,6 +101,15 @@ int main() {
     two.setSmoothCost(1, 0, 1);
     two.setLabel(1, 1);
     WANT(two.compute_energy() == 3);
+    // weights of their own down and to the right, and a cost for each label that is there
+    int potts[] = {0, 1, 1, 0}, v[] = {11, 13, 0, 0}, h[] = {5, 0, 7, 0};
+    GCoptimizationGridGraph four(2, 2, 2);
+    four.setVerbosity(1);
+    four.setSmoothCostVH(potts, v, h);
+    four.setLabel(1, 1);
+    WANT(four.compute_energy() == 18);
+    four.setLabelCost(3);
+    WANT(four.compute_energy() == 24 && four.giveLabelEnergy() == 6 && four.outcome().smooth == 18);
     std::printf("c++: gco-v3's names\n");
     return 0;
 }
