@@ -111,8 +111,10 @@ fn events_left(rises_left: usize, limit: u32) -> u32
 /// block's order pass on what they have, the last of it first; then the active nodes are discharged, those of the
 /// highest label first (Goldberg, Tarjan 1988, section 4), until each is set aside, there are `limit` events, or more
 /// new labels than the block was made for; where none are left for all its turns, one event is done. A node is set
-/// aside where it has no enabled event, and where it got a new label in this turn: what can not reach the sink would
-/// rise again and again before what can.
+/// aside where it has no enabled event, and where it got a new label: what can not reach the sink would rise again and
+/// again before what can. Where each turn has a bound of new labels of its own, all nodes stand again once each is set
+/// aside, if some got new labels since they stood last: so the turn goes on to its bound, and exact labels are asked for
+/// less often. Where there is none, blocks hear from one another before their nodes rise again.
 pub fn turn<W: Ways>(block: &mut Block, ways: &mut W, limit: u32) -> u32
     ensures fixed { W.fixed ways.new ≡ W.fixed ways.old }
     ensures few { result ≤ limit }
@@ -134,6 +136,7 @@ pub fn turn<W: Ways>(block: &mut Block, ways: &mut W, limit: u32) -> u32
         ways,
         events_left(block.rises_left, limit - takes - pushes),
         usize::min(block.most_rises, block.rises_left),
+        block.most_rises < usize::MAX,
     );
     block.rises_left = block.rises_left.saturating_sub(rises as usize);
     takes + pushes + rest

@@ -79,14 +79,9 @@ fn pass<W: Ways>(cells: &mut Bucketed, ways: &mut W, limit: u32) -> (u32, u32)
     (0, 0)
 }
 
-/// Events of a block that take no message, until none is enabled, or there are `limit`, or more than `most` new labels:
-/// how many, and how many of them were new labels.
-pub(crate) fn work<W: Ways>(
-    cells: &mut Bucketed,
-    ways: &mut W,
-    limit: u32,
-    most: usize,
-) -> (u32, u32)
+/// Events of a block that take no message, until each active node is set aside, or there are `limit`, or more than `most`
+/// new labels: how many, and how many of them were new labels.
+fn sweep<W: Ways>(cells: &mut Bucketed, ways: &mut W, limit: u32, most: usize) -> (u32, u32)
     ensures fixed { W.fixed ways.new ≡ W.fixed ways.old }
     ensures few { result.0 ≤ limit }
     ensures rises { result.1 ≤ result.0 }
@@ -110,6 +105,46 @@ pub(crate) fn work<W: Ways>(
         if all_rises as usize > most {
             return (count, all_rises);
         }
+    }
+    (count, all_rises)
+}
+
+/// Events of a block that take no message, until each active node is set aside, or there are `limit`, or more than `most`
+/// new labels: how many, and how many of them were new labels. Where it is told to go on, all nodes that were set aside
+/// stand again then, as long as some got new labels since they stood last: so a node gets a second one only once each
+/// other was looked at.
+pub(crate) fn work<W: Ways>(
+    cells: &mut Bucketed,
+    ways: &mut W,
+    limit: u32,
+    most: usize,
+    again: bool,
+) -> (u32, u32)
+    ensures fixed { W.fixed ways.new ≡ W.fixed ways.old }
+    ensures few { result.0 ≤ limit }
+    ensures rises { result.1 ≤ result.0 }
+    ensures does { Does cells.old.block (W.seen ways.old) result.0 cells.new.block (W.seen ways.new) }
+    ensures idle { result.0 ≡ 0 → 0 < limit
+        → ((v : ℕ) → v < count cells.old.block → ¬ IsAside cells.old v)
+        → (v : ℕ) → IsIdle cells.old.block (W.seen ways.old) v }
+{
+    let mut all_rises = 0;
+    let mut count = 0;
+    'sweeps: for i in 0..limit {
+        let left = most.saturating_sub(all_rises as usize);
+        let (did, rises) = sweep(cells, ways, limit - count, left);
+        count += did;
+        all_rises += rises;
+        if rises == 0 {
+            return (count, all_rises);
+        }
+        if all_rises as usize > most {
+            return (count, all_rises);
+        }
+        if !again {
+            return (count, all_rises);
+        }
+        cells.restore_aside();
     }
     (count, all_rises)
 }

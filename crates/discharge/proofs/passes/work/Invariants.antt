@@ -2,8 +2,8 @@ use Rattle.std.proofs.Common.{◌≡◌, ◌≤◌}
 use Rattle.discharge.specs.Works.{Does}
 use Rattle.discharge.proofs.passes.work.Given as goal
 
-abbrev pub invariant-passes : goal.invariant-passes
-invariant-passes g l = record {
+abbrev pub invariant-sweeps : goal.invariant-sweeps
+invariant-sweeps g l = record {
   fixed : g.W.Ways.fixed l.ways ≡ g.W.Ways.fixed l.fn.ways;
   few : l.count ≤ l.limit;
   more : l.i ≤ l.count;
