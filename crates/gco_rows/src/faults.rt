@@ -1,4 +1,5 @@
 //! Writers that stop and readers that fail, at each byte, of each command.
+use crate::images::striped;
 use crate::rows::expect;
 use crate::streams::{CutWriter, ROOM, SlowReader, ends};
 use byte_streams::{Watched, WatchedReader};
@@ -8,12 +9,7 @@ use std::sync::Wait;
 use std::thread::Threads;
 
 /// Words, an input, what is written and what is said.
-type Command = (
-    &'static [&'static str],
-    &'static [u8],
-    &'static [u8],
-    &'static str,
-);
+type Command<'a> = (&'static [&'static str], &'a [u8], &'a [u8], &'static str);
 
 const FILE: &[u8] = b"variables = 2
 terms = [
@@ -25,7 +21,7 @@ terms = [
 
 const ANSWER: &[u8] = b"minimum 6\nassignment 00\n";
 
-const COMMANDS: &[Command] = &[
+const COMMANDS: &[Command<'static>] = &[
     (&["gco", "energy"], FILE, ANSWER, ""),
     // Two sites that each want their own of two labels.
     (
@@ -60,7 +56,7 @@ const COMMANDS: &[Command] = &[
 /// with this status, and writes and says this.
 fn is_held(
     rt: &(impl AllocGlobal + Threads + Wait + Sync),
-    command: &Command,
+    command: &Command<'_>,
     writer: &mut CutWriter,
     faults: &mut CutWriter,
     status: u8,
@@ -73,51 +69,78 @@ fn is_held(
         && faults.held.as_slice() == said
 }
 
+/// How a writer stops, the bytes that it takes a call, and whether it ends by a fault.
+type Stop = (&'static str, usize, bool);
+
+const STOPS: &[Stop] = &[
+    ("a byte a call, then a fault", 1, true),
+    ("a byte a call, then none", 1, false),
+    ("three bytes a call, then a fault", 3, true),
+    ("at once, then a fault", ROOM, true),
+    ("at once, then none", ROOM, false),
+];
+
 /// Whether a run whose writer stops here tells so.
 fn is_cut(
     rt: &(impl AllocGlobal + Threads + Wait + Sync),
-    command: &Command,
+    command: &Command<'_>,
     line: &[u8],
     room: usize,
-    step: usize,
+    stop: &Stop,
 ) -> bool {
-    let mut writer = CutWriter::new(room, step);
+    let mut writer = CutWriter {
+        faults: stop.2,
+        ..CutWriter::new(room, stop.1)
+    };
     let mut faults = CutWriter::ample();
     let written = &command.2[..room.min(command.2.len())];
     is_held(rt, command, &mut writer, &mut faults, 1, written, line)
 }
 
-/// Each cut of the answer of a command, by one byte a call, by three, and at once.
+/// Each writer that stops after so many bytes of the answer of a command.
 fn expect_cuts(
     rt: &(impl AllocGlobal + Abort + Threads + Wait + Sync),
-    command: &Command,
+    command: &Command<'_>,
     room: usize,
+    stops: &[Stop],
 ) {
     let line = format!(in rt.alloc(); "refused 9 after {room}\n").expect(rt, "memory");
-    let line = line.as_bytes();
-    expect(
-        rt,
-        "a byte a call",
-        room,
-        is_cut(rt, command, line, room, 1),
-    );
-    expect(rt, "three bytes", room, is_cut(rt, command, line, room, 3));
-    expect(rt, "at once", room, is_cut(rt, command, line, room, ROOM));
+    for stop in stops {
+        let is_right = is_cut(rt, command, line.as_bytes(), room, stop);
+        expect(rt, stop.0, room, is_right);
+    }
 }
 
 #[test]
 fn writers_that_stop(rt: HostRuntime) {
     for command in COMMANDS {
         for room in 0..command.2.len() {
-            expect_cuts(&rt, command, room);
+            expect_cuts(&rt, command, room, STOPS);
         }
+    }
+}
+
+/// Writers that stop within a picture of 4,107 bytes.
+const LONG_STOPS: &[Stop] = &[
+    ("a byte a call, then none", 1, false),
+    ("at once, then a fault", ROOM, true),
+];
+
+#[test]
+fn writers_that_stop_in_a_picture(rt: HostRuntime) {
+    let picture = striped(rt.alloc()).expect(&rt, "memory");
+    let picture = picture.as_slice();
+    let words = &["gco", "restore", "--weight", "1"];
+    assert!(rt; picture.len() == 4_107);
+    for room in 0..picture.len() {
+        expect_cuts(&rt, &(words, picture, picture, ""), room, LONG_STOPS);
     }
 }
 
 /// Whether an answer is written though the fault writer stops here.
 fn is_answered(
     rt: &(impl AllocGlobal + Threads + Wait + Sync),
-    command: &Command,
+    command: &Command<'_>,
     room: usize,
     step: usize,
 ) -> bool {
@@ -134,7 +157,7 @@ const NOTHING: &[u8] = b"refused 9 after 0\n";
 /// Whether the run is refused, as its writer takes nothing, though the fault writer stops here.
 fn is_refused(
     rt: &(impl AllocGlobal + Threads + Wait + Sync),
-    command: &Command,
+    command: &Command<'_>,
     room: usize,
     step: usize,
 ) -> bool {
@@ -147,7 +170,7 @@ fn is_refused(
 /// Each cut of what a command says after an answer, and where its writer takes nothing.
 fn expect_status(
     rt: &(impl AllocGlobal + Abort + Threads + Wait + Sync),
-    command: &Command,
+    command: &Command<'_>,
     step: usize,
 ) {
     for room in 0..command.3.len() + 1 {
@@ -170,7 +193,7 @@ fn fault_writers_that_stop(rt: HostRuntime) {
 /// Whether a fault of the reader before this byte of the input is told.
 fn fails_at(
     rt: &(impl AllocGlobal + Threads + Wait + Sync),
-    command: &Command,
+    command: &Command<'_>,
     count: usize,
     step: usize,
 ) -> bool {
@@ -182,7 +205,7 @@ fn fails_at(
 /// Whether the whole input is answered.
 fn is_read(
     rt: &(impl AllocGlobal + Threads + Wait + Sync),
-    command: &Command,
+    command: &Command<'_>,
     step: usize,
 ) -> bool {
     let mut reader = SlowReader::new(command.1, step, false);
@@ -192,7 +215,7 @@ fn is_read(
 /// A fault before each byte of the input and behind the last; and none.
 fn expect_faults(
     rt: &(impl AllocGlobal + Abort + Threads + Wait + Sync),
-    command: &Command,
+    command: &Command<'_>,
     step: usize,
 ) {
     expect(rt, "whole", step, is_read(rt, command, step));

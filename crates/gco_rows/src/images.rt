@@ -9,6 +9,22 @@ const BLACK: &[u8] = b"P5\n3 1\n3\n\x00\x00\x00";
 
 const PARTED: &[u8] = b"P5\n3 1\n255\n\x0a\x0c\xc8P5\n3 1\n2\n\x01\x00\x02";
 
+const LONE: &[u8] = b"P5\n1 1\n255\n\x07";
+
+/// A picture whose width has a thousand digits.
+const VAST: &[u8] = b"P5 \
+    9999999999999999999999999999999999999999999999999999999999999999999999999999999999999999999999999999\
+    9999999999999999999999999999999999999999999999999999999999999999999999999999999999999999999999999999\
+    9999999999999999999999999999999999999999999999999999999999999999999999999999999999999999999999999999\
+    9999999999999999999999999999999999999999999999999999999999999999999999999999999999999999999999999999\
+    9999999999999999999999999999999999999999999999999999999999999999999999999999999999999999999999999999\
+    9999999999999999999999999999999999999999999999999999999999999999999999999999999999999999999999999999\
+    9999999999999999999999999999999999999999999999999999999999999999999999999999999999999999999999999999\
+    9999999999999999999999999999999999999999999999999999999999999999999999999999999999999999999999999999\
+    9999999999999999999999999999999999999999999999999999999999999999999999999999999999999999999999999999\
+    9999999999999999999999999999999999999999999999999999999999999999999999999999999999999999999999999999\
+    \x201 255\n\x07";
+
 /// Words, the input, the exit status, what is written and what is said.
 type Row = (
     &'static [&'static str],
@@ -215,6 +231,70 @@ const ROWS: &[Row] = &[
         b"",
         "refused 29 moves\n",
     ),
+    // The picture, cut to each length.
+    (&["gco", "restore"], b"", 1, b"", "refused 1\n"),
+    (&["gco", "restore"], b"P", 1, b"", "refused 1\n"),
+    (&["gco", "restore"], b"P5", 1, b"", "refused 2 at 2\n"),
+    (&["gco", "restore"], b"P5\n", 1, b"", "refused 2 at 3\n"),
+    (&["gco", "restore"], b"P5\n3", 1, b"", "refused 2 at 4\n"),
+    (&["gco", "restore"], b"P5\n3 ", 1, b"", "refused 2 at 5\n"),
+    (&["gco", "restore"], b"P5\n3 1", 1, b"", "refused 2 at 6\n"),
+    (
+        &["gco", "restore"],
+        b"P5\n3 1\n",
+        1,
+        b"",
+        "refused 2 at 7\n",
+    ),
+    (
+        &["gco", "restore"],
+        b"P5\n3 1\n3",
+        1,
+        b"",
+        "refused 2 at 8\n",
+    ),
+    (&["gco", "restore"], b"P5\n3 1\n3\n", 1, b"", "refused 6\n"),
+    (
+        &["gco", "restore"],
+        b"P5\n3 1\n3\n\x00",
+        1,
+        b"",
+        "refused 6\n",
+    ),
+    (
+        &["gco", "restore"],
+        b"P5\n3 1\n3\n\x00\x03",
+        1,
+        b"",
+        "refused 6\n",
+    ),
+    // A comment that is not ended, and one in the place of white space.
+    (&["gco", "restore"], b"P5 # x", 1, b"", "refused 2 at 6\n"),
+    (&["gco", "restore"], b"P5#", 1, b"", "refused 2 at 2\n"),
+    // Numbers of many digits.
+    (&["gco", "restore"], VAST, 1, b"", "refused 4\n"),
+    (
+        &["gco", "restore"],
+        b"P5 00000001 1 255\n\x07",
+        0,
+        LONE,
+        "energy 0 data 0 smooth 0\n",
+    ),
+    // One pixel: no pairs, and blocks with no pixel.
+    (
+        &["gco", "restore", "--blocks", "16"],
+        LONE,
+        0,
+        LONE,
+        "energy 0 data 0 smooth 0\n",
+    ),
+    (
+        &["gco", "restore", "--blocks", "256"],
+        LONE,
+        0,
+        LONE,
+        "energy 0 data 0 smooth 0\n",
+    ),
 ];
 
 #[test]
@@ -236,7 +316,7 @@ const SHARED: &[&[&str]] = &[
 ];
 
 /// A picture of 64 by 64 samples, 3 in each fourth column and else 0.
-fn striped(alloc: Global) -> Result<Vec<u8>, AllocError> {
+pub fn striped(alloc: Global) -> Result<Vec<u8>, AllocError> {
     let mut picture = Vec::from_slice(alloc, b"P5\n64 64\n3\n")?;
     for _ in 0..1024 {
         picture.extend_from_slice(&[0, 3, 0, 0])?;
