@@ -1,7 +1,7 @@
 -- How the refusal of a command becomes that of a run, and a run's end the run.
 use Rattle.std.proofs.Common.{◌≡◌, ◌||◌, ℕ, Bool, false, List, Option, inl, inr, Result, Ok, Err, IfOk, IfErr, MatchResult, refl, sym, subst, arith}
 use Rattle.std.specs.Result.{IsErrAnd}
-use Rattle.command_line.specs.Task.{Asks, AsksForHelp, IsNoTaskFor}
+use Rattle.command_line.specs.Task.{Asks, AsksForHelp, HasText, IsNoTaskFor}
 use Rattle.command_line.specs.declared.task.NoTask.{NoTask}
 use Rattle.command_line.specs.declared.task.NoTask.TheVariants.{OutOfMemory, Help, Refused, BadOption}
 use Rattle.command_line.specs.declared.task.Request.{Request}
@@ -49,31 +49,31 @@ unread source fault is = record { failed = rw is refl; unread = λ is_too. refl 
 of_help : (words : List (List ℕ)) (source old new : Stream) (fault : Fault) → AsksForHelp words
     → IsCut IsHelp old new fault → IsRefusalFor words source source old new (Faulty fault)
 of_help words source old new fault asks stops = (
-  inr (cut_weaker IsHelp (IsDue words source.bytes) old new fault (λ text said none. inl (asks, none)) stops),
+  inr (cut_weaker IsHelp (IsDue words source.bytes) old new fault (λ text said is. inl (asks, is.0, is.1)) stops),
   unread source fault (rw stops.3.1 refl),
 )
 
 -- words without a task: a refusal is one of the run
 refused : (words : List (List ℕ)) (no_task : NoTask) (source old new : Stream) (e : Refusal) → IsNoTaskFor words no_task
-    → IsRefusalOf no_task old new e → IsRefusalFor words source source old new e
-refused words OutOfMemory source old new e is of =
+    → HasText no_task → IsRefusalOf no_task old new e → IsRefusalFor words source source old new e
+refused words OutOfMemory source old new e is has of =
     rw of.0 (inl (inl refl, refl, of.1), unread source fault.OutOfMemory refl)
-refused words (Help text) source old new (Faulty fault) is of = of_help words source old new fault is of
-refused words (Help text) source old new (Words said) is of = absurd of
-refused words (Refused text) source old new e is of = rw of.0 (is, refl, of.1)
-refused words (BadOption option) source old new e is of =
+refused words (Help text) source old new (Faulty fault) is has of = of_help words source old new fault is of
+refused words (Help text) source old new (Words said) is has of = absurd of
+refused words (Refused text) source old new e is has of = rw of.0 (is, refl, of.1, has)
+refused words (BadOption option) source old new e is has of =
     rw of.0 (inl (inr (inl (option, is, refl)), refl, of.1), unread source (fault.BadOption option) refl)
 
 pub all_refused : {T : Type 0} (words : List (List ℕ)) (no_task : NoTask) (source old new : Stream) (r : Result T Refusal)
-    → IsNoTaskFor words no_task → IfErr r (IsRefusalOf no_task old new) → IfErr r (IsRefusalFor words source source old new)
-all_refused words no_task source old new (Ok said) is of = tt
-all_refused words no_task source old new (Err e) is of = refused words no_task source old new e is of
+    → IsNoTaskFor words no_task → HasText no_task → IfErr r (IsRefusalOf no_task old new) → IfErr r (IsRefusalFor words source source old new)
+all_refused words no_task source old new (Ok said) is has of = tt
+all_refused words no_task source old new (Err e) is has of = refused words no_task source old new e is has of
 
 -- words without a task: what was shown is what was due
 pub all_shown : {T : Type 0} (bytes : T → List ℕ) (words : List (List ℕ)) (no_task : NoTask) (known : Option (List ℕ)) (old new : Stream)
     (failed : Bool) (r : Result T Refusal) → IsNoTaskFor words no_task → IfOk r (λ said. ShowsHelp no_task old new (bytes said))
     → IfOk r (λ said. Writes (IsDue words known) old new (bytes said) × (failed ≡ failed))
-all_shown bytes words (Help text) known old new failed (Ok said) is shows = ((shows.0, inl (is, shows.1), shows.2), refl)
+all_shown bytes words (Help text) known old new failed (Ok said) is shows = ((shows.0, inl (is, shows.1.0, shows.1.1), shows.2), refl)
 all_shown bytes words OutOfMemory known old new failed (Ok said) is shows = absurd shows
 all_shown bytes words (Refused text) known old new failed (Ok said) is shows = absurd shows
 all_shown bytes words (BadOption option) known old new failed (Ok said) is shows = absurd shows
@@ -101,7 +101,7 @@ run_of bytes words old new (Err (Faulty fault)) told done refused = record {
 run_of bytes words old new (Err (Words text)) told done refused = record {
   done = λ is. absurd (omega (arith, is));
   refused = λ is. absurd (omega (arith, is));
-  rejected = λ is. record { text = text; refused = refused.0; told = told; read = refused.1; written = refused.2 };
+  rejected = λ is. record { text = text; refused = refused.0; some = refused.3; told = told; read = refused.1; written = refused.2 };
   range = omega arith;
 }
 

@@ -1,5 +1,5 @@
 -- How a run comes to be refused, and what its end says.
-use Rattle.std.specs.Prelude.{◌≡◌, ℕ, List, [], Result, Ok, Err, string_bytes}
+use Rattle.std.specs.Prelude.{◌≡◌, ◌<◌, ℕ, List, [], length, Result, Ok, Err, string_bytes}
 use Rattle.command_line.specs.Task.{IsNoTaskFor}
 use Rattle.command_line.specs.declared.task.NoTask.{NoTask}
 use Rattle.command_line.specs.declared.task.NoTask.TheVariants.{OutOfMemory, Help, Refused, BadOption}
@@ -16,11 +16,11 @@ IsRefusalFor words source source_new sink sink_new (Fault fault) =
     Refuses (IsDue words source.bytes) (Stands words source.bytes) sink sink_new fault
     × Leaves source source_new fault
 IsRefusalFor words source source_new sink sink_new (Words text) =
-    IsNoTaskFor words (Refused text) × (source_new ≡ source) × (sink_new ≡ sink)
+    IsNoTaskFor words (Refused text) × (source_new ≡ source) × (sink_new ≡ sink) × (0 < length (string_bytes text))
 
--- help, of which nothing is said beside it
+-- help, which is not empty, and nothing is said beside it
 abbrev pub IsHelp : List ℕ → List ℕ → Type 0
-IsHelp text said = said ≡ []
+IsHelp text said = (0 < length text) × (said ≡ [])
 
 -- help was asked for, and written
 abbrev pub ShowsHelp : NoTask → Stream → Stream → List ℕ → Type 0

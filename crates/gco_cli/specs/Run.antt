@@ -1,6 +1,8 @@
 -- What a run answers and leaves.
-use Rattle.std.specs.Prelude.{◌≡◌, ◌⊎◌, ◌≤◌, ◌||◌, ℕ, Bool, true, false, List, [], Option, Result, Ok, Err, String, string_bytes}
+use Rattle.std.specs.Prelude.{◌≡◌, ◌≢◌, ◌⊎◌, ◌<◌, ◌≤◌, ◌||◌, ℕ, Bool, true, false, List, [], length, Option, Result, Ok, Err, String, string_bytes, codes}
 use Rattle.std.specs.declared.alloc.Global.{Global}
+use Rattle.std.specs.declared.io.ErrorKind.{ErrorKind}
+use Rattle.std.specs.declared.io.ErrorKind.TheVariants.{InvalidData}
 use Rattle.byte_streams.specs.Input.{is_fault}
 use Rattle.byte_streams.specs.declared.sink.WriteFailed.{WriteFailed}
 use Rattle.command_line.specs.Task.{Asks, AsksForHelp, IsNoTaskFor, NamesBadOption}
@@ -13,9 +15,10 @@ use Rattle.fault_lines.specs.declared.fault.Fault.TheVariants.{OutOfMemory, Writ
 use Rattle.gco_cli.specs.Commands.{IsDueFor, StandsForAsked}
 use Rattle.gco_cli.specs.Streams.{Stream, Stops, Takes, Took, stream}
 
--- what a run of these words writes, and says beside it: help that was asked for, or the answer of a command
+-- what a run of these words writes, and says beside it: help that was asked for, which is not empty, or the answer
+-- of a command
 abbrev pub IsDue : List (List ℕ) → Option (List ℕ) → List ℕ → List ℕ → Type 0
-IsDue words known text said = (AsksForHelp words × (said ≡ []))
+IsDue words known text said = (AsksForHelp words × (0 < length text) × (said ≡ []))
     ⊎ ((request : Request) × Asks words request × IsDueFor request.task known text said)
 
 -- the fault is one of a run of these words: memory may always be refused, the words may name a bad option,
@@ -90,10 +93,11 @@ pub record IsRefused (words : List (List ℕ)) (old new : Streams) : Type 0 wher
   pub told : Took old.faults new.faults (fault_line fault)
   pub read : Leaves old.source new.source fault
 
--- status 2: the words were refused with a text, it was said, and nothing was read or written
+-- status 2: the words were refused with a text that is not empty, it was said, and nothing was read or written
 pub record IsRejected (words : List (List ℕ)) (old new : Streams) : Type 0 where
   pub text : String Global
   pub refused : IsNoTaskFor words (Refused text)
+  pub some : 0 < length (string_bytes text)
   pub told : Took old.faults new.faults (string_bytes text)
   pub read : new.source ≡ old.source
   pub written : new.sink ≡ old.sink
@@ -105,11 +109,15 @@ pub record IsRun (words : List (List ℕ)) (old new : Streams) (status : ℕ) : 
   pub rejected : status ≡ 2 → IsRejected words old new
   pub range : status ≤ 2
 
--- the same over streams of which only the bytes are seen: some such run was made
-abbrev pub IsSomeRun : List (List ℕ) → Option (List ℕ) → Option (List ℕ) → Option (List ℕ) → Option (List ℕ)
-    → Option (List ℕ)
-    → ℕ → Type 0
-IsSomeRun words input old new said_old said_new status =
-    (source : Stream) × (failed : Bool) × (failed_too : Bool)
-    × IsRun words (streams (stream input false) (stream old false) (stream said_old false))
-    (streams source (stream new failed) (stream said_new failed_too)) status
+-- the text was said, and this is the exit status
+pub record IsSaid (old new : Stream) (text : List ℕ) (due status : ℕ) : Type 0 where
+  pub told : Took old new text
+  pub ended : status ≡ due
+
+-- The words could not be had, for an error of this kind: one of them is no text, or memory was refused. That was
+-- said, and nothing was read or written.
+pub record IsUnread (kind : ErrorKind) (old new : Streams) (status : ℕ) : Type 0 where
+  pub no_text : kind ≡ InvalidData → IsSaid old.faults new.faults (codes "error: an argument is not text\n") 2 status
+  pub no_memory : kind ≢ InvalidData → IsSaid old.faults new.faults (fault_line OutOfMemory) 1 status
+  pub read : new.source ≡ old.source
+  pub written : new.sink ≡ old.sink

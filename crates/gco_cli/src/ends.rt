@@ -23,8 +23,8 @@ pub fn say_end<E: Sink>(faults: &mut E, end: Result<Line, Refusal>) -> u8
     }
 }
 
-// Says a text, and answers the exit status. A fault of the sink is passed over.
-fn say<E: Sink>(faults: &mut E, text: &str, status: u8) -> u8
+/// Says a text, and answers the exit status. A fault of the sink is passed over.
+pub fn say<E: Sink>(faults: &mut E, text: &str, status: u8) -> u8
     ensures told { Took (stream (E.held faults.old) (E.has_failed faults.old))
         (stream (E.held faults.new) (E.has_failed faults.new)) text.now }
     ensures status { result ≡ status }

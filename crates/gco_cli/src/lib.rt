@@ -7,11 +7,13 @@ mod energy;
 mod label;
 mod lines;
 mod pictures;
+mod program;
 mod refusal;
 mod runs;
 mod tasks;
 mod unread;
 mod written;
 
-pub use runs::{run, run_streams};
-pub use unread::{refuse_argument, refuse_memory};
+pub use program::run_program;
+pub use runs::{run_streams, run_words};
+pub use unread::refuse_unread;

@@ -1,6 +1,6 @@
 //! What the words ask for, done.
-ghost use Rattle.std.specs.Prelude.{◌≡◌, false, IfOk, IfErr};
-ghost use Rattle.command_line.specs.Task.{FitsTask};
+ghost use Rattle.std.specs.Prelude.{◌≡◌, ◌<◌, false, length, IfOk, IfErr};
+ghost use Rattle.command_line.specs.Task.{FitsTask, HasText};
 ghost use Rattle.gco_cli.specs.Commands.{IsDueFor, StandsFor};
 ghost use Rattle.gco_cli.specs.Refusals.{IsCutHelp, IsHelp, IsRefusalOf, ShowsHelp};
 ghost use Rattle.gco_cli.specs.Run.{Refuses, TellsRead, Writes, is_bad_option};
@@ -55,6 +55,7 @@ pub fn run_task<H: How, R: Source, W: Sink>(
 
 /// Where the words have no task: writes help that was asked for.
 pub fn end_without_task<W: Sink>(no_task: NoTask, sink: &mut W) -> Result<Line, Refusal>
+    requires { HasText no_task }
     ensures done { IfOk result (λ said. ShowsHelp no_task (stream (W.held sink.old) (W.has_failed sink.old))
         (stream (W.held sink.new) (W.has_failed sink.new)) said.bytes) }
     ensures refused { IfErr result (IsRefusalOf no_task (stream (W.held sink.old) (W.has_failed sink.old))
@@ -69,8 +70,9 @@ pub fn end_without_task<W: Sink>(no_task: NoTask, sink: &mut W) -> Result<Line, 
     }
 }
 
-// Writes help. Nothing is said beside it.
+// Writes help, which is not empty. Nothing is said beside it.
 fn show_help<W: Sink>(sink: &mut W, text: &str) -> Result<Line, Refusal>
+    requires { 0 < length text.now }
     ensures done { IfOk result (λ said. Writes IsHelp (stream (W.held sink.old) (W.has_failed sink.old))
         (stream (W.held sink.new) (W.has_failed sink.new)) said.bytes) }
     ensures cut { IfErr result (IsCutHelp (stream (W.held sink.old) (W.has_failed sink.old))

@@ -1,29 +1,29 @@
 //! Where the words of the command line could not be had.
-ghost use Rattle.std.specs.Prelude.{◌≡◌, codes};
+ghost use Rattle.std.specs.Prelude.{◌≡◌, ◌≢◌, codes};
+ghost use Rattle.std.specs.declared.io.ErrorKind.TheVariants.{InvalidData};
 ghost use Rattle.fault_lines.specs.FaultLine.{fault_line};
 ghost use Rattle.fault_lines.specs.declared.fault.Fault.TheVariants.{OutOfMemory};
-ghost use Rattle.gco_cli.specs.Streams.{Took, stream};
+ghost use Rattle.gco_cli.specs.Run.{IsSaid};
+ghost use Rattle.gco_cli.specs.Streams.{stream};
 
-use byte_streams::{Sink, put_text};
+use crate::ends::say;
+use byte_streams::Sink;
 use fault_lines::{Fault, line_of};
+use std::io::ErrorKind;
 
-/// Says that memory was refused, and answers the exit status.
-pub fn refuse_memory<E: Sink>(faults: &mut E) -> u8
-    ensures said { Took (stream (E.held faults.old) (E.has_failed faults.old))
-        (stream (E.held faults.new) (E.has_failed faults.new)) (fault_line OutOfMemory) }
-    ensures status { result ≡ 1 }
+/// Says why the words could not be had, and answers the exit status: an argument is not text where the kind is
+/// `InvalidData`, and else memory was refused.
+pub fn refuse_unread<E: Sink>(kind: ErrorKind, faults: &mut E) -> u8
+    ensures no_text { kind ≡ InvalidData
+        → IsSaid (stream (E.held faults.old) (E.has_failed faults.old))
+        (stream (E.held faults.new) (E.has_failed faults.new)) (codes "error: an argument is not text\n") 2 result }
+    ensures no_memory { kind ≢ InvalidData
+        → IsSaid (stream (E.held faults.old) (E.has_failed faults.old))
+        (stream (E.held faults.new) (E.has_failed faults.new)) (fault_line OutOfMemory) 1 result }
+    ensures kept { E.loan faults.new ≡ E.loan faults.old }
 {
-    let line = line_of(Fault::OutOfMemory);
-    let _ = put_text(faults, line.as_str().as_bytes());
-    1
-}
-
-/// Says that an argument is not text, and answers the exit status.
-pub fn refuse_argument<E: Sink>(faults: &mut E) -> u8
-    ensures said { Took (stream (E.held faults.old) (E.has_failed faults.old))
-        (stream (E.held faults.new) (E.has_failed faults.new)) (codes "error: an argument is not text\n") }
-    ensures status { result ≡ 2 }
-{
-    let _ = put_text(faults, b"error: an argument is not text\n");
-    2
+    match kind {
+        ErrorKind::InvalidData => say(faults, "error: an argument is not text\n", 2),
+        _ => say(faults, line_of(Fault::OutOfMemory).as_str(), 1),
+    }
 }

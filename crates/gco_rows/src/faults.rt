@@ -1,9 +1,9 @@
 //! Writers that stop and readers that fail, at each byte, of each command.
 use crate::images::striped;
 use crate::rows::expect;
-use crate::streams::{CutWriter, ROOM, SlowReader, ends};
+use crate::streams::{CutWriter, ROOM, SlowReader, ends, run};
 use byte_streams::{Watched, WatchedReader};
-use gco_cli::{run, run_streams};
+use gco_cli::run_streams;
 use std::process::Abort;
 use std::sync::Wait;
 use std::thread::Threads;

@@ -2,7 +2,8 @@
 ghost use Rattle.std.specs.Prelude.{Some};
 
 use arrayvec::ArrayVec;
-use gco_cli::run;
+use byte_streams::{Watched, WatchedReader};
+use gco_cli::run_streams;
 use std::alloc::{AllocError, Global};
 use std::io;
 use std::io::{Error, ErrorKind, Read, Write};
@@ -92,6 +93,29 @@ impl Read for SlowReader<'_> {
         self.more = self.more.saturating_sub(count);
         Ok(count)
     }
+}
+
+/// A run over a reader and writers, which are watched. Answers the exit status.
+pub fn run(
+    rt: &(impl AllocGlobal + Threads + Wait + Sync),
+    words: &[&str],
+    reader: &mut SlowReader<'_>,
+    writer: &mut CutWriter,
+    faults: &mut CutWriter,
+) -> u8 {
+    let mut source = WatchedReader {
+        reader,
+        has_failed: false,
+    };
+    let mut sink = Watched {
+        writer,
+        has_failed: false,
+    };
+    let mut fault_sink = Watched {
+        writer: faults,
+        has_failed: false,
+    };
+    run_streams(rt, words, &mut source, &mut sink, &mut fault_sink)
 }
 
 /// Whether a run with these words ends with this status, and writes and says this.

@@ -1,11 +1,12 @@
 //! Words that are refused, help, and words that could not be read.
 use crate::rows::expect;
-use crate::streams::{CutWriter, ROOM, SlowReader};
+use crate::streams::{CutWriter, ROOM, SlowReader, run};
 use crate::words::helps::{
     ENERGY_HELP, GCO_HELP, LABEL_HELP, RESTORE_HELP, SEGMENT_HELP, STEREO_HELP,
 };
 use byte_streams::Watched;
-use gco_cli::{refuse_argument, refuse_memory, run};
+use gco_cli::refuse_unread;
+use std::io::ErrorKind;
 use std::sync::Wait;
 use std::thread::Threads;
 
@@ -149,8 +150,8 @@ fn words_that_were_not_read(rt: HostRuntime) {
         writer: &mut writer,
         has_failed: false,
     };
-    assert!(rt; refuse_memory(&mut faults) == 1);
-    assert!(rt; refuse_argument(&mut faults) == 2);
+    assert!(rt; refuse_unread(ErrorKind::OutOfMemory, &mut faults) == 1);
+    assert!(rt; refuse_unread(ErrorKind::InvalidData, &mut faults) == 2);
     let said = b"refused 0\nerror: an argument is not text\n";
     assert!(rt; writer.held.as_slice() == said.as_slice());
 }

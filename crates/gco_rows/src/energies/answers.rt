@@ -2,8 +2,7 @@
 use crate::energies::is_minimised;
 use crate::energies::picture::PICTURE;
 use crate::rows::expect;
-use crate::streams::{CutWriter, ROOM, SlowReader};
-use gco_cli::run;
+use crate::streams::{CutWriter, ROOM, SlowReader, run};
 use problem_file::{ProblemFault, energy_of, read_table};
 use pseudo_bool::Term;
 use std::alloc::{AllocError, Global};

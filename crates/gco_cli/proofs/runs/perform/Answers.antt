@@ -1,4 +1,4 @@
-use Rattle.std.proofs.Common.{map}
+use Rattle.std.proofs.Common.{map, inr}
 use Rattle.gco_cli.specs.Refusals.{IsRefusalFor}
 use Rattle.gco_cli.specs.Streams.{stream}
 use Rattle.gco_cli.proofs.RefusalLemmas.{all_refused, all_shown, as_fault, of_command}
@@ -23,7 +23,7 @@ returns-in-Err-clause-refused g c =
     (stream (g.R.Source.remaining c.args.source.now) (g.R.Source.has_failed c.args.source.now))
     (stream (g.W.Sink.held c.args.sink.now) (g.W.Sink.has_failed c.args.sink.now))
     (stream (g.W.Sink.held c.end_without_task.new.sink) (g.W.Sink.has_failed c.end_without_task.new.sink))
-    c.end_without_task.result c.in-Err.ensures.refused c.end_without_task.ensures.refused
+    c.end_without_task.result c.in-Err.ensures.refused c.in-Err.ensures.told c.end_without_task.ensures.refused
 
 pub returns-in-Err-clause-done : goal.returns-in-Err-clause-done
 returns-in-Err-clause-done g c =
@@ -31,3 +31,8 @@ returns-in-Err-clause-done g c =
     (stream (g.W.Sink.held c.args.sink.now) (g.W.Sink.has_failed c.args.sink.now))
     (stream (g.W.Sink.held c.end_without_task.new.sink) (g.W.Sink.has_failed c.end_without_task.new.sink))
     (g.R.Source.has_failed c.args.source.now) c.end_without_task.result c.in-Err.ensures.refused c.end_without_task.ensures.done
+
+pub returns-in_ok-answer_request-in-Ok-clause-done : goal.returns-in_ok-answer_request-in-Ok-clause-done
+returns-in_ok-answer_request-in-Ok-clause-done g c =
+    let of = c.in_ok-answer_request-in-Ok.ensures in
+    let done = of.done in ((done.0, inr (c.in-Ok.request, c.in-Ok.ensures.asked, done.1), done.2), of.read)
