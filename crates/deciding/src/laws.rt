@@ -1,5 +1,6 @@
 //! Laws of deciding variables one after another: each function does nothing, and its contract is the law. The first
-//! four are of any function of an assignment, the last of the labellings that a move makes.
+//! is of submodular functions of an assignment, the next three of any function, the last of the labellings that a
+//! move makes.
 
 ghost use Rattle.std.specs.Prelude.{◌≡◌, ℕ, ◌<◌, ◌≤◌, Bool, List, ℤ};
 ghost use Rattle.compile_cut.specs.Shown.{Hides};

@@ -130,7 +130,7 @@ const LONG_STOPS: &[Stop] = &[
 fn writers_that_stop_in_a_picture(rt: HostRuntime) {
     let picture = striped(rt.alloc()).expect(&rt, "memory");
     let picture = picture.as_slice();
-    let words = &["gco", "restore", "--weight", "1"];
+    let words = &["gco", "restore", "--weight", "1", "--cycles", "1"];
     assert!(rt; picture.len() == 4_107);
     for room in 0..picture.len() {
         expect_cuts(&rt, &(words, picture, picture, ""), room, LONG_STOPS);
