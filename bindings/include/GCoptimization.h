@@ -4,7 +4,8 @@
 // As in gco-v3: labels start at 0; costs are int; expansion and swap answer the energy; what cannot be done is thrown
 // as a GCException. Other than in gco-v3:
 // - the answer is one and proved: each move goes to the best labelling that it reaches, ties by a written rule;
-// - arrays are copied when they are set;
+// - arrays are copied when they are set, and a run reads the data costs there (one below 0, and a single move, take one more
+//   copy);
 // - weights times smooth costs: after a common factor of all weights went over to the smooth costs, a weight is at most
 //   1,000 and a smooth cost at most 10,000; a smooth cost or weight below 0 is refused;
 // - data costs may be below 0: the least of each site is taken off before the call and put back in the energy;
@@ -25,6 +26,7 @@
 #include <memory>
 #include <new>
 #include <string>
+#include <type_traits>
 #include <vector>
 
 #include "gco.h"
@@ -48,6 +50,7 @@ class GCoptimization {
 public:
     typedef long long EnergyType;
     typedef int EnergyTermType;
+    static_assert(std::is_same<EnergyTermType, std::int32_t>::value, "costs go to gco_label_int32 as they are");
     typedef int LabelID;
     typedef int SiteID;
     typedef EnergyTermType (*DataCostFn)(SiteID, LabelID);
@@ -87,16 +90,16 @@ public:
     // one move; yes where a label changed, and so the energy fell
     bool alpha_expansion(LabelID alpha) {
         const Arrays given(*this);
-        check(gco_expand(std::uint32_t(label_count_), given.data.data(), given.data.size(), given.smooth.data(), given.smooth.size(),
-                         label_costs_.data(), label_costs_.size(), given.pairs.data(), given.pairs.size(), label(alpha), labels_.data(),
-                         labels_.size(), &outcome_));
+        const Wide data(*given.data), smooth(given.smooth), costs(label_costs_);
+        check(gco_expand(std::uint32_t(label_count_), data.data(), data.size(), smooth.data(), smooth.size(), costs.data(), costs.size(),
+                         given.pairs->data(), given.pairs->size(), label(alpha), labels_.data(), labels_.size(), &outcome_));
         return outcome_.changed != 0;
     }
     void alpha_beta_swap(LabelID alpha, LabelID beta) {
         const Arrays given(*this);
-        check(gco_swap(std::uint32_t(label_count_), given.data.data(), given.data.size(), given.smooth.data(), given.smooth.size(),
-                       label_costs_.data(), label_costs_.size(), given.pairs.data(), given.pairs.size(), label(alpha), label(beta),
-                       labels_.data(), labels_.size(), &outcome_));
+        const Wide data(*given.data), smooth(given.smooth), costs(label_costs_);
+        check(gco_swap(std::uint32_t(label_count_), data.data(), data.size(), smooth.data(), smooth.size(), costs.data(), costs.size(),
+                       given.pairs->data(), given.pairs->size(), label(alpha), label(beta), labels_.data(), labels_.size(), &outcome_));
     }
     EnergyType compute_energy() { return run(GCO_EXPANSION, 0); }
     EnergyType giveDataEnergy() {
@@ -172,46 +175,63 @@ private:
         if (status == GCO_OUT_OF_MEMORY) throw std::bad_alloc();
         if (status != GCO_OK) throw GCException(told(status, outcome_));
     }
-    // the arrays of a call
+    // a copy of 64 bits, for a single move
+    struct Wide : std::vector<std::int64_t> {
+        explicit Wide(const std::vector<std::int32_t> &of) : std::vector<std::int64_t>(of.begin(), of.end()) {}
+    };
+    // the arrays of a call: the data costs and the pairs are the class's own where nothing is to be changed in them
     struct Arrays {
-        explicit Arrays(GCoptimization &of) : data(of.data_.begin(), of.data_.end()), smooth(of.smooth_.size()), pairs(of.pairs_) {
-            // the least cost of each site goes out of the table, and into the energy
+        explicit Arrays(GCoptimization &of) : data(&of.data_), pairs(&of.pairs_), smooth(of.smooth_.size()) {
+            // the least cost of each site, where it is below 0, goes out of the table, and into the energy
             of.shift_ = 0;
             const std::size_t k = std::size_t(of.label_count_);
             for (std::size_t s = 0; s < std::size_t(of.sites_); s++) {
-                std::int64_t *row = data.data() + s * k;
+                const EnergyTermType *row = of.data_.data() + s * k;
                 const std::int64_t least = *std::min_element(row, row + k);
                 if (least >= 0) continue;
-                for (std::size_t l = 0; l < k; l++) row[l] -= least;
+                if (shifted.empty()) shifted = of.data_;
+                for (std::size_t l = 0; l < k; l++) shifted[s * k + l] = within(row[l] - least, GCO_DATA_LIMIT);
                 of.shift_ += least;
             }
+            if (!shifted.empty()) data = &shifted;
             // a common factor of the weights goes over to the smooth costs where a weight is too large
             std::uint32_t most = 0, factor = 0;
-            for (const gco_pair &pair : pairs) {
+            for (const gco_pair &pair : of.pairs_) {
                 most = std::max(most, pair.weight);
                 factor = common(factor, pair.weight);
             }
             if (most <= GCO_WEIGHT_LIMIT || factor == 0) factor = 1;
-            for (gco_pair &pair : pairs) pair.weight /= factor;
+            if (factor > 1) {
+                divided = of.pairs_;
+                for (gco_pair &pair : divided) pair.weight /= factor;
+                pairs = &divided;
+            }
             // a row for each label of a pair's first site
             for (std::size_t a = 0; a < k; a++)
-                for (std::size_t b = 0; b < k; b++) smooth[a * k + b] = std::int64_t(of.smooth_[a + b * k]) * factor;
+                for (std::size_t b = 0; b < k; b++)
+                    smooth[a * k + b] = within(std::int64_t(of.smooth_[a + b * k]) * factor, GCO_SMOOTH_LIMIT);
         }
-        std::vector<std::int64_t> data, smooth;
-        std::vector<gco_pair> pairs;
+        Arrays(const Arrays &) = delete;
+        // a cost out of its range stays out of it
+        static std::int32_t within(std::int64_t cost, std::int64_t most) {
+            return std::int32_t(std::max(std::int64_t(-1), std::min(cost, most + 1)));
+        }
+        const std::vector<std::int32_t> *data;
+        const std::vector<gco_pair> *pairs;
+        std::vector<std::int32_t> shifted, smooth;
+        std::vector<gco_pair> divided;
     };
     EnergyType run(std::uint32_t moves, int cycles) {
         const Arrays given(*this);
-        check(gco_label(std::uint32_t(label_count_), given.data.data(), given.data.size(), given.smooth.data(), given.smooth.size(),
-                        label_costs_.data(), label_costs_.size(), given.pairs.data(), given.pairs.size(), moves,
-                        cycles < 0 ? GCO_ALL_CYCLES : std::uint32_t(cycles), labels_.data(), labels_.size(), &outcome_));
+        check(gco_label_int32(std::uint32_t(label_count_), given.data->data(), given.data->size(), given.smooth.data(), given.smooth.size(),
+                              label_costs_.data(), label_costs_.size(), given.pairs->data(), given.pairs->size(), moves,
+                              cycles < 0 ? GCO_ALL_CYCLES : std::uint32_t(cycles), labels_.data(), labels_.size(), &outcome_));
         return outcome_.data + outcome_.smooth + outcome_.label + shift_;
     }
 
     SiteID sites_;
     LabelID label_count_;
-    std::vector<EnergyTermType> data_, smooth_;
-    std::vector<std::int64_t> label_costs_;
+    std::vector<EnergyTermType> data_, smooth_, label_costs_;
     std::vector<std::uint32_t> labels_;
     gco_outcome outcome_ = gco_outcome();
     EnergyType shift_ = 0;

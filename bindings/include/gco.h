@@ -57,7 +57,7 @@ typedef struct gco_pair {
 typedef struct gco_outcome {
     int64_t data, smooth, label; /* the three parts of the energy of the labels */
     uint64_t place;              /* refused: the place in the array that the status names, from 0 */
-    uint64_t vmin, vmax;         /* gco_label: where they are not 0, vmin times the energy is at most twice vmax times the
+    uint64_t vmin, vmax;         /* gco_label (and gco_label_int32 here and below): where they are not 0, vmin times the energy is at most twice vmax times the
                                   * least energy of all labellings. They are the least and the greatest smooth cost of two
                                   * unequal labels (1 and 1 of one label), and are told exactly of a run of expansions
                                   * that settled, where the smooth costs are a metric and no label cost is above 0 */
@@ -112,6 +112,19 @@ uint32_t gco_label(uint32_t label_count,
                    uint32_t moves, uint32_t cycles,
                    uint32_t *labels, size_t site_count,
                    gco_outcome *told);
+
+/* What gco_label does, over costs of 32 bits: the same tests, statuses and answers. `data` is read where it lies; of
+ * `smooth` and `label_costs` a copy of 64 bits is made.
+ *
+ * Told: data, smooth, label, vmin, vmax, cycles, settled. */
+uint32_t gco_label_int32(uint32_t label_count,
+                         const int32_t *data, size_t data_count,
+                         const int32_t *smooth, size_t smooth_count,
+                         const int32_t *label_costs, size_t label_cost_count,
+                         const gco_pair *pairs, size_t pair_count,
+                         uint32_t moves, uint32_t cycles,
+                         uint32_t *labels, size_t site_count,
+                         gco_outcome *told);
 
 /* One move: every site keeps its label or takes `alpha`, to the best of these labellings.
  *

@@ -82,14 +82,15 @@ _SLICE, _U32 = [ctypes.c_void_p, ctypes.c_size_t], ctypes.c_uint32
 _TABLES = [_U32, *_SLICE, *_SLICE, *_SLICE, *_SLICE]
 for _call, _types in [
     (_gco.gco_label, [*_TABLES, _U32, _U32, *_SLICE, ctypes.c_void_p]),
+    (_gco.gco_label_int32, [*_TABLES, _U32, _U32, *_SLICE, ctypes.c_void_p]),
     (_gco.gco_expand, [*_TABLES, _U32, *_SLICE, ctypes.c_void_p]),
     (_gco.gco_swap, [*_TABLES, _U32, _U32, *_SLICE, ctypes.c_void_p]),
     (_gco.gco_minimise, [ctypes.c_int64, *_SLICE, *_SLICE, *_SLICE, *_SLICE, ctypes.c_void_p]),
 ]:
     _call.restype, _call.argtypes = _U32, _types
 
-_LEAST = {"q": -2**63, "I": 0}
-_MOST = {"q": 2**63 - 1, "I": 2**32 - 1}
+_LEAST = {"q": -2**63, "i": -2**31, "I": 0}
+_MOST = {"q": 2**63 - 1, "i": 2**31 - 1, "I": 2**32 - 1}
 
 
 def _flat(values):
@@ -101,11 +102,11 @@ def _flat(values):
 
 
 def _buffer(values, code, what):
-    """The numbers as one run of memory, of 64 bits (q) or 32 (I): its owner, its address, and how many. None wraps."""
+    """The numbers as one run of memory, of 64 bits (q) or 32 (i, and I from 0): its owner, its address, and how many. None wraps."""
     if numpy is not None and isinstance(values, numpy.ndarray):
         if values.dtype.kind not in "iu":
             raise TypeError(f"{what}: whole numbers are wanted, and not {values.dtype}: scale and round them first")
-        wanted = numpy.int64 if code == "q" else numpy.uint32
+        wanted = {"q": numpy.int64, "i": numpy.int32, "I": numpy.uint32}[code]
         if values.dtype != wanted and values.size and not (_LEAST[code] <= int(values.min()) and int(values.max()) <= _MOST[code]):
             raise OverflowError(f"{what}: a number is not from {_LEAST[code]} to {_MOST[code]}")
         owner = numpy.ascontiguousarray(values, dtype=wanted)
@@ -133,12 +134,32 @@ def _whole(value, least, most, what):
     return number
 
 
-class _Call:
-    """The arrays of a call, and its labels, which are a copy of the start."""
+def _is_narrow(values):
+    """Whether the numbers lie in an array of at most 32 bits each, and so go as 32 bits."""
+    if numpy is not None and isinstance(values, numpy.ndarray):
+        return numpy.can_cast(values.dtype, numpy.int32)
+    return isinstance(values, array.array) and values.typecode == "i"
 
-    def __init__(self, data, smooth, pairs, label_costs, start):
-        parts = [_buffer(data, "q", "data"), _buffer(smooth, "q", "smooth"),
-                 _buffer(() if label_costs is None else label_costs, "q", "label_costs"), _buffer(pairs, "I", "pairs")]
+
+def _tables(code, data, smooth, label_costs):
+    return [_buffer(data, code, "data"), _buffer(smooth, code, "smooth"),
+            _buffer(() if label_costs is None else label_costs, code, "label_costs")]
+
+
+class _Call:
+    """The arrays of a call, and its labels, which are a copy of the start. Where `narrow` is asked for, costs that go as 32
+    bits do, and `narrow` tells it."""
+
+    def __init__(self, data, smooth, pairs, label_costs, start, narrow=False):
+        self.narrow = narrow and _is_narrow(data)
+        try:
+            parts = _tables("i" if self.narrow else "q", data, smooth, label_costs)
+        except OverflowError:
+            if not self.narrow:
+                raise
+            self.narrow = False   # a smooth cost or label cost beyond 32 bits, which the call refuses
+            parts = _tables("q", data, smooth, label_costs)
+        parts.append(_buffer(pairs, "I", "pairs"))
         if parts[3][2] % 3:
             raise ValueError("pairs: three numbers a pair are wanted")
         self.label_count = math.isqrt(parts[1][2])
@@ -174,7 +195,8 @@ def label(data, smooth, pairs, *, label_costs=None, moves="expansion", cycles=No
 
     data[site][label] from 0 to 10,000,000; smooth[label][label] from 0 to 10,000; pairs (p, q, weight), the weight from 0
     to 1,000; label_costs, one for each label from 0 to 10,000,000, or none. Raises Refused, TypeError for numbers with a
-    fraction, and OverflowError for numbers beyond their bits.
+    fraction, and OverflowError for numbers beyond their bits. Data of 64 bits (numpy's int64, array "q") and of 32 (int32,
+    array "i") are read where they lie, and others are copied.
 
     `progress` is called after each move with the cycle (from 1), the label of the move (of a swap both), how many sites
     changed, and the energy; where it answers False the run stops there, not settled. The labels are those of a call without
@@ -182,9 +204,9 @@ def label(data, smooth, pairs, *, label_costs=None, moves="expansion", cycles=No
     if moves not in MOVES:
         raise ValueError(f"moves: expansion or swap is wanted, and not {moves!r}")
     allowed = ALL_CYCLES if cycles is None else _whole(cycles, 0, ALL_CYCLES, "cycles")
-    call = _Call(data, smooth, pairs, label_costs, start)
+    call = _Call(data, smooth, pairs, label_costs, start, narrow=progress is None)
     if progress is None:
-        told = call.make(_gco.gco_label, MOVES[moves], allowed)
+        told = call.make(_gco.gco_label_int32 if call.narrow else _gco.gco_label, MOVES[moves], allowed)
         return call.found(told.cycles, bool(told.settled))
     call.make(_gco.gco_label, MOVES[moves], 0)   # all that a run refuses but a term that is not regular
     if progress is True:

@@ -120,6 +120,38 @@ static int refused(void) {
     return 0;
 }
 
+/* costs of 32 bits: the answers of 64, and each refusal of the costs */
+static int narrow(void) {
+    int32_t data32[15], smooth32[9], costs32[3] = {2, 2, 2};
+    uint32_t ends[5] = {0};
+    gco_outcome wide;
+    for (int i = 0; i < 15; i++) data32[i] = (int32_t)data[i];
+    for (int i = 0; i < 9; i++) smooth32[i] = (int32_t)smooth[i];
+    memset(labels, 0, sizeof labels);
+    WANT(run(3, 15, 9, 0, GCO_EXPANSION, GCO_ALL_CYCLES) == GCO_OK);
+    wide = told;
+#define RUN32(count, costs_given) \
+    gco_label_int32(3, data32, count, smooth32, 9, costs32, costs_given, pairs, 6, GCO_EXPANSION, GCO_ALL_CYCLES, ends, 5, &told)
+    WANT(RUN32(15, 0) == GCO_OK && !memcmp(ends, labels, sizeof ends));
+    WANT(told.data == wide.data && told.smooth == wide.smooth && told.cycles == wide.cycles && told.vmin == 1 && told.vmax == 1);
+    WANT(RUN32(15, 3) == GCO_OK && told.data == 23 && told.smooth == 4 && told.label == 4 && told.settled == 1);
+    WANT(gco_label_int32(3, data32, 15, smooth32, 9, NULL, 0, pairs, 6, GCO_SWAP, 0, ends, 5, &told) == GCO_OK && told.label == 0);
+    WANT(gco_label_int32(3, data32, 15, smooth32, 9, NULL, 0, pairs, 6, 2, 0, ends, 5, &told) == GCO_NO_SUCH_MOVES);
+    WANT(RUN32(14, 0) == GCO_DATA_COUNT && RUN32(15, 2) == GCO_LABEL_COST_COUNT);
+    data32[14] = INT32_MIN;
+    WANT(RUN32(15, 0) == GCO_DATA_RANGE && told.place == 14);
+    data32[3] = GCO_DATA_LIMIT + 1;
+    WANT(RUN32(15, 0) == GCO_DATA_RANGE && told.place == 3);
+    data32[3] = GCO_DATA_LIMIT;
+    data32[14] = 5;
+    smooth32[8] = GCO_SMOOTH_LIMIT + 1;
+    WANT(RUN32(15, 0) == GCO_SMOOTH_RANGE && told.place == 8);
+    smooth32[8] = 0;
+    costs32[2] = -1;
+    WANT(RUN32(15, 3) == GCO_LABEL_COST_RANGE && told.place == 2 && !memcmp(ends, labels, sizeof ends));
+    return 0;
+}
+
 static int minimised(void) {
     /* docs/ENERGY.md's first example */
     gco_one ones[] = {{0, 0, 5, 2}, {1, 0, 1, 6}};
@@ -209,7 +241,7 @@ static int at_once(void) {
 }
 
 int main(void) {
-    if (worked() || refused() || minimised() || at_once()) return 1;
+    if (worked() || refused() || narrow() || minimised() || at_once()) return 1;
     printf("c: every call, every status, four threads\n");
     return 0;
 }

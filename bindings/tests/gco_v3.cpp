@@ -69,6 +69,15 @@ int main() {
     // data costs below 0
     graph.setDataCost(0, 3, -500000);
     WANT(graph.expansion() < -400000 && graph.whatLabel(0) == 3);
+    // one so far above the least of its site that the difference is beyond 32 bits
+    graph.setDataCost(0, 2, 2147483647);
+    try {
+        graph.expansion();
+        return 1;
+    } catch (GCException e) {
+        WANT(std::string(e.message).find("data cost 2 ") != std::string::npos);
+    }
+    graph.setDataCost(0, 2, 10);
     // a smooth cost that is too large once the factor is in it
     graph.setSmoothCost(0, 6, 36);
     try {

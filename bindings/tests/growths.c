@@ -34,6 +34,9 @@ void __wrap_free(void *place) {
 static int64_t data[] = {4, 6, 9, 7, 5, 6, 8, 4, 7, 9, 7, 3, 6, 8, 5};
 static int64_t smooth[] = {0, 1, 1, 1, 0, 1, 1, 1, 0};
 static int64_t costs[] = {1, 1, 1};
+static int32_t data32[] = {4, 6, 9, 7, 5, 6, 8, 4, 7, 9, 7, 3, 6, 8, 5};
+static int32_t smooth32[] = {0, 1, 1, 1, 0, 1, 1, 1, 0};
+static int32_t costs32[] = {1, 1, 1};
 static gco_pair pairs[] = {{0, 1, 3}, {1, 2, 2}, {2, 3, 2}, {3, 4, 4}, {1, 3, 1}, {0, 4, 1}};
 static gco_one ones[] = {{0, 0, 0, 2}};
 static gco_two twos[] = {{1, 2, 0, 4, 4, 0}};
@@ -49,13 +52,14 @@ static uint32_t call(int which) {
     case 1: return gco_label(3, data, 15, smooth, 9, costs, 3, pairs, 6, GCO_EXPANSION, GCO_ALL_CYCLES, labels, 5, &told);
     case 2: return gco_expand(3, data, 15, smooth, 9, costs, 3, pairs, 6, 2, labels, 5, &told);
     case 3: return gco_swap(3, data, 15, smooth, 9, NULL, 0, pairs, 6, 0, 2, labels, 5, &told);
+    case 4: return gco_label_int32(3, data32, 15, smooth32, 9, costs32, 3, pairs, 6, GCO_EXPANSION, GCO_ALL_CYCLES, labels, 5, &told);
     default: return gco_minimise(10, ones, 1, twos, 1, threes, 1, bits, 3, &found);
     }
 }
 
 int main(void) {
     long refused = 0, answered = 0;
-    for (int which = 0; which < 5; which++) {
+    for (int which = 0; which < 6; which++) {
         uint32_t right[5] = {0};
         uint8_t right_bits[3] = {0};
         long growths = 0;

@@ -208,6 +208,13 @@ def progress():
     assert stopped.cycles == 1 and not stopped.settled and stopped.energy == told[1][3]
 
 
+def narrow():
+    flat = [x for row in DATA for x in row]
+    wide, short = (gco.label(array.array(code, flat), gco.potts(3), PAIRS) for code in "qi")
+    assert list(wide.labels) == list(short.labels) and wide[1:] == short[1:]
+    refused(gco.Refused, gco.label, array.array("i", [9, -1, *flat[2:]]), gco.potts(3), PAIRS, status=15, place=1)
+
+
 def threads():
     picture = [[[(x * 7 + y * 13 + k * 5) % 40 for k in range(6)] for x in range(60)] for y in range(50)]
     one = list(gco.cut_grid_graph_simple(picture, gco.potts(6, 4), connect=8))
@@ -247,7 +254,17 @@ def with_numpy():
     start = np.zeros(5, dtype=np.int32)
     assert gco.label(d.astype(np.int32)[:, ::-1][:, ::-1], potts, pairs, start=start).energy == 27
     assert start.tolist() == [0] * 5
-
+    # costs of at most 32 bits go as 32 bits, and are refused as those of 64 are
+    for kind in (np.int8, np.uint16, np.int32):
+        assert gco.label(d.astype(kind), potts, pairs, label_costs=[2, 2, 2])[1:5] == (31, 23, 4, 4)
+        assert gco.label(d.astype(kind), potts, pairs, progress=lambda *told: None)[1:] == f[1:]
+    narrow = np.ascontiguousarray(d, dtype=np.int32)
+    assert gco._Call(narrow, potts, pairs, None, None, narrow=True).owners[0] is narrow
+    refused(gco.Refused, gco.label, narrow - 9, potts, pairs, status=15, place=0)
+    refused(gco.Refused, gco.label, narrow, potts + 2**40, pairs, status=16, place=0)
+    refused(gco.Refused, gco.label, narrow, potts, pairs, label_costs=[1, 2, -2**40], status=17, place=2)
+    refused(OverflowError, gco.label, narrow, potts, pairs, label_costs=[1, 2, 2**63])
+    refused(gco.Refused, gco.label, narrow[:4, :2], potts, pairs, status=4)
 
     # the pairs and edges of a grid, as they are made without numpy
     rng = random.Random(3)
@@ -273,6 +290,7 @@ kinds = by_definition(300)
 least = assignments(300)
 bad_input()
 progress()
+narrow()
 threads()
 graph()
 if gco.numpy is not None:

@@ -91,7 +91,8 @@ fn run_call(
     }
 }
 
-fn moves_of(number: u32) -> Option<Moves>
+/// The moves that a number names.
+pub(crate) fn moves_of(number: u32) -> Option<Moves>
     ensures some { IfSome result (λ moves. number ≡ number_of moves) }
     ensures none { result ≡ None → (number ≢ 0) × (number ≢ 1) }
 {

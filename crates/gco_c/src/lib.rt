@@ -3,6 +3,7 @@
 #![tactic(auto)]
 
 mod checks;
+mod int32;
 mod label;
 mod minimise;
 mod moving;
@@ -16,6 +17,7 @@ mod terms;
 #[cfg(test)]
 mod tests;
 
+pub use int32::gco_label_int32;
 pub use label::gco_label;
 pub use minimise::{GcoMinimum, gco_minimise};
 pub use moving::{gco_expand, gco_swap};

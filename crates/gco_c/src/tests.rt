@@ -1,7 +1,7 @@
 //! Each call of C once, with a worked example.
 use crate::{
-    GcoMinimum, GcoOne, GcoOutcome, GcoPair, GcoThree, GcoTwo, gco_expand, gco_label, gco_minimise,
-    gco_swap,
+    GcoMinimum, GcoOne, GcoOutcome, GcoPair, GcoThree, GcoTwo, gco_expand, gco_label,
+    gco_label_int32, gco_minimise, gco_swap,
 };
 use std::test::Fail;
 
@@ -83,6 +83,31 @@ fn districts(rt: HostRuntime) -> Result<(), Fail> {
     assert_eq!(rt; told.settled, 1);
     assert_eq!(rt; told.vmin, 1);
     assert_eq!(rt; told.vmax, 1);
+    Ok(())
+}
+
+/// The same districts by costs of 32 bits, each label costing 2 by itself.
+#[test]
+fn districts_int32(rt: HostRuntime) -> Result<(), Fail> {
+    let mut labels = [0u32; 5];
+    let mut told = no_outcome();
+    let status = gco_label_int32(
+        rt.alloc(),
+        3,
+        &[4i32, 6, 9, 7, 5, 6, 8, 4, 7, 9, 7, 3, 6, 8, 5],
+        &[0i32, 1, 1, 1, 0, 1, 1, 1, 0],
+        &[2i32, 2, 2],
+        &PAIRS,
+        0,
+        9,
+        &mut labels,
+        &mut told,
+    );
+    assert_eq!(rt; status, 0);
+    assert_eq!(rt; labels, [1, 1, 1, 2, 2]);
+    assert_eq!(rt; told.data, 23);
+    assert_eq!(rt; told.smooth, 4);
+    assert_eq!(rt; told.label, 4);
     Ok(())
 }
 

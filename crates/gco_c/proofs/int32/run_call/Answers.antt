@@ -1,0 +1,25 @@
+use Rattle.std.proofs.Common.{inr, Err}
+use Rattle.gco_c.proofs.Parts.{ready_sites, ready_data, ready_costs, run_given}
+use Rattle.gco_c.proofs.int32.run_call.Goals as goal
+
+pub run_over-requires-clause-sites : goal.run_over-requires-clause-sites
+run_over-requires-clause-sites c = ready_sites _ _ c.in_ok-ready.ensures.ready
+
+pub run_over-requires-clause-data : goal.run_over-requires-clause-data
+run_over-requires-clause-data c = ready_data _ _ c.in_ok-ready.ensures.ready
+
+pub run_over-requires-clause-label_costs : goal.run_over-requires-clause-label_costs
+run_over-requires-clause-label_costs c = ready_costs _ _ c.in_ok-ready.ensures.ready
+
+pub returns-clause-refused : goal.returns-clause-refused
+returns-clause-refused c =
+    inr (
+      c.in_ok-ready.ensures.ready.given,
+      (
+        c.in-Err.error,
+        c.in-Err.ensures.refused,
+        run_given _ _ c.in_ok-ready.ensures.ready c.args.moves c.args.cycles (Err c.in-Err.error)
+            (rw (c.deref.ensures.value, c.in-Ok.ensures) at c.in-Err.ensures.run),
+        c.refusal_of.ensures,
+      ),
+    )
