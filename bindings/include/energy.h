@@ -47,6 +47,8 @@ public:
         if (status == GCO_OK) return TotalValue(constant_ + told.value);
         if (status == GCO_OUT_OF_MEMORY) throw std::bad_alloc();
         std::string at = " (term " + std::to_string(told.place) + ", terms of one, two and three variables in this order)";
+        if (status == GCO_TERM_NOT_REGULAR && told.fixed != GCO_NOTHING_FIXED)
+            at += ", fixed " + std::to_string(told.fixed) + " at " + std::to_string(told.fixed_at);
         if (status == GCO_TERM_NOT_REGULAR) throw std::invalid_argument("a term is not regular" + at);
         if (status == GCO_SAME_SITE) throw std::invalid_argument("a term names a variable twice" + at);
         if (status == GCO_WEIGHT_RANGE) throw std::invalid_argument("a number is beyond 1,000,000,000" + at);

@@ -90,7 +90,7 @@ enum {
     GCO_LABEL_COST_IN_SWAP = 27, /* swaps, where some label costs more than 0 by itself */
     GCO_NOT_REGULAR = 24,       /* the term of pairs[place] in the move of alpha and beta is not regular: the smooth costs
                                  * are no metric */
-    GCO_TERM_NOT_REGULAR = 20   /* gco_minimise: term `place` is not regular */
+    GCO_TERM_NOT_REGULAR = 20   /* gco_minimise: term `place` is not regular; of three variables, where `fixed` is `fixed_at` */
 };
 
 enum { GCO_EXPANSION = 0, GCO_SWAP = 1 };
@@ -175,11 +175,15 @@ typedef struct gco_three {
     int64_t at000, at001, at010, at011, at100, at101, at110, at111;
 } gco_three;
 
-/* What gco_minimise tells beside its status. */
+/* What gco_minimise tells beside its status; all of it is written by each call. */
 typedef struct gco_minimum {
-    int64_t value;  /* the least value, with the constant */
-    uint64_t place; /* refused: the place of the term, where `ones`, `twos` and `threes` are one list in this order */
+    int64_t value;     /* the least value, with the constant; else 0 */
+    uint64_t place;    /* refused: the place of the term, where `ones`, `twos` and `threes` are one list in this order */
+    uint64_t fixed;    /* GCO_TERM_NOT_REGULAR of a term of three: which of its variables is fixed, 0, 1 or 2 .. */
+    uint64_t fixed_at; /* .. and at which value, in the first term of two that is not regular, by variables and 0 before 1;
+                        * else GCO_NOTHING_FIXED and 0 */
 } gco_minimum;
+#define GCO_NOTHING_FIXED 3
 
 /* Writes the assignment of least value, a byte 0 or 1 for each variable. Of several least ones it is the one with the
  * fewest ones, which are among the ones of each other. The bytes that stand there before are not read.

@@ -57,15 +57,17 @@ class _Outcome(ctypes.Structure):
 
 
 class _Minimum(ctypes.Structure):
-    _fields_ = [("value", ctypes.c_int64), ("place", ctypes.c_uint64)]
+    _fields_ = [("value", ctypes.c_int64), ("place", ctypes.c_uint64), ("fixed", ctypes.c_uint64), ("fixed_at", ctypes.c_uint64)]
 
 
 class Refused(ValueError):
-    """A call was refused: `status` as in gco.h, and `place`, `alpha` and `beta` where it names them."""
+    """A call was refused: `status` as in gco.h, and `place`, `alpha` and `beta` where it names them. Of a term of three that is
+    not regular `fixed` is the place of a variable in it and a value, where it is not; else None."""
 
-    def __init__(self, status, place, alpha=0, beta=0):
-        self.status, self.place, self.alpha, self.beta = status, place, alpha, beta
-        super().__init__(WHYS.get(status, f"refused {status}").format(place=place, alpha=alpha, beta=beta))
+    def __init__(self, status, place, alpha=0, beta=0, fixed=None):
+        self.status, self.place, self.alpha, self.beta, self.fixed = status, place, alpha, beta, fixed
+        where = f", fixed {fixed[0]} at {fixed[1]}" if fixed else ""
+        super().__init__(WHYS.get(status, f"refused {status}").format(place=place, alpha=alpha, beta=beta) + where)
 
 
 def _library():
@@ -356,7 +358,7 @@ def _least(variables, constant, ones, twos, threes):
     status = _gco.gco_minimise(constant, ones_at, one_count // 3, twos_at, two_count // 5, threes_at, three_count // 10,
                                bits.buffer_info()[0], variables, ctypes.addressof(told))
     if status:
-        raise Refused(status, told.place)
+        raise Refused(status, told.place, fixed=(told.fixed, told.fixed_at) if told.fixed < 3 else None)
     return told.value, bits
 
 

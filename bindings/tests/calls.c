@@ -180,8 +180,14 @@ static int minimised(void) {
     threes[0].at111 = 30;
     threes[0].at000 = 30;
     WANT(gco_minimise(0, ones, 2, twos, 1, threes, 1, bits, 3, &found) == GCO_TERM_NOT_REGULAR && found.place == 3 && found.value == 0);
+    WANT(found.fixed == 0 && found.fixed_at == 0);
+    /* 1 at 010 alone: the term of the first and third is irregular where the second is 1, and no other is */
+    gco_three late[] = {{2, 1, 0, 0, 0, 0, 1, 0, 0, 0, 0, 0}};
+    WANT(gco_minimise(0, NULL, 0, NULL, 0, late, 1, bits, 3, &found) == GCO_TERM_NOT_REGULAR && found.place == 0);
+    WANT(found.fixed == 1 && found.fixed_at == 1);
     twos[0].at00 = 8;
     WANT(gco_minimise(0, ones, 2, twos, 1, threes, 1, bits, 3, &found) == GCO_TERM_NOT_REGULAR && found.place == 2);
+    WANT(found.fixed == GCO_NOTHING_FIXED && found.fixed_at == 0);
     WANT(bits[0] == 9 && bits[1] == 9 && bits[2] == 9);
     size_t many = (size_t)GCO_TERM_LIMIT + 1;
     gco_one *list = calloc(many, sizeof *list);

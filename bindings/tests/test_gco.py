@@ -130,7 +130,7 @@ def assignments(count):
             return [(*rng.sample(range(n), variables), [rng.randrange(-4, 5) for _ in range(2 ** variables)]) for _ in range(rng.randrange(0, 3))]
         ones, twos, threes, constant = some(1), some(2), some(3), rng.randrange(-9, 10)
         terms = ones + twos + threes
-        irregular = [place for place, (*names, table) in enumerate(terms) if not regular(len(names), table)]
+        irregular = [(place, fixed) for place, (*names, table) in enumerate(terms) for fixed in failing(len(names), table)]
 
         def value(x):
             return constant + sum(table[int("".join(str(x[name]) for name in names), 2)] for *names, table in terms)
@@ -141,24 +141,24 @@ def assignments(count):
             assert not irregular and got == (least, array.array("B", min(every, key=sum))), (turn, got)
             kinds["answered"] += 1
         except gco.Refused as error:
-            assert irregular and (error.status, error.place) == (20, irregular[0]), (turn, error)
+            assert irregular and error.status == 20 and (error.place, error.fixed) == irregular[0], (turn, error)
+            assert str(error).endswith(" fixed %d at %d" % error.fixed if error.fixed else ")"), error
             kinds[20] += 1
     assert all(kinds.values()), kinds
     return kinds
 
 
-def regular(variables, table):
-    if variables < 2:
-        return True
+def failing(variables, table):
+    """Where a term is not regular: of one of two variables None, of one of three each variable and value that fix it."""
     if variables == 2:
-        return table[0] + table[3] <= table[1] + table[2]
-    at = {bits: table[place] for place, bits in enumerate(itertools.product((0, 1), repeat=3))}
-    for fixed in range(3):
+        return [None] if table[0] + table[3] > table[1] + table[2] else []
+    at, found = {bits: table[place] for place, bits in enumerate(itertools.product((0, 1), repeat=variables))}, []
+    for fixed in range(3 if variables == 3 else 0):
         for bit in (0, 1):
             four = [number for bits, number in at.items() if bits[fixed] == bit]
             if four[0] + four[3] > four[1] + four[2]:
-                return False
-    return True
+                found.append((fixed, bit))
+    return found
 
 
 def bad_input():

@@ -1,5 +1,6 @@
 -- The numbers that a call answers.
-use Rattle.std.specs.Prelude.{◌≡◌, ℕ, Option, Some, None}
+use Rattle.std.specs.Prelude.{◌≡◌, ℕ, Option, Some, None, cond}
+use Rattle.regular.specs.declared.fixed.Fixed.{Fixed}
 use Rattle.gco_c.specs.declared.outcome.GcoOutcome.{GcoOutcome}
 use Rattle.gco_c.specs.declared.refusal.Refusal.{Refusal}
 use Rattle.gco_c.specs.declared.refusal.Refusal.TheVariants as why
@@ -22,7 +23,7 @@ status_of (why.DataRange _) = 15
 status_of (why.SmoothRange _) = 16
 status_of (why.LabelCostRange _) = 17
 status_of why.ConstantRange = 18
-status_of (why.TermNotRegular _) = 20
+status_of (why.TermNotRegular _ _) = 20
 status_of (why.NotRegular _ _ _) = 24
 status_of why.LabelCostInSwap = 27
 
@@ -35,7 +36,7 @@ place_of (why.WeightRange place) = place
 place_of (why.DataRange place) = place
 place_of (why.SmoothRange place) = place
 place_of (why.LabelCostRange place) = place
-place_of (why.TermNotRegular place) = place
+place_of (why.TermNotRegular place fixed) = place
 place_of (why.NotRegular place alpha beta) = place
 place_of _ = 0
 
@@ -47,6 +48,16 @@ second_of alpha (Some beta) = beta
 abbrev pub labels_of : Refusal → ℕ × ℕ
 labels_of (why.NotRegular place alpha beta) = (alpha, second_of alpha beta)
 labels_of _ = (0, 0)
+
+-- the projection of a term of three that a refusal tells: which of the three variables is fixed, and at which value; 3
+-- and 0 where none is
+abbrev pub fixed_numbers : Option Fixed → ℕ × ℕ
+fixed_numbers None = (3, 0)
+fixed_numbers (Some fixed) = (fixed.position, cond fixed.value 1 0)
+
+abbrev pub fixed_of : Refusal → ℕ × ℕ
+fixed_of (why.TermNotRegular place fixed) = fixed_numbers fixed
+fixed_of _ = (3, 0)
 
 -- the status and the outcome tell a refusal
 pub record IsTold (refusal : Refusal) (status : ℕ) (told : GcoOutcome) : Type 0 where

@@ -22,6 +22,10 @@ pub struct GcoMinimum {
     pub value: i64,
     /// The place that a refusal names.
     pub place: u64,
+    /// Of a term of three that is not regular: which of its variables is fixed where it is not, 0, 1 or 2, and at which
+    /// value. Else 3 and 0.
+    pub fixed: u64,
+    pub fixed_at: u64,
 }
 
 /// The least value over all assignments of the variables, and of the assignments that have it the one with the
@@ -85,7 +89,12 @@ fn least(
     let energy = energy_of(alloc, variables as u32, constant, ones, twos, threes)?;
     let regular = match check(&energy) {
         Ok(regular) => regular,
-        Err(failing) => return Err(Refusal::TermNotRegular(failing.term)),
+        Err(failing) => {
+            return Err(Refusal::TermNotRegular {
+                term: failing.term,
+                fixed: failing.fixed,
+            });
+        }
     };
     match minimise(alloc, regular) {
         Ok(minimum) => Ok(minimum),
@@ -114,6 +123,8 @@ fn put(minimum: &mut GcoMinimum, found: &Minimum)
     *minimum = GcoMinimum {
         value: found.value,
         place: 0,
+        fixed: 3,
+        fixed_at: 0,
     };
 }
 
@@ -122,9 +133,12 @@ fn refuse(minimum: &mut GcoMinimum, refusal: Refusal) -> u32
     ensures some { result ≢ 0 }
     ensures told { IsRefusedIn refusal result minimum.new }
 {
+    let (fixed, fixed_at) = refusal.fixed();
     *minimum = GcoMinimum {
         value: 0,
         place: refusal.place() as u64,
+        fixed,
+        fixed_at,
     };
     refusal.status()
 }

@@ -1,6 +1,8 @@
 //! Why a call was refused, and the numbers that tell it.
 ghost use Rattle.std.specs.Prelude.{◌≡◌, ◌≢◌};
-ghost use Rattle.gco_c.specs.Statuses.{labels_of, place_of, status_of};
+ghost use Rattle.gco_c.specs.Statuses.{fixed_numbers, fixed_of, labels_of, place_of, status_of};
+
+use regular::Fixed;
 
 /// Why a call was refused. Pairs, sites, terms and entries go by their place in the array that was given, from 0.
 #[derive(Clone, Copy)]
@@ -39,8 +41,11 @@ pub(crate) enum Refusal {
     LabelCostRange(usize),
     /// The constant is out of its range.
     ConstantRange,
-    /// The term at a place is not regular.
-    TermNotRegular(usize),
+    /// The term at a place is not regular; of one of three variables, where one of them is fixed.
+    TermNotRegular {
+        term: usize,
+        fixed: Option<Fixed>,
+    },
     /// The term of a pair is not regular in the move that is due.
     NotRegular {
         pair: usize,
@@ -75,7 +80,7 @@ impl Refusal {
             Refusal::SmoothRange(_) => 16,
             Refusal::LabelCostRange(_) => 17,
             Refusal::ConstantRange => 18,
-            Refusal::TermNotRegular(_) => 20,
+            Refusal::TermNotRegular { .. } => 20,
             Refusal::NotRegular { .. } => 24,
             Refusal::LabelCostInSwap => 27,
         }
@@ -92,8 +97,8 @@ impl Refusal {
             | Refusal::WeightRange(place)
             | Refusal::DataRange(place)
             | Refusal::SmoothRange(place)
-            | Refusal::LabelCostRange(place)
-            | Refusal::TermNotRegular(place) => place,
+            | Refusal::LabelCostRange(place) => place,
+            Refusal::TermNotRegular { term, .. } => term,
             Refusal::NotRegular { pair, .. } => pair,
             _ => 0,
         }
@@ -110,5 +115,24 @@ impl Refusal {
             },
             _ => (0, 0),
         }
+    }
+    /// The variable of a term of three that is fixed, and its value: 3 and 0 of all else.
+    pub(crate) fn fixed(self) -> (u64, u64)
+        ensures { result ≡ fixed_of self }
+    {
+        match self {
+            Refusal::TermNotRegular { fixed, .. } => numbers(fixed),
+            _ => (3, 0),
+        }
+    }
+}
+
+/// The variable that is fixed, and its value: 3 and 0 of none.
+fn numbers(fixed: Option<Fixed>) -> (u64, u64)
+    ensures { result ≡ fixed_numbers fixed }
+{
+    match fixed {
+        Some(fixed) => (fixed.position as u64, if fixed.value { 1 } else { 0 }),
+        None => (3, 0),
     }
 }

@@ -183,7 +183,12 @@ fn three_variables(rt: HostRuntime) -> Result<(), Fail> {
         at111: 0,
     }];
     let mut assignment = [7u8; 3];
-    let mut told = GcoMinimum { value: 0, place: 0 };
+    let mut told = GcoMinimum {
+        value: 0,
+        place: 0,
+        fixed: 0,
+        fixed_at: 0,
+    };
     let status = gco_minimise(
         rt.alloc(),
         10,
