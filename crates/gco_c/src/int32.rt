@@ -1,5 +1,5 @@
 //! Runs of moves for C over costs of 32 bits.
-ghost use Rattle.std.specs.Prelude.{◌≡◌, ◌≢◌, ◌↔◌, ◌+◌, ◌*◌, ◌<◌, ◌≤◌, All, length, pos, IsOk, IfOk, IfErr, IsTrue, None, Ok};
+ghost use Rattle.std.specs.Prelude.{◌≡◌, ◌≢◌, ◌↔◌, ◌+◌, ◌*◌, ◌<◌, ◌≤◌, All, length, IsOk, IfOk, IfErr, IsTrue, None, Ok};
 ghost use Rattle.cost_store.specs.Limits.{data_limit, smooth_limit};
 ghost use Rattle.cost_store.specs.Promises.{IsCost, IsFirstAbove, cost_in, entry_at};
 ghost use Rattle.labelling_runs.specs.Instances.{instance_of};

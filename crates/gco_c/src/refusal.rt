@@ -116,6 +116,7 @@ impl Refusal {
             _ => (0, 0),
         }
     }
+
     /// The variable of a term of three that is fixed, and its value: 3 and 0 of all else.
     pub(crate) fn fixed(self) -> (u64, u64)
         ensures { result ≡ fixed_of self }
