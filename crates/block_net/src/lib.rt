@@ -13,6 +13,7 @@ mod compact;
 mod ends;
 mod filling;
 mod homes;
+pub mod laws;
 mod leaving;
 mod limits;
 mod make;
