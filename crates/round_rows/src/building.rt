@@ -17,19 +17,29 @@ pub fn net_of(
     Net::new(sources, sinks, arcs)
 }
 
-/// Two nodes, of which the first gets 4 and the second 1, the second can give the sink 3, and an arc of capacity 4
-/// leads from the first to the second.
-pub fn two_nodes(rt: &(impl Abort + AllocGlobal)) -> Result<Net, AllocError> {
+/// Two nodes that get this much, of which the second can give the sink 3, and an arc of capacity 4 leads from the
+/// first to the second.
+fn nodes_that_get(rt: &(impl Abort + AllocGlobal), sources: &[u64]) -> Result<Net, AllocError> {
     let alloc = rt.alloc();
     let arc = Arc {
         from: 0,
         to: 1,
         capacity: 4,
     };
-    let sources = Vec::from_slice(alloc, &[4, 1])?;
+    let sources = Vec::from_slice(alloc, sources)?;
     let sinks = Vec::from_slice(alloc, &[0, 3])?;
     let arcs = Vec::from_slice(alloc, &[arc])?;
     Ok(net_of(rt, sources, sinks, arcs))
+}
+
+/// Such nodes, of which the first gets 4 and the second 1.
+pub fn two_nodes(rt: &(impl Abort + AllocGlobal)) -> Result<Net, AllocError> {
+    nodes_that_get(rt, &[4, 1])
+}
+
+/// And such that get nothing.
+pub fn idle_nodes(rt: &(impl Abort + AllocGlobal)) -> Result<Net, AllocError> {
+    nodes_that_get(rt, &[0, 0])
 }
 
 /// How many nodes each half of the long way has.

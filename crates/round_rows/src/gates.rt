@@ -1,4 +1,4 @@
-//! Gates that hold the turns of two blocks until the other has come as far.
+//! Gates that hold the turns of two blocks until the other has come as far, or further.
 use std::hint::spin_loop;
 use std::sync::atomic::{AtomicBool, AtomicU32, Ordering};
 use worker_options::Gate;
@@ -79,6 +79,38 @@ impl Gate for Overlap {
         self.calls.call(block, turn);
         if turn <= 1 && self.calls.wait(1 - block.min(1), turn.saturating_add(1)) {
             self.met.fetch_add(1, Ordering::SeqCst);
+        }
+        true
+    }
+}
+
+/// Holds block 0 at its turn 0, before which it is marked busy, until block 1 has called for turn 2.
+#[derive(Drop)]
+pub struct Held {
+    calls: Calls,
+    met: AtomicBool,
+}
+
+impl Held {
+    /// A gate of which no turn was called for yet.
+    pub fn new() -> Held {
+        Held {
+            calls: Calls::new(),
+            met: AtomicBool::new(false),
+        }
+    }
+
+    /// Whether block 1 has called for turn 2 while block 0 was held.
+    pub fn met(&self) -> bool {
+        self.met.load(Ordering::SeqCst)
+    }
+}
+
+impl Gate for Held {
+    fn pass(&self, block: u32, turn: u32) -> bool {
+        self.calls.call(block, turn);
+        if block == 0 && turn == 0 && self.calls.wait(1, 3) {
+            self.met.store(true, Ordering::SeqCst);
         }
         true
     }

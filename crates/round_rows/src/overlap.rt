@@ -1,7 +1,8 @@
-//! Turns of two blocks overlap, and a round goes on while work and turns are left.
+//! Turns of two blocks overlap, a round goes on while work and turns are left, and a block with nothing to do waits while
+//! another is busy.
 use crate::alike::round;
-use crate::building::{long_way, raised, two_nodes};
-use crate::gates::{Alternate, Overlap};
+use crate::building::{idle_nodes, long_way, raised, two_nodes};
+use crate::gates::{Alternate, Closed, Held, Overlap};
 use block_core::State;
 use std::test::Fail;
 use worker_options::Options;
@@ -57,5 +58,22 @@ fn round_drains(rt: HostRuntime) -> Result<(), Fail> {
     let labels = global_relabel::distances(rt.alloc(), &state)?;
     assert!(rt; is_finished(&state, labels.as_slice()));
     assert!(rt; state.got() == 1);
+    Ok(())
+}
+
+/// A block with nothing to do has one turn after another as long as another is marked busy, which block 0 is until its
+/// turn 0 is over. Where no block is, none has a turn beside its turn 0.
+#[test]
+fn idle_block_waits(rt: HostRuntime) -> Result<(), Fail> {
+    let net = idle_nodes(&rt)?;
+    let state = raised(&rt, &net, 2)?;
+    let gate = Held::new();
+    round(&rt, state, &TWO, &gate)?;
+    assert!(rt; gate.met());
+    let one = Options { threads: 1, ..TWO };
+    let state = raised(&rt, &net, 2)?;
+    let gate = Closed::new();
+    round(&rt, state, &one, &gate)?;
+    assert!(rt; gate.calls() == 2);
     Ok(())
 }
