@@ -6,7 +6,7 @@ use block_core::State;
 use block_cut::finish;
 use flow_network::{Net, Solved, check_cut};
 use plain_cut::solve;
-use running::{RoundError, run_round};
+use rounds::{RoundError, run_round};
 use std::alloc::AllocError;
 use std::process::Abort;
 use std::sync::Wait;

@@ -1,2 +1,15 @@
 pub mod Joined
 pub mod Joining
+pub mod Dealing
+pub mod Laws
+pub mod Mated
+pub mod Left
+pub mod Links
+pub mod Draining
+pub mod Pairing
+pub mod Faults
+pub mod Seated
+pub mod Together
+pub mod Short
+pub mod Ended
+pub mod Refusals

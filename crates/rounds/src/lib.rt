@@ -1,7 +1,35 @@
-//! Rounds of running workers: rings between blocks.
+//! Rounds of running workers over a net in blocks, and the least cut of a net that is found by them.
+//!
+//! `run_round` moves the blocks of a state to running workers and takes them back: rings lead between blocks
+//! (`join_all`), the blocks are dealt to workers one after another, as cards, and collected again in their order, and what
+//! is left in the rings goes to the core's ways.
+//!
+//! `solve_parallel` opens a net in blocks and makes such rounds, with exact labels before each. What they leave goes on to
+//! the end on one thread (`block_cut`), so that the answer rests on no round.
 #![tactic(auto)]
 
+mod back;
+mod blocks;
+mod ended;
 mod flags;
+mod hands;
+mod join;
+pub mod laws;
+mod matching;
+mod pair;
+mod parallel_error;
 mod rings;
+mod round;
+mod round_error;
+mod seat_work;
+mod seats;
+mod solver;
+mod space;
+mod together;
+mod work;
 
-pub use rings::join_all;
+pub use join::join_all;
+pub use parallel_error::ParallelError;
+pub use round::run_round;
+pub use round_error::RoundError;
+pub use solver::{side_parallel, solve_parallel};

@@ -1,108 +1,101 @@
-ghost use Rattle.std.specs.Prelude.{◌≡◌, ◌+◌, ◌^◌, ◌<◌, [], IfOk, OnOk, length, map};
-ghost use Rattle.std.specs.Prelude.{replicate, vec_len, slice_index_or};
-ghost use Rattle.block_workers.specs.Ends.{ports};
-ghost use Rattle.block_workers.specs.Seeing.{AreRising};
-ghost use Rattle.rounds.specs.Joined.{AreJoined};
-ghost use Rattle.rounds.specs.Joining.{AreBegun, AreSquare, HasPair};
+ghost use Rattle.std.specs.Prelude.{◌≡◌, ◌≤◌, ◌*◌, ℕ, [], All, length, map, vec_len, vec_capacity};
+ghost use Rattle.parcel.specs.Soundness.{IsSquare};
+ghost use Rattle.rounds.specs.Mated.{AreMated, ports_in, room_to, sent, taken};
+ghost use Rattle.rounds.specs.Left.{AreEmpty, AreFitting, AreLeft, HaveRoomFor};
+ghost use Rattle.rounds.specs.Links.{AreLinks, AreWithin, IsSeen, links_of, room_in, sent_in, taken_in};
+ghost use Rattle.rounds.specs.Draining.{AreDraining, HaveRoom};
 
-use crate::flags::{all_scanned, are_linked};
-use block_net::Cells;
-use block_rings::{Port, join_blocks};
-use block_workers::Ends;
-use std::alloc::{AllocError, Global};
+use crate::matching::pair_all;
+use crate::pair::Pair;
+use block_core::Mail;
+use block_rings::Port;
+use std::marker::Model;
 
-/// Two blocks get rings to one another: each a port more. The only error is that memory runs out.
-fn join_two(
-    alloc: Global,
-    lists: &mut Vec<Vec<Port>>,
-    b: u32,
-    c: u32,
-    ring: usize,
-) -> Result<(), AllocError>
-    requires order { b < c }
-    requires blocks { c < vec_len lists.old }
-    ensures { OnOk result (HasPair ring b c (map (λ l. l.items) lists.old.items)
-        (map (λ l. l.items) lists.new.items)) }
-{
-    let (first, second) = join_blocks(alloc, b, c, ring)?;
-    lists[b as usize].push(first)?;
-    lists[c as usize].push(second)?;
-    Ok(())
+/// The rings between blocks: both ends of each.
+#[derive(Drop)]
+pub(crate) struct Rings {
+    blocks: usize,
+    pairs: Vec<Pair>,
 }
 
-/// Block b gets rings to those blocks after it to which or from which a direction of it leads.
-fn join_row(
-    alloc: Global,
-    rows: &Vec<Vec<bool>>,
-    lists: &mut Vec<Vec<Port>>,
-    b: u32,
-    ring: usize,
-) -> Result<(), AllocError>
-    requires square { AreSquare (length rows.now.items) (map (λ row. row.items) rows.now.items) }
-    requires few { length rows.now.items < 2 ^ 32 }
-    requires block { b < length rows.now.items }
-    requires begun { AreBegun ring (length rows.now.items) b (b + 1) (map (λ row. row.items) rows.now.items)
-        (map (λ l. l.items) lists.old.items) }
-    ensures { OnOk result (AreBegun ring (length rows.now.items) (b + 1) (b + 2)
-        (map (λ row. row.items) rows.now.items) (map (λ l. l.items) lists.new.items)) }
+impl Model for Rings {
+    ghost use Rattle.rounds.specs.Links.{RingsView, links_of, AreLinks};
+
+    ghost Value = { RingsView };
+
+    ghost view = { λ r. record { blocks = r.blocks; links = links_of r.pairs.items } };
+
+    ghost invariant = { λ r. AreLinks r.blocks (links_of r.pairs.items) };
+}
+
+/// Looks at what is left in the rings of all pairs. Takes no memory.
+fn see_all(pairs: &mut Vec<Pair>)
+    ensures same { links_of pairs.new.items ≡ links_of pairs.old.items }
+    ensures seen { All IsSeen (links_of pairs.old.items) }
 {
-    for c in b + 1..rows.len() as u32 {
-        if are_linked(rows, b as usize, c as usize) {
-            join_two(alloc, lists, b, c, ring)?;
-        }
+    for k in 0..pairs.len() {
+        pairs[k].see();
     }
-    Ok(())
 }
 
-/// So many blocks with no port.
-fn unjoined(alloc: Global, blocks: usize) -> Result<Vec<Vec<Port>>, AllocError>
-    ensures { IfOk result (λ lists. map (λ l. l.items) lists.items ≡ replicate blocks []) }
+/// What is left in the rings of all pairs goes to the ways, which are empty. Takes no memory.
+fn drain_all(pairs: Vec<Pair>, ways: &mut Mail)
+    requires links { AreLinks (length ways.old.messages) (links_of pairs.items) }
+    requires square { IsSquare (length ways.old.messages) ways.old.messages }
+    requires empty { AreEmpty (length ways.old.messages) ways.old.messages }
+    requires room { HaveRoom (length ways.old.messages) ways.old.rooms (links_of pairs.items) }
+    ensures messages { AreDraining (length ways.old.messages) (links_of pairs.items) [] ways.new.messages }
+    ensures rooms { ways.new.rooms ≡ ways.old.rooms }
 {
-    let mut lists = Vec::with_capacity(alloc, blocks)?;
-    for _block in 0..blocks {
-        lists.push(Vec::new(alloc))?;
+    for pair in pairs {
+        pair.drain(ways);
     }
-    Ok(lists)
 }
 
-/// The ports of all blocks: two rings for each two between which a direction leads.
-fn joined(alloc: Global, rows: &Vec<Vec<bool>>, ring: usize) -> Result<Vec<Vec<Port>>, AllocError>
-    requires square { AreSquare (length rows.now.items) (map (λ row. row.items) rows.now.items) }
-    requires few { length rows.now.items < 2 ^ 32 }
-    ensures { IfOk result (λ lists. let blocks = length rows.now.items in
-        AreBegun ring blocks blocks (blocks + 1) (map (λ row. row.items) rows.now.items)
-        (map (λ l. l.items) lists.items)) }
-{
-    let mut lists = unjoined(alloc, rows.len())?;
-    for b in 0..rows.len() as u32 {
-        join_row(alloc, rows, &mut lists, b, ring)?;
+impl Rings {
+    /// The rings that these ports are the ends of: of each block its ports to others, by rising numbers of
+    /// the others. `room` is an empty list with room for half as many pairs as there are ports. Takes no
+    /// memory.
+    ///
+    /// Takes time linear in the numbers of blocks and of ports.
+    pub(crate) fn pair(lists: Vec<Vec<Port>>, room: Vec<Pair>) -> Rings
+        requires mated { AreMated (length lists.items) (map (λ l. l.items) lists.items) }
+        requires empty { vec_len room ≡ 0 }
+        requires room { ports_in (map (λ l. l.items) lists.items) ≤ 2 * vec_capacity room }
+        ensures blocks { result.blocks ≡ length lists.items }
+        ensures sent { (b c : ℕ) → sent_in result b c ≡ sent (map (λ l. l.items) lists.items) b c }
+        ensures taken { (b c : ℕ) → taken_in result b c ≡ taken (map (λ l. l.items) lists.items) b c }
+        ensures room { (b c : ℕ) → room_in result b c ≡ room_to (map (λ l. l.items) lists.items) b c }
+    {
+        let blocks = lists.len();
+        let mut lists = lists;
+        let mut pairs = room;
+        pair_all(&mut lists, &mut pairs);
+        Rings { blocks, pairs }
     }
-    Ok(lists)
-}
 
-/// Ends with these ports, of each block.
-fn ends_of(alloc: Global, lists: Vec<Vec<Port>>, blocks: u32) -> Result<Vec<Ends>, AllocError>
-    requires { (b : _) → AreRising blocks (slice_index_or (map (λ l. l.items) lists.items) b []) }
-    ensures { IfOk result (λ ends. map (λ e. ports e) ends.items ≡ map (λ l. l.items) lists.items) }
-{
-    let mut all = Vec::with_capacity(alloc, lists.len())?;
-    for list in lists {
-        all.push(Ends::new(alloc, list, blocks)?)?;
+    /// Looks at what is left in the rings: what was put is what was taken, followed by that, and no ring has more than
+    /// it has room for. Takes no memory.
+    pub(crate) fn see(&mut self)
+        ensures same { self.new ≡ self.old }
+        ensures left { (left : _) × AreLeft self.old.blocks (sent_in self.old) (taken_in self.old) left }
+        ensures within { AreWithin self.old }
+    {
+        see_all(&mut self.pairs);
     }
-    Ok(all)
-}
 
-/// Of each block the ends of its rings to the others: for each two blocks between which a direction leads two
-/// rings, one each way, with room for `ring` letters each. Directions to no block of these are passed over.
-/// The only error is that memory runs out.
-///
-/// Takes time linear in the number of directions between blocks and in the square of that of the blocks.
-pub fn join_all(alloc: Global, cells: &[Cells], ring: usize) -> Result<Vec<Ends>, AllocError>
-    requires { length cells.now < 2 ^ 32 }
-    ensures { IfOk result (λ ends. AreJoined ring cells.now (map (λ e. ports e) ends.items)) }
-{
-    let rows = all_scanned(alloc, cells)?;
-    let lists = joined(alloc, &rows, ring)?;
-    let ends = ends_of(alloc, lists, cells.len() as u32)?;
-    Ok(ends)
+    /// What is left in the rings goes to the ways, which are empty and have room for it: on each way no more messages
+    /// than the ring had room for. Takes no memory.
+    pub(crate) fn drain(mut self, ways: &mut Mail)
+        requires square { IsSquare self.blocks ways.old.messages }
+        requires empty { AreEmpty self.blocks ways.old.messages }
+        requires room { (left : _) → AreLeft self.blocks (sent_in self) (taken_in self) left
+            → AreFitting self.blocks ways.old.rooms left }
+        ensures left { AreLeft self.blocks (sent_in self) (taken_in self) ways.new.messages }
+        ensures few { HaveRoomFor self.blocks (room_in self) ways.new.messages }
+        ensures rooms { ways.new.rooms ≡ ways.old.rooms }
+    {
+        self.see();
+        drain_all(self.pairs, ways);
+    }
 }

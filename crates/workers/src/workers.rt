@@ -5,7 +5,7 @@ use crate::Lent;
 use cost_store::DataCost;
 use flow_network::Net;
 use moves::{How, SolveError};
-use parallel_cut::{ParallelError, side_parallel};
+use rounds::{ParallelError, side_parallel};
 use std::alloc::{AllocError, Global};
 use std::sync::Wait;
 use std::thread::Threads;

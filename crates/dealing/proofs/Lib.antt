@@ -1,5 +1,0 @@
-pub mod Dealing
-pub mod Filling
-pub mod Seats
-pub mod Gathering
-pub mod Coming

@@ -1,5 +1,0 @@
-use Rattle.dealing.proofs.Coming as coming
-use Rattle.dealing.proofs.laws.hands_come_back.Goals as goal
-
-pub returns : goal.returns
-returns c = coming.hands_come_back

@@ -1,5 +1,0 @@
-use Rattle.dealing.proofs.Coming as coming
-use Rattle.dealing.proofs.laws.seats_are_worked.Goals as goal
-
-pub returns : goal.returns
-returns c = coming.seats_are_worked

@@ -1,8 +1,0 @@
-use Rattle.std.proofs.Common.{rules}
-use Rattle.parallel_cut.proofs.solver.check.Goals as goal
-
-pub returns-in-Err-clause-refused : goal.returns-in-Err-clause-refused
-returns-in-Err-clause-refused c = search rules
-
-pub returns-clause-accepted : goal.returns-clause-accepted
-returns-clause-accepted c = search rules

@@ -1,7 +1,0 @@
-use Rattle.std.proofs.Common.{◌≡◌}
-use Rattle.parcel.specs.Events.{IsQuiet}
-use Rattle.global_relabel.specs.Workspaces.{Serves}
-use Rattle.parallel_cut.proofs.solver.rounds.Given as goal
-
-abbrev pub invariant-rounds : goal.invariant-rounds
-invariant-rounds g l = IsQuiet l.state × (l.state.net ≡ l.fn.state.net) × Serves l.state.net l.workspace

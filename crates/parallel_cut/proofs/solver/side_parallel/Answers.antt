@@ -1,5 +1,0 @@
-use Rattle.std.proofs.Common.{rules}
-use Rattle.parallel_cut.proofs.solver.side_parallel.Goals as goal
-
-pub returns-clause-smallest : goal.returns-clause-smallest
-returns-clause-smallest g c = search rules

@@ -1,9 +1,0 @@
--- What is known after rounds.
-use Rattle.std.specs.Prelude.{IsTrue}
-use Rattle.parcel.specs.Soundness.{IsFinished}
-use Rattle.parcel.specs.Reach.{AreExact}
-use Rattle.parallel_cut.specs.declared.ended.Ended.{Ended}
-
--- where the state is told to be finished it is, and the labels at hand are the exact ones
-abbrev pub IsEnded : Ended → Type 0
-IsEnded e = IsTrue e.is_finished → IsFinished e.state × AreExact e.state e.workspace.labels.items

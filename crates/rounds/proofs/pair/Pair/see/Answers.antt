@@ -1,0 +1,18 @@
+use Rattle.std.proofs.Common.{◌≡◌, ◌≤◌, ◌++◌, length, sym, ◌∙◌, ap, arith}
+use Rattle.block_rings.specs.Ports.{put, taken, waiting, capacity}
+use Rattle.rounds.proofs.Leaving.{letters_few, letters_split}
+use Rattle.rounds.proofs.pair.Pair.see.Goals as goal
+
+pub returns-clause-seen : goal.returns-clause-seen
+returns-clause-seen c =
+    let old = c.args.self.now in
+    let one = c.see_left.ensures in
+    let two = c.see_left-2.ensures in
+    let back : put old.second ≡ taken old.first ++ waiting c.see_left-2.new.to = sym one.to.put ∙ (two.left ∙ ap (λ t. t ++ waiting c.see_left-2.new.to) one.from.taken) in
+    let few : length (waiting c.see_left-2.new.to) ≤ capacity old.second = omega (arith, two.count, two.room, one.to.same.to_ring.1) in
+    record {
+      few_down = letters_few (put old.first) (taken old.second) (waiting c.see_left.new.to) (capacity old.first) one.left (omega (arith, one.count, one.room));
+      few_up = letters_few (put old.second) (taken old.first) (waiting c.see_left-2.new.to) (capacity old.second) back few;
+      down = letters_split (put old.first) (taken old.second) (waiting c.see_left.new.to) one.left;
+      up = letters_split (put old.second) (taken old.first) (waiting c.see_left-2.new.to) back;
+    }

@@ -1,0 +1,39 @@
+use Rattle.std.proofs.Common.{◌≡◌, ◌+◌, length, refl, ◌∙◌, ap, arith}
+use Rattle.std.proofs.lemmas.Grind.{common_steps}
+use Rattle.block_rings.specs.Ports.{waiting}
+use Rattle.rounds.proofs.Moving.{long_more, kept_more, square_more, left_more, kept_tail, moved_all}
+use Rattle.rounds.proofs.pair.move_left.Goals as goal
+
+pub loop-preserved : goal.loop-preserved
+loop-preserved c =
+    let was = c.loop.invariant in
+    let old = c.loop.ways.messages in
+    let new = c.put.new.self.messages in
+    let m = c.take.result.message in
+    let front = c.take.ensures.taken.waiting in
+    let low_b = c.requires.first in
+    let low_c = c.requires.second in
+    let put = c.put.ensures.messages in
+    let first = c.args.ways.now.messages in
+    let shorter : length (waiting c.loop.to) ≡ length (waiting c.take.new.self) + 1 = (let e = ap length front in omega (arith, e)) in
+    let longer = long_more first old new c.args.b c.args.c m was.square low_b low_c put in
+    record {
+      kept = kept_more first old new c.args.b c.args.c m was.square low_b low_c put was.kept;
+      rooms = c.put.ensures.rooms ∙ was.rooms;
+      square = square_more first old new c.args.b c.args.c m was.square low_b low_c put;
+      left = left_more first old new c.args.b c.args.c m was.square low_b low_c put c.take.result _ _ _ front refl was.left;
+      rest = (let before = was.rest in omega (arith, before, shorter));
+      room = (let before = was.room in let rooms = c.put.ensures.rooms in grind (arith, common_steps));
+      arcs = kept_tail c.take.result _ _ front was.arcs;
+      same = grind (arith, common_steps);
+      put = c.take.ensures.taken.put ∙ was.put;
+    }
+
+pub returns-clause-messages : goal.returns-clause-messages
+returns-clause-messages c =
+    let was = c.loop.invariant in
+    let rest = was.rest in
+    let count = c.see_left-count.ensures.count in
+    let done = c.loop-test.false in
+    let none : length (waiting c.loop.to) ≡ 0 = omega (arith, rest, count, done) in
+    moved_all c.args.ways.now.messages c.loop.ways.messages c.args.b c.args.c (waiting c.loop.to) (waiting c.see_left-count.new.to) _ _ was.kept was.left none c.see_left-count.ensures.left

@@ -1,0 +1,22 @@
+-- Why no cut was found.
+use Rattle.std.specs.Prelude.{◌≤◌, length}
+use Rattle.flow_network.specs.Cut.{Network}
+use Rattle.block_net.specs.Limits.{arc_limit}
+use Rattle.rounds.specs.declared.round_error.RoundError.{RoundError}
+use Rattle.rounds.specs.declared.round_error.RoundError.TheVariants as round
+use Rattle.worker_options.specs.declared.options.Options.{Options}
+use Rattle.worker_options.specs.Ranges.{AreInRange}
+use Rattle.rounds.specs.declared.parallel_error.ParallelError.{ParallelError}
+use Rattle.rounds.specs.declared.parallel_error.ParallelError.TheVariants.{BadOptions, OutOfMemory, Workers}
+
+-- why no round came about, as the solver tells it
+abbrev pub of_round : RoundError → ParallelError
+of_round round.OutOfMemory = OutOfMemory
+of_round round.Workers = Workers
+
+-- what may be refused: the options exactly where a number is out of its range, and else memory; a worker only where
+-- a round is allowed and the net is not too large for blocks
+abbrev pub IsRefusal : Network → Options → ParallelError → Type 0
+IsRefusal net options BadOptions = ¬ AreInRange options
+IsRefusal net options OutOfMemory = AreInRange options
+IsRefusal net options Workers = AreInRange options × (1 ≤ options.rounds) × (length net.arcs ≤ arc_limit)

@@ -1,0 +1,36 @@
+-- The pieces of a state, before a round and after it.
+use Rattle.std.specs.Prelude.{◌≡◌, ℕ, ◌+◌, ◌*◌, ◌<◌, ◌≤◌, List, length}
+use Rattle.sums.specs.Sums.{sum_below}
+use Rattle.flow_network.specs.Cut.{Network}
+use Rattle.parcel.specs.States.{State}
+use Rattle.block_net.specs.Views.{BlockView, count}
+use Rattle.block_net.specs.Whole.{Whole, block_at}
+use Rattle.block_net.specs.declared.parts.Parts.{Parts}
+use Rattle.block_core.specs.Views.{IsLaid, whole_in, blocks_in, state_of}
+use Rattle.seat_laws.specs.Rounds.{Ways, AreBack, lacking}
+use Rattle.rounds.specs.Links.{RingsView, sent_in, taken_in}
+use Rattle.rounds.specs.Left.{AreLeft}
+
+-- the blocks with their places
+abbrev pub whole_with : Network → Parts → Whole
+whole_with net parts = whole_in net parts.firsts.items parts.slots.items parts.blocks.items
+
+-- the state that they show with the messages on the way: the sink got what the rooms lack
+abbrev pub state_with : Network → Parts → Ways → State
+state_with net parts ways = state_of (blocks_in (whole_with net parts)) ways (lacking (whole_with net parts))
+
+-- the blocks are back, each after turn 0 and so many turns that it drew: a turn has at most 16 events more
+-- than the block has nodes
+pub record AreBackAfter (drawn : ℕ → ℕ) (w : Whole) (got : ℕ) (new : List BlockView) (left : Ways)
+    : Type 0 where
+  pub back : AreBack w got new left
+  pub few : (b : ℕ) → b < length w.blocks → back.steps b ≤ (drawn b + 1) * (count (block_at w b) + 16)
+
+-- the blocks worked and drew at most so many turns, and what they left is in the rings: with it on the way
+-- they are back
+pub record HaveRun (turns : ℕ) (old new : List BlockView) (rings : RingsView) : Type 0 where
+  pub blocks : rings.blocks ≡ length old
+  pub drawn : ℕ → ℕ
+  pub few : sum_below (length old) drawn ≤ turns
+  pub back : (w : Whole) (got : ℕ) (left : Ways) → w.blocks ≡ old → IsLaid w
+      → AreLeft rings.blocks (sent_in rings) (taken_in rings) left → AreBackAfter drawn w got new left

@@ -1,0 +1,108 @@
+ghost use Rattle.std.specs.Prelude.{◌≡◌, ◌+◌, ◌^◌, ◌<◌, [], IfOk, OnOk, length, map};
+ghost use Rattle.std.specs.Prelude.{replicate, vec_len, slice_index_or};
+ghost use Rattle.block_workers.specs.Ends.{ports};
+ghost use Rattle.block_workers.specs.Seeing.{AreRising};
+ghost use Rattle.rounds.specs.Joined.{AreJoined};
+ghost use Rattle.rounds.specs.Joining.{AreBegun, AreSquare, HasPair};
+
+use crate::flags::{all_scanned, are_linked};
+use block_net::Cells;
+use block_rings::{Port, join_blocks};
+use block_workers::Ends;
+use std::alloc::{AllocError, Global};
+
+/// Two blocks get rings to one another: each a port more. The only error is that memory runs out.
+fn join_two(
+    alloc: Global,
+    lists: &mut Vec<Vec<Port>>,
+    b: u32,
+    c: u32,
+    ring: usize,
+) -> Result<(), AllocError>
+    requires order { b < c }
+    requires blocks { c < vec_len lists.old }
+    ensures { OnOk result (HasPair ring b c (map (λ l. l.items) lists.old.items)
+        (map (λ l. l.items) lists.new.items)) }
+{
+    let (first, second) = join_blocks(alloc, b, c, ring)?;
+    lists[b as usize].push(first)?;
+    lists[c as usize].push(second)?;
+    Ok(())
+}
+
+/// Block b gets rings to those blocks after it to which or from which a direction of it leads.
+fn join_row(
+    alloc: Global,
+    rows: &Vec<Vec<bool>>,
+    lists: &mut Vec<Vec<Port>>,
+    b: u32,
+    ring: usize,
+) -> Result<(), AllocError>
+    requires square { AreSquare (length rows.now.items) (map (λ row. row.items) rows.now.items) }
+    requires few { length rows.now.items < 2 ^ 32 }
+    requires block { b < length rows.now.items }
+    requires begun { AreBegun ring (length rows.now.items) b (b + 1) (map (λ row. row.items) rows.now.items)
+        (map (λ l. l.items) lists.old.items) }
+    ensures { OnOk result (AreBegun ring (length rows.now.items) (b + 1) (b + 2)
+        (map (λ row. row.items) rows.now.items) (map (λ l. l.items) lists.new.items)) }
+{
+    for c in b + 1..rows.len() as u32 {
+        if are_linked(rows, b as usize, c as usize) {
+            join_two(alloc, lists, b, c, ring)?;
+        }
+    }
+    Ok(())
+}
+
+/// So many blocks with no port.
+fn unjoined(alloc: Global, blocks: usize) -> Result<Vec<Vec<Port>>, AllocError>
+    ensures { IfOk result (λ lists. map (λ l. l.items) lists.items ≡ replicate blocks []) }
+{
+    let mut lists = Vec::with_capacity(alloc, blocks)?;
+    for _block in 0..blocks {
+        lists.push(Vec::new(alloc))?;
+    }
+    Ok(lists)
+}
+
+/// The ports of all blocks: two rings for each two between which a direction leads.
+fn joined(alloc: Global, rows: &Vec<Vec<bool>>, ring: usize) -> Result<Vec<Vec<Port>>, AllocError>
+    requires square { AreSquare (length rows.now.items) (map (λ row. row.items) rows.now.items) }
+    requires few { length rows.now.items < 2 ^ 32 }
+    ensures { IfOk result (λ lists. let blocks = length rows.now.items in
+        AreBegun ring blocks blocks (blocks + 1) (map (λ row. row.items) rows.now.items)
+        (map (λ l. l.items) lists.items)) }
+{
+    let mut lists = unjoined(alloc, rows.len())?;
+    for b in 0..rows.len() as u32 {
+        join_row(alloc, rows, &mut lists, b, ring)?;
+    }
+    Ok(lists)
+}
+
+/// Ends with these ports, of each block.
+fn ends_of(alloc: Global, lists: Vec<Vec<Port>>, blocks: u32) -> Result<Vec<Ends>, AllocError>
+    requires { (b : _) → AreRising blocks (slice_index_or (map (λ l. l.items) lists.items) b []) }
+    ensures { IfOk result (λ ends. map (λ e. ports e) ends.items ≡ map (λ l. l.items) lists.items) }
+{
+    let mut all = Vec::with_capacity(alloc, lists.len())?;
+    for list in lists {
+        all.push(Ends::new(alloc, list, blocks)?)?;
+    }
+    Ok(all)
+}
+
+/// Of each block the ends of its rings to the others: for each two blocks between which a direction leads two
+/// rings, one each way, with room for `ring` letters each. Directions to no block of these are passed over.
+/// The only error is that memory runs out.
+///
+/// Takes time linear in the number of directions between blocks and in the square of that of the blocks.
+pub fn join_all(alloc: Global, cells: &[Cells], ring: usize) -> Result<Vec<Ends>, AllocError>
+    requires { length cells.now < 2 ^ 32 }
+    ensures { IfOk result (λ ends. AreJoined ring cells.now (map (λ e. ports e) ends.items)) }
+{
+    let rows = all_scanned(alloc, cells)?;
+    let lists = joined(alloc, &rows, ring)?;
+    let ends = ends_of(alloc, lists, cells.len() as u32)?;
+    Ok(ends)
+}

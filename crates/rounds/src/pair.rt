@@ -1,0 +1,73 @@
+ghost use Rattle.std.specs.Prelude.{◌≡◌, ◌+◌, ◌<◌, ◌≤◌, ◌++◌, length};
+ghost use Rattle.parcel.specs.States.{way_at, put_way};
+ghost use Rattle.parcel.specs.Soundness.{IsSquare};
+ghost use Rattle.block_core.specs.Mails.{room_at};
+ghost use Rattle.block_rings.specs.Ports.{IsSamePort, LeadsTo, Looks, put, taken};
+ghost use Rattle.block_workers.specs.Seeing.{messages};
+ghost use Rattle.rounds.specs.Left.{AreKept, rest_of};
+
+use block_core::Mail;
+use block_rings::{Port, see_left};
+
+/// Two blocks' ports to one another: what the one puts the other takes.
+#[derive(Drop)]
+pub(crate) struct Pair {
+    pub(crate) first: Port,
+    pub(crate) second: Port,
+    ghost there: { LeadsTo first second },
+    ghost back: { LeadsTo second first },
+}
+
+/// What is left in the ring from one port to another goes to the end of the way from block b to block c, which
+/// has room. Takes no memory.
+fn move_left(from: &mut Port, to: &mut Port, ways: &mut Mail, b: usize, c: usize)
+    requires joined { LeadsTo from.old to.old }
+    requires square { IsSquare (length ways.old.messages) ways.old.messages }
+    requires first { b < length ways.old.messages }
+    requires second { c < length ways.old.messages }
+    requires room { length (way_at ways.old.messages b c)
+        + length (rest_of (messages (put from.old)) (messages (taken to.old))) ≤ room_at ways.old.rooms b c }
+    requires arcs { AreKept (rest_of (messages (put from.old)) (messages (taken to.old))) }
+    ensures messages { ways.new.messages ≡ put_way ways.old.messages b c (way_at ways.old.messages b c
+        ++ rest_of (messages (put from.old)) (messages (taken to.old))) }
+    ensures rooms { ways.new.rooms ≡ ways.old.rooms }
+    ensures from { Looks from.old from.new }
+    ensures to { IsSamePort to.old to.new }
+    ensures put { put to.new ≡ put to.old }
+{
+    let count = see_left(from, to);
+    for _ in 0..count {
+        ways.put(b, c, to.take().message);
+    }
+}
+
+impl Pair {
+    ghost use Rattle.rounds.specs.Links.{IsSeen, link};
+    ghost use Rattle.rounds.specs.Draining.{IsFitting, drained};
+
+    /// Looks at what is left in both rings. Takes no memory.
+    pub(crate) fn see(&mut self)
+        ensures same { link self.new ≡ link self.old }
+        ensures seen { IsSeen (link self.old) }
+    {
+        see_left(&mut self.first, &mut self.second);
+        see_left(&mut self.second, &mut self.first);
+    }
+
+    /// What is left in both rings goes to the ends of the ways between the two blocks. Takes no memory.
+    pub(crate) fn drain(self, ways: &mut Mail)
+        requires square { IsSquare (length ways.old.messages) ways.old.messages }
+        requires order { (link self).second < (link self).first }
+        requires blocks { (link self).first < length ways.old.messages }
+        requires room { IsFitting ways.old.rooms ways.old.messages (link self) }
+        ensures messages { ways.new.messages ≡ drained (link self) ways.old.messages }
+        ensures rooms { ways.new.rooms ≡ ways.old.rooms }
+    {
+        let mut first = self.first;
+        let mut second = self.second;
+        let b = second.other() as usize;
+        let c = first.other() as usize;
+        move_left(&mut first, &mut second, ways, b, c);
+        move_left(&mut second, &mut first, ways, c, b);
+    }
+}

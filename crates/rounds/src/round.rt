@@ -1,0 +1,113 @@
+ghost use Rattle.std.specs.Prelude.{◌≡◌, ◌<◌, IfOk};
+ghost use Rattle.parcel.specs.Events.{IsQuiet};
+ghost use Rattle.block_core.specs.Views.{IsLaid};
+ghost use Rattle.block_core.specs.Mails.{IsHeld};
+ghost use Rattle.block_core.specs.Pieces.{state_in, whole_within};
+ghost use Rattle.worker_options.specs.Ranges.{AreInRange};
+ghost use Rattle.rounds.specs.Short.{HasFewOnTheWay, IsShortRound};
+
+use crate::RoundError;
+use crate::blocks::run_blocks;
+use crate::together::put_together;
+use block_core::{Pieces, State};
+use block_net::Parts;
+use std::alloc::Global;
+use std::marker::Brand;
+use std::sync::Wait;
+use std::sync::ledger::{Blank, Ledger};
+use std::thread::Threads;
+use turn_book::{Job, Ledgers};
+use worker_options::{Gate, Options};
+
+/// A round of the blocks of these pieces. Each blank becomes one of the ledgers of the turns.
+fn round_of<J: Job + Sync, R: Threads + Wait + Sync, G: Gate>(
+    rt: &R,
+    alloc: Global,
+    pieces: Pieces,
+    options: &Options,
+    gate: &G,
+    budget: Blank,
+    drawn: Blank,
+) -> Result<State, RoundError>
+    requires laid { IsLaid (whole_within pieces) }
+    requires held { IsHeld pieces.ways.rooms (state_in pieces) }
+    requires quiet { IsQuiet (state_in pieces) }
+    requires options { AreInRange options.now }
+    requires budget { (budget.name ≡ J.Budget.name) × (budget.parts ≡ J.Budget.parts) }
+    requires parts { 0 < budget.parts }
+    requires drawn { (drawn.name ≡ J.Drawn.name) × (drawn.parts ≡ J.Drawn.parts) }
+    requires threads { drawn.parts ≡ options.now.threads }
+    ensures round { IfOk result (λ new. IsShortRound options.now.turns (state_in pieces) new) }
+    ensures left { IfOk result (λ new. HasFewOnTheWay options.now.ring new) }
+{
+    let Pieces {
+        net,
+        parts,
+        mut ways,
+        got: _,
+    } = pieces;
+    let Parts {
+        blocks,
+        firsts,
+        slots,
+    } = parts;
+    let came = run_blocks::<J, R, G>(rt, alloc, blocks, options, gate, budget, drawn)?;
+    came.rings.drain(&mut ways);
+    let parts = Parts {
+        blocks: came.blocks,
+        firsts,
+        slots,
+    };
+    Ok(put_together(net, parts, ways))
+}
+
+/// The same with a ledger for each of the two blanks.
+fn round_with<B: Ledger + Send + Sync, D: Ledger + Send + Sync, R: Threads + Wait + Sync, G: Gate>(
+    rt: &R,
+    alloc: Global,
+    pieces: Pieces,
+    options: &Options,
+    gate: &G,
+    budget: Blank,
+    drawn: Blank,
+) -> Result<State, RoundError>
+    requires laid { IsLaid (whole_within pieces) }
+    requires held { IsHeld pieces.ways.rooms (state_in pieces) }
+    requires quiet { IsQuiet (state_in pieces) }
+    requires options { AreInRange options.now }
+    requires budget { (budget.name ≡ B.name) × (budget.parts ≡ B.parts) }
+    requires parts { 0 < budget.parts }
+    requires drawn { (drawn.name ≡ D.name) × (drawn.parts ≡ D.parts) }
+    requires threads { drawn.parts ≡ options.now.threads }
+    ensures round { IfOk result (λ new. IsShortRound options.now.turns (state_in pieces) new) }
+    ensures left { IfOk result (λ new. HasFewOnTheWay options.now.ring new) }
+{
+    round_of::<Ledgers<B, D>, R, G>(rt, alloc, pieces, options, gate, budget, drawn)
+}
+
+/// A round from a state with no message on the way: each block is moved to one of the workers, does turns
+/// there, and comes back, and what is left in the rings between blocks goes to the ways. Whatever the schedule
+/// is, what each block did is a list of its own enabled events, and a block that could do something without
+/// taking a message did something. All lists together have at most (blocks + turns) * (m + 16) events, where
+/// no block has more than m nodes and `turns` is the number of turns in the options, and no more than `ring` messages
+/// are left on the way from one block to another. No clause says in how many threads the turns are done. `blocks` and
+/// `rounds` of the options are not looked at: the state is in blocks already, and this is one round.
+///
+/// All growths come before the first worker starts. Where a round does not come about, the state is lost.
+pub fn run_round<R: Threads + Wait + Sync, G: Gate>(
+    rt: &R,
+    alloc: Global,
+    state: State,
+    options: &Options,
+    gate: &G,
+) -> Result<State, RoundError>
+    requires quiet { IsQuiet state }
+    requires options { AreInRange options.now }
+    ensures round { IfOk result (λ new. IsShortRound options.now.turns state new) }
+    ensures left { IfOk result (λ new. HasFewOnTheWay options.now.ring new) }
+{
+    let budget = Blank::new(1);
+    let drawn = Blank::new(options.threads as u64);
+    let pieces = state.into_pieces();
+    round_with::<Brand, Brand, R, G>(rt, alloc, pieces, options, gate, budget, drawn)
+}

@@ -1,0 +1,69 @@
+ghost use Rattle.std.specs.Prelude.{◌≡◌, ◌<◌, ◌≤◌, ◌^◌, IfOk, map, vec_capacity, vec_len};
+ghost use Rattle.flow_network.specs.Limits.{node_limit};
+ghost use Rattle.block_net.specs.Views.{count};
+ghost use Rattle.block_workers.specs.Ends.{ports};
+ghost use Rattle.block_workers.specs.Turns.{IsNewSeat};
+ghost use Rattle.rounds.specs.Seated.{AreSeated, AreSmall, blocks_of, ends_of, ports_of};
+
+use block_net::Cells;
+use block_rings::Port;
+use block_workers::{Ends, Seat};
+use discharge::Block;
+use std::alloc::{AllocError, Global};
+
+/// A round makes one new label for so many nodes, and each block its part of them. In a round no labels become exact,
+/// and what was cut off from the sink in it climbs by new labels that are done in vain.
+const NODES_A_RISE: usize = 4;
+
+/// A block before its first turn, with its ends. Its turns together make one new label for `NODES_A_RISE` of its nodes,
+/// the first of them as many as they can: then a turn takes its messages and does one event.
+fn seat_of(alloc: Global, number: u32, cells: Cells, ends: Ends) -> Result<Seat, AllocError>
+    requires { count cells ≤ node_limit }
+    ensures { IfOk result (λ seat. IsNewSeat number cells ends seat) }
+{
+    let nodes = cells.len() as u32;
+    let rises = cells.len() / NODES_A_RISE;
+    let block = Block::with_order(alloc, cells, Vec::new(alloc), usize::MAX, rises)?;
+    Ok(Seat::new(number, block, nodes, ends))
+}
+
+/// The blocks before their first turn, each with its ends. The only error is that memory runs out.
+pub(crate) fn seats_of(
+    alloc: Global,
+    blocks: Vec<Cells>,
+    ends: Vec<Ends>,
+) -> Result<Vec<Seat>, AllocError>
+    requires many { vec_len ends ≡ vec_len blocks }
+    requires few { vec_len blocks < 2 ^ 32 }
+    requires small { AreSmall blocks.items }
+    ensures { IfOk result (λ seats. AreSeated blocks.items ends.items seats.items) }
+{
+    let count = blocks.len();
+    let mut seats = Vec::with_capacity(alloc, count)?;
+    let mut rest = ends.into_iter();
+    let mut number = 0;
+    for cells in blocks {
+        let Some(ends) = rest.next() else {
+            unreachable!()
+        };
+        seats.push_reserved(seat_of(alloc, number, cells, ends)?);
+        number += 1;
+    }
+    Ok(seats)
+}
+
+/// The blocks of seats, and of each block the ports. Both go into room that was made before.
+pub(crate) fn apart(seats: Vec<Seat>, blocks: &mut Vec<Cells>, lists: &mut Vec<Vec<Port>>)
+    requires no_block { vec_len blocks.old ≡ 0 }
+    requires no_list { vec_len lists.old ≡ 0 }
+    requires blocks { vec_len seats ≤ vec_capacity blocks.old }
+    requires lists { vec_len seats ≤ vec_capacity lists.old }
+    ensures blocks { blocks.new.items ≡ blocks_of seats.items }
+    ensures lists { map (λ l. l.items) lists.new.items ≡ ports_of (ends_of seats.items) }
+{
+    for seat in seats {
+        let (block, ends) = seat.into_parts();
+        blocks.push_reserved(block.into_cells());
+        lists.push_reserved(ends.into_ports());
+    }
+}

@@ -1,0 +1,25 @@
+ghost use Rattle.std.specs.Prelude.{◌≡◌};
+ghost use Rattle.block_core.specs.Views.{IsLaid};
+ghost use Rattle.block_core.specs.Mails.{IsHeld};
+ghost use Rattle.rounds.specs.Together.{state_with, whole_with};
+
+use block_core::{Mail, Pieces, State};
+use block_net::Parts;
+use flow_network::Net;
+
+/// The state that the blocks show with the messages on the way. What the sink got is what the rooms lack.
+/// Takes no memory.
+pub(crate) fn put_together(net: Net, parts: Parts, ways: Mail) -> State
+    requires laid { IsLaid (whole_with net parts) }
+    requires held { IsHeld ways.rooms (state_with net parts ways.messages) }
+    ensures { result ≡ state_with net parts ways.messages }
+{
+    let mut pieces = Pieces {
+        net,
+        parts,
+        ways,
+        got: 0,
+    };
+    pieces.got = pieces.given();
+    pieces.into_state()
+}

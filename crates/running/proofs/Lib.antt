@@ -1,9 +1,0 @@
-pub mod Seating
-pub mod Looks
-pub mod Borders
-pub mod Room
-pub mod Backs
-pub mod Fits
-pub mod Counts
-pub mod Rounded
-pub mod Runs

@@ -1,4 +1,0 @@
-pub mod Faults
-pub mod Seated
-pub mod Together
-pub mod Short
