@@ -1,0 +1,127 @@
+-- Functions of which some variables are fixed.
+use Rattle.std.proofs.Common.{◌≡◌, ◌<◌, ◌⊎◌, ℕ, Bool, true, false, ℤ, ◌+ℤ◌, ◌-ℤ◌, ◌≤ℤ◌, refl, sym, ap, ◌∙◌, inl, inr, arith, ◌||◌}
+use Rattle.std.proofs.lemmas.Int.{ints}
+use Rattle.std.proofs.lemmas.Bool.{cases_eq}
+use Rattle.move_energy.specs.declared.choice.Choice.{Choice}
+use Rattle.move_energy.specs.declared.choice.Choice.TheVariants.{Open, Zero, One}
+use Rattle.move_energy.specs.Choices.{bit_of}
+use Rattle.deciding.specs.Decisions.{set_bit, rise, OnesWithin, IsSubmodular, IsOver, IsSmallestLeast}
+use Rattle.deciding.proofs.Putting.{set_at, set_other, value_same}
+use Rattle.stages.specs.Fixing.{fixed, fixed_value, HasZeros, HasOnes, LiesWithin}
+use Rattle.stages.proofs.Lattice.{both, either, both_second, both_and_either}
+
+bit_grows : (c : Choice) (a b : Bool) → (a ≡ true → b ≡ true) → bit_of c a ≡ true → bit_of c b ≡ true
+bit_grows Open a b within h = within h
+bit_grows Zero a b within h = h
+bit_grows One a b within h = h
+
+fixed_within : (choice : ℕ → Choice) (x y : ℕ → Bool) → OnesWithin x y → OnesWithin (fixed choice x) (fixed choice y)
+fixed_within choice x y within k = bit_grows (choice k) (x k) (y k) (within k)
+
+-- a variable set before the others are fixed: set after it where it is open, else nothing
+set_open : (choice : ℕ → Choice) (x : ℕ → Bool) (i : ℕ) (b : Bool) → choice i ≡ Open → (k : ℕ)
+    → fixed choice (set_bit x i b) k ≡ set_bit (fixed choice x) i b k
+set_open choice x i b opened k = elim (cases_eq k i) [
+  | inl same ↦
+      ap (bit_of (choice k)) (set_at x i k b same) ∙ ap (λ j. bit_of (choice j) b) same ∙ ap (λ (c : Choice). bit_of c b) opened
+      ∙ sym (set_at (fixed choice x) i k b same)
+  | inr other ↦ ap (bit_of (choice k)) (set_other x i k b other) ∙ sym (set_other (fixed choice x) i k b other)
+]
+
+set_shut : (choice : ℕ → Choice) (x : ℕ → Bool) (i : ℕ) (b : Bool) → ((a c : Bool) → bit_of (choice i) a ≡ bit_of (choice i) c) → (k : ℕ)
+    → fixed choice (set_bit x i b) k ≡ fixed choice x k
+set_shut choice x i b shut k = elim (cases_eq k i) [
+  | inl same ↦
+      ap (bit_of (choice k)) (set_at x i k b same) ∙ ap (λ j. bit_of (choice j) b) same ∙ shut b (x i)
+      ∙ ap (λ j. bit_of (choice j) (x j)) (sym same)
+  | inr other ↦ ap (bit_of (choice k)) (set_other x i k b other)
+]
+
+rises_alike : (a b c d e f : ℤ) → a ≡ e → b ≡ e → c ≡ f → d ≡ f → (a -ℤ b) ≤ℤ (c -ℤ d)
+rises_alike a b c d e f h k l n = omega (arith, ints, h, k, l, n)
+
+shut_falls : (E : (ℕ → Bool) → ℤ) (choice : ℕ → Choice) (x y : ℕ → Bool) (i : ℕ) → ((a c : Bool) → bit_of (choice i) a ≡ bit_of (choice i) c)
+    → rise (fixed_value E choice) i y ≤ℤ rise (fixed_value E choice) i x
+shut_falls E choice x y i shut =
+    rises_alike _ _ _ _ (E (fixed choice y)) (E (fixed choice x))
+    (value_same E _ _ (set_shut choice y i true shut)) (value_same E _ _ (set_shut choice y i false shut))
+    (value_same E _ _ (set_shut choice x i true shut)) (value_same E _ _ (set_shut choice x i false shut))
+
+rises_along : (a b c d e f g h : ℤ) → a ≡ e → b ≡ f → c ≡ g → d ≡ h → (e -ℤ f) ≤ℤ (g -ℤ h) → (a -ℤ b) ≤ℤ (c -ℤ d)
+rises_along a b c d e f g h p q r s le = omega (arith, ints, p, q, r, s, le)
+
+open_falls : (E : (ℕ → Bool) → ℤ) (choice : ℕ → Choice) (x y : ℕ → Bool) (i : ℕ) → IsSubmodular E → OnesWithin x y → choice i ≡ Open
+    → rise (fixed_value E choice) i y ≤ℤ rise (fixed_value E choice) i x
+open_falls E choice x y i falls within opened =
+    rises_along _ _ _ _ _ _ _ _
+    (value_same E _ _ (set_open choice y i true opened)) (value_same E _ _ (set_open choice y i false opened))
+    (value_same E _ _ (set_open choice x i true opened)) (value_same E _ _ (set_open choice x i false opened))
+    (falls (fixed choice x) (fixed choice y) i (fixed_within choice x y within))
+
+cases_choice : (c : Choice) → (c ≡ Open) ⊎ ((a b : Bool) → bit_of c a ≡ bit_of c b)
+cases_choice Open = inl refl
+cases_choice Zero = inr (λ a b. refl)
+cases_choice One = inr (λ a b. refl)
+
+pub fixed_falls : (E : (ℕ → Bool) → ℤ) (choice : ℕ → Choice) → IsSubmodular E → IsSubmodular (fixed_value E choice)
+fixed_falls E choice falls x y i within = elim (cases_choice (choice i)) [
+  | inl opened ↦ open_falls E choice x y i falls within opened
+  | inr shut ↦ shut_falls E choice x y i shut
+]
+
+pub fixed_over : (n : ℕ) (E : (ℕ → Bool) → ℤ) (choice : ℕ → Choice) → IsOver n E → IsOver n (fixed_value E choice)
+fixed_over n E choice over x y same = over (fixed choice x) (fixed choice y) (λ k l. ap (bit_of (choice k)) (same k l))
+
+-- ---- the upper bound
+
+-- what is added to the ones by s leaves the fixed values as they are, where the fixed zeros are zeros of s
+joined_fixed : (c : Choice) (a b : Bool) → (c ≡ Zero → a ≡ false) → bit_of c (a || bit_of c b) ≡ (a || bit_of c b)
+joined_fixed Open a b zero = refl
+joined_fixed Zero true b zero = sym (zero refl)
+joined_fixed Zero false b zero = refl
+joined_fixed One true b zero = refl
+joined_fixed One false b zero = refl
+
+not_higher : (a b c d e : ℤ) → (a +ℤ b) ≤ℤ (c +ℤ d) → d ≤ℤ e → e ≡ a → b ≤ℤ c
+not_higher a b c d e h k l = omega (arith, ints, h, k, l)
+
+level : (a b : ℤ) → a ≤ℤ b → b ≤ℤ a → a ≡ b
+level a b h k = omega (arith, ints, h, k)
+
+pub ones_bound : (n : ℕ) (E : (ℕ → Bool) → ℤ) (choice : ℕ → Choice) (s z : ℕ → Bool) → IsSubmodular E → IsOver n E → IsSmallestLeast n E s
+    → HasZeros n choice s → ((y : ℕ → Bool) → fixed_value E choice z ≤ℤ fixed_value E choice y) → LiesWithin n s (fixed choice z)
+ones_bound n E choice s z falls over best zeros least p l one =
+    let t = fixed choice z in
+    let joined = over (fixed choice (either s t)) (either s t) (λ k below. joined_fixed (choice k) (s k) (z k) (zeros k below)) in
+    let lower : E (both s t) ≤ℤ E s = not_higher _ _ _ _ _ (both_and_either n E s t falls over) (least (either s t)) joined in
+    both_second (s p) (t p) (best.smallest (both s t) (level _ _ lower (best.least (both s t))) p l one)
+
+-- ---- what is fixed as in s
+
+fixed_as : (c : Choice) (b : Bool) → (c ≡ Zero → b ≡ false) → (c ≡ One → b ≡ true) → bit_of c b ≡ b
+fixed_as Open b zero one = refl
+fixed_as Zero b zero one = sym (zero refl)
+fixed_as One b zero one = sym (one refl)
+
+ones_as : (c : Choice) (z b : Bool) → (c ≡ One → b ≡ true) → (z ≡ true → b ≡ true) → bit_of c z ≡ true → b ≡ true
+ones_as Open z b one within h = within h
+ones_as Zero z b one within h = absurd (cc (h))
+ones_as One z b one within h = one refl
+
+le_then : (a b c d : ℤ) → a ≤ℤ b → b ≡ c → c ≤ℤ d → a ≤ℤ d
+le_then a b c d h k l = omega (arith, ints, h, k, l)
+
+same_then : (a b c : ℤ) → a ≡ b → c ≤ℤ a → b ≤ℤ c → b ≡ c
+same_then a b c h k l = omega (arith, ints, h, k, l)
+
+pub fixed_as_least : (n : ℕ) (E : (ℕ → Bool) → ℤ) (choice : ℕ → Choice) (s z : ℕ → Bool) → IsOver n E → IsSmallestLeast n E s
+    → HasZeros n choice s → HasOnes n choice s → IsSmallestLeast n (fixed_value E choice) z → IsSmallestLeast n E (fixed choice z)
+fixed_as_least n E choice s z over best zeros ones least =
+    let own : E (fixed choice s) ≡ E s = over (fixed choice s) s (λ k l. fixed_as (choice k) (s k) (zeros k l) (ones k l)) in
+    let level_s : E s ≡ E (fixed choice z) = level (E s) (E (fixed choice z)) (best.least (fixed choice z)) (le_then _ _ _ _ (least.least s) own (best.least s)) in
+    let within : (k : ℕ) → k < n → fixed choice z k ≡ true → s k ≡ true =
+    λ k l. ones_as (choice k) (z k) (s k) (ones k l) (least.smallest s (own ∙ level_s) k l) in
+    record {
+      least = λ y. le_then _ _ _ _ (least.least s) own (best.least y);
+      smallest = λ y same k l one. best.smallest y (same ∙ sym level_s) k l (within k l one);
+    }

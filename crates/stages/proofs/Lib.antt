@@ -1,0 +1,5 @@
+pub mod Lattice
+pub mod Fixing
+pub mod Parts
+pub mod Ending
+pub mod Existing
