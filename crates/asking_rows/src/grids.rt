@@ -2,9 +2,9 @@
 ghost use Rattle.std.specs.Prelude.{◌≤◌, ◌<◌, ◌+◌, ◌*◌, ◌≤ℤ◌, pos};
 
 use crate::pictures::TWO;
-use cost_store::{DataCost, SmoothCost};
+use cost_store::{DataCost, Problem, SmoothCost};
 use label_field::{Labelling, Pairs};
-use moves::{Alone, Ended, How, MoveError, Problem};
+use moves::{Alone, Ended, How, MoveError, expand, run_expansion};
 use std::alloc::Global;
 use std::sync::Wait;
 use std::test::Fail;
@@ -43,8 +43,8 @@ fn expanded<H: How>(alloc: Global, how: &H) -> Result<(bool, Ended, Vec<u8>), Mo
         label_costs: None,
     };
     let mut labelling = Labelling::new(alloc, 9, 3)?;
-    let changed = problem.expand(alloc, &mut labelling, 1, how)?;
-    let ended = problem.run_expansion(alloc, &mut labelling, 10, how)?;
+    let changed = expand(alloc, &problem, &mut labelling, 1, how)?;
+    let ended = run_expansion(alloc, &problem, &mut labelling, 10, how)?;
     let labels = Vec::from_slice(alloc, labelling.as_slice())?;
     Ok((changed, ended, labels))
 }

@@ -1,7 +1,8 @@
 //! A picture restored by workers.
 use byte_streams::Watched;
 use image_options::{Neighbours, RestoreOptions};
-use run_options::{Moves, Shape};
+use labellings::Moves;
+use run_options::Shape;
 use std::alloc::{AllocError, Global};
 use std::io;
 use std::io::Write;

@@ -3,10 +3,10 @@ ghost use Rattle.std.specs.Prelude.{◌≤◌, ◌<◌, ◌+◌, ◌*◌, ◌≤
 
 use crate::pictures::{Kept, RESTORE};
 use byte_streams::Watched;
-use cost_store::{DataCost, SmoothCost};
+use cost_store::{DataCost, Problem, SmoothCost};
 use flow_network::Net;
 use label_field::{Labelling, Pairs};
-use moves::{Alone, Ended, How, MoveError, Problem, SolveError};
+use moves::{Alone, Ended, How, MoveError, SolveError, run_expansion};
 use std::alloc::Global;
 use std::process::Abort;
 use std::sync::atomic::{AtomicU32, Ordering};
@@ -102,7 +102,7 @@ fn labelled<H: How>(
         label_costs: None,
     };
     let mut labelling = Labelling::new(alloc, 3, 3)?;
-    let ended = problem.run_expansion(alloc, &mut labelling, 10, how);
+    let ended = run_expansion(alloc, &problem, &mut labelling, 10, how);
     let labels = Vec::from_slice(alloc, labelling.as_slice())?;
     Ok((ended, labels))
 }

@@ -9,9 +9,10 @@ ghost use Rattle.labellings.specs.Chains.{expansions};
 ghost use Rattle.moves.specs.Problems.{IsRun};
 ghost use Rattle.calling_labels.specs.Problems.{potts, problem_of};
 
-use cost_store::{DataCost, SmoothCost};
+use cost_store::{DataCost, Problem, SmoothCost};
 use label_field::{Labelling, Pairs};
-use moves::{Alone, Ended, MoveError, Problem, settled_run_is_near};
+use moves::laws::metric_has_regular_pairs;
+use moves::{Alone, Ended, MoveError, run_expansion, settled_run_is_near};
 use std::alloc::Global;
 
 /// The columns and rows of the picture, and its grey levels.
@@ -62,7 +63,8 @@ fn restore(alloc: Global, samples: &[u8], cycles: u32) -> Result<Restored, MoveE
         label_costs: None,
     };
     let mut labelling = Labelling::new(alloc, WIDTH * HEIGHT, LEVELS)?;
-    let ended = problem.run_expansion(alloc, &mut labelling, cycles, &Alone)?;
+    metric_has_regular_pairs();
+    let ended = run_expansion(alloc, &problem, &mut labelling, cycles, &Alone)?;
     let energy = problem.energy(&labelling);
     settled_run_is_near();
     Ok(Restored {

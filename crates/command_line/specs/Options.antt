@@ -11,8 +11,9 @@ use Rattle.image_options.specs.declared.options.StereoOptions.{StereoOptions}
 use Rattle.image_options.specs.declared.options.SegmentOptions.{SegmentOptions}
 use Rattle.label_field.specs.Limits.{label_limit, weight_limit}
 use Rattle.run_options.specs.Limits.{cycle_limit, label_cost_limit, trunc_limit}
-use Rattle.run_options.specs.Names.{moves_named, shape_named}
-use Rattle.run_options.specs.declared.moves.Moves.{Moves}
+use Rattle.run_options.specs.Names.{shape_named}
+use Rattle.labellings.specs.Names.{moves_named}
+use Rattle.labellings.specs.declared.cycles.Moves.{Moves}
 use Rattle.run_options.specs.declared.shape.Shape.{Shape}
 use Rattle.worker_options.specs.Limits.{ring_limit, round_limit, thread_limit, turn_limit}
 use Rattle.worker_options.specs.declared.options.Options.{Options}

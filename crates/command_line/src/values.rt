@@ -12,7 +12,8 @@ use image_options::{
     CAP_LIMIT, MAXVAL_LIMIT, Neighbours, RestoreOptions, SegmentOptions, StereoOptions,
 };
 use label_field::{LABEL_LIMIT, WEIGHT_LIMIT};
-use run_options::{CYCLE_LIMIT, LABEL_COST_LIMIT, Moves, Shape, TRUNC_LIMIT};
+use labellings::Moves;
+use run_options::{CYCLE_LIMIT, LABEL_COST_LIMIT, Shape, TRUNC_LIMIT};
 use worker_options::{Options, RING_LIMIT, ROUND_LIMIT, THREAD_LIMIT, TURN_LIMIT};
 
 /// Why the options of a subcommand are not had.

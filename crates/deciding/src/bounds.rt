@@ -21,8 +21,7 @@ pub struct Bounds {
 fn add_at(numbers: &mut Vec<i64>, place: usize, by: i64)
     requires place { place < length numbers.old.items }
     requires room { unsigned_abs (bound_at numbers.old.items place) + unsigned_abs by < 2 ^ 62 }
-    ensures { numbers.new.items ≡ slice_set numbers.old.items place
-        (bound_at numbers.old.items place +ℤ by) }
+    ensures { numbers.new.items ≡ slice_set numbers.old.items place (bound_at numbers.old.items place +ℤ by) }
 {
     numbers[place] += by;
 }

@@ -3,36 +3,33 @@ ghost use Rattle.std.specs.Prelude.{◌≡◌, ◌<◌, ◌≤◌, ◌*◌, ℕ,
 ghost use Rattle.label_field.specs.declared.pair.Pair.{Pair};
 ghost use Rattle.label_field.specs.PairLists.{IsPair};
 ghost use Rattle.labellings.specs.declared.change.Move.{Move};
-ghost use Rattle.labellings.specs.Energies.{Instance, labelling};
+ghost use Rattle.labellings.specs.Energies.{labelling};
 ghost use Rattle.labellings.specs.Moves.{label_in, IsMoveOf, IsRegularPair};
-ghost use Rattle.cost_store.specs.Limits.{data_limit};
-ghost use Rattle.cost_store.specs.Promises.{Keeps, KeepsSmooth, Answers, IsCost};
-ghost use Rattle.move_energy.specs.Limits.{site_cost_limit, pair_cost_limit};
+ghost use Rattle.cost_store.specs.Limits.{site_cost_limit, pair_cost_limit};
+ghost use Rattle.cost_store.specs.Promises.{IsCost};
+ghost use Rattle.cost_store.specs.Posed.{IsPosed, IsAsked, Meant};
 ghost use Rattle.deciding.specs.Limits.{surplus_limit};
 ghost use Rattle.deciding.specs.MoveValues.{data_rise as data_rise_of, term_of};
 ghost use Rattle.deciding.specs.Working.{surplus_of};
 
-use cost_store::{DataCost, SmoothCost};
+use cost_store::Problem;
 use label_field::Pair;
 use labellings::Move;
 use move_energy::pair_table;
 
 /// How much more the label costs a site where its value turns from 0 to 1. A site that the move cannot change is not
 /// asked.
-pub fn data_rise<F: Fn(u32, u32) -> i64>(
-    data_cost: &DataCost<F>,
+pub fn data_rise<F: Fn(u32, u32) -> i64 + Sync, V: Fn(u32, u32) -> i64 + Sync>(
+    problem: &Problem<F, V>,
     change: Move,
     site: u32,
     label: u32,
 ) -> i64
-    requires costs { Keeps (F.pre data_cost.now.f) (F.post data_cost.now.f) data_cost.now.sites
-        data_cost.now.labels data_limit }
-    requires inside { (site < data_cost.now.sites) × (label < data_cost.now.labels) }
-    requires change { IsMoveOf data_cost.now.labels change }
-    ensures rise { (cost : ℕ → ℕ → ℕ) →
-        Answers (F.post data_cost.now.f) cost data_cost.now.sites data_cost.now.labels →
-        result ≡ pos (cost site (label_in change label true))
-        -ℤ pos (cost site (label_in change label false)) }
+    requires posed { IsPosed F.Fn V.Fn problem.now }
+    requires inside { (site < problem.now.pairs.sites) × (label < problem.now.data_cost.labels) }
+    requires change { IsMoveOf problem.now.data_cost.labels change }
+    ensures rise { Meant F.Fn V.Fn problem.now (λ m. result ≡ pos (m.data_cost site (label_in change label
+        true)) -ℤ pos (m.data_cost site (label_in change label false))) }
     ensures range { unsigned_abs result ≤ site_cost_limit }
 {
     let turns = change.label(label, true);
@@ -40,30 +37,26 @@ pub fn data_rise<F: Fn(u32, u32) -> i64>(
     if turns == stays {
         return 0;
     }
-    data_cost.cost(site, turns) - data_cost.cost(site, stays)
+    problem.site_cost(site, turns) - problem.site_cost(site, stays)
 }
 
 /// What a pair costs at the values 00, 01, 10 and 11 of its ends.
-pub fn term<V: Fn(u32, u32) -> i64>(
-    smooth_cost: &SmoothCost<V>,
+pub fn term<F: Fn(u32, u32) -> i64 + Sync, V: Fn(u32, u32) -> i64 + Sync>(
+    problem: &Problem<F, V>,
     at: &[u8],
     change: Move,
     pair: Pair,
 ) -> [i64; 4]
-    requires smooth { KeepsSmooth (V.pre smooth_cost.now.v) (V.post smooth_cost.now.v)
-        smooth_cost.now.labels smooth_cost.now.by_metric }
+    requires posed { IsPosed F.Fn V.Fn problem.now }
     requires pair { IsPair (length at.now) pair }
-    requires labels { All (λ label. label < smooth_cost.now.labels) at.now }
-    requires change { IsMoveOf smooth_cost.now.labels change }
-    ensures table { (m : Instance) →
-        Answers (V.post smooth_cost.now.v) m.smooth_cost smooth_cost.now.labels smooth_cost.now.labels →
-        result ≡ term_of m change (labelling at.now) pair }
+    requires asked { IsAsked problem.now at.now change }
+    ensures table { Meant F.Fn V.Fn problem.now (λ m. result ≡ term_of m change (labelling at.now) pair) }
     ensures range { All (IsCost (pos pair_cost_limit)) result }
     ensures size { length result ≡ 4 }
 {
     let first = u32::from(at[pair.first as usize]);
     let second = u32::from(at[pair.second as usize]);
-    pair_table(smooth_cost, change, pair.weight, first, second)
+    pair_table(problem, change, pair.weight, first, second)
 }
 
 /// By how much a pair's costs at 01 and 10 are together above those at 00 and 11: below 0 exactly where its term is not
@@ -86,15 +79,16 @@ pub fn is_regular(table: &[i64; 4]) -> bool
 
 /// Whether a pair's term is regular. Where the smooth costs were stored as a metric each term of each move is (Boykov,
 /// Veksler and Zabih, PAMI 2001, section 3), so it is not tested.
-pub fn is_allowed<V: Fn(u32, u32) -> i64>(smooth_cost: &SmoothCost<V>, table: &[i64; 4]) -> bool
-    requires smooth { KeepsSmooth (V.pre smooth_cost.now.v) (V.post smooth_cost.now.v)
-        smooth_cost.now.labels smooth_cost.now.by_metric }
+pub fn is_allowed<F: Fn(u32, u32) -> i64 + Sync, V: Fn(u32, u32) -> i64 + Sync>(
+    problem: &Problem<F, V>,
+    table: &[i64; 4],
+) -> bool
+    requires posed { IsPosed F.Fn V.Fn problem.now }
     requires table { All (IsCost (pos pair_cost_limit)) table.now }
-    ensures { (m : Instance) (change : Move) (f : ℕ → ℕ) (pair : Pair) →
-        Answers (V.post smooth_cost.now.v) m.smooth_cost smooth_cost.now.labels smooth_cost.now.labels →
-        IsMoveOf smooth_cost.now.labels change →
-        (f pair.first < smooth_cost.now.labels) × (f pair.second < smooth_cost.now.labels) →
-        table.now ≡ term_of m change f pair → IsTrue result ↔ IsRegularPair m change f pair }
+    ensures { Meant F.Fn V.Fn problem.now (λ m. (change : Move) (f : ℕ → ℕ) (pair : Pair) →
+        IsMoveOf problem.now.data_cost.labels change →
+        (f pair.first < problem.now.data_cost.labels) × (f pair.second < problem.now.data_cost.labels) →
+        table.now ≡ term_of m change f pair → IsTrue result ↔ IsRegularPair m change f pair) }
 {
-    smooth_cost.by_metric || is_regular(table)
+    problem.smooth_cost.by_metric || is_regular(table)
 }

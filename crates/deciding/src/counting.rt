@@ -2,21 +2,20 @@
 ghost use Rattle.std.specs.Prelude.{◌≡◌, ◌≢◌, ◌<◌, ◌≤◌, ◌+◌, ◌*◌, ◌^◌, ℕ, ℤ, pos, ◌-ℤ◌, ◌≤ℤ◌, ◌⊎◌, ◌↔◌, ◌++◌, ◌∷◌, [], All, length, unsigned_abs, OnOk, IsTrue, true, false};
 ghost use Rattle.label_field.specs.Limits.{site_limit};
 ghost use Rattle.label_field.specs.PairLists.{IsPair, IsPairList};
-ghost use Rattle.labellings.specs.Energies.{Instance, labelling};
-ghost use Rattle.labellings.specs.Moves.{IsMoveOf};
-ghost use Rattle.cost_store.specs.Limits.{data_limit};
-ghost use Rattle.cost_store.specs.Promises.{Keeps, KeepsSmooth, Answers, IsCost};
+ghost use Rattle.labellings.specs.Energies.{labelling};
+ghost use Rattle.cost_store.specs.Limits.{site_cost_limit, pair_cost_limit};
+ghost use Rattle.cost_store.specs.Promises.{IsCost};
+ghost use Rattle.cost_store.specs.Posed.{IsPosed, IsAsked, Meant};
 ghost use Rattle.move_energy.specs.declared.choice.Choice.TheVariants.{Open, One};
 ghost use Rattle.move_energy.specs.Choices.{choice_at, Changes};
 ghost use Rattle.deciding.specs.MoveValues.{term_of};
-ghost use Rattle.move_energy.specs.Limits.{site_cost_limit, pair_cost_limit};
 ghost use Rattle.deciding.specs.Limits.{surplus_limit};
 ghost use Rattle.deciding.specs.Working.{bound_at, IsSized, IsWithinRange, AreCounted, AreUndecided, AddsTerm, AreWaiting, IsTermCounted, AreTermsCounted};
 
 use crate::Bounds;
 use crate::costs::{data_rise, is_allowed, term};
-use cost_store::{DataCost, SmoothCost};
-use label_field::{Pair, Pairs};
+use cost_store::Problem;
+use label_field::Pair;
 use labellings::Move;
 use move_energy::{BuildError, Choice};
 use std::alloc::AllocError;
@@ -75,27 +74,23 @@ impl Bounds {
     }
 
     /// Opens the sites that the move can change, and counts what its own label costs each. The others are at 0.
-    pub(crate) fn count_sites<F: Fn(u32, u32) -> i64>(
+    pub(crate) fn count_sites<F: Fn(u32, u32) -> i64 + Sync, V: Fn(u32, u32) -> i64 + Sync>(
         &mut self,
-        data_cost: &DataCost<F>,
+        problem: &Problem<F, V>,
         at: &[u8],
         change: Move,
     ) -> Result<(), AllocError>
-        requires costs { Keeps (F.pre data_cost.now.f) (F.post data_cost.now.f) data_cost.now.sites
-            data_cost.now.labels data_limit }
-        requires sites { (length at.now ≡ data_cost.now.sites) × (length at.now ≤ site_limit) }
-        requires labels { All (λ label. label < data_cost.now.labels) at.now }
-        requires change { IsMoveOf data_cost.now.labels change }
+        requires posed { IsPosed F.Fn V.Fn problem.now }
+        requires asked { IsAsked problem.now at.now change }
         ensures undecided { OnOk result (AreUndecided change at.now self.new) }
         ensures range { OnOk result (IsWithinRange site_cost_limit self.new) }
-        ensures counted { OnOk result ((m : Instance) → m.sites ≡ length at.now →
-            Answers (F.post data_cost.now.f) m.data_cost data_cost.now.sites data_cost.now.labels →
-            AreCounted m change (labelling at.now) 0 self.new) }
+        ensures counted { OnOk result (Meant F.Fn V.Fn problem.now (λ m. AreCounted m change
+            (labelling at.now) 0 self.new)) }
     {
         self.clear(at.len())?;
         for site in 0..at.len() {
             let label = u32::from(at[site]);
-            let rise = data_rise(data_cost, change, site as u32, label);
+            let rise = data_rise(problem, change, site as u32, label);
             self.add_site(first_choice(change, label), rise)?;
         }
         Ok(())
@@ -131,32 +126,29 @@ impl Bounds {
 
     /// Counts a pair if its term is regular, and answers whether it is. The term of a pair of which the move can change no
     /// end is, and adds nothing, so it is not looked at.
-    fn count_pair<V: Fn(u32, u32) -> i64>(
+    fn count_pair<F: Fn(u32, u32) -> i64 + Sync, V: Fn(u32, u32) -> i64 + Sync>(
         &mut self,
-        smooth_cost: &SmoothCost<V>,
+        problem: &Problem<F, V>,
         at: &[u8],
         change: Move,
         pair: Pair,
     ) -> bool
-        requires smooth { KeepsSmooth (V.pre smooth_cost.now.v) (V.post smooth_cost.now.v)
-            smooth_cost.now.labels smooth_cost.now.by_metric }
-        requires labels { All (λ label. label < smooth_cost.now.labels) at.now }
-        requires change { IsMoveOf smooth_cost.now.labels change }
+        requires posed { IsPosed F.Fn V.Fn problem.now }
+        requires asked { IsAsked problem.now at.now change }
         requires pair { IsPair (length at.now) pair }
         requires undecided { AreUndecided change at.now self.old }
         requires range { IsWithinRange (2 ^ 60) self.old }
         ensures undecided { AreUndecided change at.now self.new }
         ensures range { (most : ℕ) → IsWithinRange most self.old →
             IsWithinRange (most + surplus_limit) self.new }
-        ensures counted { (m : Instance) →
-            Answers (V.post smooth_cost.now.v) m.smooth_cost smooth_cost.now.labels smooth_cost.now.labels →
-            IsTermCounted m change (labelling at.now) pair self.old self.new result }
+        ensures counted { Meant F.Fn V.Fn problem.now (λ m. IsTermCounted m change
+            (labelling at.now) pair self.old self.new result) }
     {
         if !self.has_open_end(pair) {
             return true;
         }
-        let table = term(smooth_cost, at, change, pair);
-        if !is_allowed(smooth_cost, &table) {
+        let table = term(problem, at, change, pair);
+        if !is_allowed(problem, &table) {
             return false;
         }
         self.add_term(pair, &table);
@@ -165,32 +157,25 @@ impl Bounds {
 
     /// Counts each pair, or refuses the first whose term is not regular. Smooth costs that were stored as a metric are not
     /// tested.
-    pub(crate) fn count_pairs<V: Fn(u32, u32) -> i64>(
+    pub(crate) fn count_pairs<F: Fn(u32, u32) -> i64 + Sync, V: Fn(u32, u32) -> i64 + Sync>(
         &mut self,
-        pairs: &Pairs,
-        smooth_cost: &SmoothCost<V>,
+        problem: &Problem<F, V>,
         at: &[u8],
         change: Move,
     ) -> Result<(), BuildError>
-        requires smooth { KeepsSmooth (V.pre smooth_cost.now.v) (V.post smooth_cost.now.v)
-            smooth_cost.now.labels smooth_cost.now.by_metric }
-        requires sites { length at.now ≡ pairs.now.sites }
-        requires labels { All (λ label. label < smooth_cost.now.labels) at.now }
-        requires change { IsMoveOf smooth_cost.now.labels change }
+        requires posed { IsPosed F.Fn V.Fn problem.now }
+        requires asked { IsAsked problem.now at.now change }
         requires undecided { AreUndecided change at.now self.old }
         requires range { IsWithinRange site_cost_limit self.old }
-        requires list { IsPairList pairs.now }
         ensures undecided { OnOk result (AreUndecided change at.now self.new) }
         ensures range { OnOk result (IsWithinRange
-            (site_cost_limit + surplus_limit * length pairs.now.list) self.new) }
-        ensures counted { (m : Instance) →
-            Answers (V.post smooth_cost.now.v) m.smooth_cost smooth_cost.now.labels smooth_cost.now.labels →
-            m.pairs ≡ pairs.now.list → m.sites ≡ pairs.now.sites →
-            AreTermsCounted m change (labelling at.now) self.old self.new result }
+            (site_cost_limit + surplus_limit * length problem.now.pairs.list) self.new) }
+        ensures counted { Meant F.Fn V.Fn problem.now (λ m. AreTermsCounted m change
+            (labelling at.now) self.old self.new result) }
     {
-        for index in 0..pairs.len() {
-            let pair = pairs.get(index);
-            if !self.count_pair(smooth_cost, at, change, pair) {
+        for index in 0..problem.pairs.len() {
+            let pair = problem.pairs.get(index);
+            if !self.count_pair(problem, at, change, pair) {
                 return Err(BuildError::PairNotRegular(index));
             }
         }

@@ -79,9 +79,8 @@ impl Lists {
     ) -> Result<(), AllocError>
         ensures opened { OnOk result (self.new.opened.items ≡
             self.old.opened.items ++ cond (is_open choice) (site ∷ []) []) }
-        ensures changing { OnOk result (self.new.changing.items ≡ self.old.changing.items
-            ++ cond (is_open choice || not (label_in change label (bit_of choice false) == label))
-            (site ∷ []) []) }
+        ensures changing { OnOk result (self.new.changing.items ≡ self.old.changing.items ++ cond (is_open
+            choice || not (label_in change label (bit_of choice false) == label)) (site ∷ []) []) }
         ensures same { (self.new.count ≡ self.old.count) × (self.new.listed ≡ self.old.listed) }
     {
         add_chosen(&mut self.opened, site, choice.is_open())?;

@@ -3,21 +3,21 @@ ghost use Rattle.std.specs.Prelude.{◌≡◌, ◌≢◌, ◌⊎◌, ◌<◌, �
 ghost use Rattle.grouping.specs.Grouping.{IsGrouped};
 ghost use Rattle.label_field.specs.PairLists.{IsPair, IsPairList};
 ghost use Rattle.by_site.specs.BySite.{degree, AreBySite};
-ghost use Rattle.labellings.specs.Energies.{Instance, labelling};
-ghost use Rattle.labellings.specs.Moves.{IsMoveOf, IsAllowed};
-ghost use Rattle.cost_store.specs.Promises.{KeepsSmooth, Answers};
+ghost use Rattle.labellings.specs.Energies.{labelling};
+ghost use Rattle.labellings.specs.Moves.{IsAllowed};
+ghost use Rattle.cost_store.specs.Posed.{IsPosed, IsAsked, Meant};
 ghost use Rattle.move_energy.specs.declared.choice.Choice.{Choice};
 ghost use Rattle.move_energy.specs.declared.choice.Choice.TheVariants.{Open};
 ghost use Rattle.move_energy.specs.Choices.{choice_at, bit_of};
-ghost use Rattle.move_energy.specs.Limits.{site_cost_limit};
+ghost use Rattle.cost_store.specs.Limits.{site_cost_limit};
 ghost use Rattle.deciding.specs.Limits.{surplus_limit};
 ghost use Rattle.deciding.specs.Working.{bound_at, AreEnds, CanDecide, Tells, IsMarked, IsSized, IsWithinRange, AreWaiting, AreWaitingBut, ArePartlyDecided, SeesPair, IsLooking, Shifts, least_shift as least_shift_of, greatest_shift as greatest_shift_of, left, room_of};
 
 use crate::Bounds;
 use crate::costs::{surplus, term};
-use cost_store::SmoothCost;
+use cost_store::Problem;
 use grouping::Groups;
-use label_field::{Pair, Pairs};
+use label_field::Pair;
 use labellings::Move;
 use move_energy::Choice;
 use std::alloc::AllocError;
@@ -99,19 +99,17 @@ impl Bounds {
     }
 
     /// Sees a pair with the value of one of its sites.
-    fn see<V: Fn(u32, u32) -> i64>(
+    fn see<F: Fn(u32, u32) -> i64 + Sync, V: Fn(u32, u32) -> i64 + Sync>(
         &mut self,
-        smooth_cost: &SmoothCost<V>,
+        problem: &Problem<F, V>,
         at: &[u8],
         change: Move,
         pair: Pair,
         site: u32,
         value: bool,
     ) -> Result<(), AllocError>
-        requires smooth { KeepsSmooth (V.pre smooth_cost.now.v) (V.post smooth_cost.now.v)
-            smooth_cost.now.labels smooth_cost.now.by_metric }
-        requires labels { All (λ label. label < smooth_cost.now.labels) at.now }
-        requires change { IsMoveOf smooth_cost.now.labels change }
+        requires posed { IsPosed F.Fn V.Fn problem.now }
+        requires asked { IsAsked problem.now at.now change }
         requires pair { IsPair (length at.now) pair }
         requires end { (pair.first ≡ site) ⊎ (pair.second ≡ site) }
         requires sized { IsSized (length at.now) self.old }
@@ -119,15 +117,14 @@ impl Bounds {
         requires waiting { AreWaiting (length at.now) self.old }
         ensures looking { OnOk result (IsLooking 1 self.old self.new) }
         ensures waiting { OnOk result (AreWaiting (length at.now) self.new) }
-        ensures sees { OnOk result ((m : Instance) →
-            Answers (V.post smooth_cost.now.v) m.smooth_cost smooth_cost.now.labels smooth_cost.now.labels →
-            SeesPair m change (labelling at.now) site value pair self.old self.new) }
+        ensures sees { OnOk result (Meant F.Fn V.Fn problem.now (λ m. SeesPair m change
+            (labelling at.now) site value pair self.old self.new)) }
     {
         let other = other_end(pair, site);
         if !self.choices[other as usize].is_open() {
             return Ok(());
         }
-        let table = term(smooth_cost, at, change, pair);
+        let table = term(problem, at, change, pair);
         self.shift(other, value, surplus(&table))
     }
 
@@ -140,23 +137,18 @@ impl Bounds {
     }
 
     /// Decides a site, and sees each of its pairs with its value.
-    fn decide<V: Fn(u32, u32) -> i64>(
+    fn decide<F: Fn(u32, u32) -> i64 + Sync, V: Fn(u32, u32) -> i64 + Sync>(
         &mut self,
-        pairs: &Pairs,
+        problem: &Problem<F, V>,
         ends: &Groups,
-        smooth_cost: &SmoothCost<V>,
         at: &[u8],
         change: Move,
         site: u32,
         value: bool,
     ) -> Result<(), AllocError>
-        requires smooth { KeepsSmooth (V.pre smooth_cost.now.v) (V.post smooth_cost.now.v)
-            smooth_cost.now.labels smooth_cost.now.by_metric }
-        requires sites { length at.now ≡ pairs.now.sites }
-        requires by_site { AreBySite pairs.now ends.now }
-        requires list { IsPairList pairs.now }
-        requires labels { All (λ label. label < smooth_cost.now.labels) at.now }
-        requires change { IsMoveOf smooth_cost.now.labels change }
+        requires posed { IsPosed F.Fn V.Fn problem.now }
+        requires asked { IsAsked problem.now at.now change }
+        requires by_site { AreBySite problem.now.pairs ends.now }
         requires site { (site < length at.now) × (choice_at self.old.choices.items site ≡ Open) }
         requires sized { IsSized (length at.now) self.old }
         requires range { IsWithinRange (2 ^ 59) self.old }
@@ -169,16 +161,14 @@ impl Bounds {
             length self.old.waiting.items + degree ends.now site) }
         ensures left { OnOk result (left ends.now (length at.now) self.new.choices.items
             + degree ends.now site ≡ left ends.now (length at.now) self.old.choices.items) }
-        ensures decided { OnOk result ((m : Instance) →
-            Answers (V.post smooth_cost.now.v) m.smooth_cost smooth_cost.now.labels smooth_cost.now.labels →
-            m.pairs ≡ pairs.now.list → m.sites ≡ pairs.now.sites →
-            Tells self.old site value → ArePartlyDecided m change (labelling at.now) self.old →
-            ArePartlyDecided m change (labelling at.now) self.new) }
+        ensures decided { OnOk result (Meant F.Fn V.Fn problem.now (λ m. Tells self.old site value →
+            ArePartlyDecided m change (labelling at.now) self.old →
+            ArePartlyDecided m change (labelling at.now) self.new)) }
     {
         self.mark(site as usize, value);
         for place in ends.starts[site as usize]..ends.starts[site as usize + 1] {
-            let pair = pairs.get(ends.places[place as usize] as usize / 2);
-            self.see(smooth_cost, at, change, pair, site, value)?;
+            let pair = problem.pairs.get(ends.places[place as usize] as usize / 2);
+            self.see(problem, at, change, pair, site, value)?;
         }
         Ok(())
     }
@@ -193,81 +183,67 @@ impl Bounds {
     }
 
     /// Decides a site that waited, where its bounds tell its value.
-    fn settle<V: Fn(u32, u32) -> i64>(
+    fn settle<F: Fn(u32, u32) -> i64 + Sync, V: Fn(u32, u32) -> i64 + Sync>(
         &mut self,
-        pairs: &Pairs,
+        problem: &Problem<F, V>,
         ends: &Groups,
-        smooth_cost: &SmoothCost<V>,
         at: &[u8],
         change: Move,
         site: u32,
     ) -> Result<(), AllocError>
-        requires smooth { KeepsSmooth (V.pre smooth_cost.now.v) (V.post smooth_cost.now.v)
-            smooth_cost.now.labels smooth_cost.now.by_metric }
-        requires sites { length at.now ≡ pairs.now.sites }
-        requires by_site { AreBySite pairs.now ends.now }
-        requires list { IsPairList pairs.now }
-        requires labels { All (λ label. label < smooth_cost.now.labels) at.now }
-        requires change { IsMoveOf smooth_cost.now.labels change }
+        requires posed { IsPosed F.Fn V.Fn problem.now }
+        requires asked { IsAsked problem.now at.now change }
+        requires by_site { AreBySite problem.now.pairs ends.now }
         requires site { site < length at.now }
         requires sized { IsSized (length at.now) self.old }
-        requires left { left ends.now (length at.now) self.old.choices.items ≤ 2 * length pairs.now.list }
+        requires left { left ends.now (length at.now) self.old.choices.items ≤ 2 * length
+            problem.now.pairs.list }
         requires range { IsWithinRange
             (room_of (left ends.now (length at.now) self.old.choices.items)) self.old }
         requires waiting { AreWaitingBut (length at.now) site self.old }
         ensures sized { OnOk result (IsSized (length at.now) self.new) }
         ensures waiting { OnOk result (AreWaiting (length at.now) self.new) }
         ensures left { OnOk result (left ends.now (length at.now) self.new.choices.items ≤
-            2 * length pairs.now.list) }
+            2 * length problem.now.pairs.list) }
         ensures range { OnOk result (IsWithinRange
             (room_of (left ends.now (length at.now) self.new.choices.items)) self.new) }
         ensures less { OnOk result (length self.new.waiting.items
             + left ends.now (length at.now) self.new.choices.items ≤ length self.old.waiting.items
             + left ends.now (length at.now) self.old.choices.items) }
-        ensures decided { OnOk result ((m : Instance) →
-            Answers (V.post smooth_cost.now.v) m.smooth_cost smooth_cost.now.labels smooth_cost.now.labels →
-            m.pairs ≡ pairs.now.list → m.sites ≡ pairs.now.sites →
-            ArePartlyDecided m change (labelling at.now) self.old →
-            ArePartlyDecided m change (labelling at.now) self.new) }
+        ensures decided { OnOk result (Meant F.Fn V.Fn problem.now (λ m. ArePartlyDecided m change (labelling
+            at.now) self.old → ArePartlyDecided m change (labelling at.now) self.new)) }
     {
         let place = site as usize;
         if !self.choices[place].is_open() || !self.can_decide(place) {
             return Ok(());
         }
         let value = self.told_value(place);
-        self.decide(pairs, ends, smooth_cost, at, change, site, value)
+        self.decide(problem, ends, at, change, site, value)
     }
 
     /// Decides the sites that wait, and those whose values then can be told, until none is left.
-    pub(crate) fn settle_all<V: Fn(u32, u32) -> i64>(
+    pub(crate) fn settle_all<F: Fn(u32, u32) -> i64 + Sync, V: Fn(u32, u32) -> i64 + Sync>(
         &mut self,
-        pairs: &Pairs,
+        problem: &Problem<F, V>,
         ends: &Groups,
-        smooth_cost: &SmoothCost<V>,
         at: &[u8],
         change: Move,
     ) -> Result<(), AllocError>
-        requires smooth { KeepsSmooth (V.pre smooth_cost.now.v) (V.post smooth_cost.now.v)
-            smooth_cost.now.labels smooth_cost.now.by_metric }
-        requires sites { length at.now ≡ pairs.now.sites }
-        requires by_site { AreBySite pairs.now ends.now }
-        requires list { IsPairList pairs.now }
-        requires labels { All (λ label. label < smooth_cost.now.labels) at.now }
-        requires change { IsMoveOf smooth_cost.now.labels change }
+        requires posed { IsPosed F.Fn V.Fn problem.now }
+        requires asked { IsAsked problem.now at.now change }
+        requires by_site { AreBySite problem.now.pairs ends.now }
         requires sized { IsSized (length at.now) self.old }
-        requires range { IsWithinRange (site_cost_limit + surplus_limit * length pairs.now.list) self.old }
+        requires range { IsWithinRange (site_cost_limit + surplus_limit * length problem.now.pairs.list)
+            self.old }
         requires waiting { AreWaiting (length at.now) self.old }
         ensures sized { OnOk result (IsSized (length at.now) self.new) }
         ensures none { OnOk result ((u : ℕ) → u < length at.now → choice_at self.new.choices.items u ≡ Open →
             ¬ CanDecide self.new u) }
-        ensures decided { OnOk result ((m : Instance) →
-            Answers (V.post smooth_cost.now.v) m.smooth_cost smooth_cost.now.labels smooth_cost.now.labels →
-            m.pairs ≡ pairs.now.list → m.sites ≡ pairs.now.sites →
-            ArePartlyDecided m change (labelling at.now) self.old →
-            ArePartlyDecided m change (labelling at.now) self.new) }
+        ensures decided { OnOk result (Meant F.Fn V.Fn problem.now (λ m. ArePartlyDecided m change (labelling
+            at.now) self.old → ArePartlyDecided m change (labelling at.now) self.new)) }
     {
         'settling: while let Some(site) = self.waiting.pop() {
-            self.settle(pairs, ends, smooth_cost, at, change, site)?;
+            self.settle(problem, ends, at, change, site)?;
         }
         Ok(())
     }

@@ -1,18 +1,15 @@
 //! Deciding the sites of a move.
 ghost use Rattle.std.specs.Prelude.{◌≡◌, ◌<◌, ◌≤◌, ℕ, [], All, length, IfOk, OnOk, OnErr, false};
 ghost use Rattle.by_site.specs.BySite.{AreBySite};
-ghost use Rattle.labellings.specs.Energies.{Instance, labelling};
-ghost use Rattle.labellings.specs.Moves.{IsMoveOf};
-ghost use Rattle.cost_store.specs.Limits.{data_limit};
-ghost use Rattle.cost_store.specs.Promises.{Keeps, KeepsSmooth};
-ghost use Rattle.move_energy.specs.Problems.{IsMeant};
+ghost use Rattle.labellings.specs.Energies.{labelling};
+ghost use Rattle.cost_store.specs.Posed.{IsPosed, IsAsked, Meant};
 ghost use Rattle.deciding.specs.Decided.{IsDecidedMove};
 ghost use Rattle.deciding.specs.Listed.{AreListed, AreEmpty};
 ghost use Rattle.deciding.specs.Working.{IsSized, AreOfNoSites};
 
 use crate::{Bounds, Lists};
 use by_site::group_pairs;
-use cost_store::{DataCost, SmoothCost};
+use cost_store::Problem;
 use grouping::Groups;
 use label_field::Pairs;
 use labellings::Move;
@@ -67,41 +64,29 @@ impl Deciding {
     /// Sites that the move cannot change are `Zero` from the beginning. It looks at each pair with another end once, and once
     /// more for each such end that is decided (Iyer, Jegelka, Bilmes, ICML 2013). Then `lists` has how many sites are open,
     /// and lists them where they are few. Where it refuses, nothing is listed, and no more is said of `bounds` and `lists`.
-    pub fn decide<F: Fn(u32, u32) -> i64, V: Fn(u32, u32) -> i64>(
+    pub fn decide<F: Fn(u32, u32) -> i64 + Sync, V: Fn(u32, u32) -> i64 + Sync>(
         &mut self,
-        pairs: &Pairs,
-        data_cost: &DataCost<F>,
-        smooth_cost: &SmoothCost<V>,
+        problem: &Problem<F, V>,
         at: &[u8],
         change: Move,
     ) -> Result<(), BuildError>
-        requires sites { (length at.now ≡ pairs.now.sites) × (data_cost.now.sites ≡ pairs.now.sites) }
-        requires labels { (smooth_cost.now.labels ≡ data_cost.now.labels)
-            × All (λ label. label < data_cost.now.labels) at.now }
-        requires change { IsMoveOf data_cost.now.labels change }
-        requires costs { Keeps (F.pre data_cost.now.f) (F.post data_cost.now.f) data_cost.now.sites
-            data_cost.now.labels data_limit }
-        requires smooth { KeepsSmooth (V.pre smooth_cost.now.v) (V.post smooth_cost.now.v)
-            smooth_cost.now.labels smooth_cost.now.by_metric }
-        requires by_site { AreBySite pairs.now self.old.ends }
+        requires asked { IsAsked problem.now at.now change }
+        requires posed { IsPosed F.Fn V.Fn problem.now }
+        requires by_site { AreBySite problem.now.pairs self.old.ends }
         ensures kept { self.new.ends ≡ self.old.ends }
         ensures count { OnOk result (length self.new.bounds.choices.items ≡ length at.now) }
         ensures sized { OnOk result (IsSized (length at.now) self.new.bounds) }
-        ensures decided { (m : Instance) →
-            IsMeant (F.post data_cost.now.f) (V.post smooth_cost.now.v) pairs.now data_cost.now.labels m →
-            IsDecidedMove m change at.now self.new.bounds.choices.items result }
+        ensures decided { Meant F.Fn V.Fn problem.now (λ m. IsDecidedMove m change at.now
+            self.new.bounds.choices.items result) }
         ensures listed { OnOk result (AreListed change (labelling at.now) self.new.bounds.choices.items
             self.new.lists) }
         ensures refused { OnErr result (self.new.lists.listed ≡ false) }
     {
-        let _pairs = pairs.as_slice();
-        let _sites = pairs.sites();
         self.lists.listed = false;
-        self.bounds.count_sites(data_cost, at, change)?;
-        self.bounds.count_pairs(pairs, smooth_cost, at, change)?;
+        self.bounds.count_sites(problem, at, change)?;
+        self.bounds.count_pairs(problem, at, change)?;
         self.bounds.find_waiting()?;
-        self.bounds
-            .settle_all(pairs, &self.ends, smooth_cost, at, change)?;
+        self.bounds.settle_all(problem, &self.ends, at, change)?;
         self.lists.fill(at, change, &self.bounds.choices)?;
         Ok(())
     }

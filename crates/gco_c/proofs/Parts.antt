@@ -3,16 +3,15 @@ use Rattle.std.proofs.Common.{◌≡◌, ◌⊎◌, ◌<◌, ◌*◌, ◌∙◌,
 use Rattle.std.specs.Global.{Vec}
 use Rattle.label_field.specs.LabelFields.{LabelField}
 use Rattle.label_field.specs.PairLists.{PairList, IsPairList}
-use Rattle.cost_store.specs.Limits.{data_limit, smooth_limit}
+use Rattle.cost_store.specs.Limits.{data_limit, smooth_limit, label_cost_limit}
 use Rattle.cost_store.specs.Promises.{IsCost, cost_in}
-use Rattle.label_costs.specs.Limits.{label_cost_limit}
 use Rattle.labellings.specs.declared.change.Move.{Move}
-use Rattle.labelling_runs.specs.declared.Run.{Run}
-use Rattle.labelling_runs.specs.Instances.{instance_of}
-use Rattle.labelling_runs.specs.Runs.{Answers}
+use Rattle.moves.specs.declared.tables.Run.{Run}
+use Rattle.moves.specs.Instances.{instance_of}
+use Rattle.moves.specs.Runs.{Answers}
 use Rattle.moves.specs.declared.error.MoveError.{MoveError}
-use Rattle.moves.specs.LabelCosts.{AreLabelCosts, costs_of}
-use Rattle.run_options.specs.declared.moves.Moves.{Moves}
+use Rattle.cost_store.specs.LabelCosts.{AreLabelCosts, costs_of}
+use Rattle.labellings.specs.declared.cycles.Moves.{Moves}
 use Rattle.gco_c.specs.Calls.{Asked, AreInRange, AreLong, IsReady, instance_given, list_given}
 use Rattle.gco_c.specs.Moved.{IsMovedTo}
 use Rattle.gco_c.specs.declared.moving.Moved.{Moved}

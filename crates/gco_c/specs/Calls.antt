@@ -3,20 +3,19 @@ use Rattle.std.specs.Prelude.{◌≡◌, ◌⊎◌, ℕ, ◌*◌, ◌<◌, Bool,
 use Rattle.label_field.specs.LabelFields.{AreSizes}
 use Rattle.label_field.specs.PairLists.{PairList, IsPairList}
 use Rattle.label_field.specs.declared.pair.Pair.{Pair}
-use Rattle.cost_store.specs.Limits.{data_limit, smooth_limit}
+use Rattle.cost_store.specs.Limits.{data_limit, smooth_limit, label_cost_limit}
 use Rattle.cost_store.specs.Promises.{IsCost, cost_in}
-use Rattle.label_costs.specs.Limits.{label_cost_limit}
 use Rattle.labellings.specs.declared.change.Move.{Move}
 use Rattle.labellings.specs.Energies.{Instance, labelling, data_energy, smooth_energy, label_energy}
-use Rattle.labellings.specs.Chains.{IsChain}
+use Rattle.labellings.specs.Chains.{IsChain, moves_of}
 use Rattle.moves.specs.declared.bound.Bound.{Bound}
-use Rattle.moves.specs.LabelCosts.{AreLabelCosts, costs_of}
+use Rattle.cost_store.specs.LabelCosts.{AreLabelCosts, costs_of}
 use Rattle.moves.specs.Problems.{IsMoved}
-use Rattle.labelling_runs.specs.declared.Run.{Run}
-use Rattle.labelling_runs.specs.Instances.{instance_of}
-use Rattle.labelling_runs.specs.Runs.{MayMake, TellsBound, cycle_of}
-use Rattle.run_options.specs.declared.moves.Moves.{Moves}
-use Rattle.run_options.specs.declared.moves.Moves.TheVariants.{Expansion, Swap}
+use Rattle.moves.specs.declared.tables.Run.{Run}
+use Rattle.moves.specs.Instances.{instance_of}
+use Rattle.moves.specs.Runs.{MayMake, TellsBound}
+use Rattle.labellings.specs.declared.cycles.Moves.{Moves}
+use Rattle.labellings.specs.declared.cycles.Moves.TheVariants.{Expansion, Swap}
 use Rattle.gco_c.specs.declared.pairs.GcoPair.{GcoPair}
 use Rattle.gco_c.specs.declared.outcome.GcoOutcome.{GcoOutcome}
 use Rattle.gco_c.specs.declared.ready.Ready.{Ready}
@@ -116,7 +115,7 @@ pub record IsRunTold (a : Asked) (number cycles : ℕ) (labels : List ℕ) (told
   pub numbered : number ≡ number_of moves
   pub settled : Bool
   pub settled_is : told.settled ≡ cond settled 1 0
-  pub chain : IsChain (instance_given a) (cycle_of moves a.label_count) cycles a.start labels told.cycles settled
+  pub chain : IsChain (instance_given a) (moves_of moves a.label_count) cycles a.start labels told.cycles settled
   pub data_is : told.«data» ≡ pos (data_energy (instance_given a) (labelling labels))
   pub smooth_is : told.smooth ≡ pos (smooth_energy (instance_given a) (labelling labels))
   pub label_is : told.label ≡ pos (label_energy (instance_given a) (labelling labels))

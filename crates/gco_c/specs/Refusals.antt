@@ -7,17 +7,16 @@ use Rattle.label_field.specs.PairLists.{PairList, IsPairList}
 use Rattle.label_field.specs.PairLists.{IsRefusal as IsPairRefusal}
 use Rattle.label_field.specs.declared.error.LabelFieldError.{LabelFieldError}
 use Rattle.label_field.specs.declared.error.LabelFieldError.TheVariants as pair_why
-use Rattle.cost_store.specs.Limits.{data_limit, smooth_limit}
+use Rattle.cost_store.specs.Limits.{data_limit, smooth_limit, label_cost_limit}
 use Rattle.cost_store.specs.Promises.{IsCost, IsFirstAbove}
 use Rattle.cost_store.specs.declared.error.CostError.TheVariants.{CostRange}
-use Rattle.label_costs.specs.Limits.{label_cost_limit}
 use Rattle.labellings.specs.declared.change.Move.{Move}
-use Rattle.labelling_runs.specs.Runs.{Answers}
+use Rattle.moves.specs.Runs.{Answers}
 use Rattle.moves.specs.Problems.{IsRefusal, IsRunRefusal}
 use Rattle.moves.specs.declared.error.SolveError.TheVariants.{OutOfMemory as NoMemory}
 use Rattle.moves.specs.declared.error.MoveError.{MoveError}
 use Rattle.moves.specs.declared.error.MoveError.TheVariants as move_why
-use Rattle.run_options.specs.declared.moves.Moves.{Moves}
+use Rattle.labellings.specs.declared.cycles.Moves.{Moves}
 use Rattle.gco_c.specs.Calls.{Asked, AreLong, AreTables, IsGiven, instance_given, list_given, number_of}
 use Rattle.gco_c.specs.Statuses.{IsTold}
 use Rattle.gco_c.specs.declared.outcome.GcoOutcome.{GcoOutcome}

@@ -4,8 +4,7 @@ ghost use Rattle.gco_c.specs.Calls.{AreCounted, AreInRange};
 ghost use Rattle.gco_c.specs.Refusals.{IsCountRefusal, IsRangeRefusal};
 
 use crate::refusal::Refusal;
-use cost_store::{CostError, DATA_LIMIT, SMOOTH_LIMIT, check_table};
-use label_costs::LABEL_COST_LIMIT;
+use cost_store::{CostError, DATA_LIMIT, LABEL_COST_LIMIT, SMOOTH_LIMIT, check_table};
 use label_field::{LABEL_LIMIT, SITE_LIMIT};
 
 /// Whether the numbers of sites and labels are in their limits, and there is a cost for each label at each site, one

@@ -2,9 +2,9 @@
 ghost use Rattle.std.specs.Prelude.{◌≡◌, ◌≢◌, ◌↔◌, ◌+◌, ◌*◌, ◌<◌, ◌≤◌, All, length, IsOk, IfOk, IfErr, IsTrue, None, Ok};
 ghost use Rattle.cost_store.specs.Limits.{data_limit, smooth_limit};
 ghost use Rattle.cost_store.specs.Promises.{IsCost, IsFirstAbove, cost_in, entry_at};
-ghost use Rattle.labelling_runs.specs.Instances.{instance_of};
-ghost use Rattle.labelling_runs.specs.Runs.{Answers, IsSized};
-ghost use Rattle.moves.specs.LabelCosts.{AreLabelCosts, costs_of};
+ghost use Rattle.moves.specs.Instances.{instance_of};
+ghost use Rattle.moves.specs.Runs.{Answers, IsSized};
+ghost use Rattle.cost_store.specs.LabelCosts.{AreLabelCosts, costs_of};
 ghost use Rattle.moves.specs.Problems.{IsRunRefusal};
 ghost use Rattle.moves.specs.declared.error.SolveError.TheVariants.{OutOfMemory};
 ghost use Rattle.gco_c.specs.Calls.{AreInRange, IsGiven, IsReady, IsRunTold, asked, instance_given};
@@ -18,11 +18,9 @@ use crate::ready::Ready;
 use crate::refusal::Refusal;
 use crate::running::refusal_of;
 use crate::start::start_of;
-use cost_store::{CostError, DATA_LIMIT, DataCost, SMOOTH_LIMIT};
-use label_costs::LABEL_COST_LIMIT;
-use labelling_runs::{Run, run_with_table};
-use moves::{Alone, MoveError};
-use run_options::Moves;
+use cost_store::{CostError, DATA_LIMIT, DataCost, LABEL_COST_LIMIT, SMOOTH_LIMIT, is_metric};
+use labellings::Moves;
+use moves::{Alone, MoveError, Request, Run, run_with_table};
 use std::alloc::{AllocError, Global};
 
 /// What `gco_label` does, over costs of 32 bits. The data costs are read where they lie; of the smooth costs and of
@@ -233,15 +231,19 @@ fn run_over(
         sites,
         labels,
     );
+    let by_metric = is_metric(smooth, labels);
     run_with_table(
         alloc,
         ready.pairs,
         data_cost,
         smooth,
+        by_metric,
         ready.label_costs,
-        ready.start,
-        moves,
-        cycles,
+        Request {
+            start: ready.start,
+            moves,
+            cycles,
+        },
         &Alone,
     )
 }

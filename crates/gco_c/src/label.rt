@@ -1,6 +1,6 @@
 //! Runs of moves for C.
 ghost use Rattle.std.specs.Prelude.{◌≡◌, ◌≢◌, length, IfSome, IfOk, IfErr, None, Ok};
-ghost use Rattle.labelling_runs.specs.Runs.{Answers};
+ghost use Rattle.moves.specs.Runs.{Answers};
 ghost use Rattle.gco_c.specs.Calls.{IsGiven, IsRunTold, asked, instance_given, number_of};
 ghost use Rattle.gco_c.specs.Refusals.{IsRefusalTold, IsLabelRefusal};
 
@@ -9,8 +9,8 @@ use crate::pairs::GcoPair;
 use crate::ready::ready_of;
 use crate::refusal::Refusal;
 use crate::running::{refusal_of, run_over};
-use labelling_runs::Run;
-use run_options::Moves;
+use labellings::Moves;
+use moves::Run;
 use std::alloc::Global;
 
 /// Makes moves from the labels that were given, until a whole cycle changes nothing or so many cycles are

@@ -1,12 +1,11 @@
 //! Single moves for C.
 ghost use Rattle.std.specs.Prelude.{◌≡◌, ◌≢◌, ℕ, ◌+◌, ◌*◌, ◌<◌, ◌≤◌, All, Ok, IfOk, IfErr, length};
 ghost use Rattle.cost_store.specs.Limits.{data_limit, smooth_limit};
-ghost use Rattle.cost_store.specs.Promises.{IsCost, Keeps, KeepsSmooth, cost_in, entry_at};
-ghost use Rattle.labellings.specs.Energies.{Instance};
+ghost use Rattle.cost_store.specs.Promises.{IsCost, cost_in, entry_at};
 ghost use Rattle.labellings.specs.declared.change.Move.TheVariants.{Expand, Swap};
-ghost use Rattle.labelling_runs.specs.Instances.{instance_of};
-ghost use Rattle.move_energy.specs.Problems.{AreSized, IsMeant};
-ghost use Rattle.moves.specs.LabelCosts.{AreLabelCosts, HasCosts, costs_of};
+ghost use Rattle.moves.specs.Instances.{instance_of};
+ghost use Rattle.cost_store.specs.Posed.{IsPosed, Meant, Fits, AreOfOneSize};
+ghost use Rattle.cost_store.specs.LabelCosts.{AreLabelCosts, costs_of};
 ghost use Rattle.moves.specs.Problems.{IsMoved};
 ghost use Rattle.gco_c.specs.Calls.{IsGiven, IsMoveTold, asked, instance_given};
 ghost use Rattle.gco_c.specs.Moved.{IsMovedIn, IsMovedTo};
@@ -18,10 +17,10 @@ use crate::pairs::GcoPair;
 use crate::ready::{Ready, ready_of};
 use crate::refusal::Refusal;
 use crate::running::refusal_of;
-use cost_store::{DataCost, SmoothCost};
+use cost_store::{DataCost, Problem, SmoothCost};
 use label_field::Labelling;
 use labellings::Move;
-use moves::{Alone, MoveError, Problem};
+use moves::{Alone, MoveError, expand, swap};
 use std::alloc::Global;
 
 /// Where a move ended.
@@ -200,6 +199,7 @@ fn move_over(
 {
     let labels = ready.start.labels();
     let sites = ready.start.sites();
+    ready.pairs.keeps();
     let data_cost = DataCost::new(
         |site: u32, label: u32| -> i64
             requires { (site * labels + label < length data.now) × (labels ≤ 256) }
@@ -231,18 +231,9 @@ fn move_problem<F: Fn(u32, u32) -> i64 + Sync, V: Fn(u32, u32) -> i64 + Sync>(
     start: Labelling,
     change: Move,
 ) -> Result<Moved, MoveError>
-    requires sizes { AreSized problem.now.pairs problem.now.data_cost.sites problem.now.data_cost.labels
-        problem.now.smooth_cost.labels start }
-    requires costs { Keeps (F.pre problem.now.data_cost.f) (F.post problem.now.data_cost.f)
-        problem.now.data_cost.sites problem.now.data_cost.labels data_limit }
-    requires smooth { KeepsSmooth (V.pre problem.now.smooth_cost.v) (V.post problem.now.smooth_cost.v)
-        problem.now.smooth_cost.labels problem.now.smooth_cost.by_metric }
-    requires label_costs { AreLabelCosts problem.now.data_cost.labels problem.now.label_costs }
-    ensures moved { (m : Instance) →
-        IsMeant (F.post problem.now.data_cost.f) (V.post problem.now.smooth_cost.v) problem.now.pairs
-        problem.now.data_cost.labels m →
-        HasCosts m problem.now.label_costs →
-        IsMovedTo m change start.at result }
+    requires posed { IsPosed F.Fn V.Fn problem.now }
+    requires fits { Fits problem.now start }
+    ensures moved { Meant F.Fn V.Fn problem.now (λ m. IsMovedTo m change start.at result) }
     ensures sized { IfOk result (λ moved. length moved.labelling.at ≡ length start.at) }
 {
     let mut labelling = start;
@@ -270,24 +261,15 @@ fn make_move<F: Fn(u32, u32) -> i64 + Sync, V: Fn(u32, u32) -> i64 + Sync>(
     labelling: &mut Labelling,
     change: Move,
 ) -> Result<bool, MoveError>
-    requires sizes { AreSized problem.now.pairs problem.now.data_cost.sites problem.now.data_cost.labels
-        problem.now.smooth_cost.labels labelling.old }
-    requires costs { Keeps (F.pre problem.now.data_cost.f) (F.post problem.now.data_cost.f)
-        problem.now.data_cost.sites problem.now.data_cost.labels data_limit }
-    requires smooth { KeepsSmooth (V.pre problem.now.smooth_cost.v) (V.post problem.now.smooth_cost.v)
-        problem.now.smooth_cost.labels problem.now.smooth_cost.by_metric }
-    requires label_costs { AreLabelCosts problem.now.data_cost.labels problem.now.label_costs }
-    ensures sizes { (labelling.new.labels ≡ labelling.old.labels)
-        × (length labelling.new.at ≡ length labelling.old.at) }
-    ensures moved { (m : Instance) →
-        IsMeant (F.post problem.now.data_cost.f) (V.post problem.now.smooth_cost.v) problem.now.pairs
-        problem.now.data_cost.labels m →
-        HasCosts m problem.now.label_costs →
-        IsMoved m change labelling.old.at labelling.new.at result }
+    requires posed { IsPosed F.Fn V.Fn problem.now }
+    requires fits { Fits problem.now labelling.old }
+    ensures sizes { AreOfOneSize labelling.old labelling.new }
+    ensures moved { Meant F.Fn V.Fn problem.now
+        (λ m. IsMoved m change labelling.old.at labelling.new.at result) }
 {
     match change {
-        Move::Expand(alpha) => problem.expand(alloc, labelling, alpha, &Alone),
-        Move::Swap(alpha, beta) => problem.swap(alloc, labelling, alpha, beta, &Alone),
+        Move::Expand(alpha) => expand(alloc, problem, labelling, alpha, &Alone),
+        Move::Swap(alpha, beta) => swap(alloc, problem, labelling, alpha, beta, &Alone),
     }
 }
 

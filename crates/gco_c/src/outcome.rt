@@ -4,8 +4,7 @@ ghost use Rattle.gco_c.specs.Calls.{IsRunIn, bound_numbers};
 ghost use Rattle.gco_c.specs.Statuses.{IsTold};
 
 use crate::refusal::Refusal;
-use labelling_runs::Run;
-use moves::Bound;
+use moves::{Bound, Run};
 
 /// What a call tells beside its status. All of it is written by each call.
 #[repr(C)]

@@ -1,6 +1,6 @@
 //! What a call was given, once it is tested.
 ghost use Rattle.std.specs.Prelude.{◌≡◌, length, IfOk, IfErr, None};
-ghost use Rattle.moves.specs.LabelCosts.{costs_of};
+ghost use Rattle.cost_store.specs.LabelCosts.{costs_of};
 ghost use Rattle.gco_c.specs.Calls.{IsReady, asked};
 ghost use Rattle.gco_c.specs.Refusals.{IsGivenRefusal};
 

@@ -2,19 +2,18 @@
 ghost use Rattle.std.specs.Prelude.{◌≡◌, pos, ◌+◌, ◌*◌, ◌<◌, ◌≤◌, All, IfOk, IfErr, OnErr, length};
 ghost use Rattle.cost_store.specs.Limits.{data_limit, smooth_limit};
 ghost use Rattle.cost_store.specs.Promises.{IsCost, cost_in, entry_at};
-ghost use Rattle.labelling_runs.specs.Instances.{instance_of};
-ghost use Rattle.labelling_runs.specs.Runs.{Answers, IsSized};
-ghost use Rattle.moves.specs.LabelCosts.{AreLabelCosts, costs_of};
+ghost use Rattle.moves.specs.Instances.{instance_of};
+ghost use Rattle.moves.specs.Runs.{Answers, IsSized};
+ghost use Rattle.cost_store.specs.LabelCosts.{AreLabelCosts, costs_of};
 ghost use Rattle.moves.specs.Problems.{IsRunRefusal};
 ghost use Rattle.moves.specs.declared.error.SolveError.TheVariants.{OutOfMemory};
 ghost use Rattle.gco_c.specs.Refusals.{move_refusal};
 
 use crate::ready::Ready;
 use crate::refusal::Refusal;
-use cost_store::DataCost;
-use labelling_runs::{Run, run_with_table};
-use moves::{Alone, MoveError};
-use run_options::Moves;
+use cost_store::{DataCost, is_metric};
+use labellings::Moves;
+use moves::{Alone, MoveError, Request, Run, run_with_table};
 use std::alloc::Global;
 
 /// Makes moves over tables of costs.
@@ -48,15 +47,19 @@ pub(crate) fn run_over(
         sites,
         labels,
     );
+    let by_metric = is_metric(smooth, labels);
     run_with_table(
         alloc,
         ready.pairs,
         data_cost,
         smooth,
+        by_metric,
         ready.label_costs,
-        ready.start,
-        moves,
-        cycles,
+        Request {
+            start: ready.start,
+            moves,
+            cycles,
+        },
         &Alone,
     )
 }

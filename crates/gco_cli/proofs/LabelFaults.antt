@@ -8,11 +8,11 @@ use Rattle.fault_lines.specs.declared.fault.Fault.TheVariants.{Label, Move}
 use Rattle.label_file.specs.Names.{Problem, problem_in}
 use Rattle.label_file.specs.declared.fault.LabelFault.{LabelFault}
 use Rattle.label_file.specs.declared.fault.LabelFault.TheVariants.{OutOfMemory, BadToml, BadField, BadElement, CostRange, NoSuchSite, SamePair, TooManyPairs, WeightRange, NoSuchLabel}
-use Rattle.labelling_runs.specs.Runs.{Answers}
+use Rattle.moves.specs.Runs.{Answers}
 use Rattle.moves.specs.Problems.{IsRunRefusal}
 use Rattle.moves.specs.declared.error.MoveError.{MoveError}
 use Rattle.moves.specs.declared.error.SolveError.{SolveError}
-use Rattle.table_moves.specs.Instances.{instance_named}
+use Rattle.gco_cli.specs.Instances.{instance_named}
 use Rattle.gco_cli.proofs.InputLemmas.{IsWhole, of_read}
 use Rattle.gco_cli.specs.Label.{HasLabelFault, HasProblemFault, HasReadingFault, IsRunFault}
 use Rattle.gco_cli.specs.Streams.{OfSomeInput}

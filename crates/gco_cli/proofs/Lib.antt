@@ -3,3 +3,4 @@ mod InputLemmas
 mod RefusalLemmas
 mod PictureLemmas
 mod LabelFaults
+mod NamedRuns

@@ -7,9 +7,9 @@ use Rattle.label_file.specs.declared.fault.LabelFault.{LabelFault}
 use Rattle.label_file.specs.declared.fault.LabelFault.TheVariants as label
 use Rattle.moves.specs.Problems.{IsRunRefusal}
 use Rattle.moves.specs.declared.error.SolveError.{SolveError}
-use Rattle.table_moves.specs.Instances.{instance_named}
-use Rattle.labelling_runs.specs.Runs.{Answers}
-use Rattle.labelling_runs.specs.declared.Run.{Run}
+use Rattle.gco_cli.specs.Instances.{instance_named}
+use Rattle.moves.specs.Runs.{Answers}
+use Rattle.moves.specs.declared.tables.Run.{Run}
 use Rattle.fault_lines.specs.declared.fault.Fault.{Fault}
 use Rattle.fault_lines.specs.declared.fault.Fault.TheVariants.{OutOfMemory, Write, Read, Problem as EnergyFile, Regularity, Label, Move, Vision, BadOption}
 use Rattle.gco_cli.specs.Lines.{bound_line, energy_words}

@@ -7,3 +7,4 @@ pub mod Pictures
 pub mod Refusals
 pub mod Run
 pub mod Streams
+pub mod Instances

@@ -2,7 +2,7 @@
 use Rattle.std.specs.Prelude.{◌≡◌, ◌≤◌, ◌++◌, ⊤, ℕ, Bool, List, length, Option, IsTrue, codes, unsigned_abs}
 use Rattle.byte_streams.specs.Input.{IsReadRefusal, input_limit}
 use Rattle.labellings.specs.Energies.{data_energy, energy, label_energy, labelling, smooth_energy}
-use Rattle.labelling_runs.specs.Runs.{TellsBound}
+use Rattle.moves.specs.Runs.{TellsBound}
 use Rattle.moves.specs.declared.bound.Bound.{Bound}
 use Rattle.moves.specs.declared.error.SolveError.{SolveError}
 use Rattle.pgm_image.specs.Written.{written}

@@ -4,7 +4,9 @@ ghost use Rattle.command_line.specs.declared.task.Task.TheVariants.{Label as Lab
 ghost use Rattle.label_file.specs.Limits.{IsInLimits};
 ghost use Rattle.label_file.specs.Names.{told};
 ghost use Rattle.label_field.specs.LabelFields.{LabelField};
-ghost use Rattle.labelling_runs.specs.Runs.{IsSized};
+ghost use Rattle.moves.specs.Problems.{IsRunRefusal};
+ghost use Rattle.moves.specs.Runs.{Answers, IsSized};
+ghost use Rattle.gco_cli.specs.Instances.{instance_named};
 ghost use Rattle.run_options.specs.Limits.{smooth_limit};
 ghost use Rattle.gco_cli.specs.Commands.{IsDueFor, StandsFor};
 ghost use Rattle.gco_cli.specs.Label.{AnswersProblem, HasReadingFault, HoldsProblem, IsRunFault, numbers_text, parts_of, run_text};
@@ -17,10 +19,8 @@ use byte_streams::{Source, read_input};
 use fault_lines::{Fault, Line};
 use itoa::Buffer;
 use label_file::{LabelProblem, read_label};
-use labelling_runs::Run;
-use moves::How;
+use moves::{How, MoveError, Request, Run, run_tables};
 use std::alloc::{AllocError, Global};
-use table_moves::run_tables;
 
 /// Where the moves of the problem that the input is end, and how near that is to the least energy where it is asked for.
 /// Nothing is said beside it.
@@ -73,8 +73,41 @@ fn answer_problem<H: How>(
     ensures refused { IfErr result (IsRunFault (H.refuses how.now) (told problem)) }
 {
     let tells = problem.label_costs.is_some();
-    let run = run_tables(alloc, problem, how)?;
+    let run = run_named(alloc, problem, how)?;
     Ok(run_text(alloc, &run, tells, bound)?)
+}
+
+// Makes the moves that a problem asks for, from its start, and answers where they ended.
+//
+// Refused: `LabelCostInSwap`, before any move, exactly where swaps are asked for and some label costs something by itself;
+// `PairNotRegular` where the next move of the chain has a term that is not regular; what `how` refuses; and out of
+// memory.
+fn run_named<H: How>(alloc: Global, problem: LabelProblem, how: &H) -> Result<Run, MoveError>
+    requires limits { IsInLimits (told problem) }
+    requires ready { H.ready how.now }
+    ensures run { Answers (instance_named (told problem)) problem.moves problem.cycles problem.start.at
+        result }
+    ensures refused { IfErr result (IsRunRefusal (H.refuses how.now)) }
+    ensures sized { IfOk result (IsSized problem.start) }
+    ensures bounded { IfOk result (λ run. IfSome run.bound (λ bound. bound.vmax ≤ smooth_limit)) }
+{
+    let pairs = problem.pairs;
+    let start = problem.start;
+    let data = problem.data;
+    let smooth = problem.smooth;
+    run_tables(
+        alloc,
+        pairs,
+        data.as_slice(),
+        smooth.as_slice(),
+        problem.label_costs,
+        Request {
+            start,
+            moves: problem.moves,
+            cycles: problem.cycles,
+        },
+        how,
+    )
 }
 
 // What is printed of a run: the cost of the labels by themselves where it is to be told, the bound where it is asked for.

@@ -4,7 +4,8 @@ ghost use Rattle.run_options.specs.Limits.{label_cost_limit};
 
 use crate::{CAP_LIMIT, MAXVAL_LIMIT};
 use label_field::{LABEL_LIMIT, WEIGHT_LIMIT};
-use run_options::{CYCLE_LIMIT, LABEL_COST_LIMIT, Moves, Shape, TRUNC_LIMIT};
+use labellings::Moves;
+use run_options::{CYCLE_LIMIT, LABEL_COST_LIMIT, Shape, TRUNC_LIMIT};
 
 /// Which pixels of a picture are in a pair.
 #[derive(Clone, Copy, Debug, PartialEq, Eq)]

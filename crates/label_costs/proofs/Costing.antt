@@ -8,7 +8,8 @@ use Rattle.compile_cut.specs.Shown.{Shows}
 use Rattle.compile_cut.specs.Form.{quadratic_value, IsBounded, AddsLeast, IsTied}
 use Rattle.compile_cut.proofs.TermLemmas.{bounded-weaker}
 use Rattle.move_energy.specs.declared.choice.Choice.{Choice}
-use Rattle.label_costs.specs.Costs.{cost_at, uses, costs_below, AddsHidden, IsWider}
+use Rattle.cost_store.specs.LabelCosts.{cost_at}
+use Rattle.label_costs.specs.Costs.{uses, costs_below, AddsHidden, IsWider}
 
 -- nothing is added, and the cost is fixed
 fixed_lower : (v : ℤ) (c fixed : ℕ) → c ≡ fixed → (v +ℤ pos c) ≤ℤ (v +ℤ pos fixed)

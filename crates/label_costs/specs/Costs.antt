@@ -1,28 +1,19 @@
 -- What labels cost by themselves in an expansion of which nothing is decided.
-use Rattle.std.specs.Prelude.{◌≡◌, ◌++◌, ℕ, zero, suc, ◌+◌, ◌<◌, ◌≤◌, Bool, false, cond, List, [], ◌∷◌, length, ℤ, pos, ◌+ℤ◌, ◌≤ℤ◌, unsigned_abs, slice_index_or, vec_len}
+use Rattle.std.specs.Prelude.{◌≡◌, ◌++◌, ℕ, zero, suc, ◌+◌, ◌<◌, ◌≤◌, Bool, cond, List, [], ◌∷◌, length, ℤ, pos, ◌+ℤ◌, ◌≤ℤ◌, vec_len}
 use Rattle.sums.specs.Sums.{sum_below, counted}
-use Rattle.label_field.specs.Limits.{label_limit}
 use Rattle.labellings.specs.declared.change.Move.TheVariants.{Expand}
 use Rattle.labellings.specs.Energies.{Instance, labelling, is_used}
+use Rattle.cost_store.specs.LabelCosts.{cost_at}
 use Rattle.compile_cut.specs.declared.quadratic.Quadratic.{Quadratic}
 use Rattle.compile_cut.specs.Shown.{Shows}
 use Rattle.compile_cut.specs.Form.{quadratic_value, IsBounded}
 use Rattle.move_energy.specs.declared.choice.Choice.{Choice}
 use Rattle.move_energy.specs.Choices.{choice_at, rank, made_by}
 
--- what a label costs by itself
-abbrev pub cost_at : List ℤ → ℕ → ℕ
-cost_at costs label = unsigned_abs (slice_index_or costs label (pos 0))
-
 -- the costs are the problem's, one for each label
 pub record AreCostsOf (m : Instance) (costs : List ℤ) : Type 0 where
   pub count : length costs ≡ m.labels
   pub each : (label : ℕ) → label < m.labels → m.label_cost label ≡ cost_at costs label
-
--- of each label that there can be the mark says whether one of the first n sites has it
-pub record AreMarks (n : ℕ) (f : ℕ → ℕ) (marks : List Bool) : Type 0 where
-  pub size : length marks ≡ label_limit
-  pub each : (label : ℕ) → label < label_limit → slice_index_or marks label false ≡ is_used n f label
 
 -- the nodes of the chosen ones of the first n sites
 abbrev pub nodes_of : (ℕ → Bool) → List Choice → ℕ → List ℕ

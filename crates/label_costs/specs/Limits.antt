@@ -1,9 +1,5 @@
--- How much labels cost by themselves at most.
+-- How many terms what labels cost by themselves comes to at most.
 use Rattle.std.specs.Prelude.{ℕ}
-
--- the greatest cost of a label by itself, 10^7, as that of a label at a site
-abbrev pub label_cost_limit : ℕ
-label_cost_limit = 10000000
 
 -- the most terms that one label's cost comes to: the greatest cost at 2^20 nodes and once more is at most 10,486 times the
 -- greatest number of a term, and those of 256 labels leave room for the terms of 2^20 sites and 2^22 pairs

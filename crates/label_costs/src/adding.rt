@@ -9,12 +9,13 @@ ghost use Rattle.compile_cut.specs.Limits.{form_nodes};
 ghost use Rattle.compile_cut.specs.Form.{IsBounded};
 ghost use Rattle.cost_store.specs.Promises.{IsCost};
 ghost use Rattle.move_energy.specs.Choices.{open_count, AreAllOpen, IsNumbering};
-ghost use Rattle.label_costs.specs.Limits.{label_cost_limit, label_terms};
+ghost use Rattle.cost_store.specs.Limits.{label_cost_limit};
+ghost use Rattle.label_costs.specs.Limits.{label_terms};
 ghost use Rattle.label_costs.specs.Costs.{uses, costs_below, AddsHidden, IsWider};
 
-use crate::marks::mark_used;
 use crate::nodes::{list_each, list_having};
 use compile_cut::Quadratic;
+use cost_store::mark_used;
 use move_energy::Variables;
 use std::alloc::{AllocError, Global};
 

@@ -1,7 +1,7 @@
 //! A label for each site.
 ghost use Rattle.std.specs.Prelude.{◌≡◌, ◌<◌, ◌≤◌, ◌↔◌, IsTrue, IfOk, OnOk, OnErr, IsOk, IsErrOf, length, ok_or, replicate, slice_set};
 ghost use Rattle.std.specs.List.{All, slice_get};
-ghost use Rattle.label_field.specs.LabelFields.{AreSizes};
+ghost use Rattle.label_field.specs.LabelFields.{AreSizes, IsLabelField};
 
 use crate::LabelFieldError;
 use std::alloc::{AllocError, Global};
@@ -50,6 +50,14 @@ impl Labelling {
     {
         let at = vec![in alloc; 0u8; sites as usize]?;
         Ok(Labelling { labels, at })
+    }
+
+    /// That it is a labelling, told to a proof: it has at most `SITE_LIMIT` sites, 1 to `LABEL_LIMIT` labels, and each site
+    /// one of them. It does nothing.
+    pub fn keeps(&self)
+        ensures { IsLabelField self.now }
+    {
+        let _read = self.labels;
     }
 
     /// How many sites it labels, from 0 to `SITE_LIMIT`.

@@ -2,7 +2,7 @@
 ghost use Rattle.std.specs.Prelude.{◌≡◌, ◌<◌, ◌≤◌, ◌++◌, [], ◌∷◌, ◌↔◌, IsTrue, IfOk, IfErr, IfSome, OnOk, OnErr, SomeIff, Some, length, unsigned_abs, slice_set};
 ghost use Rattle.std.specs.List.{All, slice_get};
 ghost use Rattle.label_field.specs.Limits.{site_limit, pair_limit, weight_limit};
-ghost use Rattle.label_field.specs.PairLists.{IsPair, IsWeight, IsAccepted, IsRefusal};
+ghost use Rattle.label_field.specs.PairLists.{IsPair, IsPairList, IsWeight, IsAccepted, IsRefusal};
 
 use crate::{LabelFieldError, Pair, SITE_LIMIT};
 use std::alloc::Global;
@@ -35,6 +35,14 @@ impl Model for Pairs {
 }
 
 impl Pairs {
+    /// That it is a list of pairs, told to a proof: at most `SITE_LIMIT` sites and `PAIR_LIMIT` pairs, each of two unequal sites
+    /// and of a weight up to `WEIGHT_LIMIT`. It does nothing.
+    pub fn keeps(&self)
+        ensures { IsPairList self.now }
+    {
+        let _read = self.sites;
+    }
+
     /// Whether a list may be of this many sites: 0 to `SITE_LIMIT`.
     pub fn fits(sites: u32) -> bool
         ensures { IsTrue result ↔ (sites ≤ site_limit) }

@@ -5,9 +5,9 @@ use Rattle.label_file.specs.FieldNames.{field_name}
 use Rattle.label_file.specs.declared.fault.Field.TheVariants as field
 use Rattle.label_file.specs.declared.fault.LabelFault.{LabelFault}
 use Rattle.label_file.specs.declared.fault.LabelFault.TheVariants.{BadField}
-use Rattle.run_options.specs.Names.{moves_named}
-use Rattle.run_options.specs.declared.moves.Moves.{Moves}
-use Rattle.run_options.specs.declared.moves.Moves.TheVariants.{Expansion}
+use Rattle.labellings.specs.Names.{moves_named}
+use Rattle.labellings.specs.declared.cycles.Moves.{Moves}
+use Rattle.labellings.specs.declared.cycles.Moves.TheVariants.{Expansion}
 
 abbrev pub moves_or_fault : Option Moves → Result Moves LabelFault
 moves_or_fault None = Err (BadField field.Moves)

@@ -18,7 +18,7 @@ use Rattle.label_file.specs.declared.fault.LabelFault.{LabelFault}
 use Rattle.label_file.specs.declared.fault.LabelFault.TheVariants.{BadToml}
 use Rattle.label_file.specs.declared.problem.LabelProblem.{LabelProblem}
 use Rattle.run_options.specs.Limits.{trunc_limit, cycle_limit}
-use Rattle.run_options.specs.declared.moves.Moves.{Moves}
+use Rattle.labellings.specs.declared.cycles.Moves.{Moves}
 
 -- what a problem says
 pub record Problem : Type 0 where

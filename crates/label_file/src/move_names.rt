@@ -4,7 +4,7 @@ ghost use Rattle.label_file.specs.MoveFields.{moves_from, moves_in};
 
 use crate::numbers::value_of;
 use crate::{Field, LabelFault};
-use run_options::Moves;
+use labellings::Moves;
 use toml::Table;
 
 /// The moves that a table names.

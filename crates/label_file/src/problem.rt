@@ -1,5 +1,5 @@
 use label_field::{Labelling, Pairs};
-use run_options::Moves;
+use labellings::Moves;
 
 /// A problem of labels, and the run that is to better its labelling.
 #[derive(Drop)]

@@ -1,11 +1,11 @@
 -- A move of which nothing is decided.
-use Rattle.std.proofs.Common.{◌≡◌, ◌≢◌, ℕ, ◌+◌, ◌*◌, ◌<◌, true, false, Result, Ok, Err, List, [], ◌∷◌, ◌++◌, length, All, ℤ, sym, ap, ◌∙◌, subst, inl, inr, arith}
+use Rattle.std.proofs.Common.{◌≡◌, ◌≢◌, ℕ, ◌+◌, ◌*◌, ◌<◌, true, false, Result, Ok, Err, List, [], ◌∷◌, ◌++◌, length, sym, ap, ◌∙◌, subst, inl, inr, arith}
 use Rattle.std.specs.Prelude.{◌↔◌}
 use Rattle.std.proofs.lemmas.Bool.{cases_lt}
 use Rattle.std.proofs.lemmas.List.{get_or_push, get_or_append_left, length-append}
 use Rattle.std.proofs.lemmas.List.Elements.{All-take}
 use Rattle.label_field.specs.declared.pair.Pair.{Pair}
-use Rattle.label_field.specs.PairLists.{IsPair, PairList}
+use Rattle.label_field.specs.PairLists.{IsPair}
 use Rattle.labellings.specs.declared.change.Move.{Move}
 use Rattle.labellings.specs.Energies.{Instance, IsInstance, labelling}
 use Rattle.labellings.specs.Moves.{label_in, IsRegularPair}
@@ -16,7 +16,7 @@ use Rattle.move_energy.specs.declared.choice.Choice.TheVariants.{Open, One}
 use Rattle.move_energy.specs.declared.error.BuildError.{BuildError}
 use Rattle.move_energy.specs.declared.error.BuildError.TheVariants.{PairNotRegular, OutOfMemory}
 use Rattle.move_energy.specs.Choices.{choice_at, Changes, AreAllOpen}
-use Rattle.move_energy.specs.Problems.{IsFitPair, IsMeant, IsBuildOf, IsPrepared}
+use Rattle.move_energy.specs.Problems.{IsFitPair, IsBuildOf, IsPrepared}
 
 -- as AreAllOpen, of the sites below n
 pub record AreOpenBelow (move : Move) (f : List ℕ) (choices : List Choice) (n : ℕ) : Type 0 where
@@ -82,14 +82,6 @@ fit_regular m move f choices pair size whole within fit = elim (cases_label_in m
     | inr second ↦ fit ((whole.opened pair.first (omega (arith, size, within.first))).1 first) ((whole.opened pair.second (omega (arith, size, within.second))).1 second)
   ]
 ]
-
--- the pairs of the instance that is meant
-pub pairs_meant : (data_post smooth_post : ℕ → ℕ → ℤ → Type 0) (pairs : PairList) (labels : ℕ) (m : Instance) (list : List Pair)
-    → IsMeant data_post smooth_post pairs labels m → list ≡ pairs.list → All (IsPair pairs.sites) list → IsInstance m
-pairs_meant data_post smooth_post pairs labels m list meant same all =
-    let A : List Pair → Type 0 = λ xs. All (IsPair pairs.sites) xs in
-    let B : ℕ → Type 0 = λ n. All (IsPair n) m.pairs in
-    subst B (sym meant.sites_are) (subst A (same ∙ sym meant.pairs_are) all)
 
 -- what the building of the energy says of a whole move
 pub prepared_of : (m : Instance) (move : Move) (f : List ℕ) (made : MoveEnergy) (r : Result Unit BuildError) → IsInstance m → length f ≡ m.sites

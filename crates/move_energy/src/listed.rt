@@ -4,41 +4,36 @@ ghost use Rattle.sums.specs.Sums.{counted};
 ghost use Rattle.label_field.specs.Limits.{site_limit};
 ghost use Rattle.label_field.specs.PairLists.{IsPair};
 ghost use Rattle.by_site.specs.BySite.{AreBySite, is_counted, met_at};
-ghost use Rattle.labellings.specs.Energies.{Instance, labelling, pair_cost as cost_of_pair};
-ghost use Rattle.labellings.specs.Moves.{IsMoveOf};
+ghost use Rattle.labellings.specs.Energies.{labelling, pair_cost as cost_of_pair};
 ghost use Rattle.pseudo_bool.specs.Limits.{term_limit};
 ghost use Rattle.compile_cut.specs.Form.{IsBounded};
-ghost use Rattle.cost_store.specs.Limits.{data_limit};
-ghost use Rattle.cost_store.specs.Promises.{Keeps, KeepsSmooth, Answers};
+ghost use Rattle.cost_store.specs.Posed.{IsPosed, IsAsked, Meant};
 ghost use Rattle.move_energy.specs.Choices.{choice_at, open_at, rank, open_count, made_by, IsNumbering, AreOpenSites};
 ghost use Rattle.move_energy.specs.Built.{AddsCost, IsLonger};
-ghost use Rattle.move_energy.specs.Problems.{IsMeant, IsFitPair, Stands};
+ghost use Rattle.move_energy.specs.Problems.{IsFitPair, Stands};
 
 use crate::MoveEnergy;
 use crate::building::{add_pair, add_site};
 use crate::variables::Variables;
 use by_site::{ends_at, pair_at};
 use compile_cut::Quadratic;
-use cost_store::{DataCost, SmoothCost};
+use cost_store::Problem;
 use grouping::Groups;
-use label_field::{Pair, Pairs};
+use label_field::Pair;
 use labellings::Move;
 use std::alloc::{AllocError, Global};
 
 /// Adds what each listed site costs.
-fn add_listed_sites<F: Fn(u32, u32) -> i64>(
-    data_cost: &DataCost<F>,
+fn add_listed_sites<F: Fn(u32, u32) -> i64 + Sync, V: Fn(u32, u32) -> i64 + Sync>(
+    problem: &Problem<F, V>,
     form: &mut Quadratic,
     at: &[u8],
     change: Move,
     variables: &Variables,
     opened: &[u32],
 )
-    requires costs { Keeps (F.pre data_cost.now.f) (F.post data_cost.now.f) data_cost.now.sites
-        data_cost.now.labels data_limit }
-    requires sites { (length at.now ≡ data_cost.now.sites) × (length at.now ≤ site_limit) }
-    requires labels { All (λ label. label < data_cost.now.labels) at.now }
-    requires change { IsMoveOf data_cost.now.labels change }
+    requires posed { IsPosed F.Fn V.Fn problem.now }
+    requires asked { IsAsked problem.now at.now change }
     requires choices { length variables.now.choices.items ≡ length at.now }
     requires numbering { IsNumbering variables.now.choices.items variables.now.of_sites.items }
     requires variables { vec_len form.old.weights ≡ open_count variables.now.choices.items }
@@ -46,14 +41,13 @@ fn add_listed_sites<F: Fn(u32, u32) -> i64>(
     requires listed { All (λ site. site < length at.now) opened.now }
     requires few { length opened.now ≤ site_limit }
     ensures longer { IsLonger (length opened.now) form.old form.new }
-    ensures adds { (m : Instance) →
-        Answers (F.post data_cost.now.f) m.data_cost data_cost.now.sites data_cost.now.labels →
-        AddsCost form.old form.new (λ x. sum_by (λ p. m.data_cost p (made_by change (labelling at.now)
-        (choice_at variables.now.choices.items) (rank variables.now.choices.items) x p)) opened.now) }
+    ensures adds { Meant F.Fn V.Fn problem.now (λ m. AddsCost form.old form.new (λ x. sum_by
+        (λ p. m.data_cost p (made_by change (labelling at.now)
+        (choice_at variables.now.choices.items) (rank variables.now.choices.items) x p)) opened.now)) }
 {
     for index in 0..opened.len() {
         let end = variables.end(at, opened[index]);
-        add_site(data_cost, form, change, opened[index], end);
+        add_site(problem, form, change, opened[index], end);
     }
 }
 
@@ -66,8 +60,8 @@ fn counts_at(variables: &Variables, site: u32, pair: Pair) -> bool
 }
 
 /// Adds what a pair of an open site costs, where it is counted at that site.
-fn add_counted<V: Fn(u32, u32) -> i64>(
-    smooth_cost: &SmoothCost<V>,
+fn add_counted<F: Fn(u32, u32) -> i64 + Sync, V: Fn(u32, u32) -> i64 + Sync>(
+    problem: &Problem<F, V>,
     form: &mut Quadratic,
     at: &[u8],
     change: Move,
@@ -75,88 +69,75 @@ fn add_counted<V: Fn(u32, u32) -> i64>(
     site: u32,
     pair: Pair,
 ) -> Result<(), AllocError>
-    requires smooth { KeepsSmooth (V.pre smooth_cost.now.v) (V.post smooth_cost.now.v)
-        smooth_cost.now.labels smooth_cost.now.by_metric }
+    requires posed { IsPosed F.Fn V.Fn problem.now }
     requires pair { IsPair (length at.now) pair }
-    requires labels { All (λ label. label < smooth_cost.now.labels) at.now }
-    requires change { IsMoveOf smooth_cost.now.labels change }
+    requires asked { IsAsked problem.now at.now change }
     requires choices { length variables.now.choices.items ≡ length at.now }
     requires numbering { IsNumbering variables.now.choices.items variables.now.of_sites.items }
     requires variables { vec_len form.old.weights ≡ open_count variables.now.choices.items }
     requires bounded { IsBounded term_limit form.old }
     ensures longer { OnOk result (IsLonger (counted (is_counted (open_at variables.now.choices.items) site
         pair) 1) form.old form.new) }
-    ensures adds { OnOk result ((m : Instance) →
-        Answers (V.post smooth_cost.now.v) m.smooth_cost smooth_cost.now.labels smooth_cost.now.labels →
-        IsFitPair m change (labelling at.now) (choice_at variables.now.choices.items) pair →
-        AddsCost form.old form.new (λ x. counted (is_counted (open_at variables.now.choices.items) site pair)
-        (cost_of_pair m (made_by change (labelling at.now) (choice_at variables.now.choices.items)
-        (rank variables.now.choices.items) x) pair))) }
+    ensures adds { OnOk result (Meant F.Fn V.Fn problem.now (λ m. IsFitPair m change (labelling at.now)
+        (choice_at variables.now.choices.items) pair → AddsCost form.old form.new (λ x. counted (is_counted
+        (open_at variables.now.choices.items) site pair) (cost_of_pair m (made_by change (labelling at.now)
+        (choice_at variables.now.choices.items) (rank variables.now.choices.items) x) pair)))) }
 {
     if counts_at(variables, site, pair) {
-        add_pair(smooth_cost, form, at, change, variables, pair)?;
+        add_pair(problem, form, at, change, variables, pair)?;
     }
     Ok(())
 }
 
 /// Adds what those pairs of an open site cost that are counted at it.
-fn add_pairs_at<V: Fn(u32, u32) -> i64>(
-    pairs: &Pairs,
+fn add_pairs_at<F: Fn(u32, u32) -> i64 + Sync, V: Fn(u32, u32) -> i64 + Sync>(
+    problem: &Problem<F, V>,
     ends: &Groups,
-    smooth_cost: &SmoothCost<V>,
     form: &mut Quadratic,
     at: &[u8],
     change: Move,
     variables: &Variables,
     site: u32,
 ) -> Result<(), AllocError>
-    requires by_site { AreBySite pairs.now ends.now }
-    requires smooth { KeepsSmooth (V.pre smooth_cost.now.v) (V.post smooth_cost.now.v)
-        smooth_cost.now.labels smooth_cost.now.by_metric }
-    requires sites { length at.now ≡ pairs.now.sites }
-    requires labels { All (λ label. label < smooth_cost.now.labels) at.now }
-    requires change { IsMoveOf smooth_cost.now.labels change }
+    requires by_site { AreBySite problem.now.pairs ends.now }
+    requires posed { IsPosed F.Fn V.Fn problem.now }
+    requires asked { IsAsked problem.now at.now change }
     requires choices { length variables.now.choices.items ≡ length at.now }
     requires numbering { IsNumbering variables.now.choices.items variables.now.of_sites.items }
     requires variables { vec_len form.old.weights ≡ open_count variables.now.choices.items }
     requires site { site < length at.now }
-    requires met { met_at pairs.now.list ends.now (open_at variables.now.choices.items) (λ pair. 1) site
-        ≤ term_limit }
-    requires bounded { IsBounded (term_limit - met_at pairs.now.list ends.now
+    requires met { met_at problem.now.pairs.list ends.now (open_at variables.now.choices.items) (λ pair. 1)
+        site ≤ term_limit }
+    requires bounded { IsBounded (term_limit - met_at problem.now.pairs.list ends.now
         (open_at variables.now.choices.items) (λ pair. 1) site) form.old }
-    ensures longer { OnOk result (IsLonger (met_at pairs.now.list ends.now
+    ensures longer { OnOk result (IsLonger (met_at problem.now.pairs.list ends.now
         (open_at variables.now.choices.items) (λ pair. 1) site) form.old form.new) }
-    ensures adds { OnOk result ((m : Instance) →
-        Answers (V.post smooth_cost.now.v) m.smooth_cost smooth_cost.now.labels smooth_cost.now.labels →
-        All (IsFitPair m change (labelling at.now) (choice_at variables.now.choices.items)) pairs.now.list →
-        AddsCost form.old form.new (λ x. met_at pairs.now.list ends.now (open_at variables.now.choices.items)
-        (cost_of_pair m (made_by change (labelling at.now) (choice_at variables.now.choices.items)
-        (rank variables.now.choices.items) x)) site)) }
+    ensures adds { OnOk result (Meant F.Fn V.Fn problem.now (λ m. All (IsFitPair m change (labelling at.now)
+        (choice_at variables.now.choices.items)) problem.now.pairs.list → AddsCost form.old form.new (λ x.
+        met_at problem.now.pairs.list ends.now (open_at variables.now.choices.items) (cost_of_pair m (made_by
+        change (labelling at.now) (choice_at variables.now.choices.items) (rank variables.now.choices.items)
+        x)) site))) }
 {
-    for index in 0..ends_at(pairs, ends, site) {
-        let pair = pair_at(pairs, ends, site, index);
-        add_counted(smooth_cost, form, at, change, variables, site, pair)?;
+    for index in 0..ends_at(&problem.pairs, ends, site) {
+        let pair = pair_at(&problem.pairs, ends, site, index);
+        add_counted(problem, form, at, change, variables, site, pair)?;
     }
     Ok(())
 }
 
 /// Adds what each pair of an open site costs.
-fn add_listed_pairs<V: Fn(u32, u32) -> i64>(
-    pairs: &Pairs,
+fn add_listed_pairs<F: Fn(u32, u32) -> i64 + Sync, V: Fn(u32, u32) -> i64 + Sync>(
+    problem: &Problem<F, V>,
     ends: &Groups,
-    smooth_cost: &SmoothCost<V>,
     form: &mut Quadratic,
     at: &[u8],
     change: Move,
     variables: &Variables,
     opened: &[u32],
 ) -> Result<(), AllocError>
-    requires by_site { AreBySite pairs.now ends.now }
-    requires smooth { KeepsSmooth (V.pre smooth_cost.now.v) (V.post smooth_cost.now.v)
-        smooth_cost.now.labels smooth_cost.now.by_metric }
-    requires sites { length at.now ≡ pairs.now.sites }
-    requires labels { All (λ label. label < smooth_cost.now.labels) at.now }
-    requires change { IsMoveOf smooth_cost.now.labels change }
+    requires by_site { AreBySite problem.now.pairs ends.now }
+    requires posed { IsPosed F.Fn V.Fn problem.now }
+    requires asked { IsAsked problem.now at.now change }
     requires choices { length variables.now.choices.items ≡ length at.now }
     requires numbering { IsNumbering variables.now.choices.items variables.now.of_sites.items }
     requires variables { vec_len form.old.weights ≡ open_count variables.now.choices.items }
@@ -164,25 +145,14 @@ fn add_listed_pairs<V: Fn(u32, u32) -> i64>(
     requires bounded { IsBounded site_limit form.old }
     ensures nodes { OnOk result (vec_len form.new.weights ≡ vec_len form.old.weights) }
     ensures bounded { OnOk result (IsBounded term_limit form.new) }
-    ensures adds { OnOk result ((m : Instance) →
-        Answers (V.post smooth_cost.now.v) m.smooth_cost smooth_cost.now.labels smooth_cost.now.labels →
-        All (IsFitPair m change (labelling at.now) (choice_at variables.now.choices.items)) pairs.now.list →
-        AddsCost form.old form.new (λ x. sum_by (met_at pairs.now.list ends.now
+    ensures adds { OnOk result (Meant F.Fn V.Fn problem.now (λ m. All (IsFitPair m change (labelling at.now)
+        (choice_at variables.now.choices.items)) problem.now.pairs.list →
+        AddsCost form.old form.new (λ x. sum_by (met_at problem.now.pairs.list ends.now
         (open_at variables.now.choices.items) (cost_of_pair m (made_by change (labelling at.now)
-        (choice_at variables.now.choices.items) (rank variables.now.choices.items) x))) opened.now)) }
+        (choice_at variables.now.choices.items) (rank variables.now.choices.items) x))) opened.now))) }
 {
-    let _pairs = pairs.as_slice();
     for index in 0..opened.len() {
-        add_pairs_at(
-            pairs,
-            ends,
-            smooth_cost,
-            form,
-            at,
-            change,
-            variables,
-            opened[index],
-        )?;
+        add_pairs_at(problem, ends, form, at, change, variables, opened[index])?;
     }
     Ok(())
 }
@@ -193,31 +163,22 @@ impl MoveEnergy {
     /// the assignment and what was decided make. What decided sites and pairs of none but those cost is no part of the form.
     ///
     /// It takes time and memory in proportion to the listed sites and their pairs.
-    pub fn build_listed<F: Fn(u32, u32) -> i64, V: Fn(u32, u32) -> i64>(
+    pub fn build_listed<F: Fn(u32, u32) -> i64 + Sync, V: Fn(u32, u32) -> i64 + Sync>(
         &mut self,
         alloc: Global,
-        pairs: &Pairs,
+        problem: &Problem<F, V>,
         ends: &Groups,
         opened: &[u32],
-        data_cost: &DataCost<F>,
-        smooth_cost: &SmoothCost<V>,
         at: &[u8],
         change: Move,
     ) -> Result<(), AllocError>
-        requires sites { (length at.now ≡ pairs.now.sites) × (data_cost.now.sites ≡ pairs.now.sites) }
-        requires labels { (smooth_cost.now.labels ≡ data_cost.now.labels)
-            × All (λ label. label < data_cost.now.labels) at.now }
-        requires change { IsMoveOf data_cost.now.labels change }
+        requires asked { IsAsked problem.now at.now change }
         requires choices { length self.old.variables.choices.items ≡ length at.now }
-        requires costs { Keeps (F.pre data_cost.now.f) (F.post data_cost.now.f) data_cost.now.sites
-            data_cost.now.labels data_limit }
-        requires smooth { KeepsSmooth (V.pre smooth_cost.now.v) (V.post smooth_cost.now.v)
-            smooth_cost.now.labels smooth_cost.now.by_metric }
-        requires by_site { AreBySite pairs.now ends.now }
+        requires posed { IsPosed F.Fn V.Fn problem.now }
+        requires by_site { AreBySite problem.now.pairs ends.now }
         requires listed { AreOpenSites self.old.variables.choices.items opened.now }
-        requires fit { (m : Instance) →
-            IsMeant (F.post data_cost.now.f) (V.post smooth_cost.now.v) pairs.now data_cost.now.labels m →
-            All (IsFitPair m change (labelling at.now) (choice_at self.old.variables.choices.items)) m.pairs }
+        requires fit { Meant F.Fn V.Fn problem.now (λ m. All (IsFitPair m change (labelling at.now)
+            (choice_at self.old.variables.choices.items)) m.pairs) }
         ensures kept { self.new.variables.choices.items ≡ self.old.variables.choices.items }
         ensures bounded { OnOk result (IsBounded term_limit self.new.form) }
         ensures few { OnOk result (vec_len self.new.form.weights ≤ site_limit) }
@@ -225,27 +186,15 @@ impl MoveEnergy {
             self.new.variables.of_sites.items) }
         ensures variables { OnOk result (vec_len self.new.form.weights ≡ open_count
             self.new.variables.choices.items) }
-        ensures built { (m : Instance) →
-            IsMeant (F.post data_cost.now.f) (V.post smooth_cost.now.v) pairs.now data_cost.now.labels m →
-            OnOk result (Stands m change at.now self.new) }
+        ensures built { Meant F.Fn V.Fn problem.now (λ m. OnOk result (Stands m change at.now self.new)) }
     {
-        let _sites = pairs.sites();
-        let _pairs = pairs.as_slice();
         let count = self.variables.number_listed(opened)?;
         let form = Quadratic::zero(alloc, count)?;
         self.form = form;
-        add_listed_sites(
-            data_cost,
-            &mut self.form,
-            at,
-            change,
-            &self.variables,
-            opened,
-        );
+        add_listed_sites(problem, &mut self.form, at, change, &self.variables, opened);
         add_listed_pairs(
-            pairs,
+            problem,
             ends,
-            smooth_cost,
             &mut self.form,
             at,
             change,

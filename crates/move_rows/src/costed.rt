@@ -1,19 +1,17 @@
 //! Small random moves and runs where labels cost something by themselves, and the bounds of settled runs, against answers
 //! worked out over all labellings.
-ghost use Rattle.std.specs.Prelude.{◌≡◌, ◌≤◌, ◌<◌, ◌+◌, ◌*◌, ◌≤ℤ◌, pos, length, ℕ, IsTrue, IfOk, All};
-ghost use Rattle.labellings.specs.Energies.{IsMetric};
-ghost use Rattle.cost_store.specs.Limits.{data_limit, smooth_limit};
-ghost use Rattle.cost_store.specs.Promises.{Answers, IsCost, Keeps, KeepsSmooth, entry_at};
-ghost use Rattle.move_energy.specs.Problems.{AreSized};
-ghost use Rattle.moves.specs.LabelCosts.{AreLabelCosts};
+ghost use Rattle.std.specs.Prelude.{◌≡◌, ◌≤◌, ◌<◌, ◌+◌, ◌*◌, ◌≤ℤ◌, pos, length, IfOk, All};
+ghost use Rattle.cost_store.specs.Limits.{smooth_limit};
+ghost use Rattle.cost_store.specs.Posed.{IsPosed, Fits};
+ghost use Rattle.cost_store.specs.Promises.{IsCost, entry_at};
 
 use crate::costs::COSTED;
 use crate::random::{
     BYTES, CutAlone, DATA, SMOOTH, digit, is_answered, number, number_of, pairs_of, start_of,
 };
-use cost_store::{DataCost, SmoothCost, check_table, is_metric};
+use cost_store::{DataCost, Problem, SmoothCost, check_table, is_metric};
 use label_field::Labelling;
-use moves::{Alone, How, MoveError, Problem};
+use moves::{Alone, How, MoveError, expansion_bound};
 use std::alloc::{AllocError, Global};
 use std::process::Abort;
 use std::test::Fail;
@@ -69,21 +67,6 @@ fn smooth_of(
     Ok(table)
 }
 
-/// Stores a closure of smooth costs, as a metric where its table is one.
-fn stored<V: Fn(u32, u32) -> i64>(cost: V, labels: u32, by_metric: bool) -> SmoothCost<V>
-    requires keeps { Keeps (V.pre cost) (V.post cost) labels labels smooth_limit }
-    requires metric { IsTrue by_metric → (table : ℕ → ℕ → ℕ) →
-        Answers (V.post cost) table labels labels → IsMetric labels table }
-    ensures stored { result ≡ record { v = cost; labels = labels; by_metric = by_metric } }
-    ensures keeps { KeepsSmooth (V.pre result.v) (V.post result.v) result.labels result.by_metric }
-{
-    if by_metric {
-        SmoothCost::metric(cost, labels)
-    } else {
-        SmoothCost::new(cost, labels)
-    }
-}
-
 /// Whether the bound is that of a row, and a settled run of expansions has ended within it.
 fn is_bounded<F: Fn(u32, u32) -> i64 + Sync, V: Fn(u32, u32) -> i64 + Sync>(
     problem: &Problem<F, V>,
@@ -91,16 +74,11 @@ fn is_bounded<F: Fn(u32, u32) -> i64 + Sync, V: Fn(u32, u32) -> i64 + Sync>(
     row: &[u8; COSTED_BYTES],
     is_settled: bool,
 ) -> bool
-    requires sizes { AreSized problem.now.pairs problem.now.data_cost.sites problem.now.data_cost.labels
-        problem.now.smooth_cost.labels labelling.now }
-    requires costs { Keeps (F.pre problem.now.data_cost.f) (F.post problem.now.data_cost.f)
-        problem.now.data_cost.sites problem.now.data_cost.labels data_limit }
-    requires smooth { KeepsSmooth (V.pre problem.now.smooth_cost.v) (V.post problem.now.smooth_cost.v)
-        problem.now.smooth_cost.labels problem.now.smooth_cost.by_metric }
-    requires label_costs { AreLabelCosts problem.now.data_cost.labels problem.now.label_costs }
+    requires posed { IsPosed F.Fn V.Fn problem.now }
+    requires fits { Fits problem.now labelling.now }
 {
     let told = (decimal(row, 110, 5), decimal(row, 115, 5));
-    match problem.expansion_bound() {
+    match expansion_bound(problem) {
         Ok(bound) => {
             let energy = problem.energy(labelling).unsigned_abs();
             let least = u64::from(decimal(row, 120, 9));
@@ -111,6 +89,26 @@ fn is_bounded<F: Fn(u32, u32) -> i64 + Sync, V: Fn(u32, u32) -> i64 + Sync>(
         }
         Err(error) => error == MoveError::NoBound && told == (0, 0),
     }
+}
+
+/// Whether the move or the run of a row is answered as the row says, and is within its bound. The first bytes of the row
+/// are given once more.
+fn is_told<F: Fn(u32, u32) -> i64 + Sync, V: Fn(u32, u32) -> i64 + Sync, H: How>(
+    problem: &Problem<F, V>,
+    alloc: Global,
+    labelling: &mut Labelling,
+    row: &[u8; COSTED_BYTES],
+    moved: &[u8; BYTES],
+    how: &H,
+) -> bool
+    requires ready { H.ready how.now }
+    requires posed { IsPosed F.Fn V.Fn problem.now }
+    requires fits { Fits problem.now labelling.old }
+{
+    let label_energy = i64::from(decimal(row, 102, 8));
+    let is_answered = is_answered(problem, alloc, labelling, moved, label_energy, &[], how);
+    let is_settled = digit(moved, 3) == 2 && digit(moved, 5) == 1;
+    is_answered && is_bounded(problem, labelling, row, is_settled)
 }
 
 /// Whether a row is right.
@@ -147,24 +145,13 @@ fn is_right<H: How>(
             sites,
             labels,
         ),
-        smooth_cost: stored(cost, labels, is_metric(smooth, labels)),
+        smooth_cost: SmoothCost::stored(cost, labels, is_metric(smooth, labels)),
         label_costs: None,
     };
     let Ok(()) = problem.set_label_costs(alloc, &costs_of(row)[..labels as usize]) else {
         return Ok(false);
     };
-    let label_energy = i64::from(decimal(row, 102, 8));
-    let is_answered = is_answered(
-        &problem,
-        alloc,
-        &mut labelling,
-        &moved,
-        label_energy,
-        &[],
-        how,
-    );
-    let is_settled = digit(&moved, 3) == 2 && digit(&moved, 5) == 1;
-    Ok(is_answered && is_bounded(&problem, &labelling, row, is_settled))
+    Ok(is_told(&problem, alloc, &mut labelling, row, &moved, how))
 }
 
 /// Moves and runs worked by hand, each a row of this table's form.

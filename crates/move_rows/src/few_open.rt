@@ -1,18 +1,15 @@
 //! Listed moves of which few sites are left for a cut, or none, or all.
 ghost use Rattle.std.specs.Prelude.{◌≡◌, ◌≤◌, ◌<◌, ◌≤ℤ◌, pos, length};
 ghost use Rattle.labellings.specs.Moves.{IsMoveOf};
-ghost use Rattle.cost_store.specs.Limits.{data_limit};
-ghost use Rattle.cost_store.specs.Promises.{Keeps, KeepsSmooth};
-ghost use Rattle.move_energy.specs.Problems.{AreSized};
-ghost use Rattle.moves.specs.LabelCosts.{AreLabelCosts};
+ghost use Rattle.cost_store.specs.Posed.{IsPosed, Fits};
 
 use crate::listed::LISTED;
 use crate::opened::open_in;
 use crate::random::CutAlone;
-use cost_store::{DataCost, SmoothCost};
+use cost_store::{DataCost, Problem, SmoothCost};
 use label_field::{Labelling, Pairs};
 use labellings::Move;
-use moves::{Alone, How, Problem};
+use moves::{Alone, How, expand, swap};
 use std::alloc::Global;
 use std::process::Abort;
 use std::test::Fail;
@@ -95,17 +92,12 @@ fn ends_right<F: Fn(u32, u32) -> i64 + Sync, V: Fn(u32, u32) -> i64 + Sync, H: H
     how: &H,
 ) -> bool
     requires ready { H.ready how.now }
-    requires sizes { AreSized problem.now.pairs problem.now.data_cost.sites problem.now.data_cost.labels
-        problem.now.smooth_cost.labels labelling.old }
-    requires costs { Keeps (F.pre problem.now.data_cost.f) (F.post problem.now.data_cost.f)
-        problem.now.data_cost.sites problem.now.data_cost.labels data_limit }
-    requires smooth { KeepsSmooth (V.pre problem.now.smooth_cost.v) (V.post problem.now.smooth_cost.v)
-        problem.now.smooth_cost.labels problem.now.smooth_cost.by_metric }
-    requires label_costs { AreLabelCosts problem.now.data_cost.labels problem.now.label_costs }
+    requires posed { IsPosed F.Fn V.Fn problem.now }
+    requires fits { Fits problem.now labelling.old }
 {
     let told = match change {
-        Move::Expand(alpha) => problem.expand(alloc, labelling, alpha, how),
-        Move::Swap(alpha, beta) => problem.swap(alloc, labelling, alpha, beta, how),
+        Move::Expand(alpha) => expand(alloc, problem, labelling, alpha, how),
+        Move::Swap(alpha, beta) => swap(alloc, problem, labelling, alpha, beta, how),
     };
     told == Ok(number(row, 7) == 1) && labelling.as_slice() == wanted.as_slice()
 }
@@ -120,16 +112,10 @@ fn is_told<F: Fn(u32, u32) -> i64 + Sync, V: Fn(u32, u32) -> i64 + Sync>(
     wanted: &Labelling,
     row: &[u8; BYTES],
 ) -> Result<bool, Fail>
-    requires sizes { AreSized problem.now.pairs problem.now.data_cost.sites problem.now.data_cost.labels
-        problem.now.smooth_cost.labels labelling.old }
-    requires again { AreSized problem.now.pairs problem.now.data_cost.sites problem.now.data_cost.labels
-        problem.now.smooth_cost.labels again.old }
+    requires posed { IsPosed F.Fn V.Fn problem.now }
+    requires fits { Fits problem.now labelling.old }
+    requires again { Fits problem.now again.old }
     requires labels { 1 ≤ problem.now.data_cost.labels }
-    requires costs { Keeps (F.pre problem.now.data_cost.f) (F.post problem.now.data_cost.f)
-        problem.now.data_cost.sites problem.now.data_cost.labels data_limit }
-    requires smooth { KeepsSmooth (V.pre problem.now.smooth_cost.v) (V.post problem.now.smooth_cost.v)
-        problem.now.smooth_cost.labels problem.now.smooth_cost.by_metric }
-    requires label_costs { AreLabelCosts problem.now.data_cost.labels problem.now.label_costs }
 {
     let change = change_of(row, problem.data_cost.labels);
     let opened = open_in(alloc, problem, labelling, change)?;

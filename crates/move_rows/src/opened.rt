@@ -1,17 +1,14 @@
 //! How many sites of the moves of a first cycle are left for a cut, on a picture that a formula gives.
 ghost use Rattle.std.specs.Prelude.{◌<◌, ◌≤ℤ◌, pos};
 ghost use Rattle.labellings.specs.Moves.{IsMoveOf};
-ghost use Rattle.cost_store.specs.Limits.{data_limit};
-ghost use Rattle.cost_store.specs.Promises.{Keeps, KeepsSmooth};
-ghost use Rattle.move_energy.specs.Problems.{AreSized};
-ghost use Rattle.moves.specs.LabelCosts.{AreLabelCosts};
+ghost use Rattle.cost_store.specs.Posed.{IsPosed, Fits};
 
-use cost_store::{DataCost, SmoothCost};
+use cost_store::{DataCost, Problem, SmoothCost};
 use deciding::Deciding;
 use label_field::{Labelling, Pairs};
 use labellings::Move;
 use move_energy::Choice;
-use moves::{Alone, Problem};
+use moves::{Alone, expand};
 use std::alloc::Global;
 use std::process::Abort;
 use std::test::Fail;
@@ -59,23 +56,12 @@ pub fn open_in<F: Fn(u32, u32) -> i64 + Sync, V: Fn(u32, u32) -> i64 + Sync>(
     labelling: &Labelling,
     change: Move,
 ) -> Result<Option<usize>, Fail>
-    requires sizes { AreSized problem.now.pairs problem.now.data_cost.sites problem.now.data_cost.labels
-        problem.now.smooth_cost.labels labelling.now }
+    requires posed { IsPosed F.Fn V.Fn problem.now }
+    requires fits { Fits problem.now labelling.now }
     requires change { IsMoveOf problem.now.data_cost.labels change }
-    requires costs { Keeps (F.pre problem.now.data_cost.f) (F.post problem.now.data_cost.f)
-        problem.now.data_cost.sites problem.now.data_cost.labels data_limit }
-    requires smooth { KeepsSmooth (V.pre problem.now.smooth_cost.v) (V.post problem.now.smooth_cost.v)
-        problem.now.smooth_cost.labels problem.now.smooth_cost.by_metric }
-    requires label_costs { AreLabelCosts problem.now.data_cost.labels problem.now.label_costs }
 {
     let mut deciding = Deciding::new(alloc, &problem.pairs)?;
-    let decided = deciding.decide(
-        &problem.pairs,
-        &problem.data_cost,
-        &problem.smooth_cost,
-        labelling.as_slice(),
-        change,
-    );
+    let decided = deciding.decide(problem, labelling.as_slice(), change);
     if decided.is_err() {
         return Ok(None);
     }
@@ -83,24 +69,19 @@ pub fn open_in<F: Fn(u32, u32) -> i64 + Sync, V: Fn(u32, u32) -> i64 + Sync>(
 }
 
 /// Expands a label, and answers how many sites are left open, and how many change; none where it was refused.
-fn expand<F: Fn(u32, u32) -> i64 + Sync, V: Fn(u32, u32) -> i64 + Sync>(
+fn expanded<F: Fn(u32, u32) -> i64 + Sync, V: Fn(u32, u32) -> i64 + Sync>(
     alloc: Global,
     problem: &Problem<F, V>,
     labelling: &mut Labelling,
     alpha: u32,
 ) -> Result<Option<(usize, usize)>, Fail>
-    requires sizes { AreSized problem.now.pairs problem.now.data_cost.sites problem.now.data_cost.labels
-        problem.now.smooth_cost.labels labelling.old }
+    requires posed { IsPosed F.Fn V.Fn problem.now }
+    requires fits { Fits problem.now labelling.old }
     requires label { alpha < problem.now.data_cost.labels }
-    requires costs { Keeps (F.pre problem.now.data_cost.f) (F.post problem.now.data_cost.f)
-        problem.now.data_cost.sites problem.now.data_cost.labels data_limit }
-    requires smooth { KeepsSmooth (V.pre problem.now.smooth_cost.v) (V.post problem.now.smooth_cost.v)
-        problem.now.smooth_cost.labels problem.now.smooth_cost.by_metric }
-    requires label_costs { AreLabelCosts problem.now.data_cost.labels problem.now.label_costs }
 {
     let opened = open_in(alloc, problem, labelling, Move::Expand(alpha))?;
     let before = Vec::from_slice(alloc, labelling.as_slice())?;
-    let moved = problem.expand(alloc, labelling, alpha, &Alone);
+    let moved = expand(alloc, problem, labelling, alpha, &Alone);
     if moved.is_err() {
         return Ok(None);
     }
@@ -116,6 +97,7 @@ fn expand_picture(
     alpha: u32,
 ) -> Result<Option<(usize, usize)>, Fail> {
     let pairs = Pairs::grid4(alloc, 64, 64, 1)?;
+    pairs.keeps();
     assert!(*rt; alpha < 4 && pairs.sites() == 4096);
     assert!(*rt; labelling.sites() == 4096);
     assert!(*rt; labelling.labels() == 4);
@@ -137,7 +119,7 @@ fn expand_picture(
         ),
         label_costs: None,
     };
-    expand(alloc, &problem, labelling, alpha)
+    expanded(alloc, &problem, labelling, alpha)
 }
 
 #[test]

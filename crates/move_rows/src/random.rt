@@ -1,18 +1,15 @@
 //! Small random moves and runs, with sites decided first and without, against answers worked out over all
 //! labellings.
 ghost use Rattle.std.specs.Prelude.{◌≡◌, ◌≤◌, ◌<◌, ◌+◌, ◌*◌, ◌≤ℤ◌, pos, length};
-ghost use Rattle.cost_store.specs.Limits.{data_limit};
-ghost use Rattle.cost_store.specs.Promises.{Keeps, KeepsSmooth};
-ghost use Rattle.move_energy.specs.Problems.{AreSized};
-ghost use Rattle.moves.specs.LabelCosts.{AreLabelCosts};
+ghost use Rattle.cost_store.specs.Posed.{IsPosed, Fits, AreOfOneSize};
 ghost use Rattle.moves.specs.declared.error.SolveError.TheVariants.{OutOfMemory};
 
 use crate::cases::MOVES;
 use crate::chains::RUNS;
-use cost_store::{DataCost, SmoothCost};
+use cost_store::{DataCost, Problem, SmoothCost};
 use flow_network::Net;
 use label_field::{Labelling, Pairs};
-use moves::{Alone, How, MoveError, Problem, SolveError};
+use moves::{Alone, How, MoveError, SolveError, expand, run_expansion, run_swap, swap};
 use std::alloc::Global;
 use std::process::Abort;
 
@@ -167,26 +164,20 @@ fn answer_of<F: Fn(u32, u32) -> i64 + Sync, V: Fn(u32, u32) -> i64 + Sync, H: Ho
     how: &H,
 ) -> Result<(bool, u32), MoveError>
     requires ready { H.ready how.now }
-    requires sizes { AreSized problem.now.pairs problem.now.data_cost.sites problem.now.data_cost.labels
-        problem.now.smooth_cost.labels labelling.old }
-    requires costs { Keeps (F.pre problem.now.data_cost.f) (F.post problem.now.data_cost.f)
-        problem.now.data_cost.sites problem.now.data_cost.labels data_limit }
-    requires smooth { KeepsSmooth (V.pre problem.now.smooth_cost.v) (V.post problem.now.smooth_cost.v)
-        problem.now.smooth_cost.labels problem.now.smooth_cost.by_metric }
-    requires label_costs { AreLabelCosts problem.now.data_cost.labels problem.now.label_costs }
-    ensures sizes { (labelling.new.labels ≡ labelling.old.labels)
-        × (length labelling.new.at ≡ length labelling.old.at) }
+    requires posed { IsPosed F.Fn V.Fn problem.now }
+    requires fits { Fits problem.now labelling.old }
+    ensures sizes { AreOfOneSize labelling.old labelling.new }
 {
     let (cycles, alpha, beta) = (digit(row, 4), digit(row, 7), digit(row, 8));
     match digit(row, 3) {
-        0 => Ok((problem.expand(alloc, labelling, alpha, how)?, 0)),
-        1 => Ok((problem.swap(alloc, labelling, alpha, beta, how)?, 0)),
+        0 => Ok((expand(alloc, problem, labelling, alpha, how)?, 0)),
+        1 => Ok((swap(alloc, problem, labelling, alpha, beta, how)?, 0)),
         2 => {
-            let ended = problem.run_expansion(alloc, labelling, cycles, how)?;
+            let ended = run_expansion(alloc, problem, labelling, cycles, how)?;
             Ok((ended.settled, ended.cycles))
         }
         _ => {
-            let ended = problem.run_swap(alloc, labelling, cycles, how)?;
+            let ended = run_swap(alloc, problem, labelling, cycles, how)?;
             Ok((ended.settled, ended.cycles))
         }
     }
@@ -199,13 +190,8 @@ fn is_after<F: Fn(u32, u32) -> i64 + Sync, V: Fn(u32, u32) -> i64 + Sync>(
     row: &[u8; BYTES],
     label_energy: i64,
 ) -> bool
-    requires sizes { AreSized problem.now.pairs problem.now.data_cost.sites problem.now.data_cost.labels
-        problem.now.smooth_cost.labels labelling.now }
-    requires costs { Keeps (F.pre problem.now.data_cost.f) (F.post problem.now.data_cost.f)
-        problem.now.data_cost.sites problem.now.data_cost.labels data_limit }
-    requires smooth { KeepsSmooth (V.pre problem.now.smooth_cost.v) (V.post problem.now.smooth_cost.v)
-        problem.now.smooth_cost.labels problem.now.smooth_cost.by_metric }
-    requires label_costs { AreLabelCosts problem.now.data_cost.labels problem.now.label_costs }
+    requires posed { IsPosed F.Fn V.Fn problem.now }
+    requires fits { Fits problem.now labelling.now }
 {
     let data_energy = energy_at(row, 82);
     let smooth_energy = energy_at(row, 90);
@@ -232,15 +218,9 @@ pub fn is_answered<F: Fn(u32, u32) -> i64 + Sync, V: Fn(u32, u32) -> i64 + Sync,
     how: &H,
 ) -> bool
     requires ready { H.ready how.now }
-    requires sizes { AreSized problem.now.pairs problem.now.data_cost.sites problem.now.data_cost.labels
-        problem.now.smooth_cost.labels labelling.old }
-    requires costs { Keeps (F.pre problem.now.data_cost.f) (F.post problem.now.data_cost.f)
-        problem.now.data_cost.sites problem.now.data_cost.labels data_limit }
-    requires smooth { KeepsSmooth (V.pre problem.now.smooth_cost.v) (V.post problem.now.smooth_cost.v)
-        problem.now.smooth_cost.labels problem.now.smooth_cost.by_metric }
-    requires label_costs { AreLabelCosts problem.now.data_cost.labels problem.now.label_costs }
-    ensures sizes { (labelling.new.labels ≡ labelling.old.labels)
-        × (length labelling.new.at ≡ length labelling.old.at) }
+    requires posed { IsPosed F.Fn V.Fn problem.now }
+    requires fits { Fits problem.now labelling.old }
+    ensures sizes { AreOfOneSize labelling.old labelling.new }
 {
     let first = answer_of(problem, alloc, labelling, row, how);
     if first != Err(MoveError::OutOfMemory) {

@@ -16,7 +16,8 @@ use Rattle.flow_network.specs.Cut.{Network, nodes, capacity_of, IsLeastCut, IsSm
 use Rattle.compile_cut.specs.declared.quadratic.Quadratic.{Quadratic}
 use Rattle.compile_cut.specs.Form.{quadratic_value}
 use Rattle.compile_cut.specs.Shown.{Hides}
-use Rattle.label_costs.specs.Costs.{cost_at, AreCostsOf, costs_below, AddsHidden}
+use Rattle.cost_store.specs.LabelCosts.{cost_at}
+use Rattle.label_costs.specs.Costs.{AreCostsOf, costs_below, AddsHidden}
 use Rattle.deciding.proofs.Hiding.{hidden_least}
 use Rattle.move_energy.specs.declared.choice.Choice.{Choice}
 use Rattle.move_energy.specs.declared.choice.Choice.TheVariants.{Open, Zero as DecidedZero, One as DecidedOne}

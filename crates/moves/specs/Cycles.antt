@@ -1,16 +1,8 @@
--- The moves of a cycle, and which of them are known.
+-- Which moves of a cycle are known.
 use Rattle.std.specs.Prelude.{◌≡◌, ℕ, ◌≤◌, List, slice_get, Some}
 use Rattle.labellings.specs.declared.change.Move.{Move}
 use Rattle.labellings.specs.Energies.{Instance, labelling}
 use Rattle.labellings.specs.Moves.{IsAllowed, IsBest}
-use Rattle.labellings.specs.Chains.{expansions, swaps}
-use Rattle.moves.specs.declared.cycle.Kind.{Kind}
-use Rattle.moves.specs.declared.cycle.Kind.TheVariants.{Expansion, Swap}
-
--- the moves of a cycle of this kind
-abbrev pub moves_of : Kind → ℕ → List Move
-moves_of Expansion labels = expansions labels
-moves_of Swap labels = swaps labels
 
 -- from this place on, each move of the list has regular terms and changes nothing where it is made from f
 abbrev pub AreBestFrom : Instance → List Move → ℕ → List ℕ → Type 0

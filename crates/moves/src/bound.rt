@@ -2,16 +2,15 @@
 ghost use Rattle.std.specs.Prelude.{◌≡◌, ◌*◌, ◌≤◌, ◌↔◌, ℕ, List, IsTrue, IsOk, IfOk, IfErr, Ok};
 ghost use Rattle.labellings.specs.Energies.{Instance, IsInstance, IsLabelled, energy, labelling};
 ghost use Rattle.labellings.specs.Chains.{expansions};
-ghost use Rattle.cost_store.specs.Promises.{KeepsSmooth};
-ghost use Rattle.move_energy.specs.Problems.{IsMeant};
+ghost use Rattle.cost_store.specs.Posed.{IsPosed, Meant};
 ghost use Rattle.moves.specs.declared.bound.Bound.{Bound};
 ghost use Rattle.moves.specs.declared.runs.Ended.{Ended};
 ghost use Rattle.moves.specs.Bounds.{IsBoundOf};
-ghost use Rattle.moves.specs.LabelCosts.{costs_of as costs_in, HasCosts, AreFree};
+ghost use Rattle.cost_store.specs.LabelCosts.{costs_of as costs_in, AreFree};
 ghost use Rattle.moves.specs.Problems.{IsRun};
 
-use crate::by_label::{costs_of, has_cost};
-use crate::{MoveError, Problem};
+use crate::MoveError;
+use cost_store::{Problem, costs_of, has_cost};
 
 /// The least and the greatest smooth cost of two unequal labels, both 1 where there is one label.
 #[derive(Clone, Copy, Debug, PartialEq, Eq)]
@@ -20,34 +19,29 @@ pub struct Bound {
     pub vmax: u64,
 }
 
-impl<F: Fn(u32, u32) -> i64 + Sync, V: Fn(u32, u32) -> i64 + Sync> Problem<F, V> {
-    /// The numbers by which a settled run of expansions is near: `vmin` times its energy is at most twice `vmax` times that
-    /// of any labelling (Boykov, Veksler, Zabih, PAMI 2001, theorem 6.1). `NoBound` exactly where the smooth costs were not
-    /// stored as a metric, or some label costs something by itself. It takes no memory.
-    pub fn expansion_bound(&self) -> Result<Bound, MoveError>
-        requires smooth { KeepsSmooth (V.pre self.now.smooth_cost.v) (V.post self.now.smooth_cost.v)
-            self.now.smooth_cost.labels self.now.smooth_cost.by_metric }
-        requires labels { self.now.smooth_cost.labels ≡ self.now.data_cost.labels }
-        ensures bound { IfOk result (λ bound. (m : Instance) →
-            IsMeant (F.post self.now.data_cost.f) (V.post self.now.smooth_cost.v) self.now.pairs
-            self.now.data_cost.labels m →
-            HasCosts m self.now.label_costs → IsBoundOf m bound) }
-        ensures accepted { IsOk result ↔ (IsTrue self.now.smooth_cost.by_metric
-            × AreFree (costs_in self.now.label_costs)) }
-        ensures refused { IfErr result (λ e. e ≡ MoveError.NoBound) }
-    {
-        if !self.smooth_cost.by_metric {
-            return Err(MoveError::NoBound);
-        }
-        if has_cost(costs_of(&self.label_costs)) {
-            return Err(MoveError::NoBound);
-        }
-        let ratio = self.smooth_cost.ratio();
-        Ok(Bound {
-            vmin: ratio.least,
-            vmax: ratio.greatest,
-        })
+/// The numbers by which a settled run of expansions is near: `vmin` times its energy is at most twice `vmax` times that
+/// of any labelling (Boykov, Veksler, Zabih, PAMI 2001, theorem 6.1). `NoBound` exactly where the smooth costs were not
+/// stored as a metric, or some label costs something by itself. It takes no memory.
+pub fn expansion_bound<F: Fn(u32, u32) -> i64 + Sync, V: Fn(u32, u32) -> i64 + Sync>(
+    problem: &Problem<F, V>,
+) -> Result<Bound, MoveError>
+    requires posed { IsPosed F.Fn V.Fn problem.now }
+    ensures bound { IfOk result (λ bound. Meant F.Fn V.Fn problem.now (λ m. IsBoundOf m bound)) }
+    ensures accepted { IsOk result ↔ (IsTrue problem.now.smooth_cost.by_metric
+        × AreFree (costs_in problem.now.label_costs)) }
+    ensures refused { IfErr result (λ e. e ≡ MoveError.NoBound) }
+{
+    if !problem.smooth_cost.by_metric {
+        return Err(MoveError::NoBound);
     }
+    if has_cost(costs_of(&problem.label_costs)) {
+        return Err(MoveError::NoBound);
+    }
+    let ratio = problem.smooth_cost.ratio();
+    Ok(Bound {
+        vmin: ratio.least,
+        vmax: ratio.greatest,
+    })
 }
 
 /// A settled run of expansions is within its bound of every labelling.

@@ -1,23 +1,22 @@
 //! The energy of a move, of which sites are decided before it is built.
 ghost use Rattle.std.specs.Prelude.{◌≡◌, ◌+◌, ◌<◌, ◌≤◌, All, length, vec_len, false, OnOk, IsTrue};
 ghost use Rattle.by_site.specs.BySite.{AreBySite};
-ghost use Rattle.labellings.specs.Energies.{Instance, labelling};
-ghost use Rattle.labellings.specs.Moves.{IsMoveOf, IsAllowed};
+ghost use Rattle.labellings.specs.Energies.{labelling};
+ghost use Rattle.labellings.specs.Moves.{IsAllowed};
 ghost use Rattle.label_field.specs.Limits.{site_limit, label_limit};
 ghost use Rattle.pseudo_bool.specs.Limits.{term_limit};
 ghost use Rattle.compile_cut.specs.Form.{IsBounded};
-ghost use Rattle.cost_store.specs.Limits.{data_limit};
-ghost use Rattle.cost_store.specs.Promises.{Keeps, KeepsSmooth};
+ghost use Rattle.cost_store.specs.Posed.{IsPosed, Meant, IsAsked};
 ghost use Rattle.move_energy.specs.Choices.{AreOpenSites, AreSettled};
-ghost use Rattle.move_energy.specs.Problems.{IsMeant, Stands};
+ghost use Rattle.move_energy.specs.Problems.{Stands};
 ghost use Rattle.deciding.specs.Decided.{IsDecidedMove};
 ghost use Rattle.moves.specs.Building.{IsGroupedFor, IsNear, IsNearWhereListed, IsBuiltPlain, IsBuiltMove};
-ghost use Rattle.moves.specs.LabelCosts.{costs_of, AreCosts, AreLabelCosts, HasCosts, IsFreeFor};
+ghost use Rattle.cost_store.specs.LabelCosts.{costs_of, AreCosts};
+ghost use Rattle.moves.specs.LabelCosts.{IsFreeFor};
 ghost use Rattle.labellings.specs.declared.change.Move.TheVariants.{Expand};
 ghost use Rattle.label_costs.specs.Costs.{AreCostsOf};
 
-use crate::Problem;
-use crate::by_label::{costs_of, has_cost};
+use cost_store::{Problem, costs_of, has_cost};
 use deciding::{Bounds, Deciding};
 use label_costs::add_label_costs;
 use label_field::Pairs;
@@ -115,381 +114,255 @@ impl Room {
     }
 }
 
-impl<F: Fn(u32, u32) -> i64 + Sync, V: Fn(u32, u32) -> i64 + Sync> Problem<F, V> {
-    /// Decides the sites of a move, which the room then knows.
-    fn decide(
-        &self,
-        alloc: Global,
-        room: &mut Room,
-        at: &[u8],
-        change: Move,
-    ) -> Result<(), BuildError>
-        requires sites { (length at.now ≡ self.now.pairs.sites)
-            × (self.now.data_cost.sites ≡ self.now.pairs.sites) }
-        requires labels { (self.now.smooth_cost.labels ≡ self.now.data_cost.labels)
-            × All (λ label. label < self.now.data_cost.labels) at.now }
-        requires change { IsMoveOf self.now.data_cost.labels change }
-        requires costs { Keeps (F.pre self.now.data_cost.f) (F.post self.now.data_cost.f)
-            self.now.data_cost.sites self.now.data_cost.labels data_limit }
-        requires smooth { KeepsSmooth (V.pre self.now.smooth_cost.v) (V.post self.now.smooth_cost.v)
-            self.now.smooth_cost.labels self.now.smooth_cost.by_metric }
-        requires by_site { IsGroupedFor self.now.pairs room.old }
-        ensures by_site { IsGroupedFor self.now.pairs room.new }
-        ensures near { OnOk result (IsNear self.now.pairs change at.now room.new) }
-        ensures choices { OnOk result (length room.new.built.variables.choices.items ≡ length at.now) }
-        ensures decided { (m : Instance) →
-            IsMeant (F.post self.now.data_cost.f) (V.post self.now.smooth_cost.v) self.now.pairs
-            self.now.data_cost.labels m →
-            IsDecidedMove m change at.now room.new.built.variables.choices.items result }
-    {
-        room.group(alloc, &self.pairs)?;
-        room.deciding.decide(&self.pairs, &self.data_cost, &self.smooth_cost, at, change)?;
-        swap(
-            &mut room.deciding.bounds.choices,
-            &mut room.built.variables.choices,
-        );
-        Ok(())
-    }
+/// Decides the sites of a move, which the room then knows.
+fn decide<F: Fn(u32, u32) -> i64 + Sync, V: Fn(u32, u32) -> i64 + Sync>(
+    alloc: Global,
+    problem: &Problem<F, V>,
+    room: &mut Room,
+    at: &[u8],
+    change: Move,
+) -> Result<(), BuildError>
+    requires asked { IsAsked problem.now at.now change }
+    requires posed { IsPosed F.Fn V.Fn problem.now }
+    requires by_site { IsGroupedFor problem.now.pairs room.old }
+    ensures by_site { IsGroupedFor problem.now.pairs room.new }
+    ensures near { OnOk result (IsNear problem.now.pairs change at.now room.new) }
+    ensures choices { OnOk result (length room.new.built.variables.choices.items ≡ length at.now) }
+    ensures decided { Meant F.Fn V.Fn problem.now (λ m. IsDecidedMove m change at.now
+        room.new.built.variables.choices.items result) }
+{
+    room.group(alloc, &problem.pairs)?;
+    room.deciding.decide(problem, at, change)?;
+    swap(
+        &mut room.deciding.bounds.choices,
+        &mut room.built.variables.choices,
+    );
+    Ok(())
+}
 
-    /// The energy of a move over its listed open sites. What was decided is not looked at.
-    fn build_near(
-        &self,
-        alloc: Global,
-        room: &mut Room,
-        at: &[u8],
-        change: Move,
-    ) -> Result<(), AllocError>
-        requires sites { (length at.now ≡ self.now.pairs.sites)
-            × (self.now.data_cost.sites ≡ self.now.pairs.sites) }
-        requires labels { (self.now.smooth_cost.labels ≡ self.now.data_cost.labels)
-            × All (λ label. label < self.now.data_cost.labels) at.now }
-        requires change { IsMoveOf self.now.data_cost.labels change }
-        requires costs { Keeps (F.pre self.now.data_cost.f) (F.post self.now.data_cost.f)
-            self.now.data_cost.sites self.now.data_cost.labels data_limit }
-        requires smooth { KeepsSmooth (V.pre self.now.smooth_cost.v) (V.post self.now.smooth_cost.v)
-            self.now.smooth_cost.labels self.now.smooth_cost.by_metric }
-        requires choices { length room.old.built.variables.choices.items ≡ length at.now }
-        requires near { IsNear self.now.pairs change at.now room.old }
-        requires listed { IsTrue room.old.deciding.lists.listed }
-        requires allowed { (m : Instance) →
-            IsMeant (F.post self.now.data_cost.f) (V.post self.now.smooth_cost.v) self.now.pairs
-            self.now.data_cost.labels m →
-            IsAllowed m change (labelling at.now) }
-        ensures same { (room.new.grouped ≡ room.old.grouped) × (room.new.deciding ≡ room.old.deciding) }
-        ensures kept { room.new.built.variables.choices.items ≡ room.old.built.variables.choices.items }
-        ensures bounded { OnOk result (IsBounded term_limit room.new.built.form) }
-        ensures few { OnOk result (vec_len room.new.built.form.weights ≤ site_limit) }
-        ensures stands { (m : Instance) →
-            IsMeant (F.post self.now.data_cost.f) (V.post self.now.smooth_cost.v) self.now.pairs
-            self.now.data_cost.labels m →
-            OnOk result (Stands m change at.now room.new.built) }
-    {
-        room.built.build_listed(
-            alloc,
-            &self.pairs,
-            &room.deciding.ends,
-            &room.deciding.lists.opened,
-            &self.data_cost,
-            &self.smooth_cost,
-            at,
-            change,
-        )
-    }
+/// The energy of a move over its listed open sites. What was decided is not looked at.
+fn build_near<F: Fn(u32, u32) -> i64 + Sync, V: Fn(u32, u32) -> i64 + Sync>(
+    alloc: Global,
+    problem: &Problem<F, V>,
+    room: &mut Room,
+    at: &[u8],
+    change: Move,
+) -> Result<(), AllocError>
+    requires asked { IsAsked problem.now at.now change }
+    requires posed { IsPosed F.Fn V.Fn problem.now }
+    requires choices { length room.old.built.variables.choices.items ≡ length at.now }
+    requires near { IsNear problem.now.pairs change at.now room.old }
+    requires listed { IsTrue room.old.deciding.lists.listed }
+    requires allowed { Meant F.Fn V.Fn problem.now (λ m. IsAllowed m change (labelling at.now)) }
+    ensures same { (room.new.grouped ≡ room.old.grouped) × (room.new.deciding ≡ room.old.deciding) }
+    ensures kept { room.new.built.variables.choices.items ≡ room.old.built.variables.choices.items }
+    ensures bounded { OnOk result (IsBounded term_limit room.new.built.form) }
+    ensures few { OnOk result (vec_len room.new.built.form.weights ≤ site_limit) }
+    ensures stands { Meant F.Fn V.Fn problem.now (λ m. OnOk result (Stands m change at.now room.new.built)) }
+{
+    room.built.build_listed(
+        alloc,
+        problem,
+        &room.deciding.ends,
+        &room.deciding.lists.opened,
+        at,
+        change,
+    )
+}
 
-    /// The energy of a move, for which all sites and pairs are looked at.
-    fn build_all(
-        &self,
-        alloc: Global,
-        room: &mut Room,
-        at: &[u8],
-        change: Move,
-    ) -> Result<(), AllocError>
-        requires sites { (length at.now ≡ self.now.pairs.sites)
-            × (self.now.data_cost.sites ≡ self.now.pairs.sites) }
-        requires labels { (self.now.smooth_cost.labels ≡ self.now.data_cost.labels)
-            × All (λ label. label < self.now.data_cost.labels) at.now }
-        requires change { IsMoveOf self.now.data_cost.labels change }
-        requires costs { Keeps (F.pre self.now.data_cost.f) (F.post self.now.data_cost.f)
-            self.now.data_cost.sites self.now.data_cost.labels data_limit }
-        requires smooth { KeepsSmooth (V.pre self.now.smooth_cost.v) (V.post self.now.smooth_cost.v)
-            self.now.smooth_cost.labels self.now.smooth_cost.by_metric }
-        requires choices { length room.old.built.variables.choices.items ≡ length at.now }
-        requires by_site { IsGroupedFor self.now.pairs room.old }
-        requires far { room.old.deciding.lists.listed ≡ false }
-        ensures by_site { IsGroupedFor self.now.pairs room.new }
-        ensures far { room.new.deciding.lists.listed ≡ false }
-        ensures kept { room.new.built.variables.choices.items ≡ room.old.built.variables.choices.items }
-        ensures bounded { OnOk result (IsBounded term_limit room.new.built.form) }
-        ensures few { OnOk result (vec_len room.new.built.form.weights ≤ site_limit) }
-        ensures stands { (m : Instance) →
-            IsMeant (F.post self.now.data_cost.f) (V.post self.now.smooth_cost.v) self.now.pairs
-            self.now.data_cost.labels m →
-            OnOk result (Stands m change at.now room.new.built) }
-    {
-        give_bounds_back(alloc, &mut room.deciding.bounds);
-        give_groups_back(alloc, &mut room.grouped, &mut room.deciding);
-        match room.built.build(
-            alloc,
-            &self.pairs,
-            &self.data_cost,
-            &self.smooth_cost,
-            at,
-            change,
-        ) {
-            Ok(()) => Ok(()),
-            Err(_) => Err(AllocError),
-        }
+/// The energy of a move, for which all sites and pairs are looked at.
+fn build_all<F: Fn(u32, u32) -> i64 + Sync, V: Fn(u32, u32) -> i64 + Sync>(
+    alloc: Global,
+    problem: &Problem<F, V>,
+    room: &mut Room,
+    at: &[u8],
+    change: Move,
+) -> Result<(), AllocError>
+    requires asked { IsAsked problem.now at.now change }
+    requires posed { IsPosed F.Fn V.Fn problem.now }
+    requires choices { length room.old.built.variables.choices.items ≡ length at.now }
+    requires by_site { IsGroupedFor problem.now.pairs room.old }
+    requires far { room.old.deciding.lists.listed ≡ false }
+    ensures by_site { IsGroupedFor problem.now.pairs room.new }
+    ensures far { room.new.deciding.lists.listed ≡ false }
+    ensures kept { room.new.built.variables.choices.items ≡ room.old.built.variables.choices.items }
+    ensures bounded { OnOk result (IsBounded term_limit room.new.built.form) }
+    ensures few { OnOk result (vec_len room.new.built.form.weights ≤ site_limit) }
+    ensures stands { Meant F.Fn V.Fn problem.now (λ m. OnOk result (Stands m change at.now room.new.built)) }
+{
+    give_bounds_back(alloc, &mut room.deciding.bounds);
+    give_groups_back(alloc, &mut room.grouped, &mut room.deciding);
+    match room.built.build(alloc, problem, at, change) {
+        Ok(()) => Ok(()),
+        Err(_) => Err(AllocError),
     }
+}
 
-    /// The energy of a move whose sites are decided, over its open sites.
-    fn build_open(
-        &self,
-        alloc: Global,
-        room: &mut Room,
-        at: &[u8],
-        change: Move,
-    ) -> Result<(), AllocError>
-        requires sites { (length at.now ≡ self.now.pairs.sites)
-            × (self.now.data_cost.sites ≡ self.now.pairs.sites) }
-        requires labels { (self.now.smooth_cost.labels ≡ self.now.data_cost.labels)
-            × All (λ label. label < self.now.data_cost.labels) at.now }
-        requires change { IsMoveOf self.now.data_cost.labels change }
-        requires costs { Keeps (F.pre self.now.data_cost.f) (F.post self.now.data_cost.f)
-            self.now.data_cost.sites self.now.data_cost.labels data_limit }
-        requires smooth { KeepsSmooth (V.pre self.now.smooth_cost.v) (V.post self.now.smooth_cost.v)
-            self.now.smooth_cost.labels self.now.smooth_cost.by_metric }
-        requires choices { length room.old.built.variables.choices.items ≡ length at.now }
-        requires by_site { IsGroupedFor self.now.pairs room.old }
-        requires near { IsNear self.now.pairs change at.now room.old }
-        requires allowed { (m : Instance) →
-            IsMeant (F.post self.now.data_cost.f) (V.post self.now.smooth_cost.v) self.now.pairs
-            self.now.data_cost.labels m →
-            IsAllowed m change (labelling at.now) }
-        ensures by_site { IsGroupedFor self.now.pairs room.new }
-        ensures near { IsNearWhereListed self.now.pairs change at.now room.new }
-        ensures kept { room.new.built.variables.choices.items ≡ room.old.built.variables.choices.items }
-        ensures bounded { OnOk result (IsBounded term_limit room.new.built.form) }
-        ensures few { OnOk result (vec_len room.new.built.form.weights ≤ site_limit) }
-        ensures stands { (m : Instance) →
-            IsMeant (F.post self.now.data_cost.f) (V.post self.now.smooth_cost.v) self.now.pairs
-            self.now.data_cost.labels m →
-            OnOk result (Stands m change at.now room.new.built) }
-    {
-        if room.deciding.lists.listed {
-            self.build_near(alloc, room, at, change)
-        } else {
-            self.build_all(alloc, room, at, change)
-        }
+/// The energy of a move whose sites are decided, over its open sites.
+fn build_open<F: Fn(u32, u32) -> i64 + Sync, V: Fn(u32, u32) -> i64 + Sync>(
+    alloc: Global,
+    problem: &Problem<F, V>,
+    room: &mut Room,
+    at: &[u8],
+    change: Move,
+) -> Result<(), AllocError>
+    requires asked { IsAsked problem.now at.now change }
+    requires posed { IsPosed F.Fn V.Fn problem.now }
+    requires choices { length room.old.built.variables.choices.items ≡ length at.now }
+    requires by_site { IsGroupedFor problem.now.pairs room.old }
+    requires near { IsNear problem.now.pairs change at.now room.old }
+    requires allowed { Meant F.Fn V.Fn problem.now (λ m. IsAllowed m change (labelling at.now)) }
+    ensures by_site { IsGroupedFor problem.now.pairs room.new }
+    ensures near { IsNearWhereListed problem.now.pairs change at.now room.new }
+    ensures kept { room.new.built.variables.choices.items ≡ room.old.built.variables.choices.items }
+    ensures bounded { OnOk result (IsBounded term_limit room.new.built.form) }
+    ensures few { OnOk result (vec_len room.new.built.form.weights ≤ site_limit) }
+    ensures stands { Meant F.Fn V.Fn problem.now (λ m. OnOk result (Stands m change at.now room.new.built)) }
+{
+    if room.deciding.lists.listed {
+        build_near(alloc, problem, room, at, change)
+    } else {
+        build_all(alloc, problem, room, at, change)
     }
+}
 
-    /// The energy of a move whose sites were decided first.
-    fn build_decided(
-        &self,
-        alloc: Global,
-        room: &mut Room,
-        at: &[u8],
-        change: Move,
-    ) -> Result<(), BuildError>
-        requires sites { (length at.now ≡ self.now.pairs.sites)
-            × (self.now.data_cost.sites ≡ self.now.pairs.sites) }
-        requires labels { (self.now.smooth_cost.labels ≡ self.now.data_cost.labels)
-            × All (λ label. label < self.now.data_cost.labels) at.now }
-        requires change { IsMoveOf self.now.data_cost.labels change }
-        requires costs { Keeps (F.pre self.now.data_cost.f) (F.post self.now.data_cost.f)
-            self.now.data_cost.sites self.now.data_cost.labels data_limit }
-        requires smooth { KeepsSmooth (V.pre self.now.smooth_cost.v) (V.post self.now.smooth_cost.v)
-            self.now.smooth_cost.labels self.now.smooth_cost.by_metric }
-        requires by_site { IsGroupedFor self.now.pairs room.old }
-        ensures by_site { IsGroupedFor self.now.pairs room.new }
-        ensures near { OnOk result (IsNearWhereListed self.now.pairs change at.now room.new) }
-        ensures choices { OnOk result (length room.new.built.variables.choices.items ≡ length at.now) }
-        ensures bounded { OnOk result (IsBounded term_limit room.new.built.form) }
-        ensures few { OnOk result (vec_len room.new.built.form.weights ≤ site_limit) }
-        ensures built { (m : Instance) →
-            IsMeant (F.post self.now.data_cost.f) (V.post self.now.smooth_cost.v) self.now.pairs
-            self.now.data_cost.labels m →
-            IsBuiltPlain m change at.now room.new.built result }
-    {
-        let _pairs = self.pairs.as_slice();
-        self.decide(alloc, room, at, change)?;
-        self.build_open(alloc, room, at, change)?;
-        Ok(())
+/// The energy of a move whose sites were decided first.
+fn build_decided<F: Fn(u32, u32) -> i64 + Sync, V: Fn(u32, u32) -> i64 + Sync>(
+    alloc: Global,
+    problem: &Problem<F, V>,
+    room: &mut Room,
+    at: &[u8],
+    change: Move,
+) -> Result<(), BuildError>
+    requires asked { IsAsked problem.now at.now change }
+    requires posed { IsPosed F.Fn V.Fn problem.now }
+    requires by_site { IsGroupedFor problem.now.pairs room.old }
+    ensures by_site { IsGroupedFor problem.now.pairs room.new }
+    ensures near { OnOk result (IsNearWhereListed problem.now.pairs change at.now room.new) }
+    ensures choices { OnOk result (length room.new.built.variables.choices.items ≡ length at.now) }
+    ensures bounded { OnOk result (IsBounded term_limit room.new.built.form) }
+    ensures few { OnOk result (vec_len room.new.built.form.weights ≤ site_limit) }
+    ensures built { Meant F.Fn V.Fn problem.now (λ m. IsBuiltPlain m change at.now room.new.built result) }
+{
+    decide(alloc, problem, room, at, change)?;
+    build_open(alloc, problem, room, at, change)?;
+    Ok(())
+}
+
+/// The energy of a move of which nothing is decided.
+fn build_whole<F: Fn(u32, u32) -> i64 + Sync, V: Fn(u32, u32) -> i64 + Sync>(
+    alloc: Global,
+    problem: &Problem<F, V>,
+    room: &mut Room,
+    at: &[u8],
+    change: Move,
+) -> Result<(), BuildError>
+    requires asked { IsAsked problem.now at.now change }
+    requires posed { IsPosed F.Fn V.Fn problem.now }
+    requires by_site { IsGroupedFor problem.now.pairs room.old }
+    ensures by_site { IsGroupedFor problem.now.pairs room.new }
+    ensures near { OnOk result (IsNearWhereListed problem.now.pairs change at.now room.new) }
+    ensures choices { OnOk result (length room.new.built.variables.choices.items ≡ length at.now) }
+    ensures bounded { OnOk result (IsBounded term_limit room.new.built.form) }
+    ensures few { OnOk result (vec_len room.new.built.form.weights ≤ site_limit) }
+    ensures built { Meant F.Fn V.Fn problem.now (λ m. IsBuiltPlain m change at.now room.new.built result) }
+{
+    room.deciding.lists.listed = false;
+    room.built.prepare(alloc, problem, at, change)
+}
+
+/// The energy of a move where no label costs anything by itself, its sites decided first or not.
+fn build_plain<F: Fn(u32, u32) -> i64 + Sync, V: Fn(u32, u32) -> i64 + Sync>(
+    alloc: Global,
+    problem: &Problem<F, V>,
+    room: &mut Room,
+    at: &[u8],
+    change: Move,
+    decides: bool,
+) -> Result<(), BuildError>
+    requires asked { IsAsked problem.now at.now change }
+    requires posed { IsPosed F.Fn V.Fn problem.now }
+    requires by_site { IsGroupedFor problem.now.pairs room.old }
+    ensures by_site { IsGroupedFor problem.now.pairs room.new }
+    ensures near { OnOk result (IsNearWhereListed problem.now.pairs change at.now room.new) }
+    ensures choices { OnOk result (length room.new.built.variables.choices.items ≡ length at.now) }
+    ensures bounded { OnOk result (IsBounded term_limit room.new.built.form) }
+    ensures few { OnOk result (vec_len room.new.built.form.weights ≤ site_limit) }
+    ensures built { Meant F.Fn V.Fn problem.now (λ m. IsBuiltPlain m change at.now room.new.built result) }
+{
+    if decides {
+        build_decided(alloc, problem, room, at, change)
+    } else {
+        build_whole(alloc, problem, room, at, change)
     }
+}
 
-    /// The energy of a move of which nothing is decided.
-    fn build_whole(
-        &self,
-        alloc: Global,
-        room: &mut Room,
-        at: &[u8],
-        change: Move,
-    ) -> Result<(), BuildError>
-        requires sites { (length at.now ≡ self.now.pairs.sites)
-            × (self.now.data_cost.sites ≡ self.now.pairs.sites) }
-        requires labels { (self.now.smooth_cost.labels ≡ self.now.data_cost.labels)
-            × All (λ label. label < self.now.data_cost.labels) at.now }
-        requires change { IsMoveOf self.now.data_cost.labels change }
-        requires costs { Keeps (F.pre self.now.data_cost.f) (F.post self.now.data_cost.f)
-            self.now.data_cost.sites self.now.data_cost.labels data_limit }
-        requires smooth { KeepsSmooth (V.pre self.now.smooth_cost.v) (V.post self.now.smooth_cost.v)
-            self.now.smooth_cost.labels self.now.smooth_cost.by_metric }
-        requires by_site { IsGroupedFor self.now.pairs room.old }
-        ensures by_site { IsGroupedFor self.now.pairs room.new }
-        ensures near { OnOk result (IsNearWhereListed self.now.pairs change at.now room.new) }
-        ensures choices { OnOk result (length room.new.built.variables.choices.items ≡ length at.now) }
-        ensures bounded { OnOk result (IsBounded term_limit room.new.built.form) }
-        ensures few { OnOk result (vec_len room.new.built.form.weights ≤ site_limit) }
-        ensures built { (m : Instance) →
-            IsMeant (F.post self.now.data_cost.f) (V.post self.now.smooth_cost.v) self.now.pairs
-            self.now.data_cost.labels m →
-            IsBuiltPlain m change at.now room.new.built result }
-    {
-        let _pairs = self.pairs.as_slice();
-        room.deciding.lists.listed = false;
-        room.built.prepare(
-            alloc,
-            &self.pairs,
-            &self.data_cost,
-            &self.smooth_cost,
-            at,
-            change,
-        )
-    }
+/// The energy of an expansion where labels cost something by themselves. What a site costs then depends on all sites
+/// of its label, so nothing is decided.
+fn build_costed<F: Fn(u32, u32) -> i64 + Sync, V: Fn(u32, u32) -> i64 + Sync>(
+    alloc: Global,
+    problem: &Problem<F, V>,
+    room: &mut Room,
+    at: &[u8],
+    alpha: u32,
+    costs: &[i64],
+) -> Result<(), BuildError>
+    requires asked { IsAsked problem.now at.now (Expand alpha) }
+    requires posed { IsPosed F.Fn V.Fn problem.now }
+    requires label_costs { AreCosts problem.now.data_cost.labels costs.now }
+    requires few { problem.now.data_cost.labels ≤ label_limit }
+    requires by_site { IsGroupedFor problem.now.pairs room.old }
+    ensures by_site { IsGroupedFor problem.now.pairs room.new }
+    ensures near { OnOk result (IsNearWhereListed problem.now.pairs (Expand alpha) at.now room.new) }
+    ensures choices { OnOk result (length room.new.built.variables.choices.items ≡ length at.now) }
+    ensures bounded { OnOk result (IsBounded term_limit room.new.built.form) }
+    ensures few { OnOk result (vec_len room.new.built.form.weights ≤ site_limit + label_limit) }
+    ensures built { Meant F.Fn V.Fn problem.now (λ m. AreCostsOf m costs.now →
+        IsBuiltMove m (Expand alpha) at.now room.new.built result) }
+{
+    room.deciding.lists.listed = false;
+    room.built.prepare(alloc, problem, at, Move::Expand(alpha))?;
+    add_label_costs(
+        alloc,
+        &mut room.built.form,
+        &room.built.variables,
+        at,
+        alpha,
+        costs,
+    )?;
+    Ok(())
+}
 
-    /// The energy of a move where no label costs anything by itself, its sites decided first or not.
-    fn build_plain(
-        &self,
-        alloc: Global,
-        room: &mut Room,
-        at: &[u8],
-        change: Move,
-        decides: bool,
-    ) -> Result<(), BuildError>
-        requires sites { (length at.now ≡ self.now.pairs.sites)
-            × (self.now.data_cost.sites ≡ self.now.pairs.sites) }
-        requires labels { (self.now.smooth_cost.labels ≡ self.now.data_cost.labels)
-            × All (λ label. label < self.now.data_cost.labels) at.now }
-        requires change { IsMoveOf self.now.data_cost.labels change }
-        requires costs { Keeps (F.pre self.now.data_cost.f) (F.post self.now.data_cost.f)
-            self.now.data_cost.sites self.now.data_cost.labels data_limit }
-        requires smooth { KeepsSmooth (V.pre self.now.smooth_cost.v) (V.post self.now.smooth_cost.v)
-            self.now.smooth_cost.labels self.now.smooth_cost.by_metric }
-        requires by_site { IsGroupedFor self.now.pairs room.old }
-        ensures by_site { IsGroupedFor self.now.pairs room.new }
-        ensures near { OnOk result (IsNearWhereListed self.now.pairs change at.now room.new) }
-        ensures choices { OnOk result (length room.new.built.variables.choices.items ≡ length at.now) }
-        ensures bounded { OnOk result (IsBounded term_limit room.new.built.form) }
-        ensures few { OnOk result (vec_len room.new.built.form.weights ≤ site_limit) }
-        ensures built { (m : Instance) →
-            IsMeant (F.post self.now.data_cost.f) (V.post self.now.smooth_cost.v) self.now.pairs
-            self.now.data_cost.labels m →
-            IsBuiltPlain m change at.now room.new.built result }
-    {
-        if decides {
-            self.build_decided(alloc, room, at, change)
-        } else {
-            self.build_whole(alloc, room, at, change)
-        }
-    }
-
-    /// The energy of an expansion where labels cost something by themselves. What a site costs then depends on all sites
-    /// of its label, so nothing is decided.
-    fn build_costed(
-        &self,
-        alloc: Global,
-        room: &mut Room,
-        at: &[u8],
-        alpha: u32,
-        costs: &[i64],
-    ) -> Result<(), BuildError>
-        requires sites { (length at.now ≡ self.now.pairs.sites)
-            × (self.now.data_cost.sites ≡ self.now.pairs.sites) }
-        requires labels { (self.now.smooth_cost.labels ≡ self.now.data_cost.labels)
-            × All (λ label. label < self.now.data_cost.labels) at.now }
-        requires change { IsMoveOf self.now.data_cost.labels (Expand alpha) }
-        requires costs { Keeps (F.pre self.now.data_cost.f) (F.post self.now.data_cost.f)
-            self.now.data_cost.sites self.now.data_cost.labels data_limit }
-        requires smooth { KeepsSmooth (V.pre self.now.smooth_cost.v) (V.post self.now.smooth_cost.v)
-            self.now.smooth_cost.labels self.now.smooth_cost.by_metric }
-        requires label_costs { AreCosts self.now.data_cost.labels costs.now }
-        requires few { self.now.data_cost.labels ≤ label_limit }
-        requires by_site { IsGroupedFor self.now.pairs room.old }
-        ensures by_site { IsGroupedFor self.now.pairs room.new }
-        ensures near { OnOk result (IsNearWhereListed self.now.pairs (Expand alpha) at.now room.new) }
-        ensures choices { OnOk result (length room.new.built.variables.choices.items ≡ length at.now) }
-        ensures bounded { OnOk result (IsBounded term_limit room.new.built.form) }
-        ensures few { OnOk result (vec_len room.new.built.form.weights ≤ site_limit + label_limit) }
-        ensures built { (m : Instance) →
-            IsMeant (F.post self.now.data_cost.f) (V.post self.now.smooth_cost.v) self.now.pairs
-            self.now.data_cost.labels m →
-            AreCostsOf m costs.now →
-            IsBuiltMove m (Expand alpha) at.now room.new.built result }
-    {
-        let _pairs = self.pairs.as_slice();
-        let _sites = self.pairs.sites();
-        room.deciding.lists.listed = false;
-        room.built.prepare(
-            alloc,
-            &self.pairs,
-            &self.data_cost,
-            &self.smooth_cost,
-            at,
-            Move::Expand(alpha),
-        )?;
-        add_label_costs(
-            alloc,
-            &mut room.built.form,
-            &room.built.variables,
-            at,
-            alpha,
-            costs,
-        )?;
-        Ok(())
-    }
-
-    /// The energy of a move: with label costs nothing is decided, and without them its sites are decided first or not.
-    pub(crate) fn build_move(
-        &self,
-        alloc: Global,
-        room: &mut Room,
-        at: &[u8],
-        change: Move,
-        decides: bool,
-    ) -> Result<(), BuildError>
-        requires sites { (length at.now ≡ self.now.pairs.sites)
-            × (self.now.data_cost.sites ≡ self.now.pairs.sites) }
-        requires labels { (self.now.smooth_cost.labels ≡ self.now.data_cost.labels)
-            × All (λ label. label < self.now.data_cost.labels) at.now }
-        requires change { IsMoveOf self.now.data_cost.labels change }
-        requires costs { Keeps (F.pre self.now.data_cost.f) (F.post self.now.data_cost.f)
-            self.now.data_cost.sites self.now.data_cost.labels data_limit }
-        requires smooth { KeepsSmooth (V.pre self.now.smooth_cost.v) (V.post self.now.smooth_cost.v)
-            self.now.smooth_cost.labels self.now.smooth_cost.by_metric }
-        requires label_costs { AreLabelCosts self.now.data_cost.labels self.now.label_costs }
-        requires few { self.now.data_cost.labels ≤ label_limit }
-        requires free { IsFreeFor change (costs_of self.now.label_costs) }
-        requires by_site { IsGroupedFor self.now.pairs room.old }
-        ensures by_site { IsGroupedFor self.now.pairs room.new }
-        ensures near { OnOk result (IsNearWhereListed self.now.pairs change at.now room.new) }
-        ensures choices { OnOk result (length room.new.built.variables.choices.items ≡ length at.now) }
-        ensures bounded { OnOk result (IsBounded term_limit room.new.built.form) }
-        ensures few { OnOk result (vec_len room.new.built.form.weights ≤ site_limit + label_limit) }
-        ensures built { (m : Instance) →
-            IsMeant (F.post self.now.data_cost.f) (V.post self.now.smooth_cost.v) self.now.pairs
-            self.now.data_cost.labels m →
-            HasCosts m self.now.label_costs →
-            IsBuiltMove m change at.now room.new.built result }
-    {
-        let costs = costs_of(&self.label_costs);
-        let costly = has_cost(costs);
-        match change {
-            Move::Swap(_, _) => self.build_plain(alloc, room, at, change, decides),
-            Move::Expand(alpha) => {
-                if costly {
-                    return self.build_costed(alloc, room, at, alpha, costs);
-                }
-                self.build_plain(alloc, room, at, change, decides)
+/// The energy of a move: with label costs nothing is decided, and without them its sites are decided first or not.
+pub(crate) fn build_move<F: Fn(u32, u32) -> i64 + Sync, V: Fn(u32, u32) -> i64 + Sync>(
+    alloc: Global,
+    problem: &Problem<F, V>,
+    room: &mut Room,
+    at: &[u8],
+    change: Move,
+    decides: bool,
+) -> Result<(), BuildError>
+    requires asked { IsAsked problem.now at.now change }
+    requires posed { IsPosed F.Fn V.Fn problem.now }
+    requires few { problem.now.data_cost.labels ≤ label_limit }
+    requires free { IsFreeFor change (costs_of problem.now.label_costs) }
+    requires by_site { IsGroupedFor problem.now.pairs room.old }
+    ensures by_site { IsGroupedFor problem.now.pairs room.new }
+    ensures near { OnOk result (IsNearWhereListed problem.now.pairs change at.now room.new) }
+    ensures choices { OnOk result (length room.new.built.variables.choices.items ≡ length at.now) }
+    ensures bounded { OnOk result (IsBounded term_limit room.new.built.form) }
+    ensures few { OnOk result (vec_len room.new.built.form.weights ≤ site_limit + label_limit) }
+    ensures built { Meant F.Fn V.Fn problem.now (λ m. IsBuiltMove m change at.now room.new.built result) }
+{
+    let costs = costs_of(&problem.label_costs);
+    let costly = has_cost(costs);
+    match change {
+        Move::Swap(_, _) => build_plain(alloc, problem, room, at, change, decides),
+        Move::Expand(alpha) => {
+            if costly {
+                return build_costed(alloc, problem, room, at, alpha, costs);
             }
+            build_plain(alloc, problem, room, at, change, decides)
         }
     }
 }

@@ -1,56 +1,50 @@
 //! The labels that the values of a move's sites make.
 ghost use Rattle.std.specs.Prelude.{◌≡◌, ◌≢◌, ◌≤◌, ◌<◌, ◌↔◌, ℕ, length, IsTrue, IsFalse, slice_index, slice_set};
-ghost use Rattle.labellings.specs.Energies.{Instance, labelling};
+ghost use Rattle.labellings.specs.Energies.{labelling};
 ghost use Rattle.labellings.specs.Moves.{IsBest, IsMoveOf, label_in};
-ghost use Rattle.cost_store.specs.Limits.{data_limit};
-ghost use Rattle.cost_store.specs.Promises.{Keeps, KeepsSmooth};
-ghost use Rattle.move_energy.specs.Problems.{AreSized, IsMeant};
+ghost use Rattle.cost_store.specs.Posed.{IsPosed, Meant, Fits, AreOfOneSize};
 ghost use Rattle.deciding.specs.Decisions.{IsSmallestLeast};
 ghost use Rattle.moves.specs.Building.{site_values, made_value, HasChanges, AreChangesListed};
-ghost use Rattle.moves.specs.LabelCosts.{costs_of, HasCosts, IsFreeFor};
+ghost use Rattle.cost_store.specs.LabelCosts.{costs_of};
+ghost use Rattle.moves.specs.LabelCosts.{IsFreeFor};
 ghost use Rattle.moves.specs.Problems.{IsMade};
 
-use crate::Problem;
+use crate::listed::lowers;
 use crate::room::Room;
+use cost_store::Problem;
 use label_field::Labelling;
 use labellings::Move;
 use move_energy::Choice;
 
-impl<F: Fn(u32, u32) -> i64 + Sync, V: Fn(u32, u32) -> i64 + Sync> Problem<F, V> {
-    /// Takes the labels that the least values of the sites with the fewest ones make. Where no labels are better, an
-    /// expansion makes the labels as they are; a swap need not, so it takes them only where their energy is lower.
-    pub(crate) fn take_best(&self, field: &mut Labelling, change: Move, room: &Room) -> bool
-        requires sizes { AreSized self.now.pairs self.now.data_cost.sites self.now.data_cost.labels
-            self.now.smooth_cost.labels field.old }
-        requires costs { Keeps (F.pre self.now.data_cost.f) (F.post self.now.data_cost.f)
-            self.now.data_cost.sites self.now.data_cost.labels data_limit }
-        requires smooth { KeepsSmooth (V.pre self.now.smooth_cost.v) (V.post self.now.smooth_cost.v)
-            self.now.smooth_cost.labels self.now.smooth_cost.by_metric }
-        requires free { IsFreeFor change (costs_of self.now.label_costs) }
-        requires below { IsMoveOf field.old.labels change }
-        requires choices { length room.now.built.variables.choices.items ≡ length field.old.at }
-        requires changes { IsTrue room.now.deciding.lists.listed →
-            AreChangesListed self.now.pairs change field.old.at room.now }
-        ensures sizes { (field.new.labels ≡ field.old.labels) × (length field.new.at ≡ length field.old.at) }
-        ensures made { IsMade change field.old.at field.new.at result }
-        ensures best { (m : Instance) →
-            IsMeant (F.post self.now.data_cost.f) (V.post self.now.smooth_cost.v) self.now.pairs
-            self.now.data_cost.labels m →
-            HasCosts m self.now.label_costs →
-            IsSmallestLeast m.sites (made_value m change (labelling field.old.at))
-            (site_values room.now.built.variables.choices.items) →
-            (IsBest m change field.old.at field.new.at × ((IsTrue result → field.new.at ≢ field.old.at)
-            × (IsFalse result → field.new.at ≡ field.old.at))) }
-    {
-        let _pairs = self.pairs.as_slice();
-        match change {
-            Move::Expand(_) => relabel(field, room, change),
-            Move::Swap(_, _) => {
-                if !self.lowers(field.as_slice(), change, room) {
-                    return false;
-                }
-                relabel(field, room, change)
+/// Takes the labels that the least values of the sites with the fewest ones make. Where no labels are better, an
+/// expansion makes the labels as they are; a swap need not, so it takes them only where their energy is lower.
+pub(crate) fn take_best<F: Fn(u32, u32) -> i64 + Sync, V: Fn(u32, u32) -> i64 + Sync>(
+    problem: &Problem<F, V>,
+    field: &mut Labelling,
+    change: Move,
+    room: &Room,
+) -> bool
+    requires fits { Fits problem.now field.old }
+    requires posed { IsPosed F.Fn V.Fn problem.now }
+    requires free { IsFreeFor change (costs_of problem.now.label_costs) }
+    requires below { IsMoveOf field.old.labels change }
+    requires choices { length room.now.built.variables.choices.items ≡ length field.old.at }
+    requires changes { IsTrue room.now.deciding.lists.listed →
+        AreChangesListed problem.now.pairs change field.old.at room.now }
+    ensures sizes { AreOfOneSize field.old field.new }
+    ensures made { IsMade change field.old.at field.new.at result }
+    ensures best { Meant F.Fn V.Fn problem.now (λ m. IsSmallestLeast m.sites (made_value m change (labelling
+        field.old.at)) (site_values room.now.built.variables.choices.items) → (IsBest m change field.old.at
+        field.new.at × ((IsTrue result → field.new.at ≢ field.old.at) × (IsFalse result → field.new.at ≡
+        field.old.at)))) }
+{
+    match change {
+        Move::Expand(_) => relabel(field, room, change),
+        Move::Swap(_, _) => {
+            if !lowers(problem, field.as_slice(), change, room) {
+                return false;
             }
+            relabel(field, room, change)
         }
     }
 }
@@ -64,9 +58,8 @@ fn relabel(labelling: &mut Labelling, room: &Room, change: Move) -> bool
         room.now.built.variables.choices.items room.now.deciding.lists.changing.items }
     ensures sizes { (labelling.new.labels ≡ labelling.old.labels)
         × (length labelling.new.at ≡ length labelling.old.at) }
-    ensures each { (p : ℕ) → p < length labelling.old.at → slice_index labelling.new.at p ≡
-        label_in change (slice_index labelling.old.at p)
-        (site_values room.now.built.variables.choices.items p) }
+    ensures each { (p : ℕ) → p < length labelling.old.at → slice_index labelling.new.at p ≡ label_in change
+        (slice_index labelling.old.at p) (site_values room.now.built.variables.choices.items p) }
     ensures changed { (IsTrue result → labelling.new.at ≢ labelling.old.at) × (IsFalse result →
         labelling.new.at ≡ labelling.old.at) }
 {
@@ -111,9 +104,8 @@ fn relabel_all(labelling: &mut Labelling, choices: &[Choice], change: Move) -> b
     requires choices { length choices.now ≡ length labelling.old.at }
     ensures sizes { (labelling.new.labels ≡ labelling.old.labels)
         × (length labelling.new.at ≡ length labelling.old.at) }
-    ensures each { (p : ℕ) → p < length labelling.old.at →
-        slice_index labelling.new.at p ≡ label_in change (slice_index labelling.old.at p)
-        (site_values choices.now p) }
+    ensures each { (p : ℕ) → p < length labelling.old.at → slice_index labelling.new.at p ≡ label_in change
+        (slice_index labelling.old.at p) (site_values choices.now p) }
     ensures changed { (IsTrue result → labelling.new.at ≢ labelling.old.at) × (IsFalse result →
         labelling.new.at ≡ labelling.old.at) }
 {

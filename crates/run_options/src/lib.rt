@@ -1,13 +1,11 @@
-//! What runs of moves are told: how two labels cost, which moves to make, and the limits of both.
+//! What runs of moves are told: how two labels cost, and the limits of what is told.
 #![tactic(auto)]
 
 pub mod laws;
 mod limits;
-mod moves;
 mod shape;
 mod table;
 
 pub use limits::{CYCLE_LIMIT, DATA_LIMIT, LABEL_COST_LIMIT, SMOOTH_LIMIT, TRUNC_LIMIT};
-pub use moves::Moves;
 pub use shape::Shape;
 pub use table::smooth_table;

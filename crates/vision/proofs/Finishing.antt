@@ -2,13 +2,13 @@
 use Rattle.std.proofs.Common.{◌≡◌, ◌∙◌, ℕ, ◌+◌, ◌≤◌, ℤ, pos, ◌+ℤ◌, ◌≤ℤ◌, Bool, true, false, List, Option, Some, None, IfSome, IsTrue, IsFalse, replicate, Ok, Err, if◌then◌else◌, refl, sym, ap, subst, arith}
 use Rattle.std.proofs.lemmas.Int.{ints}
 use Rattle.labellings.specs.Energies.{Instance, labelling, data_energy, smooth_energy, label_energy}
-use Rattle.labelling_runs.specs.Runs.{Answers, TellsBound}
-use Rattle.labelling_runs.specs.declared.Run.{Run}
+use Rattle.moves.specs.Runs.{Answers, TellsBound}
+use Rattle.moves.specs.declared.tables.Run.{Run}
 use Rattle.moves.specs.declared.bound.Bound.{Bound}
 use Rattle.moves.specs.declared.error.MoveError.{MoveError}
 use Rattle.moves.specs.declared.error.MoveError.TheVariants as move
 use Rattle.pgm_image.specs.Picture.{Picture, picture, IsPicture}
-use Rattle.run_options.specs.declared.moves.Moves.{Moves}
+use Rattle.labellings.specs.declared.cycles.Moves.{Moves}
 use Rattle.vision.specs.Faults.{HasRunFault, of_move}
 use Rattle.vision.specs.Jobs.{Job, job_of, EndsAt, Tells, RefusesMove, IsFinished}
 use Rattle.vision.specs.declared.job.Finished.{Finished}

@@ -1,7 +1,7 @@
 -- Potts and linear costs are a metric, and nothing but a move tells a pair.
 use Rattle.std.proofs.Common.{◌≡◌, ◌≢◌, ℕ, ◌+◌, ◌<◌, ◌≤◌, ◌==◌, List, ℤ, if◌then◌else◌, refl, arith}
 use Rattle.cost_store.specs.Promises.{IsMetricTable, IsTable}
-use Rattle.labelling_runs.proofs.Entries.{metric_table}
+use Rattle.moves.proofs.Entries.{metric_table}
 use Rattle.labellings.specs.Energies.{IsMetric}
 use Rattle.moves.specs.Problems.{TellsPairNotRegular}
 use Rattle.moves.specs.declared.error.MoveError.{MoveError}

@@ -3,16 +3,16 @@ use Rattle.std.specs.Prelude.{◌≡◌, ℕ, ◌-◌, max, Bool, false, IsTrue,
 use Rattle.std.specs.Io.KnownBytes.{Appends}
 use Rattle.labellings.specs.declared.change.Move.{Move}
 use Rattle.labellings.specs.Energies.{Instance, labelling, data_energy, smooth_energy, label_energy, energy}
-use Rattle.labellings.specs.Chains.{IsChain}
-use Rattle.labelling_runs.specs.Runs.{MayMake, TellsBound, cycle_of}
+use Rattle.labellings.specs.Chains.{IsChain, moves_of as cycle_of}
+use Rattle.moves.specs.Runs.{MayMake, TellsBound}
 use Rattle.moves.specs.Problems.{IsRun}
 use Rattle.moves.specs.declared.error.MoveError.{MoveError}
 use Rattle.moves.specs.declared.error.MoveError.TheVariants.{LabelCostInSwap}
 use Rattle.pgm_image.specs.Picture.{Picture, picture, IsPicture}
 use Rattle.pgm_image.specs.Written.{written, Stops}
 use Rattle.run_options.specs.Limits.{smooth_limit}
-use Rattle.run_options.specs.declared.moves.Moves.{Moves}
-use Rattle.run_options.specs.declared.moves.Moves.TheVariants.{Expansion}
+use Rattle.labellings.specs.declared.cycles.Moves.{Moves}
+use Rattle.labellings.specs.declared.cycles.Moves.TheVariants.{Expansion}
 use Rattle.image_options.specs.declared.options.RestoreOptions.{RestoreOptions}
 use Rattle.image_options.specs.declared.options.StereoOptions.{StereoOptions}
 use Rattle.image_options.specs.declared.options.SegmentOptions.{SegmentOptions}

@@ -1,14 +1,13 @@
 //! The run of a problem of labels over the pixels of a picture, and the picture that it makes.
-ghost use Rattle.std.specs.Prelude.{◌≡◌, ℕ, ◌+◌, ◌*◌, ◌<◌, ◌≤◌, pos, ◌≤ℤ◌, ◌+ℤ◌, All, IfOk, IfErr, IfSome, MatchResult, OnOk, OnErr, length, true, unwrap_or, if◌then◌else◌};
+ghost use Rattle.std.specs.Prelude.{◌≡◌, ◌↔◌, ℕ, ◌+◌, ◌*◌, ◌<◌, ◌≤◌, pos, ◌≤ℤ◌, ◌+ℤ◌, All, IfOk, IfErr, IfSome, IsTrue, MatchResult, OnOk, OnErr, length, true, unwrap_or, if◌then◌else◌};
 ghost use Rattle.std.specs.Io.KnownBytes.{Appends};
 ghost use Rattle.label_field.specs.LabelFields.{AreSizes};
 ghost use Rattle.labellings.specs.Energies.{Instance};
 ghost use Rattle.cost_store.specs.Limits.{data_limit, smooth_limit};
-ghost use Rattle.label_costs.specs.Costs.{cost_at};
-ghost use Rattle.moves.specs.LabelCosts.{AreLabelCosts, HasCosts, costs_of};
+ghost use Rattle.cost_store.specs.LabelCosts.{cost_at, AreLabelCosts, HasCosts, costs_of};
 ghost use Rattle.cost_store.specs.Promises.{IsCost, IsMetricTable, IsTable, Keeps};
-ghost use Rattle.labelling_runs.specs.Instances.{IsInstanceOf};
-ghost use Rattle.labelling_runs.specs.Runs.{IsSized};
+ghost use Rattle.moves.specs.Instances.{IsInstanceOf};
+ghost use Rattle.moves.specs.Runs.{IsSized};
 ghost use Rattle.pgm_image.specs.Picture.{IsPicture, picture};
 ghost use Rattle.pgm_image.specs.Written.{written, Stops};
 ghost use Rattle.run_options.specs.Limits.{label_cost_limit, trunc_limit};
@@ -18,12 +17,12 @@ ghost use Rattle.vision.specs.Jobs.{IsFinished, job_of};
 
 use crate::{Report, VisionError};
 use byte_streams::Sink;
-use cost_store::DataCost;
+use cost_store::{DataCost, is_metric};
 use label_field::{Labelling, Pairs};
-use labelling_runs::{Run, run_with_table};
-use moves::{Bound, How};
+use labellings::Moves;
+use moves::{Bound, How, Request, Run, run_with_table};
 use pgm_image::{Image, put_image};
-use run_options::{Moves, Shape, smooth_table};
+use run_options::{Shape, smooth_table};
 use std::alloc::{AllocError, Global};
 
 /// How a problem is run, whether a bound is asked for, and the maxval of the picture that its labels make.
@@ -51,6 +50,7 @@ pub(crate) fn run_job<F: Fn(u32, u32) -> i64 + Sync, H: How>(
     pairs: Pairs,
     data_cost: DataCost<F>,
     smooth: &[i64],
+    by_metric: bool,
     label_costs: Option<Vec<i64>>,
     how: &H,
 ) -> Result<Finished, VisionError>
@@ -63,6 +63,7 @@ pub(crate) fn run_job<F: Fn(u32, u32) -> i64 + Sync, H: How>(
         data_limit }
     requires smooth { (length smooth.now ≡ data_cost.labels * data_cost.labels)
         × All (IsCost smooth_limit) smooth.now }
+    requires known { IsTrue by_metric ↔ IsMetricTable data_cost.labels smooth.now }
     requires label_costs { AreLabelCosts data_cost.labels label_costs }
     ensures run { (m : Instance) →
         IsInstanceOf (F.post data_cost.f) pairs data_cost.labels smooth.now m →
@@ -82,10 +83,13 @@ pub(crate) fn run_job<F: Fn(u32, u32) -> i64 + Sync, H: How>(
         pairs,
         data_cost,
         smooth,
+        by_metric,
         label_costs,
-        start,
-        plan.moves,
-        plan.cycles,
+        Request {
+            start,
+            moves: plan.moves,
+            cycles: plan.cycles,
+        },
         how,
     )?;
     Ok(finish(alloc, picture, plan, &run)?)
@@ -171,6 +175,20 @@ pub(crate) fn smooth_costs(
     ensures costs { IfOk result (λ table. All (IsCost smooth_limit) table.items) }
 {
     smooth_table(alloc, shape, trunc, labels)
+}
+
+/// Whether the table of a smooth cost is a metric: that of Potts costs and that of linear ones are, wherever they are cut
+/// off, and another is tested.
+pub(crate) fn is_metric_cost(shape: Shape, table: &[i64], labels: u32) -> bool
+    requires labels { 1 ≤ labels }
+    requires table { (most : ℕ) × (1 ≤ most) × IsTable labels labels (shape_cost shape most) table.now }
+    ensures { IsTrue result ↔ IsMetricTable labels table.now }
+{
+    match shape {
+        Shape::Potts => true,
+        Shape::Linear => true,
+        Shape::Quadratic => is_metric(table, labels),
+    }
 }
 
 /// The same cost for each label by itself, where one is given.

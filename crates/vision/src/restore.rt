@@ -8,7 +8,9 @@ ghost use Rattle.vision.specs.Inputs.{IsRestoreJob};
 ghost use Rattle.vision.specs.Jobs.{Does, IsFinished, Job, restore_job};
 
 use crate::inputs::read_one;
-use crate::job::{Finished, Plan, equal_costs, put_finished, run_job, smooth_costs};
+use crate::job::{
+    Finished, Plan, equal_costs, is_metric_cost, put_finished, run_job, smooth_costs,
+};
 use crate::pairs::pairs_of;
 use crate::{Report, VisionError};
 use byte_streams::Sink;
@@ -97,6 +99,8 @@ fn restore<H: How>(
     let samples = picture.samples();
     let maxval = picture.maxval();
     let smooth = smooth_costs(alloc, options.smooth, options.trunc, maxval + 1)?;
+    let table = smooth.as_slice();
+    let by_metric = is_metric_cost(options.smooth, table, maxval + 1);
     let pairs = pairs_of(alloc, picture, options.neighbours, options.weight)?;
     let label_costs = equal_costs(alloc, options.label_cost, maxval + 1)?;
     let plan = restore_plan(options, maxval);
@@ -114,7 +118,8 @@ fn restore<H: How>(
         plan,
         pairs,
         data_cost,
-        smooth.as_slice(),
+        table,
+        by_metric,
         label_costs,
         how,
     )

@@ -8,15 +8,16 @@ ghost use Rattle.vision.specs.Jobs.{Does, IsFinished, Job, segment_job};
 ghost use Rattle.vision.specs.Problems.{part_cost};
 
 use crate::inputs::read_two;
-use crate::job::{Finished, Plan, put_finished, run_job, smooth_costs};
+use crate::job::{Finished, Plan, is_metric_cost, put_finished, run_job, smooth_costs};
 use crate::pairs::edge_pairs;
 use crate::{Report, VisionError};
 use byte_streams::Sink;
 use cost_store::DataCost;
 use image_options::SegmentOptions;
+use labellings::Moves;
 use moves::How;
 use pgm_image::Image;
-use run_options::{Moves, Shape};
+use run_options::Shape;
 use std::alloc::Global;
 
 /// The greatest seed: a pixel is free (0), or has label 0 (1) or label 1 (2).
@@ -113,6 +114,8 @@ fn part<H: How>(
     ensures metric { IfErr result (λ e. ¬ TellsPair e) }
 {
     let smooth = smooth_costs(alloc, Shape::Potts, 1, 2)?;
+    let table = smooth.as_slice();
+    let by_metric = is_metric_cost(Shape::Potts, table, 2);
     let pairs = edge_pairs(alloc, picture, options)?;
     let plan = Plan {
         moves: Moves::Expansion,
@@ -136,14 +139,7 @@ fn part<H: How>(
         2,
     );
     run_job(
-        alloc,
-        picture,
-        plan,
-        pairs,
-        data_cost,
-        smooth.as_slice(),
-        None,
-        how,
+        alloc, picture, plan, pairs, data_cost, table, by_metric, None, how,
     )
 }
 

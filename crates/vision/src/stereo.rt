@@ -10,7 +10,7 @@ ghost use Rattle.vision.specs.Jobs.{Does, IsFinished, Job, stereo_job};
 ghost use Rattle.vision.specs.Problems.{shift_cost};
 
 use crate::inputs::read_two;
-use crate::job::{Finished, Plan, put_finished, run_job, smooth_costs};
+use crate::job::{Finished, Plan, is_metric_cost, put_finished, run_job, smooth_costs};
 use crate::pairs::pairs_of;
 use crate::{Report, VisionError};
 use byte_streams::Sink;
@@ -95,6 +95,8 @@ fn match_pictures<H: How>(
     let labels = options.labels;
     let cap = options.cap;
     let smooth = smooth_costs(alloc, options.smooth, options.trunc, labels)?;
+    let table = smooth.as_slice();
+    let by_metric = is_metric_cost(options.smooth, table, labels);
     let pairs = pairs_of(alloc, left, options.neighbours, options.weight)?;
     let plan = Plan {
         moves: options.moves,
@@ -114,14 +116,7 @@ fn match_pictures<H: How>(
         labels,
     );
     run_job(
-        alloc,
-        left,
-        plan,
-        pairs,
-        data_cost,
-        smooth.as_slice(),
-        None,
-        how,
+        alloc, left, plan, pairs, data_cost, table, by_metric, None, how,
     )
 }
 

@@ -1,7 +1,8 @@
 //! Pictures and their answers.
 use crate::tasks::{RESTORE, SEGMENT, STEREO, Task, expect, plain};
 use image_options::{Neighbours, RestoreOptions, SegmentOptions, StereoOptions};
-use run_options::{Moves, Shape};
+use labellings::Moves;
+use run_options::Shape;
 use std::test::Fail;
 
 pub const ROW: &[u8] = b"P5\n3 1\n3\n\x00\x03\x00";

@@ -2,8 +2,9 @@
 use crate::streams::CutWriter;
 use byte_streams::Watched;
 use image_options::{Neighbours, RestoreOptions, SegmentOptions, StereoOptions};
+use labellings::Moves;
 use moves::Alone;
-use run_options::{Moves, Shape};
+use run_options::Shape;
 use std::alloc::Global;
 use std::process::Abort;
 use vision::{Report, VisionError, run_restore, run_segment, run_stereo};

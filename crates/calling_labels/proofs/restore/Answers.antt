@@ -29,46 +29,6 @@ only_memory BadOptions refused own pair = absurd (options_apart refused)
 only_memory NoBound refused own pair = absurd refused
 only_memory OutOfMemory refused own pair = refl
 
-pub returns-in_err-ended-clause-refused : goal.returns-in_err-ended-clause-refused
-returns-in_err-ended-clause-refused c =
-    let p = err_from_is_err_and c.from_residual-in_err-ended.result c.from_residual-in_err-ended.ensures.1 in
-    let metric = c.in_err-ended.ensures.metric (rw c.metric.ensures.stored refl) (problem_of c.args.samples.now)
-    (rw c.new.ensures.stored (record {
-      sites_are = sym (ap (λ (l : PairList). l.sites) c.in_ok-grid4.ensures);
-      labels_are = refl;
-      pairs_are = sym (ap (λ (l : PairList). l.list) c.in_ok-grid4.ensures);
-      data_are = λ a b z la lb is. is;
-      smooth_are = λ a b z la lb is. is;
-    })) (record { each = λ label below. refl }) in
-    rw (p.1, p.2) (only_memory c.in_err-ended.field-0.0 c.in_err-ended.ensures.refused c.in_err-ended.ensures.own metric)
-
-pub returns-clause-run : goal.returns-clause-run
-returns-clause-run c =
-    let m = problem_of c.args.samples.now in
-    let L : ℕ → Type 0 = λ k. IsRun m (expansions k) c.args.cycles c.in_ok-labelling.labelling.at c.run_expansion.new.labelling.at (Ok c.in_ok-ended.ended) in
-    let F : List ℕ → Type 0 = λ f. IsRun m (expansions 3) c.args.cycles f c.run_expansion.new.labelling.at (Ok c.in_ok-ended.ended) in
-    let labels : c.new.result.labels ≡ 3 = rw c.new.ensures.stored refl in
-    subst F (ap (λ (l : LabelField). l.at) c.in_ok-labelling.ensures) (subst L labels (c.in_ok-ended.ensures.run m
-    (rw c.new.ensures.stored (record {
-      sites_are = sym (ap (λ (l : PairList). l.sites) c.in_ok-grid4.ensures);
-      labels_are = refl;
-      pairs_are = sym (ap (λ (l : PairList). l.list) c.in_ok-grid4.ensures);
-      data_are = λ a b z la lb is. is;
-      smooth_are = λ a b z la lb is. is;
-    })) (record { each = λ label below. refl })))
-
-pub returns-clause-energy : goal.returns-clause-energy
-returns-clause-energy c =
-    to_z-of_z w64 c.energy-energy.result (record { sfits = c.energy-energy.type_inv })
-    ∙ c.energy-energy.ensures (problem_of c.args.samples.now)
-    (rw c.new.ensures.stored (record {
-      sites_are = sym (ap (λ (l : PairList). l.sites) c.in_ok-grid4.ensures);
-      labels_are = refl;
-      pairs_are = sym (ap (λ (l : PairList). l.list) c.in_ok-grid4.ensures);
-      data_are = λ a b z la lb is. is;
-      smooth_are = λ a b z la lb is. is;
-    })) (record { each = λ label below. refl })
-
 potts_same : (a : ℕ) → potts a a ≡ 0
 potts_same a = grind arith
 
@@ -104,6 +64,60 @@ potts_bound samples = record {
 labelled_by : (samples labels : List ℕ) → length labels ≡ 6 → All (λ label. label < 3) labels → IsLabelled (problem_of samples) (labelling labels)
 labelled_by samples labels size below = λ p l. below p 0 (omega (arith, l, size))
 
+pub returns-in_err-ended-clause-refused : goal.returns-in_err-ended-clause-refused
+returns-in_err-ended-clause-refused c =
+    let p = err_from_is_err_and c.from_residual-in_err-ended.result c.from_residual-in_err-ended.ensures.1 in
+    let m = problem_of c.args.samples.now in
+    let P : PairList → Type 0 = λ l. All (IsPair l.sites) l.list in
+    let Q : LabelField → Type 0 = λ l. All (λ label. label < l.labels) l.at in
+    let pair = c.metric_has_regular_pairs.ensures.run m _ _ _ c.run_expansion.new.labelling c.in_err-ended.field-0.0
+    (subst P (c.drop-in_err-ended.view_is ∙ c.in_ok-grid4.ensures) c.drop-in_err-ended.invariant.each)
+    (potts_bound c.args.samples.now).metric
+    (record {
+      sites = c.in_err-ended.ensures.sizes.sites ∙ ap (λ (l : LabelField). length l.at) c.in_ok-labelling.ensures;
+      labels = c.in_err-ended.ensures.sizes.labels ∙ ap (λ (l : LabelField). l.labels) c.in_ok-labelling.ensures;
+      below = subst Q c.labelling.view_is c.labelling.invariant.below;
+    })
+    (c.in_err-ended.ensures.run m
+    (rw c.new.ensures.stored (record {
+      sites_are = sym (ap (λ (l : PairList). l.sites) c.in_ok-grid4.ensures);
+      labels_are = refl;
+      pairs_are = sym (ap (λ (l : PairList). l.list) c.in_ok-grid4.ensures);
+      data_are = λ a b z la lb is. is;
+      smooth_are = λ a b z la lb is. is;
+      costs_are = record { each = λ label below. refl };
+    }))) in
+    rw (p.1, p.2) (only_memory c.in_err-ended.field-0.0 c.in_err-ended.ensures.refused c.in_err-ended.ensures.own pair)
+
+pub returns-clause-run : goal.returns-clause-run
+returns-clause-run c =
+    let m = problem_of c.args.samples.now in
+    let L : ℕ → Type 0 = λ k. IsRun m (expansions k) c.args.cycles c.in_ok-labelling.labelling.at c.run_expansion.new.labelling.at (Ok c.in_ok-ended.ended) in
+    let F : List ℕ → Type 0 = λ f. IsRun m (expansions 3) c.args.cycles f c.run_expansion.new.labelling.at (Ok c.in_ok-ended.ended) in
+    let labels : c.new.result.labels ≡ 3 = rw c.new.ensures.stored refl in
+    subst F (ap (λ (l : LabelField). l.at) c.in_ok-labelling.ensures) (subst L labels (c.in_ok-ended.ensures.run m
+    (rw c.new.ensures.stored (record {
+      sites_are = sym (ap (λ (l : PairList). l.sites) c.in_ok-grid4.ensures);
+      labels_are = refl;
+      pairs_are = sym (ap (λ (l : PairList). l.list) c.in_ok-grid4.ensures);
+      data_are = λ a b z la lb is. is;
+      smooth_are = λ a b z la lb is. is;
+      costs_are = record { each = λ label below. refl };
+    }))))
+
+pub returns-clause-energy : goal.returns-clause-energy
+returns-clause-energy c =
+    to_z-of_z w64 c.energy-energy.result (record { sfits = c.energy-energy.type_inv })
+    ∙ c.energy-energy.ensures (problem_of c.args.samples.now)
+    (rw c.new.ensures.stored (record {
+      sites_are = sym (ap (λ (l : PairList). l.sites) c.in_ok-grid4.ensures);
+      labels_are = refl;
+      pairs_are = sym (ap (λ (l : PairList). l.list) c.in_ok-grid4.ensures);
+      data_are = λ a b z la lb is. is;
+      smooth_are = λ a b z la lb is. is;
+      costs_are = record { each = λ label below. refl };
+    }))
+
 twice : (a b : ℕ) → 1 * a ≤ (2 * 1) * b → pos a ≤ℤ pos (2 * b)
 twice a b near = omega (arith, ints, near)
 
@@ -115,8 +129,8 @@ returns-clause-near c = λ settled h labelled.
     let Q : LabelField → Type 0 = λ l. All (λ label. label < l.labels) l.at in
     let B : ℕ → Type 0 = λ k. All (λ label. label < k) g in
     let pairs = subst P (c.drop-2.view_is ∙ c.in_ok-grid4.ensures) c.drop-2.invariant.each in
-    let size = c.in_ok-ended.ensures.sizes.1 ∙ ap (λ (l : LabelField). length l.at) c.in_ok-labelling.ensures in
-    let labels = c.in_ok-ended.ensures.sizes.0 ∙ ap (λ (l : LabelField). l.labels) c.in_ok-labelling.ensures in
+    let size = c.in_ok-ended.ensures.sizes.sites ∙ ap (λ (l : LabelField). length l.at) c.in_ok-labelling.ensures in
+    let labels = c.in_ok-ended.ensures.sizes.labels ∙ ap (λ (l : LabelField). l.labels) c.in_ok-labelling.ensures in
     let below = subst B labels (subst Q c.labelling.view_is c.labelling.invariant.below) in
     let near = c.settled_run_is_near.ensures m c.args.cycles (replicate 6 0) g c.in_ok-ended.ended (record { vmin = 1; vmax = 1 }) h
     pairs (potts_bound c.args.samples.now) (returns-clause-run c) settled

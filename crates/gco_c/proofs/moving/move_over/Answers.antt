@@ -1,8 +1,8 @@
 use Rattle.std.proofs.Common.{refl, sym, pos}
 use Rattle.cost_store.specs.Promises.{cost_in}
-use Rattle.labelling_runs.specs.Instances.{instance_of}
-use Rattle.labelling_runs.proofs.Entries.{below_along, smooth_along}
-use Rattle.moves.specs.LabelCosts.{costs_of}
+use Rattle.moves.specs.Instances.{instance_of}
+use Rattle.moves.proofs.Entries.{below_along, smooth_along}
+use Rattle.cost_store.specs.LabelCosts.{costs_of}
 use Rattle.gco_c.proofs.Entries.{cost_of_entry}
 use Rattle.gco_c.proofs.moving.move_over.Goals as goal
 
@@ -21,5 +21,5 @@ returns-clause-moved c =
       smooth_are = λ a b z la lb ans.
           cost_of_entry (pos 10000) c.args.smooth.now c.args.ready.start.labels c.args.ready.start.labels c.requires.smooth.0 c.requires.smooth.1 a b
           (below_along a _ _ la labels) (below_along b _ _ lb labels) z (smooth_along c.args.smooth.now a b z _ _ labels ans);
+      costs_are = record { each = λ label below. refl };
     }))
-    (record { each = λ label below. refl })

@@ -1,11 +1,21 @@
 use Rattle.std.proofs.Common.{◌∙◌, w64}
 use Rattle.std.proofs.lemmas.Int.{to_z-of_z}
+use Rattle.cost_store.proofs.Meaning.{fits_still}
 use Rattle.gco_c.proofs.moving.move_problem.Goals as goal
 
+pub data_energy-data-requires-clause-fits : goal.data_energy-data-requires-clause-fits
+data_energy-data-requires-clause-fits g c = λ κs lives. fits_still _ _ _ c.requires.fits c.in-Ok.ensures.sizes
+
+pub smooth_energy-smooth-requires-clause-fits : goal.smooth_energy-smooth-requires-clause-fits
+smooth_energy-smooth-requires-clause-fits g c = λ κs lives. fits_still _ _ _ c.requires.fits c.in-Ok.ensures.sizes
+
+pub label_energy-label-requires-clause-fits : goal.label_energy-label-requires-clause-fits
+label_energy-label-requires-clause-fits g c = λ κs lives. fits_still _ _ _ c.requires.fits c.in-Ok.ensures.sizes
+
 pub returns-in-Ok-clause-moved : goal.returns-in-Ok-clause-moved
-returns-in-Ok-clause-moved g c = λ m meant has. (
-  c.in-Ok.ensures.moved m meant has,
+returns-in-Ok-clause-moved g c = λ m meant. (
+  c.in-Ok.ensures.moved m meant,
   to_z-of_z w64 c.data_energy-data.result (record { sfits = c.data_energy-data.type_inv }) ∙ c.data_energy-data.ensures.energy m meant,
   to_z-of_z w64 c.smooth_energy-smooth.result (record { sfits = c.smooth_energy-smooth.type_inv }) ∙ c.smooth_energy-smooth.ensures.energy m meant,
-  to_z-of_z w64 c.label_energy-label.result (record { sfits = c.label_energy-label.type_inv }) ∙ c.label_energy-label.ensures.energy m meant.sites_are meant.labels_are has,
+  to_z-of_z w64 c.label_energy-label.result (record { sfits = c.label_energy-label.type_inv }) ∙ c.label_energy-label.ensures.energy m meant,
 )

@@ -1,8 +1,8 @@
 use Rattle.std.proofs.Common.{◌∙◌, ◌*◌, refl, sym, pos}
 use Rattle.cost_store.specs.Promises.{cost_in}
-use Rattle.labelling_runs.specs.Instances.{instance_of}
-use Rattle.labelling_runs.proofs.Entries.{smooth_keeps, smooth_along, table_of_costs}
-use Rattle.moves.specs.LabelCosts.{costs_of}
+use Rattle.moves.specs.Instances.{instance_of}
+use Rattle.moves.proofs.Entries.{smooth_keeps, smooth_along, table_of_costs}
+use Rattle.cost_store.specs.LabelCosts.{costs_of}
 use Rattle.gco_c.proofs.Entries.{cost_of_entry}
 use Rattle.gco_c.proofs.running.run_over.Goals as goal
 

@@ -4,7 +4,8 @@ use Rattle.sums.specs.Sums.{counted}
 use Rattle.compile_cut.specs.Shown.{Shows}
 use Rattle.compile_cut.proofs.TermLemmas.{bounded-weaker}
 use Rattle.move_energy.proofs.Numbers.{rank_most}
-use Rattle.label_costs.specs.Costs.{uses, cost_at, costs_below}
+use Rattle.cost_store.specs.LabelCosts.{cost_at}
+use Rattle.label_costs.specs.Costs.{uses, costs_below}
 use Rattle.label_costs.proofs.Uses.{uses_same}
 use Rattle.label_costs.proofs.Costing.{adds_fixed, adds_both, adds_along, wider_none, wider_more, more_costs}
 use Rattle.label_costs.proofs.adding.add_label_costs.Goals as goal

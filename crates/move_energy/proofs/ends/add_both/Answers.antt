@@ -5,26 +5,20 @@ use Rattle.std.proofs.lemmas.Result.{err_from_is_err_and}
 use Rattle.move_energy.proofs.ends.add_both.Goals as goal
 
 pub returns-clause-adds : goal.returns-clause-adds
-returns-clause-adds g c = λ cost answers.
+returns-clause-adds g c = λ m answers.
     let a = c.args in
-    let table = c.pair_table-table.ensures.table cost answers in
-    ends_fit a.weight cost a.change a.first a.second a.form.now c.add_pair.new.self true refl
-    (λ one two. table_regular a.change a.weight a.first.label a.second.label cost c.pair_table-table.result table
+    let table = c.pair_table-table.ensures.table m answers in
+    ends_fit a.weight m.smooth_cost a.change a.first a.second a.form.now c.add_pair.new.self true refl
+    (λ one two. table_regular a.change a.weight a.first.label a.second.label m.smooth_cost c.pair_table-table.result table
     (c.is_regular_table.ensures.0 c.if-not-is_regular_table.false))
-    (both_add a.form.now c.add_pair.new.self a.change a.weight cost a.first a.second c.pair_table-table.result
+    (both_add a.form.now c.add_pair.new.self a.change a.weight m.smooth_cost a.first a.second c.pair_table-table.result
     c.requires.opened.0 c.requires.opened.1 table c.in_ok-add_pair.ensures.value)
 
-pub pair_table-table-requires-clause-smooth : goal.pair_table-table-requires-clause-smooth
-pair_table-table-requires-clause-smooth g c = c.requires.smooth
-
 pub pair_table-table-requires-clause-weight : goal.pair_table-table-requires-clause-weight
-pair_table-table-requires-clause-weight g c = c.requires.weight
+pair_table-table-requires-clause-weight g c = λ κs lives. c.requires.weight
 
 pub pair_table-table-requires-clause-inside : goal.pair_table-table-requires-clause-inside
-pair_table-table-requires-clause-inside g c = c.requires.inside
-
-pub pair_table-table-requires-clause-change : goal.pair_table-table-requires-clause-change
-pair_table-table-requires-clause-change g c = c.requires.change
+pair_table-table-requires-clause-inside g c = λ κs lives. c.requires.inside
 
 pub add_pair-requires-clause-bounded : goal.add_pair-requires-clause-bounded
 add_pair-requires-clause-bounded g c = c.requires.bounded
@@ -43,11 +37,11 @@ pub returns-then-not-is_regular_table-clause-longer : goal.returns-then-not-is_r
 returns-then-not-is_regular_table-clause-longer g c = longer_still _
 
 pub returns-then-not-is_regular_table-clause-adds : goal.returns-then-not-is_regular_table-clause-adds
-returns-then-not-is_regular_table-clause-adds g c = λ cost answers.
+returns-then-not-is_regular_table-clause-adds g c = λ m answers.
     let a = c.args in
-    let table = c.pair_table-table.ensures.table cost answers in
-    ends_unfit a.weight cost a.change a.first a.second a.form.now a.form.now false refl c.requires.opened.0 c.requires.opened.1
-    (λ regular. (let yes = c.is_regular_table.ensures.1 (regular_table a.change a.weight a.first.label a.second.label cost c.pair_table-table.result table regular) in
+    let table = c.pair_table-table.ensures.table m answers in
+    ends_unfit a.weight m.smooth_cost a.change a.first a.second a.form.now a.form.now false refl c.requires.opened.0 c.requires.opened.1
+    (λ regular. (let yes = c.is_regular_table.ensures.1 (regular_table a.change a.weight a.first.label a.second.label m.smooth_cost c.pair_table-table.result table regular) in
     absurd (cc (yes, c.if-not-is_regular_table.true))))
 
 pub add_pair-requires-clause-first : goal.add_pair-requires-clause-first

@@ -13,32 +13,26 @@ returns-clause-adds g c =
     let a = c.args in
     let stays : FitsSigned w64 c.pair_cost-stays.result = record { sfits = c.pair_cost-stays.type_inv } in
     let turns : FitsSigned w64 c.pair_cost-turns.result = record { sfits = c.pair_cost-turns.type_inv } in
-    λ cost answers.
-    one_adds a.form.now c.add_one.new.self a.end.variable (λ (b : Bool). a.weight * cost (label_in a.change a.end.label b) a.other) _ _
-    (to_z-of_z w64 c.pair_cost-stays.result stays ∙ c.pair_cost-stays.ensures.cost cost answers ∙ ap (λ l. pos (a.weight * cost l a.other)) c.label.ensures)
-    (to_z-of_z w64 c.pair_cost-turns.result turns ∙ c.pair_cost-turns.ensures.cost cost answers ∙ ap (λ l. pos (a.weight * cost l a.other)) c.label-2.ensures)
+    λ m answers.
+    one_adds a.form.now c.add_one.new.self a.end.variable (λ (b : Bool). a.weight * m.smooth_cost (label_in a.change a.end.label b) a.other) _ _
+    (to_z-of_z w64 c.pair_cost-stays.result stays ∙ c.pair_cost-stays.ensures.cost m answers ∙ ap (λ l. pos (a.weight * m.smooth_cost l a.other)) c.label.ensures)
+    (to_z-of_z w64 c.pair_cost-turns.result turns ∙ c.pair_cost-turns.ensures.cost m answers ∙ ap (λ l. pos (a.weight * m.smooth_cost l a.other)) c.label-2.ensures)
     c.add_one.ensures.value
 
-pub pair_cost-stays-requires-clause-smooth : goal.pair_cost-stays-requires-clause-smooth
-pair_cost-stays-requires-clause-smooth g c = c.requires.smooth
-
 pub pair_cost-stays-requires-clause-weight : goal.pair_cost-stays-requires-clause-weight
-pair_cost-stays-requires-clause-weight g c = c.requires.weight
-
-pub pair_cost-turns-requires-clause-smooth : goal.pair_cost-turns-requires-clause-smooth
-pair_cost-turns-requires-clause-smooth g c = c.requires.smooth
+pair_cost-stays-requires-clause-weight g c = λ κs lives. c.requires.weight
 
 pub pair_cost-turns-requires-clause-weight : goal.pair_cost-turns-requires-clause-weight
-pair_cost-turns-requires-clause-weight g c = c.requires.weight
+pair_cost-turns-requires-clause-weight g c = λ κs lives. c.requires.weight
 
 pub add_one-requires-clause-bounded : goal.add_one-requires-clause-bounded
 add_one-requires-clause-bounded g c = c.requires.bounded
 
 pub pair_cost-stays-requires-clause-inside : goal.pair_cost-stays-requires-clause-inside
-pair_cost-stays-requires-clause-inside g c = (label_below _ c.args.change c.args.end.label c.label.result false c.requires.change c.requires.inside.0 c.label.ensures, c.requires.inside.1)
+pair_cost-stays-requires-clause-inside g c = λ κs lives. (label_below _ c.args.change c.args.end.label c.label.result false c.requires.change c.requires.inside.0 c.label.ensures, c.requires.inside.1)
 
 pub pair_cost-turns-requires-clause-inside : goal.pair_cost-turns-requires-clause-inside
-pair_cost-turns-requires-clause-inside g c = (label_below _ c.args.change c.args.end.label c.label-2.result true c.requires.change c.requires.inside.0 c.label-2.ensures, c.requires.inside.1)
+pair_cost-turns-requires-clause-inside g c = λ κs lives. (label_below _ c.args.change c.args.end.label c.label-2.result true c.requires.change c.requires.inside.0 c.label-2.ensures, c.requires.inside.1)
 
 pub add_one-requires-clause-first : goal.add_one-requires-clause-first
 add_one-requires-clause-first g c = c.requires.variable

@@ -1,6 +1,4 @@
-use Rattle.std.proofs.Common.{◌≤◌, ◌∙◌, ℕ, Bool, List, All, sum_by, ap, subst, length, refl, arith}
-use Rattle.label_field.specs.declared.pair.Pair.{Pair}
-use Rattle.label_field.specs.PairLists.{IsPair}
+use Rattle.std.proofs.Common.{◌≤◌, ◌∙◌, ℕ, Bool, sum_by, length, refl, arith}
 use Rattle.by_site.specs.BySite.{met_at}
 use Rattle.labellings.specs.Energies.{labelling, pair_cost}
 use Rattle.move_energy.specs.Choices.{choice_at, open_at, rank, made_by}
@@ -16,28 +14,16 @@ loop-index-init g c = record {
 }
 
 pub add_pairs_at-requires-clause-by_site : goal.add_pairs_at-requires-clause-by_site
-add_pairs_at-requires-clause-by_site g c = c.requires.by_site
-
-pub add_pairs_at-requires-clause-smooth : goal.add_pairs_at-requires-clause-smooth
-add_pairs_at-requires-clause-smooth g c = c.requires.smooth
-
-pub add_pairs_at-requires-clause-sites : goal.add_pairs_at-requires-clause-sites
-add_pairs_at-requires-clause-sites g c = c.requires.sites
-
-pub add_pairs_at-requires-clause-labels : goal.add_pairs_at-requires-clause-labels
-add_pairs_at-requires-clause-labels g c = c.requires.labels
-
-pub add_pairs_at-requires-clause-change : goal.add_pairs_at-requires-clause-change
-add_pairs_at-requires-clause-change g c = c.requires.change
+add_pairs_at-requires-clause-by_site g c = λ κs lives. c.requires.by_site
 
 pub add_pairs_at-requires-clause-choices : goal.add_pairs_at-requires-clause-choices
-add_pairs_at-requires-clause-choices g c = c.requires.choices
+add_pairs_at-requires-clause-choices g c = λ κs lives. c.requires.choices
 
 pub add_pairs_at-requires-clause-numbering : goal.add_pairs_at-requires-clause-numbering
-add_pairs_at-requires-clause-numbering g c = c.requires.numbering
+add_pairs_at-requires-clause-numbering g c = λ κs lives. c.requires.numbering
 
 pub add_pairs_at-requires-clause-variables : goal.add_pairs_at-requires-clause-variables
-add_pairs_at-requires-clause-variables g c = c.loop-index.invariant.longer.nodes ∙ c.requires.variables
+add_pairs_at-requires-clause-variables g c = λ κs lives. c.loop-index.invariant.longer.nodes ∙ c.requires.variables
 
 pub add_pairs_at-requires-clause-site : goal.add_pairs_at-requires-clause-site
 add_pairs_at-requires-clause-site g c =
@@ -45,39 +31,37 @@ add_pairs_at-requires-clause-site g c =
     omega (arith, has.0, c.requires.choices)
 
 pub add_pairs_at-requires-clause-met : goal.add_pairs_at-requires-clause-met
-add_pairs_at-requires-clause-met g c =
+add_pairs_at-requires-clause-met g c = λ κs lives.
     let a = c.args in
     let choices = a.variables.now.choices.items in
-    let met = met_at a.pairs.now.list a.ends.now (open_at choices) (λ pair. 1) in
-    let P : List Pair → Type 0 = λ ps. All (IsPair a.pairs.now.sites) ps in
-    let few : sum_by met a.opened.now ≤ length a.pairs.now.list =
-    met_few a.pairs.now a.ends.now choices a.opened.now (length a.at.now) c.requires.by_site (subst P c.as_slice-pairs.ensures.value c.as_slice-pairs.ensures.pairs)
-    c.requires.sites c.requires.choices c.requires.listed in
-    (sum_room met a.opened.now c.loop-index.index (length a.pairs.now.list) a.form.now c.loop-index.form c.loop-index-test.true few
-    (omega (arith, c.as_slice-pairs.ensures.limit, ap (λ (ps : List Pair). length ps) c.as_slice-pairs.ensures.value)) c.requires.bounded c.loop-index.invariant.longer).0
+    let met = met_at a.problem.now.pairs.list a.ends.now (open_at choices) (λ pair. 1) in
+    let few : sum_by met a.opened.now ≤ length a.problem.now.pairs.list =
+    met_few a.problem.now.pairs a.ends.now choices a.opened.now (length a.at.now) c.requires.by_site c.requires.posed.pairs.each
+    c.requires.asked.sites c.requires.choices c.requires.listed in
+    (sum_room met a.opened.now c.loop-index.index (length a.problem.now.pairs.list) a.form.now c.loop-index.form c.loop-index-test.true few
+    c.requires.posed.pairs.count c.requires.bounded c.loop-index.invariant.longer).0
 
 pub add_pairs_at-requires-clause-bounded : goal.add_pairs_at-requires-clause-bounded
-add_pairs_at-requires-clause-bounded g c =
+add_pairs_at-requires-clause-bounded g c = λ κs lives.
     let a = c.args in
     let choices = a.variables.now.choices.items in
-    let met = met_at a.pairs.now.list a.ends.now (open_at choices) (λ pair. 1) in
-    let P : List Pair → Type 0 = λ ps. All (IsPair a.pairs.now.sites) ps in
-    let few : sum_by met a.opened.now ≤ length a.pairs.now.list =
-    met_few a.pairs.now a.ends.now choices a.opened.now (length a.at.now) c.requires.by_site (subst P c.as_slice-pairs.ensures.value c.as_slice-pairs.ensures.pairs)
-    c.requires.sites c.requires.choices c.requires.listed in
-    (sum_room met a.opened.now c.loop-index.index (length a.pairs.now.list) a.form.now c.loop-index.form c.loop-index-test.true few
-    (omega (arith, c.as_slice-pairs.ensures.limit, ap (λ (ps : List Pair). length ps) c.as_slice-pairs.ensures.value)) c.requires.bounded c.loop-index.invariant.longer).1
+    let met = met_at a.problem.now.pairs.list a.ends.now (open_at choices) (λ pair. 1) in
+    let few : sum_by met a.opened.now ≤ length a.problem.now.pairs.list =
+    met_few a.problem.now.pairs a.ends.now choices a.opened.now (length a.at.now) c.requires.by_site c.requires.posed.pairs.each
+    c.requires.asked.sites c.requires.choices c.requires.listed in
+    (sum_room met a.opened.now c.loop-index.index (length a.problem.now.pairs.list) a.form.now c.loop-index.form c.loop-index-test.true few
+    c.requires.posed.pairs.count c.requires.bounded c.loop-index.invariant.longer).1
 
 pub loop-index-preserved : goal.loop-index-preserved
 loop-index-preserved g c =
     let a = c.args in
     let choices = a.variables.now.choices.items in
     record {
-      longer = sum_longer (met_at a.pairs.now.list a.ends.now (open_at choices) (λ pair. 1)) a.opened.now c.loop-index.index a.form.now c.loop-index.form c.add_pairs_at.new.form
+      longer = sum_longer (met_at a.problem.now.pairs.list a.ends.now (open_at choices) (λ pair. 1)) a.opened.now c.loop-index.index a.form.now c.loop-index.form c.add_pairs_at.new.form
           c.loop-index-test.true c.loop-index.invariant.longer c.in_ok-add_pairs_at.ensures.longer;
       adds = λ m answers fit.
           site_more a.form.now c.loop-index.form c.add_pairs_at.new.form
-          (λ (x : ℕ → Bool). met_at a.pairs.now.list a.ends.now (open_at choices) (pair_cost m (made_by a.change (labelling a.at.now) (choice_at choices) (rank choices) x)))
+          (λ (x : ℕ → Bool). met_at a.problem.now.pairs.list a.ends.now (open_at choices) (pair_cost m (made_by a.change (labelling a.at.now) (choice_at choices) (rank choices) x)))
           a.opened.now c.loop-index.index c.loop-index-test.true (c.loop-index.invariant.adds m answers fit) (c.in_ok-add_pairs_at.ensures.adds m answers fit);
     }
 
@@ -85,18 +69,17 @@ pub returns-clause-bounded : goal.returns-clause-bounded
 returns-clause-bounded g c =
     let a = c.args in
     let choices = a.variables.now.choices.items in
-    let met = met_at a.pairs.now.list a.ends.now (open_at choices) (λ pair. 1) in
-    let P : List Pair → Type 0 = λ ps. All (IsPair a.pairs.now.sites) ps in
-    let few : sum_by met a.opened.now ≤ length a.pairs.now.list =
-    met_few a.pairs.now a.ends.now choices a.opened.now (length a.at.now) c.requires.by_site (subst P c.as_slice-pairs.ensures.value c.as_slice-pairs.ensures.pairs)
-    c.requires.sites c.requires.choices c.requires.listed in
-    sum_bounded met a.opened.now c.loop-index.index (length a.pairs.now.list) a.form.now c.loop-index.form few
-    (omega (arith, c.as_slice-pairs.ensures.limit, ap (λ (ps : List Pair). length ps) c.as_slice-pairs.ensures.value)) c.requires.bounded c.loop-index.invariant.longer
+    let met = met_at a.problem.now.pairs.list a.ends.now (open_at choices) (λ pair. 1) in
+    let few : sum_by met a.opened.now ≤ length a.problem.now.pairs.list =
+    met_few a.problem.now.pairs a.ends.now choices a.opened.now (length a.at.now) c.requires.by_site c.requires.posed.pairs.each
+    c.requires.asked.sites c.requires.choices c.requires.listed in
+    sum_bounded met a.opened.now c.loop-index.index (length a.problem.now.pairs.list) a.form.now c.loop-index.form few
+    c.requires.posed.pairs.count c.requires.bounded c.loop-index.invariant.longer
 
 pub returns-clause-adds : goal.returns-clause-adds
 returns-clause-adds g c = λ m answers fit.
     let a = c.args in
     let choices = a.variables.now.choices.items in
     site_all a.form.now c.loop-index.form
-    (λ (x : ℕ → Bool). met_at a.pairs.now.list a.ends.now (open_at choices) (pair_cost m (made_by a.change (labelling a.at.now) (choice_at choices) (rank choices) x)))
+    (λ (x : ℕ → Bool). met_at a.problem.now.pairs.list a.ends.now (open_at choices) (pair_cost m (made_by a.change (labelling a.at.now) (choice_at choices) (rank choices) x)))
     a.opened.now c.loop-index.index (omega (arith, c.loop-index-test.false)) (c.loop-index.invariant.adds m answers fit)

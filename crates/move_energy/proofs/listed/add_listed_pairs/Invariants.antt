@@ -1,5 +1,5 @@
 use Rattle.std.proofs.Common.{All, take, sum_by}
-use Rattle.cost_store.specs.Promises.{Answers}
+use Rattle.cost_store.specs.Posed.{IsMeant}
 use Rattle.by_site.specs.BySite.{met_at}
 use Rattle.labellings.specs.Energies.{Instance, labelling, pair_cost}
 use Rattle.move_energy.specs.Choices.{choice_at, open_at, rank, made_by}
@@ -9,9 +9,9 @@ use Rattle.move_energy.proofs.listed.add_listed_pairs.Given as goal
 
 abbrev pub invariant-loop-index : goal.invariant-loop-index
 invariant-loop-index g l = record {
-  longer : IsLonger (sum_by (met_at l.pairs.list l.ends (open_at l.variables.choices.items) (λ pair. 1)) (take l.index l.opened)) l.fn.form l.form;
-  adds : (m : Instance) → Answers (goal.V-post g l.smooth_cost.v) m.smooth_cost l.smooth_cost.labels l.smooth_cost.labels →
-      All (IsFitPair m l.change (labelling l.at) (choice_at l.variables.choices.items)) l.pairs.list →
-      AddsCost l.fn.form l.form (λ x. sum_by (met_at l.pairs.list l.ends (open_at l.variables.choices.items)
+  longer : IsLonger (sum_by (met_at l.problem.pairs.list l.ends (open_at l.variables.choices.items) (λ pair. 1)) (take l.index l.opened)) l.fn.form l.form;
+  adds : (m : Instance) → IsMeant g.F.Fn g.V.Fn l.problem m →
+      All (IsFitPair m l.change (labelling l.at) (choice_at l.variables.choices.items)) l.problem.pairs.list →
+      AddsCost l.fn.form l.form (λ x. sum_by (met_at l.problem.pairs.list l.ends (open_at l.variables.choices.items)
       (pair_cost m (made_by l.change (labelling l.at) (choice_at l.variables.choices.items) (rank l.variables.choices.items) x))) (take l.index l.opened));
 }

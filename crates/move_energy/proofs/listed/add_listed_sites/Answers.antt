@@ -40,14 +40,8 @@ end-end-requires-clause-site g c = All-get_or (λ site. site < length c.args.at.
 pub end-end-requires-clause-choices : goal.end-end-requires-clause-choices
 end-end-requires-clause-choices g c = c.requires.choices
 
-pub add_site-requires-clause-costs : goal.add_site-requires-clause-costs
-add_site-requires-clause-costs g c = c.requires.costs
-
-pub add_site-requires-clause-change : goal.add_site-requires-clause-change
-add_site-requires-clause-change g c = c.requires.change
-
 pub add_site-requires-clause-variable : goal.add_site-requires-clause-variable
-add_site-requires-clause-variable g c =
+add_site-requires-clause-variable g c = λ κs lives.
     let a = c.args in
     let site = get_or a.opened.now c.loop-index.index 0 in
     let inside : site < length a.at.now = All-get_or (λ site. site < length a.at.now) a.opened.now c.loop-index.index 0 c.loop-index-test.true c.requires.listed in
@@ -56,6 +50,6 @@ add_site-requires-clause-variable g c =
     (c.loop-index.invariant.longer.nodes ∙ c.requires.variables)
 
 pub add_site-requires-clause-bounded : goal.add_site-requires-clause-bounded
-add_site-requires-clause-bounded g c =
+add_site-requires-clause-bounded g c = λ κs lives.
     let few : 0 + c.loop-index.index ≤ 8388608 = omega (arith, c.loop-index-test.true, c.requires.few) in
     bounded-weaker (0 + c.loop-index.index) 8388608 c.loop-index.form few (c.loop-index.invariant.longer.bounded 0 c.requires.bounded)

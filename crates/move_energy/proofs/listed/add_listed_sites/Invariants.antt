@@ -1,5 +1,5 @@
 use Rattle.std.proofs.Common.{take, sum_by}
-use Rattle.cost_store.specs.Promises.{Answers}
+use Rattle.cost_store.specs.Posed.{IsMeant}
 use Rattle.labellings.specs.Energies.{Instance, labelling}
 use Rattle.move_energy.specs.Choices.{choice_at, rank, made_by}
 use Rattle.move_energy.specs.Built.{AddsCost, IsLonger}
@@ -8,6 +8,6 @@ use Rattle.move_energy.proofs.listed.add_listed_sites.Given as goal
 abbrev pub invariant-loop-index : goal.invariant-loop-index
 invariant-loop-index g l = record {
   longer : IsLonger l.index l.fn.form l.form;
-  adds : (m : Instance) → Answers (goal.F-post g l.data_cost.f) m.data_cost l.data_cost.sites l.data_cost.labels →
+  adds : (m : Instance) → IsMeant g.F.Fn g.V.Fn l.problem m →
       AddsCost l.fn.form l.form (λ x. sum_by (λ p. m.data_cost p (made_by l.change (labelling l.at) (choice_at l.variables.choices.items) (rank l.variables.choices.items) x p)) (take l.index l.opened));
 }

@@ -1,7 +1,10 @@
 use Rattle.std.proofs.Common.{◌∙◌, ℕ, replicate, sym, ap, subst}
 use Rattle.std.proofs.lemmas.Result.{err_from_is_err_and}
 use Rattle.label_field.specs.LabelFields.{LabelField}
-use Rattle.moves.specs.LabelCosts.{AreLabelCosts}
+use Rattle.std.specs.Prelude.{◌↔◌}
+use Rattle.std.proofs.Common.{IsTrue}
+use Rattle.cost_store.specs.LabelCosts.{AreLabelCosts}
+use Rattle.cost_store.specs.Promises.{IsMetricTable}
 use Rattle.vision.proofs.Coming.{run_may_come}
 use Rattle.vision.proofs.Finishing.{finished, refused}
 use Rattle.vision.proofs.Metrics.{move_tells}
@@ -57,3 +60,8 @@ pub run_with_table-requires-clause-label_costs : goal.run_with_table-requires-cl
 run_with_table-requires-clause-label_costs g c = λ lives within.
     let A : ℕ → Type 0 = λ k. AreLabelCosts k c.args.label_costs in
     subst A (sym (ap (λ (f : LabelField). f.labels) c.in_ok-start.ensures)) c.requires.label_costs
+
+pub run_with_table-requires-clause-known : goal.run_with_table-requires-clause-known
+run_with_table-requires-clause-known g c = λ lives within.
+    let K : ℕ → Type 0 = λ k. IsTrue c.args.by_metric ↔ IsMetricTable k c.args.smooth.now in
+    subst K (sym (ap (λ (f : LabelField). f.labels) c.in_ok-start.ensures)) c.requires.known

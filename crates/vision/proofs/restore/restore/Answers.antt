@@ -3,7 +3,7 @@ use Rattle.cost_store.specs.Promises.{IsTable}
 use Rattle.label_field.specs.Grids.{distance}
 use Rattle.label_field.specs.PairLists.{PairList}
 use Rattle.run_options.specs.Shapes.{shape_cost}
-use Rattle.run_options.specs.declared.moves.Moves.{Moves}
+use Rattle.labellings.specs.declared.cycles.Moves.{Moves}
 use Rattle.vision.specs.Faults.{HasRunFault}
 use Rattle.vision.specs.Jobs.{IsFinished, job_of}
 use Rattle.vision.specs.Problems.{restore_problem}
@@ -26,7 +26,7 @@ returns-clause-run g c =
       labels_are = ap (λ v. v + 1) (sym maxval);
       pairs_are = sym (ap (λ (l : PairList). l.list) c.in_ok-pairs.ensures);
       data_are = λ a b z la lb is. is ∙ ap (λ xs. pos (distance (slice_index xs a) b)) c.samples-samples.ensures.value;
-      smooth_are = subst S (sym c.as_slice.ensures.value) c.in_ok-smooth.ensures.table;
+      smooth_are = subst S (sym c.as_slice-table.ensures.value) c.in_ok-smooth.ensures.table;
     })) (record { each = λ label l. sym (c.in_ok-label_costs.ensures.each label (omega (arith, l, maxval))) })))
 
 pub returns-clause-metric : goal.returns-clause-metric
@@ -36,9 +36,9 @@ returns-clause-metric g c = λ apart.
     let maxval = c.maxval-maxval.ensures in
     let k = c.maxval-maxval.result + 1 in
     let S : List ℤ → Type 0 = λ t. IsTable k k (shape_cost o.smooth o.trunc) t in
-    let table = subst S (sym c.as_slice.ensures.value) c.in_ok-smooth.ensures.table in
+    let table = subst S (sym c.as_slice-table.ensures.value) c.in_ok-smooth.ensures.table in
     c.run_job.ensures.metric (rw c.new-data_cost.ensures.stored
-    (shape_metric_table o.smooth k o.trunc c.as_slice.result.now (omega arith) c.requires.options.run.trunc_least apart table))
+    (shape_metric_table o.smooth k o.trunc c.as_slice-table.result.now (omega arith) c.requires.options.run.trunc_least apart table))
     (restore_problem o p) (rw c.new-data_cost.ensures.stored (record {
       sites_are = sym (ap (λ (l : PairList). l.sites) c.in_ok-pairs.ensures);
       labels_are = ap (λ v. v + 1) (sym maxval);
@@ -64,3 +64,9 @@ pub returns-in_err-label_costs : goal.returns-in_err-label_costs
 returns-in_err-label_costs g c =
     let p = err_from_is_err_and c.from_residual-in_err-label_costs.result c.from_residual-in_err-label_costs.ensures.1 in
     record { run = rw (p.1, p.2) tt; cut = rw (p.1, p.2) tt; metric = λ apart. rw (p.1, p.2) (λ tells. tells) }
+
+pub is_metric_cost-by_metric-requires-clause-table : goal.is_metric_cost-by_metric-requires-clause-table
+is_metric_cost-by_metric-requires-clause-table g c =
+    let S : List ℤ → Type 0 = λ t. IsTable (c.maxval-maxval.result + 1) (c.maxval-maxval.result + 1) (shape_cost c.args.options.now.smooth c.args.options.now.trunc) t in
+    let table = subst S (sym c.as_slice-table.ensures.value) c.in_ok-smooth.ensures.table in
+    (c.args.options.now.trunc, c.requires.options.run.trunc_least, table)

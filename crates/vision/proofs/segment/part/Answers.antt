@@ -27,15 +27,15 @@ returns-clause-run g c =
       labels_are = refl;
       pairs_are = sym (ap (λ (l : PairList). l.list) c.in_ok-pairs.ensures);
       data_are = λ a b z la lb is. is ∙ (λ k. pos (part_cost o (slice_index (c.samples-samples.ensures.value k) a) (slice_index (c.samples-marks.ensures.value k) a) b));
-      smooth_are = subst S (sym c.as_slice.ensures.value) c.in_ok-smooth.ensures.table;
+      smooth_are = subst S (sym c.as_slice-table.ensures.value) c.in_ok-smooth.ensures.table;
     })) (record { each = λ label l. refl })
 
 pub returns-clause-metric : goal.returns-clause-metric
 returns-clause-metric g c =
     let o = c.args.options.now in
     let S : List ℤ → Type 0 = λ t. IsTable 2 2 (shape_cost Potts 1) t in
-    let table = subst S (sym c.as_slice.ensures.value) c.in_ok-smooth.ensures.table in
-    c.run_job.ensures.metric (rw c.new-data_cost.ensures.stored (potts_metric_table 2 1 c.as_slice.result.now (omega arith) (omega arith) table))
+    let table = subst S (sym c.as_slice-table.ensures.value) c.in_ok-smooth.ensures.table in
+    c.run_job.ensures.metric (rw c.new-data_cost.ensures.stored (potts_metric_table 2 1 c.as_slice-table.result.now (omega arith) (omega arith) table))
     (segment_problem o c.args.picture.now c.args.seeds.now) (rw c.new-data_cost.ensures.stored (record {
       sites_are = sym (ap (λ (l : PairList). l.sites) c.in_ok-pairs.ensures);
       labels_are = refl;
@@ -56,3 +56,9 @@ returns-in_err-pairs g c =
 
 pub returns-clause-cut : goal.returns-clause-cut
 returns-clause-cut g c = c.run_job.ensures.cut
+
+pub is_metric_cost-by_metric-requires-clause-table : goal.is_metric_cost-by_metric-requires-clause-table
+is_metric_cost-by_metric-requires-clause-table g c =
+    let S : List ℤ → Type 0 = λ t. IsTable 2 2 (shape_cost Potts 1) t in
+    let table = subst S (sym c.as_slice-table.ensures.value) c.in_ok-smooth.ensures.table in
+    (1, omega arith, table)

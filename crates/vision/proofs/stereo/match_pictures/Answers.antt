@@ -21,16 +21,16 @@ returns-clause-run g c =
       labels_are = refl;
       pairs_are = sym (ap (λ (l : PairList). l.list) c.in_ok-pairs.ensures);
       data_are = λ a b z la lb is. is;
-      smooth_are = subst S (sym c.as_slice.ensures.value) c.in_ok-smooth.ensures.table;
+      smooth_are = subst S (sym c.as_slice-table.ensures.value) c.in_ok-smooth.ensures.table;
     })) (record { each = λ label l. refl }))
 
 pub returns-clause-metric : goal.returns-clause-metric
 returns-clause-metric g c = λ apart.
     let o = c.args.options.now in
     let S : List ℤ → Type 0 = λ t. IsTable o.labels o.labels (shape_cost o.smooth o.trunc) t in
-    let table = subst S (sym c.as_slice.ensures.value) c.in_ok-smooth.ensures.table in
+    let table = subst S (sym c.as_slice-table.ensures.value) c.in_ok-smooth.ensures.table in
     c.run_job.ensures.metric (rw c.new-data_cost.ensures.stored
-    (shape_metric_table o.smooth o.labels o.trunc c.as_slice.result.now c.requires.options.labels_least c.requires.options.run.trunc_least apart table))
+    (shape_metric_table o.smooth o.labels o.trunc c.as_slice-table.result.now c.requires.options.labels_least c.requires.options.run.trunc_least apart table))
     (stereo_problem o c.args.left.now c.args.right.now) (rw c.new-data_cost.ensures.stored (record {
       sites_are = sym (ap (λ (l : PairList). l.sites) c.in_ok-pairs.ensures);
       labels_are = refl;
@@ -51,3 +51,9 @@ returns-in_err-pairs g c =
 
 pub returns-clause-cut : goal.returns-clause-cut
 returns-clause-cut g c = c.run_job.ensures.cut
+
+pub is_metric_cost-by_metric-requires-clause-table : goal.is_metric_cost-by_metric-requires-clause-table
+is_metric_cost-by_metric-requires-clause-table g c =
+    let S : List ℤ → Type 0 = λ t. IsTable c.args.options.now.labels c.args.options.now.labels (shape_cost c.args.options.now.smooth c.args.options.now.trunc) t in
+    let table = subst S (sym c.as_slice-table.ensures.value) c.in_ok-smooth.ensures.table in
+    (c.args.options.now.trunc, c.requires.options.run.trunc_least, table)

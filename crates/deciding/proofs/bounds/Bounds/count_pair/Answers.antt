@@ -43,8 +43,8 @@ returns-then-not-is_allowed-clause-range g c = λ most within. range_wider most 
 pub returns-then-not-is_allowed-clause-counted : goal.returns-then-not-is_allowed-clause-counted
 returns-then-not-is_allowed-clause-counted g c = λ m answers.
     let a = c.args in
-    let below = labels_below a.smooth_cost.now.labels a.at.now (length a.at.now) a.pair refl c.requires.labels c.requires.pair in
-    let told = c.is_allowed.ensures m a.change (labelling a.at.now) a.pair answers c.requires.change below (c.term-table.ensures.table m answers) in
+    let below = labels_below a.problem.now.data_cost.labels a.at.now (length a.at.now) a.pair refl c.requires.asked.labels c.requires.pair in
+    let told = c.is_allowed.ensures m answers a.change (labelling a.at.now) a.pair c.requires.asked.move_of below (c.term-table.ensures.table m answers) in
     λ regular. (let t = told.1 regular in
     let f = c.if-not-is_allowed.true in absurd (cc (t, f)))
 
@@ -56,7 +56,7 @@ returns-clause-undecided g c =
 pub returns-clause-counted : goal.returns-clause-counted
 returns-clause-counted g c = λ m answers.
     let a = c.args in
-    let below = labels_below a.smooth_cost.now.labels a.at.now (length a.at.now) a.pair refl c.requires.labels c.requires.pair in
-    let told = c.is_allowed.ensures m a.change (labelling a.at.now) a.pair answers c.requires.change below (c.term-table.ensures.table m answers) in
+    let below = labels_below a.problem.now.data_cost.labels a.at.now (length a.at.now) a.pair refl c.requires.asked.labels c.requires.pair in
+    let told = c.is_allowed.ensures m answers a.change (labelling a.at.now) a.pair c.requires.asked.move_of below (c.term-table.ensures.table m answers) in
     let T : List ℤ → Type 0 = λ t. AddsTerm a.pair t a.self.now c.add_term.new.self in
     (told.0 c.if-not-is_allowed.false, subst T (c.term-table.ensures.table m answers) c.add_term.ensures.adds)

@@ -24,7 +24,7 @@ loop-site-preserved g c =
           (subst P c.from-label.ensures c.first_choice.ensures.opened) c.first_choice.ensures.none (passed_range rise.result 10000000 (omega arith) rise.ensures.range) c.loop-site.invariant.opened;
       own = λ m answers.
           own_more m c.args.change c.args.at.now c.loop-site.site _ c.loop-site.self c.add_site.new.self c.loop-site.invariant.opened e.least e.greatest
-          (passed_on rise.result (omega (arith, rise.ensures.range)) ∙ rise.ensures.rise m.data_cost answers
+          (passed_on rise.result (omega (arith, rise.ensures.range)) ∙ rise.ensures.rise m answers
           ∙ ap (λ l. pos (m.data_cost c.loop-site.site (label_in c.args.change l true)) -ℤ pos (m.data_cost c.loop-site.site (label_in c.args.change l false))) c.from-label.ensures) (c.loop-site.invariant.own m answers);
     }
 
@@ -37,5 +37,5 @@ pub returns-clause-range : goal.returns-clause-range
 returns-clause-range g c = opened_range c.args.change c.args.at.now _ c.loop-site.self c.loop-site.invariant.opened
 
 pub returns-clause-counted : goal.returns-clause-counted
-returns-clause-counted g c = λ m sites answers.
-    own_counted m c.args.change (labelling c.args.at.now) c.loop-site.site c.loop-site.self (omega (arith, c.loop-site-test.false, sites)) (c.loop-site.invariant.own m answers)
+returns-clause-counted g c = λ m answers.
+    own_counted m c.args.change (labelling c.args.at.now) c.loop-site.site c.loop-site.self (omega (arith, c.loop-site-test.false, answers.sites_are, c.requires.asked.sites)) (c.loop-site.invariant.own m answers)

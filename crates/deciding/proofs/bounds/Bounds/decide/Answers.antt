@@ -13,8 +13,8 @@ use Rattle.deciding.proofs.bounds.Bounds.decide.Goals as goal
 pub loop-place-init : goal.loop-place-init
 loop-place-init g c =
     let a = c.args in
-    let inside : a.site < a.pairs.now.sites = omega (arith, c.requires.site.0, c.requires.sites) in
-    let start = start_read a.pairs.now a.ends.now a.site _ c.requires.by_site (omega (arith, inside)) c.index-place.ensures in
+    let inside : a.site < a.problem.now.pairs.sites = omega (arith, c.requires.site.0, c.requires.asked.sites) in
+    let start = start_read a.problem.now.pairs a.ends.now a.site _ c.requires.by_site (omega (arith, inside)) c.index-place.ensures in
     record {
       choices = refl;
       sized = record {
@@ -25,53 +25,53 @@ loop-place-init g c =
       waiting = decided_waits (length a.at.now) a.site a.value a.self.now c.mark.new.self c.mark.ensures c.requires.waiting;
       more = (let e = ap (λ (v : _). length v.items) c.mark.ensures.waiting in omega (arith, e));
       range = λ most within. range_wider most _ c.mark.new.self (omega arith) (range_start a.self.now c.mark.new.self a.site a.value c.mark.ensures most within);
-      spread = λ m answers same sites decided.
+      spread = λ m answers decided.
           let P : ℕ → Type 0 = λ p. IsSpread m a.change (labelling a.at.now) decided.decisions a.site a.value a.ends.now p c.mark.new.self in
           subst P (sym start)
-          (spread_start m a.change (labelling a.at.now) a.site a.value a.ends.now a.self.now c.mark.new.self m.sites (meant_grouped m a.pairs.now a.ends.now same sites c.requires.by_site) decided c.mark.ensures);
+          (spread_start m a.change (labelling a.at.now) a.site a.value a.ends.now a.self.now c.mark.new.self m.sites (meant_grouped m a.problem.now.pairs a.ends.now answers.pairs_are answers.sites_are c.requires.by_site) decided c.mark.ensures);
     }
 
 pub get-pair-requires : goal.get-pair-requires
 get-pair-requires g c =
     let a = c.args in
-    let inside : a.site < a.pairs.now.sites = omega (arith, c.requires.site.0, c.requires.sites) in
-    let start = start_read a.pairs.now a.ends.now a.site _ c.requires.by_site (omega (arith, inside)) c.index-place.ensures in
-    let end = start_read a.pairs.now a.ends.now (a.site + 1) _ c.requires.by_site (omega (arith, inside)) c.index-place-end.ensures in
+    let inside : a.site < a.problem.now.pairs.sites = omega (arith, c.requires.site.0, c.requires.asked.sites) in
+    let start = start_read a.problem.now.pairs a.ends.now a.site _ c.requires.by_site (omega (arith, inside)) c.index-place.ensures in
+    let end = start_read a.problem.now.pairs a.ends.now (a.site + 1) _ c.requires.by_site (omega (arith, inside)) c.index-place-end.ensures in
     let from : start_of a.ends.now a.site ≤ c.loop-place.place = omega (arith, start, c.loop-place.auto.place) in
     let to : c.loop-place.place < start_of a.ends.now (a.site + 1) = omega (arith, end, c.loop-place-test.true) in
-    place_within a.pairs.now a.ends.now a.site c.loop-place.place _ c.requires.by_site inside from to
-    (place_read a.pairs.now a.ends.now a.site c.loop-place.place _ c.requires.by_site inside to c.index.ensures)
+    place_within a.problem.now.pairs a.ends.now a.site c.loop-place.place _ c.requires.by_site inside from to
+    (place_read a.problem.now.pairs a.ends.now a.site c.loop-place.place _ c.requires.by_site inside to c.index.ensures)
 
 pub see-requires-clause-end : goal.see-requires-clause-end
-see-requires-clause-end g c =
+see-requires-clause-end g c = λ κs lives.
     let a = c.args in
-    let inside : a.site < a.pairs.now.sites = omega (arith, c.requires.site.0, c.requires.sites) in
-    let start = start_read a.pairs.now a.ends.now a.site _ c.requires.by_site (omega (arith, inside)) c.index-place.ensures in
-    let end = start_read a.pairs.now a.ends.now (a.site + 1) _ c.requires.by_site (omega (arith, inside)) c.index-place-end.ensures in
+    let inside : a.site < a.problem.now.pairs.sites = omega (arith, c.requires.site.0, c.requires.asked.sites) in
+    let start = start_read a.problem.now.pairs a.ends.now a.site _ c.requires.by_site (omega (arith, inside)) c.index-place.ensures in
+    let end = start_read a.problem.now.pairs a.ends.now (a.site + 1) _ c.requires.by_site (omega (arith, inside)) c.index-place-end.ensures in
     let from : start_of a.ends.now a.site ≤ c.loop-place.place = omega (arith, start, c.loop-place.auto.place) in
     let to : c.loop-place.place < start_of a.ends.now (a.site + 1) = omega (arith, end, c.loop-place-test.true) in
-    place_touches a.pairs.now a.ends.now a.site c.loop-place.place _ c.get-pair.result c.requires.by_site inside from to
-    (place_read a.pairs.now a.ends.now a.site c.loop-place.place _ c.requires.by_site inside to c.index.ensures) c.get-pair.ensures.value
+    place_touches a.problem.now.pairs a.ends.now a.site c.loop-place.place _ c.get-pair.result c.requires.by_site inside from to
+    (place_read a.problem.now.pairs a.ends.now a.site c.loop-place.place _ c.requires.by_site inside to c.index.ensures) c.get-pair.ensures.value
 
 pub see-requires-clause-range : goal.see-requires-clause-range
-see-requires-clause-range g c =
+see-requires-clause-range g c = λ κs lives.
     let a = c.args in
-    let inside : a.site < a.pairs.now.sites = omega (arith, c.requires.site.0, c.requires.sites) in
-    let start = start_read a.pairs.now a.ends.now a.site _ c.requires.by_site (omega (arith, inside)) c.index-place.ensures in
-    let end = start_read a.pairs.now a.ends.now (a.site + 1) _ c.requires.by_site (omega (arith, inside)) c.index-place-end.ensures in
+    let inside : a.site < a.problem.now.pairs.sites = omega (arith, c.requires.site.0, c.requires.asked.sites) in
+    let start = start_read a.problem.now.pairs a.ends.now a.site _ c.requires.by_site (omega (arith, inside)) c.index-place.ensures in
+    let end = start_read a.problem.now.pairs a.ends.now (a.site + 1) _ c.requires.by_site (omega (arith, inside)) c.index-place-end.ensures in
     let from : start_of a.ends.now a.site ≤ c.loop-place.place = omega (arith, start, c.loop-place.auto.place) in
     let to : c.loop-place.place < start_of a.ends.now (a.site + 1) = omega (arith, end, c.loop-place-test.true) in
-    range_enough a.pairs.now a.ends.now a.site c.loop-place.place a.self.now c.loop-place.self c.requires.by_site c.requires.list inside from to c.loop-place.invariant.range c.requires.range
+    range_enough a.problem.now.pairs a.ends.now a.site c.loop-place.place a.self.now c.loop-place.self c.requires.by_site c.requires.posed.pairs inside from to c.loop-place.invariant.range c.requires.range
 
 pub loop-place-preserved : goal.loop-place-preserved
 loop-place-preserved g c =
     let a = c.args in
-    let inside : a.site < a.pairs.now.sites = omega (arith, c.requires.site.0, c.requires.sites) in
-    let start = start_read a.pairs.now a.ends.now a.site _ c.requires.by_site (omega (arith, inside)) c.index-place.ensures in
-    let end = start_read a.pairs.now a.ends.now (a.site + 1) _ c.requires.by_site (omega (arith, inside)) c.index-place-end.ensures in
+    let inside : a.site < a.problem.now.pairs.sites = omega (arith, c.requires.site.0, c.requires.asked.sites) in
+    let start = start_read a.problem.now.pairs a.ends.now a.site _ c.requires.by_site (omega (arith, inside)) c.index-place.ensures in
+    let end = start_read a.problem.now.pairs a.ends.now (a.site + 1) _ c.requires.by_site (omega (arith, inside)) c.index-place-end.ensures in
     let from : start_of a.ends.now a.site ≤ c.loop-place.place = omega (arith, start, c.loop-place.auto.place) in
     let to : c.loop-place.place < start_of a.ends.now (a.site + 1) = omega (arith, end, c.loop-place-test.true) in
-    let read = place_read a.pairs.now a.ends.now a.site c.loop-place.place _ c.requires.by_site inside to c.index.ensures in
+    let read = place_read a.problem.now.pairs a.ends.now a.site c.loop-place.place _ c.requires.by_site inside to c.index.ensures in
     let looking = c.in_ok-see.ensures.looking in
     record {
       choices = looking.choices ∙ c.loop-place.invariant.choices;
@@ -83,22 +83,22 @@ loop-place-preserved g c =
       waiting = c.in_ok-see.ensures.waiting;
       more = omega (arith, looking.waiting, c.loop-place.invariant.more, from);
       range = range_step (start_of a.ends.now a.site) c.loop-place.place a.self.now c.loop-place.self c.see.new.self from looking c.loop-place.invariant.range;
-      spread = λ m answers same sites decided.
-          let within : a.site < m.sites = omega (arith, inside, sites) in
+      spread = λ m answers decided.
+          let within : a.site < m.sites = omega (arith, inside, answers.sites_are) in
           spread_step m a.change (labelling a.at.now) decided.decisions a.site a.value a.ends.now c.loop-place.place c.get-pair.result c.loop-place.self c.see.new.self
-          (meant_pairs m a.pairs.now same sites c.requires.list) (meant_grouped m a.pairs.now a.ends.now same sites c.requires.by_site) within from to
-          ((λ i. pair_in (same i) (sym read i / 2)) ∙ pair_read a.pairs.now.list _ c.get-pair.result c.get-pair.ensures.value)
+          (meant_pairs m a.problem.now.pairs answers.pairs_are answers.sites_are c.requires.posed.pairs) (meant_grouped m a.problem.now.pairs a.ends.now answers.pairs_are answers.sites_are c.requires.by_site) within from to
+          ((λ i. pair_in (answers.pairs_are i) (sym read i / 2)) ∙ pair_read a.problem.now.pairs.list _ c.get-pair.result c.get-pair.ensures.value)
           (site_free m a.change (labelling a.at.now) a.site true a.self.now decided within c.requires.site.1)
           (site_free m a.change (labelling a.at.now) a.site false a.self.now decided within c.requires.site.1)
-          looking.choices (c.in_ok-see.ensures.sees m answers) (c.loop-place.invariant.spread m answers same sites decided);
+          looking.choices (c.in_ok-see.ensures.sees m answers) (c.loop-place.invariant.spread m answers decided);
     }
 
 pub returns-clause-range : goal.returns-clause-range
 returns-clause-range g c = λ most within.
     let a = c.args in
-    let inside : a.site < a.pairs.now.sites = omega (arith, c.requires.site.0, c.requires.sites) in
-    let end = start_read a.pairs.now a.ends.now (a.site + 1) _ c.requires.by_site (omega (arith, inside)) c.index-place-end.ensures in
-    let start = start_read a.pairs.now a.ends.now a.site _ c.requires.by_site (omega (arith, inside)) c.index-place.ensures in
+    let inside : a.site < a.problem.now.pairs.sites = omega (arith, c.requires.site.0, c.requires.asked.sites) in
+    let end = start_read a.problem.now.pairs a.ends.now (a.site + 1) _ c.requires.by_site (omega (arith, inside)) c.index-place-end.ensures in
+    let start = start_read a.problem.now.pairs a.ends.now a.site _ c.requires.by_site (omega (arith, inside)) c.index-place.ensures in
     let ordered = c.requires.by_site.ordered a.site inside in
     let last : c.loop-place.place - start_of a.ends.now a.site ≤ degree a.ends.now a.site = omega (arith, start, end, ordered, c.loop-place.auto.place-end) in
     range_wider (most + 20000000 * (c.loop-place.place - start_of a.ends.now a.site)) (most + 20000000 * degree a.ends.now a.site) c.loop-place.self
@@ -114,29 +114,20 @@ returns-clause-left g c =
     (λ u other. ap (λ (xs : _). choice_at xs u) choices ∙ marked.others u other)
 
 pub returns-clause-decided : goal.returns-clause-decided
-returns-clause-decided g c = λ m answers same sites tells decided.
+returns-clause-decided g c = λ m answers tells decided.
     let a = c.args in
-    let inside : a.site < a.pairs.now.sites = omega (arith, c.requires.site.0, c.requires.sites) in
-    let end = start_read a.pairs.now a.ends.now (a.site + 1) _ c.requires.by_site (omega (arith, inside)) c.index-place-end.ensures in
+    let inside : a.site < a.problem.now.pairs.sites = omega (arith, c.requires.site.0, c.requires.asked.sites) in
+    let end = start_read a.problem.now.pairs a.ends.now (a.site + 1) _ c.requires.by_site (omega (arith, inside)) c.index-place-end.ensures in
     let past : start_of a.ends.now (a.site + 1) ≤ c.loop-place.place = omega (arith, end, c.loop-place-test.false) in
     spread_end m a.change (labelling a.at.now) a.site a.value a.ends.now c.loop-place.place a.self.now c.mark.new.self c.loop-place.self
-    (meant_pairs m a.pairs.now same sites c.requires.list) (omega (arith, inside, sites)) decided c.requires.site.1 tells c.mark.ensures c.loop-place.invariant.choices past
-    (c.loop-place.invariant.spread m answers same sites decided)
-
-pub see-requires-clause-smooth : goal.see-requires-clause-smooth
-see-requires-clause-smooth g c = c.requires.smooth
-
-pub see-requires-clause-labels : goal.see-requires-clause-labels
-see-requires-clause-labels g c = c.requires.labels
-
-pub see-requires-clause-change : goal.see-requires-clause-change
-see-requires-clause-change g c = c.requires.change
+    (meant_pairs m a.problem.now.pairs answers.pairs_are answers.sites_are c.requires.posed.pairs) (omega (arith, inside, answers.sites_are)) decided c.requires.site.1 tells c.mark.ensures c.loop-place.invariant.choices past
+    (c.loop-place.invariant.spread m answers decided)
 
 pub see-requires-clause-sized : goal.see-requires-clause-sized
-see-requires-clause-sized g c = c.loop-place.invariant.sized
+see-requires-clause-sized g c = λ κs lives. c.loop-place.invariant.sized
 
 pub see-requires-clause-waiting : goal.see-requires-clause-waiting
-see-requires-clause-waiting g c = c.loop-place.invariant.waiting
+see-requires-clause-waiting g c = λ κs lives. c.loop-place.invariant.waiting
 
 pub returns-in_err-see-clause-sized : goal.returns-in_err-see-clause-sized
 returns-in_err-see-clause-sized g c =

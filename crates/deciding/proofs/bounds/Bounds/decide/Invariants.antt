@@ -1,5 +1,5 @@
 use Rattle.std.proofs.Common.{◌≡◌, ◌+◌, ◌-◌, ◌*◌, ◌≤◌, ℕ, length}
-use Rattle.cost_store.specs.Promises.{Answers}
+use Rattle.cost_store.specs.Posed.{IsMeant}
 use Rattle.grouping.specs.Grouping.{start_of}
 use Rattle.labellings.specs.Energies.{Instance, labelling}
 use Rattle.deciding.specs.Working.{IsSized, AreWaiting, IsWithinRange, ArePartlyDecided}
@@ -13,7 +13,7 @@ invariant-loop-place g l = record {
   waiting : AreWaiting (length l.at) l.self;
   more : length l.self.waiting.items ≤ length l.fn.self.waiting.items + (l.place - start_of l.ends l.site);
   range : (most : ℕ) → IsWithinRange most l.fn.self → IsWithinRange (most + 20000000 * (l.place - start_of l.ends l.site)) l.self;
-  spread : (m : Instance) → Answers (goal.V-post g l.smooth_cost.v) m.smooth_cost l.smooth_cost.labels l.smooth_cost.labels → m.pairs ≡ l.pairs.list → m.sites ≡ l.pairs.sites
+  spread : (m : Instance) → IsMeant g.F.Fn g.V.Fn l.problem m
       → (decided : ArePartlyDecided m l.change (labelling l.at) l.fn.self)
       → IsSpread m l.change (labelling l.at) decided.decisions l.site l.value l.ends l.place l.self;
 }

@@ -9,35 +9,20 @@ pub returns-clause-range : goal.returns-clause-range
 returns-clause-range g c =
     let a = c.args in
     on_ok_two c.decide.result _ _ _ (λ less range.
-    room_grows (left a.ends.now (length a.at.now) a.self.now.choices.items) (left a.ends.now (length a.at.now) c.decide.new.self.choices.items) (degree a.ends.now a.site) (length a.pairs.now.list)
-    a.self.now c.decide.new.self less c.requires.left c.requires.list.count range c.requires.range) c.decide.ensures.left c.decide.ensures.range
+    room_grows (left a.ends.now (length a.at.now) a.self.now.choices.items) (left a.ends.now (length a.at.now) c.decide.new.self.choices.items) (degree a.ends.now a.site) (length a.problem.now.pairs.list)
+    a.self.now c.decide.new.self less c.requires.left c.requires.posed.pairs.count range c.requires.range) c.decide.ensures.left c.decide.ensures.range
 
 pub returns-clause-decided : goal.returns-clause-decided
-returns-clause-decided g c = on_ok_weaker c.decide.result (λ decides m answers same sites decided. decides m answers same sites c.told_value-value.ensures decided) c.decide.ensures.decided
-
-pub decide-requires-clause-smooth : goal.decide-requires-clause-smooth
-decide-requires-clause-smooth g c = c.requires.smooth
-
-pub decide-requires-clause-sites : goal.decide-requires-clause-sites
-decide-requires-clause-sites g c = c.requires.sites
+returns-clause-decided g c = on_ok_weaker c.decide.result (λ decides m answers decided. decides m answers c.told_value-value.ensures decided) c.decide.ensures.decided
 
 pub decide-requires-clause-by_site : goal.decide-requires-clause-by_site
-decide-requires-clause-by_site g c = c.requires.by_site
-
-pub decide-requires-clause-list : goal.decide-requires-clause-list
-decide-requires-clause-list g c = c.requires.list
-
-pub decide-requires-clause-labels : goal.decide-requires-clause-labels
-decide-requires-clause-labels g c = c.requires.labels
-
-pub decide-requires-clause-change : goal.decide-requires-clause-change
-decide-requires-clause-change g c = c.requires.change
+decide-requires-clause-by_site g c = λ κs lives. c.requires.by_site
 
 pub decide-requires-clause-sized : goal.decide-requires-clause-sized
-decide-requires-clause-sized g c = c.requires.sized
+decide-requires-clause-sized g c = λ κs lives. c.requires.sized
 
 pub decide-requires-clause-waiting : goal.decide-requires-clause-waiting
-decide-requires-clause-waiting g c = c.requires.waiting
+decide-requires-clause-waiting g c = λ κs lives. c.requires.waiting
 
 pub returns-clause-sized : goal.returns-clause-sized
 returns-clause-sized g c = c.decide.ensures.sized

@@ -7,21 +7,21 @@ use Rattle.deciding.proofs.bounds.Bounds.settle_all.Goals as goal
 pub settling-init : goal.settling-init
 settling-init g c =
     let a = c.args in
-    let room = room_first a.pairs.now a.ends.now (length a.at.now) a.self.now c.requires.by_site c.requires.list c.requires.sites c.requires.range in
+    let room = room_first a.problem.now.pairs a.ends.now (length a.at.now) a.self.now c.requires.by_site c.requires.posed.pairs c.requires.asked.sites c.requires.range in
     record {
       sized = c.requires.sized;
       waiting = c.requires.waiting;
       few = room.0;
       range = room.1;
-      decided = λ m answers same sites decided. decided;
+      decided = λ m answers decided. decided;
     }
 
 pub settle-requires-clause-site : goal.settle-requires-clause-site
-settle-requires-clause-site g c =
+settle-requires-clause-site g c = λ κs lives.
     (popped_waits (length c.args.at.now) c.in-Some.site c.settling.self (record c.settling.self { waiting = c.pop.new.self }) c.in-Some.ensures.items refl refl refl c.settling.invariant.waiting).0
 
 pub settle-requires-clause-waiting : goal.settle-requires-clause-waiting
-settle-requires-clause-waiting g c =
+settle-requires-clause-waiting g c = λ κs lives.
     (popped_waits (length c.args.at.now) c.in-Some.site c.settling.self (record c.settling.self { waiting = c.pop.new.self }) c.in-Some.ensures.items refl refl refl c.settling.invariant.waiting).1
 
 pub settling-preserved : goal.settling-preserved
@@ -32,42 +32,27 @@ settling-preserved g c =
       waiting = e.waiting;
       few = e.left;
       range = e.range;
-      decided = λ m answers same sites first.
-          e.decided m answers same sites
+      decided = λ m answers first.
+          e.decided m answers
           (partly_same m c.args.change (labelling c.args.at.now) c.settling.self (record c.settling.self { waiting = c.pop.new.self }) refl refl refl
-          (c.settling.invariant.decided m answers same sites first));
+          (c.settling.invariant.decided m answers first));
     }
 
-pub settle-requires-clause-smooth : goal.settle-requires-clause-smooth
-settle-requires-clause-smooth g c = c.requires.smooth
-
-pub settle-requires-clause-sites : goal.settle-requires-clause-sites
-settle-requires-clause-sites g c = c.requires.sites
-
 pub settle-requires-clause-by_site : goal.settle-requires-clause-by_site
-settle-requires-clause-by_site g c = c.requires.by_site
-
-pub settle-requires-clause-list : goal.settle-requires-clause-list
-settle-requires-clause-list g c = c.requires.list
-
-pub settle-requires-clause-labels : goal.settle-requires-clause-labels
-settle-requires-clause-labels g c = c.requires.labels
-
-pub settle-requires-clause-change : goal.settle-requires-clause-change
-settle-requires-clause-change g c = c.requires.change
+settle-requires-clause-by_site g c = λ κs lives. c.requires.by_site
 
 pub settle-requires-clause-sized : goal.settle-requires-clause-sized
-settle-requires-clause-sized g c = record {
+settle-requires-clause-sized g c = λ κs lives. record {
   choices = c.settling.invariant.sized.choices;
   least = c.settling.invariant.sized.least;
   greatest = c.settling.invariant.sized.greatest;
 }
 
 pub settle-requires-clause-left : goal.settle-requires-clause-left
-settle-requires-clause-left g c = c.settling.invariant.few
+settle-requires-clause-left g c = λ κs lives. c.settling.invariant.few
 
 pub settle-requires-clause-range : goal.settle-requires-clause-range
-settle-requires-clause-range g c = c.settling.invariant.range
+settle-requires-clause-range g c = λ κs lives. c.settling.invariant.range
 
 pub returns-in_err-settle-clause-sized : goal.returns-in_err-settle-clause-sized
 returns-in_err-settle-clause-sized g c =
@@ -83,3 +68,8 @@ pub returns-in_err-settle-clause-decided : goal.returns-in_err-settle-clause-dec
 returns-in_err-settle-clause-decided g c =
     let p = err_from_is_err_and c.from_residual.result c.from_residual.ensures.1 in
     rw (p.1) tt
+
+pub returns-clause-decided : goal.returns-clause-decided
+returns-clause-decided g c = λ m answers first.
+    partly_same m c.args.change (labelling c.args.at.now) c.settling.self (record c.settling.self { waiting = c.pop.new.self }) refl refl refl
+    (c.settling.invariant.decided m answers first)

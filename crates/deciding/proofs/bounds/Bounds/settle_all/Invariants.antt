@@ -1,5 +1,5 @@
-use Rattle.std.proofs.Common.{◌≡◌, ◌+◌, ◌*◌, ◌≤◌, length}
-use Rattle.cost_store.specs.Promises.{Answers}
+use Rattle.std.proofs.Common.{◌+◌, ◌*◌, ◌≤◌, length}
+use Rattle.cost_store.specs.Posed.{IsMeant}
 use Rattle.labellings.specs.Energies.{Instance, labelling}
 use Rattle.deciding.specs.Working.{IsSized, AreWaiting, IsWithinRange, ArePartlyDecided, left, room_of}
 use Rattle.deciding.proofs.bounds.Bounds.settle_all.Given as goal
@@ -8,9 +8,9 @@ abbrev pub invariant-settling : goal.invariant-settling
 invariant-settling g l = record {
   sized : IsSized (length l.at) l.self;
   waiting : AreWaiting (length l.at) l.self;
-  few : left l.ends (length l.at) l.self.choices.items ≤ 2 * length l.pairs.list;
+  few : left l.ends (length l.at) l.self.choices.items ≤ 2 * length l.problem.pairs.list;
   range : IsWithinRange (room_of (left l.ends (length l.at) l.self.choices.items)) l.self;
-  decided : (m : Instance) → Answers (goal.V-post g l.smooth_cost.v) m.smooth_cost l.smooth_cost.labels l.smooth_cost.labels → m.pairs ≡ l.pairs.list → m.sites ≡ l.pairs.sites
+  decided : (m : Instance) → IsMeant g.F.Fn g.V.Fn l.problem m
       → ArePartlyDecided m l.change (labelling l.at) l.fn.self → ArePartlyDecided m l.change (labelling l.at) l.self;
 }
 

@@ -1,28 +1,26 @@
-use Rattle.std.proofs.Common.{◌∙◌, ◌<◌, ◌≤◌, ◌+◌, ℕ, pos, List, All, length, ap, sym, subst, arith}
+use Rattle.std.proofs.Common.{◌∙◌, ◌≤◌, ◌+◌, ℕ, pos, List, length, ap, sym, subst, arith}
 use Rattle.std.proofs.lemmas.Result.{on_ok_weaker}
-use Rattle.cost_store.specs.Promises.{Answers}
 use Rattle.compile_cut.specs.Form.{IsConstant}
 use Rattle.compile_cut.proofs.TermLemmas.{bounded-weaker, constant_bounded, constant_nodes}
 use Rattle.move_energy.specs.declared.choice.Choice.{Choice}
 use Rattle.move_energy.proofs.Numbers.{rank_most}
 use Rattle.move_energy.proofs.Joins.{built_of}
 use Rattle.std.proofs.lemmas.Result.{err_from_is_err_and}
-use Rattle.labellings.specs.Moves.{IsMoveOf}
 use Rattle.move_energy.proofs.building.MoveEnergy.build.Goals as goal
 
 pub add_sites-requires-clause-empty : goal.add_sites-requires-clause-empty
-add_sites-requires-clause-empty g c =
+add_sites-requires-clause-empty g c = λ κs lives.
     let P : ℕ → Type 0 = λ n. IsConstant (pos 0) n c.in_ok-form.form in
     subst P c.in_ok-count.ensures.count c.in_ok-form.ensures
 
 pub add_pairs-requires-clause-variables : goal.add_pairs-requires-clause-variables
-add_pairs-requires-clause-variables g c =
+add_pairs-requires-clause-variables g c = λ κs lives.
     c.add_sites.ensures.longer.nodes ∙ constant_nodes (pos 0) c.in_ok-count.count c.in_ok-form.form c.in_ok-form.ensures ∙ c.in_ok-count.ensures.count
 
 pub add_pairs-requires-clause-bounded : goal.add_pairs-requires-clause-bounded
-add_pairs-requires-clause-bounded g c =
+add_pairs-requires-clause-bounded g c = λ κs lives.
     let none = constant_bounded (pos 0) c.in_ok-count.count c.in_ok-form.form (omega arith) c.in_ok-form.ensures in
-    let few : 0 + length c.args.at.now ≤ 1048576 = omega (arith, c.requires.sites.0, c.sites-sites.ensures) in
+    let few : 0 + length c.args.at.now ≤ 1048576 = omega (arith, c.requires.asked.sites, c.requires.posed.pairs.sites) in
     bounded-weaker (0 + length c.args.at.now) 1048576 c.add_sites.new.form few (c.add_sites.ensures.longer.bounded 0 none)
 
 pub returns-clause-bounded : goal.returns-clause-bounded
@@ -33,7 +31,7 @@ returns-clause-few g c =
     let choices = c.number.new.self.choices.items in
     let nodes = c.add_sites.ensures.longer.nodes ∙ constant_nodes (pos 0) c.in_ok-count.count c.in_ok-form.form c.in_ok-form.ensures ∙ c.in_ok-count.ensures.count in
     let size = ap (λ (xs : List Choice). length xs) c.number.ensures.kept ∙ c.requires.choices in
-    on_ok_weaker c.add_pairs.result (λ longer. omega (arith, longer.nodes, nodes, rank_most choices (length choices), size, c.requires.sites.0, c.sites-sites.ensures))
+    on_ok_weaker c.add_pairs.result (λ longer. omega (arith, longer.nodes, nodes, rank_most choices (length choices), size, c.requires.asked.sites, c.requires.posed.pairs.sites))
     c.add_pairs.ensures.longer
 
 pub returns-clause-variables : goal.returns-clause-variables
@@ -43,13 +41,11 @@ returns-clause-variables g c =
 
 pub returns-clause-built : goal.returns-clause-built
 returns-clause-built g c = λ m meant.
-    let D : ℕ → Type 0 = λ n. Answers (goal.F-post g c.args.data_cost.now.f) m.data_cost n c.args.data_cost.now.labels in
-    let S : ℕ → Type 0 = λ k. Answers (goal.V-post g c.args.smooth_cost.now.v) m.smooth_cost k k in
-    let sites = c.add_sites.ensures.built m (subst D (sym c.requires.sites.1) meant.data_are) in
-    let pairs = c.add_pairs.ensures.built m (subst S (sym c.requires.labels.0) meant.smooth_are) meant.pairs_are in
+    let sites = c.add_sites.ensures.built m meant in
+    let pairs = c.add_pairs.ensures.built m meant in
     let nodes = c.add_sites.ensures.longer.nodes ∙ constant_nodes (pos 0) c.in_ok-count.count c.in_ok-form.form c.in_ok-form.ensures ∙ c.in_ok-count.ensures.count in
     built_of m c.args.change c.args.at.now (record { form = c.add_pairs.new.form; variables = c.number.new.self }) c.add_sites.new.form
-    (length c.args.pairs.now.list) c.add_pairs.result (c.requires.sites.0 ∙ sym meant.sites_are)
+    (length c.args.problem.now.pairs.list) c.add_pairs.result (c.requires.asked.sites ∙ sym meant.sites_are)
     (ap (λ (xs : List Choice). length xs) c.number.ensures.kept ∙ c.requires.choices)
     nodes c.add_pairs.ensures.longer sites pairs
 
@@ -76,42 +72,17 @@ returns-in_err-count-clause-variables g c =
     let p = err_from_is_err_and c.from_residual.result c.from_residual.ensures.1 in
     rw (p.1) tt
 
-pub add_sites-requires-clause-costs : goal.add_sites-requires-clause-costs
-add_sites-requires-clause-costs g c = c.requires.costs
-
-pub add_sites-requires-clause-labels : goal.add_sites-requires-clause-labels
-add_sites-requires-clause-labels g c = c.requires.labels.1
-
-pub add_sites-requires-clause-change : goal.add_sites-requires-clause-change
-add_sites-requires-clause-change g c = c.requires.change
-
 pub add_sites-requires-clause-numbering : goal.add_sites-requires-clause-numbering
-add_sites-requires-clause-numbering g c = c.in_ok-count.ensures.numbering
+add_sites-requires-clause-numbering g c = λ κs lives. c.in_ok-count.ensures.numbering
 
 pub add_sites-requires-clause-choices : goal.add_sites-requires-clause-choices
-add_sites-requires-clause-choices g c = ap (λ (xs : List Choice). length xs) c.number.ensures.kept ∙ c.requires.choices
-
-pub add_pairs-requires-clause-smooth : goal.add_pairs-requires-clause-smooth
-add_pairs-requires-clause-smooth g c = c.requires.smooth
-
-pub add_pairs-requires-clause-sites : goal.add_pairs-requires-clause-sites
-add_pairs-requires-clause-sites g c = c.requires.sites.0
-
-pub add_pairs-requires-clause-labels : goal.add_pairs-requires-clause-labels
-add_pairs-requires-clause-labels g c =
-    let L : ℕ → Type 0 = λ k. All (λ label. label < k) c.args.at.now in
-    subst L (sym c.requires.labels.0) c.requires.labels.1
-
-pub add_pairs-requires-clause-change : goal.add_pairs-requires-clause-change
-add_pairs-requires-clause-change g c =
-    let C : ℕ → Type 0 = λ k. IsMoveOf k c.args.change in
-    subst C (sym c.requires.labels.0) c.requires.change
+add_sites-requires-clause-choices g c = λ κs lives. ap (λ (xs : List Choice). length xs) c.number.ensures.kept ∙ c.requires.choices
 
 pub add_pairs-requires-clause-numbering : goal.add_pairs-requires-clause-numbering
-add_pairs-requires-clause-numbering g c = c.in_ok-count.ensures.numbering
+add_pairs-requires-clause-numbering g c = λ κs lives. c.in_ok-count.ensures.numbering
 
 pub add_pairs-requires-clause-choices : goal.add_pairs-requires-clause-choices
-add_pairs-requires-clause-choices g c = ap (λ (xs : List Choice). length xs) c.number.ensures.kept ∙ c.requires.choices
+add_pairs-requires-clause-choices g c = λ κs lives. ap (λ (xs : List Choice). length xs) c.number.ensures.kept ∙ c.requires.choices
 
 pub returns-clause-kept : goal.returns-clause-kept
 returns-clause-kept g c = c.number.ensures.kept

@@ -1,7 +1,8 @@
 use Rattle.std.proofs.Common.{◌∙◌, List, sym, subst}
 use Rattle.move_energy.specs.Choices.{AreAllOpen}
 use Rattle.move_energy.specs.declared.choice.Choice.{Choice}
-use Rattle.move_energy.proofs.Whole.{pairs_meant, prepared_of}
+use Rattle.cost_store.proofs.Meaning.{pairs_meant}
+use Rattle.move_energy.proofs.Whole.{prepared_of}
 use Rattle.std.proofs.lemmas.Result.{err_from_is_err_and}
 use Rattle.move_energy.proofs.building.MoveEnergy.prepare.Goals as goal
 
@@ -9,23 +10,8 @@ pub returns-clause-prepared : goal.returns-clause-prepared
 returns-clause-prepared g c = λ m meant.
     let P : List Choice → Type 0 = λ xs. AreAllOpen c.args.change c.args.at.now xs in
     prepared_of m c.args.change c.args.at.now c.build.new.self c.build.result
-    (pairs_meant _ _ _ _ m _ meant c.as_slice-pairs.ensures.value c.as_slice-pairs.ensures.pairs)
-    (c.requires.sites.0 ∙ sym meant.sites_are) (subst P (sym c.build.ensures.kept) c.in_ok-open_all.ensures) (c.build.ensures.built m meant)
-
-pub build-requires-clause-sites : goal.build-requires-clause-sites
-build-requires-clause-sites g c = c.requires.sites
-
-pub build-requires-clause-labels : goal.build-requires-clause-labels
-build-requires-clause-labels g c = c.requires.labels
-
-pub build-requires-clause-change : goal.build-requires-clause-change
-build-requires-clause-change g c = c.requires.change
-
-pub build-requires-clause-costs : goal.build-requires-clause-costs
-build-requires-clause-costs g c = c.requires.costs
-
-pub build-requires-clause-smooth : goal.build-requires-clause-smooth
-build-requires-clause-smooth g c = c.requires.smooth
+    (pairs_meant _ _ _ m c.requires.posed meant)
+    (c.requires.asked.sites ∙ sym meant.sites_are) (subst P (sym c.build.ensures.kept) c.in_ok-open_all.ensures) (c.build.ensures.built m meant)
 
 pub returns-clause-bounded : goal.returns-clause-bounded
 returns-clause-bounded g c = c.build.ensures.bounded

@@ -1,0 +1,64 @@
+-- What is asked of a problem of closures, and what it means.
+use Rattle.std.specs.Prelude.{◌≡◌, ℕ, ◌<◌, List, length, ℤ}
+use Rattle.std.specs.Fn.{Shared}
+use Rattle.std.specs.List.{All}
+use Rattle.label_field.specs.LabelFields.{LabelField}
+use Rattle.label_field.specs.PairLists.{IsPairList}
+use Rattle.labellings.specs.declared.change.Move.{Move}
+use Rattle.labellings.specs.Energies.{Instance}
+use Rattle.labellings.specs.Moves.{IsMoveOf}
+use Rattle.cost_store.specs.Limits.{data_limit}
+use Rattle.cost_store.specs.Promises.{Answers, Keeps, KeepsSmooth}
+use Rattle.cost_store.specs.LabelCosts.{AreLabelCosts, HasCosts}
+use Rattle.cost_store.specs.declared.problem.Problem.{Problem}
+
+-- a closure of two numbers
+abbrev pub Closure : Type 0 → Type 1
+Closure F = Shared F (ℕ × (ℕ × Unit {0})) ℤ
+
+-- it may be called at these two
+abbrev pub takes : {F : Type 0} → Closure F → F → ℕ → ℕ → Type 0
+takes {F} g f a b = g.pre f (a, (b, tt))
+
+-- this is an answer of it there
+abbrev pub gives : {F : Type 0} → Closure F → F → ℕ → ℕ → ℤ → Type 0
+gives {F} g f a b z = g.post f (a, (b, tt)) z
+
+-- the problem is posed: both closures keep their promises, the pairs are a list of pairs, and its parts have the same sites
+-- and labels
+pub record IsPosed {F V : Type 0} (f : Closure F) (v : Closure V) (p : Problem F V) : Type 0 where
+  pub costs : Keeps (takes f p.data_cost.f) (gives f p.data_cost.f) p.data_cost.sites p.data_cost.labels data_limit
+  pub smooth : KeepsSmooth (takes v p.smooth_cost.v) (gives v p.smooth_cost.v) p.smooth_cost.labels p.smooth_cost.by_metric
+  pub pairs : IsPairList p.pairs
+  pub data_sites : p.data_cost.sites ≡ p.pairs.sites
+  pub smooth_labels : p.smooth_cost.labels ≡ p.data_cost.labels
+  pub label_costs : AreLabelCosts p.data_cost.labels p.label_costs
+
+-- the instance is what the problem says: its pairs, what the closures answer, and what was set of the labels
+pub record IsMeant {F V : Type 0} (f : Closure F) (v : Closure V) (p : Problem F V) (m : Instance) : Type 0 where
+  pub sites_are : m.sites ≡ p.pairs.sites
+  pub labels_are : m.labels ≡ p.data_cost.labels
+  pub pairs_are : m.pairs ≡ p.pairs.list
+  pub data_are : Answers (gives f p.data_cost.f) m.data_cost p.pairs.sites p.data_cost.labels
+  pub smooth_are : Answers (gives v p.smooth_cost.v) m.smooth_cost p.data_cost.labels p.data_cost.labels
+  pub costs_are : HasCosts m p.label_costs
+
+-- this holds of each instance that the problem means
+abbrev pub Meant : {F V : Type 0} → Closure F → Closure V → Problem F V → (Instance → Type 0) → Type 0
+Meant {F} {V} f v p P = (m : Instance) → IsMeant f v p m → P m
+
+-- a labelling of the problem's sites by its labels
+pub record Fits {F V : Type 0} (p : Problem F V) (field : LabelField) : Type 0 where
+  pub sites : length field.at ≡ p.pairs.sites
+  pub labels : field.labels ≡ p.data_cost.labels
+
+-- labels of the problem at its sites, and a move between its labels
+pub record IsAsked {F V : Type 0} (p : Problem F V) (at : List ℕ) (move : Move) : Type 0 where
+  pub sites : length at ≡ p.pairs.sites
+  pub labels : All (λ label. label < p.data_cost.labels) at
+  pub move_of : IsMoveOf p.data_cost.labels move
+
+-- the one labelling has as many sites and labels as the other
+pub record AreOfOneSize (old new : LabelField) : Type 0 where
+  pub labels : new.labels ≡ old.labels
+  pub sites : length new.at ≡ length old.at

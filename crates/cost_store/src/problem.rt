@@ -1,0 +1,161 @@
+//! A problem: sites, labels, pairs, and what they cost.
+ghost use Rattle.std.specs.Prelude.{◌≡◌, ◌*◌, pos, ◌<◌, ◌≤◌, ◌≤ℤ◌, All, length, IsTrue, OnOk, OnErr, IfErr};
+ghost use Rattle.label_field.specs.Limits.{weight_limit};
+ghost use Rattle.label_field.specs.PairLists.{IsPair};
+ghost use Rattle.labellings.specs.Energies.{IsInstance, IsMetric, labelling as labels_of, energy as energy_of, data_energy as data_of, smooth_energy as smooth_of, label_energy as label_of, pair_cost as cost_of_pair};
+ghost use Rattle.cost_store.specs.Limits.{data_energy_limit, smooth_energy_limit, label_energy_limit, site_cost_limit, pair_cost_limit};
+ghost use Rattle.cost_store.specs.LabelCosts.{costs_of as costs_in, AreLabelCosts, IsSetRefusal};
+ghost use Rattle.cost_store.specs.Posed.{IsPosed, Meant, Fits};
+
+use crate::by_label::total_paid;
+use crate::{
+    CostError, DataCost, LABEL_COST_LIMIT, LabelCostError, SmoothCost, check_table, costs_of,
+};
+use label_field::{Labelling, Pair, Pairs};
+use std::alloc::Global;
+
+/// What labels cost sites, what they cost pairs of sites, the pairs, and what labels cost by themselves. The four have the same
+/// sites and labels, and both closures keep their promises: that is `IsPosed`, which each call asks for.
+#[derive(Drop)]
+pub struct Problem<F, V> {
+    pub pairs: Pairs,
+    pub data_cost: DataCost<F>,
+    pub smooth_cost: SmoothCost<V>,
+    /// What each label costs by itself, once where some site has it: 0 where none were set.
+    pub label_costs: Option<Vec<i64>>,
+}
+
+impl<F: Fn(u32, u32) -> i64 + Sync, V: Fn(u32, u32) -> i64 + Sync> Problem<F, V> {
+    /// What it means, told to a proof: an instance, whose smooth costs are a metric where they were stored as one. It does
+    /// nothing.
+    pub fn means(&self)
+        requires posed { IsPosed F.Fn V.Fn self.now }
+        ensures instance { Meant F.Fn V.Fn self.now IsInstance }
+        ensures metric { IsTrue self.now.smooth_cost.by_metric →
+            Meant F.Fn V.Fn self.now (λ m. IsMetric m.labels m.smooth_cost) }
+    {}
+
+    /// What a label costs a site. It takes no memory.
+    pub fn site_cost(&self, site: u32, label: u32) -> i64
+        requires posed { IsPosed F.Fn V.Fn self.now }
+        requires inside { (site < self.now.pairs.sites) × (label < self.now.data_cost.labels) }
+        ensures cost { Meant F.Fn V.Fn self.now (λ m. result ≡ pos (m.data_cost site label)) }
+        ensures range { (pos 0 ≤ℤ result) × (result ≤ℤ pos site_cost_limit) }
+    {
+        self.data_cost.cost(site, label)
+    }
+
+    /// What a pair of this weight costs at two labels: the weight times what the labels cost a pair of weight 1. It takes no
+    /// memory.
+    pub fn pair_cost(&self, weight: u32, first: u32, second: u32) -> i64
+        requires posed { IsPosed F.Fn V.Fn self.now }
+        requires weight { weight ≤ weight_limit }
+        requires inside { (first < self.now.data_cost.labels) × (second < self.now.data_cost.labels) }
+        ensures cost { Meant F.Fn V.Fn self.now
+            (λ m. result ≡ pos (weight * m.smooth_cost first second)) }
+        ensures range { (pos 0 ≤ℤ result) × (result ≤ℤ pos pair_cost_limit) }
+    {
+        (u64::from(weight) * self.smooth_cost.cost(first, second).unsigned_abs()) as i64
+    }
+
+    /// What the labels cost the sites. It takes no memory.
+    pub fn data_energy(&self, labelling: &Labelling) -> i64
+        requires posed { IsPosed F.Fn V.Fn self.now }
+        requires fits { Fits self.now labelling.now }
+        ensures energy { Meant F.Fn V.Fn self.now
+            (λ m. result ≡ pos (data_of m (labels_of labelling.now.at))) }
+        ensures range { (pos 0 ≤ℤ result) × (result ≤ℤ pos data_energy_limit) }
+    {
+        let at = labelling.as_slice();
+        let mut total = 0u64;
+        for site in 0..labelling.sites() {
+            total += self.site_energy(at, site);
+        }
+        total as i64
+    }
+
+    /// What the label of one site costs it.
+    fn site_energy(&self, at: &[u8], site: u32) -> u64
+        requires posed { IsPosed F.Fn V.Fn self.now }
+        requires site { (site < length at.now) × (length at.now ≡ self.now.pairs.sites) }
+        requires labels { All (λ label. label < self.now.data_cost.labels) at.now }
+        ensures cost { Meant F.Fn V.Fn self.now
+            (λ m. result ≡ m.data_cost site (labels_of at.now site)) }
+        ensures range { result ≤ site_cost_limit }
+    {
+        self.site_cost(site, u32::from(at[site as usize]))
+            .unsigned_abs()
+    }
+
+    /// What the labels cost the pairs. It takes no memory.
+    pub fn smooth_energy(&self, labelling: &Labelling) -> i64
+        requires posed { IsPosed F.Fn V.Fn self.now }
+        requires fits { Fits self.now labelling.now }
+        ensures energy { Meant F.Fn V.Fn self.now
+            (λ m. result ≡ pos (smooth_of m (labels_of labelling.now.at))) }
+        ensures range { (pos 0 ≤ℤ result) × (result ≤ℤ pos smooth_energy_limit) }
+    {
+        let at = labelling.as_slice();
+        let mut total = 0u64;
+        for index in 0..self.pairs.len() {
+            total += self.pair_energy(at, self.pairs.get(index));
+        }
+        total as i64
+    }
+
+    /// What one pair costs.
+    fn pair_energy(&self, at: &[u8], pair: Pair) -> u64
+        requires posed { IsPosed F.Fn V.Fn self.now }
+        requires pair { IsPair (length at.now) pair }
+        requires labels { All (λ label. label < self.now.data_cost.labels) at.now }
+        ensures cost { Meant F.Fn V.Fn self.now
+            (λ m. result ≡ cost_of_pair m (labels_of at.now) pair) }
+        ensures range { result ≤ pair_cost_limit }
+    {
+        let first = u32::from(at[pair.first as usize]);
+        let second = u32::from(at[pair.second as usize]);
+        self.pair_cost(pair.weight, first, second).unsigned_abs()
+    }
+
+    /// What the labels that some site has cost by themselves. It takes no memory.
+    pub fn label_energy(&self, labelling: &Labelling) -> i64
+        requires posed { IsPosed F.Fn V.Fn self.now }
+        requires fits { Fits self.now labelling.now }
+        ensures energy { Meant F.Fn V.Fn self.now
+            (λ m. result ≡ pos (label_of m (labels_of labelling.now.at))) }
+        ensures range { (pos 0 ≤ℤ result) × (result ≤ℤ pos label_energy_limit) }
+    {
+        labelling.keeps();
+        total_paid(labelling.as_slice(), costs_of(&self.label_costs)) as i64
+    }
+
+    /// The energy of a labelling. It takes no memory.
+    pub fn energy(&self, labelling: &Labelling) -> i64
+        requires posed { IsPosed F.Fn V.Fn self.now }
+        requires fits { Fits self.now labelling.now }
+        ensures { Meant F.Fn V.Fn self.now
+            (λ m. result ≡ pos (energy_of m (labels_of labelling.now.at))) }
+    {
+        let plain = self.data_energy(labelling) + self.smooth_energy(labelling);
+        plain + self.label_energy(labelling)
+    }
+
+    /// Sets what labels cost by themselves, in place of what was set before. Refused, the first that holds: `CostRange` where
+    /// a cost is not from 0 to `LABEL_COST_LIMIT`, `OutOfMemory`.
+    pub fn set_label_costs(&mut self, alloc: Global, costs: &[i64]) -> Result<(), LabelCostError>
+        requires { length costs.now ≡ self.old.data_cost.labels }
+        ensures set { OnOk result ((costs_in self.new.label_costs ≡ costs.now)
+            × AreLabelCosts self.old.data_cost.labels self.new.label_costs) }
+        ensures same { (self.new.pairs ≡ self.old.pairs) × (self.new.data_cost ≡ self.old.data_cost)
+            × (self.new.smooth_cost ≡ self.old.smooth_cost) }
+        ensures refused { IfErr result (IsSetRefusal costs.now) }
+        ensures unchanged { OnErr result (self.new ≡ self.old) }
+    {
+        if let Err(CostError::CostRange(label)) = check_table(costs, LABEL_COST_LIMIT) {
+            return Err(LabelCostError::CostRange(label));
+        }
+        let set = costs.iter().copied().collect(alloc)?;
+        self.label_costs = Some(set);
+        Ok(())
+    }
+}

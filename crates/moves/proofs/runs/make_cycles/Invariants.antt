@@ -1,0 +1,18 @@
+use Rattle.std.proofs.Common.{◌≡◌, length}
+use Rattle.labellings.specs.Energies.{Instance}
+use Rattle.labellings.specs.Chains.{Cycles}
+use Rattle.cost_store.specs.Posed.{IsMeant}
+use Rattle.moves.specs.Building.{IsGroupedFor}
+use Rattle.labellings.specs.Chains.{moves_of}
+use Rattle.moves.specs.Cycles.{AreBestFrom}
+use Rattle.moves.proofs.runs.make_cycles.Given as goal
+
+abbrev pub invariant-loop-done : goal.invariant-loop-done
+invariant-loop-done g l = record {
+  by_site : IsGroupedFor l.problem.pairs l.room;
+  labels : l.labelling.labels ≡ l.fn.labelling.labels;
+  sites : length l.labelling.at ≡ length l.fn.labelling.at;
+  so_far : (m : Instance) → IsMeant g.F.Fn g.V.Fn l.problem m →
+      Cycles m (moves_of l.moves l.problem.data_cost.labels) l.done l.fn.labelling.at l.labelling.at
+      × AreBestFrom m (moves_of l.moves l.problem.data_cost.labels) l.last l.labelling.at;
+}

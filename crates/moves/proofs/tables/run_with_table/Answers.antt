@@ -1,0 +1,75 @@
+use Rattle.std.proofs.Common.{◌∙◌, ◌*◌, ℕ, sym, subst, pos, arith}
+use Rattle.std.proofs.lemmas.Int.{ints}
+use Rattle.cost_store.specs.LabelCosts.{AreLabelCosts}
+use Rattle.cost_store.specs.Promises.{IsMetricTable}
+use Rattle.moves.proofs.Entries.{smooth_keeps, below_along, smooth_along, metric_kept, table_metric}
+use Rattle.moves.proofs.Telling.{bound_small}
+use Rattle.moves.proofs.tables.run_with_table.Goals as goal
+
+pub stored-requires-clause-keeps : goal.stored-requires-clause-keeps
+stored-requires-clause-keeps g c =
+    smooth_keeps (pos 10000) c.args.smooth.now c.labels-labels.result c.labels-labels.result
+    (c.requires.smooth.0 ∙ (λ i. sym c.labels-labels.ensures.value i * sym c.labels-labels.ensures.value i))
+    c.labels-labels.ensures.sizes.2 c.requires.smooth.1
+
+pub stored-requires-clause-metric : goal.stored-requires-clause-metric
+stored-requires-clause-metric g c = λ met cost entries.
+    let T : ℕ → Type 0 = λ k. IsMetricTable k c.args.smooth.now in
+    metric_kept c.labels-labels.result c.args.smooth.now (subst T (sym c.labels-labels.ensures.value) (c.requires.known.0 met)) cost entries
+
+pub run_problem-requires-clause-posed : goal.run_problem-requires-clause-posed
+run_problem-requires-clause-posed g c = λ lives within.
+    let A : ℕ → Type 0 = λ k. AreLabelCosts k c.args.label_costs in
+    record {
+      costs = c.requires.costs;
+      smooth = c.stored.ensures.keeps;
+      pairs = c.keeps.ensures;
+      data_sites = c.requires.sites.1;
+      smooth_labels = rw c.stored.ensures.stored (c.labels-labels.ensures.value ∙ sym c.requires.labels);
+      label_costs = subst A (sym c.requires.labels) c.requires.label_costs;
+    }
+
+pub run_problem-requires-clause-fits : goal.run_problem-requires-clause-fits
+run_problem-requires-clause-fits g c = λ lives within. record { sites = c.requires.sites.0; labels = sym c.requires.labels }
+
+pub run_problem-requires-clause-known : goal.run_problem-requires-clause-known
+run_problem-requires-clause-known g c = λ lives within.
+    let labels = c.labels-labels.ensures.value in
+    let T : ℕ → Type 0 = λ k. IsMetricTable k c.args.smooth.now in
+    rw c.stored.ensures.stored
+    (λ m meant metric. c.requires.known.1 (subst T labels
+    (table_metric m c.labels-labels.result c.args.data_cost.labels c.args.smooth.now c.labels-labels.ensures.sizes.1
+    (c.requires.smooth.0 ∙ (λ i. sym labels i * sym labels i)) meant.labels_are (c.requires.labels ∙ sym labels) meant.smooth_are metric)))
+
+pub returns-clause-run : goal.returns-clause-run
+returns-clause-run g c = λ m is has.
+    let labels = c.labels-labels.ensures.value in
+    c.run_problem.ensures.run m
+    (rw c.stored.ensures.stored (record {
+      sites_are = is.sites_are;
+      labels_are = is.labels_are ∙ sym c.requires.labels;
+      pairs_are = is.pairs_are;
+      data_are = λ a b z la lb ans. is.data_are a b z la (below_along b _ _ lb c.requires.labels) ans;
+      smooth_are = λ a b z la lb ans. smooth_along c.args.smooth.now a b z _ _ labels ans
+          ∙ is.smooth_are.each a b (below_along a _ _ la c.requires.labels) (below_along b _ _ lb c.requires.labels);
+      costs_are = has;
+    }))
+
+pub returns-clause-metric : goal.returns-clause-metric
+returns-clause-metric g c = λ metric m is has.
+    let labels = c.labels-labels.ensures.value in
+    c.run_problem.ensures.metric (rw c.stored.ensures.stored (c.requires.known.1 metric)) m
+    (rw c.stored.ensures.stored (record {
+      sites_are = is.sites_are;
+      labels_are = is.labels_are ∙ sym c.requires.labels;
+      pairs_are = is.pairs_are;
+      data_are = λ a b z la lb ans. is.data_are a b z la (below_along b _ _ lb c.requires.labels) ans;
+      smooth_are = λ a b z la lb ans. smooth_along c.args.smooth.now a b z _ _ labels ans
+          ∙ is.smooth_are.each a b (below_along a _ _ la c.requires.labels) (below_along b _ _ lb c.requires.labels);
+      costs_are = has;
+    }))
+
+pub returns-clause-bounded : goal.returns-clause-bounded
+returns-clause-bounded g c = λ m is has.
+    bound_small m (pos 10000) c.args.request.start.labels c.args.smooth.now c.args.request.moves c.args.request.cycles c.args.request.start.at c.run_problem.result
+    is.labels_are c.requires.smooth.1 is.smooth_are (omega (arith, ints)) (returns-clause-run g c m is has)

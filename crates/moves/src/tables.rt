@@ -1,0 +1,222 @@
+//! Runs of moves over tables of costs.
+ghost use Rattle.std.specs.Prelude.{◌≡◌, ◌↔◌, ℕ, ◌+◌, ◌*◌, ◌<◌, ◌≤◌, pos, ◌≤ℤ◌, All, IsTrue, IsNone, IfErr, IfOk, IfSome, length, slice_index};
+ghost use Rattle.labellings.specs.declared.cycles.Moves.TheVariants.{Expansion};
+ghost use Rattle.labellings.specs.Energies.{Instance, IsMetric};
+ghost use Rattle.cost_store.specs.Limits.{data_limit, site_cost_limit, smooth_limit};
+ghost use Rattle.cost_store.specs.LabelCosts.{costs_of, AreFree, AreLabelCosts, HasCosts};
+ghost use Rattle.cost_store.specs.Posed.{IsPosed, Meant, Fits};
+ghost use Rattle.cost_store.specs.Promises.{IsCost, IsMetricTable, Keeps, entry_at};
+ghost use Rattle.moves.specs.Bounds.{IsBoundOf};
+ghost use Rattle.moves.specs.Instances.{IsInstanceOf, data_entry, instance_of};
+ghost use Rattle.moves.specs.Problems.{IsRunRefusal, TellsPairNotRegular};
+ghost use Rattle.moves.specs.Runs.{Answers, IsSized};
+
+use crate::{Bound, Ended, How, MoveError, expansion_bound, run};
+use cost_store::{DataCost, Problem, SmoothCost, is_metric};
+use label_field::{Labelling, Pairs};
+use labellings::Moves;
+use std::alloc::Global;
+
+/// What a run is asked for: the labels that it starts from, the kind of its moves, and how many cycles it may make.
+#[derive(Drop)]
+pub struct Request {
+    pub start: Labelling,
+    pub moves: Moves,
+    pub cycles: u32,
+}
+
+/// Where a run ended.
+#[derive(Drop)]
+pub struct Run {
+    /// The last labelling.
+    pub labelling: Labelling,
+    /// How many cycles there were, and whether the last changed nothing.
+    pub ended: Ended,
+    /// What the labels cost the sites.
+    pub data: i64,
+    /// What the labels cost the pairs.
+    pub smooth: i64,
+    /// What the labels that some site has cost by themselves.
+    pub label: i64,
+    /// How near the labelling is to the least energy: `vmin` times its energy is at most twice `vmax` times that of any
+    /// labelling. Told exactly of a run of expansions whose last cycle changed nothing, where the smooth costs are a
+    /// metric and no label costs anything by itself.
+    pub bound: Option<Bound>,
+}
+
+/// Makes the moves of a request, and answers where they ended. `smooth` has a row for each label of a pair's first site, and
+/// in it an entry from 0 to `SMOOTH_LIMIT` for each of the second; `by_metric` says whether it is a metric, which
+/// `is_metric` tells of a table that is not known. `label_costs` has what each label costs by itself, from 0 to
+/// `LABEL_COST_LIMIT`: 0 where it has none.
+///
+/// Refused: `LabelCostInSwap` exactly where swaps are to be made and some label costs something by itself, before
+/// any move; `PairNotRegular` where the next move of the chain has a term that is not regular, which never
+/// happens where the table is a metric; what `how` refuses; and out of memory. The contract speaks of every
+/// instance whose data costs the closure answers: who knows them names it.
+pub fn run_with_table<F: Fn(u32, u32) -> i64 + Sync, H: How>(
+    alloc: Global,
+    pairs: Pairs,
+    data_cost: DataCost<F>,
+    smooth: &[i64],
+    by_metric: bool,
+    label_costs: Option<Vec<i64>>,
+    request: Request,
+    how: &H,
+) -> Result<Run, MoveError>
+    requires ready { H.ready how.now }
+    requires sites { (length request.start.at ≡ pairs.sites) × (data_cost.sites ≡ pairs.sites) }
+    requires labels { data_cost.labels ≡ request.start.labels }
+    requires costs { Keeps (F.pre data_cost.f) (F.post data_cost.f) data_cost.sites data_cost.labels
+        data_limit }
+    requires smooth { (length smooth.now ≡ request.start.labels * request.start.labels)
+        × All (IsCost smooth_limit) smooth.now }
+    requires known { IsTrue by_metric ↔ IsMetricTable request.start.labels smooth.now }
+    requires label_costs { AreLabelCosts request.start.labels label_costs }
+    ensures run { (m : Instance) → IsInstanceOf (F.post data_cost.f) pairs request.start.labels smooth.now m →
+        HasCosts m label_costs → Answers m request.moves request.cycles request.start.at result }
+    ensures refused { IfErr result (IsRunRefusal (H.refuses how.now)) }
+    ensures metric { IsMetricTable request.start.labels smooth.now → (m : Instance) → IsInstanceOf (F.post
+        data_cost.f) pairs request.start.labels smooth.now m → HasCosts m label_costs → IfErr result (λ e. ¬
+        TellsPairNotRegular e) }
+    ensures bounded { (m : Instance) → IsInstanceOf (F.post data_cost.f) pairs request.start.labels smooth.now
+        m → HasCosts m label_costs → IfOk result (λ run. IfSome run.bound (λ bound. pos bound.vmax ≤ℤ
+        smooth_limit)) }
+    ensures sized { IfOk result (IsSized request.start) }
+{
+    let labels = request.start.labels();
+    pairs.keeps();
+    let cost = |first: u32, second: u32| -> i64
+        requires { (first * labels + second < length smooth.now) × (labels ≤ 256) }
+        ensures { result ≡ entry_at labels smooth.entry.now first second }
+    { smooth[first as usize * labels as usize + second as usize] };
+    let problem = Problem {
+        pairs,
+        data_cost,
+        smooth_cost: SmoothCost::stored(cost, labels, by_metric),
+        label_costs,
+    };
+    run_problem(alloc, &problem, request, how)
+}
+
+/// Makes the moves of a request over a table of data costs, as `run_with_table` does over any data costs: the costs of the first
+/// site, label by label, then those of the next, each from 0 to `DATA_LIMIT`.
+pub fn run_tables<H: How>(
+    alloc: Global,
+    pairs: Pairs,
+    data: &[u32],
+    smooth: &[i64],
+    label_costs: Option<Vec<i64>>,
+    request: Request,
+    how: &H,
+) -> Result<Run, MoveError>
+    requires ready { H.ready how.now }
+    requires sites { length request.start.at ≡ pairs.sites }
+    requires data { (length data.now ≡ pairs.sites * request.start.labels)
+        × All (λ cost. cost ≤ site_cost_limit) data.now }
+    requires smooth { (length smooth.now ≡ request.start.labels * request.start.labels)
+        × All (IsCost smooth_limit) smooth.now }
+    requires label_costs { AreLabelCosts request.start.labels label_costs }
+    ensures run { Answers (instance_of pairs request.start.labels (data_entry request.start.labels data.now)
+        smooth.now (costs_of label_costs)) request.moves request.cycles request.start.at result }
+    ensures refused { IfErr result (IsRunRefusal (H.refuses how.now)) }
+    ensures sized { IfOk result (IsSized request.start) }
+    ensures bounded { IfOk result (λ run. IfSome run.bound (λ bound. pos bound.vmax ≤ℤ smooth_limit)) }
+{
+    let labels = request.start.labels();
+    let sites = request.start.sites();
+    let data_cost = DataCost::new(
+        |site: u32, label: u32| -> i64
+            requires { (site * labels + label < length data.now) × (labels ≤ 256) }
+            ensures { result ≡ pos (slice_index data.entry.now (site * labels + label)) }
+        { i64::from(data[site as usize * labels as usize + label as usize]) },
+        sites,
+        labels,
+    );
+    let by_metric = is_metric(smooth, labels);
+    run_with_table(
+        alloc,
+        pairs,
+        data_cost,
+        smooth,
+        by_metric,
+        label_costs,
+        request,
+        how,
+    )
+}
+
+/// Makes the moves of a request over a problem, and tells the energy where they end.
+fn run_problem<F: Fn(u32, u32) -> i64 + Sync, V: Fn(u32, u32) -> i64 + Sync, H: How>(
+    alloc: Global,
+    problem: &Problem<F, V>,
+    request: Request,
+    how: &H,
+) -> Result<Run, MoveError>
+    requires ready { H.ready how.now }
+    requires posed { IsPosed F.Fn V.Fn problem.now }
+    requires fits { Fits problem.now request.start }
+    requires known { Meant F.Fn V.Fn problem.now
+        (λ m. IsMetric m.labels m.smooth_cost → IsTrue problem.now.smooth_cost.by_metric) }
+    ensures run { Meant F.Fn V.Fn problem.now
+        (λ m. Answers m request.moves request.cycles request.start.at result) }
+    ensures refused { IfErr result (IsRunRefusal (H.refuses how.now)) }
+    ensures metric { IsTrue problem.now.smooth_cost.by_metric →
+        Meant F.Fn V.Fn problem.now (λ m. IfErr result (λ e. ¬ TellsPairNotRegular e)) }
+    ensures sized { IfOk result (IsSized request.start) }
+{
+    let mut labelling = request.start;
+    match run(
+        alloc,
+        problem,
+        &mut labelling,
+        request.moves,
+        request.cycles,
+        how,
+    ) {
+        Ok(ended) => {
+            let data = problem.data_energy(&labelling);
+            let smooth = problem.smooth_energy(&labelling);
+            let label = problem.label_energy(&labelling);
+            let bound = bound_of(problem, request.moves, ended);
+            labelling.keeps();
+            Ok(Run {
+                labelling,
+                ended,
+                data,
+                smooth,
+                label,
+                bound,
+            })
+        }
+        Err(error) => {
+            labelling.keeps();
+            Err(error)
+        }
+    }
+}
+
+/// The bound of a run, where one is known.
+fn bound_of<F: Fn(u32, u32) -> i64 + Sync, V: Fn(u32, u32) -> i64 + Sync>(
+    problem: &Problem<F, V>,
+    moves: Moves,
+    ended: Ended,
+) -> Option<Bound>
+    requires posed { IsPosed F.Fn V.Fn problem.now }
+    ensures bound { IfSome result (λ bound. (moves ≡ Expansion) × IsTrue ended.settled
+        × Meant F.Fn V.Fn problem.now (λ m. IsBoundOf m bound)) }
+    ensures exact { IsNone result → moves ≡ Expansion → IsTrue ended.settled →
+        IsTrue problem.now.smooth_cost.by_metric → ¬ AreFree (costs_of problem.now.label_costs) }
+{
+    match moves {
+        Moves::Swap => None,
+        Moves::Expansion => {
+            if !ended.settled {
+                return None;
+            }
+            match expansion_bound(problem) {
+                Ok(bound) => Some(bound),
+                Err(_) => None,
+            }
+        }
+    }
+}
