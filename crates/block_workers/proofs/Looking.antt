@@ -8,8 +8,8 @@ use Rattle.std.proofs.lemmas.Slice.Zip.{AllZip-long}
 use Rattle.parcel.specs.declared.message.Message.{Message}
 use Rattle.discharge.specs.declared.letter.Letter.{Letter}
 use Rattle.discharge.specs.Seen.{IsLook, IsPut, IsTake, add_to}
-use Rattle.block_rings.specs.declared.port.Port.{Port}
-use Rattle.block_rings.specs.Ports.{other, put, taken, free, first, IsSamePort, Looks, Puts, Takes}
+use Rattle.block_workers.specs.declared.port.Port.{Port}
+use Rattle.block_workers.specs.Ports.{other, put, taken, free, first, IsSamePort, Looks, Puts, Takes}
 use Rattle.block_workers.specs.Seeing.{messages, others, read_at, seen, AreSame, AreFound, IsPlace}
 use Rattle.block_workers.proofs.Reading.{other_at, read_more, read_set, read_here}
 

@@ -3,8 +3,8 @@ use Rattle.std.proofs.Common.{◌≡◌, ℕ, zero, suc, ◌+◌, ◌<◌, ◌�
 use Rattle.std.proofs.lemmas.Bool.{cases_eq, eq-eqb, ne_eqb}
 use Rattle.std.proofs.lemmas.List.{set-get_or, length-set}
 use Rattle.std.proofs.lemmas.Option.{slice_get-get_or, get_or_from_slice_get}
-use Rattle.block_rings.specs.declared.port.Port.{Port}
-use Rattle.block_rings.specs.Ports.{other}
+use Rattle.block_workers.specs.declared.port.Port.{Port}
+use Rattle.block_workers.specs.Ports.{other}
 use Rattle.block_workers.specs.Seeing.{others, read_at, IsPlace, LeadNotTo, AreRising}
 
 -- ---- places

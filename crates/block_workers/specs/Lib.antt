@@ -1,4 +1,6 @@
+pub mod Ports
 pub mod Seeing
 pub mod Ends
+pub mod Book
 pub mod Turns
 pub mod Workers

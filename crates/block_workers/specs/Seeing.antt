@@ -4,8 +4,8 @@ use Rattle.std.specs.List.{AllZip}
 use Rattle.parcel.specs.declared.message.Message.{Message}
 use Rattle.discharge.specs.declared.letter.Letter.{Letter}
 use Rattle.discharge.specs.Seen.{Seen}
-use Rattle.block_rings.specs.declared.port.Port.{Port}
-use Rattle.block_rings.specs.Ports.{other, put, taken, free, first, IsSamePort}
+use Rattle.block_workers.specs.declared.port.Port.{Port}
+use Rattle.block_workers.specs.Ports.{other, put, taken, free, first, IsSamePort}
 
 -- the messages of letters
 abbrev pub messages : List Letter → List Message

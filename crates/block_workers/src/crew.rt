@@ -2,13 +2,12 @@ ghost use Rattle.std.specs.Prelude.{◌≡◌, ◌<◌, ℕ, IfOk, slice_index_o
 ghost use Rattle.block_workers.specs.Workers.{AllWorked, AreNew};
 ghost use Rattle.block_workers.specs.declared.crew.CrewError.TheVariants.{OutOfMemory};
 
-use crate::Worker;
+use crate::{Job, TurnBook, Worker};
 use std::alloc::{AllocError, Global};
 use std::snapshot::Snapshot;
 use std::sync::{Mutex, Wait};
 use std::thread;
 use std::thread::{Promise, Threads};
-use turn_book::{Job, TurnBook};
 use worker_options::Gate;
 
 /// Why no round of workers came about. Which of the two is told is in no clause: the standard library says of a growth

@@ -2,7 +2,7 @@ ghost use Rattle.std.specs.Prelude.{◌≡◌, ◌≤◌, ◌<◌, ◌^◌, leng
 ghost use Rattle.discharge.specs.Seen.{IsLook};
 ghost use Rattle.block_workers.specs.Seeing.{AreFound, AreRising, AreSame, IsPlace, LeadNotTo, seen};
 
-use block_rings::Port;
+use crate::Port;
 use discharge::Letter;
 use std::alloc::{AllocError, Global};
 use std::mem::replace;

@@ -2,11 +2,10 @@ ghost use Rattle.std.specs.Prelude.{◌≡◌, ◌≤◌, ◌+◌};
 ghost use Rattle.flow_network.specs.Limits.{node_limit};
 ghost use Rattle.block_net.specs.Views.{count};
 
-use crate::Ends;
 use crate::turn_ends::turn_with;
+use crate::{Ends, Job, TurnBook};
 use discharge::Block;
 use std::sync::{Mutex, Wait};
-use turn_book::{Job, TurnBook};
 use worker_options::Gate;
 
 /// How many events a turn may do beside as many as the block has nodes.

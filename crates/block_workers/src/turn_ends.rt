@@ -11,7 +11,7 @@ use std::marker::{Brand, Model, PhantomData};
 /// The ports with which a turn begins.
 trait Start {
     ghost use Rattle.std.specs.Prelude.{List};
-    ghost use Rattle.block_rings.specs.declared.port.Port.{Port};
+    ghost use Rattle.block_workers.specs.declared.port.Port.{Port};
 
     ghost start: { List Port };
 }
@@ -31,7 +31,7 @@ struct TurnEnds<N: Start> {
 
 impl<N: Start> Model for TurnEnds<N> {
     ghost use Rattle.std.specs.Prelude.{List};
-    ghost use Rattle.block_rings.specs.declared.port.Port.{Port};
+    ghost use Rattle.block_workers.specs.declared.port.Port.{Port};
     ghost use Rattle.block_workers.specs.Ends.{ports};
     ghost use Rattle.block_workers.specs.Seeing.{AreSame};
 

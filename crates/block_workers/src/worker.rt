@@ -1,10 +1,9 @@
 ghost use Rattle.std.specs.Prelude.{◌≡◌, ◌+◌, ◌<◌, ◌^◌, IfSome, MatchBool, vec_len};
 ghost use Rattle.block_workers.specs.Workers.{AllAdvanced, AllWorked, AreNew, turns_of};
 
-use crate::Seat;
+use crate::{Job, Seat, TurnBook};
 use std::sync::ledger::Share;
 use std::sync::{Mutex, Wait};
-use turn_book::{Job, TurnBook};
 use worker_options::Gate;
 
 /// A worker with the blocks that were moved to it, by rising numbers, and its part of the ledger of turns

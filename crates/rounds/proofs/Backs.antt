@@ -16,8 +16,8 @@ use Rattle.discharge.specs.Steps.{Held, DoesMany, IsSure, held}
 use Rattle.turn_laws.specs.Laws.{HasRoom}
 use Rattle.seat_laws.specs.Rounds.{Ways, fresh, quiet_state}
 use Rattle.seat_laws.proofs.Starting.{start_is_sure}
-use Rattle.block_rings.specs.declared.port.Port.{Port}
-use Rattle.block_rings.specs.Ports.{put, taken, free, capacity, IsNewPort}
+use Rattle.block_workers.specs.declared.port.Port.{Port}
+use Rattle.block_workers.specs.Ports.{put, taken, free, capacity, IsNewPort}
 use Rattle.block_workers.specs.declared.ends.Ends.{Ends}
 use Rattle.block_workers.specs.declared.seat.Seat.{Seat}
 use Rattle.block_workers.specs.Ends.{ports}

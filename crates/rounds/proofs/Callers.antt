@@ -4,7 +4,7 @@ use Rattle.std.proofs.lemmas.List.{append_cancel_left, get_or_default}
 use Rattle.std.proofs.lemmas.List.Sums.{sum_by-le}
 use Rattle.parcel.specs.declared.message.Message.{Message}
 use Rattle.parcel.specs.States.{way_at}
-use Rattle.block_rings.specs.declared.port.Port.{Port}
+use Rattle.block_workers.specs.declared.port.Port.{Port}
 use Rattle.block_workers.specs.Seeing.{AreRising}
 use Rattle.block_workers.proofs.Reading.{place_low}
 use Rattle.rounds.specs.Left.{AreLeft}

@@ -4,8 +4,8 @@ use Rattle.std.proofs.Math.Seq.{get_or-append_seam}
 use Rattle.std.proofs.lemmas.Bool.{or_cases, cases_eq, cases_lt, eq-eqb, ne_eqb}
 use Rattle.std.proofs.lemmas.List.{length-set, length-replicate, get_or-map}
 use Rattle.block_net.specs.Views.{BlockView, border_in}
-use Rattle.block_rings.specs.declared.port.Port.{Port}
-use Rattle.block_rings.specs.Ports.{other, IsNewPort}
+use Rattle.block_workers.specs.declared.port.Port.{Port}
+use Rattle.block_workers.specs.Ports.{other, IsNewPort}
 use Rattle.block_workers.specs.Seeing.{others, read_at, AreRising}
 use Rattle.rounds.specs.Joined.{port_to, IsPaired, Leads, AreJoined}
 use Rattle.rounds.specs.Joining.{HasPair, AreBegun, AreScanned, flag}

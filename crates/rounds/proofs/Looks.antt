@@ -2,8 +2,8 @@
 use Rattle.std.proofs.Common.{◌≡◌, ℕ, ◌<◌, ◌≤◌, Bool, true, false, cond, eqb, List, [], ◌∷◌, length, slice_index, Option, Some, None, is_some, refl, sym, ◌∙◌, ap, subst, arith}
 use Rattle.std.proofs.lemmas.Grind.{common_steps}
 use Rattle.std.proofs.lemmas.Slice.Zip.{AllZip-long}
-use Rattle.block_rings.specs.declared.port.Port.{Port}
-use Rattle.block_rings.specs.Ports.{other, IsSamePort, LeadsTo}
+use Rattle.block_workers.specs.declared.port.Port.{Port}
+use Rattle.block_workers.specs.Ports.{other, IsSamePort, LeadsTo}
 use Rattle.block_workers.specs.Seeing.{others, read_at, AreRising, AreSame}
 
 -- what is read of a port, where there is one

@@ -2,8 +2,8 @@
 use Rattle.std.proofs.Common.{◌≡◌, ℕ, zero, suc, ◌+◌, ◌<◌, cond, eqb, List, [], ◌∷◌, ◌++◌, length, slice_index, refl, sym, ◌∙◌, ap, inl, inr, arith}
 use Rattle.std.proofs.lemmas.Bool.{cases_eq, eq-eqb, ne_eqb}
 use Rattle.std.proofs.lemmas.List.{length-append}
-use Rattle.block_rings.specs.declared.port.Port.{Port}
-use Rattle.block_rings.specs.Ports.{other}
+use Rattle.block_workers.specs.declared.port.Port.{Port}
+use Rattle.block_workers.specs.Ports.{other}
 use Rattle.block_workers.specs.Seeing.{others, read_at, AreRising}
 
 others_more : (ports : List Port) (p : Port) (k : ℕ) → k < length ports → slice_index (others (ports ++ p ∷ [])) k ≡ slice_index (others ports) k

@@ -5,7 +5,7 @@ use Rattle.sums.proofs.SumLemmas.{sum_by-sum_below}
 use Rattle.parcel.specs.States.{way_at}
 use Rattle.parcel.specs.Soundness.{IsSquare}
 use Rattle.block_net.specs.Views.{BlockView}
-use Rattle.block_rings.specs.declared.port.Port.{Port}
+use Rattle.block_workers.specs.declared.port.Port.{Port}
 use Rattle.block_workers.specs.declared.seat.Seat.{Seat}
 use Rattle.block_workers.specs.Seeing.{AreRising}
 use Rattle.block_workers.specs.Workers.{AllWorked, turns_of}

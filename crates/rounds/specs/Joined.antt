@@ -2,8 +2,8 @@
 use Rattle.std.specs.Prelude.{◌≡◌, ◌≢◌, ℕ, ◌<◌, true, List, [], length, slice_index_or, ◌⊎◌}
 use Rattle.std.specs.Prelude.{Option, Some, None, is_some}
 use Rattle.block_net.specs.Views.{BlockView, border_in}
-use Rattle.block_rings.specs.declared.port.Port.{Port}
-use Rattle.block_rings.specs.Ports.{IsNewPort, LeadsTo}
+use Rattle.block_workers.specs.declared.port.Port.{Port}
+use Rattle.block_workers.specs.Ports.{IsNewPort, LeadsTo}
 use Rattle.block_workers.specs.Seeing.{read_at, AreRising}
 
 -- the port of block b to block c, where it has one

@@ -2,8 +2,8 @@
 use Rattle.std.specs.Prelude.{◌≡◌, ◌≢◌, ℕ, ◌<◌, ◌≤◌, Bool, true, false, ◌||◌, List, [], ◌∷◌, ◌++◌, length}
 use Rattle.std.specs.Prelude.{Some, is_some, slice_set, slice_index, slice_index_or}
 use Rattle.block_net.specs.Views.{BlockView, border_in}
-use Rattle.block_rings.specs.declared.port.Port.{Port}
-use Rattle.block_rings.specs.Ports.{IsNewPort, LeadsTo}
+use Rattle.block_workers.specs.declared.port.Port.{Port}
+use Rattle.block_workers.specs.Ports.{IsNewPort, LeadsTo}
 use Rattle.block_workers.specs.Seeing.{others, AreRising}
 use Rattle.rounds.specs.Joined.{port_to, IsPaired, Leads}
 

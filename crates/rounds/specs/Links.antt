@@ -2,8 +2,8 @@
 use Rattle.std.specs.Prelude.{◌≡◌, ℕ, ◌+◌, ◌<◌, ◌≤◌, ◌==◌, ◌&&◌, Bool, cond, List, [], ◌∷◌, ◌++◌, length, map}
 use Rattle.std.specs.Prelude.{Option, Some, None}
 use Rattle.parcel.specs.declared.message.Message.{Message}
-use Rattle.block_rings.specs.declared.port.Port.{Port}
-use Rattle.block_rings.specs.Ports.{other, put, taken, capacity}
+use Rattle.block_workers.specs.declared.port.Port.{Port}
+use Rattle.block_workers.specs.Ports.{other, put, taken, capacity}
 use Rattle.block_workers.specs.Seeing.{messages}
 use Rattle.rounds.specs.Left.{rest_of}
 use Rattle.rounds.specs.declared.pair.Pair.{Pair}

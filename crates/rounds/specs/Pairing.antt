@@ -1,8 +1,8 @@
 -- Ports that are paired, one pair after another.
 use Rattle.std.specs.Prelude.{◌≡◌, ℕ, ◌+◌, ◌*◌, ◌<◌, ◌≤◌, List, [], length, slice_index_or}
 use Rattle.std.specs.Prelude.{Option, Some, None}
-use Rattle.block_rings.specs.declared.port.Port.{Port}
-use Rattle.block_rings.specs.Ports.{other}
+use Rattle.block_workers.specs.declared.port.Port.{Port}
+use Rattle.block_workers.specs.Ports.{other}
 use Rattle.block_workers.specs.Seeing.{AreRising}
 use Rattle.rounds.specs.Joined.{port_to}
 use Rattle.rounds.specs.declared.pair.Pair.{Pair}

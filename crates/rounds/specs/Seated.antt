@@ -2,7 +2,7 @@
 use Rattle.std.specs.Prelude.{◌≡◌, ℕ, ◌<◌, ◌≤◌, List, All, length, map, slice_index_or}
 use Rattle.flow_network.specs.Limits.{node_limit}
 use Rattle.block_net.specs.Views.{BlockView, count}
-use Rattle.block_rings.specs.declared.port.Port.{Port}
+use Rattle.block_workers.specs.declared.port.Port.{Port}
 use Rattle.block_workers.specs.declared.ends.Ends.{Ends}
 use Rattle.block_workers.specs.declared.seat.Seat.{Seat}
 use Rattle.block_workers.specs.Ends.{ports}

@@ -3,11 +3,10 @@ ghost use Rattle.std.specs.Vec.Iter.{into_iter_items};
 ghost use Rattle.block_workers.specs.Workers.{turns_of};
 ghost use Rattle.rounds.specs.Dealing.{AreDealt, AreHands};
 
-use block_workers::{Seat, Worker};
+use block_workers::{Job, Seat, Worker};
 use std::alloc::{AllocError, Global};
 use std::sync::ledger::Share;
 use std::vec::IntoIter;
-use turn_book::Job;
 
 /// Room for seats that come back from workers.
 #[derive(Drop)]

@@ -11,12 +11,11 @@ use crate::space::{Came, Space, gathered};
 use crate::work::worked;
 use crate::{RoundError, join_all};
 use block_net::Cells;
-use block_workers::Seat;
+use block_workers::{Job, Seat, TurnBook};
 use std::alloc::{AllocError, Global};
 use std::sync::Wait;
 use std::sync::ledger::Blank;
 use std::thread::Threads;
-use turn_book::{Job, TurnBook};
 use worker_options::{Gate, Options};
 
 /// The blocks before their first turn, with rings between them. The only error is that memory runs out.

@@ -3,10 +3,9 @@ ghost use Rattle.std.specs.Prelude.{slice_index_or, vec_capacity, vec_len};
 ghost use Rattle.block_workers.specs.Workers.{AreNew};
 ghost use Rattle.rounds.specs.Dealing.{AreDealt, hand};
 
-use block_workers::{Seat, Worker};
+use block_workers::{Job, Seat, Worker};
 use std::alloc::{AllocError, Global};
 use std::sync::ledger::Share;
-use turn_book::Job;
 
 /// So many hands with no seat, each with room for so many.
 fn empty_hands(alloc: Global, threads: usize, room: usize) -> Result<Vec<Vec<Seat>>, AllocError>

@@ -7,8 +7,7 @@ ghost use Rattle.rounds.specs.Joining.{AreBegun, AreSquare, HasPair};
 
 use crate::flags::{all_scanned, are_linked};
 use block_net::Cells;
-use block_rings::{Port, join_blocks};
-use block_workers::Ends;
+use block_workers::{Ends, Port, join_blocks};
 use std::alloc::{AllocError, Global};
 
 /// Two blocks get rings to one another: each a port more. The only error is that memory runs out.

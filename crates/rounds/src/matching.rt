@@ -5,7 +5,7 @@ ghost use Rattle.rounds.specs.Links.{links_of};
 ghost use Rattle.rounds.specs.Pairing.{IsReady, IsTakenOut, Pairs};
 
 use crate::pair::Pair;
-use block_rings::Port;
+use block_workers::Port;
 
 /// The last port of a block and the port that it leads to become a pair. Takes no memory.
 fn pair_last(lists: &mut Vec<Vec<Port>>, b: usize, pairs: &mut Vec<Pair>)

@@ -2,12 +2,12 @@ ghost use Rattle.std.specs.Prelude.{◌≡◌, ◌+◌, ◌<◌, ◌≤◌, ◌+
 ghost use Rattle.parcel.specs.States.{way_at, put_way};
 ghost use Rattle.parcel.specs.Soundness.{IsSquare};
 ghost use Rattle.block_core.specs.Mails.{room_at};
-ghost use Rattle.block_rings.specs.Ports.{IsSamePort, LeadsTo, Looks, put, taken};
+ghost use Rattle.block_workers.specs.Ports.{IsSamePort, LeadsTo, Looks, put, taken};
 ghost use Rattle.block_workers.specs.Seeing.{messages};
 ghost use Rattle.rounds.specs.Left.{AreKept, rest_of};
 
 use block_core::Mail;
-use block_rings::{Port, see_left};
+use block_workers::{Port, see_left};
 
 /// Two blocks' ports to one another: what the one puts the other takes.
 #[derive(Drop)]

@@ -8,7 +8,7 @@ ghost use Rattle.rounds.specs.Draining.{AreDraining, HaveRoom};
 use crate::matching::pair_all;
 use crate::pair::Pair;
 use block_core::Mail;
-use block_rings::Port;
+use block_workers::Port;
 use std::marker::Model;
 
 /// The rings between blocks: both ends of each.

@@ -11,12 +11,12 @@ use crate::blocks::run_blocks;
 use crate::together::put_together;
 use block_core::{Pieces, State};
 use block_net::Parts;
+use block_workers::{Job, Ledgers};
 use std::alloc::Global;
 use std::marker::Brand;
 use std::sync::Wait;
 use std::sync::ledger::{Blank, Ledger};
 use std::thread::Threads;
-use turn_book::{Job, Ledgers};
 use worker_options::{Gate, Options};
 
 /// A round of the blocks of these pieces. Each blank becomes one of the ledgers of the turns.

@@ -4,12 +4,11 @@ ghost use Rattle.block_workers.specs.declared.crew.CrewError.TheVariants.{Worker
 
 use crate::back::{Room, collect};
 use crate::hands::deal;
-use block_workers::{CrewError, Seat, all_work};
+use block_workers::{CrewError, Job, Seat, TurnBook, all_work};
 use std::alloc::Global;
 use std::sync::ledger::Share;
 use std::sync::{Mutex, Wait};
 use std::thread::Threads;
-use turn_book::{Job, TurnBook};
 use worker_options::Gate;
 
 /// The seats dealt to so many workers, each in a thread of its own, and collected again in their order. They

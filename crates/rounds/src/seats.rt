@@ -6,8 +6,7 @@ ghost use Rattle.block_workers.specs.Turns.{IsNewSeat};
 ghost use Rattle.rounds.specs.Seated.{AreSeated, AreSmall, blocks_of, ends_of, ports_of};
 
 use block_net::Cells;
-use block_rings::Port;
-use block_workers::{Ends, Seat};
+use block_workers::{Ends, Port, Seat};
 use discharge::Block;
 use std::alloc::{AllocError, Global};
 

@@ -8,8 +8,7 @@ use crate::pair::Pair;
 use crate::rings::Rings;
 use crate::seats::apart;
 use block_net::Cells;
-use block_rings::Port;
-use block_workers::Seat;
+use block_workers::{Port, Seat};
 use std::alloc::{AllocError, Global};
 
 /// Room for blocks that come back from workers, and for the rings between them.

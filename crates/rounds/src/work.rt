@@ -3,12 +3,11 @@ ghost use Rattle.block_workers.specs.Workers.{AllWorked, AreNew, turns_of};
 
 use crate::RoundError;
 use crate::seat_work::work_seats;
-use block_workers::Seat;
+use block_workers::{Job, Seat, TurnBook};
 use std::alloc::Global;
 use std::sync::ledger::Share;
 use std::sync::{Mutex, Wait};
 use std::thread::Threads;
-use turn_book::{Job, TurnBook};
 use worker_options::Gate;
 
 /// The seats are dealt to so many workers, which do their turns, and are collected again. No more turns are

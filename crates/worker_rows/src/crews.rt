@@ -2,7 +2,7 @@ ghost use Rattle.std.specs.Prelude.{◌≡◌, ◌<◌, ℕ, IfOk, slice_index_o
 ghost use Rattle.block_workers.specs.Workers.{AreNew};
 
 use block_net::{ARC_LIMIT, Cells, Parts};
-use block_workers::{CrewError, Ends, Seat, Worker, all_work};
+use block_workers::{CrewError, Ends, Job, Ledgers, Seat, TurnBook, Worker, all_work};
 use discharge::Block;
 use flow_network::{Arc, Net};
 use rounds::join_all;
@@ -13,7 +13,6 @@ use std::sync::ledger::{Blank, Ledger, Share};
 use std::sync::{Mutex, Wait};
 use std::test::Fail;
 use std::thread::Threads;
-use turn_book::{Job, Ledgers, TurnBook};
 use worker_options::Gate;
 
 /// How many turns there are to draw.

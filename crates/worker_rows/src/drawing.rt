@@ -1,5 +1,6 @@
 ghost use Rattle.std.specs.Prelude.{◌≡◌, ◌<◌, IfSome, length};
 
+use block_workers::{Job, Ledgers, TurnBook};
 use std::alloc::{AllocError, Global};
 use std::marker::Brand;
 use std::process::Abort;
@@ -8,7 +9,6 @@ use std::sync::{Mutex, Wait};
 use std::test::Fail;
 use std::thread;
 use std::thread::{Promise, Threads};
-use turn_book::{Job, Ledgers, TurnBook};
 
 /// How many turns two threads draw together.
 const TURNS: u32 = 100_000;

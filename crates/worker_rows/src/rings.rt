@@ -1,8 +1,8 @@
 ghost use Rattle.std.specs.Prelude.{◌≤◌};
 ghost use Rattle.round_laws.specs.Workers.{IsFair};
-ghost use Rattle.block_rings.specs.Ports.{IsSamePort};
+ghost use Rattle.block_workers.specs.Ports.{IsSamePort};
 
-use block_rings::{Port, join_blocks, take_left};
+use block_workers::{Port, join_blocks, take_left};
 use discharge::Letter;
 use parcel::{Direction, Message};
 use std::alloc::{AllocError, Global};

@@ -1,7 +1,7 @@
 use Rattle.std.proofs.Common.{◌≡◌, slice_index, arith, ap, sym, ◌∙◌}
 use Rattle.std.proofs.lemmas.Grind.{common_steps}
-use Rattle.block_rings.specs.declared.port.Port.{Port}
-use Rattle.block_rings.specs.Ports.{other}
+use Rattle.block_workers.specs.declared.port.Port.{Port}
+use Rattle.block_workers.specs.Ports.{other}
 use Rattle.block_workers.specs.Seeing.{others}
 use Rattle.block_workers.proofs.Reading.{place_low, other_at, place_more}
 use Rattle.block_workers.proofs.ends.places_of.Goals as goal

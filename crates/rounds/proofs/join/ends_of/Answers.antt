@@ -1,7 +1,7 @@
 use Rattle.std.proofs.Common.{◌≡◌, ◌∷◌, ◌++◌, length, map, sym, ◌∙◌, ap, subst, arith, Vec, Global}
 use Rattle.std.specs.Vec.Iter.{into_iter_items}
 use Rattle.std.proofs.lemmas.Grind.{common_steps}
-use Rattle.block_rings.specs.declared.port.Port.{Port}
+use Rattle.block_workers.specs.declared.port.Port.{Port}
 use Rattle.block_workers.specs.declared.ends.Ends.{Ends}
 use Rattle.block_workers.specs.Ends.{ports}
 use Rattle.block_workers.specs.Seeing.{AreRising}

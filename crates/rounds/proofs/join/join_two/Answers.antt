@@ -1,6 +1,6 @@
 use Rattle.std.proofs.Common.{Vec, Global, arith}
 use Rattle.std.proofs.lemmas.Grind.{common_steps}
-use Rattle.block_rings.specs.declared.port.Port.{Port}
+use Rattle.block_workers.specs.declared.port.Port.{Port}
 use Rattle.rounds.proofs.Pairs.{two_more}
 use Rattle.rounds.proofs.join.join_two.Goals as goal
 

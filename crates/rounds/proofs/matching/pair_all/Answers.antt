@@ -1,5 +1,5 @@
 use Rattle.std.proofs.Common.{ℕ, ◌-◌, List, Vec, Global, length, map, vec_capacity, ◌∙◌, subst}
-use Rattle.block_rings.specs.declared.port.Port.{Port}
+use Rattle.block_workers.specs.declared.port.Port.{Port}
 use Rattle.rounds.specs.Links.{links_of}
 use Rattle.rounds.specs.Pairing.{IsReady, Pairs}
 use Rattle.rounds.proofs.matching.pair_all.Goals as goal

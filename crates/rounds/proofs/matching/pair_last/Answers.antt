@@ -1,6 +1,6 @@
 use Rattle.std.proofs.Common.{Vec, Global, length, refl, arith}
 use Rattle.std.proofs.lemmas.Grind.{common_steps}
-use Rattle.block_rings.specs.declared.port.Port.{Port}
+use Rattle.block_workers.specs.declared.port.Port.{Port}
 use Rattle.rounds.proofs.Popping.{other_some, leads, leads_back, both_out}
 use Rattle.rounds.proofs.matching.pair_last.Goals as goal
 

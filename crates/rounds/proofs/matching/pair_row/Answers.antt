@@ -1,7 +1,7 @@
 use Rattle.std.proofs.Common.{◌≡◌, ℕ, ◌+◌, [], ◌∷◌, ◌++◌, List, Vec, Global, length, map, get_or, vec_capacity, sym, ◌∙◌, ap, subst, arith}
 use Rattle.std.proofs.lemmas.Grind.{common_steps}
 use Rattle.std.proofs.lemmas.List.{length-map, length_push, map-append, nil_from_length}
-use Rattle.block_rings.specs.declared.port.Port.{Port}
+use Rattle.block_workers.specs.declared.port.Port.{Port}
 use Rattle.rounds.proofs.Joining.{row_at}
 use Rattle.rounds.specs.declared.pair.Pair.{Pair}
 use Rattle.rounds.specs.Links.{Link, link, links_of}

@@ -1,6 +1,6 @@
 use Rattle.std.proofs.Common.{◌≡◌, ◌+◌, length, refl, ◌∙◌, ap, arith}
 use Rattle.std.proofs.lemmas.Grind.{common_steps}
-use Rattle.block_rings.specs.Ports.{waiting}
+use Rattle.block_workers.specs.Ports.{waiting}
 use Rattle.rounds.proofs.Moving.{long_more, kept_more, square_more, left_more, kept_tail, moved_all}
 use Rattle.rounds.proofs.pair.move_left.Goals as goal
 

@@ -2,7 +2,7 @@ use Rattle.std.proofs.Common.{◌≡◌, ◌+◌, ◌≤◌, ◌++◌, length}
 use Rattle.parcel.specs.States.{way_at, put_way}
 use Rattle.parcel.specs.Soundness.{IsSquare}
 use Rattle.block_core.specs.Mails.{room_at}
-use Rattle.block_rings.specs.Ports.{IsSamePort, put, waiting}
+use Rattle.block_workers.specs.Ports.{IsSamePort, put, waiting}
 use Rattle.block_workers.specs.Seeing.{messages}
 use Rattle.rounds.specs.Left.{AreKept}
 use Rattle.rounds.proofs.pair.move_left.Given as goal

@@ -1,5 +1,5 @@
 use Rattle.std.proofs.Common.{◌≤◌}
-use Rattle.block_rings.specs.Ports.{IsSamePort}
+use Rattle.block_workers.specs.Ports.{IsSamePort}
 use Rattle.worker_rows.proofs.rings.take_most.Given as goal
 
 abbrev pub invariant-loop : goal.invariant-loop

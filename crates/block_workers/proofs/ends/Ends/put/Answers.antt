@@ -1,6 +1,6 @@
 use Rattle.std.proofs.Common.{◌≡◌, nat_lt, false, true, sym, ◌∙◌}
-use Rattle.block_rings.specs.declared.port.Port.{Port}
-use Rattle.block_rings.specs.Ports.{free}
+use Rattle.block_workers.specs.declared.port.Port.{Port}
+use Rattle.block_workers.specs.Ports.{free}
 use Rattle.block_workers.proofs.Reading.{read_none}
 use Rattle.block_workers.proofs.Looking.{no_truth, same_ports, kept, found_kept, room_there, put_there}
 use Rattle.block_workers.proofs.ends.Ends.put.Goals as goal

@@ -1,6 +1,6 @@
 use Rattle.std.proofs.Common.{nat_lt, false, sym}
-use Rattle.block_rings.specs.declared.port.Port.{Port}
-use Rattle.block_rings.specs.Ports.{free}
+use Rattle.block_workers.specs.declared.port.Port.{Port}
+use Rattle.block_workers.specs.Ports.{free}
 use Rattle.block_workers.proofs.Reading.{read_none}
 use Rattle.block_workers.proofs.Looking.{same_ports, looked, kept, found_kept, room_seen}
 use Rattle.block_workers.proofs.ends.Ends.room.Goals as goal

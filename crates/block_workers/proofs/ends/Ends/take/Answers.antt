@@ -1,8 +1,8 @@
 use Rattle.std.proofs.Common.{◌≡◌, None, false, true, sym, ◌∙◌, ap, arith}
 use Rattle.std.specs.Option.{is_some}
 use Rattle.std.proofs.lemmas.Grind.{common_steps}
-use Rattle.block_rings.specs.declared.port.Port.{Port}
-use Rattle.block_rings.specs.Ports.{first}
+use Rattle.block_workers.specs.declared.port.Port.{Port}
+use Rattle.block_workers.specs.Ports.{first}
 use Rattle.block_workers.proofs.Reading.{read_none}
 use Rattle.block_workers.proofs.Looking.{no_truth, same_ports, kept, found_kept, front_there, take_there}
 use Rattle.block_workers.proofs.ends.Ends.take.Goals as goal

@@ -1,6 +1,6 @@
 use Rattle.std.proofs.Common.{List, sym, ap, subst}
 use Rattle.discharge.specs.declared.letter.Letter.{Letter}
-use Rattle.block_rings.specs.Ports.{put, taken}
+use Rattle.block_workers.specs.Ports.{put, taken}
 use Rattle.block_workers.specs.Seeing.{messages}
 use Rattle.rounds.specs.Left.{AreKept, rest_of}
 use Rattle.rounds.specs.Links.{link}

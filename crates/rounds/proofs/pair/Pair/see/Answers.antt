@@ -1,5 +1,5 @@
 use Rattle.std.proofs.Common.{◌≡◌, ◌≤◌, ◌++◌, length, sym, ◌∙◌, ap, arith}
-use Rattle.block_rings.specs.Ports.{put, taken, waiting, capacity}
+use Rattle.block_workers.specs.Ports.{put, taken, waiting, capacity}
 use Rattle.rounds.proofs.Leaving.{letters_few, letters_split}
 use Rattle.rounds.proofs.pair.Pair.see.Goals as goal
 

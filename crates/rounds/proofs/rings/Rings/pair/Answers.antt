@@ -1,7 +1,7 @@
 use Rattle.std.proofs.Common.{◌≡◌, ℕ, [], Vec, Global, length, map, vec_capacity, subst, arith}
 use Rattle.std.proofs.lemmas.Grind.{common_steps}
 use Rattle.std.proofs.lemmas.List.{nil_from_length}
-use Rattle.block_rings.specs.declared.port.Port.{Port}
+use Rattle.block_workers.specs.declared.port.Port.{Port}
 use Rattle.rounds.specs.Links.{AreLinks, links_of}
 use Rattle.rounds.proofs.Pairing.{ready_first, paired_first, all_sent, all_taken, all_room}
 use Rattle.rounds.proofs.rings.Rings.pair.Goals as goal

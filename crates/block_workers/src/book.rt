@@ -1,5 +1,5 @@
 ghost use Rattle.std.specs.Prelude.{◌≡◌, ◌+◌, ◌<◌, ◌≤◌, ◌↔◌, length, IfOk, IsTrue, MatchBool};
-ghost use Rattle.turn_book.specs.Turns.{DrawsOne, HasBusy, marked, new_turns};
+ghost use Rattle.block_workers.specs.Book.{DrawsOne, HasBusy, marked, new_turns};
 
 use crate::Job;
 use std::alloc::{AllocError, Global};
@@ -21,7 +21,7 @@ pub struct TurnBook<J: Job> {
 
 impl<J: Job> Model for TurnBook<J> {
     ghost use Rattle.std.specs.Prelude.{◌≡◌, ◌+◌, ◌^◌, ◌<◌};
-    ghost use Rattle.turn_book.specs.Turns.{Turns};
+    ghost use Rattle.block_workers.specs.Book.{Turns};
 
     ghost Value = { Turns };
 

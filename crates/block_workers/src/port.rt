@@ -15,7 +15,7 @@ pub struct Port {
 }
 
 impl Port {
-    ghost use Rattle.block_rings.specs.Ports.{Looks, Puts, Takes, first, free, other};
+    ghost use Rattle.block_workers.specs.Ports.{Looks, Puts, Takes, first, free, other};
 
     /// The number of the block at the other ends.
     pub fn other(&self) -> u32

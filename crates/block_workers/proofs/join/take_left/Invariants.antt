@@ -1,6 +1,6 @@
 use Rattle.std.proofs.Common.{◌≡◌, ◌+◌, ◌++◌, length, vec_len, vec_capacity}
-use Rattle.block_rings.specs.Ports.{TakesAll, taken, waiting}
-use Rattle.block_rings.proofs.join.take_left.Given as goal
+use Rattle.block_workers.specs.Ports.{TakesAll, taken, waiting}
+use Rattle.block_workers.proofs.join.take_left.Given as goal
 
 abbrev pub invariant-loop : goal.invariant-loop
 invariant-loop l = record {

@@ -1,5 +1,5 @@
 ghost use Rattle.std.specs.Prelude.{◌≡◌, ◌≤◌, ◌++◌, IfOk, length, vec_len, vec_capacity};
-ghost use Rattle.block_rings.specs.Ports.{IsNewPort, LeadsTo, Looks, TakesAll, capacity, put, taken, waiting};
+ghost use Rattle.block_workers.specs.Ports.{IsNewPort, LeadsTo, Looks, TakesAll, capacity, put, taken, waiting};
 
 use crate::port::Port;
 use crate::rule::Fair;
