@@ -7,7 +7,7 @@ use Rattle.parcel.specs.declared.message.Message.{Message}
 use Rattle.parcel.specs.States.{way_at, put_way, put_message}
 use Rattle.parcel.specs.Soundness.{IsSquare}
 use Rattle.parcel.proofs.Ways.{square_put, way_same, way_other}
-use Rattle.round_laws.proofs.Words.{put_here, put_other}
+use Rattle.parcel.proofs.Words.{put_here, put_other}
 use Rattle.block_core.specs.Mails.{MailView, room_at}
 use Rattle.discharge.specs.declared.letter.Letter.{Letter}
 use Rattle.discharge.specs.Seen.{IsPut, IsTake, add_to}

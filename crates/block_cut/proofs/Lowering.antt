@@ -10,7 +10,7 @@ use Rattle.parcel.specs.Soundness.{IsSound, IsFinished, count}
 use Rattle.parcel.proofs.Lists.{lowers, never_raises}
 use Rattle.parcel.proofs.Ends.{block_in, near_block_in}
 use Rattle.parcel.proofs.Progress.{progress}
-use Rattle.round_laws.specs.Workers.{MayStart}
+use Rattle.parcel.specs.Workers.{MayStart}
 use Rattle.block_core.proofs.Keeping.{effect_net}
 use Rattle.block_cut.specs.Lowers.{IsAfter, Lowers}
 

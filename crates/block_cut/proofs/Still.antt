@@ -14,7 +14,7 @@ use Rattle.parcel.specs.States.{State, way_at, near_block, far_block}
 use Rattle.parcel.specs.Soundness.{IsSound, joins, room_between}
 use Rattle.parcel.specs.Events.{IsActive, Run}
 use Rattle.parcel.proofs.Ends.{far_in, block_in}
-use Rattle.round_laws.specs.Workers.{MayStart}
+use Rattle.parcel.specs.Workers.{MayStart}
 use Rattle.block_net.specs.Views.{BlockView, border_in}
 use Rattle.block_net.specs.Whole.{Whole, block_at, home}
 use Rattle.block_core.specs.Views.{BlocksView, IsLaid, blocks_in, state_of}

@@ -4,7 +4,7 @@ use Rattle.parcel.specs.declared.event.Event.{Event}
 use Rattle.parcel.specs.declared.message.Message.{Message}
 use Rattle.parcel.specs.States.{State}
 use Rattle.parcel.specs.Events.{IsQuiet}
-use Rattle.round_laws.specs.Workers.{MayStart}
+use Rattle.parcel.specs.Workers.{MayStart}
 use Rattle.parcel.specs.Soundness.{IsSound, count}
 use Rattle.block_net.specs.Views.{BlockView}
 use Rattle.block_net.specs.Whole.{Whole}

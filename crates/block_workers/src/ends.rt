@@ -61,7 +61,7 @@ fn has_letter(ports: &mut Vec<Port>) -> bool
 
 impl Ends {
     ghost use Rattle.std.specs.Prelude.{Option, Some, is_some, true};
-    ghost use Rattle.round_laws.specs.Workers.{IsFair};
+    ghost use Rattle.parcel.specs.Workers.{IsFair};
     ghost use Rattle.discharge.specs.declared.letter.Letter.{Letter};
     ghost use Rattle.discharge.specs.Seen.{IsPut, IsTake};
     ghost use Rattle.block_workers.specs.Ends.{ports};

@@ -1,5 +1,5 @@
 ghost use Rattle.std.specs.Prelude.{◌≡◌, ◌<◌, ◌↔◌, IsSome, IsTrue};
-ghost use Rattle.round_laws.specs.Workers.{IsFair};
+ghost use Rattle.parcel.specs.Workers.{IsFair};
 
 use crate::rule::Fair;
 use discharge::Letter;

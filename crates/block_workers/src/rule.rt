@@ -1,4 +1,4 @@
-ghost use Rattle.round_laws.specs.Workers.{IsFair};
+ghost use Rattle.parcel.specs.Workers.{IsFair};
 
 use discharge::Letter;
 use rtrb::Protocol;

@@ -3,7 +3,7 @@ use Rattle.std.specs.Prelude.{◌≡◌, ℕ, ◌+◌, ◌<◌, ◌≤◌, true,
 use Rattle.parcel.specs.declared.message.Message.{Message}
 use Rattle.parcel.specs.declared.message.Message.TheVariants.{Parcel, Accepted, Refused}
 use Rattle.parcel.specs.Directions.{opposite}
-use Rattle.round_laws.specs.Workers.{IsFair}
+use Rattle.parcel.specs.Workers.{IsFair}
 use Rattle.block_net.specs.Views.{BlockView, excess_in, label_in, room_in, lane_in, border_in, first_lane, first_border, out_of, pushed, given, labelled, sent, accepted, settled, returned, highest}
 use Rattle.block_buckets.specs.Active.{IsActive}
 use Rattle.discharge.specs.declared.letter.Letter.{Letter}

@@ -1,6 +1,6 @@
 ghost use Rattle.std.specs.Prelude.{◌≡◌, ◌<◌, ◌^◌, ℕ, true, Some, is_some};
 ghost use Rattle.parcel.specs.Soundness.{direction_of};
-ghost use Rattle.round_laws.specs.Workers.{IsFair};
+ghost use Rattle.parcel.specs.Workers.{IsFair};
 ghost use Rattle.discharge.specs.declared.letter.Letter.{Letter};
 ghost use Rattle.discharge.specs.Seen.{Seen, IsLook, IsPut, IsTake};
 

@@ -6,7 +6,12 @@
 //! knows of its far end's label what messages told. `specs/` has the state, the eight events and what
 //! every reachable state keeps. `laws` has the reasons: every order of enabled events keeps a state sound,
 //! a number falls with each event, and a sound state in which nothing is left to do has the smallest
-//! least cut. `rows` has two runs, event by event.
+//! least cut.
+//!
+//! A worker moves excess within its own block, by what the block holds and the messages that it takes
+//! (`specs/Workers.antt`), and no order between the events of two workers is known. `rounds` has the reasons
+//! why the blocks that come back, with the messages that are left on the way, are a sound state all the same,
+//! and why on one thread a history of one block is a run of such events.
 #![tactic(auto)]
 
 mod direction;
@@ -14,7 +19,7 @@ mod event;
 mod flight;
 pub mod laws;
 mod message;
-pub mod rows;
+pub mod rounds;
 
 pub use direction::Direction;
 pub use event::Event;

@@ -7,7 +7,7 @@ use Rattle.parcel.specs.declared.event.Event.{Event}
 use Rattle.parcel.specs.declared.message.Message.{Message}
 use Rattle.parcel.specs.States.{way_at}
 use Rattle.parcel.specs.Soundness.{IsSquare}
-use Rattle.round_laws.specs.Workers.{MayStart}
+use Rattle.parcel.specs.Workers.{MayStart}
 use Rattle.block_net.specs.Views.{BlockView, border_in, count}
 use Rattle.block_net.specs.Whole.{Whole, no_block, block_at}
 use Rattle.block_core.specs.Views.{IsLaid}

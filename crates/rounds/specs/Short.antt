@@ -3,7 +3,7 @@ use Rattle.std.specs.Prelude.{ℕ, ◌+◌, ◌*◌, ◌<◌, ◌≤◌, ◌==�
 use Rattle.sums.specs.Sums.{sum_below, counted}
 use Rattle.flow_network.specs.Cut.{nodes}
 use Rattle.parcel.specs.States.{State, way_at}
-use Rattle.round_laws.specs.Rounds.{RoundOf, home}
+use Rattle.parcel.specs.Rounds.{RoundOf, home}
 
 -- how many nodes lie in block b
 abbrev pub nodes_in : State → ℕ → ℕ

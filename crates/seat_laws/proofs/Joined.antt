@@ -7,7 +7,7 @@ use Rattle.parcel.specs.declared.message.Message.{Message}
 use Rattle.parcel.specs.Directions.{IsDirection, forward, backward, near}
 use Rattle.parcel.specs.States as core
 use Rattle.parcel.proofs.Ends.{near_in}
-use Rattle.round_laws.specs.Rounds.{IsJoined}
+use Rattle.parcel.specs.Rounds.{IsJoined}
 use Rattle.block_net.specs.Views.{BlockView}
 use Rattle.block_net.specs.Whole.{Whole, block_with, home, place, shown_of}
 use Rattle.block_net.proofs.Tables.{length_table, table_at}

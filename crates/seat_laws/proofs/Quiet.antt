@@ -4,7 +4,7 @@ use Rattle.parcel.specs.Events.{IsQuiet}
 use Rattle.parcel.specs.States.{way_at}
 use Rattle.parcel.specs.Soundness.{IsSound, room_between}
 use Rattle.parcel.proofs.Fitting.{way_fits}
-use Rattle.round_laws.proofs.Quiet.{quiet_empty}
+use Rattle.parcel.proofs.Quiet.{quiet_empty}
 use Rattle.block_net.specs.Views.{BlockView}
 use Rattle.block_net.specs.Whole.{Whole}
 use Rattle.block_core.specs.Mails.{HasRooms, IsHeld, room_at}

@@ -7,10 +7,10 @@ use Rattle.parcel.specs.declared.event.Event.{Event}
 use Rattle.parcel.specs.declared.message.Message.{Message}
 use Rattle.parcel.specs.States.{State, way_at}
 use Rattle.parcel.specs.Soundness.{IsSound}
-use Rattle.round_laws.specs.Workers.{IsHistory}
-use Rattle.round_laws.specs.Rounds.{RoundOf}
-use Rattle.round_laws.proofs.Gathering.{gathered}
-use Rattle.round_laws.proofs.Keeping.{round_kept}
+use Rattle.parcel.specs.Workers.{IsHistory}
+use Rattle.parcel.specs.Rounds.{RoundOf}
+use Rattle.parcel.proofs.Gathering.{gathered}
+use Rattle.parcel.proofs.Keeping.{round_kept}
 use Rattle.block_net.specs.Views.{BlockView}
 use Rattle.block_net.specs.Whole.{Whole, table, block_at}
 use Rattle.block_net.proofs.Tables.{table_at}

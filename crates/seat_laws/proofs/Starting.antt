@@ -5,8 +5,8 @@ use Rattle.parcel.specs.declared.event.Event.{Event}
 use Rattle.parcel.specs.declared.message.Message.{Message}
 use Rattle.parcel.specs.States.{State}
 use Rattle.parcel.specs.Events.{IsQuiet}
-use Rattle.round_laws.specs.Workers.{MayStart}
-use Rattle.round_laws.specs.Laws.{no_messages}
+use Rattle.parcel.specs.Workers.{MayStart}
+use Rattle.parcel.specs.RoundLaws.{no_messages}
 use Rattle.block_net.specs.Whole.{Whole, table, no_block, block_at, put_block}
 use Rattle.block_net.proofs.Tables.{table_is}
 use Rattle.block_core.specs.Views.{IsLaid, blocks_in, state_of}

@@ -4,7 +4,7 @@ use Rattle.parcel.specs.declared.event.Event.{Event}
 use Rattle.parcel.specs.States.{way_at}
 use Rattle.parcel.specs.Events.{IsQuiet}
 use Rattle.parcel.specs.Soundness.{IsSound}
-use Rattle.round_laws.specs.Workers.{MayStart}
+use Rattle.parcel.specs.Workers.{MayStart}
 use Rattle.block_net.specs.Views.{BlockView, count}
 use Rattle.block_net.specs.Whole.{Whole, block_at}
 use Rattle.block_core.specs.Views.{IsLaid, blocks_in, state_of}

@@ -4,9 +4,9 @@ use Rattle.parcel.specs.declared.event.Event.{Event}
 use Rattle.parcel.specs.declared.message.Message.{Message}
 use Rattle.parcel.specs.States.{State, way_at}
 use Rattle.parcel.specs.Soundness.{IsSound, IsSquare}
-use Rattle.round_laws.specs.Workers.{MayStart}
-use Rattle.round_laws.specs.Rounds.{RoundOf}
-use Rattle.round_laws.specs.Laws.{no_messages}
+use Rattle.parcel.specs.Workers.{MayStart}
+use Rattle.parcel.specs.Rounds.{RoundOf}
+use Rattle.parcel.specs.RoundLaws.{no_messages}
 use Rattle.block_net.specs.Views.{BlockView}
 use Rattle.block_net.specs.Whole.{Whole, block_at}
 use Rattle.block_core.specs.Views.{IsLaid, blocks_in, state_of}

@@ -10,9 +10,9 @@ use Rattle.parcel.specs.Events.{steps}
 use Rattle.parcel.specs.Soundness.{IsSound, IsSquare}
 use Rattle.parcel.proofs.Kept.{run_kept}
 use Rattle.parcel.proofs.Lists.{run_lowers}
-use Rattle.round_laws.specs.Workers.{Does, IsHistory}
-use Rattle.round_laws.specs.Laws.{no_messages}
-use Rattle.round_laws.proofs.Running.{history_runs}
+use Rattle.parcel.specs.Workers.{Does, IsHistory}
+use Rattle.parcel.specs.RoundLaws.{no_messages}
+use Rattle.parcel.proofs.Running.{history_runs}
 use Rattle.block_net.specs.Whole.{Whole, table}
 use Rattle.block_net.proofs.Tables.{length_table, table_at, table_is}
 use Rattle.discharge.specs.Steps.{Held, DoesMany}

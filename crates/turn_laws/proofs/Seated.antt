@@ -8,7 +8,7 @@ use Rattle.parcel.specs.declared.event.Event.{Event}
 use Rattle.parcel.specs.Directions.{near}
 use Rattle.parcel.specs.States as core
 use Rattle.parcel.specs.Events as events
-use Rattle.round_laws.specs.Workers.{Does}
+use Rattle.parcel.specs.Workers.{Does}
 use Rattle.block_net.specs.Views.{BlockView, count}
 use Rattle.block_net.specs.Whole.{Whole, block_at, block_with, home, place, StandsAt, put_block}
 use Rattle.block_core.specs.Views.{BlocksView, blocks_in, state_of, IsSpot, IsRow}

@@ -8,7 +8,7 @@ use Rattle.parcel.specs.declared.event.Event.TheVariants.{PushInner, PushSink, R
 use Rattle.parcel.specs.Directions.{near, far}
 use Rattle.parcel.specs.States as core
 use Rattle.parcel.specs.Events as events
-use Rattle.round_laws.specs.Workers.{MayStart}
+use Rattle.parcel.specs.Workers.{MayStart}
 use Rattle.block_net.specs.Views.{BlockView, label_in, room_in, lane_in, highest}
 use Rattle.block_net.specs.Whole.{Whole, place, slot, put_block}
 use Rattle.block_core.specs.Views.{BlocksView, state_of, IsSpot, IsRow}

@@ -12,7 +12,7 @@ use Rattle.parcel.specs.States as core
 use Rattle.parcel.specs.Soundness.{amount_out}
 use Rattle.parcel.proofs.Ends.{far_in}
 use Rattle.parcel.proofs.Lanes.{opposite_twice, near_opposite, far_opposite, border_opposite}
-use Rattle.round_laws.specs.Workers.{IsBetween}
+use Rattle.parcel.specs.Workers.{IsBetween}
 use Rattle.block_net.specs.declared.rows.Border.{Border}
 use Rattle.block_net.specs.Views as block
 use Rattle.block_net.specs.Views.{BlockView, label_in, border_in}

@@ -5,7 +5,7 @@ use Rattle.parcel.specs.declared.message.Message.{Message}
 use Rattle.parcel.specs.States.{way_at}
 use Rattle.parcel.specs.Events.{Run}
 use Rattle.parcel.specs.Soundness.{IsSound, IsSquare, count}
-use Rattle.round_laws.specs.Workers.{IsHistory, MayStart}
+use Rattle.parcel.specs.Workers.{IsHistory, MayStart}
 use Rattle.block_net.specs.Views.{BlockView, border_in}
 use Rattle.block_net.specs.Whole.{Whole}
 use Rattle.discharge.specs.Seen.{Seen}

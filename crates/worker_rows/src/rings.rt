@@ -1,5 +1,5 @@
 ghost use Rattle.std.specs.Prelude.{◌≤◌};
-ghost use Rattle.round_laws.specs.Workers.{IsFair};
+ghost use Rattle.parcel.specs.Workers.{IsFair};
 ghost use Rattle.block_workers.specs.Ports.{IsSamePort};
 
 use block_workers::{Port, join_blocks, take_left};

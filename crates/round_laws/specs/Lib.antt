@@ -1,4 +1,0 @@
-pub mod Workers
-pub mod Rounds
-pub mod Laws
-pub mod Rows
