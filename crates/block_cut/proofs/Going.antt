@@ -11,7 +11,7 @@ use Rattle.block_core.specs.Views.{IsLaid, whole_in, blocks_in, state_of}
 use Rattle.block_core.specs.Mails.{MailView, HasRooms, IsHeld}
 use Rattle.block_core.specs.declared.pieces.Pieces.{Pieces}
 use Rattle.block_core.specs.Pieces.{whole_within, state_in}
-use Rattle.turn_laws.proofs.Laid.{put_own, seated}
+use Rattle.block_laws.proofs.Laid.{put_own, seated}
 use Rattle.block_cut.specs.Turns.{ReachesFrom}
 use Rattle.block_cut.specs.Passes.{whole_with, state_at, IsGoing, IsReady, IsStill}
 use Rattle.block_cut.proofs.Lowering.{none_starts}

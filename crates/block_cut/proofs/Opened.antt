@@ -17,9 +17,9 @@ use Rattle.block_core.specs.Pieces.{whole_within, state_in}
 use Rattle.block_core.proofs.Steps.{label_read}
 use Rattle.block_core.proofs.Writing.{block_same}
 use Rattle.discharge.specs.Steps.{IsOfNode}
-use Rattle.turn_laws.specs.Loose.{IsStanding}
-use Rattle.turn_laws.proofs.Laid.{put_own, seated}
-use Rattle.turn_laws.proofs.Loosely.{loose_push_keeps, loose_give_keeps}
+use Rattle.block_laws.specs.Loose.{IsStanding}
+use Rattle.block_laws.proofs.Laid.{put_own, seated}
+use Rattle.block_laws.proofs.Loosely.{loose_push_keeps, loose_give_keeps}
 use Rattle.block_cut.specs.Passes.{whole_with, state_at}
 use Rattle.block_cut.specs.Opening.{IsFlat, AreLabelsZero, Opens, AreOpening}
 

@@ -7,9 +7,9 @@ use Rattle.block_net.specs.Views.{BlockView}
 use Rattle.block_net.specs.Whole.{Whole}
 use Rattle.block_core.specs.Views.{IsLaid, blocks_in, state_of}
 use Rattle.block_core.specs.Mails.{IsHeld}
-use Rattle.seat_laws.specs.Rounds.{Ways, AreBack, IsRound, with_blocks, quiet_state, state_after}
-use Rattle.seat_laws.proofs.Quiet.{quiet_is_start, round_is_held}
-use Rattle.seat_laws.proofs.Rounds.{seats_make_round}
+use Rattle.block_laws.specs.Rounds.{Ways, AreBack, IsRound, with_blocks, quiet_state, state_after}
+use Rattle.block_laws.proofs.Quiet.{quiet_is_start, round_is_held}
+use Rattle.block_laws.proofs.Rounds.{seats_make_round}
 use Rattle.rounds.specs.Links.{RingsView, sent_in, taken_in, room_in}
 use Rattle.rounds.specs.Left.{AreLeft, AreFitting, HaveRoomFor}
 use Rattle.rounds.specs.Together.{AreBackAfter, HaveRun}

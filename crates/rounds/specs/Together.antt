@@ -7,7 +7,7 @@ use Rattle.block_net.specs.Views.{BlockView, count}
 use Rattle.block_net.specs.Whole.{Whole, block_at}
 use Rattle.block_net.specs.declared.parts.Parts.{Parts}
 use Rattle.block_core.specs.Views.{IsLaid, whole_in, blocks_in, state_of}
-use Rattle.seat_laws.specs.Rounds.{Ways, AreBack, lacking}
+use Rattle.block_laws.specs.Rounds.{Ways, AreBack, lacking}
 use Rattle.rounds.specs.Links.{RingsView, sent_in, taken_in}
 use Rattle.rounds.specs.Left.{AreLeft}
 

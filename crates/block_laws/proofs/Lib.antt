@@ -1,0 +1,16 @@
+pub mod Logs
+pub mod Seated
+pub mod Acts
+pub mod Takes
+pub mod Histories
+pub mod Starts
+pub mod Runs
+pub mod Laid
+pub mod Loosely
+pub mod Starting
+pub mod Beside
+pub mod Together
+pub mod Joined
+pub mod Rounds
+pub mod Places
+pub mod Quiet

@@ -1,9 +1,0 @@
-pub mod Logs
-pub mod Seated
-pub mod Acts
-pub mod Takes
-pub mod Histories
-pub mod Starts
-pub mod Runs
-pub mod Laid
-pub mod Loosely
