@@ -1,0 +1,2 @@
+pub mod RoundOfBlocks
+pub mod BlocksBack

@@ -1,0 +1,6 @@
+use Rattle.std.proofs.Common.{◌≡◌}
+use Rattle.label_buckets.specs.Rows.{nodes}
+use Rattle.block_tests.proofs.buckets.put_all.Given as goal
+
+abbrev pub invariant-loop-node : goal.invariant-loop-node
+invariant-loop-node l = nodes l.buckets ≡ nodes l.fn.buckets

@@ -1,0 +1,28 @@
+//! Tests of what workers are told, share and do: the ranges of their options, a book from which two threads draw,
+//! a ring between two threads, and two blocks at one worker and at two. And of rounds of running workers: that their
+//! turns overlap, that a round goes on while work and turns are left, and that after rounds of any options the
+//! solver over blocks finds the one answer. The same of the solver that makes the rounds itself.
+#![tactic(auto)]
+
+#[cfg(test)]
+mod alike;
+#[cfg(test)]
+mod building;
+#[cfg(test)]
+mod crews;
+#[cfg(test)]
+mod drawing;
+#[cfg(test)]
+mod gates;
+#[cfg(test)]
+mod overlap;
+#[cfg(test)]
+mod picture;
+#[cfg(test)]
+mod ranges;
+#[cfg(test)]
+mod rings;
+#[cfg(test)]
+mod rows;
+#[cfg(test)]
+mod solving;
