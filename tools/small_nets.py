@@ -1,9 +1,9 @@
 #!/usr/bin/env python3
 """Small nets with their least cuts, worked out over all cuts.
 
-Writes a table for the tests of the crate `network_rows`. To make it again, at the top of the repository:
+Writes a table for the tests of the crate `block_tests`. To make it again, at the top of the repository:
 
-    python3 tools/small_nets.py > crates/network_rows/src/small_nets.rt
+    python3 tools/small_nets.py > crates/block_tests/src/small_nets.rt
 
 A cut is a set of nodes, the sink's side. Its capacity is that of the source's arcs into it, of the sink's arcs from
 outside it, and of the arcs from outside into it. For each net every set is tried; the right side is the set of the

@@ -7,7 +7,7 @@ ghost use Rattle.block_buckets.specs.Active.{IsActive};
 ghost use Rattle.block_buckets.specs.Standing.{IsAside, HasHighestBucket, KeepsAside, StaysAside, waiting};
 
 use crate::renewing::{is_active, move_up, renew};
-use block_net::{Border, Cells, Lane};
+use block_net::{Border, Cells, InnerLane};
 use label_buckets::Buckets;
 use std::alloc::{AllocError, Global};
 use std::marker::Model;
@@ -144,7 +144,7 @@ impl Bucketed {
     }
 
     /// The direction within the block at a place.
-    pub fn lane(&self, j: usize) -> Lane
+    pub fn lane(&self, j: usize) -> InnerLane
         requires { j < length self.now.block.lanes }
         ensures value { result ≡ lane_in self.now.block j }
         ensures far { result.far < count self.now.block }

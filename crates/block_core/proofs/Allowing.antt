@@ -3,6 +3,7 @@ use Rattle.std.proofs.Common.{◌≡◌, ℕ, zero, suc, ◌+◌, ◌-◌, ◌<�
 use Rattle.std.specs.Option.{is_some}
 use Rattle.std.proofs.lemmas.Bool.{cases_eq, cases_lt, cases_Bool, eq-eqb, ne_eqb}
 use Rattle.flow_network.specs.Progress.{top}
+use Rattle.parcel.specs.declared.lane.Lane.{Lane}
 use Rattle.parcel.specs.declared.direction.Direction.{Direction}
 use Rattle.parcel.specs.Directions.{IsDirection, forward, backward, near, far}
 use Rattle.parcel.specs.States as core
@@ -81,7 +82,7 @@ module _ (w : Whole) (v : BlocksView) (b : ℕ) (B : BlockView) (u p : ℕ) (at 
       let lane = border_read w v b B x j at row in
       let here : eqb (near v.net x) u ≡ true = eq-eqb (near v.net x) u (sym (near_view x) ∙ stands.near) in
       let border : core.is_border v.net v.blocks x ≡ true = sym (border_view x) ∙ stands.outer in
-      ap (λ (q : core.Lane). cond (nat_lt 0 q.residual || is_some q.flight) (q.known + 1) B.top) lane
+      ap (λ (q : Lane). cond (nat_lt 0 q.residual || is_some q.flight) (q.known + 1) B.top) lane
       ∙ (ap (λ t. cond (nat_lt 0 (core.residual_of (still v) x) || is_some (core.flight_of (still v) x)) (core.known_of (still v) x + 1) t) (top_read w v b B at)
       ∙ sym (ap (λ (t : Bool). cond (t && is_open (still v) x) (core.seen (still v) x + 1) (top (still v).net)) here
       ∙ ap (λ (t : Bool). cond (nat_lt 0 (core.residual_of (still v) x) || (t && is_some (core.flight_of (still v) x))) (cond t (core.known_of (still v) x) (core.label_of (still v) (far (still v).net x)) + 1) (top (still v).net)) border))
@@ -96,7 +97,7 @@ module _ (w : Whole) (v : BlocksView) (b : ℕ) (B : BlockView) (u p : ℕ) (at 
       let here : eqb (near v.net x) u ≡ true = eq-eqb (near v.net x) u (sym (near_view x) ∙ stands.near) in
       let border : core.is_border v.net v.blocks x ≡ false = sym (border_view x) ∙ stands.outer in
       let d = far_label j x row in
-      ap (λ (q : core.Lane). cond (nat_lt 0 q.residual) (label_in B (lane_in B j).far + 1) B.top) lane
+      ap (λ (q : Lane). cond (nat_lt 0 q.residual) (label_in B (lane_in B j).far + 1) B.top) lane
       ∙ (ap (λ n. cond (nat_lt 0 (core.residual_of (still v) x)) (n + 1) B.top) d
       ∙ (ap (λ t. cond (nat_lt 0 (core.residual_of (still v) x)) (core.label_of (still v) (far (still v).net x) + 1) t) (top_read w v b B at)
       ∙ sym (ap (λ (t : Bool). cond (t && is_open (still v) x) (core.seen (still v) x + 1) (top (still v).net)) here

@@ -5,6 +5,7 @@ use Rattle.std.proofs.lemmas.List.FromFn.{get_or-map-range_with_len, length-map-
 use Rattle.std.specs.List.{range_with_len}
 use Rattle.std.proofs.lemmas.Bool.{cases_eq, cases_Bool, false≢true}
 use Rattle.flow_network.specs.Cut.{Network, nodes, IsNet}
+use Rattle.parcel.specs.declared.lane.Lane.{Lane}
 use Rattle.parcel.specs.declared.direction.Direction.{Direction}
 use Rattle.parcel.specs.Directions.{IsDirection, near, far, forward, backward}
 use Rattle.parcel.specs.States as core
@@ -82,13 +83,13 @@ informed w b j laid lb lj =
     let row = (far_at w b j laid lb lj).row in
     let at : IsAt w v b (block_at w b) = record { laid = laid; view = refl; block = lb; is = refl } in
     let made = informed_at w v b (block_at w b) x j (slice_index v.labels (far w.net x)) at row in
-    subst (λ (q : core.Lane). IsAt (told_at w b j) (record v { lanes = core.put_lane v.lanes x q }) b (block.informed (block_at w b) j (slice_index v.labels (far w.net x))))
+    subst (λ (q : Lane). IsAt (told_at w b j) (record v { lanes = core.put_lane v.lanes x q }) b (block.informed (block_at w b) j (slice_index v.labels (far w.net x))))
     (told_here v x row.outer) made
 
 pub told_same : (a : BlocksView) (lanes : core.Lanes) (x : Direction) → core.lane_at lanes x ≡ core.lane_at a.lanes x
     → told_one (record a { lanes = lanes }) x ≡ record a { lanes = core.put_lane lanes x (told_of a x) }
 told_same a lanes x e =
-    ap (λ (q : core.Lane). record a { lanes = core.put_lane lanes x (record q { known = cond (core.is_border a.net a.blocks x) (slice_index a.labels (far a.net x)) q.known }) }) e
+    ap (λ (q : Lane). record a { lanes = core.put_lane lanes x (record q { known = cond (core.is_border a.net a.blocks x) (slice_index a.labels (far a.net x)) q.known }) }) e
 
 -- ---- the directions of a block
 
@@ -298,7 +299,7 @@ told_none a = record { rest = refl; net = λ l. absurd (omega (arith, l)); long 
 
 same_told : (a : BlocksView) (lanes : core.Lanes) (x : Direction) → core.lane_at lanes x ≡ core.lane_at a.lanes x → told_of (record a { lanes = lanes }) x ≡ told_of a x
 same_told a lanes x e =
-    ap (λ (q : core.Lane). record q { known = cond (core.is_border a.net a.blocks x) (slice_index a.labels (far a.net x)) q.known }) e
+    ap (λ (q : Lane). record q { known = cond (core.is_border a.net a.blocks x) (slice_index a.labels (far a.net x)) q.known }) e
 
 told_next : (a : BlocksView) (lanes : core.Lanes) (c : BlocksView) (k : ℕ) → IsToldBelow a (record a { lanes = lanes }) k → IsToldFrom (record a { lanes = lanes }) c k
     → IsToldBelow a c (k + 1)
@@ -317,7 +318,7 @@ pub told_more : (a b c : BlocksView) (k : ℕ) → IsToldBelow a b k → IsToldF
 told_more a b c k told from =
     told_next a b.lanes c k (subst (λ (q : BlocksView). IsToldBelow a q k) told.rest told) (subst (λ (q : BlocksView). IsToldFrom q c k) told.rest from)
 
-same_lane_lists : (m : ℕ) (lanes : List core.Lane) (f : ℕ → core.Lane) → length lanes ≡ m → ((k : ℕ) → k < m → get_or lanes k core.no_lane ≡ f k) → lanes ≡ map f (range_with_len 0 m)
+same_lane_lists : (m : ℕ) (lanes : List Lane) (f : ℕ → Lane) → length lanes ≡ m → ((k : ℕ) → k < m → get_or lanes k core.no_lane ≡ f k) → lanes ≡ map f (range_with_len 0 m)
 same_lane_lists m lanes f len each =
     same_lists lanes (map f (range_with_len 0 m)) (len ∙ sym (length-map-range_with_len f 0 m)) (λ k d l.
     let lk : k < m = omega (arith, l, len) in
@@ -326,7 +327,7 @@ same_lane_lists m lanes f len each =
 same_lanes : (a b : core.Lanes) → a.forth ≡ b.forth → a.back ≡ b.back → a ≡ b
 same_lanes a b forth back =
     let c : core.Lanes = record { forth = b.forth; back = a.back } in
-    ap (λ (q : List core.Lane). let r : core.Lanes = record { forth = q; back = a.back } in r) forth ∙ ap (λ (q : List core.Lane). let r : core.Lanes = record { forth = b.forth; back = q } in r) back
+    ap (λ (q : List Lane). let r : core.Lanes = record { forth = q; back = a.back } in r) forth ∙ ap (λ (q : List Lane). let r : core.Lanes = record { forth = b.forth; back = q } in r) back
 
 pub told_done : (a b : BlocksView) → 1 ≤ a.blocks → IsToldBelow a b a.blocks → b ≡ told a
 told_done a b some below =

@@ -2,6 +2,7 @@
 use Rattle.std.proofs.Common.{◌≡◌, ℕ, ◌<◌, ◌≤◌, min, not, true, List, [], ◌∷◌, ◌++◌, length, slice_index, refl, sym, ◌∙◌, ap, arith}
 use Rattle.std.proofs.lemmas.List.{length_push}
 use Rattle.std.proofs.lemmas.Bool.{eq-eqb, false≢true}
+use Rattle.parcel.specs.declared.lane.Lane.{Lane}
 use Rattle.parcel.specs.declared.direction.Direction.{Direction}
 use Rattle.parcel.specs.declared.message.Message.{Message}
 use Rattle.parcel.specs.declared.message.Message.TheVariants.{Parcel}
@@ -15,16 +16,15 @@ use Rattle.parcel.proofs.Ends.{near_block_in, far_block_in}
 use Rattle.parcel.proofs.Fitting.{way_fits}
 use Rattle.parcel.proofs.Kept.{effect_kept}
 use Rattle.parcel.proofs.Ways.{way_same}
-use Rattle.block_core.specs.declared.lane.Lane.{Lane}
-use Rattle.block_core.specs.Views.{BlocksView, shown_lane, state_of, pushed, sent}
+use Rattle.block_core.specs.Views.{BlocksView, state_of, pushed, sent}
 use Rattle.block_core.specs.Mails.{IsHeld, room_at}
 use Rattle.block_core.proofs.Keeping.{effect_net}
 
 pub pushed_is : (b b' : BlocksView) (ways : List (List (List Message))) (got : ℕ) (x : Direction) (v e a : ℕ) (lane : Lane)
-    → v ≡ near b.net x → e ≡ slice_index b.excess v → shown_lane lane ≡ core.lane_at b.lanes x → a ≡ min e lane.residual → b' ≡ pushed b x a
+    → v ≡ near b.net x → e ≡ slice_index b.excess v → lane ≡ core.lane_at b.lanes x → a ≡ min e lane.residual → b' ≡ pushed b x a
     → state_of b' ways got ≡ effect (state_of b ways got) (PushInner x)
 pushed_is b b' ways got x v e a lane at_v excess is amount made =
-    let residual = ap (λ (q : core.Lane). q.residual) is in
+    let residual = ap (λ (q : Lane). q.residual) is in
     rw (made, amount, excess, at_v, residual) refl
 
 -- ---- room on the ways
@@ -54,9 +54,9 @@ send_room {rooms} {s} x held on =
     (near_block_in s x held.sound.sized on.0) (far_block_in s x held.sound.sized on.0) (border_apart s x on.1)
 
 pub sent_is : (b b' : BlocksView) (ways ways' : List (List (List Message))) (got : ℕ) (x : Direction) (v w d e a from to : ℕ) (lane : Lane)
-    → v ≡ near b.net x → w ≡ far b.net x → d ≡ slice_index b.labels v → e ≡ slice_index b.excess v → shown_lane lane ≡ core.lane_at b.lanes x → a ≡ min e lane.residual
+    → v ≡ near b.net x → w ≡ far b.net x → d ≡ slice_index b.labels v → e ≡ slice_index b.excess v → lane ≡ core.lane_at b.lanes x → a ≡ min e lane.residual
     → from ≡ core.block_of b.net b.blocks v → to ≡ core.block_of b.net b.blocks w → b' ≡ sent b x a → ways' ≡ core.put_message ways from to (Parcel x a d)
     → state_of b' ways' got ≡ effect (state_of b ways got) (Send x)
 sent_is b b' ways ways' got x v w d e a from to lane at_v at_w label excess is amount at_from at_to made put =
-    let residual = ap (λ (q : core.Lane). q.residual) is in
+    let residual = ap (λ (q : Lane). q.residual) is in
     rw (made, put, at_from, at_to, amount, label, excess, at_v, at_w, residual) refl

@@ -1,24 +1,24 @@
 -- The blocks of a net, as they are made.
-use Rattle.std.proofs.Common.{◌≡◌, ℕ, List, length, ap, subst, arith}
+use Rattle.std.proofs.Common.{◌≡◌, ℕ, length, ap, subst, arith}
 use Rattle.flow_network.specs.Cut.{Network, nodes, IsNet}
 use Rattle.parcel.specs.States as core
-use Rattle.block_net.specs.Views.{BlockView}
-use Rattle.block_net.specs.Whole.{Whole}
+use Rattle.block_net.specs.Whole.{Whole, whole_of}
+use Rattle.block_net.specs.declared.parts.Parts.{Parts}
 use Rattle.block_net.specs.Split.{CanSplit, IsSplit}
 use Rattle.block_net.proofs.Tables.{length_table}
-use Rattle.block_core.specs.Views.{BlocksView, blocks_in, whole_in, IsLaid, IsLong, first_of}
+use Rattle.block_core.specs.Views.{BlocksView, blocks_in, IsLaid, IsLong, first_of}
 
 -- what a state shows of its blocks
 abbrev blocks_shown : core.State → BlocksView
 blocks_shown s = record { net = s.net; blocks = s.blocks; excess = s.excess; labels = s.labels; rooms = s.rooms; lanes = s.lanes }
 
-pub opened_view : (net : Network) (blocks : ℕ) (firsts slots : List ℕ) (parts : List BlockView) → IsSplit net blocks firsts slots parts
-    → blocks_in (whole_in net firsts slots parts) ≡ first_of net blocks
-opened_view net blocks firsts slots parts split = ap blocks_shown split.opening
+pub opened_view : (net : Network) (blocks : ℕ) (parts : Parts) → IsSplit net blocks parts.firsts.items parts.slots.items parts.blocks.items
+    → blocks_in (whole_of net parts) ≡ first_of net blocks
+opened_view net blocks parts split = ap blocks_shown split.opening
 
-pub opened_laid : (net : Network) (blocks : ℕ) (firsts slots : List ℕ) (parts : List BlockView) → IsNet net → CanSplit net blocks → IsSplit net blocks firsts slots parts
-    → IsLaid (whole_in net firsts slots parts)
-opened_laid net blocks firsts slots parts is can split = record {
+pub opened_laid : (net : Network) (blocks : ℕ) (parts : Parts) → IsNet net → CanSplit net blocks → IsSplit net blocks parts.firsts.items parts.slots.items parts.blocks.items
+    → IsLaid (whole_of net parts)
+opened_laid net blocks parts is can split = record {
   net = is;
   arcs = can.arcs;
   some = omega (arith, split.number, can.some);

@@ -6,6 +6,7 @@ use Rattle.std.proofs.lemmas.Bool.{eqb-true}
 use Rattle.flow_network.specs.Cut.{Network, nodes}
 use Rattle.flow_network.specs.Preflow.{arc_at}
 use Rattle.flow_network.specs.Progress.{top}
+use Rattle.parcel.specs.declared.lane.Lane.{Lane}
 use Rattle.parcel.specs.declared.direction.Direction.{Direction}
 use Rattle.parcel.specs.declared.flight.Flight.{Flight}
 use Rattle.parcel.specs.Directions.{near, far, opposite}
@@ -13,7 +14,7 @@ use Rattle.parcel.specs.States as core
 use Rattle.parcel.specs.Soundness.{amount_out}
 use Rattle.parcel.proofs.Ends.{near_in, far_in}
 use Rattle.parcel.proofs.Lanes.{near_opposite, border_opposite}
-use Rattle.block_net.specs.declared.rows.Lane.{Lane}
+use Rattle.block_net.specs.declared.rows.InnerLane.{InnerLane}
 use Rattle.block_net.specs.declared.rows.Border.{Border}
 use Rattle.block_net.specs.Views as block
 use Rattle.block_net.specs.Views.{BlockView, no_row, no_border, count, excess_in, label_in, room_in, lane_in, border_in, out_of}
@@ -94,10 +95,10 @@ border_capacity w v b B x j at row =
 
 -- the place of the far node, and the slot of the opposite direction
 pub lane_far : (w : Whole) (v : BlocksView) (b : ℕ) (B : BlockView) (x : Direction) (j : ℕ) → IsAt w v b B → IsRow w x false b j → (lane_in B j).far ≡ place w (far w.net x)
-lane_far w v b B x j at row = ap (λ (q : Lane). q.far) (lane_is w v b B x j at row) ∙ (at.laid.placed.inner x row.direction row.outer).far
+lane_far w v b B x j at row = ap (λ (q : InnerLane). q.far) (lane_is w v b B x j at row) ∙ (at.laid.placed.inner x row.direction row.outer).far
 
 pub lane_opposite : (w : Whole) (v : BlocksView) (b : ℕ) (B : BlockView) (x : Direction) (j : ℕ) → IsAt w v b B → IsRow w x false b j → (lane_in B j).opposite ≡ slot w (opposite x)
-lane_opposite w v b B x j at row = ap (λ (q : Lane). q.opposite) (lane_is w v b B x j at row) ∙ (at.laid.placed.inner x row.direction row.outer).opposite
+lane_opposite w v b B x j at row = ap (λ (q : InnerLane). q.opposite) (lane_is w v b B x j at row) ∙ (at.laid.placed.inner x row.direction row.outer).opposite
 
 -- ---- the spots and rows that a row leads to
 
@@ -251,7 +252,7 @@ like_numbers B l r len = record {
   capacity = λ j. refl;
 }
 
-like_lane : (B : BlockView) (j : ℕ) (lane : Lane) → j < length B.lanes → lane.far ≡ (lane_in B j).far → lane.opposite ≡ (lane_in B j).opposite → IsLike B (record B { lanes = set B.lanes j lane })
+like_lane : (B : BlockView) (j : ℕ) (lane : InnerLane) → j < length B.lanes → lane.far ≡ (lane_in B j).far → lane.opposite ≡ (lane_in B j).opposite → IsLike B (record B { lanes = set B.lanes j lane })
 like_lane B j lane l far' opposite' = record {
   top = refl;
   count = refl;
@@ -260,8 +261,8 @@ like_lane B j lane l far' opposite' = record {
   border_starts = refl;
   lanes_len = length-set B.lanes j lane;
   borders_len = refl;
-  far = λ i. set_other (λ (q : Lane). q.far) B.lanes j lane i no_row l far';
-  lane_opposite = λ i. set_other (λ (q : Lane). q.opposite) B.lanes j lane i no_row l opposite';
+  far = λ i. set_other (λ (q : InnerLane). q.far) B.lanes j lane i no_row l far';
+  lane_opposite = λ i. set_other (λ (q : InnerLane). q.opposite) B.lanes j lane i no_row l opposite';
   direction = λ i. refl;
   near = λ i. refl;
   to = λ i. refl;
@@ -320,7 +321,7 @@ module _ (w : Whole) (v : BlocksView) (b : ℕ) (B : BlockView) (at : IsAt w v b
       (put_numbers w v b B at new (λ (q : BlockView). q.rooms) u p r spot l refl ∙ ap (λ (q : BlocksView). set q.rooms u r) at.view)
       (keep_lanes w v b B at new refl refl)
 
-  lane_step : (x : Direction) (j : ℕ) (lane : Lane) → IsRow w x false b j → lane.far ≡ (lane_in B j).far → lane.opposite ≡ (lane_in B j).opposite
+  lane_step : (x : Direction) (j : ℕ) (lane : InnerLane) → IsRow w x false b j → lane.far ≡ (lane_in B j).far → lane.opposite ≡ (lane_in B j).opposite
       → IsAt (put_block w b (record B { lanes = set B.lanes j lane })) (record v { lanes = core.put_lane v.lanes x (shown_lane lane) }) b (record B { lanes = set B.lanes j lane })
   lane_step x j lane row far' opposite' =
       let new : BlockView = record B { lanes = set B.lanes j lane } in
@@ -440,12 +441,12 @@ pushed_at w v b B x j p a at row spot back away =
     let w2 = put_block w1 b two in
     let at2 = excess_step w1 _ b one at1 t q e2 away1 in
     let row2 = row_put w1 x false b j b two (row_put w x false b j b one row) in
-    let lane : Lane = record (lane_in B j) { residual = (lane_in B j).residual - a } in
+    let lane : InnerLane = record (lane_in B j) { residual = (lane_in B j).residual - a } in
     let three : BlockView = record two { lanes = set two.lanes j lane } in
     let w3 = put_block w2 b three in
     let at3 = lane_step w2 _ b two at2 x j lane row2 refl refl in
     let back3 = row_put w2 (opposite x) false b o b three (row_put w1 (opposite x) false b o b two (row_put w (opposite x) false b o b one back)) in
-    let lane' : Lane = record (lane_in three o) { residual = (lane_in three o).residual + a } in
+    let lane' : InnerLane = record (lane_in three o) { residual = (lane_in three o).residual + a } in
     let at4 = lane_step w3 _ b three at3 (opposite x) o lane' back3 refl refl in
     let joined4 = joined w b one (block.pushed B p j a) _ (joined w1 b two (block.pushed B p j a) _ (joined w2 b three (block.pushed B p j a) _ at4)) in
     let read1 = excess_read w v b B u p at spot in
@@ -453,12 +454,12 @@ pushed_at w v b B x j p a at row spot back away =
     let read3 = inner_read w v b B x j at row in
     let read4 = inner_read w3 _ b three (opposite x) o at3 back3 in
     let less = λ (n : ℕ). set v.excess u (n - a) in
-    let gone = λ (l : core.Lane). core.put_lane v.lanes x (record l { residual = l.residual - a }) in
-    let come = λ (ls : core.Lanes) (l : core.Lane). core.put_lane ls (opposite x) (record l { residual = l.residual + a }) in
+    let gone = λ (l : Lane). core.put_lane v.lanes x (record l { residual = l.residual - a }) in
+    let come = λ (ls : core.Lanes) (l : Lane). core.put_lane ls (opposite x) (record l { residual = l.residual + a }) in
     let excess : set (set v.excess u e) t e2 ≡ (pushed v x a).excess =
     ap (λ n. set (set v.excess u e) t (n + a)) read2 ∙ ap (λ n. set (less n) t (slice_index (less n) t + a)) read1 in
     let lanes : come (gone (shown_lane (lane_in B j))) (shown_lane (lane_in three o)) ≡ (pushed v x a).lanes =
-    ap (come (gone (shown_lane (lane_in B j)))) read4 ∙ ap (λ (l : core.Lane). come (gone l) (core.lane_at (gone l) (opposite x))) read3 in
+    ap (come (gone (shown_lane (lane_in B j)))) read4 ∙ ap (λ (l : Lane). come (gone l) (core.lane_at (gone l) (opposite x))) read3 in
     let same = ap (λ (xs : List ℕ). record v { excess = xs; lanes = come (gone (shown_lane (lane_in B j))) (shown_lane (lane_in three o)) }) excess
     ∙ ap (λ (ls : core.Lanes). record v { excess = (pushed v x a).excess; lanes = ls }) lanes in
     seen_as _ _ (pushed v x a) b _ same joined4

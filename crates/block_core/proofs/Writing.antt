@@ -3,10 +3,11 @@ use Rattle.std.proofs.Common.{◌≡◌, ℕ, ◌+◌, ◌-◌, ◌*◌, ◌/◌
 use Rattle.std.proofs.lemmas.List.{length-set}
 use Rattle.std.proofs.lemmas.Bool.{cases_eq, cases_Bool, false≢true}
 use Rattle.flow_network.specs.Cut.{nodes}
+use Rattle.parcel.specs.declared.lane.Lane.{Lane}
 use Rattle.parcel.specs.declared.direction.Direction.{Direction}
 use Rattle.parcel.specs.Directions.{IsDirection, forward, backward, near, far}
 use Rattle.parcel.specs.States as core
-use Rattle.block_net.specs.declared.rows.Lane.{Lane}
+use Rattle.block_net.specs.declared.rows.InnerLane.{InnerLane}
 use Rattle.block_net.specs.declared.rows.Border.{Border}
 use Rattle.block_net.specs.Views.{BlockView, no_row, no_border, count, lane_in, border_in}
 use Rattle.block_net.specs.Whole.{Whole, table, no_block, block_at, block_with, home, place, near_home, slot, is_outer, lane_of, border_of, shown_lane, shown_border, shown_of, IsInnerAt, IsBorderAt, StandsAt, IsPlaced, IsFilled, put_block}
@@ -152,10 +153,10 @@ pub outer_shown : (w : Whole) (x : Direction) → is_outer w x ≡ true → show
 outer_shown w x e = ap (λ o. cond o (shown_border (border_of w x)) (shown_lane (lane_of w x))) e
 
 -- the lists of all directions
-abbrev lanes_of : ℕ → (Direction → core.Lane) → core.Lanes
+abbrev lanes_of : ℕ → (Direction → Lane) → core.Lanes
 lanes_of m f = record { forth = table m (λ k. f (forward k)); back = table m (λ k. f (backward k)) }
 
-lanes_same : (m : ℕ) (f g : Direction → core.Lane) → ((y : Direction) → g y ≡ f y) → lanes_of m g ≡ lanes_of m f
+lanes_same : (m : ℕ) (f g : Direction → Lane) → ((y : Direction) → g y ≡ f y) → lanes_of m g ≡ lanes_of m f
 lanes_same m f g each =
     let forth = table_same m (λ k. f (forward k)) (λ k. g (forward k)) (λ k l. each (forward k)) in
     let back = table_same m (λ k. f (backward k)) (λ k. g (backward k)) (λ k l. each (backward k)) in
@@ -165,7 +166,7 @@ pub lanes_keep : (w : Whole) (b : ℕ) (block : BlockView) → b < length w.bloc
     → (blocks_in (put_block w b block)).lanes ≡ (blocks_in w).lanes
 lanes_keep w b block l lanes borders = lanes_same (length w.net.arcs) (shown_of w) (shown_of (put_block w b block)) (λ y. shown_keeps w b block y l lanes borders)
 
-lanes_put : (m : ℕ) (f g : Direction → core.Lane) (k : ℕ) (b : Bool) (lane : core.Lane) → k < m → g (record { arc = k; back = b }) ≡ lane
+lanes_put : (m : ℕ) (f g : Direction → Lane) (k : ℕ) (b : Bool) (lane : Lane) → k < m → g (record { arc = k; back = b }) ≡ lane
     → ((y : Direction) → y.arc < m → (y ≡ record { arc = k; back = b } → ⊥) → g y ≡ f y)
     → lanes_of m g ≡ core.put_lane (lanes_of m f) (record { arc = k; back = b }) lane
 lanes_put m f g k true lane l here others =
@@ -194,7 +195,7 @@ set_other g xs i y j d l same = elim (cases_eq j i) [
   | inr off ↦ ap g (get_or-set_other xs i j y d off)
 ]
 
-lane_here : (w : Whole) (x : Direction) (b j : ℕ) (block : BlockView) (lane : Lane) → IsRow w x false b j → j < length (block_at w b).lanes → block.lanes ≡ set (block_at w b).lanes j lane
+lane_here : (w : Whole) (x : Direction) (b j : ℕ) (block : BlockView) (lane : InnerLane) → IsRow w x false b j → j < length (block_at w b).lanes → block.lanes ≡ set (block_at w b).lanes j lane
     → lane_of (put_block w b block) x ≡ lane
 lane_here w x b j block lane at lj made =
     let w' = put_block w b block in
@@ -216,7 +217,7 @@ slots_apart : (w : Whole) (x y : Direction) (leaves : Bool) (b j : ℕ) → IsPl
 slots_apart w x y leaves b j placed at ly outer home off same =
     off (placed.apart y x ly at.direction (outer ∙ sym at.outer) (home ∙ sym at.home) (same ∙ sym at.slot))
 
-lane_there : (w : Whole) (x y : Direction) (b j : ℕ) (block : BlockView) (lane : Lane) → IsPlaced w → IsRow w x false b j → block.lanes ≡ set (block_at w b).lanes j lane
+lane_there : (w : Whole) (x y : Direction) (b j : ℕ) (block : BlockView) (lane : InnerLane) → IsPlaced w → IsRow w x false b j → block.lanes ≡ set (block_at w b).lanes j lane
     → IsDirection w.net y → is_outer w y ≡ false → (y ≡ x → ⊥) → lane_of (put_block w b block) y ≡ lane_of w y
 lane_there w x y b j block lane placed at made ly outer off =
     let w' = put_block w b block in
@@ -246,7 +247,7 @@ border_there w x y b j block border placed at made ly outer off =
       | inr away ↦ ap (λ (q : BlockView). border_in q (slot w y)) (block_other w b block (near_home w y) away)
     ]
 
-pub lane_shown : (w : Whole) (x : Direction) (b j : ℕ) (block : BlockView) (lane : Lane) → IsPlaced w → IsRow w x false b j → j < length (block_at w b).lanes
+pub lane_shown : (w : Whole) (x : Direction) (b j : ℕ) (block : BlockView) (lane : InnerLane) → IsPlaced w → IsRow w x false b j → j < length (block_at w b).lanes
     → block.lanes ≡ set (block_at w b).lanes j lane → block.borders ≡ (block_at w b).borders
     → (blocks_in (put_block w b block)).lanes ≡ core.put_lane (blocks_in w).lanes x (shown_lane lane)
 lane_shown w x b j block lane placed at lj made borders =

@@ -1,6 +1,7 @@
 -- Labels that are written block by block.
 use Rattle.std.specs.Prelude.{◌≡◌, ℕ, ◌<◌, ◌≤◌, true, List, [], length, slice_index}
 use Rattle.flow_network.specs.Cut.{nodes, IsNet}
+use Rattle.parcel.specs.declared.lane.Lane.{Lane}
 use Rattle.parcel.specs.declared.direction.Direction.{Direction}
 use Rattle.parcel.specs.Directions.{IsDirection, near, far}
 use Rattle.parcel.specs.States as core
@@ -20,7 +21,7 @@ told_at w b j =
     (informed (block_at w b) j (slice_index (blocks_in w).labels (far w.net (direction_at w b j))))
 
 -- what a direction is once it knows the label of its far end, where it leads to another block
-abbrev pub told_of : BlocksView → Direction → core.Lane
+abbrev pub told_of : BlocksView → Direction → Lane
 told_of a x = told_lane (state_of a [] 0) a.labels x
 
 -- the first so many directions from a block to others know the labels of their far ends, and

@@ -3,17 +3,13 @@ use Rattle.std.specs.Prelude.{ℕ, ◌-◌, ◌==◌, slice_index}
 use Rattle.sums.specs.Sums.{sum_below, counted}
 use Rattle.flow_network.specs.Cut.{nodes}
 use Rattle.parcel.specs.States as core
-use Rattle.block_net.specs.Whole.{Whole, home}
+use Rattle.block_net.specs.Whole.{Whole, home, whole_of}
 use Rattle.block_core.specs.declared.pieces.Pieces.{Pieces}
-use Rattle.block_core.specs.Views.{whole_in, blocks_in, state_of}
-
--- the blocks of the pieces, with no message on the way
-abbrev pub whole_within : Pieces → Whole
-whole_within p = whole_in p.net p.parts.firsts.items p.parts.slots.items p.parts.blocks.items
+use Rattle.block_core.specs.Views.{blocks_in, state_of}
 
 -- the state that the pieces make
 abbrev pub state_in : Pieces → core.State
-state_in p = state_of (blocks_in (whole_within p)) p.ways.messages p.got
+state_in p = state_of (blocks_in (whole_of p.net p.parts)) p.ways.messages p.got
 
 -- what a node gave the sink: what it could at the opening less what it still can
 abbrev pub given_at : Whole → ℕ → ℕ

@@ -2,15 +2,14 @@
 use Rattle.std.specs.Prelude.{Bool, true, false, cond, replicate, ℕ, ◌+◌, ◌-◌, ◌≡◌, ◌<◌, ◌≤◌, List, [], length, map, slice_index, slice_set, Some, None}
 use Rattle.flow_network.specs.declared.arc.Arc.{Arc}
 use Rattle.flow_network.specs.Cut.{Network, nodes, IsNet}
+use Rattle.parcel.specs.declared.lane.Lane.{Lane}
 use Rattle.parcel.specs.declared.direction.Direction.{Direction}
 use Rattle.parcel.specs.declared.message.Message.{Message}
 use Rattle.parcel.specs.Directions.{IsDirection, near, far, opposite}
 use Rattle.parcel.specs.States as core
 use Rattle.parcel.specs.Events.{learned}
 use Rattle.block_net.specs.Limits.{arc_limit, block_limit}
-use Rattle.block_net.specs.Views.{BlockView}
-use Rattle.block_net.specs.Whole.{Whole, whole_of, home, place, near_home, slot, is_outer, shown, IsPlaced, IsFilled}
-use Rattle.block_core.specs.declared.lane.Lane.{Lane}
+use Rattle.block_net.specs.Whole.{Whole, home, place, near_home, slot, is_outer, shown, IsPlaced, IsFilled}
 
 pub record BlocksView : Type 0 where
   pub net : Network
@@ -19,9 +18,6 @@ pub record BlocksView : Type 0 where
   pub labels : List ℕ
   pub rooms : List ℕ
   pub lanes : core.Lanes
-
-abbrev pub shown_lane : Lane → core.Lane
-shown_lane lane = record { residual = lane.residual; known = lane.known; flight = lane.flight }
 
 -- what a whole of blocks shows, without the messages on the way
 abbrev pub blocks_in : Whole → BlocksView
@@ -33,10 +29,6 @@ blocks_in w = record {
   rooms = (shown w).rooms;
   lanes = (shown w).lanes;
 }
-
--- the whole of these blocks, with no message on the way
-abbrev pub whole_in : Network → List ℕ → List ℕ → List BlockView → Whole
-whole_in net firsts slots parts = whole_of net firsts slots parts [] 0
 
 -- what is kept of the blocks of a net
 pub record IsLaid (w : Whole) : Type 0 where
@@ -148,7 +140,7 @@ returned b x a told = record b {
 -- ---- the opening
 
 -- the lanes of the arcs in one sense
-abbrev pub first_lanes : Bool → List Arc → List core.Lane
+abbrev pub first_lanes : Bool → List Arc → List Lane
 first_lanes back arcs =
     map (λ arc. record { residual = cond back 0 arc.capacity; known = 0; flight = None }) arcs
 

@@ -9,16 +9,14 @@ ghost use Rattle.parcel.specs.Soundness.{amount_out};
 ghost use Rattle.parcel.specs.Events.{highest_label};
 ghost use Rattle.block_net.specs.Limits.{arc_limit, block_limit};
 ghost use Rattle.block_net.specs.Split.{CanSplit, homes_made};
-ghost use Rattle.block_net.specs.Whole.{index_of, is_outer};
-ghost use Rattle.block_core.specs.Views.{whole_in, blocks_in, state_of, IsLaid, IsLong, IsSpot, IsRow, first_of, shown_lane, gave, labelled, pushed, sent, accepted, settled, returned};
-ghost use Rattle.block_core.specs.Parts.{whole_by};
+ghost use Rattle.block_net.specs.Whole.{index_of, is_outer, whole_of};
+ghost use Rattle.block_core.specs.Views.{blocks_in, state_of, IsLaid, IsLong, IsSpot, IsRow, first_of, gave, labelled, pushed, sent, accepted, settled, returned};
 ghost use Rattle.block_core.specs.ByBlock.{IsToldFrom, IsRelabelled};
 
 use crate::by_block::{label_block, tell_block};
-use crate::lane::Lane;
 use block_net::{Parts, homes_of};
 use flow_network::Net;
-use parcel::Direction;
+use parcel::{Direction, Lane};
 use std::alloc::{AllocError, Global};
 use std::marker::Model;
 
@@ -34,15 +32,14 @@ pub struct Blocks {
 }
 
 impl Model for Blocks {
-    ghost use Rattle.block_core.specs.Views.{BlocksView, whole_in, blocks_in, IsLaid};
+    ghost use Rattle.block_net.specs.Whole.{whole_of};
+    ghost use Rattle.block_core.specs.Views.{BlocksView, blocks_in, IsLaid};
 
     ghost Value = { BlocksView };
 
-    ghost view = { λ b. blocks_in
-        (whole_in b.net b.parts.firsts.items b.parts.slots.items b.parts.blocks.items) };
+    ghost view = { λ b. blocks_in (whole_of b.net b.parts) };
 
-    ghost invariant = { λ b. IsLaid
-        (whole_in b.net b.parts.firsts.items b.parts.slots.items b.parts.blocks.items) };
+    ghost invariant = { λ b. IsLaid (whole_of b.net b.parts) };
 }
 
 /// The direction against a direction.
@@ -94,10 +91,9 @@ pub fn near_of(net: &Net, direction: Direction) -> usize
 
 /// The block of a node, and the node's place there.
 pub fn spot(net: &Net, parts: &Parts, v: usize) -> (usize, usize)
-    requires laid { IsLaid
-        (whole_in net.now parts.now.firsts.items parts.now.slots.items parts.now.blocks.items) }
+    requires laid { IsLaid (whole_of net.now parts.now) }
     requires node { v < nodes net.now }
-    ensures { IsSpot (whole_in net.now parts.now.firsts.items parts.now.slots.items parts.now.blocks.items)
+    ensures { IsSpot (whole_of net.now parts.now)
         v result.0 result.1 }
 {
     let block = home_of(v, net.nodes(), parts.blocks.len());
@@ -119,10 +115,9 @@ fn index_of(net: &Net, direction: Direction) -> usize
 
 /// The block of the node that a direction leaves, and the direction's slot there.
 fn row(net: &Net, parts: &Parts, direction: Direction) -> (usize, usize)
-    requires laid { IsLaid
-        (whole_in net.now parts.now.firsts.items parts.now.slots.items parts.now.blocks.items) }
+    requires laid { IsLaid (whole_of net.now parts.now) }
     requires direction { IsDirection net.now direction }
-    ensures { (let w = whole_in net.now parts.now.firsts.items parts.now.slots.items parts.now.blocks.items in
+    ensures { (let w = whole_of net.now parts.now in
         IsRow w direction (is_outer w direction) result.0 result.1) }
 {
     let block = home_of(near_of(net, direction), net.nodes(), parts.blocks.len());
@@ -146,19 +141,16 @@ impl Blocks {
 
     /// The blocks that a net and its parts are.
     pub fn of(net: Net, parts: Parts) -> Blocks
-        requires { IsLaid (whole_in net parts.firsts.items parts.slots.items parts.blocks.items) }
-        ensures { result ≡ blocks_in
-            (whole_in net parts.firsts.items parts.slots.items parts.blocks.items) }
+        requires { IsLaid (whole_of net parts) }
+        ensures { result ≡ blocks_in (whole_of net parts) }
     {
         Blocks { net, parts }
     }
 
     /// The net and its parts, which the blocks give up.
     pub fn into_parts(self) -> (Net, Parts)
-        ensures view { blocks_in (whole_in result.0 result.1.firsts.items result.1.slots.items
-            result.1.blocks.items) ≡ self }
-        ensures laid { IsLaid (whole_in result.0 result.1.firsts.items result.1.slots.items
-            result.1.blocks.items) }
+        ensures view { blocks_in (whole_of result.0 result.1) ≡ self }
+        ensures laid { IsLaid (whole_of result.0 result.1) }
     {
         (self.net, self.parts)
     }
@@ -172,8 +164,8 @@ impl Blocks {
 
     /// The blocks, and where each node and each direction stands in them.
     pub fn parts(&self) -> &Parts
-        ensures laid { IsLaid (whole_by self.now.net result.now) }
-        ensures shown { blocks_in (whole_by self.now.net result.now) ≡ self.now }
+        ensures laid { IsLaid (whole_of self.now.net result.now) }
+        ensures shown { blocks_in (whole_of self.now.net result.now) ≡ self.now }
     {
         &self.parts
     }
@@ -277,7 +269,7 @@ impl Blocks {
     /// What the block of its near end holds of a direction.
     pub fn lane(&self, direction: Direction) -> Lane
         requires { IsDirection self.now.net direction }
-        ensures { shown_lane result ≡ lane_at self.now.lanes direction }
+        ensures { result ≡ lane_at self.now.lanes direction }
     {
         let (block, slot) = row(&self.net, &self.parts, direction);
         let cells = &self.parts.blocks[block];

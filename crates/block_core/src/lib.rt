@@ -9,7 +9,6 @@ mod apply;
 mod blocks;
 mod by_block;
 mod compact;
-mod lane;
 mod mail;
 mod pieces;
 mod raise;

@@ -3,8 +3,8 @@ ghost use Rattle.flow_network.specs.Cut.{nodes};
 ghost use Rattle.parcel.specs.States.{room_of};
 ghost use Rattle.block_core.specs.Views.{blocks_in, IsLaid};
 ghost use Rattle.block_core.specs.Mails.{IsHeld};
-ghost use Rattle.block_core.specs.Parts.{whole_by};
-ghost use Rattle.block_core.specs.Pieces.{whole_within, state_in, given_by};
+ghost use Rattle.block_net.specs.Whole.{whole_of};
+ghost use Rattle.block_core.specs.Pieces.{state_in, given_by};
 
 use crate::mail::Mail;
 use crate::state::State;
@@ -30,7 +30,7 @@ impl Pieces {
     /// The state that the pieces make, where each node and each direction has its place in them and the state
     /// is sound and its ways have room. Takes no memory.
     pub fn into_state(self) -> State
-        requires laid { IsLaid (whole_within self) }
+        requires laid { IsLaid (whole_of self.net self.parts) }
         requires held { IsHeld self.ways.rooms (state_in self) }
         ensures { result ≡ state_in self }
     {
@@ -40,7 +40,7 @@ impl Pieces {
     /// What the sink got by what the blocks hold: of each node, what it could give the sink at the opening less
     /// what it still can. In a sound state that is what the sink got. Takes time linear in the number of nodes.
     pub fn given(&self) -> u64
-        requires laid { IsLaid (whole_within self.now) }
+        requires laid { IsLaid (whole_of self.now.net self.now.parts) }
         requires rooms { (v : ℕ) → v < nodes self.now.net
             → room_of (state_in self.now) v ≤ slice_index self.now.net.sinks v }
         ensures { result + sum (state_in self.now).rooms ≡ sum self.now.net.sinks }
@@ -55,11 +55,11 @@ impl Pieces {
 
 /// What the nodes of a block gave the sink. They follow one another, so that no node's block is looked up.
 fn given_in(net: &Net, parts: &Parts, block: usize) -> u64
-    requires laid { IsLaid (whole_by net.now parts.now) }
+    requires laid { IsLaid (whole_of net.now parts.now) }
     requires block { block < length parts.now.blocks.items }
     requires rooms { (v : ℕ) → v < nodes net.now
-        → slice_index (blocks_in (whole_by net.now parts.now)).rooms v ≤ slice_index net.now.sinks v }
-    ensures { result ≡ given_by (whole_by net.now parts.now) block }
+        → slice_index (blocks_in (whole_of net.now parts.now)).rooms v ≤ slice_index net.now.sinks v }
+    ensures { result ≡ given_by (whole_of net.now parts.now) block }
 {
     let cells = &parts.blocks[block];
     let sinks = net.sinks();

@@ -11,7 +11,8 @@ ghost use Rattle.block_net.specs.Split.{CanSplit};
 ghost use Rattle.block_core.specs.Views.{IsLaid};
 ghost use Rattle.block_core.specs.Mails.{IsHeld};
 ghost use Rattle.block_core.specs.Parts.{IsIn};
-ghost use Rattle.block_core.specs.Pieces.{whole_within, state_in};
+ghost use Rattle.block_net.specs.Whole.{whole_of};
+ghost use Rattle.block_core.specs.Pieces.{state_in};
 
 use crate::blocks::{Blocks, copy_of};
 use crate::mail::Mail;
@@ -73,7 +74,7 @@ impl State {
     /// The state in its pieces, which it gives up. Takes no memory.
     pub fn into_pieces(self) -> Pieces
         ensures state { state_in result ≡ self }
-        ensures laid { IsLaid (whole_within result) }
+        ensures laid { IsLaid (whole_of result.net result.parts) }
         ensures held { IsHeld result.ways.rooms self }
     {
         let (net, parts) = self.blocks.into_parts();
@@ -87,7 +88,7 @@ impl State {
 
     /// The state that the pieces make. Takes no memory.
     pub(crate) fn of_pieces(pieces: Pieces) -> State
-        requires laid { IsLaid (whole_within pieces) }
+        requires laid { IsLaid (whole_of pieces.net pieces.parts) }
         requires held { IsHeld pieces.ways.rooms (state_in pieces) }
         ensures { result ≡ state_in pieces }
     {

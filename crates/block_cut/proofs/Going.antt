@@ -6,22 +6,22 @@ use Rattle.parcel.specs.States.{State}
 use Rattle.parcel.specs.Events.{IsQuiet}
 use Rattle.parcel.specs.Soundness.{IsSound, IsFinished, count}
 use Rattle.block_net.specs.Views.{BlockView}
-use Rattle.block_net.specs.Whole.{Whole, no_block, block_at}
-use Rattle.block_core.specs.Views.{IsLaid, whole_in, blocks_in, state_of}
+use Rattle.block_net.specs.Whole.{Whole, no_block, block_at, whole_of, with_blocks}
+use Rattle.block_core.specs.Views.{IsLaid, blocks_in, state_of}
 use Rattle.block_core.specs.Mails.{MailView, HasRooms, IsHeld}
 use Rattle.block_core.specs.declared.pieces.Pieces.{Pieces}
-use Rattle.block_core.specs.Pieces.{whole_within, state_in}
+use Rattle.block_core.specs.Pieces.{state_in}
 use Rattle.block_laws.proofs.Laid.{put_own, seated}
 use Rattle.block_cut.specs.Turns.{ReachesFrom}
-use Rattle.block_cut.specs.Passes.{whole_with, state_at, IsGoing, IsReady, IsStill}
+use Rattle.block_cut.specs.Passes.{state_at, IsGoing, IsReady, IsStill}
 use Rattle.block_cut.proofs.Lowering.{none_starts}
 
 pub goes_on : (p : Pieces) (blocks : List BlockView) (before after : MailView) (b n m : ℕ) (new : BlockView)
     → IsGoing p blocks before m → b < length blocks → after.rooms ≡ before.rooms
-    → ReachesFrom (length blocks) b n (block_at (whole_with p blocks) b) new before.messages after.messages
+    → ReachesFrom (length blocks) b n (block_at (with_blocks (whole_of p.net p.parts) blocks) b) new before.messages after.messages
     → IsGoing p (slice_set blocks b new) after (m + n)
 goes_on p blocks before after b n m new going l rooms reaches =
-    let w = whole_with p blocks in
+    let w = with_blocks (whole_of p.net p.parts) blocks in
     let own = put_own w b in
     let sound = subst (λ (q : Whole). IsSound (state_of (blocks_in q) before.messages going.got)) (sym own) going.sound in
     let same = ap (λ (q : Whole). count (state_of (blocks_in q) before.messages going.got)) own in
@@ -50,12 +50,12 @@ goes_less p blocks ways n m going l = record {
 pub reaches_at : (p : Pieces) (blocks : List BlockView) (before after : MailView) (k b n : ℕ) (old new : BlockView)
     → k ≡ length blocks → b < k → old ≡ slice_index_or blocks b old
     → ReachesFrom k b n old new before.messages after.messages
-    → ReachesFrom (length blocks) b n (block_at (whole_with p blocks) b) new before.messages after.messages
+    → ReachesFrom (length blocks) b n (block_at (with_blocks (whole_of p.net p.parts) blocks) b) new before.messages after.messages
 reaches_at p blocks before after k b n old new size l is reaches =
-    subst (λ m. ReachesFrom m b n (block_at (whole_with p blocks) b) new before.messages after.messages) size
+    subst (λ m. ReachesFrom m b n (block_at (with_blocks (whole_of p.net p.parts) blocks) b) new before.messages after.messages) size
     (subst (λ (q : BlockView). ReachesFrom k b n q new before.messages after.messages) (get_or_read_under blocks b k old no_block is l size) reaches)
 
-pub goes_from : (p : Pieces) → IsLaid (whole_within p) → IsHeld p.ways.rooms (state_in p) → IsGoing p p.parts.blocks.items p.ways 0
+pub goes_from : (p : Pieces) → IsLaid (whole_of p.net p.parts) → IsHeld p.ways.rooms (state_in p) → IsGoing p p.parts.blocks.items p.ways 0
 goes_from p laid held = record { got = p.got; size = refl; rooms = refl; laid = laid; sound = held.sound; lower = omega arith }
 
 pub ready_from : (p : Pieces) (s : State) → s ≡ state_in p → IsQuiet s → IsHeld p.ways.rooms s → IsReady p
@@ -67,17 +67,18 @@ still_from p = record { same = refl; none = λ b l. absurd (omega (arith, l)) }
 -- ---- in the end
 
 module _ (p q : Pieces) (net : q.net ≡ p.net) (firsts : q.parts.firsts.items ≡ p.parts.firsts.items) (slots : q.parts.slots.items ≡ p.parts.slots.items) where
-  pub whole_same : whole_within q ≡ whole_with p q.parts.blocks.items
+  pub whole_same : whole_of q.net q.parts ≡ with_blocks (whole_of p.net p.parts) q.parts.blocks.items
   whole_same =
-      ap (λ (n : Network). whole_in n q.parts.firsts.items q.parts.slots.items q.parts.blocks.items) net
-      ∙ (ap (λ (f : List ℕ). whole_in p.net f q.parts.slots.items q.parts.blocks.items) firsts
-      ∙ ap (λ (s : List ℕ). whole_in p.net p.parts.firsts.items s q.parts.blocks.items) slots)
+      let w = whole_of q.net q.parts in
+      ap (λ (n : Network). record w { net = n }) net
+      ∙ (ap (λ (f : List ℕ). record w { net = p.net; firsts = f }) firsts
+      ∙ ap (λ (s : List ℕ). record w { net = p.net; firsts = p.parts.firsts.items; slots = s }) slots)
 
   module _ (n : ℕ) (going : IsGoing p q.parts.blocks.items q.ways n) where
-    pub laid_again : IsLaid (whole_within q)
+    pub laid_again : IsLaid (whole_of q.net q.parts)
     laid_again = subst IsLaid (sym whole_same) going.laid
 
-    pub sound_given : IsSound (state_of (blocks_in (whole_within q)) q.ways.messages going.got)
+    pub sound_given : IsSound (state_of (blocks_in (whole_of q.net q.parts)) q.ways.messages going.got)
     sound_given = subst (λ (w : Whole). IsSound (state_of (blocks_in w) q.ways.messages going.got)) (sym whole_same) going.sound
 
     module _ (given : q.got + sum (state_in q).rooms ≡ sum q.net.sinks) where
@@ -86,7 +87,7 @@ module _ (p q : Pieces) (net : q.net ≡ p.net) (firsts : q.parts.firsts.items �
 
       pub held_again : IsHeld p.ways.rooms (state_in p) → IsHeld q.ways.rooms (state_in q)
       held_again held = record {
-        sound = subst (λ g. IsSound (state_of (blocks_in (whole_within q)) q.ways.messages g)) got_same sound_given;
+        sound = subst (λ g. IsSound (state_of (blocks_in (whole_of q.net q.parts)) q.ways.messages g)) got_same sound_given;
         few = laid_again.few;
         arcs = laid_again.arcs;
         room = subst (λ (n : Network). HasRooms n (length q.parts.blocks.items) q.ways.rooms) (sym net)

@@ -8,19 +8,19 @@ use Rattle.parcel.specs.States.{State, label_of}
 use Rattle.parcel.specs.Soundness.{IsSound, opened}
 use Rattle.block_net.specs.declared.parts.Parts.{Parts}
 use Rattle.block_net.specs.Views.{BlockView, count, excess_in, label_in, room_in, lane_in, pushed, given}
-use Rattle.block_net.specs.Whole.{Whole, no_block, block_at, home, place}
+use Rattle.block_net.specs.Whole.{Whole, no_block, block_at, home, place, whole_of, with_blocks}
 use Rattle.block_core.specs.Views.{IsLaid, IsSpot, blocks_in, state_of}
 use Rattle.block_core.specs.Mails.{HasRooms, IsHeld}
 use Rattle.block_core.specs.declared.pieces.Pieces.{Pieces}
-use Rattle.block_core.specs.Parts.{whole_by, IsIn}
-use Rattle.block_core.specs.Pieces.{whole_within, state_in}
+use Rattle.block_core.specs.Parts.{IsIn}
+use Rattle.block_core.specs.Pieces.{state_in}
 use Rattle.block_core.proofs.Steps.{label_read}
 use Rattle.block_core.proofs.Writing.{block_same}
 use Rattle.discharge.specs.Steps.{IsOfNode}
 use Rattle.block_laws.specs.Loose.{IsStanding}
 use Rattle.block_laws.proofs.Laid.{put_own, seated}
 use Rattle.block_laws.proofs.Loosely.{loose_push_keeps, loose_give_keeps}
-use Rattle.block_cut.specs.Passes.{whole_with, state_at}
+use Rattle.block_cut.specs.Passes.{state_at}
 use Rattle.block_cut.specs.Opening.{IsFlat, AreLabelsZero, Opens, AreOpening}
 
 -- ---- one block
@@ -63,24 +63,24 @@ pushed_opens B p j a lp of enough fits lf = record {
 -- ---- the blocks of a net
 
 module _ (p : Pieces) (blocks : List BlockView) (opening : AreOpening p blocks) where
-  standing : (b : ℕ) → b < length blocks → IsStanding (whole_with p blocks) b (block_at (whole_with p blocks) b) p.ways.messages opening.got
+  standing : (b : ℕ) → b < length blocks → IsStanding (with_blocks (whole_of p.net p.parts) blocks) b (block_at (with_blocks (whole_of p.net p.parts) blocks) b) p.ways.messages opening.got
   standing b l = record {
-    seated = seated (whole_with p blocks) b opening.laid l;
-    sound = subst (λ (q : Whole). IsSound (state_of (blocks_in q) p.ways.messages opening.got)) (sym (put_own (whole_with p blocks) b)) opening.sound;
+    seated = seated (with_blocks (whole_of p.net p.parts) blocks) b opening.laid l;
+    sound = subst (λ (q : Whole). IsSound (state_of (blocks_in q) p.ways.messages opening.got)) (sym (put_own (with_blocks (whole_of p.net p.parts) blocks) b)) opening.sound;
   }
 
-  flat_put : (b : ℕ) (new : BlockView) → b < length blocks → Opens (block_at (whole_with p blocks) b) new → (c : ℕ) → c < length (set blocks b new) → IsFlat (block_at (whole_with p (set blocks b new)) c)
+  flat_put : (b : ℕ) (new : BlockView) → b < length blocks → Opens (block_at (with_blocks (whole_of p.net p.parts) blocks) b) new → (c : ℕ) → c < length (set blocks b new) → IsFlat (block_at (with_blocks (whole_of p.net p.parts) (set blocks b new)) c)
   flat_put b new l opens c lc = elim (cases_eq c b) [
     | inl e ↦
-        let w = whole_with p blocks in
+        let w = with_blocks (whole_of p.net p.parts) blocks in
         let flat = flat_again (block_at w b) new opens.nodes opens.labels (opening.flat b l) in
         rw e (subst IsFlat (sym (block_same w b new l)) flat)
     | inr off ↦ subst IsFlat (sym (get_or-set_other blocks b c new no_block off)) (opening.flat c (omega (arith, lc, length-set blocks b new)))
   ]
 
-  pub block_opened : (b : ℕ) (new : BlockView) → b < length blocks → Opens (block_at (whole_with p blocks) b) new → AreOpening p (slice_set blocks b new)
+  pub block_opened : (b : ℕ) (new : BlockView) → b < length blocks → Opens (block_at (with_blocks (whole_of p.net p.parts) blocks) b) new → AreOpening p (slice_set blocks b new)
   block_opened b new l opens =
-      let then' = opens.stands (whole_with p blocks) b p.ways.messages opening.got (opening.flat b l) (standing b l) in
+      let then' = opens.stands (with_blocks (whole_of p.net p.parts) blocks) b p.ways.messages opening.got (opening.flat b l) (standing b l) in
       record {
         got = then'.0;
         size = length-set blocks b new ∙ opening.size;
@@ -105,19 +105,19 @@ flat_at w ways got b laid zeros l p lp =
     let spot : IsSpot w found.0 b p = record { node = found.1.node; home = found.1.home; place = found.1.place; block = l } in
     label_read w (blocks_in w) b (block_at w b) found.0 p (record { laid = laid; view = refl; block = l; is = refl }) spot ∙ zeros found.0 found.1.node
 
-pub opening_from : (p : Pieces) (s : State) → state_in p ≡ s → IsLaid (whole_within p) → IsHeld p.ways.rooms s → AreLabelsZero s → AreOpening p p.parts.blocks.items
+pub opening_from : (p : Pieces) (s : State) → state_in p ≡ s → IsLaid (whole_of p.net p.parts) → IsHeld p.ways.rooms s → AreLabelsZero s → AreOpening p p.parts.blocks.items
 opening_from p s is laid held zeros = record {
   got = p.got;
   size = refl;
   laid = laid;
   sound = subst IsSound (sym is) held.sound;
-  flat = λ b l. flat_at (whole_within p) p.ways.messages p.got b laid (subst AreLabelsZero (sym is) zeros) l;
+  flat = λ b l. flat_at (whole_of p.net p.parts) p.ways.messages p.got b laid (subst AreLabelsZero (sym is) zeros) l;
 }
 
 -- where all labels of each block are 0, all labels are
-pub zeros_of_flat : (s : State) (p : Parts) → IsIn s p → ((b : ℕ) → b < length p.blocks.items → IsFlat (block_at (whole_by s.net p) b)) → AreLabelsZero s
+pub zeros_of_flat : (s : State) (p : Parts) → IsIn s p → ((b : ℕ) → b < length p.blocks.items → IsFlat (block_at (whole_of s.net p) b)) → AreLabelsZero s
 zeros_of_flat s p is all v l =
-    let w = whole_by s.net p in
+    let w = whole_of s.net p in
     let b = home w v in
     let lb = is.laid.placed.homes v l in
     let here : label_in (block_at w b) (place w v) ≡ label_of s v =

@@ -7,14 +7,14 @@ use Rattle.sums.proofs.SumLemmas.{counted-le}
 use Rattle.parcel.specs.States.{State}
 use Rattle.parcel.specs.Soundness.{IsFinished, count}
 use Rattle.block_net.specs.Views.{BlockView}
-use Rattle.block_net.specs.Whole.{no_block, block_at}
+use Rattle.block_net.specs.Whole.{no_block, block_at, whole_of, with_blocks}
 use Rattle.block_core.specs.Mails.{MailView}
 use Rattle.block_core.specs.declared.pieces.Pieces.{Pieces}
 use Rattle.block_core.specs.Pieces.{state_in}
 use Rattle.discharge.specs.Steps.{Step, IsSure}
 use Rattle.block_cut.specs.Ends.{ends_view, seen_by}
 use Rattle.block_cut.specs.Turns.{ReachesFrom}
-use Rattle.block_cut.specs.Passes.{whole_with, IsGoing, IsReady, IsStill}
+use Rattle.block_cut.specs.Passes.{IsGoing, IsReady, IsStill}
 use Rattle.block_cut.proofs.Going.{goes_on, goes_less, reaches_at}
 use Rattle.block_cut.proofs.Still.{still_on}
 
@@ -35,14 +35,14 @@ neither false n is = elim (cases_lt 0 n) [
 ]
 
 module _ (p : Pieces) (blocks0 blocks : List BlockView) (ways0 before after : MailView) (k b events : ℕ) (old new : BlockView) (some : Bool) (size : k ≡ length blocks) (lb : b < k) (is : old ≡ slice_index_or blocks b old) (reaches : ReachesFrom k b events old new before.messages after.messages) where
-  reached : ReachesFrom (length blocks) b events (block_at (whole_with p blocks) b) new before.messages after.messages
+  reached : ReachesFrom (length blocks) b events (block_at (with_blocks (whole_of p.net p.parts) blocks) b) new before.messages after.messages
   reached = reaches_at p blocks before after k b events old new size lb is reaches
 
   -- no step of the block, as the whole has it, is sure where the turn did no event
   none_sure : (slots : List ℕ) (arcs : ℕ) → ((e : Step) → IsSure old (seen_by (ends_view b k before before slots arcs)) e → 0 < events) → events ≡ 0
-      → (e : Step) → ¬ IsSure (block_at (whole_with p blocks) b) (seen_by (ends_view b (length blocks) before before slots arcs)) e
+      → (e : Step) → ¬ IsSure (block_at (with_blocks (whole_of p.net p.parts) blocks) b) (seen_by (ends_view b (length blocks) before before slots arcs)) e
   none_sure slots arcs sure none e = λ on.
-      let at : old ≡ block_at (whole_with p blocks) b = get_or_read_under blocks b k old no_block is lb size in
+      let at : old ≡ block_at (with_blocks (whole_of p.net p.parts) blocks) b = get_or_read_under blocks b k old no_block is lb size in
       let on' = subst (λ (q : BlockView). IsSure q (seen_by (ends_view b (length blocks) before before slots arcs)) e) (sym at) on in
       let some = sure e (subst (λ n. IsSure old (seen_by (ends_view b n before before slots arcs)) e) (sym size) on') in
       absurd (omega (arith, some, none))
@@ -59,7 +59,7 @@ module _ (p : Pieces) (blocks0 blocks : List BlockView) (ways0 before after : Ma
       let both = neither some events off in
       let l : b < length blocks = omega (arith, lb, size) in
       still_on p blocks before b m ready going l (was both.0 from) after slots arcs new
-      (subst (λ n. ReachesFrom (length blocks) b n (block_at (whole_with p blocks) b) new before.messages after.messages) both.1 reached)
+      (subst (λ n. ReachesFrom (length blocks) b n (block_at (with_blocks (whole_of p.net p.parts) blocks) b) new before.messages after.messages) both.1 reached)
       (none_sure slots arcs sure both.1)
 
 -- ---- the whole work

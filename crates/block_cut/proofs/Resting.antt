@@ -4,7 +4,8 @@ use Rattle.std.proofs.lemmas.Bool.{cases_lt}
 use Rattle.flow_network.specs.Cut.{nodes}
 use Rattle.flow_network.specs.Progress.{top}
 use Rattle.parcel.specs.declared.event.Event.TheVariants.{RaiseAll}
-use Rattle.parcel.specs.States.{State, excess_of, Lane}
+use Rattle.parcel.specs.declared.lane.Lane.{Lane}
+use Rattle.parcel.specs.States.{State, excess_of}
 use Rattle.parcel.specs.Directions.{far}
 use Rattle.parcel.specs.Reach.{LeadsIn, Leads, AreExact}
 use Rattle.parcel.specs.Events.{IsQuiet, Happens, raised}
@@ -12,9 +13,9 @@ use Rattle.parcel.specs.Soundness.{IsFinished}
 use Rattle.parcel.proofs.Raising.{told_is}
 use Rattle.block_net.specs.declared.parts.Parts.{Parts}
 use Rattle.block_net.specs.Views.{count, excess_in}
-use Rattle.block_net.specs.Whole.{Whole, LiesAt, block_at, home, place}
+use Rattle.block_net.specs.Whole.{Whole, LiesAt, block_at, home, place, whole_of}
 use Rattle.block_core.specs.Views.{blocks_in}
-use Rattle.block_core.specs.Parts.{whole_by, IsIn}
+use Rattle.block_core.specs.Parts.{IsIn}
 use Rattle.block_core.proofs.Steps.{excess_read}
 use Rattle.block_cut.specs.Rest.{IsAtRest}
 
@@ -39,7 +40,7 @@ unfinished_raised s t quiet happens unfinished = λ done.
 
 module _ (s : State) (p : Parts) (labels : List ℕ) (is : IsIn s p) (exact : AreExact s labels) where
   abbrev w : Whole
-  w = whole_by s.net p
+  w = whole_of s.net p
 
   abbrev first : ℕ → ℕ
   first b = slice_index p.firsts.items b

@@ -16,7 +16,7 @@ use Rattle.parcel.specs.Events.{IsActive, Run}
 use Rattle.parcel.proofs.Ends.{far_in, block_in}
 use Rattle.parcel.specs.Workers.{MayStart}
 use Rattle.block_net.specs.Views.{BlockView, border_in}
-use Rattle.block_net.specs.Whole.{Whole, block_at, home}
+use Rattle.block_net.specs.Whole.{Whole, block_at, home, whole_of, with_blocks}
 use Rattle.block_core.specs.Views.{BlocksView, IsLaid, blocks_in, state_of}
 use Rattle.block_core.specs.Mails.{MailView, HasRooms, room_at}
 use Rattle.block_core.specs.declared.pieces.Pieces.{Pieces}
@@ -28,7 +28,7 @@ use Rattle.block_laws.proofs.Laid.{put_own, seated}
 use Rattle.block_laws.proofs.Starts.{start_is_step}
 use Rattle.block_cut.specs.Ends.{is_other, ends_view, seen_by}
 use Rattle.block_cut.specs.Turns.{ReachesFrom}
-use Rattle.block_cut.specs.Passes.{whole_with, state_at, IsGoing, IsReady, IsStill}
+use Rattle.block_cut.specs.Passes.{state_at, IsGoing, IsReady, IsStill}
 
 -- ---- room
 
@@ -100,7 +100,7 @@ no_events s t (e ∷ es) none run = absurd (omega (arith, none))
 
 module _ (p : Pieces) (blocks : List BlockView) (before : MailView) (b m : ℕ) (ready : IsReady p) (going : IsGoing p blocks before m) (lb : b < length blocks) (still : IsStill p blocks before b) where
   abbrev w : Whole
-  w = whole_with p blocks
+  w = with_blocks (whole_of p.net p.parts) blocks
 
   -- the state is as it was
   same_after : (after : MailView) (new : BlockView) → ReachesFrom (length blocks) b 0 (block_at w b) new before.messages after.messages → state_at p (slice_set blocks b new) after.messages p.got ≡ state_in p

@@ -5,11 +5,11 @@ use Rattle.parcel.specs.States.{State, label_of}
 use Rattle.parcel.specs.Soundness.{IsSound}
 use Rattle.flow_network.specs.Cut.{nodes}
 use Rattle.block_net.specs.Views.{BlockView, count, label_in}
-use Rattle.block_net.specs.Whole.{Whole, block_at}
+use Rattle.block_net.specs.Whole.{Whole, block_at, whole_of, with_blocks}
 use Rattle.block_core.specs.Views.{IsLaid}
 use Rattle.block_core.specs.declared.pieces.Pieces.{Pieces}
 use Rattle.block_laws.specs.Loose.{IsStanding}
-use Rattle.block_cut.specs.Passes.{whole_with, state_at}
+use Rattle.block_cut.specs.Passes.{state_at}
 
 -- all labels of a block are 0
 abbrev pub IsFlat : BlockView → Type 0
@@ -33,6 +33,6 @@ pub record Opens (old new : BlockView) : Type 0 where
 pub record AreOpening (p : Pieces) (blocks : List BlockView) : Type 0 where
   pub got : ℕ
   pub size : length blocks ≡ length p.parts.blocks.items
-  pub laid : IsLaid (whole_with p blocks)
+  pub laid : IsLaid (with_blocks (whole_of p.net p.parts) blocks)
   pub sound : IsSound (state_at p blocks p.ways.messages got)
-  pub flat : (b : ℕ) → b < length blocks → IsFlat (block_at (whole_with p blocks) b)
+  pub flat : (b : ℕ) → b < length blocks → IsFlat (block_at (with_blocks (whole_of p.net p.parts) blocks) b)

@@ -7,19 +7,15 @@ use Rattle.parcel.specs.Events.{IsQuiet}
 use Rattle.parcel.specs.Workers.{MayStart}
 use Rattle.parcel.specs.Soundness.{IsSound, count}
 use Rattle.block_net.specs.Views.{BlockView}
-use Rattle.block_net.specs.Whole.{Whole}
-use Rattle.block_core.specs.Views.{IsLaid, whole_in, blocks_in, state_of}
+use Rattle.block_net.specs.Whole.{whole_of, with_blocks}
+use Rattle.block_core.specs.Views.{IsLaid, blocks_in, state_of}
 use Rattle.block_core.specs.Mails.{MailView, IsHeld}
 use Rattle.block_core.specs.declared.pieces.Pieces.{Pieces}
 use Rattle.block_core.specs.Pieces.{state_in}
 
--- other blocks of the pieces' net
-abbrev pub whole_with : Pieces → List BlockView → Whole
-whole_with p blocks = whole_in p.net p.parts.firsts.items p.parts.slots.items blocks
-
--- the state that they make with these ways
+-- the state that other blocks of the pieces' net make with these ways
 abbrev pub state_at : Pieces → List BlockView → List (List (List Message)) → ℕ → State
-state_at p blocks messages got = state_of (blocks_in (whole_with p blocks)) messages got
+state_at p blocks messages got = state_of (blocks_in (with_blocks (whole_of p.net p.parts) blocks)) messages got
 
 -- as many blocks and ways with the same rooms make a sound state of the pieces' net, whose count lies at
 -- least n below that of the state in the pieces
@@ -27,7 +23,7 @@ pub record IsGoing (p : Pieces) (blocks : List BlockView) (ways : MailView) (n :
   pub got : ℕ
   pub size : length blocks ≡ length p.parts.blocks.items
   pub rooms : ways.rooms ≡ p.ways.rooms
-  pub laid : IsLaid (whole_with p blocks)
+  pub laid : IsLaid (with_blocks (whole_of p.net p.parts) blocks)
   pub sound : IsSound (state_at p blocks ways.messages got)
   pub lower : count (state_at p blocks ways.messages got) + n ≤ count (state_in p)
 

@@ -2,6 +2,7 @@
 use Rattle.std.proofs.Common.{◌≡◌, ℕ, ◌+◌, ◌-◌, ◌<◌, true, min, None, List, length, set, slice_index, refl, sym, ◌∙◌, ap, inl, inr, arith}
 use Rattle.std.proofs.lemmas.List.{length-set, get_or_past}
 use Rattle.std.proofs.lemmas.Bool.{cases_lt}
+use Rattle.parcel.specs.declared.lane.Lane.{Lane}
 use Rattle.parcel.specs.declared.direction.Direction.{Direction}
 use Rattle.parcel.specs.declared.message.Message.TheVariants.{Parcel}
 use Rattle.parcel.specs.declared.event.Event.TheVariants.{PushInner, PushSink, Relabel, Send}
@@ -103,7 +104,7 @@ push_goes w b h p j got seat on =
     let away = far_spot w1 v b B x j at found.row in
     let then' = pushed_at w1 v b B x j p a at found.row found.spot (back_row w1 v b B x j at found.row) away in
     let lane = inner_read w1 v b B x j at found.row in
-    let residual = ap (λ (q : core.Lane). q.residual) lane in
+    let residual = ap (λ (q : Lane). q.residual) lane in
     let label = label_read w1 v b B (near v.net x) p at found.spot in
     let label' = label_read w1 v b B (far v.net x) (lane_in B j).far at away in
     let some : 0 < core.residual_of s x = omega (arith, on.2.residual, residual) in
@@ -142,9 +143,9 @@ send_goes w b h p j got seat on =
     let new = block.sent B p j a in
     let then' = sent_at w1 v b B x j p a at found.row found.spot in
     let lane = border_read w1 v b B x j at found.row in
-    let residual = ap (λ (q : core.Lane). q.residual) lane in
-    let known = ap (λ (q : core.Lane). q.known) lane in
-    let flight = ap (λ (q : core.Lane). q.flight) lane in
+    let residual = ap (λ (q : Lane). q.residual) lane in
+    let known = ap (λ (q : Lane). q.known) lane in
+    let flight = ap (λ (q : Lane). q.flight) lane in
     let label = label_read w1 v b B (near v.net x) p at found.spot in
     let held = border_row w1 v b B x j at found.row in
     let placed = seat.laid.placed.borders x found.row.direction found.row.outer in

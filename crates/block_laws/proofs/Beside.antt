@@ -5,12 +5,11 @@ use Rattle.flow_network.specs.Cut.{nodes}
 use Rattle.parcel.specs.declared.direction.Direction.{Direction}
 use Rattle.parcel.specs.Directions.{near}
 use Rattle.parcel.specs.States as core
-use Rattle.block_net.specs.declared.rows.Lane.{Lane}
+use Rattle.block_net.specs.declared.rows.InnerLane.{InnerLane}
 use Rattle.block_net.specs.declared.rows.Border.{Border}
 use Rattle.block_net.specs.Views.{BlockView, lane_in, border_in}
-use Rattle.block_net.specs.Whole.{Whole, block_at, block_with, home, place, near_home, slot, is_outer, lane_of, border_of, shown_lane, shown_border, shown_of, put_block}
+use Rattle.block_net.specs.Whole.{Whole, block_at, block_with, home, place, near_home, slot, is_outer, lane_of, border_of, shown_lane, shown_border, shown_of, put_block, with_blocks}
 use Rattle.block_core.proofs.Writing.{home_put, outer_put, block_same}
-use Rattle.block_laws.specs.Rounds.{with_blocks}
 
 module _ (w : Whole) (blocks : List BlockView) (many : length blocks ≡ length w.blocks) where
   -- the blocks of old with block b alone as it came back
@@ -61,4 +60,4 @@ module _ (w : Whole) (blocks : List BlockView) (many : length blocks ≡ length 
       let all = with_blocks w blocks in
       ap (λ o. cond o (shown_border (border_of all x)) (shown_lane (lane_of all x))) (outer_one b x)
       ∙ (ap (λ (q : Border). cond (is_outer (one b) x) (shown_border q) (shown_lane (lane_of all x))) (border_one b x lb here)
-      ∙ ap (λ (q : Lane). cond (is_outer (one b) x) (shown_border (border_of (one b) x)) (shown_lane q)) (lane_one b x lb here))
+      ∙ ap (λ (q : InnerLane). cond (is_outer (one b) x) (shown_border (border_of (one b) x)) (shown_lane q)) (lane_one b x lb here))

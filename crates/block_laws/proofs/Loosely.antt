@@ -1,6 +1,7 @@
 -- Pushes that ask for less than the events do keep a block in a sound state.
 use Rattle.std.proofs.Common.{ℕ, ◌+◌, ◌-◌, ◌<◌, ◌≤◌, List, length, set, refl, sym, ◌∙◌, ap, subst, arith}
 use Rattle.std.proofs.lemmas.List.{length-set}
+use Rattle.parcel.specs.declared.lane.Lane.{Lane}
 use Rattle.parcel.specs.declared.message.Message.{Message}
 use Rattle.parcel.specs.Directions.{near, far}
 use Rattle.parcel.specs.States as core
@@ -28,7 +29,7 @@ loose_push_keeps w b B ways got p j a stands lp of enough fits level =
     let new = block.pushed B p j a in
     let away = far_spot w1 v b B x j at found.row in
     let then' = pushed_at w1 v b B x j p a at found.row found.spot (back_row w1 v b B x j at found.row) away in
-    let residual = ap (λ (q : core.Lane). q.residual) (inner_read w1 v b B x j at found.row) in
+    let residual = ap (λ (q : Lane). q.residual) (inner_read w1 v b B x j at found.row) in
     let excess = excess_read w1 v b B (near v.net x) p at found.spot in
     let label = label_read w1 v b B (near v.net x) p at found.spot in
     let label' = label_read w1 v b B (far v.net x) (lane_in B j).far at away in

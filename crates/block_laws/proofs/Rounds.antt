@@ -12,7 +12,7 @@ use Rattle.parcel.specs.Rounds.{RoundOf}
 use Rattle.parcel.proofs.Gathering.{gathered}
 use Rattle.parcel.proofs.Keeping.{round_kept}
 use Rattle.block_net.specs.Views.{BlockView}
-use Rattle.block_net.specs.Whole.{Whole, table, block_at}
+use Rattle.block_net.specs.Whole.{Whole, table, block_at, with_blocks}
 use Rattle.block_net.proofs.Tables.{table_at}
 use Rattle.block_core.specs.Views.{IsLaid, blocks_in, state_of}
 use Rattle.discharge.specs.Steps.{Held}
@@ -20,7 +20,7 @@ use Rattle.block_laws.specs.Seats.{log_at, logs_of, shown_by}
 use Rattle.block_laws.specs.Turns.{IsLed}
 use Rattle.block_laws.proofs.Histories.{turn_is_history}
 use Rattle.block_laws.proofs.Laid.{seated}
-use Rattle.block_laws.specs.Rounds.{AreBack, IsRound, with_blocks, fresh, quiet_state, lacking, state_after}
+use Rattle.block_laws.specs.Rounds.{AreBack, IsRound, fresh, quiet_state, lacking, state_after}
 use Rattle.block_laws.proofs.Starting.{shows_all, is_quiet}
 use Rattle.block_laws.proofs.Together.{laid_all}
 use Rattle.block_laws.proofs.Joined.{blocks_join}

@@ -1,6 +1,7 @@
 -- An event that takes no message, where the block may do it, is a step that is sure.
 use Rattle.std.proofs.Common.{◌≡◌, ℕ, ◌+◌, ◌<◌, true, false, List, length, refl, ◌∙◌, ap, arith}
 use Rattle.std.proofs.lemmas.List.{length-set}
+use Rattle.parcel.specs.declared.lane.Lane.{Lane}
 use Rattle.parcel.specs.declared.direction.Direction.{Direction}
 use Rattle.parcel.specs.declared.message.Message.{Message}
 use Rattle.parcel.specs.declared.event.Event.{Event}
@@ -55,7 +56,7 @@ start_push w b got h x seat may =
     let spot = node_spot w b B ways got u seat may.0 on.2 in
     let row : IsRow w1 x false b j = record { direction = on.0; outer = on.1; home = may.0; slot = refl; block = spot.block } in
     let stands = at.laid.placed.inner x on.0 on.1 in
-    let residual = ap (λ (q : core.Lane). q.residual) (inner_read w1 v b B x j at row) in
+    let residual = ap (λ (q : Lane). q.residual) (inner_read w1 v b B x j at row) in
     let label = label_read w1 v b B u p at spot in
     let label' = label_read w1 v b B (far v.net x) (lane_in B j).far at (far_spot w1 v b B x j at row) in
     let may_push : steps.MayPush B p j = record {
@@ -114,9 +115,9 @@ start_send w b got h x s seat room may =
     let row : IsRow w1 x true b j = record { direction = on.0; outer = on.1; home = may.0; slot = refl; block = spot.block } in
     let stands = at.laid.placed.borders x on.0 on.1 in
     let lane = border_read w1 v b B x j at row in
-    let residual = ap (λ (q : core.Lane). q.residual) lane in
-    let known = ap (λ (q : core.Lane). q.known) lane in
-    let flight = ap (λ (q : core.Lane). q.flight) lane in
+    let residual = ap (λ (q : Lane). q.residual) lane in
+    let known = ap (λ (q : Lane). q.known) lane in
+    let flight = ap (λ (q : Lane). q.flight) lane in
     let label = label_read w1 v b B u p at spot in
     let may_send : steps.MaySend B p j = record {
       residual = omega (arith, on.3, residual);

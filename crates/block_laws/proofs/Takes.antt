@@ -3,6 +3,7 @@ use Rattle.std.proofs.Common.{◌≡◌, ℕ, ◌+◌, ◌<◌, ◌≤◌, true,
 use Rattle.std.proofs.lemmas.List.{length-set}
 use Rattle.flow_network.specs.Preflow.{arc_at}
 use Rattle.flow_network.specs.Progress.{top}
+use Rattle.parcel.specs.declared.lane.Lane.{Lane}
 use Rattle.parcel.specs.declared.direction.Direction.{Direction}
 use Rattle.parcel.specs.declared.message.Message.{Message}
 use Rattle.parcel.specs.declared.message.Message.TheVariants.{Parcel, Accepted, Refused}
@@ -87,8 +88,8 @@ accept_goes w b h c j got (Parcel x a d) seat may =
     let new = block.accepted B j a d in
     let then' = accepted_at w1 v b B x j a d at is.row spot in
     let lane = border_read w1 v b B (opposite x) j at is.row in
-    let residual = ap (λ (q : core.Lane). q.residual) lane in
-    let flight = out_same (border_in B j).flight ∙ ap (λ (q : core.Lane). amount_out q.flight) lane in
+    let residual = ap (λ (q : Lane). q.residual) lane in
+    let flight = out_same (border_in B j).flight ∙ ap (λ (q : Lane). amount_out q.flight) lane in
     let capacity = border_capacity w1 v b B (opposite x) j at is.row in
     let label = label_read w1 v b B (far v.net x) (border_in B j).near at spot in
     let high = top_read w1 v b B at in
@@ -154,7 +155,7 @@ settle_goes w b h c j got (Accepted x a) seat may =
     let is = met w b c B j x seat may.0 may.1 in
     let new = block.settled B j in
     let then' = settled_at w1 v b B x j at is.row in
-    let flight = ap (λ (q : core.Lane). q.flight) (border_read w1 v b B x j at is.row) in
+    let flight = ap (λ (q : Lane). q.flight) (border_read w1 v b B x j at is.row) in
     let taken = taken_log n b c h.sent h.taken (Accepted x a) seat.block is.other is.apart in
     record {
       event = Settle c b;
@@ -178,7 +179,7 @@ settle_goes w b h c j got (Refused x a d told) seat may =
     let spot = border_spot w1 v b B x j at is.row in
     let new = block.returned B j a told in
     let then' = returned_at w1 v b B x j a told at is.row spot in
-    let flight = ap (λ (q : core.Lane). q.flight) (border_read w1 v b B x j at is.row) in
+    let flight = ap (λ (q : Lane). q.flight) (border_read w1 v b B x j at is.row) in
     let high = top_read w1 v b B at in
     let within : told ≤ top v.net = omega (arith, may.4, high) in
     let taken = taken_log n b c h.sent h.taken (Refused x a d told) seat.block is.other is.apart in

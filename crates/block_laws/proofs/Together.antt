@@ -4,14 +4,13 @@ use Rattle.std.proofs.lemmas.List.{length-set}
 use Rattle.parcel.specs.declared.direction.Direction.{Direction}
 use Rattle.parcel.specs.Directions.{IsDirection, near, far}
 use Rattle.parcel.proofs.Ends.{near_in}
-use Rattle.block_net.specs.declared.rows.Lane.{Lane}
+use Rattle.block_net.specs.declared.rows.InnerLane.{InnerLane}
 use Rattle.block_net.specs.declared.rows.Border.{Border}
 use Rattle.block_net.specs.Views.{BlockView, count}
-use Rattle.block_net.specs.Whole.{Whole, block_at, home, is_outer, IsInnerAt, IsBorderAt, StandsAt, IsPlaced}
+use Rattle.block_net.specs.Whole.{Whole, block_at, home, is_outer, IsInnerAt, IsBorderAt, StandsAt, IsPlaced, with_blocks}
 use Rattle.block_core.specs.Views.{IsLaid}
 use Rattle.block_core.proofs.Writing.{block_same}
 use Rattle.block_laws.proofs.Laid.{filled_together}
-use Rattle.block_laws.specs.Rounds.{with_blocks}
 use Rattle.block_laws.proofs.Beside.{one, home_all, outer_all, home_one, outer_one, place_one, with_one, read_one, lane_one, border_one}
 
 module _ (w : Whole) (blocks : List BlockView) (many : length blocks ≡ length w.blocks) (laid : IsLaid w) (each : (b : ℕ) → b < length w.blocks → IsLaid (one w blocks many b)) where
@@ -26,8 +25,8 @@ module _ (w : Whole) (blocks : List BlockView) (many : length blocks ≡ length 
         from = omega (arith, at.from, read_one w blocks many (λ (q : BlockView). q.starts) (λ q. q) b v lb refl);
         below = omega (arith, at.below, read_one w blocks many (λ (q : BlockView). q.starts) (λ q. q + 1) b v lb refl);
         within = omega (arith, at.within, ap (λ (q : BlockView). length q.lanes) (with_one w blocks many b v lb refl));
-        far = ap (λ (q : Lane). q.far) lane ∙ (at.far ∙ sym (place_one w blocks many b (far w.net x)));
-        opposite = ap (λ (q : Lane). q.opposite) lane ∙ at.opposite;
+        far = ap (λ (q : InnerLane). q.far) lane ∙ (at.far ∙ sym (place_one w blocks many b (far w.net x)));
+        opposite = ap (λ (q : InnerLane). q.opposite) lane ∙ at.opposite;
       }
 
   border_all : (x : Direction) → IsDirection w.net x → is_outer (with_blocks w blocks) x ≡ true → IsBorderAt (with_blocks w blocks) x

@@ -8,17 +8,13 @@ use Rattle.parcel.specs.Workers.{MayStart}
 use Rattle.parcel.specs.Rounds.{RoundOf}
 use Rattle.parcel.specs.RoundLaws.{no_messages}
 use Rattle.block_net.specs.Views.{BlockView}
-use Rattle.block_net.specs.Whole.{Whole, block_at}
+use Rattle.block_net.specs.Whole.{Whole, block_at, with_blocks}
 use Rattle.block_core.specs.Views.{IsLaid, blocks_in, state_of}
 use Rattle.discharge.specs.Steps.{Held, DoesMany}
 
 -- of each block and each block, the messages on the way from the one to the other
 abbrev pub Ways : Type 0
 Ways = List (List (List Message))
-
--- the same net in other blocks
-abbrev pub with_blocks : Whole → List BlockView → Whole
-with_blocks w blocks = record w { blocks = blocks }
 
 -- ---- before a round
 

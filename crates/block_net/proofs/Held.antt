@@ -11,7 +11,7 @@ use Rattle.parcel.specs.declared.direction.Direction.{Direction}
 use Rattle.parcel.specs.Directions.{IsDirection, forward, backward, near, far}
 use Rattle.parcel.specs.States.{block_of, is_border}
 use Rattle.parcel.proofs.Ends.{near_in, far_in}
-use Rattle.block_net.specs.declared.rows.Lane.{Lane}
+use Rattle.block_net.specs.declared.rows.InnerLane.{InnerLane}
 use Rattle.block_net.specs.declared.rows.Border.{Border}
 use Rattle.block_net.specs.Views.{BlockView, IsBlock, no_row, no_border}
 use Rattle.block_net.specs.Whole.{table, index_of}
@@ -124,7 +124,7 @@ at_other : (lists : List BlockRows) (b c : ℕ) (L : BlockRows) → c ≢ b → 
 at_other lists b c L ne = get_or-set_other lists b c L no_rows ne
 
 -- one more direction within its block stands at its slot
-pub held_lane : (net : Network) (blocks : ℕ) (rows : ByNode) (D : Direction → Type 0) (lists : List BlockRows) (x : Direction) (b s : ℕ) (row : Lane) (L : BlockRows)
+pub held_lane : (net : Network) (blocks : ℕ) (rows : ByNode) (D : Direction → Type 0) (lists : List BlockRows) (x : Direction) (b s : ℕ) (row : InnerLane) (L : BlockRows)
     → IsReady net blocks rows → AreHeld net blocks rows D lists → IsDirection net x → is_border net blocks x ≡ false
     → b ≡ block_of net blocks (near net x) → b < blocks → s ≡ slice_index rows.slots (index_of net x)
     → row ≡ lane_made net rows.slots (first_of (nodes net) blocks (block_of net blocks (near net x))) x
@@ -156,7 +156,7 @@ held_lane net blocks rows D lists x b s row L ready held dx ox eb lb es er el eo
             elim (cases_eq (slot y) s) [
               | inl here ↦
                   let one : y ≡ x = one_slot net blocks rows false y x ready dy dx oy ox (e ∙ eb) (here ∙ es) in
-                  ap (λ (xs : List Lane). get_or xs (slot y) no_row) at
+                  ap (λ (xs : List InnerLane). get_or xs (slot y) no_row) at
                   ∙ (get_or-set_at (rows_at lists b).lanes s (slot y) row no_row here ls
                   ∙ (er ∙ ap (λ (y : Direction). lane_made net rows.slots (first_of (nodes net) blocks (home y)) y) (sym one)))
               | inr off ↦
@@ -164,7 +164,7 @@ held_lane net blocks rows D lists x b s row L ready held dx ox eb lb es er el eo
                     | inl was ↦ was
                     | inr one ↦ absurd (off (ap slot one ∙ sym es))
                   ] in
-                  ap (λ (xs : List Lane). get_or xs (slot y) no_row) at
+                  ap (λ (xs : List InnerLane). get_or xs (slot y) no_row) at
                   ∙ (get_or-set_other (rows_at lists b).lanes s (slot y) row no_row off
                   ∙ (ap (λ k. get_or (rows_at lists k).lanes (slot y) no_row) (sym e) ∙ held.lanes y dy old oy))
             ]
@@ -240,7 +240,7 @@ held_border net blocks rows D lists x b s row L ready held dx ox eb lb es er el 
             | inl was ↦ was
             | inr one ↦ absurd (false≢true (sym oy ∙ (ap (is_border net blocks) one ∙ ox)))
           ] in
-          ap (λ (xs : List Lane). get_or xs (slot y) no_row) (kept (home y)) ∙ held.lanes y dy old oy;
+          ap (λ (xs : List InnerLane). get_or xs (slot y) no_row) (kept (home y)) ∙ held.lanes y dy old oy;
     }
 
 pub held_none : (net : Network) (blocks : ℕ) (rows : ByNode) (lists : List BlockRows) → lists ≡ table blocks (blank_rows net blocks rows)
@@ -294,7 +294,7 @@ stands_there net blocks o rows b j ready lb lj =
     )
 
 same_rows : (L M : BlockRows) → L.lanes ≡ M.lanes → L.borders ≡ M.borders → L ≡ M
-same_rows L M e f = ap (λ (xs : List Lane). record { lanes = xs; borders = L.borders }) e ∙ ap (λ (xs : List Border). record { lanes = M.lanes; borders = xs }) f
+same_rows L M e f = ap (λ (xs : List InnerLane). record { lanes = xs; borders = L.borders }) e ∙ ap (λ (xs : List Border). record { lanes = M.lanes; borders = xs }) f
 
 lanes_done : (net : Network) (blocks k : ℕ) (rows : ByNode) (lists : List BlockRows) (b : ℕ) → IsReady net blocks rows → k ≡ length net.arcs
     → AreHeld net blocks rows (λ y. y.arc < k) lists → b < blocks → (rows_at lists b).lanes ≡ (block_rows net blocks rows b).lanes
@@ -420,11 +420,11 @@ blank_is net blocks b first next starts outer e eo ef en =
     (ap (λ k. replicate k no_row) (less_both _ _ _ _ (inner_base net blocks (b + 1) next starts e en) (inner_base net blocks b first starts e ef)))
     (ap (λ k. replicate k no_border) (less_both _ _ _ _ (outer_start net blocks (b + 1) next starts outer e eo en) (outer_start net blocks b first starts outer e eo ef)))
 
-abbrev view : ℕ → List ℕ → List ℕ → List ℕ → List ℕ → List Lane → List ℕ → List Border → BlockView
+abbrev view : ℕ → List ℕ → List ℕ → List ℕ → List ℕ → List InnerLane → List ℕ → List Border → BlockView
 view t e l r s lanes bs borders =
     record { top = t; excess = e; labels = l; rooms = r; starts = s; lanes = lanes; border_starts = bs; borders = borders }
 
-same_view : (t t' : ℕ) (e e' l l' r r' s s' : List ℕ) (f f' : List Lane) (u u' : List ℕ) (g g' : List Border)
+same_view : (t t' : ℕ) (e e' l l' r r' s s' : List ℕ) (f f' : List InnerLane) (u u' : List ℕ) (g g' : List Border)
     → t ≡ t' → e ≡ e' → l ≡ l' → r ≡ r' → s ≡ s' → f ≡ f' → u ≡ u' → g ≡ g' → view t e l r s f u g ≡ view t' e' l' r' s' f' u' g'
 same_view t t' e e' l l' r r' s s' f f' u u' g g' e1 e2 e3 e4 e5 e6 e7 e8 = rw (e1, e2, e3, e4, e5, e6, e7, e8) refl
 
@@ -434,7 +434,7 @@ range_by xs i j k l e f = rw (e, f) refl
 starts_by : (xs ys : List ℕ) (i j k l : ℕ) → xs ≡ ys → i ≡ k → j ≡ l → starts_from xs i j ≡ starts_from ys k l
 starts_by xs ys i j k l e f g = rw (e, f, g) refl
 
-pub opened_block : (net : Network) (blocks b first next t : ℕ) (s outer e l r starts : List ℕ) (lanes : List Lane) (border_starts : List ℕ) (borders : List Border) (leaving : BlockRows)
+pub opened_block : (net : Network) (blocks b first next t : ℕ) (s outer e l r starts : List ℕ) (lanes : List InnerLane) (border_starts : List ℕ) (borders : List Border) (leaving : BlockRows)
     → first ≡ first_of (nodes net) blocks b → next ≡ first_of (nodes net) blocks (b + 1) → s ≡ starts_made net blocks → outer ≡ drop (nodes net) s
     → leaving ≡ block_rows net blocks (rows_made net blocks) b → t ≡ top net
     → e ≡ slice_range net.sources first next → l ≡ replicate (next - first) 0 → r ≡ slice_range net.sinks first next

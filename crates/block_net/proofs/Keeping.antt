@@ -4,7 +4,7 @@ use Rattle.std.proofs.lemmas.List.{length-set}
 use Rattle.std.proofs.lemmas.List.Sums.{sum_by-set}
 use Rattle.std.proofs.lemmas.List.Elements.{All-set, All-get_or}
 use Rattle.std.specs.Option.{is_some}
-use Rattle.block_net.specs.declared.rows.Lane.{Lane}
+use Rattle.block_net.specs.declared.rows.InnerLane.{InnerLane}
 use Rattle.block_net.specs.declared.rows.Border.{Border}
 use Rattle.block_net.specs.Views.{BlockView, IsBlock, IsLane, IsBorder, count, excess_in, lane_in, border_in, no_row, no_border, out_of, spare, pushed, accepted}
 
@@ -30,17 +30,17 @@ push_keeps b v j a k lv lj le lr =
     let is = All-get_or (IsLane (length b.excess) (length b.lanes)) b.lanes j no_row lj k.lanes in
     let less = set b.excess v (excess_in b v - a) in
     let e1 : length (set less w (slice_index less w + a)) ≡ length b.excess = length-set less w (slice_index less w + a) ∙ length-set b.excess v (excess_in b v - a) in
-    let row : Lane = record lane { residual = lane.residual - a } in
+    let row : InnerLane = record lane { residual = lane.residual - a } in
     let taken = set b.lanes j row in
-    let old : Lane = get_or taken o no_row in
-    let row' : Lane = record old { residual = old.residual + a } in
+    let old : InnerLane = get_or taken o no_row in
+    let row' : InnerLane = record old { residual = old.residual + a } in
     let e2' : length taken ≡ length b.lanes = length-set b.lanes j row in
     let e2 : length (set taken o row') ≡ length b.lanes = length-set taken o row' ∙ e2' in
     let all1 = All-set (IsLane (length b.excess) (length b.lanes)) b.lanes j row (record { far = is.far; opposite = is.opposite }) k.lanes in
     let is' = All-get_or (IsLane (length b.excess) (length b.lanes)) taken o no_row (omega (arith, is.opposite, e2')) all1 in
     let all2 = All-set (IsLane (length b.excess) (length b.lanes)) taken o row' (record { far = is'.far; opposite = is'.opposite }) all1 in
-    let s1 = sum_by-set (λ (x : Lane). x.residual) b.lanes j row no_row lj in
-    let s2 = sum_by-set (λ (x : Lane). x.residual) taken o row' no_row (omega (arith, is.opposite, e2')) in
+    let s1 = sum_by-set (λ (x : InnerLane). x.residual) b.lanes j row no_row lj in
+    let s2 = sum_by-set (λ (x : InnerLane). x.residual) taken o row' no_row (omega (arith, is.opposite, e2')) in
     record {
       top = k.top;
       above = k.above;

@@ -15,7 +15,7 @@ use Rattle.parcel.specs.States.{block_of, is_border}
 use Rattle.parcel.specs.Soundness.{first_residual}
 use Rattle.parcel.proofs.Ends.{far_in}
 use Rattle.parcel.proofs.Lanes.{near_opposite, border_opposite}
-use Rattle.block_net.specs.declared.rows.Lane.{Lane}
+use Rattle.block_net.specs.declared.rows.InnerLane.{InnerLane}
 use Rattle.block_net.specs.Views.{IsBlock, IsLane, IsBorder, spare}
 use Rattle.block_net.specs.Split.{ByNode, Rows, inner_rows, outer_rows, CanSplit, directions, direction_in, AreRows, AreGrouped, first_of, span, lane_made, border_made, lanes_made, borders_made, block_from, base_of}
 use Rattle.block_net.proofs.Tables.{length_table, table_at}
@@ -154,7 +154,7 @@ block_from_is net blocks rows b first next h split is ef en lf ln =
       known = omega arith;
       small = omega (arith, capacity_small net x.arc h (is_direction net i stands.small));
     }) in
-    let residual_sum = sum_by_map (λ (x : Lane). x.residual) (λ i. lane_made net slots first (direction_in net i)) (span (inner_rows rows) first next) in
+    let residual_sum = sum_by_map (λ (x : InnerLane). x.residual) (λ i. lane_made net slots first (direction_in net i)) (span (inner_rows rows) first next) in
     let residual_most = span_sum net blocks false (inner_rows rows) first next (λ i. first_residual net (direction_in net i)) is.inner ln lf in
     let spare_sum = sum_by_map spare (λ i. border_made net blocks slots first (direction_in net i)) (span (outer_rows (nodes net) rows) first next) in
     let spare_most = span_sum net blocks true (outer_rows (nodes net) rows) first next (λ i. (arc_at net (direction_in net i).arc).capacity - first_residual net (direction_in net i)) is.outer ln lf in

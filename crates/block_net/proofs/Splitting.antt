@@ -3,6 +3,7 @@ use Rattle.std.proofs.Common.{◌≡◌, ℕ, ◌+◌, ◌-◌, ◌*◌, ◌/◌
 use Rattle.std.proofs.lemmas.List.{length-map, length-replicate, get_or-map, get_or-replicate}
 use Rattle.std.proofs.lemmas.List.FromFn.{fill_by_all}
 use Rattle.flow_network.specs.Cut.{Network, nodes, IsNet}
+use Rattle.parcel.specs.declared.lane.Lane.{Lane}
 use Rattle.parcel.specs.declared.direction.Direction.{Direction}
 use Rattle.parcel.specs.declared.message.Message.{Message}
 use Rattle.parcel.specs.Directions.{IsDirection, forward, backward, near, far}
@@ -10,7 +11,7 @@ use Rattle.parcel.specs.States as core
 use Rattle.parcel.specs.Soundness.{first_residual, opened}
 use Rattle.parcel.proofs.Ends.{near_in, far_in}
 use Rattle.parcel.proofs.Opening.{opened_is}
-use Rattle.block_net.specs.declared.rows.Lane.{Lane}
+use Rattle.block_net.specs.declared.rows.InnerLane.{InnerLane}
 use Rattle.block_net.specs.declared.rows.Border.{Border}
 use Rattle.block_net.specs.Views.{BlockView, count, excess_in, label_in, room_in, lane_in, border_in, no_row, no_border, first_lane, first_border}
 use Rattle.block_net.specs.Whole.{Whole, table, index_of, block_at, block_with, home, place, near_home, is_outer, lane_of, border_of, shown_lane, shown_border, shown_of, shown, no_block, IsInnerAt, IsBorderAt, StandsAt, IsPlaced, LiesAt, IsFilled}
@@ -195,8 +196,8 @@ inner_at net blocks rows x ready d e =
       from = omega (arith, row.from, ap (λ (q : BlockView). first_lane q (place w v)) at.block_is, ap (first_lane B) at.place_is);
       below = omega (arith, row.below, ap (λ (q : BlockView). first_lane q (place w v + 1)) at.block_is, ap (λ k. first_lane B (k + 1)) at.place_is);
       within = omega (arith, row.within, ap (λ (q : BlockView). length q.lanes) at.block_is, length_lanes net rows.slots first (span (inner_rows rows) first (first_of (nodes net) blocks (b + 1))));
-      far = ap (λ (q : Lane). q.far) lane ∙ sym (away.place_is ∙ ap (λ k. far net x - first_of (nodes net) blocks k) same);
-      opposite = ap (λ (q : Lane). q.opposite) lane;
+      far = ap (λ (q : InnerLane). q.far) lane ∙ sym (away.place_is ∙ ap (λ k. far net x - first_of (nodes net) blocks k) same);
+      opposite = ap (λ (q : InnerLane). q.opposite) lane;
     }
 
 border_at : (net : Network) (blocks : ℕ) (rows : ByNode) (x : Direction) → IsReady net blocks rows → IsDirection net x → core.is_border net blocks x ≡ true
@@ -390,10 +391,10 @@ filled net blocks rows ready =
 table_of : (n : ℕ) (f : ℕ → ℕ) (xs : List ℕ) → length xs ≡ n → ((v : ℕ) → v < n → get_or xs v 0 ≡ f v) → table n f ≡ xs
 table_of n f xs len each = sym (fill_by_all f xs n 0 len each)
 
-table_of_lanes : (n : ℕ) (f : ℕ → core.Lane) (xs : List core.Lane) → length xs ≡ n → ((v : ℕ) → v < n → get_or xs v core.no_lane ≡ f v) → table n f ≡ xs
+table_of_lanes : (n : ℕ) (f : ℕ → Lane) (xs : List Lane) → length xs ≡ n → ((v : ℕ) → v < n → get_or xs v core.no_lane ≡ f v) → table n f ≡ xs
 table_of_lanes n f xs len each = sym (fill_by_all f xs n core.no_lane len each)
 
-shown_by : (b : Bool) (border : Border) (lane : Lane) (c : ℕ) → (b ≡ true → shown_border border ≡ record { residual = c; known = 0; flight = None })
+shown_by : (b : Bool) (border : Border) (lane : InnerLane) (c : ℕ) → (b ≡ true → shown_border border ≡ record { residual = c; known = 0; flight = None })
     → (b ≡ false → shown_lane lane ≡ record { residual = c; known = 0; flight = None }) → cond b (shown_border border) (shown_lane lane) ≡ record { residual = c; known = 0; flight = None }
 shown_by true border lane c at_true at_false = at_true refl
 shown_by false border lane c at_true at_false = at_false refl
@@ -406,11 +407,11 @@ shown_is net blocks rows x ready d =
     (λ e. ap shown_border (border_is net blocks rows x ready d (sym (outer_is net blocks rows x) ∙ e)))
     (λ e. ap shown_lane (lane_is net blocks rows x ready d (sym (outer_is net blocks rows x) ∙ e)))
 
-abbrev build : Network → ℕ → List ℕ → List ℕ → List ℕ → List core.Lane → List core.Lane → List (List (List Message)) → core.State
+abbrev build : Network → ℕ → List ℕ → List ℕ → List ℕ → List Lane → List Lane → List (List (List Message)) → core.State
 build net blocks excess labels rooms forth back ways =
     record { net = net; blocks = blocks; excess = excess; labels = labels; rooms = rooms; lanes = record { forth = forth; back = back }; ways = ways; got = 0 }
 
-same_build : (net : Network) (k k' : ℕ) (e e' l l' r r' : List ℕ) (f f' g g' : List core.Lane) (ways : List (List (List Message)))
+same_build : (net : Network) (k k' : ℕ) (e e' l l' r r' : List ℕ) (f f' g g' : List Lane) (ways : List (List (List Message)))
     → k ≡ k' → e ≡ e' → l ≡ l' → r ≡ r' → f ≡ f' → g ≡ g' → build net k e l r f g ways ≡ build net k' e' l' r' f' g' ways
 same_build net k k' e e' l l' r r' f f' g g' ways e1 e2 e3 e4 e5 e6 = rw (e1, e2, e3, e4, e5, e6) refl
 

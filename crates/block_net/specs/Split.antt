@@ -9,11 +9,11 @@ use Rattle.parcel.specs.declared.direction.Direction.{Direction}
 use Rattle.parcel.specs.Directions.{IsDirection, near, far, opposite}
 use Rattle.parcel.specs.States.{block_of, is_border}
 use Rattle.parcel.specs.Soundness.{first_residual, opened}
-use Rattle.block_net.specs.declared.rows.Lane.{Lane}
+use Rattle.block_net.specs.declared.rows.InnerLane.{InnerLane}
 use Rattle.block_net.specs.declared.rows.Border.{Border}
 use Rattle.block_net.specs.Limits.{arc_limit, block_limit}
 use Rattle.block_net.specs.Views.{BlockView, no_row, no_border}
-use Rattle.block_net.specs.Whole.{Whole, whole_of, table, index_of, shown, IsPlaced, IsFilled}
+use Rattle.block_net.specs.Whole.{Whole, table, index_of, shown, IsPlaced, IsFilled}
 
 -- the net can be split into so many blocks
 pub record CanSplit (net : Network) (blocks : ℕ) : Type 0 where
@@ -152,7 +152,7 @@ starts_from starts first next =
     table (next - first + 1) (λ i. slice_index starts (first + i) - slice_index starts first)
 
 -- a direction within a block, by the block's first node and the slot of the opposite direction
-abbrev pub lane_by : Network → ℕ → ℕ → Direction → Lane
+abbrev pub lane_by : Network → ℕ → ℕ → Direction → InnerLane
 lane_by net first opposite x = record {
   residual = first_residual net x;
   far = far net x - first;
@@ -172,14 +172,14 @@ border_by net first to opposite x = record {
   flight = None;
 }
 
-abbrev pub lane_made : Network → List ℕ → ℕ → Direction → Lane
+abbrev pub lane_made : Network → List ℕ → ℕ → Direction → InnerLane
 lane_made net slots first x = lane_by net first (slice_index slots (index_of net (opposite x))) x
 
 abbrev pub border_made : Network → ℕ → List ℕ → ℕ → Direction → Border
 border_made net blocks slots first x =
     border_by net first (block_of net blocks (far net x)) (slice_index slots (index_of net (opposite x))) x
 
-abbrev pub lanes_made : Network → List ℕ → ℕ → List ℕ → List Lane
+abbrev pub lanes_made : Network → List ℕ → ℕ → List ℕ → List InnerLane
 lanes_made net slots first indices = map (λ i. lane_made net slots first (direction_in net i)) indices
 
 abbrev pub borders_made : Network → ℕ → List ℕ → ℕ → List ℕ → List Border
@@ -193,7 +193,7 @@ span rows first next =
 
 -- the directions that leave the nodes of a block: those within the block, and those to other blocks
 pub record BlockRows : Type 0 where
-  pub lanes : List Lane
+  pub lanes : List InnerLane
   pub borders : List Border
 
 abbrev pub no_rows : BlockRows
@@ -275,7 +275,14 @@ pub record AreWritten (net : Network) (after before : List ℕ) (many : ℕ) (ta
 -- the parts with no message on the way
 abbrev pub whole_at_opening : Network → ℕ → List ℕ → List ℕ → List BlockView → Whole
 whole_at_opening net blocks firsts slots parts =
-    whole_of net firsts slots parts (replicate blocks (replicate blocks [])) 0
+    record {
+      net = net;
+      firsts = firsts;
+      slots = slots;
+      blocks = parts;
+      ways = replicate blocks (replicate blocks []);
+      got = 0;
+    }
 
 -- the parts are a net in so many blocks, as it is at the opening
 pub record IsSplit (net : Network) (blocks : ℕ) (firsts slots : List ℕ)

@@ -4,7 +4,7 @@ use Rattle.std.specs.Option.{is_some}
 use Rattle.flow_network.specs.Limits.{node_limit}
 use Rattle.flow_network.specs.Progress.{top_label}
 use Rattle.parcel.specs.declared.flight.Flight.{Flight}
-use Rattle.block_net.specs.declared.rows.Lane.{Lane}
+use Rattle.block_net.specs.declared.rows.InnerLane.{InnerLane}
 use Rattle.block_net.specs.declared.rows.Border.{Border}
 
 -- of each node the excess, the label and what it can still give the sink; the directions of node v within
@@ -15,11 +15,11 @@ pub record BlockView : Type 0 where
   pub labels : List ℕ
   pub rooms : List ℕ
   pub starts : List ℕ
-  pub lanes : List Lane
+  pub lanes : List InnerLane
   pub border_starts : List ℕ
   pub borders : List Border
 
-abbrev pub no_row : Lane
+abbrev pub no_row : InnerLane
 no_row = record { residual = 0; far = 0; opposite = 0 }
 
 abbrev pub no_border : Border
@@ -47,7 +47,7 @@ label_in b v = slice_index b.labels v
 abbrev pub room_in : BlockView → ℕ → ℕ
 room_in b v = slice_index b.rooms v
 
-abbrev pub lane_in : BlockView → ℕ → Lane
+abbrev pub lane_in : BlockView → ℕ → InnerLane
 lane_in b j = slice_index_or b.lanes j no_row
 
 abbrev pub border_in : BlockView → ℕ → Border
@@ -68,7 +68,7 @@ out_of None = 0
 abbrev pub spare : Border → ℕ
 spare x = x.capacity - x.residual
 
-pub record IsLane (nodes lanes : ℕ) (x : Lane) : Type 0 where
+pub record IsLane (nodes lanes : ℕ) (x : InnerLane) : Type 0 where
   pub far : x.far < nodes
   pub opposite : x.opposite < lanes
 

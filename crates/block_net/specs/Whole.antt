@@ -4,11 +4,13 @@ use Rattle.std.specs.List.{range_with_len}
 use Rattle.flow_network.specs.Cut.{Network, nodes}
 use Rattle.flow_network.specs.Preflow.{arc_at}
 use Rattle.flow_network.specs.Progress.{top}
+use Rattle.parcel.specs.declared.lane.Lane.{Lane}
 use Rattle.parcel.specs.declared.direction.Direction.{Direction}
 use Rattle.parcel.specs.declared.message.Message.{Message}
 use Rattle.parcel.specs.Directions.{IsDirection, forward, backward, near, far, opposite}
 use Rattle.parcel.specs.States as core
-use Rattle.block_net.specs.declared.rows.Lane.{Lane}
+use Rattle.block_net.specs.declared.parts.Parts.{Parts}
+use Rattle.block_net.specs.declared.rows.InnerLane.{InnerLane}
 use Rattle.block_net.specs.declared.rows.Border.{Border}
 use Rattle.block_net.specs.Views.{BlockView, count, excess_in, label_in, room_in, lane_in, border_in, first_lane, first_border}
 
@@ -22,9 +24,21 @@ pub record Whole : Type 0 where
   pub ways : List (List (List Message))
   pub got : ℕ
 
-abbrev pub whole_of : Network → List ℕ → List ℕ → List BlockView → List (List (List Message)) → ℕ → Whole
-whole_of net firsts slots blocks ways got =
-    record { net = net; firsts = firsts; slots = slots; blocks = blocks; ways = ways; got = got }
+-- the blocks of a net, with no message on the way
+abbrev pub whole_of : Network → Parts → Whole
+whole_of net parts =
+    record {
+      net = net;
+      firsts = parts.firsts.items;
+      slots = parts.slots.items;
+      blocks = parts.blocks.items;
+      ways = [];
+      got = 0;
+    }
+
+-- the same net in other blocks
+abbrev pub with_blocks : Whole → List BlockView → Whole
+with_blocks w blocks = record w { blocks = blocks }
 
 -- f 0, f 1, .., f (n - 1)
 abbrev pub table : {A : Type 0} → ℕ → (ℕ → A) → List A
@@ -74,20 +88,20 @@ slot w x = slice_index w.slots (index_of w.net x)
 abbrev pub is_outer : Whole → Direction → Bool
 is_outer w x = core.is_border w.net (length w.blocks) x
 
-abbrev pub lane_of : Whole → Direction → Lane
+abbrev pub lane_of : Whole → Direction → InnerLane
 lane_of w x = lane_in (block_at w (near_home w x)) (slot w x)
 
 abbrev pub border_of : Whole → Direction → Border
 border_of w x = border_in (block_at w (near_home w x)) (slot w x)
 
-abbrev pub shown_lane : Lane → core.Lane
+abbrev pub shown_lane : InnerLane → Lane
 shown_lane lane = record { residual = lane.residual; known = 0; flight = None }
 
-abbrev pub shown_border : Border → core.Lane
+abbrev pub shown_border : Border → Lane
 shown_border border = record { residual = border.residual; known = border.known; flight = border.flight }
 
 -- what the block of its near end holds of a direction; within a block no label is known and no parcel is out
-abbrev pub shown_of : Whole → Direction → core.Lane
+abbrev pub shown_of : Whole → Direction → Lane
 shown_of w x = cond (is_outer w x) (shown_border (border_of w x)) (shown_lane (lane_of w x))
 
 -- the state that the blocks show

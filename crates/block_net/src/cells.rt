@@ -10,7 +10,7 @@ use crate::ends::bounds;
 use crate::leaving::Leaving;
 use crate::make::starts_from;
 use crate::opening::nodes_from;
-use crate::{Border, Lane};
+use crate::{Border, InnerLane};
 use flow_network::Net;
 use label_buckets::Buckets;
 use parcel::Flight;
@@ -25,7 +25,7 @@ pub struct Cells {
     labels: Vec<u32>,
     rooms: Vec<u64>,
     starts: Vec<u32>,
-    lanes: Vec<Lane>,
+    lanes: Vec<InnerLane>,
     border_starts: Vec<u32>,
     borders: Vec<CompactBorder>,
     /// Room for the rows of its nodes, while no one works with them.
@@ -177,7 +177,7 @@ impl Cells {
     }
 
     /// The direction within the block at a place.
-    pub fn lane(&self, j: usize) -> Lane
+    pub fn lane(&self, j: usize) -> InnerLane
         requires { j < length self.now.lanes }
         ensures value { result ≡ lane_in self.now j }
         ensures far { result.far < count self.now }

@@ -12,7 +12,7 @@ use crate::ends::{far, near};
 use crate::homes::homes_of;
 use crate::leaving::Leaving;
 use crate::make::blanks;
-use crate::{Border, Lane};
+use crate::{Border, InnerLane};
 use flow_network::Net;
 use grouping::Ranked;
 use parcel::Direction;
@@ -74,7 +74,7 @@ fn put_lane(
 {
     list.set_lane(
         slot as usize,
-        Lane {
+        InnerLane {
             residual: first_residual(net, direction),
             far: (far(net, direction) as usize - first) as u32,
             opposite,

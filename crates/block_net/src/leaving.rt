@@ -3,7 +3,7 @@ ghost use Rattle.block_net.specs.Limits.{block_limit};
 ghost use Rattle.block_net.specs.Views.{no_row, no_border};
 
 use crate::compact::CompactBorder;
-use crate::{Border, Lane};
+use crate::{Border, InnerLane};
 use parcel::Direction;
 use std::alloc::{AllocError, Global};
 use std::marker::Model;
@@ -11,7 +11,7 @@ use std::marker::Model;
 /// The directions that leave the nodes of a block: those within the block, and those to other blocks.
 #[derive(Drop)]
 pub(crate) struct Leaving {
-    lanes: Vec<Lane>,
+    lanes: Vec<InnerLane>,
     borders: Vec<CompactBorder>,
 }
 
@@ -52,7 +52,7 @@ impl Leaving {
         ensures { IfOk result (λ made. made
             ≡ record { lanes = replicate lanes no_row; borders = replicate borders no_border }) }
     {
-        let lane = Lane {
+        let lane = InnerLane {
             residual: 0,
             far: 0,
             opposite: 0,
@@ -64,7 +64,7 @@ impl Leaving {
     }
 
     /// The direction within the block at a slot.
-    pub fn set_lane(&mut self, slot: usize, lane: Lane)
+    pub fn set_lane(&mut self, slot: usize, lane: InnerLane)
         requires { slot < length self.old.lanes }
         ensures { self.new ≡ record self.old { lanes = slice_set self.old.lanes slot lane } }
     {
@@ -82,7 +82,7 @@ impl Leaving {
     }
 
     /// Those within the block, and those to other blocks.
-    pub fn into_parts(self) -> (Vec<Lane>, Vec<CompactBorder>)
+    pub fn into_parts(self) -> (Vec<InnerLane>, Vec<CompactBorder>)
         ensures lanes { result.0.items ≡ self.lanes }
         ensures borders { result.1.items ≡ self.borders }
     {

@@ -25,4 +25,4 @@ pub use cells::Cells;
 pub use homes::homes_of;
 pub use limits::{ARC_LIMIT, BLOCK_LIMIT};
 pub use parts::Parts;
-pub use rows::{Border, Lane};
+pub use rows::{Border, InnerLane};

@@ -9,7 +9,7 @@ use Rattle.block_tests.specs.Runs.{two_source_net}
 use Rattle.block_net.specs.declared.rows.Border.{Border}
 use Rattle.block_net.specs.Views.{BlockView}
 use Rattle.block_net.specs.Whole.{Whole}
-use Rattle.block_core.specs.Views.{IsLaid, whole_in}
+use Rattle.block_core.specs.Views.{IsLaid}
 use Rattle.block_laws.specs.Rounds.{Ways, AreBack, quiet_state}
 
 -- a block of one node with one direction to the other block
@@ -51,12 +51,19 @@ border_back = record {
 
 abbrev pub whole_before : Whole
 whole_before =
-    whole_in two_source_net (0 ∷ 1 ∷ []) (0 ∷ 0 ∷ [])
-    (part 4 0 0 (border_there 4 None) ∷ part 1 0 3 border_back ∷ [])
+    record {
+      net = two_source_net;
+      firsts = 0 ∷ 1 ∷ [];
+      slots = 0 ∷ 0 ∷ [];
+      blocks = part 4 0 0 (border_there 4 None) ∷ part 1 0 3 border_back ∷ [];
+      ways = [];
+      got = 0;
+    }
 
 -- the first node is relabelled and sends all it has, the other is relabelled
 abbrev pub blocks_after : List BlockView
-blocks_after = part 0 1 0 (border_there 0 (Some (record { amount = 4; label = 1 }))) ∷ part 1 1 3 border_back ∷ []
+blocks_after =
+    part 0 1 0 (border_there 0 (Some (record { amount = 4; label = 1 }))) ∷ part 1 1 3 border_back ∷ []
 
 abbrev pub left_on_the_way : Ways
 left_on_the_way = ([] ∷ (Parcel (forward 0) 4 1 ∷ []) ∷ []) ∷ ([] ∷ [] ∷ []) ∷ []

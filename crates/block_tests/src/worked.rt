@@ -1,6 +1,6 @@
-//! What the definitions of events, of rounds and of seats compute, worked by hand over two nodes in two blocks, joined
-//! by an arc of capacity 4. These functions do nothing: the contract of each says what comes out, and so shows that
-//! the definitions mean what a calculation by hand gives.
+//! What the definitions of events, of rounds and of seats compute, worked by hand over two nodes in two blocks,
+//! joined by an arc of capacity 4. These functions do nothing: the contract of each says what comes out, and so
+//! shows that the definitions mean what a calculation by hand gives.
 
 ghost use Rattle.std.specs.Prelude.{◌≡◌, ℕ, List, [], ◌∷◌};
 ghost use Rattle.parcel.specs.Directions.{forward};
@@ -29,7 +29,8 @@ pub fn counts_of_refused_parcel_run()
         1328 ∷ 1261 ∷ 1260 ∷ 1181 ∷ 1180 ∷ 1099 ∷ [] }
     ensures excess { (after (opened two_source_net 2) refused_parcel_run).excess ≡ 4 ∷ 1 ∷ [] }
     ensures known { known_of (after (opened two_source_net 2) refused_parcel_run) (forward 0) ≡ 1 }
-    ensures more { (after (after (opened two_source_net 2) refused_parcel_run) sent_again_run).labels ≡ 2 ∷ 1 ∷ [] }
+    ensures more { (after (after (opened two_source_net 2) refused_parcel_run) sent_again_run).labels
+        ≡ 2 ∷ 1 ∷ [] }
 {}
 
 /// Each event of the first run is enabled where it stands.

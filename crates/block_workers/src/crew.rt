@@ -1,6 +1,6 @@
 ghost use Rattle.std.specs.Prelude.{◌≡◌, ◌<◌, ℕ, IfOk, slice_index_or, vec_capacity, vec_len};
 ghost use Rattle.block_workers.specs.Workers.{AllWorked, AreNew};
-ghost use Rattle.block_workers.specs.declared.crew.CrewError.TheVariants.{OutOfMemory};
+ghost use Rattle.block_workers.specs.declared.crew.RoundError.TheVariants.{OutOfMemory};
 
 use crate::{Job, TurnBook, Worker};
 use std::alloc::{AllocError, Global};
@@ -10,21 +10,21 @@ use std::thread;
 use std::thread::{Promise, Threads};
 use worker_options::Gate;
 
-/// Why no round of workers came about. Which of the two is told is in no clause: the standard library says of a growth
+/// Why no round came about. Which of the two is told is in no clause: the standard library says of a growth
 /// and of a thread that it may be refused, and not when.
 #[derive(Clone, Copy, PartialEq, Eq, Debug)]
-pub enum CrewError {
+pub enum RoundError {
     /// Memory ran out, before the first worker started.
     OutOfMemory,
     /// A worker was refused by the system. Those that had started were joined.
     Workers,
 }
 
-impl From<AllocError> for CrewError {
+impl From<AllocError> for RoundError {
     ghost from_gives = { λ _ e. e ≡ OutOfMemory };
 
-    fn from(_: AllocError) -> CrewError {
-        CrewError::OutOfMemory
+    fn from(_: AllocError) -> RoundError {
+        RoundError::OutOfMemory
     }
 }
 
@@ -44,7 +44,7 @@ pub fn all_work<J: Job + Sync, R: Threads + Wait + Sync, G: Gate>(
     workers: Vec<Worker<J>>,
     book: &Mutex<TurnBook<J>>,
     gate: &G,
-) -> Result<Vec<Worker<J>>, CrewError>
+) -> Result<Vec<Worker<J>>, RoundError>
     requires { (i : ℕ) (d : _) → i < vec_len workers
         → AreNew (slice_index_or workers.items i d).seats.items }
     ensures len { IfOk result (λ v. vec_len v ≡ vec_len workers) }
@@ -56,7 +56,7 @@ pub fn all_work<J: Job + Sync, R: Threads + Wait + Sync, G: Gate>(
     thread::scope(
         thread::scope_env(),
         rt,
-        |scope| -> Result<Vec<Worker<J>>, CrewError>
+        |scope| -> Result<Vec<Worker<J>>, RoundError>
             requires new { (i : ℕ) (d : _) → i < vec_len workers
                 → AreNew (slice_index_or workers.items i d).seats.items }
             requires handles { (vec_len handles ≡ 0) × (vec_capacity handles ≡ vec_len workers) }
@@ -74,7 +74,7 @@ pub fn all_work<J: Job + Sync, R: Threads + Wait + Sync, G: Gate>(
                 { worker.worked(rt, book, gate) };
                 match scope.spawn_with(promise, work) {
                     Ok(handle) => handles.push_reserved(handle),
-                    Err(_) => return Err(CrewError::Workers),
+                    Err(_) => return Err(RoundError::Workers),
                 }
             }
             for handle in handles {

@@ -25,7 +25,7 @@ mod turn_ends;
 mod worker;
 
 pub use book::TurnBook;
-pub use crew::{CrewError, all_work};
+pub use crew::{RoundError, all_work};
 pub use ends::Ends;
 pub use job::{Job, Ledgers};
 pub use join::{join_blocks, see_left, take_left};

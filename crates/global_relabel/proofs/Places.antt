@@ -1,6 +1,7 @@
 -- What stands at the places of a node: the node at the other end, and what the opposite direction can still carry.
 use Rattle.std.proofs.Common.{◌≡◌, ℕ, ◌+◌, ◌<◌, ◌≤◌, Bool, true, false, List, length, slice_index, refl, sym, ◌∙◌, ap, subst, arith}
 use Rattle.flow_network.specs.Cut.{nodes}
+use Rattle.parcel.specs.declared.lane.Lane.{Lane}
 use Rattle.parcel.specs.declared.direction.Direction.{Direction}
 use Rattle.parcel.specs.Directions.{IsDirection, near, far, opposite}
 use Rattle.parcel.specs.States as core
@@ -54,7 +55,7 @@ lane_end w b B u p j x at spot stands =
       stands = node_of w (far w.net x) b (lane_in B j).far at.laid away;
       node = away.node;
       back = lane_below w (blocks_in w) b B (opposite x) (lane_in B j).opposite at back;
-      residual = ap (λ (q : core.Lane). q.residual) (inner_read w (blocks_in w) b B (opposite x) (lane_in B j).opposite at back);
+      residual = ap (λ (q : Lane). q.residual) (inner_read w (blocks_in w) b B (opposite x) (lane_in B j).opposite at back);
     }
 
 -- ---- a direction to another block
@@ -94,7 +95,7 @@ border_end w b B u p j x at spot stands =
       back = border_below w (blocks_in w) c (block_at w c) (opposite x) o there back;
       stands = node_of w (far w.net x) c (border_in (block_at w c) o).near at.laid (back_spot w (blocks_in w) c (block_at w c) x o there back);
       node = inside;
-      residual = ap (λ (q : core.Lane). q.residual) (border_read w (blocks_in w) c (block_at w c) (opposite x) o there back);
+      residual = ap (λ (q : Lane). q.residual) (border_read w (blocks_in w) c (block_at w c) (opposite x) o there back);
     }
 
 -- ---- the places of a node

@@ -21,8 +21,8 @@ use Rattle.parcel.specs.Reach.{AreExact}
 use Rattle.sink_distances.specs.Search.{Found, label_of, node_at, AreStarts, Grows}
 use Rattle.sink_distances.proofs.Searching.{IsSearched, searched_begins, searched_more, searched_exact}
 use Rattle.block_net.specs.declared.parts.Parts.{Parts}
-use Rattle.block_net.specs.Whole.{shown}
-use Rattle.block_core.specs.Parts.{whole_by, IsIn}
+use Rattle.block_net.specs.Whole.{shown, whole_of}
+use Rattle.block_core.specs.Parts.{IsIn}
 use Rattle.global_relabel.specs.Search.{LeadsTo}
 use Rattle.global_relabel.proofs.Bridge.{exact_of}
 use Rattle.global_relabel.proofs.Seeing.{grows_because}
@@ -129,7 +129,7 @@ from_residual s net flow shown w v (k, in_net, inr back) =
 
 -- the directions that the blocks of a state show are its own
 abbrev LeadsIn : Network → Parts → ℕ → ℕ → Type 0
-LeadsIn net p w v = LeadsTo net (shown (whole_by net p)).lanes w v
+LeadsIn net p w v = LeadsTo net (shown (whole_of net p)).lanes w v
 
 leads_in : (s : State) (net : Network) (p : Parts) → net ≡ s.net → IsIn s p → (w v : ℕ) → LeadsIn net p w v → LeadsTo s.net s.lanes w v
 leads_in s net p same is w v leads =

@@ -5,6 +5,7 @@ use Rattle.std.proofs.lemmas.Bool.Decides.{eqb_tells}
 use Rattle.std.proofs.lemmas.List.{get_or_read}
 use Rattle.flow_network.specs.Cut.{Network, nodes}
 use Rattle.flow_network.specs.Preflow.{arc_at}
+use Rattle.parcel.specs.declared.lane.Lane.{Lane}
 use Rattle.parcel.specs.declared.direction.Direction.{Direction}
 use Rattle.parcel.specs.Directions.{IsDirection, near, far, backward}
 use Rattle.parcel.specs.States as core
@@ -12,15 +13,15 @@ use Rattle.parcel.proofs.Ends.{near_in, far_in}
 use Rattle.parcel.specs.States.{residual_of, is_border, block_of}
 use Rattle.block_net.specs.declared.parts.Parts.{Parts}
 use Rattle.block_net.specs.Views.{BlockView, lane_in, border_in}
-use Rattle.block_net.specs.Whole.{Whole, no_block, block_at, home, slot, is_outer}
+use Rattle.block_net.specs.Whole.{Whole, no_block, block_at, home, slot, is_outer, whole_of}
 use Rattle.block_core.specs.Views.{blocks_in, IsRow}
-use Rattle.block_core.specs.Parts.{whole_by, IsIn}
+use Rattle.block_core.specs.Parts.{IsIn}
 use Rattle.global_relabel.specs.Homes.{AreHomes}
 use Rattle.block_core.proofs.Steps.{IsAt, lane_below, border_below, inner_read, border_read}
 
-module _ (s : core.State) (p : Parts) (is : IsIn s p) (x : Direction) (l : IsDirection s.net x) (b j : ℕ) (B : BlockView) (here : home (whole_by s.net p) (near s.net x) ≡ b) (at : slot (whole_by s.net p) x ≡ j) (read : B ≡ block_at (whole_by s.net p) b) where
+module _ (s : core.State) (p : Parts) (is : IsIn s p) (x : Direction) (l : IsDirection s.net x) (b j : ℕ) (B : BlockView) (here : home (whole_of s.net p) (near s.net x) ≡ b) (at : slot (whole_of s.net p) x ≡ j) (read : B ≡ block_at (whole_of s.net p) b) where
   abbrev w : Whole
-  w = whole_by s.net p
+  w = whole_of s.net p
 
   there : IsAt w (blocks_in w) b B
   there = record {
@@ -46,19 +47,19 @@ module _ (s : core.State) (p : Parts) (is : IsIn s p) (x : Direction) (l : IsDir
   lane_is same =
       let r = row false (within same) in (
         lane_below w (blocks_in w) b B x j there r,
-        ap (λ (q : core.Lane). q.residual) (inner_read w (blocks_in w) b B x j there r) ∙ ap (λ (t : core.State). residual_of t x) is.shown,
+        ap (λ (q : Lane). q.residual) (inner_read w (blocks_in w) b B x j there r) ∙ ap (λ (t : core.State). residual_of t x) is.shown,
       )
 
   pub border_is : home w (far s.net x) ≢ b → (j < length B.borders) × ((border_in B j).residual ≡ residual_of s x)
   border_is other =
       let r = row true (out_of other) in (
         border_below w (blocks_in w) b B x j there r,
-        ap (λ (q : core.Lane). q.residual) (border_read w (blocks_in w) b B x j there r) ∙ ap (λ (t : core.State). residual_of t x) is.shown,
+        ap (λ (q : Lane). q.residual) (border_read w (blocks_in w) b B x j there r) ∙ ap (λ (t : core.State). residual_of t x) is.shown,
       )
 
 -- the table tells the block of a node
 home_told : (s : core.State) (p : Parts) (homes : List ℕ) (v : ℕ) → IsIn s p → AreHomes s.net s.blocks homes → v < nodes s.net
-    → home (whole_by s.net p) v ≡ slice_index homes v
+    → home (whole_of s.net p) v ≡ slice_index homes v
 home_told s p homes v is are l =
     ap (λ k. block_of s.net k v) (ap (λ (t : core.State). t.blocks) is.shown) ∙ sym (are.home v l)
 
@@ -71,7 +72,7 @@ pub back_is : (s : core.State) (p : Parts) (homes : List ℕ) (k from to j : ℕ
     → k < length s.net.arcs → net ≡ s.net → net' ≡ s.net → from ≡ slice_index homes (arc_at net k).from → to ≡ slice_index homes (arc_at net k).to
     → j ≡ slice_index p.slots.items (length net'.arcs + k) → B ≡ get_or p.blocks.items to B → IsBack s k from to j B
 back_is s p homes k from to j net net' B is are l same same' from_is to_is slot_is read =
-    let w = whole_by s.net p in
+    let w = whole_of s.net p in
     let x = backward k in
     let near_home : home w (near s.net x) ≡ to =
     home_told s p homes (near s.net x) is are (near_in s.net x is.laid.net l) ∙ (ap (λ (n : Network). slice_index homes (arc_at n k).to) (sym same) ∙ sym to_is) in
@@ -90,7 +91,7 @@ pub back_within : (s : core.State) (p : Parts) (k j : ℕ) (net : Network) (B : 
     → j ≡ slice_index p.slots.items (length net.arcs + k) → B ≡ get_or p.blocks.items 0 B
     → (0 < length p.blocks.items) × (j < length B.lanes) × ((lane_in B j).residual ≡ residual_of s (backward k))
 back_within s p k j net B is one l same slot_is read =
-    let w = whole_by s.net p in
+    let w = whole_of s.net p in
     let x = backward k in
     let number : length p.blocks.items ≡ 1 = ap (λ (t : core.State). t.blocks) is.shown ∙ one in
     let near_home : home w (near s.net x) ≡ 0 = omega (arith, number, is.laid.placed.homes (near s.net x) (near_in s.net x is.laid.net l)) in

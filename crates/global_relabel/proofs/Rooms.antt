@@ -7,15 +7,15 @@ use Rattle.sink_distances.proofs.Order.{grows_falls}
 use Rattle.parcel.specs.States.{State, room_of}
 use Rattle.block_net.specs.declared.parts.Parts.{Parts}
 use Rattle.block_net.specs.Views.{BlockView, count, room_in}
-use Rattle.block_net.specs.Whole.{Whole, LiesAt, block_at, home, place}
+use Rattle.block_net.specs.Whole.{Whole, LiesAt, block_at, home, place, whole_of}
 use Rattle.block_core.specs.Views.{blocks_in}
-use Rattle.block_core.specs.Parts.{whole_by, IsIn}
+use Rattle.block_core.specs.Parts.{IsIn}
 use Rattle.block_core.proofs.Steps.{room_read}
 use Rattle.global_relabel.specs.Search.{GivesIn}
 
 module _ (s : State) (p : Parts) (is : IsIn s p) where
   abbrev w : Whole
-  w = whole_by s.net p
+  w = whole_of s.net p
 
   abbrev first : ℕ → ℕ
   first b = slice_index p.firsts.items b

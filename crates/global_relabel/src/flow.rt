@@ -7,7 +7,7 @@ ghost use Rattle.parcel.specs.Soundness.{IsSound};
 ghost use Rattle.parcel.specs.Flows.{shown_flow};
 ghost use Rattle.global_relabel.specs.Homes.{AreHomes};
 
-use crate::homes::{homes_of, room_at};
+use crate::homes::{room_at, write_homes};
 use block_core::State;
 use block_net::Parts;
 use flow_network::Net;
@@ -123,7 +123,8 @@ fn write_sink_flow(state: &State, homes: &[u8], sink_flow: &mut [u64])
 pub fn flow_of(alloc: Global, state: &State) -> Result<(Vec<u64>, Vec<u64>), AllocError>
     ensures { IfOk result (λ flow. flow_by flow.0.items flow.1.items ≡ shown_flow state.now) }
 {
-    let homes = homes_of(alloc, state)?;
+    let mut homes = vec![in alloc; 0u8; state.nodes()]?;
+    write_homes(state, homes.as_mut_slice());
     let mut arc_flow = vec![in alloc; 0u64; state.arcs()]?;
     let mut sink_flow = vec![in alloc; 0u64; state.nodes()]?;
     write_arc_flow(state, homes.as_slice(), arc_flow.as_mut_slice());

@@ -1,10 +1,9 @@
-ghost use Rattle.std.specs.Prelude.{◌≡◌, ◌+◌, ◌<◌, ◌≤◌, ℕ, IfOk, length, slice_index};
+ghost use Rattle.std.specs.Prelude.{◌≡◌, ◌+◌, ◌<◌, ◌≤◌, ℕ, length, slice_index};
 ghost use Rattle.flow_network.specs.Cut.{nodes};
 ghost use Rattle.parcel.specs.States.{room_of};
 ghost use Rattle.global_relabel.specs.Homes.{AreHomes};
 
 use block_core::State;
-use std::alloc::{AllocError, Global};
 
 /// Writes the number of a block to each of its nodes, of which `first` is the first.
 fn write_block(homes: &mut [u8], first: usize, count: usize, block: u8)
@@ -40,13 +39,4 @@ pub(crate) fn room_at(state: &State, homes: &[u8], v: usize) -> u64
     let parts = state.parts();
     let block = homes[v] as usize;
     parts.blocks[block].room(v - parts.firsts[block])
-}
-
-/// The block of each node. The only error is that memory runs out.
-pub(crate) fn homes_of(alloc: Global, state: &State) -> Result<Vec<u8>, AllocError>
-    ensures { IfOk result (λ homes. AreHomes state.now.net state.now.blocks homes.items) }
-{
-    let mut homes = vec![in alloc; 0; state.nodes()]?;
-    write_homes(state, homes.as_mut_slice());
-    Ok(homes)
 }

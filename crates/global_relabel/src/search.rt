@@ -4,9 +4,8 @@ ghost use Rattle.flow_network.specs.Cut.{nodes, IsNet};
 ghost use Rattle.sink_distances.specs.Search.{found_of, AreStarts, IsReady, Grows};
 ghost use Rattle.parcel.specs.Reach.{AreExact};
 ghost use Rattle.block_net.specs.Views.{lane_in, border_in};
-ghost use Rattle.block_net.specs.Whole.{shown};
+ghost use Rattle.block_net.specs.Whole.{shown, whole_of};
 ghost use Rattle.block_core.specs.Views.{IsLaid, IsSpot};
-ghost use Rattle.block_core.specs.Parts.{whole_by};
 ghost use Rattle.global_relabel.specs.Search.{AreWithin, GivesIn, LeadsTo, AreMarked};
 ghost use Rattle.global_relabel.specs.Homes.{AreHomes};
 ghost use Rattle.global_relabel.specs.Workspaces.{IsListed};
@@ -34,11 +33,11 @@ struct Spot {
 
 /// A node's block and its place there, by the table of blocks.
 fn spot_of(split: &Split<'_>, w: usize) -> (usize, usize)
-    requires laid { IsLaid (whole_by split.now.net.now split.now.parts.now) }
+    requires laid { IsLaid (whole_of split.now.net.now split.now.parts.now) }
     requires homes { AreHomes split.now.net.now (length split.now.parts.now.blocks.items)
         split.now.homes.now }
     requires node { w < nodes split.now.net.now }
-    ensures { IsSpot (whole_by split.now.net.now split.now.parts.now) w result.0 result.1 }
+    ensures { IsSpot (whole_of split.now.net.now split.now.parts.now) w result.0 result.1 }
 {
     let block = split.homes[w] as usize;
     (block, w - split.parts.firsts[block])
@@ -125,14 +124,14 @@ fn mark_lanes(
     mut count: usize,
     label: u32,
 ) -> usize
-    requires laid { IsLaid (whole_by split.now.net.now split.now.parts.now) }
-    requires spot { IsSpot (whole_by split.now.net.now split.now.parts.now) at.node at.block at.place }
+    requires laid { IsLaid (whole_of split.now.net.now split.now.parts.now) }
+    requires spot { IsSpot (whole_of split.now.net.now split.now.parts.now) at.node at.block at.place }
     requires len { length labels.old ≡ nodes split.now.net.now }
     requires ready { IsReady label (found_of labels.old order.old count) }
     ensures grows { Grows label
-        (LeadsTo split.now.net.now (shown (whole_by split.now.net.now split.now.parts.now)).lanes at.node)
+        (LeadsTo split.now.net.now (shown (whole_of split.now.net.now split.now.parts.now)).lanes at.node)
         (found_of labels.old order.old count) (found_of labels.new order.new result) }
-    ensures marked { AreMarked (whole_by split.now.net.now split.now.parts.now) false at.node label
+    ensures marked { AreMarked (whole_of split.now.net.now split.now.parts.now) false at.node label
         labels.new }
 {
     let cells = &split.parts.blocks[at.block];
@@ -188,14 +187,14 @@ fn mark_borders(
     mut count: usize,
     label: u32,
 ) -> usize
-    requires laid { IsLaid (whole_by split.now.net.now split.now.parts.now) }
-    requires spot { IsSpot (whole_by split.now.net.now split.now.parts.now) at.node at.block at.place }
+    requires laid { IsLaid (whole_of split.now.net.now split.now.parts.now) }
+    requires spot { IsSpot (whole_of split.now.net.now split.now.parts.now) at.node at.block at.place }
     requires len { length labels.old ≡ nodes split.now.net.now }
     requires ready { IsReady label (found_of labels.old order.old count) }
     ensures grows { Grows label
-        (LeadsTo split.now.net.now (shown (whole_by split.now.net.now split.now.parts.now)).lanes at.node)
+        (LeadsTo split.now.net.now (shown (whole_of split.now.net.now split.now.parts.now)).lanes at.node)
         (found_of labels.old order.old count) (found_of labels.new order.new result) }
-    ensures marked { AreMarked (whole_by split.now.net.now split.now.parts.now) true at.node label
+    ensures marked { AreMarked (whole_of split.now.net.now split.now.parts.now) true at.node label
         labels.new }
 {
     let parts = split.parts;
@@ -228,16 +227,16 @@ fn mark_within(
     count: usize,
     w: usize,
 ) -> usize
-    requires laid { IsLaid (whole_by split.now.net.now split.now.parts.now) }
+    requires laid { IsLaid (whole_of split.now.net.now split.now.parts.now) }
     requires one { length split.now.parts.now.blocks.items ≡ 1 }
     requires node { w < nodes split.now.net.now }
     requires len { length labels.old ≡ nodes split.now.net.now }
     requires ready { IsReady (slice_index labels.old w + 1) (found_of labels.old order.old count) }
     ensures grows { Grows (slice_index labels.old w + 1)
-        (LeadsTo split.now.net.now (shown (whole_by split.now.net.now split.now.parts.now)).lanes w)
+        (LeadsTo split.now.net.now (shown (whole_of split.now.net.now split.now.parts.now)).lanes w)
         (found_of labels.old order.old count) (found_of labels.new order.new result) }
     ensures marked { (v : ℕ) →
-        LeadsTo split.now.net.now (shown (whole_by split.now.net.now split.now.parts.now)).lanes w v →
+        LeadsTo split.now.net.now (shown (whole_of split.now.net.now split.now.parts.now)).lanes w v →
         slice_index labels.new v ≤ slice_index labels.old w + 1 }
 {
     let at = Spot {
@@ -257,17 +256,17 @@ fn mark_into(
     count: usize,
     w: usize,
 ) -> usize
-    requires laid { IsLaid (whole_by split.now.net.now split.now.parts.now) }
+    requires laid { IsLaid (whole_of split.now.net.now split.now.parts.now) }
     requires homes { AreHomes split.now.net.now (length split.now.parts.now.blocks.items)
         split.now.homes.now }
     requires node { w < nodes split.now.net.now }
     requires len { length labels.old ≡ nodes split.now.net.now }
     requires ready { IsReady (slice_index labels.old w + 1) (found_of labels.old order.old count) }
     ensures grows { Grows (slice_index labels.old w + 1)
-        (LeadsTo split.now.net.now (shown (whole_by split.now.net.now split.now.parts.now)).lanes w)
+        (LeadsTo split.now.net.now (shown (whole_of split.now.net.now split.now.parts.now)).lanes w)
         (found_of labels.old order.old count) (found_of labels.new order.new result) }
     ensures marked { (v : ℕ) →
-        LeadsTo split.now.net.now (shown (whole_by split.now.net.now split.now.parts.now)).lanes w v →
+        LeadsTo split.now.net.now (shown (whole_of split.now.net.now split.now.parts.now)).lanes w v →
         slice_index labels.new v ≤ slice_index labels.old w + 1 }
 {
     let found = spot_of(split, w);

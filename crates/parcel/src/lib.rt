@@ -17,6 +17,7 @@
 mod direction;
 mod event;
 mod flight;
+mod lane;
 pub mod laws;
 mod message;
 pub mod rounds;
@@ -24,4 +25,5 @@ pub mod rounds;
 pub use direction::Direction;
 pub use event::Event;
 pub use flight::Flight;
+pub use lane::Lane;
 pub use message::Message;

@@ -1,6 +1,5 @@
 //! Laws of rounds. These functions do nothing: the contract of each is a law.
 
-ghost use Rattle.parcel.specs.Rounds.{RoundOf};
 ghost use Rattle.parcel.specs.RoundLaws.{RoundKeeps, HistoryGoesOn, HistoryRuns, OwnTermsHold, QuietIsEmpty, HistoriesGather};
 
 /// A round that began in a sound state with no message on the way ends in a sound state: each block did

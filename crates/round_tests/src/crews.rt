@@ -3,7 +3,7 @@ ghost use Rattle.block_workers.specs.Workers.{AreNew};
 
 use crate::gates::Open;
 use block_net::{ARC_LIMIT, Cells, Parts};
-use block_workers::{CrewError, Ends, Job, Ledgers, Seat, TurnBook, Worker, all_work};
+use block_workers::{Ends, Job, Ledgers, RoundError, Seat, TurnBook, Worker, all_work};
 use discharge::Block;
 use flow_network::{Arc, Net};
 use rounds::join_all;
@@ -128,8 +128,8 @@ fn round_of<J: Job + Sync, R: Threads + Wait + Abort + Sync>(
     let book = Mutex::new(book);
     match all_work(rt, alloc, workers, &book, &Open) {
         Ok(back) => Ok(end_of(book.into_inner().drawn(), back)),
-        Err(CrewError::OutOfMemory) => Err(AllocError),
-        Err(CrewError::Workers) => rt.abort(),
+        Err(RoundError::OutOfMemory) => Err(AllocError),
+        Err(RoundError::Workers) => rt.abort(),
     }
 }
 

@@ -4,10 +4,10 @@ use Rattle.parcel.specs.States.{State, way_at}
 use Rattle.parcel.specs.Events.{IsQuiet}
 use Rattle.parcel.specs.Soundness.{IsSound, IsSquare}
 use Rattle.block_net.specs.Views.{BlockView}
-use Rattle.block_net.specs.Whole.{Whole}
+use Rattle.block_net.specs.Whole.{Whole, with_blocks}
 use Rattle.block_core.specs.Views.{IsLaid, blocks_in, state_of}
 use Rattle.block_core.specs.Mails.{IsHeld}
-use Rattle.block_laws.specs.Rounds.{Ways, AreBack, IsRound, with_blocks, quiet_state, state_after}
+use Rattle.block_laws.specs.Rounds.{Ways, AreBack, IsRound, quiet_state, state_after}
 use Rattle.block_laws.proofs.Quiet.{quiet_is_start, round_is_held}
 use Rattle.block_laws.proofs.Rounds.{seats_make_round}
 use Rattle.rounds.specs.Links.{RingsView, sent_in, taken_in, room_in}

@@ -7,7 +7,6 @@ pub mod Left
 pub mod Links
 pub mod Draining
 pub mod Pairing
-pub mod Faults
 pub mod Seated
 pub mod Together
 pub mod Short

@@ -2,8 +2,8 @@
 use Rattle.std.specs.Prelude.{◌≤◌, length}
 use Rattle.flow_network.specs.Cut.{Network}
 use Rattle.block_net.specs.Limits.{arc_limit}
-use Rattle.rounds.specs.declared.round_error.RoundError.{RoundError}
-use Rattle.rounds.specs.declared.round_error.RoundError.TheVariants as round
+use Rattle.block_workers.specs.declared.crew.RoundError.{RoundError}
+use Rattle.block_workers.specs.declared.crew.RoundError.TheVariants as round
 use Rattle.worker_options.specs.declared.options.Options.{Options}
 use Rattle.worker_options.specs.Ranges.{AreInRange}
 use Rattle.rounds.specs.declared.parallel_error.ParallelError.{ParallelError}

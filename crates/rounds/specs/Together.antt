@@ -4,20 +4,16 @@ use Rattle.sums.specs.Sums.{sum_below}
 use Rattle.flow_network.specs.Cut.{Network}
 use Rattle.parcel.specs.States.{State}
 use Rattle.block_net.specs.Views.{BlockView, count}
-use Rattle.block_net.specs.Whole.{Whole, block_at}
+use Rattle.block_net.specs.Whole.{Whole, block_at, whole_of}
 use Rattle.block_net.specs.declared.parts.Parts.{Parts}
-use Rattle.block_core.specs.Views.{IsLaid, whole_in, blocks_in, state_of}
+use Rattle.block_core.specs.Views.{IsLaid, blocks_in, state_of}
 use Rattle.block_laws.specs.Rounds.{Ways, AreBack, lacking}
 use Rattle.rounds.specs.Links.{RingsView, sent_in, taken_in}
 use Rattle.rounds.specs.Left.{AreLeft}
 
--- the blocks with their places
-abbrev pub whole_with : Network → Parts → Whole
-whole_with net parts = whole_in net parts.firsts.items parts.slots.items parts.blocks.items
-
--- the state that they show with the messages on the way: the sink got what the rooms lack
-abbrev pub state_with : Network → Parts → Ways → State
-state_with net parts ways = state_of (blocks_in (whole_with net parts)) ways (lacking (whole_with net parts))
+-- the state that the blocks show with the messages on the way: the sink got what the rooms lack
+abbrev pub gathered_state : Network → Parts → Ways → State
+gathered_state net parts ways = state_of (blocks_in (whole_of net parts)) ways (lacking (whole_of net parts))
 
 -- the blocks are back, each after turn 0 and so many turns that it drew: a turn has at most 16 events more
 -- than the block has nodes

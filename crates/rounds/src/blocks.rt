@@ -6,12 +6,12 @@ ghost use Rattle.rounds.specs.Links.{room_in};
 ghost use Rattle.rounds.specs.Seated.{AreSeated, AreSmall, ends_of, ports_of};
 ghost use Rattle.rounds.specs.Together.{HaveRun};
 
+use crate::join_all;
 use crate::seats::seats_of;
 use crate::space::{Came, Space, gathered};
 use crate::work::worked;
-use crate::{RoundError, join_all};
 use block_net::Cells;
-use block_workers::{Job, Seat, TurnBook};
+use block_workers::{Job, RoundError, Seat, TurnBook};
 use std::alloc::{AllocError, Global};
 use std::sync::Wait;
 use std::sync::ledger::Blank;

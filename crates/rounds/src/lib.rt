@@ -20,7 +20,6 @@ mod pair;
 mod parallel_error;
 mod rings;
 mod round;
-mod round_error;
 mod seat_work;
 mod seats;
 mod solver;
@@ -28,8 +27,8 @@ mod space;
 mod together;
 mod work;
 
+pub use block_workers::RoundError;
 pub use join::join_all;
 pub use parallel_error::ParallelError;
 pub use round::run_round;
-pub use round_error::RoundError;
 pub use solver::{side_parallel, solve_parallel};

@@ -2,7 +2,7 @@ ghost use Rattle.std.specs.Prelude.{◌≡◌};
 ghost use Rattle.rounds.specs.Refusals.{of_round};
 ghost use Rattle.rounds.specs.declared.parallel_error.ParallelError.TheVariants.{OutOfMemory};
 
-use crate::RoundError;
+use block_workers::RoundError;
 use std::alloc::AllocError;
 use thiserror::Error;
 

@@ -2,16 +2,16 @@ ghost use Rattle.std.specs.Prelude.{◌≡◌, ◌<◌, IfOk};
 ghost use Rattle.parcel.specs.Events.{IsQuiet};
 ghost use Rattle.block_core.specs.Views.{IsLaid};
 ghost use Rattle.block_core.specs.Mails.{IsHeld};
-ghost use Rattle.block_core.specs.Pieces.{state_in, whole_within};
+ghost use Rattle.block_net.specs.Whole.{whole_of};
+ghost use Rattle.block_core.specs.Pieces.{state_in};
 ghost use Rattle.worker_options.specs.Ranges.{AreInRange};
 ghost use Rattle.rounds.specs.Short.{HasFewOnTheWay, IsShortRound};
 
-use crate::RoundError;
 use crate::blocks::run_blocks;
 use crate::together::put_together;
 use block_core::{Pieces, State};
 use block_net::Parts;
-use block_workers::{Job, Ledgers};
+use block_workers::{Job, Ledgers, RoundError};
 use std::alloc::Global;
 use std::marker::Brand;
 use std::sync::Wait;
@@ -29,7 +29,7 @@ fn round_of<J: Job + Sync, R: Threads + Wait + Sync, G: Gate>(
     budget: Blank,
     drawn: Blank,
 ) -> Result<State, RoundError>
-    requires laid { IsLaid (whole_within pieces) }
+    requires laid { IsLaid (whole_of pieces.net pieces.parts) }
     requires held { IsHeld pieces.ways.rooms (state_in pieces) }
     requires quiet { IsQuiet (state_in pieces) }
     requires options { AreInRange options.now }
@@ -71,7 +71,7 @@ fn round_with<B: Ledger + Send + Sync, D: Ledger + Send + Sync, R: Threads + Wai
     budget: Blank,
     drawn: Blank,
 ) -> Result<State, RoundError>
-    requires laid { IsLaid (whole_within pieces) }
+    requires laid { IsLaid (whole_of pieces.net pieces.parts) }
     requires held { IsHeld pieces.ways.rooms (state_in pieces) }
     requires quiet { IsQuiet (state_in pieces) }
     requires options { AreInRange options.now }

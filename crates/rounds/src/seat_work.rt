@@ -1,10 +1,10 @@
 ghost use Rattle.std.specs.Prelude.{◌≡◌, ◌+◌, ◌<◌, ◌≤◌, ◌⊎◌, IfErr, IfOk, OnErr, OnOk};
 ghost use Rattle.block_workers.specs.Workers.{AllWorked, AreNew, turns_of};
-ghost use Rattle.block_workers.specs.declared.crew.CrewError.TheVariants.{Workers};
+ghost use Rattle.block_workers.specs.declared.crew.RoundError.TheVariants.{Workers};
 
 use crate::back::{Room, collect};
 use crate::hands::deal;
-use block_workers::{CrewError, Job, Seat, TurnBook, all_work};
+use block_workers::{Job, RoundError, Seat, TurnBook, all_work};
 use std::alloc::Global;
 use std::sync::ledger::Share;
 use std::sync::{Mutex, Wait};
@@ -25,7 +25,7 @@ pub(crate) fn work_seats<J: Job + Sync, R: Threads + Wait + Sync, G: Gate>(
     share: &mut Share<J::Drawn>,
     book: &Mutex<TurnBook<J>>,
     gate: &G,
-) -> Result<Vec<Seat>, CrewError>
+) -> Result<Vec<Seat>, RoundError>
     requires some { 0 < threads }
     requires parts { threads ≤ share.old.parts }
     requires none { share.old.amount ≡ 0 }

@@ -1,7 +1,8 @@
 ghost use Rattle.std.specs.Prelude.{◌≡◌};
 ghost use Rattle.block_core.specs.Views.{IsLaid};
 ghost use Rattle.block_core.specs.Mails.{IsHeld};
-ghost use Rattle.rounds.specs.Together.{state_with, whole_with};
+ghost use Rattle.block_net.specs.Whole.{whole_of};
+ghost use Rattle.rounds.specs.Together.{gathered_state};
 
 use block_core::{Mail, Pieces, State};
 use block_net::Parts;
@@ -10,9 +11,9 @@ use flow_network::Net;
 /// The state that the blocks show with the messages on the way. What the sink got is what the rooms lack.
 /// Takes no memory.
 pub(crate) fn put_together(net: Net, parts: Parts, ways: Mail) -> State
-    requires laid { IsLaid (whole_with net parts) }
-    requires held { IsHeld ways.rooms (state_with net parts ways.messages) }
-    ensures { result ≡ state_with net parts ways.messages }
+    requires laid { IsLaid (whole_of net parts) }
+    requires held { IsHeld ways.rooms (gathered_state net parts ways.messages) }
+    ensures { result ≡ gathered_state net parts ways.messages }
 {
     let mut pieces = Pieces {
         net,

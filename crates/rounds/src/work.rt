@@ -1,9 +1,8 @@
 ghost use Rattle.std.specs.Prelude.{◌≡◌, ◌<◌, ◌≤◌, IfOk};
 ghost use Rattle.block_workers.specs.Workers.{AllWorked, AreNew, turns_of};
 
-use crate::RoundError;
 use crate::seat_work::work_seats;
-use block_workers::{Job, Seat, TurnBook};
+use block_workers::{Job, RoundError, Seat, TurnBook};
 use std::alloc::Global;
 use std::sync::ledger::Share;
 use std::sync::{Mutex, Wait};

@@ -2,9 +2,8 @@ use Rattle.std.proofs.Common.{◌≡◌, sym, ◌∙◌, refl, ap, subst, arith}
 use Rattle.std.proofs.lemmas.List.{get_or_read}
 use Rattle.parcel.specs.Directions.{IsDirection, near, far}
 use Rattle.parcel.proofs.Lanes.{near_opposite}
-use Rattle.block_net.specs.Whole.{Whole}
+use Rattle.block_net.specs.Whole.{Whole, whole_of}
 use Rattle.block_core.specs.Views.{blocks_in}
-use Rattle.block_core.specs.Parts.{whole_by}
 use Rattle.block_core.proofs.ByBlock.{far_read}
 use Rattle.block_core.proofs.Steps.{at_read, node_below, label_read, top_read}
 use Rattle.block_core.proofs.by_block.far_label.Goals as goal
@@ -12,26 +11,26 @@ use Rattle.block_core.proofs.by_block.far_label.Goals as goal
 pub near_of-far-requires : goal.near_of-far-requires
 near_of-far-requires c =
     let net = c.args.net.now in
-    let w : Whole = whole_by net c.args.parts.now in
+    let w : Whole = whole_of net c.args.parts.now in
     let far = far_read w c.args.block c.args.j c.index.result.now c.border-border.result c.requires.laid c.requires.block c.index.ensures c.requires.place c.border-border.ensures.value in
     subst (IsDirection net) (sym c.opposite_of.ensures) far.row.direction
 
 pub index-requires-2 : goal.index-requires-2
 index-requires-2 c =
-    let w : Whole = whole_by c.args.net.now c.args.parts.now in
+    let w : Whole = whole_of c.args.net.now c.args.parts.now in
     let far = far_read w c.args.block c.args.j c.index.result.now c.border-border.result c.requires.laid c.requires.block c.index.ensures c.requires.place c.border-border.ensures.value in
     omega (arith, far.spot.block)
 
 pub index-requires-3 : goal.index-requires-3
 index-requires-3 c =
-    let w : Whole = whole_by c.args.net.now c.args.parts.now in
+    let w : Whole = whole_of c.args.net.now c.args.parts.now in
     let far = far_read w c.args.block c.args.j c.index.result.now c.border-border.result c.requires.laid c.requires.block c.index.ensures c.requires.place c.border-border.ensures.value in
     omega (arith, far.firsts)
 
 pub overflow_sub-far : goal.overflow_sub-far
 overflow_sub-far c =
     let net = c.args.net.now in
-    let w : Whole = whole_by net c.args.parts.now in
+    let w : Whole = whole_of net c.args.parts.now in
     let r = c.border-border.result in
     let far' = far_read w c.args.block c.args.j c.index.result.now r c.requires.laid c.requires.block c.index.ensures c.requires.place c.border-border.ensures.value in
     let node : c.near_of-far.result ≡ far net r.direction = c.near_of-far.ensures.value ∙ (ap (near net) c.opposite_of.ensures ∙ near_opposite net r.direction) in
@@ -41,7 +40,7 @@ overflow_sub-far c =
 pub label-requires : goal.label-requires
 label-requires c =
     let net = c.args.net.now in
-    let w : Whole = whole_by net c.args.parts.now in
+    let w : Whole = whole_of net c.args.parts.now in
     let r = c.border-border.result in
     let far' = far_read w c.args.block c.args.j c.index.result.now r c.requires.laid c.requires.block c.index.ensures c.requires.place c.border-border.ensures.value in
     let node : c.near_of-far.result ≡ far net r.direction = c.near_of-far.ensures.value ∙ (ap (near net) c.opposite_of.ensures ∙ near_opposite net r.direction) in
@@ -51,14 +50,14 @@ label-requires c =
 
 pub returns-clause-row : goal.returns-clause-row
 returns-clause-row c =
-    let w : Whole = whole_by c.args.net.now c.args.parts.now in
+    let w : Whole = whole_of c.args.net.now c.args.parts.now in
     let far = far_read w c.args.block c.args.j c.index.result.now c.border-border.result c.requires.laid c.requires.block c.index.ensures c.requires.place c.border-border.ensures.value in
     rw far.is far.row
 
 pub returns-clause-value : goal.returns-clause-value
 returns-clause-value c =
     let net = c.args.net.now in
-    let w : Whole = whole_by net c.args.parts.now in
+    let w : Whole = whole_of net c.args.parts.now in
     let r = c.border-border.result in
     let far' = far_read w c.args.block c.args.j c.index.result.now r c.requires.laid c.requires.block c.index.ensures c.requires.place c.border-border.ensures.value in
     let node : c.near_of-far.result ≡ far net r.direction = c.near_of-far.ensures.value ∙ (ap (near net) c.opposite_of.ensures ∙ near_opposite net r.direction) in
@@ -68,7 +67,7 @@ returns-clause-value c =
 
 pub returns-clause-limit : goal.returns-clause-limit
 returns-clause-limit c =
-    let w : Whole = whole_by c.args.net.now c.args.parts.now in
+    let w : Whole = whole_of c.args.net.now c.args.parts.now in
     let r = c.border-border.result in
     let far = far_read w c.args.block c.args.j c.index.result.now r c.requires.laid c.requires.block c.index.ensures c.requires.place c.border-border.ensures.value in
     let at = at_read w (blocks_in w) r.to c.index-2.result.now c.requires.laid refl far.spot.block c.index-2.ensures in

@@ -2,10 +2,9 @@ use Rattle.std.proofs.lemmas.Grind.{common_steps}
 use Rattle.std.proofs.Common.{◌≡◌, ◌≤◌, ◌+◌, ℕ, List, sym, ◌∙◌, ap, subst, refl, arith, length, slice_range, slice_index}
 use Rattle.std.proofs.lemmas.List.{get_or_default}
 use Rattle.block_net.specs.Views.{BlockView, count}
-use Rattle.block_net.specs.Whole.{Whole, block_at, put_block}
+use Rattle.block_net.specs.Whole.{Whole, block_at, put_block, whole_of}
 use Rattle.block_net.proofs.Spans.{length_range, range_at}
 use Rattle.block_core.specs.Views.{blocks_in}
-use Rattle.block_core.specs.Parts.{whole_by}
 use Rattle.block_core.specs.ByBlock.{IsLabelled}
 use Rattle.block_core.proofs.Steps.{at_read, top_read}
 use Rattle.block_core.proofs.ByBlock.{read_block, labelled_block}
@@ -13,26 +12,26 @@ use Rattle.block_core.proofs.by_block.label_block.Goals as goal
 
 pub overflow_add-part : goal.overflow_add-part
 overflow_add-part c =
-    let w : Whole = whole_by c.args.net.now c.args.parts.now in
+    let w : Whole = whole_of c.args.net.now c.args.parts.now in
     let read = read_block w c.args.block c.index.result.now c.len-nodes.result c.index-first.result.now c.requires.laid c.requires.block c.index.ensures c.len-nodes.ensures.value c.if-nodes-eq0.false c.index-first.ensures in
     omega (arith, read.within, c.requires.laid.net.count)
 
 pub offset_bounds-labels-first : goal.offset_bounds-labels-first
 offset_bounds-labels-first c =
-    let w : Whole = whole_by c.args.net.now c.args.parts.now in
+    let w : Whole = whole_of c.args.net.now c.args.parts.now in
     let read = read_block w c.args.block c.index.result.now c.len-nodes.result c.index-first.result.now c.requires.laid c.requires.block c.index.ensures c.len-nodes.ensures.value c.if-nodes-eq0.false c.index-first.ensures in
     omega (arith, read.within, c.requires.laid.net.count)
 
 pub slice_bounds-part-end : goal.slice_bounds-part-end
 slice_bounds-part-end c =
-    let w : Whole = whole_by c.args.net.now c.args.parts.now in
+    let w : Whole = whole_of c.args.net.now c.args.parts.now in
     let read = read_block w c.args.block c.index.result.now c.len-nodes.result c.index-first.result.now c.requires.laid c.requires.block c.index.ensures c.len-nodes.ensures.value c.if-nodes-eq0.false c.index-first.ensures in
     let le : c.index-first.result.now + c.len-nodes.result ≤ length c.args.labels.now = omega (arith, read.within, c.requires.len) in
     grind (arith, common_steps, le)
 
 pub write_labels-requires-clause-limit : goal.write_labels-requires-clause-limit
 write_labels-requires-clause-limit c =
-    let w : Whole = whole_by c.args.net.now c.args.parts.now in
+    let w : Whole = whole_of c.args.net.now c.args.parts.now in
     let read = read_block w c.args.block c.index.result.now c.len-nodes.result c.index-first.result.now c.requires.laid c.requires.block c.index.ensures c.len-nodes.ensures.value c.if-nodes-eq0.false c.index-first.ensures in
     let le : c.index-first.result.now + c.len-nodes.result ≤ length c.args.labels.now = omega (arith, read.within, c.requires.len) in
     let first = c.index-first.result.now in
@@ -45,7 +44,7 @@ write_labels-requires-clause-limit c =
 
 pub returns : goal.returns
 returns c =
-    let w : Whole = whole_by c.args.net.now c.args.parts.now in
+    let w : Whole = whole_of c.args.net.now c.args.parts.now in
     let b = c.args.block in
     let labels = c.args.labels.now in
     let first = c.index-first.result.now in

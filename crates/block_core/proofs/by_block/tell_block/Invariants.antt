@@ -1,6 +1,6 @@
-use Rattle.block_core.specs.Parts.{whole_by}
+use Rattle.block_net.specs.Whole.{whole_of}
 use Rattle.block_core.specs.ByBlock.{IsTelling}
 use Rattle.block_core.proofs.by_block.tell_block.Given as goal
 
 abbrev pub invariant-borders : goal.invariant-borders
-invariant-borders l = IsTelling (whole_by l.net l.initial.parts) (whole_by l.net l.parts) l.block l.j
+invariant-borders l = IsTelling (whole_of l.net l.initial.parts) (whole_of l.net l.parts) l.block l.j

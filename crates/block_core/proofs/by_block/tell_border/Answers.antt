@@ -1,9 +1,8 @@
 use Rattle.std.proofs.Common.{◌≡◌, sym, ◌∙◌, ap, subst, refl, slice_index}
 use Rattle.parcel.specs.Directions.{far}
 use Rattle.block_net.specs.Views.{BlockView, informed}
-use Rattle.block_net.specs.Whole.{Whole, block_at, put_block}
+use Rattle.block_net.specs.Whole.{Whole, block_at, put_block, whole_of}
 use Rattle.block_core.specs.Views.{IsLaid, blocks_in}
-use Rattle.block_core.specs.Parts.{whole_by}
 use Rattle.block_core.specs.ByBlock.{direction_at}
 use Rattle.block_core.proofs.Steps.{at_read}
 use Rattle.block_core.proofs.ByBlock as lemma
@@ -11,7 +10,7 @@ use Rattle.block_core.proofs.by_block.tell_border.Goals as goal
 
 pub returns-clause-laid : goal.returns-clause-laid
 returns-clause-laid c =
-    let w : Whole = whole_by c.args.net.now c.args.parts.now in
+    let w : Whole = whole_of c.args.net.now c.args.parts.now in
     let b = c.args.block in
     let j = c.args.j in
     let at = at_read w (blocks_in w) b c.index_mut.result.now c.requires.laid refl c.requires.block c.index_mut.ensures.value in

@@ -1,9 +1,8 @@
 use Rattle.std.proofs.Common.{◌≡◌, ◌∙◌, ◌+◌, ◌-◌, ◌<◌, ◌≤◌, ℕ, List, length, slice_index, sum, refl, ap, add-one, arith}
 use Rattle.sums.specs.Sums.{sum_below}
 use Rattle.block_net.specs.Views.{BlockView, count}
-use Rattle.block_net.specs.Whole.{Whole, block_at}
+use Rattle.block_net.specs.Whole.{Whole, block_at, whole_of}
 use Rattle.block_core.specs.Views.{blocks_in}
-use Rattle.block_core.specs.Parts.{whole_by}
 use Rattle.block_core.specs.Pieces.{given_at}
 use Rattle.block_core.proofs.Given.{read_node, in_a_row, some_nodes}
 use Rattle.block_core.proofs.Steps.{at_read}
@@ -11,35 +10,35 @@ use Rattle.block_core.proofs.pieces.given_in.Goals as goal
 
 pub overflow_add-given : goal.overflow_add-given
 overflow_add-given c =
-    let w : Whole = whole_by c.args.net.now c.args.parts.now in
+    let w : Whole = whole_of c.args.net.now c.args.parts.now in
     let at = read_node w c.args.block c.index-cells.result.now c.index-first.result.now c.places.place c.requires.laid c.requires.block c.index-cells.ensures c.index-first.ensures
     (omega (arith, c.places-test.true, c.len-place-end.ensures.value)) c.requires.rooms in
     omega (arith, at.node, c.requires.laid.net.count)
 
 pub offset_bounds-sinks-first : goal.offset_bounds-sinks-first
 offset_bounds-sinks-first c =
-    let w : Whole = whole_by c.args.net.now c.args.parts.now in
+    let w : Whole = whole_of c.args.net.now c.args.parts.now in
     let at = read_node w c.args.block c.index-cells.result.now c.index-first.result.now c.places.place c.requires.laid c.requires.block c.index-cells.ensures c.index-first.ensures
     (omega (arith, c.places-test.true, c.len-place-end.ensures.value)) c.requires.rooms in
     omega (arith, at.node, c.requires.laid.net.count)
 
 pub bounds-sinks-first : goal.bounds-sinks-first
 bounds-sinks-first c =
-    let w : Whole = whole_by c.args.net.now c.args.parts.now in
+    let w : Whole = whole_of c.args.net.now c.args.parts.now in
     let at = read_node w c.args.block c.index-cells.result.now c.index-first.result.now c.places.place c.requires.laid c.requires.block c.index-cells.ensures c.index-first.ensures
     (omega (arith, c.places-test.true, c.len-place-end.ensures.value)) c.requires.rooms in
     omega (arith, at.node, c.requires.laid.net.same, ap (λ (xs : List ℕ). length xs) c.sinks-sinks.ensures.value)
 
 pub overflow_sub-given : goal.overflow_sub-given
 overflow_sub-given c =
-    let w : Whole = whole_by c.args.net.now c.args.parts.now in
+    let w : Whole = whole_of c.args.net.now c.args.parts.now in
     let at = read_node w c.args.block c.index-cells.result.now c.index-first.result.now c.places.place c.requires.laid c.requires.block c.index-cells.ensures c.index-first.ensures
     (omega (arith, c.places-test.true, c.len-place-end.ensures.value)) c.requires.rooms in
     omega (arith, at.fits, c.room.ensures, ap (λ (xs : List ℕ). slice_index xs (c.index-first.result.now + c.places.place)) c.sinks-sinks.ensures.value)
 
 pub overflow_add-given-in-places : goal.overflow_add-given-in-places
 overflow_add-given-in-places c =
-    let w : Whole = whole_by c.args.net.now c.args.parts.now in
+    let w : Whole = whole_of c.args.net.now c.args.parts.now in
     let p = c.places.place in
     let lp : p < count c.index-cells.result.now = omega (arith, c.places-test.true, c.len-place-end.ensures.value) in
     let at = read_node w c.args.block c.index-cells.result.now c.index-first.result.now p c.requires.laid c.requires.block c.index-cells.ensures c.index-first.ensures lp c.requires.rooms in
@@ -50,7 +49,7 @@ overflow_add-given-in-places c =
 
 pub places-preserved : goal.places-preserved
 places-preserved c =
-    let w : Whole = whole_by c.args.net.now c.args.parts.now in
+    let w : Whole = whole_of c.args.net.now c.args.parts.now in
     let p = c.places.place in
     let at = read_node w c.args.block c.index-cells.result.now c.index-first.result.now p c.requires.laid c.requires.block c.index-cells.ensures c.index-first.ensures
     (omega (arith, c.places-test.true, c.len-place-end.ensures.value)) c.requires.rooms in
@@ -61,7 +60,7 @@ places-preserved c =
 
 pub returns : goal.returns
 returns c =
-    let w : Whole = whole_by c.args.net.now c.args.parts.now in
+    let w : Whole = whole_of c.args.net.now c.args.parts.now in
     let at = at_read w (blocks_in w) c.args.block c.index-cells.result.now c.requires.laid refl c.requires.block c.index-cells.ensures in
     let f = λ (i : ℕ). given_at w (slice_index w.firsts c.args.block + i) in
     let all : c.places.place ≡ count (block_at w c.args.block) = omega (arith, c.places-test.false, c.places.auto.place-end, c.len-place-end.ensures.value, ap (λ (q : BlockView). count q) at.is) in

@@ -1,9 +1,9 @@
 use Rattle.std.proofs.Common.{◌≡◌, ◌+◌, slice_index}
 use Rattle.sums.specs.Sums.{sum_below}
-use Rattle.block_core.specs.Parts.{whole_by}
+use Rattle.block_net.specs.Whole.{whole_of}
 use Rattle.block_core.specs.Pieces.{given_at}
 use Rattle.block_core.proofs.pieces.given_in.Given as goal
 
 abbrev pub invariant-places : goal.invariant-places
 invariant-places l =
-    l.given ≡ sum_below l.place (λ i. given_at (whole_by l.net l.parts) (slice_index (whole_by l.net l.parts).firsts l.block + i))
+    l.given ≡ sum_below l.place (λ i. given_at (whole_of l.net l.parts) (slice_index (whole_of l.net l.parts).firsts l.block + i))

@@ -1,7 +1,7 @@
 use Rattle.std.proofs.Common.{◌≡◌, ◌<◌, length, refl, sym, subst, inl, inr, arith}
 use Rattle.std.proofs.lemmas.Bool.{cases_lt}
 use Rattle.block_core.specs.Views.{blocks_in}
-use Rattle.block_core.specs.Parts.{whole_by}
+use Rattle.block_net.specs.Whole.{whole_of}
 use Rattle.block_core.proofs.Steps.{at_read}
 use Rattle.block_cut.specs.Opening.{IsFlat}
 use Rattle.block_cut.proofs.Opened.{zeros_of_flat}
@@ -10,7 +10,7 @@ use Rattle.block_cut.proofs.opening.are_labels_zero.Goals as goal
 pub each-preserved : goal.each-preserved
 each-preserved c b l =
     let p = c.parts-parts.result.now in
-    let w = whole_by c.args.state.now.net p in
+    let w = whole_of c.args.state.now.net p in
     let lb : c.each.b < length p.blocks.items = omega (arith, c.each-test.true, c.len-b-end.ensures) in
     let at = at_read w (blocks_in w) c.each.b c.index.result.now c.parts-parts.ensures.laid refl lb c.index.ensures in
     elim (cases_lt b c.each.b) [

@@ -2,9 +2,8 @@ use Rattle.std.proofs.Common.{◌≡◌, ◌<◌, length, slice_index, refl, sym
 use Rattle.std.proofs.lemmas.Bool.{true≢false}
 use Rattle.std.proofs.lemmas.List.{get_or_read}
 use Rattle.block_net.specs.Views.{BlockView, count}
-use Rattle.block_net.specs.Whole.{block_at}
+use Rattle.block_net.specs.Whole.{block_at, whole_of}
 use Rattle.block_core.specs.Views.{blocks_in}
-use Rattle.block_core.specs.Parts.{whole_by}
 use Rattle.block_core.proofs.Steps.{at_read}
 use Rattle.block_cut.specs.Rest.{IsAtRest}
 use Rattle.block_cut.proofs.Resting.{place_below, rest_of_finished, finished_of_rest}
@@ -14,7 +13,7 @@ pub is_block_at_rest-requires : goal.is_block_at_rest-requires
 is_block_at_rest-requires c =
     let s = c.args.state.now in
     let p = c.parts-parts.result.now in
-    let w = whole_by s.net p in
+    let w = whole_of s.net p in
     let lb : c.each.b < length p.blocks.items = omega (arith, c.each-test.true, c.len-b-end.ensures) in
     let at = at_read w (blocks_in w) c.each.b c.index.result.now c.parts-parts.ensures.laid refl lb c.index.ensures in
     λ q lq.
@@ -27,7 +26,7 @@ pub returns-then-not-is_block_at_rest : goal.returns-then-not-is_block_at_rest
 returns-then-not-is_block_at_rest c =
     let s = c.args.state.now in
     let p = c.parts-parts.result.now in
-    let w = whole_by s.net p in
+    let w = whole_of s.net p in
     let lb : c.each.b < length p.blocks.items = omega (arith, c.each-test.true, c.len-b-end.ensures) in
     let at = at_read w (blocks_in w) c.each.b c.index.result.now c.parts-parts.ensures.laid refl lb c.index.ensures in (
       (λ yes. absurd (true≢false (sym yes))),

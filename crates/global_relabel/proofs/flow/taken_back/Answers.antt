@@ -1,5 +1,5 @@
 use Rattle.std.proofs.Common.{ap, ◌∙◌}
-use Rattle.block_net.specs.declared.rows.Lane.{Lane}
+use Rattle.block_net.specs.declared.rows.InnerLane.{InnerLane}
 use Rattle.block_net.specs.declared.rows.Border.{Border}
 use Rattle.global_relabel.proofs.Residuals.{back_is}
 use Rattle.global_relabel.proofs.flow.taken_back.Goals as goal
@@ -23,7 +23,7 @@ returns-then-from-to c =
     let back = back_is c.args.state.now c.parts-parts.result.now c.args.homes.now c.args.arc c.ends_homes-from.result.0 c.ends_homes-from.result.1 c.back_slot-slot.result
     c.net.result.now c.net-2.result.now c.index-cells.result.now c.parts-parts.ensures c.requires.homes c.requires.arc c.net.ensures.value c.net-2.ensures.value
     c.ends_homes-from.ensures.from c.ends_homes-from.ensures.to c.back_slot-slot.ensures c.index-cells.ensures in
-    ap (λ (q : Lane). q.residual) c.lane.ensures.value ∙ (back.inner c.if-from-to.true).1
+    ap (λ (q : InnerLane). q.residual) c.lane.ensures.value ∙ (back.inner c.if-from-to.true).1
 
 pub returns-else-from-to : goal.returns-else-from-to
 returns-else-from-to c =

@@ -1,5 +1,5 @@
 use Rattle.std.proofs.Common.{◌∙◌, ap}
-use Rattle.block_net.specs.declared.rows.Lane.{Lane}
+use Rattle.block_net.specs.declared.rows.InnerLane.{InnerLane}
 use Rattle.global_relabel.proofs.Residuals.{back_within}
 use Rattle.global_relabel.proofs.flow.taken_back_within.Goals as goal
 
@@ -13,4 +13,4 @@ pub returns : goal.returns
 returns c =
     let back = back_within c.args.state.now c.parts-parts.result.now c.args.arc c.back_slot-slot.result c.net.result.now c.index.result.now
     c.parts-parts.ensures c.requires.one c.requires.arc c.net.ensures.value c.back_slot-slot.ensures c.index.ensures in
-    ap (λ (q : Lane). q.residual) c.lane.ensures.value ∙ back.2
+    ap (λ (q : InnerLane). q.residual) c.lane.ensures.value ∙ back.2

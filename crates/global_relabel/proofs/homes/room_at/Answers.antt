@@ -2,7 +2,7 @@ use Rattle.std.proofs.Common.{◌≡◌, ◌<◌, ◌∙◌, length, slice_index
 use Rattle.std.proofs.lemmas.List.{get_or_read}
 use Rattle.parcel.specs.States.{State, room_of}
 use Rattle.block_core.specs.Views.{blocks_in}
-use Rattle.block_core.specs.Parts.{whole_by}
+use Rattle.block_net.specs.Whole.{whole_of}
 use Rattle.block_core.proofs.Steps.{at_read, room_read}
 use Rattle.global_relabel.specs.Homes.{AreHomes}
 use Rattle.global_relabel.proofs.Homing.{spot_of_home}
@@ -12,7 +12,7 @@ pub returns : goal.returns
 returns c =
     let s = c.args.state.now in
     let p = c.parts-parts.result.now in
-    let w = whole_by s.net p in
+    let w = whole_of s.net p in
     let v = c.args.v in
     let b = slice_index c.args.homes.now v in
     let laid = c.parts-parts.ensures.laid in

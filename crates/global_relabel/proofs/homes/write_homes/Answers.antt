@@ -3,9 +3,8 @@ use Rattle.std.proofs.lemmas.List.{get_or_read}
 use Rattle.flow_network.specs.Cut.{nodes}
 use Rattle.parcel.specs.States.{State, block_of}
 use Rattle.block_net.specs.Views.{BlockView, count}
-use Rattle.block_net.specs.Whole.{block_at}
+use Rattle.block_net.specs.Whole.{block_at, whole_of}
 use Rattle.block_core.specs.Views.{blocks_in}
-use Rattle.block_core.specs.Parts.{whole_by}
 use Rattle.block_core.proofs.Steps.{at_read}
 use Rattle.global_relabel.proofs.Homing.{number_below, homes_more}
 use Rattle.global_relabel.proofs.homes.write_homes.Goals as goal
@@ -14,7 +13,7 @@ pub write_block-requires : goal.write_block-requires
 write_block-requires c =
     let s = c.args.state.now in
     let p = c.parts-parts.result.now in
-    let w = whole_by s.net p in
+    let w = whole_of s.net p in
     let laid = c.parts-parts.ensures.laid in
     let lb : c.each.b < length p.blocks.items = omega (arith, c.each-test.true, c.len-b-end.ensures) in
     let at = at_read w (blocks_in w) c.each.b c.index-in-each.result.now laid refl lb c.index-in-each.ensures in
@@ -27,7 +26,7 @@ pub each-preserved : goal.each-preserved
 each-preserved c =
     let s = c.args.state.now in
     let p = c.parts-parts.result.now in
-    let w = whole_by s.net p in
+    let w = whole_of s.net p in
     let laid = c.parts-parts.ensures.laid in
     let lb : c.each.b < length p.blocks.items = omega (arith, c.each-test.true, c.len-b-end.ensures) in
     let at = at_read w (blocks_in w) c.each.b c.index-in-each.result.now laid refl lb c.index-in-each.ensures in

@@ -4,9 +4,8 @@ use Rattle.flow_network.specs.Progress.{top_label}
 use Rattle.sink_distances.specs.Search.{found_of}
 use Rattle.sink_distances.proofs.Order.{count-le-length}
 use Rattle.block_net.specs.Views.{BlockView, border_in}
-use Rattle.block_net.specs.Whole.{Whole, no_block, block_at}
+use Rattle.block_net.specs.Whole.{Whole, no_block, block_at, whole_of}
 use Rattle.block_core.specs.Views.{blocks_in}
-use Rattle.block_core.specs.Parts.{whole_by}
 use Rattle.block_core.proofs.Steps.{at_read}
 use Rattle.global_relabel.proofs.Places.{IsBorderEnd, border_at_place, border_place}
 use Rattle.global_relabel.proofs.Seeing.{seen_none, seen_more, seen_all}
@@ -14,7 +13,7 @@ use Rattle.global_relabel.proofs.search.mark_borders.Goals as goal
 
 pub index-first-requires : goal.index-first-requires
 index-first-requires c =
-    let w : Whole = whole_by c.args.split.now.net.now c.args.split.now.parts.now in
+    let w : Whole = whole_of c.args.split.now.net.now c.args.split.now.parts.now in
     let b = c.args.at.block in
     let B = c.index-cells.result.now in
     let u = c.args.at.node in
@@ -30,7 +29,7 @@ index-first-requires c =
 
 pub index-requires : goal.index-requires
 index-requires c =
-    let w : Whole = whole_by c.args.split.now.net.now c.args.split.now.parts.now in
+    let w : Whole = whole_of c.args.split.now.net.now c.args.split.now.parts.now in
     let b = c.args.at.block in
     let B = c.index-cells.result.now in
     let u = c.args.at.node in
@@ -46,7 +45,7 @@ index-requires c =
 
 pub mark_border-count-requires-clause-place : goal.mark_border-count-requires-clause-place
 mark_border-count-requires-clause-place c =
-    let w : Whole = whole_by c.args.split.now.net.now c.args.split.now.parts.now in
+    let w : Whole = whole_of c.args.split.now.net.now c.args.split.now.parts.now in
     let b = c.args.at.block in
     let B = c.index-cells.result.now in
     let u = c.args.at.node in
@@ -66,7 +65,7 @@ mark_border-count-requires-clause-place c =
 
 pub mark_border-count-requires-clause-node : goal.mark_border-count-requires-clause-node
 mark_border-count-requires-clause-node c =
-    let w : Whole = whole_by c.args.split.now.net.now c.args.split.now.parts.now in
+    let w : Whole = whole_of c.args.split.now.net.now c.args.split.now.parts.now in
     let b = c.args.at.block in
     let B = c.index-cells.result.now in
     let u = c.args.at.node in
@@ -88,7 +87,7 @@ mark_border-count-requires-clause-node c =
 
 pub loop-j-init : goal.loop-j-init
 loop-j-init c =
-    let w : Whole = whole_by c.args.split.now.net.now c.args.split.now.parts.now in
+    let w : Whole = whole_of c.args.split.now.net.now c.args.split.now.parts.now in
     let b = c.args.at.block in
     let B = c.index-cells.result.now in
     let u = c.args.at.node in
@@ -99,7 +98,7 @@ loop-j-init c =
 
 pub loop-j-preserved : goal.loop-j-preserved
 loop-j-preserved c =
-    let w : Whole = whole_by c.args.split.now.net.now c.args.split.now.parts.now in
+    let w : Whole = whole_of c.args.split.now.net.now c.args.split.now.parts.now in
     let b = c.args.at.block in
     let B = c.index-cells.result.now in
     let u = c.args.at.node in
@@ -127,7 +126,7 @@ loop-j-preserved c =
 
 pub returns-clause-marked : goal.returns-clause-marked
 returns-clause-marked c =
-    let w : Whole = whole_by c.args.split.now.net.now c.args.split.now.parts.now in
+    let w : Whole = whole_of c.args.split.now.net.now c.args.split.now.parts.now in
     let b = c.args.at.block in
     let B = c.index-cells.result.now in
     let u = c.args.at.node in

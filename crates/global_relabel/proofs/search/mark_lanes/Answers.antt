@@ -4,9 +4,8 @@ use Rattle.flow_network.specs.Progress.{top_label}
 use Rattle.sink_distances.specs.Search.{found_of}
 use Rattle.sink_distances.proofs.Order.{count-le-length}
 use Rattle.block_net.specs.Views.{lane_in}
-use Rattle.block_net.specs.Whole.{Whole}
+use Rattle.block_net.specs.Whole.{Whole, whole_of}
 use Rattle.block_core.specs.Views.{blocks_in}
-use Rattle.block_core.specs.Parts.{whole_by}
 use Rattle.block_core.proofs.Steps.{at_read}
 use Rattle.global_relabel.proofs.Places.{lane_at_place, lane_place}
 use Rattle.global_relabel.proofs.Seeing.{seen_none, seen_more, seen_all}
@@ -14,7 +13,7 @@ use Rattle.global_relabel.proofs.search.mark_lanes.Goals as goal
 
 pub mark_lane-count-requires-clause-opposite : goal.mark_lane-count-requires-clause-opposite
 mark_lane-count-requires-clause-opposite c =
-    let w : Whole = whole_by c.args.split.now.net.now c.args.split.now.parts.now in
+    let w : Whole = whole_of c.args.split.now.net.now c.args.split.now.parts.now in
     let b = c.args.at.block in
     let B = c.index-cells.result.now in
     let u = c.args.at.node in
@@ -27,7 +26,7 @@ mark_lane-count-requires-clause-opposite c =
 
 pub mark_lane-count-requires-clause-node : goal.mark_lane-count-requires-clause-node
 mark_lane-count-requires-clause-node c =
-    let w : Whole = whole_by c.args.split.now.net.now c.args.split.now.parts.now in
+    let w : Whole = whole_of c.args.split.now.net.now c.args.split.now.parts.now in
     let b = c.args.at.block in
     let B = c.index-cells.result.now in
     let u = c.args.at.node in
@@ -42,7 +41,7 @@ mark_lane-count-requires-clause-node c =
 
 pub loop-j-init : goal.loop-j-init
 loop-j-init c =
-    let w : Whole = whole_by c.args.split.now.net.now c.args.split.now.parts.now in
+    let w : Whole = whole_of c.args.split.now.net.now c.args.split.now.parts.now in
     let b = c.args.at.block in
     let B = c.index-cells.result.now in
     let u = c.args.at.node in
@@ -53,7 +52,7 @@ loop-j-init c =
 
 pub loop-j-preserved : goal.loop-j-preserved
 loop-j-preserved c =
-    let w : Whole = whole_by c.args.split.now.net.now c.args.split.now.parts.now in
+    let w : Whole = whole_of c.args.split.now.net.now c.args.split.now.parts.now in
     let b = c.args.at.block in
     let B = c.index-cells.result.now in
     let u = c.args.at.node in
@@ -74,7 +73,7 @@ loop-j-preserved c =
 
 pub returns-clause-marked : goal.returns-clause-marked
 returns-clause-marked c =
-    let w : Whole = whole_by c.args.split.now.net.now c.args.split.now.parts.now in
+    let w : Whole = whole_of c.args.split.now.net.now c.args.split.now.parts.now in
     let b = c.args.at.block in
     let B = c.index-cells.result.now in
     let u = c.args.at.node in

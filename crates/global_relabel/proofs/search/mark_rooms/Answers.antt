@@ -3,7 +3,7 @@ use Rattle.std.proofs.lemmas.List.{get_or_read}
 use Rattle.sink_distances.specs.Search.{found_of}
 use Rattle.block_net.specs.Views.{BlockView, count}
 use Rattle.block_core.specs.Views.{blocks_in}
-use Rattle.block_core.specs.Parts.{whole_by}
+use Rattle.block_net.specs.Whole.{whole_of}
 use Rattle.block_core.proofs.Steps.{at_read}
 use Rattle.global_relabel.proofs.Rooms.{place_below, starts_more}
 use Rattle.global_relabel.proofs.search.mark_rooms.Goals as goal
@@ -12,7 +12,7 @@ pub mark_block-count-requires-clause-inside : goal.mark_block-count-requires-cla
 mark_block-count-requires-clause-inside c =
     let s = c.args.state.now in
     let p = c.parts-parts.result.now in
-    let w = whole_by s.net p in
+    let w = whole_of s.net p in
     let laid = c.parts-parts.ensures.laid in
     let lb : c.each.b < length p.blocks.items = omega (arith, c.each-test.true, c.len-b-end.ensures) in
     let at = at_read w (blocks_in w) c.each.b c.index.result.now laid refl lb c.index.ensures in
@@ -24,7 +24,7 @@ pub each-preserved : goal.each-preserved
 each-preserved c =
     let s = c.args.state.now in
     let p = c.parts-parts.result.now in
-    let w = whole_by s.net p in
+    let w = whole_of s.net p in
     let laid = c.parts-parts.ensures.laid in
     let lb : c.each.b < length p.blocks.items = omega (arith, c.each-test.true, c.len-b-end.ensures) in
     let at = at_read w (blocks_in w) c.each.b c.index.result.now laid refl lb c.index.ensures in

@@ -1,6 +1,6 @@
 use Rattle.std.proofs.Common.{◌≡◌, ◌-◌, ◌∙◌, slice_set, sym, ap, subst, get_or-set_other}
 use Rattle.std.proofs.lemmas.List.{length-set}
-use Rattle.block_net.specs.declared.rows.Lane.{Lane}
+use Rattle.block_net.specs.declared.rows.InnerLane.{InnerLane}
 use Rattle.block_net.specs.Views.{BlockView, count, excess_in, label_in, lane_in, pushed}
 use Rattle.block_buckets.specs.Standing.{BucketedView, IsAside}
 use Rattle.block_buckets.proofs.Placing.{two_stand, stays_aside, still_aside}
@@ -12,7 +12,7 @@ invariant_of-self c =
     let v = c.args.v in
     let w = (lane_in b c.args.j).far in
     let less = slice_set b.excess v (excess_in b v - c.args.amount) in
-    let far : c.lane-far.result.far ≡ w = ap (λ (x : Lane). x.far) c.lane-far.ensures.value in
+    let far : c.lane-far.result.far ≡ w = ap (λ (x : InnerLane). x.far) c.lane-far.ensures.value in
     let is : c.push.new.self ≡ pushed b v c.args.j c.args.amount = c.push.ensures in
     two_stand b c.push.new.self _ _ _ v c.lane-far.result.far c.self.invariant (ap count is ∙ (length-set less w _ ∙ length-set b.excess v _)) (ap (λ (x : BlockView). x.top) is)
     (λ u. ap (λ (x : BlockView). label_in x u) is)

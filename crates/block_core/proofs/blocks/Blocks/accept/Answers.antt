@@ -1,20 +1,21 @@
 use Rattle.std.proofs.lemmas.Grind.{common_steps}
 use Rattle.std.proofs.Common.{◌≡◌, true, sym, ◌∙◌, ap, subst, arith}
+use Rattle.parcel.specs.declared.lane.Lane.{Lane}
 use Rattle.parcel.specs.declared.direction.Direction.{Direction}
 use Rattle.parcel.specs.Directions.{opposite}
 use Rattle.parcel.specs.States as core
 use Rattle.parcel.specs.Soundness.{amount_out}
 use Rattle.parcel.proofs.Lanes.{border_opposite}
 use Rattle.block_net.specs.Views.{BlockView, border_in}
-use Rattle.block_net.specs.Whole.{Whole, put_block, is_outer}
-use Rattle.block_core.specs.Views.{blocks_in, whole_in, IsLaid, IsRow, accepted}
+use Rattle.block_net.specs.Whole.{Whole, put_block, is_outer, whole_of}
+use Rattle.block_core.specs.Views.{blocks_in, IsLaid, IsRow, accepted}
 use Rattle.block_core.proofs.Steps.{at_read, border_read, border_capacity, row_as, back_spot, out_same, accepted_at}
 use Rattle.block_core.proofs.blocks.Blocks.accept.Goals as goal
 
 pub accept-requires-clause-fits : goal.accept-requires-clause-fits
 accept-requires-clause-fits c =
     let i = c.self.inside in
-    let w : Whole = whole_in i.net i.parts.firsts.items i.parts.slots.items i.parts.blocks.items in
+    let w : Whole = whole_of i.net i.parts in
     let b = c.row-block.result.0 in
     let p = c.row-block.result.1 in
     let B = c.index_mut.result.now in
@@ -23,12 +24,12 @@ accept-requires-clause-fits c =
     let found = subst (λ (q : Direction). IsRow w q (is_outer w q) b p) c.opposite_of.ensures c.row-block.ensures in
     let row = row_as w _ b B (opposite x) true p at found (border_opposite c.args.self.now.net c.args.self.now.blocks x ∙ c.requires.border) in
     let lane = border_read w _ b B (opposite x) p at row in
-    omega (arith, out_same (border_in B p).flight, ap (λ (q : core.Lane). amount_out q.flight) lane, ap (λ (q : core.Lane). q.residual) lane, border_capacity w _ b B (opposite x) p at row, c.requires.fits)
+    omega (arith, out_same (border_in B p).flight, ap (λ (q : Lane). amount_out q.flight) lane, ap (λ (q : Lane). q.residual) lane, border_capacity w _ b B (opposite x) p at row, c.requires.fits)
 
 pub invariant_of-self : goal.invariant_of-self
 invariant_of-self c =
     let i = c.self.inside in
-    let w : Whole = whole_in i.net i.parts.firsts.items i.parts.slots.items i.parts.blocks.items in
+    let w : Whole = whole_of i.net i.parts in
     let b = c.row-block.result.0 in
     let p = c.row-block.result.1 in
     let B = c.index_mut.result.now in
@@ -41,7 +42,7 @@ invariant_of-self c =
 pub returns : goal.returns
 returns c =
     let i = c.self.inside in
-    let w : Whole = whole_in i.net i.parts.firsts.items i.parts.slots.items i.parts.blocks.items in
+    let w : Whole = whole_of i.net i.parts in
     let b = c.row-block.result.0 in
     let p = c.row-block.result.1 in
     let B = c.index_mut.result.now in

@@ -1,13 +1,12 @@
 use Rattle.std.proofs.Common.{◌∙◌}
-use Rattle.block_net.specs.Whole.{Whole}
-use Rattle.block_core.specs.Views.{whole_in}
+use Rattle.block_net.specs.Whole.{Whole, whole_of}
 use Rattle.block_core.proofs.Steps.{at_read, excess_read}
 use Rattle.block_core.proofs.blocks.Blocks.excess.Goals as goal
 
 pub returns : goal.returns
 returns c =
     let i = c.self.inside in
-    let w : Whole = whole_in i.net i.parts.firsts.items i.parts.slots.items i.parts.blocks.items in
+    let w : Whole = whole_of i.net i.parts in
     let b = c.spot-block.result.0 in
     let p = c.spot-block.result.1 in
     let B = c.index.result.now in

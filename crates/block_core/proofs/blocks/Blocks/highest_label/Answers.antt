@@ -1,6 +1,5 @@
 use Rattle.std.proofs.Common.{◌∙◌, arith}
-use Rattle.block_net.specs.Whole.{Whole}
-use Rattle.block_core.specs.Views.{whole_in}
+use Rattle.block_net.specs.Whole.{Whole, whole_of}
 use Rattle.block_core.proofs.Steps.{at_read, top_read}
 use Rattle.block_core.proofs.Allowing.{highest_is}
 use Rattle.block_core.proofs.blocks.Blocks.highest_label.Goals as goal
@@ -8,7 +7,7 @@ use Rattle.block_core.proofs.blocks.Blocks.highest_label.Goals as goal
 pub returns-clause-value : goal.returns-clause-value
 returns-clause-value c =
     let i = c.self.inside in
-    let w : Whole = whole_in i.net i.parts.firsts.items i.parts.slots.items i.parts.blocks.items in
+    let w : Whole = whole_of i.net i.parts in
     let b = c.spot-block.result.0 in
     let p = c.spot-block.result.1 in
     let B = c.index.result.now in
@@ -18,7 +17,7 @@ returns-clause-value c =
 pub returns-clause-limit : goal.returns-clause-limit
 returns-clause-limit c =
     let i = c.self.inside in
-    let w : Whole = whole_in i.net i.parts.firsts.items i.parts.slots.items i.parts.blocks.items in
+    let w : Whole = whole_of i.net i.parts in
     let b = c.spot-block.result.0 in
     let p = c.spot-block.result.1 in
     let B = c.index.result.now in

@@ -1,14 +1,13 @@
 use Rattle.std.proofs.lemmas.Grind.{common_steps}
 use Rattle.std.proofs.Common.{true, false, sym, ◌∙◌, ap, arith}
-use Rattle.block_net.specs.Whole.{Whole, shown_lane, shown_border}
-use Rattle.block_core.specs.Views.{whole_in}
+use Rattle.block_net.specs.Whole.{Whole, shown_lane, shown_border, whole_of}
 use Rattle.block_core.proofs.Steps.{at_read, inner_read, border_read, row_as}
 use Rattle.block_core.proofs.blocks.Blocks.lane.Goals as goal
 
 pub returns-then-not-is_border : goal.returns-then-not-is_border
 returns-then-not-is_border c =
     let i = c.self.inside in
-    let w : Whole = whole_in i.net i.parts.firsts.items i.parts.slots.items i.parts.blocks.items in
+    let w : Whole = whole_of i.net i.parts in
     let b = c.row-block.result.0 in
     let p = c.row-block.result.1 in
     let B = c.index-cells.result.now in
@@ -19,7 +18,7 @@ returns-then-not-is_border c =
 pub returns : goal.returns
 returns c =
     let i = c.self.inside in
-    let w : Whole = whole_in i.net i.parts.firsts.items i.parts.slots.items i.parts.blocks.items in
+    let w : Whole = whole_of i.net i.parts in
     let b = c.row-block.result.0 in
     let p = c.row-block.result.1 in
     let B = c.index-cells.result.now in

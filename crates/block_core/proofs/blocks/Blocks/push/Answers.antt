@@ -1,15 +1,16 @@
 use Rattle.std.proofs.Common.{◌≡◌, false, sym, ap, subst, arith}
+use Rattle.parcel.specs.declared.lane.Lane.{Lane}
 use Rattle.parcel.specs.States as core
 use Rattle.block_net.specs.Views.{BlockView}
-use Rattle.block_net.specs.Whole.{Whole, put_block}
-use Rattle.block_core.specs.Views.{blocks_in, whole_in, IsLaid, pushed}
+use Rattle.block_net.specs.Whole.{Whole, put_block, whole_of}
+use Rattle.block_core.specs.Views.{blocks_in, IsLaid, pushed}
 use Rattle.block_core.proofs.Steps.{at_read, excess_read, inner_read, row_as, spot_as, far_spot, back_row, far_other, pushed_at}
 use Rattle.block_core.proofs.blocks.Blocks.push.Goals as goal
 
 pub push-requires-clause-other : goal.push-requires-clause-other
 push-requires-clause-other c =
     let i = c.self.inside in
-    let w : Whole = whole_in i.net i.parts.firsts.items i.parts.slots.items i.parts.blocks.items in
+    let w : Whole = whole_of i.net i.parts in
     let b = c.row-block.result.0 in
     let j = c.row-block.result.1 in
     let B = c.index_mut.result.now in
@@ -23,7 +24,7 @@ push-requires-clause-other c =
 pub push-requires-clause-excess : goal.push-requires-clause-excess
 push-requires-clause-excess c =
     let i = c.self.inside in
-    let w : Whole = whole_in i.net i.parts.firsts.items i.parts.slots.items i.parts.blocks.items in
+    let w : Whole = whole_of i.net i.parts in
     let b = c.row-block.result.0 in
     let j = c.row-block.result.1 in
     let B = c.index_mut.result.now in
@@ -37,7 +38,7 @@ push-requires-clause-excess c =
 pub push-requires-clause-residual : goal.push-requires-clause-residual
 push-requires-clause-residual c =
     let i = c.self.inside in
-    let w : Whole = whole_in i.net i.parts.firsts.items i.parts.slots.items i.parts.blocks.items in
+    let w : Whole = whole_of i.net i.parts in
     let b = c.row-block.result.0 in
     let j = c.row-block.result.1 in
     let B = c.index_mut.result.now in
@@ -46,12 +47,12 @@ push-requires-clause-residual c =
     let row = row_as w _ b B x false j at c.row-block.ensures c.requires.inner in
     let p = c.spot-place.result.1 in
     let spot = spot_as w _ b B x false j c.near_of.result c.spot-place.result.0 p at row c.near_of.ensures.value c.spot-place.ensures in
-    omega (arith, ap (λ (q : core.Lane). q.residual) (inner_read w _ b B x j at row), c.requires.residual)
+    omega (arith, ap (λ (q : Lane). q.residual) (inner_read w _ b B x j at row), c.requires.residual)
 
 pub invariant_of-self : goal.invariant_of-self
 invariant_of-self c =
     let i = c.self.inside in
-    let w : Whole = whole_in i.net i.parts.firsts.items i.parts.slots.items i.parts.blocks.items in
+    let w : Whole = whole_of i.net i.parts in
     let b = c.row-block.result.0 in
     let j = c.row-block.result.1 in
     let B = c.index_mut.result.now in
@@ -65,7 +66,7 @@ invariant_of-self c =
 pub returns : goal.returns
 returns c =
     let i = c.self.inside in
-    let w : Whole = whole_in i.net i.parts.firsts.items i.parts.slots.items i.parts.blocks.items in
+    let w : Whole = whole_of i.net i.parts in
     let b = c.row-block.result.0 in
     let j = c.row-block.result.1 in
     let B = c.index_mut.result.now in

@@ -1,14 +1,14 @@
 use Rattle.std.proofs.Common.{◌≡◌, sym, subst}
 use Rattle.block_net.specs.Views.{BlockView}
-use Rattle.block_net.specs.Whole.{Whole, put_block}
-use Rattle.block_core.specs.Views.{blocks_in, whole_in, IsLaid, labelled}
+use Rattle.block_net.specs.Whole.{Whole, put_block, whole_of}
+use Rattle.block_core.specs.Views.{blocks_in, IsLaid, labelled}
 use Rattle.block_core.proofs.Steps.{at_read, labelled_at}
 use Rattle.block_core.proofs.blocks.Blocks.relabel.Goals as goal
 
 pub invariant_of-self : goal.invariant_of-self
 invariant_of-self c =
     let i = c.self.inside in
-    let w : Whole = whole_in i.net i.parts.firsts.items i.parts.slots.items i.parts.blocks.items in
+    let w : Whole = whole_of i.net i.parts in
     let b = c.spot-block.result.0 in
     let p = c.spot-block.result.1 in
     let B = c.index_mut.result.now in
@@ -18,7 +18,7 @@ invariant_of-self c =
 pub returns : goal.returns
 returns c =
     let i = c.self.inside in
-    let w : Whole = whole_in i.net i.parts.firsts.items i.parts.slots.items i.parts.blocks.items in
+    let w : Whole = whole_of i.net i.parts in
     let b = c.spot-block.result.0 in
     let p = c.spot-block.result.1 in
     let B = c.index_mut.result.now in

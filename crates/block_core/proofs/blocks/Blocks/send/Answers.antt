@@ -1,16 +1,17 @@
 use Rattle.std.proofs.lemmas.Grind.{common_steps}
 use Rattle.std.proofs.Common.{◌≡◌, true, sym, ◌∙◌, ap, subst, arith}
+use Rattle.parcel.specs.declared.lane.Lane.{Lane}
 use Rattle.parcel.specs.States as core
 use Rattle.block_net.specs.Views.{BlockView}
-use Rattle.block_net.specs.Whole.{Whole, put_block}
-use Rattle.block_core.specs.Views.{blocks_in, whole_in, IsLaid, sent}
+use Rattle.block_net.specs.Whole.{Whole, put_block, whole_of}
+use Rattle.block_core.specs.Views.{blocks_in, IsLaid, sent}
 use Rattle.block_core.proofs.Steps.{at_read, excess_read, border_read, row_as, spot_as, sent_at}
 use Rattle.block_core.proofs.blocks.Blocks.send.Goals as goal
 
 pub send-requires-clause-excess : goal.send-requires-clause-excess
 send-requires-clause-excess c =
     let i = c.self.inside in
-    let w : Whole = whole_in i.net i.parts.firsts.items i.parts.slots.items i.parts.blocks.items in
+    let w : Whole = whole_of i.net i.parts in
     let b = c.row-block.result.0 in
     let j = c.row-block.result.1 in
     let B = c.index_mut.result.now in
@@ -24,7 +25,7 @@ send-requires-clause-excess c =
 pub send-requires-clause-residual : goal.send-requires-clause-residual
 send-requires-clause-residual c =
     let i = c.self.inside in
-    let w : Whole = whole_in i.net i.parts.firsts.items i.parts.slots.items i.parts.blocks.items in
+    let w : Whole = whole_of i.net i.parts in
     let b = c.row-block.result.0 in
     let j = c.row-block.result.1 in
     let B = c.index_mut.result.now in
@@ -33,12 +34,12 @@ send-requires-clause-residual c =
     let row = row_as w _ b B x true j at c.row-block.ensures c.requires.border in
     let p = c.spot-place.result.1 in
     let spot = spot_as w _ b B x true j c.near_of.result c.spot-place.result.0 p at row c.near_of.ensures.value c.spot-place.ensures in
-    omega (arith, ap (λ (q : core.Lane). q.residual) (border_read w _ b B x j at row), c.requires.residual)
+    omega (arith, ap (λ (q : Lane). q.residual) (border_read w _ b B x j at row), c.requires.residual)
 
 pub send-requires-clause-idle : goal.send-requires-clause-idle
 send-requires-clause-idle c =
     let i = c.self.inside in
-    let w : Whole = whole_in i.net i.parts.firsts.items i.parts.slots.items i.parts.blocks.items in
+    let w : Whole = whole_of i.net i.parts in
     let b = c.row-block.result.0 in
     let j = c.row-block.result.1 in
     let B = c.index_mut.result.now in
@@ -47,12 +48,12 @@ send-requires-clause-idle c =
     let row = row_as w _ b B x true j at c.row-block.ensures c.requires.border in
     let p = c.spot-place.result.1 in
     let spot = spot_as w _ b B x true j c.near_of.result c.spot-place.result.0 p at row c.near_of.ensures.value c.spot-place.ensures in
-    ap (λ (q : core.Lane). q.flight) (border_read w _ b B x j at row) ∙ c.requires.idle
+    ap (λ (q : Lane). q.flight) (border_read w _ b B x j at row) ∙ c.requires.idle
 
 pub invariant_of-self : goal.invariant_of-self
 invariant_of-self c =
     let i = c.self.inside in
-    let w : Whole = whole_in i.net i.parts.firsts.items i.parts.slots.items i.parts.blocks.items in
+    let w : Whole = whole_of i.net i.parts in
     let b = c.row-block.result.0 in
     let j = c.row-block.result.1 in
     let B = c.index_mut.result.now in
@@ -66,7 +67,7 @@ invariant_of-self c =
 pub returns : goal.returns
 returns c =
     let i = c.self.inside in
-    let w : Whole = whole_in i.net i.parts.firsts.items i.parts.slots.items i.parts.blocks.items in
+    let w : Whole = whole_of i.net i.parts in
     let b = c.row-block.result.0 in
     let j = c.row-block.result.1 in
     let B = c.index_mut.result.now in

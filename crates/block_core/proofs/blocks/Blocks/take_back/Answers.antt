@@ -1,29 +1,30 @@
 use Rattle.std.proofs.lemmas.Grind.{common_steps}
 use Rattle.std.proofs.Common.{◌≡◌, true, sym, ap, subst, arith}
+use Rattle.parcel.specs.declared.lane.Lane.{Lane}
 use Rattle.parcel.specs.States as core
 use Rattle.parcel.specs.Soundness.{amount_out}
 use Rattle.block_net.specs.Views.{BlockView, border_in}
-use Rattle.block_net.specs.Whole.{Whole, put_block}
-use Rattle.block_core.specs.Views.{blocks_in, whole_in, IsLaid, returned}
+use Rattle.block_net.specs.Whole.{Whole, put_block, whole_of}
+use Rattle.block_core.specs.Views.{blocks_in, IsLaid, returned}
 use Rattle.block_core.proofs.Steps.{at_read, top_read, border_read, row_as, border_spot, out_same, returned_at}
 use Rattle.block_core.proofs.blocks.Blocks.take_back.Goals as goal
 
 pub take_back-requires-clause-fits : goal.take_back-requires-clause-fits
 take_back-requires-clause-fits c =
     let i = c.self.inside in
-    let w : Whole = whole_in i.net i.parts.firsts.items i.parts.slots.items i.parts.blocks.items in
+    let w : Whole = whole_of i.net i.parts in
     let b = c.row-block.result.0 in
     let p = c.row-block.result.1 in
     let B = c.index_mut.result.now in
     let at = at_read w c.args.self.now b B c.self.invariant c.self.view_is c.row-block.ensures.block c.index_mut.ensures.value in
     let x = c.args.direction in
     let row = row_as w _ b B x true p at c.row-block.ensures c.requires.border in
-    omega (arith, out_same (border_in B p).flight, ap (λ (q : core.Lane). amount_out q.flight) (border_read w _ b B x p at row), c.requires.fits)
+    omega (arith, out_same (border_in B p).flight, ap (λ (q : Lane). amount_out q.flight) (border_read w _ b B x p at row), c.requires.fits)
 
 pub take_back-requires-clause-told : goal.take_back-requires-clause-told
 take_back-requires-clause-told c =
     let i = c.self.inside in
-    let w : Whole = whole_in i.net i.parts.firsts.items i.parts.slots.items i.parts.blocks.items in
+    let w : Whole = whole_of i.net i.parts in
     let b = c.row-block.result.0 in
     let p = c.row-block.result.1 in
     let B = c.index_mut.result.now in
@@ -35,7 +36,7 @@ take_back-requires-clause-told c =
 pub invariant_of-self : goal.invariant_of-self
 invariant_of-self c =
     let i = c.self.inside in
-    let w : Whole = whole_in i.net i.parts.firsts.items i.parts.slots.items i.parts.blocks.items in
+    let w : Whole = whole_of i.net i.parts in
     let b = c.row-block.result.0 in
     let p = c.row-block.result.1 in
     let B = c.index_mut.result.now in
@@ -47,7 +48,7 @@ invariant_of-self c =
 pub returns : goal.returns
 returns c =
     let i = c.self.inside in
-    let w : Whole = whole_in i.net i.parts.firsts.items i.parts.slots.items i.parts.blocks.items in
+    let w : Whole = whole_of i.net i.parts in
     let b = c.row-block.result.0 in
     let p = c.row-block.result.1 in
     let B = c.index_mut.result.now in

@@ -1,7 +1,6 @@
 use Rattle.std.proofs.Common.{subst, arith, ap}
-use Rattle.block_net.specs.Whole.{Whole}
+use Rattle.block_net.specs.Whole.{Whole, whole_of}
 use Rattle.block_core.specs.Views.{BlocksView, blocks_in}
-use Rattle.block_core.specs.Parts.{whole_by}
 use Rattle.block_core.specs.ByBlock.{IsToldFrom}
 use Rattle.block_core.proofs.ByBlock.{told_view}
 use Rattle.block_core.proofs.blocks.Blocks.tell_from.Goals as goal
@@ -12,6 +11,6 @@ tell_block-requires-clause-block c = omega (arith, c.requires, ap (λ (q : Block
 pub returns : goal.returns
 returns c =
     let i = c.self.inside in
-    let w : Whole = whole_by i.net i.parts in
-    let u : Whole = whole_by i.net c.tell_block.new.parts in
+    let w : Whole = whole_of i.net i.parts in
+    let u : Whole = whole_of i.net c.tell_block.new.parts in
     subst (λ (q : BlocksView). IsToldFrom q (blocks_in u) c.args.block) c.self.view_is (told_view w u c.args.block c.self.invariant (omega (arith, c.requires, ap (λ (q : BlocksView). q.blocks) c.self.view_is)) c.tell_block.ensures)

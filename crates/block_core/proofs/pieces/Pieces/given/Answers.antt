@@ -1,13 +1,13 @@
 use Rattle.std.proofs.Common.{◌≡◌, ◌∙◌, ◌+◌, ◌≤◌, length, sum, ap, add-one, arith}
 use Rattle.sums.specs.Sums.{sum_below}
-use Rattle.block_net.specs.Whole.{Whole}
-use Rattle.block_core.specs.Pieces.{whole_within, state_in, given_by}
+use Rattle.block_net.specs.Whole.{Whole, whole_of}
+use Rattle.block_core.specs.Pieces.{state_in, given_by}
 use Rattle.block_core.proofs.Given.{some_blocks, given_all}
 use Rattle.block_core.proofs.pieces.Pieces.given.Goals as goal
 
 pub overflow_add-given : goal.overflow_add-given
 overflow_add-given c =
-    let w : Whole = whole_within c.args.self.now in
+    let w : Whole = whole_of c.args.self.now.net c.args.self.now.parts in
     let b = c.each.block in
     let more : sum_below b (given_by w) + given_by w b ≤ sum w.net.sinks = rw add-one at (some_blocks w (b + 1) c.requires.laid (omega (arith, c.each-test.true, c.len-block-end.ensures))) in
     let was : c.each.given ≡ sum_below b (given_by w) = c.each.invariant in
@@ -15,7 +15,7 @@ overflow_add-given c =
 
 pub each-preserved : goal.each-preserved
 each-preserved c =
-    let w : Whole = whole_within c.args.self.now in
+    let w : Whole = whole_of c.args.self.now.net c.args.self.now.parts in
     let b = c.each.block in
     let was : c.each.given ≡ sum_below b (given_by w) = c.each.invariant in
     let next : c.each.given + c.given_in-given.result ≡ sum_below (b + 1) (given_by w) = rw add-one (omega (arith, was, c.given_in-given.ensures)) in
@@ -23,7 +23,7 @@ each-preserved c =
 
 pub returns : goal.returns
 returns c =
-    let w : Whole = whole_within c.args.self.now in
+    let w : Whole = whole_of c.args.self.now.net c.args.self.now.parts in
     let all : c.each.block ≡ length w.blocks = omega (arith, c.each-test.false, c.each.auto.block-end, c.len-block-end.ensures) in
     let was : c.each.given ≡ sum_below c.each.block (given_by w) = c.each.invariant in
     ap (λ k. k + sum (state_in c.args.self.now).rooms) (was ∙ ap (λ k. sum_below k (given_by w)) all) ∙ given_all w c.requires.laid c.requires.rooms

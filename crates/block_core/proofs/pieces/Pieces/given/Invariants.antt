@@ -1,7 +1,8 @@
 use Rattle.std.proofs.Common.{◌≡◌}
 use Rattle.sums.specs.Sums.{sum_below}
-use Rattle.block_core.specs.Pieces.{whole_within, given_by}
+use Rattle.block_net.specs.Whole.{whole_of}
+use Rattle.block_core.specs.Pieces.{given_by}
 use Rattle.block_core.proofs.pieces.Pieces.given.Given as goal
 
 abbrev pub invariant-each : goal.invariant-each
-invariant-each l = l.given ≡ sum_below l.block (given_by (whole_within l.self))
+invariant-each l = l.given ≡ sum_below l.block (given_by (whole_of l.self.net l.self.parts))

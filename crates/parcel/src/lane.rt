@@ -1,4 +1,4 @@
-use parcel::Flight;
+use crate::flight::Flight;
 
 /// What the block of a direction's near end holds of the direction.
 #[derive(Clone, Copy)]
