@@ -1,8 +1,7 @@
 //! A picture restored by workers.
 use byte_streams::Watched;
-use image_options::{Neighbours, RestoreOptions};
 use labellings::Moves;
-use run_options::Shape;
+use run_options::{Neighbours, RestoreOptions, Shape};
 use std::alloc::{AllocError, Global};
 use std::io;
 use std::io::Write;

@@ -3,10 +3,9 @@ ghost use Rattle.std.specs.Prelude.{◌<◌};
 
 use crate::pictures::{Counter, Kept};
 use byte_streams::Watched;
-use image_options::{Neighbours, RestoreOptions};
 use labellings::Moves;
 use moves::{Alone, How};
-use run_options::Shape;
+use run_options::{Neighbours, RestoreOptions, Shape};
 use std::alloc::{AllocError, Global};
 use std::process::Abort;
 use std::sync::Wait;

@@ -1,8 +1,8 @@
 -- Why a subcommand does not give what it is asked for.
 use Rattle.std.proofs.Common.{◌≡◌, List, Option, Some, Result, IfErr, IsSomeAnd, subst, sym}
 use Rattle.clap.specs.Words.{Row, Text}
-use Rattle.image_options.specs.declared.options.RestoreOptions.{RestoreOptions}
-use Rattle.image_options.specs.declared.options.StereoOptions.{StereoOptions}
+use Rattle.run_options.specs.declared.options.RestoreOptions.{RestoreOptions}
+use Rattle.run_options.specs.declared.options.StereoOptions.{StereoOptions}
 use Rattle.command_line.specs.Options.{IsFirstBad, IsRestore, IsShared, IsStereo, restore_shared, stereo_shared}
 use Rattle.command_line.specs.Task.{HasNo, IsBadOptionOf, IsRequestOf, IsTaskOf}
 use Rattle.command_line.specs.declared.task.OptionName.{OptionName}

@@ -3,14 +3,13 @@ use Rattle.block_net.specs.Limits.{block_limit}
 use Rattle.std.specs.Prelude.{◌≡◌, ◌≢◌, ◌↔◌, ℕ, ◌≤◌, Bool, IsTrue, Option, Some, None, option_and_then, IsSomeAnd, List, codes}
 use Rattle.std.specs.Str.Parse.{IsNumeral, digits_value, without_leading_plus}
 use Rattle.clap.specs.Words.{Row, Text, first_of, one_of}
-use Rattle.image_options.specs.Limits.{cap_limit, maxval_limit}
-use Rattle.image_options.specs.declared.options.Neighbours.{Neighbours}
-use Rattle.image_options.specs.declared.options.Neighbours.TheVariants.{Four, Eight}
-use Rattle.image_options.specs.declared.options.RestoreOptions.{RestoreOptions}
-use Rattle.image_options.specs.declared.options.StereoOptions.{StereoOptions}
-use Rattle.image_options.specs.declared.options.SegmentOptions.{SegmentOptions}
+use Rattle.run_options.specs.Limits.{cap_limit, cycle_limit, label_cost_limit, maxval_limit, trunc_limit}
+use Rattle.run_options.specs.declared.options.Neighbours.{Neighbours}
+use Rattle.run_options.specs.declared.options.Neighbours.TheVariants.{Four, Eight}
+use Rattle.run_options.specs.declared.options.RestoreOptions.{RestoreOptions}
+use Rattle.run_options.specs.declared.options.StereoOptions.{StereoOptions}
+use Rattle.run_options.specs.declared.options.SegmentOptions.{SegmentOptions}
 use Rattle.label_field.specs.Limits.{label_limit, weight_limit}
-use Rattle.run_options.specs.Limits.{cycle_limit, label_cost_limit, trunc_limit}
 use Rattle.run_options.specs.Names.{shape_named}
 use Rattle.labellings.specs.Names.{moves_named}
 use Rattle.labellings.specs.declared.cycles.Moves.{Moves}

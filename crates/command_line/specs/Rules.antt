@@ -5,9 +5,8 @@ use Rattle.clap.specs.declared.builder.action.ArgAction.TheVariants.{SetTrue}
 use Rattle.clap.specs.declared.builder.command.Command.{Command}
 use Rattle.clap.specs.declared.builder.command.Command.TheViews.{out-Command}
 use Rattle.clap.specs.declared.builder.value_parser.ValueParser.TheVariants.{Signed}
-use Rattle.image_options.specs.Limits.{cap_limit, maxval_limit}
+use Rattle.run_options.specs.Limits.{cap_limit, cycle_limit, label_cost_limit, maxval_limit, trunc_limit}
 use Rattle.label_field.specs.Limits.{label_limit, weight_limit}
-use Rattle.run_options.specs.Limits.{cycle_limit, label_cost_limit, trunc_limit}
 use Rattle.block_net.specs.Limits.{block_limit}
 use Rattle.worker_options.specs.Limits.{ring_limit, round_limit, thread_limit, turn_limit}
 

@@ -4,7 +4,7 @@ use Rattle.clap.specs.Words.{IsAmong, Row, Text, fault_of, kind_of, subcommand_o
 use Rattle.clap.specs.declared.error.Error.{Error}
 use Rattle.clap.specs.declared.error.ErrorKind.{ErrorKind}
 use Rattle.clap.specs.declared.error.ErrorKind.TheVariants as kind
-use Rattle.image_options.specs.Ranges.{AreRestoreOptions, AreSegmentOptions, AreStereoOptions}
+use Rattle.run_options.specs.Ranges.{AreRestoreOptions, AreSegmentOptions, AreStereoOptions}
 use Rattle.command_line.specs.App.{gco_app}
 use Rattle.command_line.specs.Options.{HasFlag, HasWorkers, IsFirstBad, IsOnlyBad, IsRestore, IsSegment, IsStereo}
 use Rattle.command_line.specs.declared.task.NoTask.{NoTask}
@@ -13,7 +13,9 @@ use Rattle.command_line.specs.declared.task.OptionName.{OptionName}
 use Rattle.worker_options.specs.Ranges.{AreInRange}
 use Rattle.command_line.specs.declared.task.Request.{Request}
 use Rattle.command_line.specs.declared.task.Task.{Task}
-use Rattle.command_line.specs.declared.task.Task.TheVariants.{Energy, Label, Restore, Stereo, Segment}
+use Rattle.command_line.specs.declared.task.Task.TheVariants.{Energy, Label, Picture}
+use Rattle.command_line.specs.declared.task.PictureOptions.{PictureOptions}
+use Rattle.command_line.specs.declared.task.PictureOptions.TheVariants.{Restore, Stereo, Segment}
 use Rattle.command_line.specs.declared.values.Unmet.{Unmet}
 use Rattle.command_line.specs.declared.values.Unmet.TheVariants as unmet
 
@@ -21,13 +23,17 @@ use Rattle.command_line.specs.declared.values.Unmet.TheVariants as unmet
 abbrev pub IsAccepted : List Text → Type 0
 IsAccepted words = fault_of gco_app words ≡ []
 
--- the task of a subcommand, by its name and its matches
+-- the image command of a subcommand and its options, by its name and its matches
+abbrev pub IsPictureOf : Text → List Row → PictureOptions → Type 0
+IsPictureOf name rows (Restore o) = (name ≡ codes "restore") × IsRestore rows o
+IsPictureOf name rows (Stereo o) = (name ≡ codes "stereo") × IsStereo rows o
+IsPictureOf name rows (Segment o) = (name ≡ codes "segment") × IsSegment rows o
+
+-- the task of a subcommand
 abbrev pub IsTaskOf : Text → List Row → Task → Type 0
 IsTaskOf name rows Energy = name ≡ codes "energy"
 IsTaskOf name rows (Label bound) = (name ≡ codes "label") × HasFlag rows (codes "bound") bound
-IsTaskOf name rows (Restore o) = (name ≡ codes "restore") × IsRestore rows o
-IsTaskOf name rows (Stereo o) = (name ≡ codes "stereo") × IsStereo rows o
-IsTaskOf name rows (Segment o) = (name ≡ codes "segment") × IsSegment rows o
+IsTaskOf name rows (Picture o) = IsPictureOf name rows o
 
 -- what a subcommand asks for: its task, and the workers that are to do it
 abbrev pub IsRequestOf : Text → List Row → Request → Type 0
@@ -48,13 +54,17 @@ abbrev pub NamesBadOption : List Text → OptionName → Type 0
 NamesBadOption words option =
     IsAccepted words × IsSomeAnd (subcommand_of gco_app words) (λ p. IsBadOptionOf p.0 p.1 option)
 
--- the options of the task are in their ranges
+-- the options of an image command are in their ranges
+abbrev pub FitsPicture : PictureOptions → Type 0
+FitsPicture (Restore o) = AreRestoreOptions o
+FitsPicture (Stereo o) = AreStereoOptions o
+FitsPicture (Segment o) = AreSegmentOptions o
+
+-- and those of the task
 abbrev pub FitsTask : Task → Type 0
 FitsTask Energy = ⊤
 FitsTask (Label bound) = ⊤
-FitsTask (Restore o) = AreRestoreOptions o
-FitsTask (Stereo o) = AreStereoOptions o
-FitsTask (Segment o) = AreSegmentOptions o
+FitsTask (Picture o) = FitsPicture o
 
 -- and those of the workers
 abbrev pub Fits : Request → Type 0

@@ -8,5 +8,5 @@ mod task;
 mod values;
 mod words;
 
-pub use task::{NoTask, OptionName, Request, Task};
+pub use task::{NoTask, OptionName, PictureOptions, Request, Task};
 pub use words::parse;

@@ -8,9 +8,8 @@ use crate::help;
 use block_net::BLOCK_LIMIT;
 use clap::builder::ValueParser;
 use clap::{Arg, ArgAction, Command};
-use image_options::{CAP_LIMIT, MAXVAL_LIMIT};
 use label_field::{LABEL_LIMIT, WEIGHT_LIMIT};
-use run_options::{CYCLE_LIMIT, LABEL_COST_LIMIT, TRUNC_LIMIT};
+use run_options::{CAP_LIMIT, CYCLE_LIMIT, LABEL_COST_LIMIT, MAXVAL_LIMIT, TRUNC_LIMIT};
 use std::alloc::{AllocError, Global};
 use worker_options::{RING_LIMIT, ROUND_LIMIT, THREAD_LIMIT, TURN_LIMIT};
 

@@ -2,7 +2,7 @@
 ghost use Rattle.std.specs.Prelude.{◌≡◌};
 ghost use Rattle.command_line.specs.declared.task.NoTask.TheVariants.{OutOfMemory};
 
-use image_options::{RestoreOptions, SegmentOptions, StereoOptions};
+use run_options::{RestoreOptions, SegmentOptions, StereoOptions};
 use std::alloc::AllocError;
 use worker_options::Options;
 
@@ -16,6 +16,13 @@ pub enum Task {
         /// Whether it is to be told how near the labelling is to the least energy.
         bound: bool,
     },
+    /// One of the image commands: moves to labellings of the pixels, and the picture of the last one.
+    Picture(PictureOptions),
+}
+
+/// Which image command, and its options.
+#[derive(Clone, Copy, Debug, PartialEq, Eq)]
+pub enum PictureOptions {
     /// `gco restore`: a picture with few and small jumps between neighbours.
     Restore(RestoreOptions),
     /// `gco stereo`: how far the pixels of a left picture have moved in the right one.

@@ -1,19 +1,19 @@
 //! The options of a subcommand, read from what `clap` matched.
 ghost use Rattle.std.specs.Prelude.{◌≡◌, ℕ, ◌≤◌, ◌<◌, ◌^◌, Some, option_map, IfOk, IfErr, IfSome, IfNone};
 ghost use Rattle.clap.specs.Words.{first_of, found_of, rows_of};
-ghost use Rattle.image_options.specs.declared.options.Neighbours.{Neighbours};
+ghost use Rattle.run_options.specs.declared.options.Neighbours.{Neighbours};
 ghost use Rattle.command_line.specs.Options.{AreNames, AreWorkers, HasFlag, HasLabelCost, HasNeighbours, HasNumber, HasValue, IsFirstBad, IsFirstNone, IsOnlyBad, IsRestore, IsSegment, IsShared, IsStereo, moves_of, smooth_of};
 ghost use Rattle.command_line.specs.Task.{HasNo};
 
 use crate::OptionName;
 use crate::rules::MOST_BLOCKS;
 use clap::ArgMatches;
-use image_options::{
-    CAP_LIMIT, MAXVAL_LIMIT, Neighbours, RestoreOptions, SegmentOptions, StereoOptions,
-};
 use label_field::{LABEL_LIMIT, WEIGHT_LIMIT};
 use labellings::Moves;
-use run_options::{CYCLE_LIMIT, LABEL_COST_LIMIT, Shape, TRUNC_LIMIT};
+use run_options::{
+    CAP_LIMIT, CYCLE_LIMIT, LABEL_COST_LIMIT, MAXVAL_LIMIT, Neighbours, RestoreOptions,
+    SegmentOptions, Shape, StereoOptions, TRUNC_LIMIT,
+};
 use worker_options::{Options, RING_LIMIT, ROUND_LIMIT, THREAD_LIMIT, TURN_LIMIT};
 
 /// Why the options of a subcommand are not had.

@@ -2,11 +2,11 @@
 ghost use Rattle.std.specs.Prelude.{◌≡◌, ◌<◌, Some, None, OnOk, IfOk, IfErr, IsSomeAnd, MatchOption, length, map, string_bytes};
 ghost use Rattle.clap.specs.Words.{found_of, rows_of, subcommand_of, subcommand_rows_of};
 ghost use Rattle.command_line.specs.App.{gco_app};
-ghost use Rattle.command_line.specs.Task.{Asks, Fits, HasNo, HasText, IsAccepted, IsBadOptionOf, IsNoTaskFor, IsNoTaskOf, IsRequestOf, IsTaskOf};
+ghost use Rattle.command_line.specs.Task.{Asks, Fits, HasNo, HasText, IsAccepted, IsBadOptionOf, IsNoTaskFor, IsNoTaskOf, IsPictureOf, IsRequestOf, IsTaskOf};
 
 use crate::app::gco_command;
 use crate::values::{Unmet, flag_in, restore_in, segment_in, stereo_in, workers_in};
-use crate::{NoTask, Request, Task, help};
+use crate::{NoTask, PictureOptions, Request, Task, help};
 use clap::ArgMatches;
 use clap::error::ErrorKind;
 use std::alloc::{AllocError, Global};
@@ -126,9 +126,23 @@ fn task_of(name: &str, matches: &ArgMatches<'_>) -> Result<Task, Unmet>
         "label" => Ok(Task::Label {
             bound: flag_in(matches, "bound"),
         }),
-        "restore" => Ok(Task::Restore(restore_in(matches)?)),
-        "stereo" => Ok(Task::Stereo(stereo_in(matches)?)),
-        "segment" => Ok(Task::Segment(segment_in(matches)?)),
+        _ => match picture_of(name, matches) {
+            Ok(options) => Ok(Task::Picture(options)),
+            Err(unmet) => Err(unmet),
+        },
+    }
+}
+
+// The options of the image command of this name.
+fn picture_of(name: &str, matches: &ArgMatches<'_>) -> Result<PictureOptions, Unmet>
+    ensures options { IfOk result (IsPictureOf name.now (rows_of (found_of matches.now))) }
+    ensures unmet { IfErr result (HasNo (IsPictureOf name.now (rows_of (found_of matches.now)))
+        (IsBadOptionOf name.now (rows_of (found_of matches.now)))) }
+{
+    match name {
+        "restore" => Ok(PictureOptions::Restore(restore_in(matches)?)),
+        "stereo" => Ok(PictureOptions::Stereo(stereo_in(matches)?)),
+        "segment" => Ok(PictureOptions::Segment(segment_in(matches)?)),
         _ => Err(Unmet::NoTask),
     }
 }

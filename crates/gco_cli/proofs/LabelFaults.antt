@@ -1,20 +1,20 @@
 -- What the reading of a problem of labels refuses is a fault that its bytes have.
-use Rattle.std.proofs.Common.{◌≡◌, ◌≢◌, ◌≤◌, ℕ, List, Option, Err, length, subst}
+use Rattle.std.proofs.Common.{◌≡◌, ◌≢◌, ◌≤◌, ℕ, List, Option, IfSome, Err, inl, inr, length, refl, subst}
 use Rattle.std.specs.Prelude.{IsUtf8}
-use Rattle.byte_streams.specs.Input.{input_limit}
-use Rattle.fault_lines.specs.declared.fault.Fault.{Fault}
-use Rattle.fault_lines.specs.declared.fault.Fault.TheVariants as fault
-use Rattle.fault_lines.specs.declared.fault.Fault.TheVariants.{Label, Move}
-use Rattle.label_file.specs.Names.{Problem, problem_in}
-use Rattle.label_file.specs.declared.fault.LabelFault.{LabelFault}
-use Rattle.label_file.specs.declared.fault.LabelFault.TheVariants.{OutOfMemory, BadToml, BadField, BadElement, CostRange, NoSuchSite, SamePair, TooManyPairs, WeightRange, NoSuchLabel}
+use Rattle.byte_streams.specs.Input.{IsReadRefusal, input_limit}
+use Rattle.byte_streams.specs.declared.input.ReadError.{ReadError}
+use Rattle.gco_cli.specs.declared.fault.Fault.{Fault}
+use Rattle.problem_files.specs.Names.{Problem, problem_in}
+use Rattle.problem_files.specs.declared.label_fault.LabelFault.{LabelFault}
+use Rattle.problem_files.specs.declared.label_fault.LabelFault.TheVariants.{OutOfMemory, BadToml, BadField, BadElement, CostRange, NoSuchSite, SamePair, TooManyPairs, WeightRange, NoSuchLabel}
 use Rattle.moves.specs.Runs.{Answers}
 use Rattle.moves.specs.Problems.{IsRunRefusal}
 use Rattle.moves.specs.declared.error.MoveError.{MoveError}
 use Rattle.moves.specs.declared.error.SolveError.{SolveError}
 use Rattle.gco_cli.specs.Instances.{instance_named}
-use Rattle.gco_cli.proofs.InputLemmas.{IsWhole, of_read}
-use Rattle.gco_cli.specs.Label.{HasLabelFault, HasProblemFault, HasReadingFault, IsRunFault}
+use Rattle.gco_cli.proofs.InputLemmas.{IsWhole, of_read, of_refusal}
+use Rattle.gco_cli.specs.Label.{HasLabelFault, HasProblemFault, HasReadingFault, HoldsProblem, IsRunFault}
+use Rattle.gco_cli.specs.Faults.{TellsMove, label_fault, read_fault}
 use Rattle.gco_cli.specs.Streams.{OfSomeInput}
 
 both : (bytes : List ℕ) (fault : LabelFault) → fault ≢ OutOfMemory → fault ≢ BadToml
@@ -37,28 +37,27 @@ has_fault bytes (NoSuchLabel site) refused text = both bytes (NoSuchLabel site) 
 
 pub label_stands : (bytes items : List ℕ) (known : Option (List ℕ)) (fault : LabelFault) → bytes ≡ items
     → IsWhole items known → length items ≤ input_limit → (fault ≢ OutOfMemory → IsUtf8 bytes → problem_in bytes ≡ Err fault)
-    → (fault ≢ OutOfMemory → fault ≢ BadToml → IsUtf8 bytes) → OfSomeInput known (λ input. HasReadingFault input (Label fault))
+    → (fault ≢ OutOfMemory → fault ≢ BadToml → IsUtf8 bytes) → OfSomeInput known (λ input. HasReadingFault input (label_fault fault))
 label_stands bytes items known fault is whole limit refused text =
-    of_read known items (λ input. HasReadingFault input (Label fault)) whole
-    (limit, subst (λ (xs : List ℕ). HasProblemFault xs fault) is (has_fault bytes fault refused text))
+    of_read known items (λ input. HasReadingFault input (label_fault fault)) whole
+    (inr (limit, (fault, subst (λ (xs : List ℕ). HasProblemFault xs fault) is (has_fault bytes fault refused text), refl)))
+
+-- an input that was not read
+pub unread_label : (known : Option (List ℕ)) (error : ReadError) → IfSome known (λ input. IsReadRefusal input error)
+    → OfSomeInput known (λ input. HasReadingFault input (read_fault error))
+unread_label known error is = let h = of_refusal known error is in (h.0, h.1, inl (error, h.2, refl))
 
 -- a refused run is a fault of the problem
-pub run_fault : (cut : SolveError → Type 0) (p : Problem) (error : MoveError) → Answers (instance_named p) p.moves p.cycles p.start.at (Err error)
-    → IsRunRefusal cut error → IsRunFault cut p (Move error)
-run_fault cut p error answers refused = (refused, answers)
+pub run_fault : (cut : SolveError → Type 0) (p : Problem) (error : MoveError) (fault : Fault) → Answers (instance_named p) p.moves p.cycles p.start.at (Err error)
+    → IsRunRefusal cut error → TellsMove error fault → IsRunFault cut p fault
+run_fault cut p error fault answers refused tells = inr (error, refused, answers, tells)
 
 -- a fault of the reading is one of the command
-read_fault : (cut : SolveError → Type 0) (input : List ℕ) (f : Fault) → HasReadingFault input f → HasLabelFault cut input f
-read_fault cut input fault.OutOfMemory h = h
-read_fault cut input (fault.Write failed) h = h
-read_fault cut input (fault.Read error) h = h
-read_fault cut input (fault.Problem problem) h = h
-read_fault cut input (fault.Regularity failing) h = h
-read_fault cut input (fault.Label problem) h = h
-read_fault cut input (fault.Move error) h = absurd h
-read_fault cut input (fault.Vision error) h = h
-read_fault cut input (fault.BadOption option) h = h
-
 pub read_stands : (cut : SolveError → Type 0) (known : Option (List ℕ)) (f : Fault) → OfSomeInput known (λ input. HasReadingFault input f)
     → OfSomeInput known (λ input. HasLabelFault cut input f)
-read_stands cut known f h = (h.0, h.1, read_fault cut h.0 f h.2)
+read_stands cut known f h = (h.0, h.1, inl h.2)
+
+-- so is the fault of a run of the problem that the input names
+pub run_stands : (cut : SolveError → Type 0) (known : Option (List ℕ)) (p : Problem) (f : Fault) → OfSomeInput known (λ input. HoldsProblem input p)
+    → IsRunFault cut p f → OfSomeInput known (λ input. HasLabelFault cut input f)
+run_stands cut known p f h is = (h.0, h.1, inr (p, h.2, is))

@@ -1,4 +1,5 @@
 pub mod EnergyFaults
+mod FaultKinds
 mod InputLemmas
 mod RefusalLemmas
 mod PictureLemmas

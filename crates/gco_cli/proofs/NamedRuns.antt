@@ -4,8 +4,7 @@ use Rattle.std.specs.Global.{Vec}
 use Rattle.std.proofs.lemmas.Int.{ints}
 use Rattle.cost_store.specs.Limits.{smooth_limit}
 use Rattle.cost_store.specs.LabelCosts.{AreLabelCosts, costs_of}
-use Rattle.label_file.specs.LabelCostFields.{costs_told}
-use Rattle.label_file.specs.LabelCostFields.{AreLabelCosts as AreNamed}
+use Rattle.problem_files.specs.LabelCostFields.{AreLabelCosts as AreNamed, costs_told}
 use Rattle.moves.specs.declared.bound.Bound.{Bound}
 use Rattle.moves.specs.declared.error.MoveError.{MoveError}
 use Rattle.moves.specs.declared.tables.Run.{Run}

@@ -1,13 +1,16 @@
 -- How the refusal of a command becomes that of a run, and a run's end the run.
-use Rattle.std.proofs.Common.{◌≡◌, ◌||◌, ℕ, Bool, false, List, Option, inl, inr, Result, Ok, Err, IfOk, IfErr, MatchResult, refl, sym, subst, arith}
+use Rattle.std.proofs.Common.{◌≡◌, ◌||◌, ℕ, Bool, false, List, Option, inl, inr, Result, Ok, Err, IfOk, IfErr, MatchResult, refl, sym, ap, subst, arith}
 use Rattle.std.specs.Result.{IsErrAnd}
+use Rattle.moves.specs.declared.error.SolveError.{SolveError}
 use Rattle.command_line.specs.Task.{Asks, AsksForHelp, HasText, IsNoTaskFor}
 use Rattle.command_line.specs.declared.task.NoTask.{NoTask}
 use Rattle.command_line.specs.declared.task.NoTask.TheVariants.{OutOfMemory, Help, Refused, BadOption}
 use Rattle.command_line.specs.declared.task.Request.{Request}
-use Rattle.fault_lines.specs.declared.fault.Fault.{Fault}
-use Rattle.fault_lines.specs.declared.fault.Fault.TheVariants as fault
-use Rattle.gco_cli.specs.Commands.{IsDueFor, StandsForAsked}
+use Rattle.gco_cli.specs.declared.fault.Fault.{Fault}
+use Rattle.gco_cli.specs.declared.fault.Fault.TheVariants as fault
+use Rattle.command_line.specs.declared.task.Task.{Task}
+use Rattle.gco_cli.proofs.FaultKinds.{task_own}
+use Rattle.gco_cli.specs.Commands.{IsDueFor, StandsFor, StandsForAsked, cuts_refuse}
 use Rattle.gco_cli.specs.Refusals.{IsHelp, IsRefusalFor, IsRefusalOf, SaysRefusal, ShowsHelp, status_of}
 use Rattle.gco_cli.specs.Run.{IsCut, IsCutIn, IsDue, IsRun, Leaves, Refuses, Streams, Writes, is_failed_read, is_bad_option}
 use Rattle.gco_cli.specs.Streams.{Stream, Took}
@@ -28,18 +31,24 @@ leaves : (old new : Stream) (fault : Fault) → is_bad_option fault ≡ false
     → new.has_failed ≡ (is_failed_read fault || old.has_failed) → Leaves old new fault
 leaves old new fault is failed = record { failed = failed; unread = λ is_too. cc }
 
+-- the refusal of a command is for no option
+not_asked : (request : Request) (known : Option (List ℕ)) (old new : Stream) (fault : Fault)
+    → Refuses (IsDueFor request.task known) (StandsForAsked request known) old new fault → is_bad_option fault ≡ false
+not_asked request known old new fault (inl stands) = (task_own (cuts_refuse request.workers) request.task stands.0.0 fault stands.0.2).1
+not_asked request known old new fault (inr stops) = ap is_bad_option stops.3.1
+
 -- a refusal of a command that was asked for is one of the run
 pub of_command : (words : List (List ℕ)) (request : Request) (source source_new old new : Stream) (fault : Fault) → Asks words request
     → Refuses (IsDueFor request.task source.bytes) (StandsForAsked request source.bytes) old new fault
-    → is_bad_option fault ≡ false → source_new.has_failed ≡ (is_failed_read fault || source.has_failed)
+    → source_new.has_failed ≡ (is_failed_read fault || source.has_failed)
     → IsRefusalFor words source source_new old new (Faulty fault)
-of_command words request source source_new old new fault asks refuses asked read = (
+of_command words request source source_new old new fault asks refuses read = (
   elim refuses [
     | inl stands ↦ inl (inr (inr (request, asks, stands.0)), stands.1, stands.2)
     | inr stops ↦ inr (cut_weaker (IsDueFor request.task source.bytes) (IsDue words source.bytes) old new fault
         (λ text said due. inr (request, asks, due)) stops)
   ],
-  leaves source source_new fault asked read,
+  leaves source source_new fault (not_asked request source.bytes old new fault refuses) read,
 )
 
 unread : (source : Stream) (fault : Fault) → is_failed_read fault ≡ false → Leaves source source fault
@@ -111,3 +120,11 @@ pub cut_in : {T : Type 0} (Due : List ℕ → List ℕ → Type 0) (Is : Fault �
 cut_in Due Is old new text items said (Ok x) same due cut = tt
 cut_in Due Is old new text items said (Err fault) same due cut =
     inr (items, said, due, subst (λ (xs : List ℕ). IsCutIn xs old new fault) same cut)
+
+-- a command was refused before anything was written
+pub task_refused : {T : Type 0} (cut : SolveError → Type 0) (task : Task) (known : Option (List ℕ)) (sink : Stream) (fault : Fault) (r : Result T Fault)
+    → IsErrAnd r (λ e. e ≡ fault) → StandsFor cut task known fault → IfErr r (Refuses (IsDueFor task known) (StandsFor cut task known) sink sink)
+task_refused cut task known sink fault (Ok x) is stands = tt
+task_refused cut task known sink fault (Err e) is stands =
+    let P : Fault → Type 0 = λ f. Refuses (IsDueFor task known) (StandsFor cut task known) sink sink f in
+    subst P (sym is) (inl (stands, (task_own cut task stands.0 fault stands.2).0, refl))

@@ -1,16 +1,15 @@
 -- What `gco energy` is.
-use Rattle.std.specs.Prelude.{◌≤◌, ⊤, ℕ, List, length}
+use Rattle.std.specs.Prelude.{◌≡◌, ◌≤◌, ◌⊎◌, ℕ, List, length}
 use Rattle.byte_streams.specs.Input.{IsReadRefusal, input_limit}
 use Rattle.pseudo_bool.specs.Formula.{Formula}
-use Rattle.moves.specs.Problems.{IsCutRefusal}
-use Rattle.moves.specs.declared.error.MoveError.TheVariants as move
 use Rattle.moves.specs.declared.error.SolveError.{SolveError}
-use Rattle.moves.specs.declared.error.SolveError.TheVariants as solve
 use Rattle.regular.specs.Regularity.{IsFirstFailing, IsRegular}
-use Rattle.problem_file.specs.Text.{HasFault, NamesEnergy}
-use Rattle.fault_lines.specs.declared.fault.Fault.{Fault}
-use Rattle.fault_lines.specs.declared.fault.Fault.TheVariants.{OutOfMemory, Write, Read, Problem, Regularity, Label, Move, Vision, BadOption}
+use Rattle.regular.specs.declared.fixed.NotRegular.{NotRegular}
+use Rattle.problem_files.specs.Text.{HasFault, NamesEnergy}
+use Rattle.gco_cli.specs.declared.fault.Fault.{Fault}
+use Rattle.gco_cli.specs.declared.fault.Fault.TheVariants.{OutOfMemory, TermNotRegular}
 use Rattle.gco_cli.specs.Answer.{AnswersEnergy}
+use Rattle.gco_cli.specs.Faults.{Tells, cut_fault, energy_fault, read_fault}
 
 -- the input is not too long, and names this energy
 abbrev pub HoldsEnergy : List ℕ → Formula → Type 0
@@ -20,39 +19,22 @@ HoldsEnergy input e = (length input ≤ input_limit) × NamesEnergy input e
 abbrev pub AnswersInput : List ℕ → List ℕ → Type 0
 AnswersInput input text = (e : Formula) × HoldsEnergy input e × AnswersEnergy e text
 
--- the fault that the reading of the input has: memory may always be refused, and a read may fail
+-- the fault that the reading of the input has: it was not read, or its text has a fault
 abbrev pub HasFileFault : List ℕ → Fault → Type 0
-HasFileFault input OutOfMemory = ⊤
-HasFileFault input (Write failed) = ⊥
-HasFileFault input (Read error) = IsReadRefusal input error
-HasFileFault input (Problem problem) = (length input ≤ input_limit) × HasFault input problem
-HasFileFault input (Regularity failing) =
-    (e : Formula) × HoldsEnergy input e × IsFirstFailing e failing.term failing.fixed
-HasFileFault input (Label fault) = ⊥
-HasFileFault input (Move error) = ⊥
-HasFileFault input (Vision error) = ⊥
-HasFileFault input (BadOption option) = ⊥
-
--- the fault of a cut that was refused
-abbrev pub cut_fault : SolveError → Fault
-cut_fault solve.OutOfMemory = OutOfMemory
-cut_fault solve.Workers = Move move.Workers
-cut_fault solve.BadOptions = Move move.BadOptions
+HasFileFault input fault = Tells read_fault (IsReadRefusal input) fault
+    ⊎ ((length input ≤ input_limit) × Tells energy_fault (HasFault input) fault)
 
 -- the cut was refused so: memory may always be
 abbrev pub IsCutFault : (SolveError → Type 0) → Fault → Type 0
-IsCutFault refuses OutOfMemory = ⊤
-IsCutFault refuses (Write failed) = ⊥
-IsCutFault refuses (Read error) = ⊥
-IsCutFault refuses (Problem problem) = ⊥
-IsCutFault refuses (Regularity failing) = ⊥
-IsCutFault refuses (Label fault) = ⊥
-IsCutFault refuses (Move error) = IsCutRefusal refuses error
-IsCutFault refuses (Vision error) = ⊥
-IsCutFault refuses (BadOption option) = ⊥
+IsCutFault refuses fault = (fault ≡ OutOfMemory) ⊎ Tells cut_fault refuses fault
 
--- the fault that the input has: one of its reading, or it names a regular energy whose cut was refused
+-- the energy has no answer: a term is not regular, the first such term; or all are regular, and the cut was refused
+abbrev pub IsUnsolved : (SolveError → Type 0) → Formula → Fault → Type 0
+IsUnsolved refuses e fault =
+    ((failing : NotRegular) × IsFirstFailing e failing.term failing.fixed × (fault ≡ TermNotRegular failing))
+    ⊎ (IsRegular e × IsCutFault refuses fault)
+
+-- the fault that the input has: one of its reading, or the energy that it names has no answer
 abbrev pub HasEnergyFault : (SolveError → Type 0) → List ℕ → Fault → Type 0
-HasEnergyFault refuses input (Move error) =
-    (e : Formula) × HoldsEnergy input e × IsRegular e × IsCutRefusal refuses error
 HasEnergyFault refuses input fault = HasFileFault input fault
+    ⊎ ((e : Formula) × HoldsEnergy input e × IsUnsolved refuses e fault)

@@ -1,6 +1,6 @@
 -- The instance that a problem of tables is.
 use Rattle.std.specs.Prelude.{List, [], ℤ, Option, Some, None}
-use Rattle.label_file.specs.Names.{Problem}
+use Rattle.problem_files.specs.Names.{Problem}
 use Rattle.labellings.specs.Energies.{Instance}
 use Rattle.moves.specs.Instances.{data_entry, instance_of}
 

@@ -1,17 +1,19 @@
 -- What `gco label` is.
-use Rattle.std.specs.Prelude.{◌≡◌, ◌≤◌, ◌+◌, ◌++◌, ⊤, ℕ, Bool, List, length, Ok, Err, IsUtf8, codes, decimal, is_some, unsigned_abs}
+use Rattle.std.specs.Prelude.{◌≡◌, ◌≤◌, ◌⊎◌, ◌+◌, ◌++◌, ⊤, ℕ, Bool, List, length, Ok, Err, IsUtf8, codes, decimal, is_some, unsigned_abs}
 use Rattle.std.specs.List.{flat_map}
 use Rattle.byte_streams.specs.Input.{IsReadRefusal, input_limit}
-use Rattle.label_file.specs.Names.{Problem, problem_in}
-use Rattle.label_file.specs.declared.fault.LabelFault.{LabelFault}
-use Rattle.label_file.specs.declared.fault.LabelFault.TheVariants as label
+use Rattle.problem_files.specs.Names.{Problem, problem_in}
+use Rattle.problem_files.specs.declared.label_fault.LabelFault.{LabelFault}
+use Rattle.problem_files.specs.declared.label_fault.LabelFault.TheVariants as label
 use Rattle.moves.specs.Problems.{IsRunRefusal}
+use Rattle.moves.specs.declared.error.MoveError.{MoveError}
 use Rattle.moves.specs.declared.error.SolveError.{SolveError}
 use Rattle.gco_cli.specs.Instances.{instance_named}
 use Rattle.moves.specs.Runs.{Answers}
 use Rattle.moves.specs.declared.tables.Run.{Run}
-use Rattle.fault_lines.specs.declared.fault.Fault.{Fault}
-use Rattle.fault_lines.specs.declared.fault.Fault.TheVariants.{OutOfMemory, Write, Read, Problem as EnergyFile, Regularity, Label, Move, Vision, BadOption}
+use Rattle.gco_cli.specs.declared.fault.Fault.{Fault}
+use Rattle.gco_cli.specs.declared.fault.Fault.TheVariants.{OutOfMemory}
+use Rattle.gco_cli.specs.Faults.{Tells, TellsMove, label_fault, read_fault}
 use Rattle.gco_cli.specs.Lines.{bound_line, energy_words}
 use Rattle.gco_cli.specs.declared.lines.Parts.{Parts}
 
@@ -58,31 +60,16 @@ HasProblemFault input fault = IsUtf8 input × (problem_in input ≡ Err fault)
 -- a run of the problem's moves from its start has this fault: memory may always be refused, and a move for a pair or
 -- for its cut
 abbrev pub IsRunFault : (SolveError → Type 0) → Problem → Fault → Type 0
-IsRunFault refuses p OutOfMemory = ⊤
-IsRunFault refuses p (Write failed) = ⊥
-IsRunFault refuses p (Read error) = ⊥
-IsRunFault refuses p (EnergyFile fault) = ⊥
-IsRunFault refuses p (Regularity failing) = ⊥
-IsRunFault refuses p (Label fault) = ⊥
-IsRunFault refuses p (Move error) =
-    IsRunRefusal refuses error × Answers (instance_named p) p.moves p.cycles p.start.at (Err error)
-IsRunFault refuses p (Vision error) = ⊥
-IsRunFault refuses p (BadOption option) = ⊥
+IsRunFault refuses p fault = (fault ≡ OutOfMemory)
+    ⊎ ((error : MoveError) × IsRunRefusal refuses error
+    × Answers (instance_named p) p.moves p.cycles p.start.at (Err error) × TellsMove error fault)
 
--- the fault that the reading of the input has: memory may always be refused, and a read may fail
+-- the fault that the reading of the input has: it was not read, or its text has a fault
 abbrev pub HasReadingFault : List ℕ → Fault → Type 0
-HasReadingFault input OutOfMemory = ⊤
-HasReadingFault input (Write failed) = ⊥
-HasReadingFault input (Read error) = IsReadRefusal input error
-HasReadingFault input (EnergyFile fault) = ⊥
-HasReadingFault input (Regularity failing) = ⊥
-HasReadingFault input (Label fault) = (length input ≤ input_limit) × HasProblemFault input fault
-HasReadingFault input (Move error) = ⊥
-HasReadingFault input (Vision error) = ⊥
-HasReadingFault input (BadOption option) = ⊥
+HasReadingFault input fault = Tells read_fault (IsReadRefusal input) fault
+    ⊎ ((length input ≤ input_limit) × Tells label_fault (HasProblemFault input) fault)
 
--- the fault that the input has: one of its reading, or a move of the run is refused
+-- the fault that the input has: one of its reading, or the run of the problem that it names has it
 abbrev pub HasLabelFault : (SolveError → Type 0) → List ℕ → Fault → Type 0
-HasLabelFault refuses input (Move error) =
-    (p : Problem) × HoldsProblem input p × IsRunFault refuses p (Move error)
 HasLabelFault refuses input fault = HasReadingFault input fault
+    ⊎ ((p : Problem) × HoldsProblem input p × IsRunFault refuses p fault)

@@ -1,6 +1,8 @@
 pub mod Answer
 pub mod Commands
 pub mod Energy
+pub mod FaultLine
+pub mod Faults
 pub mod Label
 pub mod Lines
 pub mod Pictures

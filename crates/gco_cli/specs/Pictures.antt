@@ -1,5 +1,7 @@
 -- What the image commands are.
-use Rattle.std.specs.Prelude.{◌≡◌, ◌≤◌, ◌++◌, ⊤, ℕ, Bool, List, length, Option, IsTrue, codes, unsigned_abs}
+use Rattle.std.specs.Prelude.{◌≡◌, ◌≤◌, ◌⊎◌, ◌++◌, ℕ, Bool, false, List, length, Option, IsTrue, codes, is_some, unsigned_abs}
+use Rattle.command_line.specs.declared.task.PictureOptions.{PictureOptions}
+use Rattle.command_line.specs.declared.task.PictureOptions.TheVariants.{Restore, Stereo, Segment}
 use Rattle.byte_streams.specs.Input.{IsReadRefusal, input_limit}
 use Rattle.labellings.specs.Energies.{data_energy, energy, label_energy, labelling, smooth_energy}
 use Rattle.moves.specs.Runs.{TellsBound}
@@ -7,13 +9,14 @@ use Rattle.moves.specs.declared.bound.Bound.{Bound}
 use Rattle.moves.specs.declared.error.SolveError.{SolveError}
 use Rattle.pgm_image.specs.Written.{written}
 use Rattle.vision.specs.Jobs.{EndsAt, Job, picture_of}
-use Rattle.vision.specs.Faults.{MayCome}
+use Rattle.vision.specs.Faults.{HasRestoreFault, HasSegmentFault, HasStereoFault, MayCome}
+use Rattle.vision.specs.Inputs.{IsRestoreJob, IsSegmentJob, IsStereoJob}
 use Rattle.vision.specs.declared.error.VisionError.{VisionError}
 use Rattle.vision.specs.declared.report.Report.{Report}
 use Rattle.gco_cli.specs.Lines.{bound_line, energy_words}
 use Rattle.gco_cli.specs.declared.lines.Parts.{Parts}
-use Rattle.fault_lines.specs.declared.fault.Fault.{Fault}
-use Rattle.fault_lines.specs.declared.fault.Fault.TheVariants.{OutOfMemory, Write, Read, Problem, Regularity, Label, Move, Vision, BadOption}
+use Rattle.gco_cli.specs.declared.fault.Fault.{Fault}
+use Rattle.gco_cli.specs.Faults.{Tells, TellsPicture, read_fault}
 
 -- the energy of labels, and its parts
 abbrev pub parts_at : Job → List ℕ → Parts
@@ -48,20 +51,37 @@ pub record AnswersJob (tells : Bool) (job : Job) (text said : List ℕ) : Type 0
   pub is : text ≡ written (picture_of job labels)
   pub says : said ≡ picture_lines tells job.bound (parts_at job labels) bound
 
--- the text is the answer to the job that the pictures of the input name
-abbrev pub AnswersPictures : Bool → (List ℕ → Job → Type 0) → List ℕ → List ℕ → List ℕ → Type 0
-AnswersPictures tells IsJob input text said =
-    (length input ≤ input_limit) × ((job : Job) × IsJob input job × AnswersJob tells job text said)
+-- the job that the options of an image command and an input name
+abbrev pub IsPictureJob : PictureOptions → List ℕ → Job → Type 0
+IsPictureJob (Restore o) input job = IsRestoreJob o input job
+IsPictureJob (Stereo o) input job = IsStereoJob o input job
+IsPictureJob (Segment o) input job = IsSegmentJob o input job
 
--- the fault that the input has: memory may always be refused, a read may fail, and a move is refused for a pair or for
--- its cut
-abbrev pub HasPictureFault : (SolveError → Type 0) → (List ℕ → VisionError → Type 0) → List ℕ → Fault → Type 0
-HasPictureFault refuses Has input OutOfMemory = ⊤
-HasPictureFault refuses Has input (Write failed) = ⊥
-HasPictureFault refuses Has input (Read error) = IsReadRefusal input error
-HasPictureFault refuses Has input (Problem fault) = ⊥
-HasPictureFault refuses Has input (Regularity failing) = ⊥
-HasPictureFault refuses Has input (Label fault) = ⊥
-HasPictureFault refuses Has input (Move error) = ⊥
-HasPictureFault refuses Has input (Vision error) = (length input ≤ input_limit) × Has input error × MayCome refuses error
-HasPictureFault refuses Has input (BadOption option) = ⊥
+-- the error that the input has for these options
+abbrev pub HasPictureError : PictureOptions → List ℕ → VisionError → Type 0
+HasPictureError (Restore o) input error = HasRestoreFault o input error
+HasPictureError (Stereo o) input error = HasStereoFault o input error
+HasPictureError (Segment o) input error = HasSegmentFault o input error
+
+-- whether the part of the labels is to be told: where restoring is asked for with a cost of the labels
+abbrev pub tells_labels : PictureOptions → Bool
+tells_labels (Restore o) = is_some o.label_cost
+tells_labels (Stereo o) = false
+tells_labels (Segment o) = false
+
+-- whether a bound is asked for
+abbrev pub asks_bound : PictureOptions → Bool
+asks_bound (Restore o) = o.bound
+asks_bound (Stereo o) = o.bound
+asks_bound (Segment o) = false
+
+-- the text is the answer to the job that the pictures of the input name
+abbrev pub AnswersPicture : PictureOptions → List ℕ → List ℕ → List ℕ → Type 0
+AnswersPicture o input text said =
+    (length input ≤ input_limit) × ((job : Job) × IsPictureJob o input job × AnswersJob (tells_labels o) job text said)
+
+-- the fault that the input has: it was not read, or its pictures have it; a move is refused for a pair or for its cut
+abbrev pub HasPictureFault : (SolveError → Type 0) → PictureOptions → List ℕ → Fault → Type 0
+HasPictureFault refuses o input fault = Tells read_fault (IsReadRefusal input) fault
+    ⊎ ((length input ≤ input_limit)
+    × ((error : VisionError) × HasPictureError o input error × MayCome refuses error × TellsPicture error fault))

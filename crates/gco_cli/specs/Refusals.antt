@@ -3,8 +3,8 @@ use Rattle.std.specs.Prelude.{◌≡◌, ◌<◌, ℕ, List, [], length, Result,
 use Rattle.command_line.specs.Task.{IsNoTaskFor}
 use Rattle.command_line.specs.declared.task.NoTask.{NoTask}
 use Rattle.command_line.specs.declared.task.NoTask.TheVariants.{OutOfMemory, Help, Refused, BadOption}
-use Rattle.fault_lines.specs.FaultLine.{fault_line}
-use Rattle.fault_lines.specs.declared.fault.Fault.TheVariants as fault
+use Rattle.gco_cli.specs.FaultLine.{fault_line}
+use Rattle.gco_cli.specs.declared.fault.Fault.TheVariants as fault
 use Rattle.gco_cli.specs.Run.{IsCut, IsDue, Leaves, Refuses, Stands, Writes}
 use Rattle.gco_cli.specs.Streams.{Stream, Took}
 use Rattle.gco_cli.specs.declared.refusal.Refusal.{Refusal}

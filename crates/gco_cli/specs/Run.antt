@@ -3,15 +3,14 @@ use Rattle.std.specs.Prelude.{◌≡◌, ◌≢◌, ◌⊎◌, ◌<◌, ◌≤�
 use Rattle.std.specs.declared.alloc.Global.{Global}
 use Rattle.std.specs.declared.io.ErrorKind.{ErrorKind}
 use Rattle.std.specs.declared.io.ErrorKind.TheVariants.{InvalidData}
-use Rattle.byte_streams.specs.Input.{is_fault}
 use Rattle.byte_streams.specs.declared.sink.WriteFailed.{WriteFailed}
 use Rattle.command_line.specs.Task.{Asks, AsksForHelp, IsNoTaskFor, NamesBadOption}
 use Rattle.command_line.specs.declared.task.NoTask.TheVariants.{Refused}
 use Rattle.command_line.specs.declared.task.OptionName.{OptionName}
 use Rattle.command_line.specs.declared.task.Request.{Request}
-use Rattle.fault_lines.specs.FaultLine.{fault_line}
-use Rattle.fault_lines.specs.declared.fault.Fault.{Fault}
-use Rattle.fault_lines.specs.declared.fault.Fault.TheVariants.{OutOfMemory, Write, Read, BadOption}
+use Rattle.gco_cli.specs.FaultLine.{fault_line}
+use Rattle.gco_cli.specs.declared.fault.Fault.{Fault}
+use Rattle.gco_cli.specs.declared.fault.Fault.TheVariants.{OutOfMemory, Write, BadOption, ReadFailed}
 use Rattle.gco_cli.specs.Commands.{IsDueFor, StandsForAsked}
 use Rattle.gco_cli.specs.Streams.{Stream, Stops, Takes, Took, stream}
 
@@ -40,7 +39,7 @@ is_bad_option fault = false
 
 -- the fault says that the source failed
 abbrev pub is_failed_read : Fault → Bool
-is_failed_read (Read error) = is_fault error
+is_failed_read ReadFailed = true
 is_failed_read fault = false
 
 -- the due text was written whole, and this is to be said beside it

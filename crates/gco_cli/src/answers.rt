@@ -1,12 +1,12 @@
 //! The text of the answer to an energy.
 ghost use Rattle.std.specs.Prelude.{◌≡◌, ◌++◌, IfOk, IfErr, OnOk};
 ghost use Rattle.gco_cli.specs.Answer.{AnswersEnergy, answer_text, digits_text};
-ghost use Rattle.gco_cli.specs.Energy.{IsCutFault, cut_fault};
+ghost use Rattle.gco_cli.specs.Energy.{IsCutFault};
 
-use fault_lines::Fault;
+use crate::fault::Fault;
 use itoa::Buffer;
 use minimum_by::minimise_by;
-use moves::{How, MoveError, SolveError};
+use moves::How;
 use regular::Regular;
 use std::alloc::{AllocError, Global};
 
@@ -18,18 +18,7 @@ pub fn answer<H: How>(alloc: Global, energy: Regular<'_>, how: &H) -> Result<Vec
 {
     match minimise_by(alloc, energy, how) {
         Ok(minimum) => Ok(text_of(alloc, minimum.value, minimum.assignment.as_slice())?),
-        Err(error) => Err(cut_fault(error)),
-    }
-}
-
-// The fault of a cut that was refused.
-fn cut_fault(error: SolveError) -> Fault
-    ensures { result ≡ cut_fault error }
-{
-    match error {
-        SolveError::OutOfMemory => Fault::OutOfMemory,
-        SolveError::Workers => Fault::Move(MoveError::Workers),
-        SolveError::BadOptions => Fault::Move(MoveError::BadOptions),
+        Err(error) => Err(Fault::from(error)),
     }
 }
 

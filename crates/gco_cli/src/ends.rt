@@ -3,9 +3,9 @@ ghost use Rattle.std.specs.Prelude.{◌≡◌, MatchResult};
 ghost use Rattle.gco_cli.specs.Refusals.{SaysRefusal, status_of};
 ghost use Rattle.gco_cli.specs.Streams.{Took, stream};
 
+use crate::fault_line::{Line, line_of};
 use crate::refusal::Refusal;
 use byte_streams::{Sink, put_text};
-use fault_lines::{Line, line_of};
 
 /// Says what is due at the end of a run, and answers the exit status.
 pub fn say_end<E: Sink>(faults: &mut E, end: Result<Line, Refusal>) -> u8

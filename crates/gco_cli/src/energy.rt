@@ -1,17 +1,18 @@
 //! `gco energy`.
-ghost use Rattle.std.specs.Prelude.{◌≡◌, false, IfOk, IfErr};
+ghost use Rattle.std.specs.Prelude.{IfOk, IfErr};
 ghost use Rattle.command_line.specs.declared.task.Task.TheVariants.{Energy as EnergyTask};
 ghost use Rattle.gco_cli.specs.Commands.{IsDueFor, StandsFor};
 ghost use Rattle.gco_cli.specs.Energy.{HasFileFault, HoldsEnergy};
-ghost use Rattle.gco_cli.specs.Run.{TellsRead, is_bad_option, is_write};
+ghost use Rattle.gco_cli.specs.Run.{TellsRead};
 ghost use Rattle.gco_cli.specs.Streams.{OfSomeInput};
 
 use crate::answers::answer;
+use crate::fault::Fault;
+use crate::fault_line::Line;
 use crate::written::Answer;
 use byte_streams::{Source, read_input};
-use fault_lines::{Fault, Line};
 use moves::How;
-use problem_file::read_energy;
+use problem_files::read_energy;
 use pseudo_bool::Energy;
 use regular::check;
 use std::alloc::Global;
@@ -25,8 +26,6 @@ pub fn answer_energy<H: How, R: Source>(
     requires { H.ready how.now }
     ensures due { IfOk result (λ a. IsDueFor EnergyTask (R.remaining source.old) a.text.items a.said.bytes) }
     ensures stands { IfErr result (StandsFor (H.refuses how.now) EnergyTask (R.remaining source.old)) }
-    ensures unwritten { IfErr result (λ fault. is_write fault ≡ false) }
-    ensures asked { IfErr result (λ fault. is_bad_option fault ≡ false) }
     ensures read { TellsRead (R.has_failed source.old) (R.has_failed source.new) result }
 {
     let energy = read_problem(alloc, source)?;
@@ -43,8 +42,6 @@ fn read_problem<R: Source>(alloc: Global, source: &mut R) -> Result<Energy, Faul
         OfSomeInput (R.remaining source.old) (λ input. HoldsEnergy input energy)) }
     ensures stands { IfErr result (λ fault.
         OfSomeInput (R.remaining source.old) (λ input. HasFileFault input fault)) }
-    ensures unwritten { IfErr result (λ fault. is_write fault ≡ false) }
-    ensures asked { IfErr result (λ fault. is_bad_option fault ≡ false) }
     ensures read { TellsRead (R.has_failed source.old) (R.has_failed source.new) result }
 {
     let bytes = read_input(alloc, source)?;

@@ -1,8 +1,8 @@
 //! `gco label`.
-ghost use Rattle.std.specs.Prelude.{◌≡◌, ◌≤◌, ◌++◌, false, decimal, OnOk, IfOk, IfErr, IfSome};
+ghost use Rattle.std.specs.Prelude.{◌≡◌, ◌≤◌, ◌++◌, decimal, OnOk, IfOk, IfErr, IfSome};
 ghost use Rattle.command_line.specs.declared.task.Task.TheVariants.{Label as LabelTask};
-ghost use Rattle.label_file.specs.Limits.{IsInLimits};
-ghost use Rattle.label_file.specs.Names.{told};
+ghost use Rattle.problem_files.specs.Limits.{IsInLimits};
+ghost use Rattle.problem_files.specs.Names.{told};
 ghost use Rattle.label_field.specs.LabelFields.{LabelField};
 ghost use Rattle.moves.specs.Problems.{IsRunRefusal};
 ghost use Rattle.moves.specs.Runs.{Answers, IsSized};
@@ -10,16 +10,18 @@ ghost use Rattle.gco_cli.specs.Instances.{instance_named};
 ghost use Rattle.run_options.specs.Limits.{smooth_limit};
 ghost use Rattle.gco_cli.specs.Commands.{IsDueFor, StandsFor};
 ghost use Rattle.gco_cli.specs.Label.{AnswersProblem, HasReadingFault, HoldsProblem, IsRunFault, numbers_text, parts_of, run_text};
-ghost use Rattle.gco_cli.specs.Run.{TellsRead, is_bad_option, is_write};
+ghost use Rattle.gco_cli.specs.Run.{TellsRead};
 ghost use Rattle.gco_cli.specs.Streams.{OfSomeInput};
 
+use crate::fault::Fault;
+use crate::fault_line::Line;
+use crate::library_faults::move_fault;
 use crate::lines::{Parts, bound_line, energy_words};
 use crate::written::Answer;
 use byte_streams::{Source, read_input};
-use fault_lines::{Fault, Line};
 use itoa::Buffer;
-use label_file::{LabelProblem, read_label};
 use moves::{How, MoveError, Request, Run, run_tables};
+use problem_files::{LabelProblem, read_label};
 use std::alloc::{AllocError, Global};
 
 /// Where the moves of the problem that the input is end, and how near that is to the least energy where it is asked for.
@@ -34,8 +36,6 @@ pub fn answer_label<H: How, R: Source>(
     ensures due { IfOk result (λ a.
         IsDueFor (LabelTask bound) (R.remaining source.old) a.text.items a.said.bytes) }
     ensures stands { IfErr result (StandsFor (H.refuses how.now) (LabelTask bound) (R.remaining source.old)) }
-    ensures unwritten { IfErr result (λ fault. is_write fault ≡ false) }
-    ensures asked { IfErr result (λ fault. is_bad_option fault ≡ false) }
     ensures read { TellsRead (R.has_failed source.old) (R.has_failed source.new) result }
 {
     let problem = read_problem(alloc, source)?;
@@ -52,8 +52,6 @@ fn read_problem<R: Source>(alloc: Global, source: &mut R) -> Result<LabelProblem
     ensures limits { IfOk result (λ problem. IsInLimits (told problem)) }
     ensures stands { IfErr result (λ fault. OfSomeInput (R.remaining source.old)
         (λ input. HasReadingFault input fault)) }
-    ensures unwritten { IfErr result (λ fault. is_write fault ≡ false) }
-    ensures asked { IfErr result (λ fault. is_bad_option fault ≡ false) }
     ensures read { TellsRead (R.has_failed source.old) (R.has_failed source.new) result }
 {
     let bytes = read_input(alloc, source)?;
@@ -73,8 +71,10 @@ fn answer_problem<H: How>(
     ensures refused { IfErr result (IsRunFault (H.refuses how.now) (told problem)) }
 {
     let tells = problem.label_costs.is_some();
-    let run = run_named(alloc, problem, how)?;
-    Ok(run_text(alloc, &run, tells, bound)?)
+    match run_named(alloc, problem, how) {
+        Ok(run) => Ok(run_text(alloc, &run, tells, bound)?),
+        Err(error) => Err(move_fault(error)),
+    }
 }
 
 // Makes the moves that a problem asks for, from its start, and answers where they ended.

@@ -4,7 +4,10 @@
 mod answers;
 mod ends;
 mod energy;
+mod fault;
+mod fault_line;
 mod label;
+mod library_faults;
 mod lines;
 mod pictures;
 mod program;
@@ -14,6 +17,8 @@ mod tasks;
 mod unread;
 mod written;
 
+pub use fault::Fault;
+pub use fault_line::{LINE_LIMIT, Line, line_of};
 pub use program::run_program;
 pub use runs::{run_streams, run_words};
 pub use unread::refuse_unread;

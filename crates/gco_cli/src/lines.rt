@@ -5,8 +5,8 @@ ghost use Rattle.run_options.specs.Limits.{smooth_limit};
 ghost use Rattle.gco_cli.specs.Lines.{bound_line, energy_words, label_words, near_words};
 ghost use Rattle.gco_cli.specs.Pictures.{parts_told, picture_lines};
 
+use crate::fault_line::{LINE_LIMIT, Line};
 use arrayvec::ArrayString;
-use fault_lines::{LINE_LIMIT, Line};
 use itoa::Buffer;
 use moves::Bound;
 use vision::Report;

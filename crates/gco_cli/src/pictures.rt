@@ -1,101 +1,96 @@
 //! `gco restore`, `gco stereo` and `gco segment`.
-ghost use Rattle.std.specs.Prelude.{◌≡◌, false, IfOk, IfErr};
-ghost use Rattle.command_line.specs.declared.task.Task.TheVariants.{Restore as RestoreTask, Stereo as StereoTask, Segment as SegmentTask};
-ghost use Rattle.image_options.specs.Ranges.{AreRestoreOptions, AreSegmentOptions, AreStereoOptions};
+ghost use Rattle.std.specs.Prelude.{◌≡◌, IfOk, IfErr, OnOk};
+ghost use Rattle.command_line.specs.Task.{FitsPicture};
+ghost use Rattle.command_line.specs.declared.task.Task.TheVariants.{Picture};
+ghost use Rattle.vision.specs.Faults.{IsWrite, Leaves, MayCome};
+ghost use Rattle.vision.specs.Jobs.{Does, Job};
 ghost use Rattle.gco_cli.specs.Commands.{IsDueFor, StandsFor};
-ghost use Rattle.gco_cli.specs.Run.{Refuses, TellsRead, Writes, is_bad_option};
+ghost use Rattle.gco_cli.specs.Pictures.{HasPictureError, IsPictureJob, asks_bound, tells_labels};
+ghost use Rattle.gco_cli.specs.Run.{Refuses, TellsRead, Writes};
 ghost use Rattle.gco_cli.specs.Streams.{stream};
 
+use crate::fault::Fault;
+use crate::fault_line::Line;
+use crate::library_faults::picture_fault;
 use crate::lines::report_lines;
 use byte_streams::{Sink, Source, read_input};
-use fault_lines::{Fault, Line};
-use image_options::{RestoreOptions, SegmentOptions, StereoOptions};
+use command_line::PictureOptions;
 use moves::How;
 use std::alloc::Global;
-use vision::{run_restore, run_segment, run_stereo};
+use vision::{Report, VisionError, run_restore, run_segment, run_stereo};
 
-/// Writes the restored picture of the input, and answers the line of its energy, and that of the bound where it is asked
-/// for.
-pub fn restore<H: How, R: Source, W: Sink>(
-    alloc: Global,
-    options: RestoreOptions,
-    how: &H,
-    source: &mut R,
-    sink: &mut W,
-) -> Result<Line, Fault>
-    requires options { AreRestoreOptions options }
-    requires ready { H.ready how.now }
-    ensures done { IfOk result (λ said. Writes (IsDueFor (RestoreTask options) (R.remaining source.old))
-        (stream (W.held sink.old) (W.has_failed sink.old))
-        (stream (W.held sink.new) (W.has_failed sink.new)) said.bytes) }
-    ensures refused { IfErr result (Refuses (IsDueFor (RestoreTask options) (R.remaining source.old))
-        (StandsFor (H.refuses how.now) (RestoreTask options) (R.remaining source.old))
-        (stream (W.held sink.old) (W.has_failed sink.old))
-        (stream (W.held sink.new) (W.has_failed sink.new))) }
-    ensures asked { IfErr result (λ fault. is_bad_option fault ≡ false) }
-    ensures read { TellsRead (R.has_failed source.old) (R.has_failed source.new) result }
-    ensures kept { W.loan sink.new ≡ W.loan sink.old }
-{
-    let input = read_input(alloc, source)?;
-    match run_restore(alloc, input.as_slice(), &options, how, sink) {
-        Ok(report) => Ok(report_lines(&report, options.label_cost.is_some(), options.bound)),
-        Err(error) => Err(Fault::from(error)),
-    }
-}
-
-/// Writes how far the pixels of the input's left picture moved, and answers the line of the energy, and that of the bound
+/// Writes the picture that an image command makes of the input, and answers the line of its energy, and that of the bound
 /// where it is asked for.
-pub fn stereo<H: How, R: Source, W: Sink>(
+pub fn picture<H: How, R: Source, W: Sink>(
     alloc: Global,
-    options: StereoOptions,
+    options: PictureOptions,
     how: &H,
     source: &mut R,
     sink: &mut W,
 ) -> Result<Line, Fault>
-    requires options { AreStereoOptions options }
+    requires options { FitsPicture options }
     requires ready { H.ready how.now }
-    ensures done { IfOk result (λ said. Writes (IsDueFor (StereoTask options) (R.remaining source.old))
+    ensures done { IfOk result (λ said. Writes (IsDueFor (Picture options) (R.remaining source.old))
         (stream (W.held sink.old) (W.has_failed sink.old))
         (stream (W.held sink.new) (W.has_failed sink.new)) said.bytes) }
-    ensures refused { IfErr result (Refuses (IsDueFor (StereoTask options) (R.remaining source.old))
-        (StandsFor (H.refuses how.now) (StereoTask options) (R.remaining source.old))
+    ensures refused { IfErr result (Refuses (IsDueFor (Picture options) (R.remaining source.old))
+        (StandsFor (H.refuses how.now) (Picture options) (R.remaining source.old))
         (stream (W.held sink.old) (W.has_failed sink.old))
         (stream (W.held sink.new) (W.has_failed sink.new))) }
-    ensures asked { IfErr result (λ fault. is_bad_option fault ≡ false) }
     ensures read { TellsRead (R.has_failed source.old) (R.has_failed source.new) result }
     ensures kept { W.loan sink.new ≡ W.loan sink.old }
 {
     let input = read_input(alloc, source)?;
-    match run_stereo(alloc, input.as_slice(), &options, how, sink) {
-        Ok(report) => Ok(report_lines(&report, false, options.bound)),
-        Err(error) => Err(Fault::from(error)),
+    match run_picture(alloc, input.as_slice(), &options, how, sink) {
+        Ok(report) => Ok(report_lines(&report, tells_labels(&options), asks_bound(&options))),
+        Err(error) => Err(picture_fault(error)),
     }
 }
 
-/// Writes the parts of the input's picture, and answers the line of their energy.
-pub fn segment<H: How, R: Source, W: Sink>(
+// The call of the command.
+fn run_picture<H: How, W: Sink>(
     alloc: Global,
-    options: SegmentOptions,
+    input: &[u8],
+    options: &PictureOptions,
     how: &H,
-    source: &mut R,
     sink: &mut W,
-) -> Result<Line, Fault>
-    requires options { AreSegmentOptions options }
+) -> Result<Report, VisionError>
+    requires options { FitsPicture options.now }
     requires ready { H.ready how.now }
-    ensures done { IfOk result (λ said. Writes (IsDueFor (SegmentTask options) (R.remaining source.old))
-        (stream (W.held sink.old) (W.has_failed sink.old))
-        (stream (W.held sink.new) (W.has_failed sink.new)) said.bytes) }
-    ensures refused { IfErr result (Refuses (IsDueFor (SegmentTask options) (R.remaining source.old))
-        (StandsFor (H.refuses how.now) (SegmentTask options) (R.remaining source.old))
-        (stream (W.held sink.old) (W.has_failed sink.old))
-        (stream (W.held sink.new) (W.has_failed sink.new))) }
-    ensures asked { IfErr result (λ fault. is_bad_option fault ≡ false) }
-    ensures read { TellsRead (R.has_failed source.old) (R.has_failed source.new) result }
+    ensures done { IfOk result (λ report. (job : Job) × IsPictureJob options.now input.now job
+        × Does job (W.held sink.old) (W.held sink.new) report) }
+    ensures sound { OnOk result (W.has_failed sink.new ≡ W.has_failed sink.old) }
+    ensures refused { IfErr result (Leaves (IsPictureJob options.now input.now)
+        (HasPictureError options.now input.now) (W.held sink.old) (W.held sink.new) (W.has_failed sink.new)) }
+    ensures cut { IfErr result (MayCome (H.refuses how.now)) }
+    ensures unchanged { IfErr result (λ e. (¬ IsWrite e) → sink.new ≡ sink.old) }
     ensures kept { W.loan sink.new ≡ W.loan sink.old }
 {
-    let input = read_input(alloc, source)?;
-    match run_segment(alloc, input.as_slice(), &options, how, sink) {
-        Ok(report) => Ok(report_lines(&report, false, false)),
-        Err(error) => Err(Fault::from(error)),
+    match options {
+        PictureOptions::Restore(options) => run_restore(alloc, input, options, how, sink),
+        PictureOptions::Stereo(options) => run_stereo(alloc, input, options, how, sink),
+        PictureOptions::Segment(options) => run_segment(alloc, input, options, how, sink),
+    }
+}
+
+// Whether the part of the labels is to be told.
+fn tells_labels(options: &PictureOptions) -> bool
+    ensures { result ≡ tells_labels options.now }
+{
+    match options {
+        PictureOptions::Restore(options) => options.label_cost.is_some(),
+        PictureOptions::Stereo(_) => false,
+        PictureOptions::Segment(_) => false,
+    }
+}
+
+// Whether a bound is asked for.
+fn asks_bound(options: &PictureOptions) -> bool
+    ensures { result ≡ asks_bound options.now }
+{
+    match options {
+        PictureOptions::Restore(options) => options.bound,
+        PictureOptions::Stereo(options) => options.bound,
+        PictureOptions::Segment(_) => false,
     }
 }

@@ -2,7 +2,7 @@
 ghost use Rattle.std.specs.Prelude.{◌≡◌};
 ghost use Rattle.gco_cli.specs.declared.refusal.Refusal.TheVariants.{Fault as Faulty};
 
-use fault_lines::Fault;
+use crate::fault::Fault;
 
 /// Why a run ends with another status than 0.
 #[derive(Drop)]

@@ -1,20 +1,21 @@
 //! One whole run.
-ghost use Rattle.std.specs.Prelude.{◌≡◌, false, IfOk, IfErr, MatchResult, map};
+ghost use Rattle.std.specs.Prelude.{◌≡◌, IfOk, IfErr, MatchResult, map};
 ghost use Rattle.std.specs.IoError.{error_kind};
 ghost use Rattle.command_line.specs.Task.{Fits, FitsTask};
 ghost use Rattle.workers.specs.Refusals.{MayRefuse};
 ghost use Rattle.gco_cli.specs.Commands.{IsDueFor, StandsFor, StandsForAsked};
 ghost use Rattle.gco_cli.specs.Refusals.{IsRefusalFor};
-ghost use Rattle.gco_cli.specs.Run.{IsDue, IsRun, IsUnread, Refuses, TellsRead, Writes, is_bad_option, streams};
+ghost use Rattle.gco_cli.specs.Run.{IsDue, IsRun, IsUnread, Refuses, TellsRead, Writes, streams};
 ghost use Rattle.gco_cli.specs.Streams.{stream};
 
 use crate::ends::say_end;
+use crate::fault::Fault;
+use crate::fault_line::Line;
 use crate::refusal::Refusal;
 use crate::tasks::{end_without_task, run_task};
 use crate::unread::refuse_unread;
 use byte_streams::{Sink, Source};
 use command_line::{Request, Task, parse};
-use fault_lines::{Fault, Line};
 use moves::Alone;
 use std::alloc::Global;
 use std::convert::AsStr;
@@ -121,7 +122,6 @@ fn answer_request<A: Threads + Wait + Sync, R: Source, W: Sink>(
         (StandsForAsked request (R.remaining source.old))
         (stream (W.held sink.old) (W.has_failed sink.old))
         (stream (W.held sink.new) (W.has_failed sink.new))) }
-    ensures asked { IfErr result (λ fault. is_bad_option fault ≡ false) }
     ensures read { TellsRead (R.has_failed source.old) (R.has_failed source.new) result }
     ensures kept { W.loan sink.new ≡ W.loan sink.old }
 {
@@ -148,7 +148,6 @@ fn run_by_workers<A: Threads + Wait + Sync, R: Source, W: Sink>(
         (StandsFor (MayRefuse options) task (R.remaining source.old))
         (stream (W.held sink.old) (W.has_failed sink.old))
         (stream (W.held sink.new) (W.has_failed sink.new))) }
-    ensures asked { IfErr result (λ fault. is_bad_option fault ≡ false) }
     ensures read { TellsRead (R.has_failed source.old) (R.has_failed source.new) result }
     ensures kept { W.loan sink.new ≡ W.loan sink.old }
 {

@@ -1,19 +1,20 @@
 //! What the words ask for, done.
-ghost use Rattle.std.specs.Prelude.{◌≡◌, ◌<◌, false, length, IfOk, IfErr};
+ghost use Rattle.std.specs.Prelude.{◌≡◌, ◌<◌, length, IfOk, IfErr};
 ghost use Rattle.command_line.specs.Task.{FitsTask, HasText};
 ghost use Rattle.gco_cli.specs.Commands.{IsDueFor, StandsFor};
 ghost use Rattle.gco_cli.specs.Refusals.{IsCutHelp, IsHelp, IsRefusalOf, ShowsHelp};
-ghost use Rattle.gco_cli.specs.Run.{Refuses, TellsRead, Writes, is_bad_option};
+ghost use Rattle.gco_cli.specs.Run.{Refuses, TellsRead, Writes};
 ghost use Rattle.gco_cli.specs.Streams.{stream};
 
 use crate::energy::answer_energy;
+use crate::fault::Fault;
+use crate::fault_line::Line;
 use crate::label::answer_label;
-use crate::pictures::{restore, segment, stereo};
+use crate::pictures::picture;
 use crate::refusal::Refusal;
 use crate::written::write_text;
 use byte_streams::{Sink, Source};
 use command_line::{NoTask, Task};
-use fault_lines::{Fault, Line};
 use moves::How;
 use std::alloc::Global;
 
@@ -34,7 +35,6 @@ pub fn run_task<H: How, R: Source, W: Sink>(
         (StandsFor (H.refuses how.now) task (R.remaining source.old))
         (stream (W.held sink.old) (W.has_failed sink.old))
         (stream (W.held sink.new) (W.has_failed sink.new))) }
-    ensures asked { IfErr result (λ fault. is_bad_option fault ≡ false) }
     ensures read { TellsRead (R.has_failed source.old) (R.has_failed source.new) result }
     ensures kept { W.loan sink.new ≡ W.loan sink.old }
 {
@@ -47,9 +47,7 @@ pub fn run_task<H: How, R: Source, W: Sink>(
             let answer = answer_label(alloc, bound, how, source)?;
             write_text(sink, answer.text.as_slice(), answer.said)
         }
-        Task::Restore(options) => restore(alloc, options, how, source, sink),
-        Task::Stereo(options) => stereo(alloc, options, how, source, sink),
-        Task::Segment(options) => segment(alloc, options, how, source, sink),
+        Task::Picture(options) => picture(alloc, options, how, source, sink),
     }
 }
 

@@ -1,14 +1,15 @@
 //! Where the words of the command line could not be had.
 ghost use Rattle.std.specs.Prelude.{◌≡◌, ◌≢◌, codes};
 ghost use Rattle.std.specs.declared.io.ErrorKind.TheVariants.{InvalidData};
-ghost use Rattle.fault_lines.specs.FaultLine.{fault_line};
-ghost use Rattle.fault_lines.specs.declared.fault.Fault.TheVariants.{OutOfMemory};
+ghost use Rattle.gco_cli.specs.FaultLine.{fault_line};
+ghost use Rattle.gco_cli.specs.declared.fault.Fault.TheVariants.{OutOfMemory};
 ghost use Rattle.gco_cli.specs.Run.{IsSaid};
 ghost use Rattle.gco_cli.specs.Streams.{stream};
 
 use crate::ends::say;
+use crate::fault::Fault;
+use crate::fault_line::line_of;
 use byte_streams::Sink;
-use fault_lines::{Fault, line_of};
 use std::io::ErrorKind;
 
 /// Says why the words could not be had, and answers the exit status: an argument is not text where the kind is

@@ -3,8 +3,9 @@ ghost use Rattle.std.specs.Prelude.{◌≡◌, IfOk, IfErr};
 ghost use Rattle.gco_cli.specs.Run.{IsCutIn};
 ghost use Rattle.gco_cli.specs.Streams.{Takes, stream};
 
+use crate::fault::Fault;
+use crate::fault_line::Line;
 use byte_streams::{Sink, put_text};
-use fault_lines::{Fault, Line};
 
 /// What a command answers. It is made whole before any of it is written.
 #[derive(Drop)]

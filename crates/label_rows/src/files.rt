@@ -1,7 +1,7 @@
 //! Files that are read. What each names was worked by hand.
 use label_field::Pair;
-use label_file::{LabelProblem, read_label};
 use labellings::Moves;
+use problem_files::{LabelProblem, read_label};
 use std::test::Fail;
 
 struct Row {

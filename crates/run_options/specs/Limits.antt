@@ -21,6 +21,15 @@ trunc_limit = smooth_limit
 abbrev pub cycle_limit : ℕ
 cycle_limit = 1000
 
+-- the greatest number at which the cost of a label at a pixel may be cut off: that of a cost of a label at a
+-- site
+abbrev pub cap_limit : ℕ
+cap_limit = data_limit
+
+-- the greatest sample of a picture, which is the greatest maxval, 2^16 - 1
+abbrev pub maxval_limit : ℕ
+maxval_limit = 65535
+
 -- a cost of two labels in its range
 abbrev pub IsSmoothCost : ℤ → Type 0
 IsSmoothCost cost = (pos 0 ≤ℤ cost) × (cost ≤ℤ pos smooth_limit)

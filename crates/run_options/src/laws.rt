@@ -1,8 +1,10 @@
 //! A law of the limits. The function does nothing: its contract is the law.
 ghost use Rattle.std.specs.Prelude.{◌≡◌};
-ghost use Rattle.run_options.specs.Limits.{cycle_limit, data_limit, label_cost_limit, smooth_limit, trunc_limit};
+ghost use Rattle.run_options.specs.Limits.{cap_limit, cycle_limit, data_limit, label_cost_limit, maxval_limit, smooth_limit, trunc_limit};
 
-use crate::{CYCLE_LIMIT, DATA_LIMIT, LABEL_COST_LIMIT, SMOOTH_LIMIT, TRUNC_LIMIT};
+use crate::{
+    CAP_LIMIT, CYCLE_LIMIT, DATA_LIMIT, LABEL_COST_LIMIT, MAXVAL_LIMIT, SMOOTH_LIMIT, TRUNC_LIMIT,
+};
 
 /// Each limit is the number that contracts cite.
 pub fn limits_are_cited()
@@ -11,4 +13,6 @@ pub fn limits_are_cited()
     ensures label_cost { LABEL_COST_LIMIT ≡ label_cost_limit }
     ensures trunc { TRUNC_LIMIT ≡ trunc_limit }
     ensures cycles { CYCLE_LIMIT ≡ cycle_limit }
+    ensures cap { CAP_LIMIT ≡ cap_limit }
+    ensures maxval { MAXVAL_LIMIT ≡ maxval_limit }
 {}

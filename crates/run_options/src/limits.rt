@@ -12,3 +12,9 @@ pub const TRUNC_LIMIT: u32 = SMOOTH_LIMIT;
 
 /// The most cycles of a run. The least is 0.
 pub const CYCLE_LIMIT: u32 = 1000;
+
+/// The greatest cost at which that of a label at a pixel may be cut off. The least is 0.
+pub const CAP_LIMIT: u32 = DATA_LIMIT;
+
+/// The greatest sample of a picture, which is the greatest maxval (the Netpbm project's PGM page). The least is 0.
+pub const MAXVAL_LIMIT: u32 = 65_535;

@@ -2,8 +2,8 @@
 use Rattle.std.proofs.Common.{◌≡◌, ℕ, ◌*◌, ◌<◌, ◌≤◌, ◌==◌, true, false, List, length, get_or, slice_index, All, ℤ, pos, if◌then◌else◌, sym, ap, ◌∙◌, subst, arith}
 use Rattle.std.proofs.lemmas.Int.{ints}
 use Rattle.cost_store.specs.Promises.{IsCost}
-use Rattle.image_options.specs.Ranges.{AreSegmentOptions}
-use Rattle.image_options.specs.declared.options.SegmentOptions.{SegmentOptions}
+use Rattle.run_options.specs.Ranges.{AreSegmentOptions}
+use Rattle.run_options.specs.declared.options.SegmentOptions.{SegmentOptions}
 use Rattle.label_field.specs.Grids.{distance}
 use Rattle.pgm_image.specs.Picture.{Picture, IsPicture}
 use Rattle.vision.specs.Problems.{part_cost, seed_cost}

@@ -1,9 +1,9 @@
 -- What a job makes, and its fault, as those of the input that names it.
 use Rattle.std.proofs.Common.{ℕ, ◌≤◌, List, Result, Ok, Err, MatchResult, IfOk, IfErr, refl}
 use Rattle.pgm_image.specs.Picture.{Picture}
-use Rattle.image_options.specs.declared.options.RestoreOptions.{RestoreOptions}
-use Rattle.image_options.specs.declared.options.StereoOptions.{StereoOptions}
-use Rattle.image_options.specs.declared.options.SegmentOptions.{SegmentOptions}
+use Rattle.run_options.specs.declared.options.RestoreOptions.{RestoreOptions}
+use Rattle.run_options.specs.declared.options.StereoOptions.{StereoOptions}
+use Rattle.run_options.specs.declared.options.SegmentOptions.{SegmentOptions}
 use Rattle.vision.specs.Faults.{HasRunFault, HasRestoreFault, HasStereoFault, HasSegmentFault}
 use Rattle.vision.specs.Inputs.{HoldsPicture, HoldsTwo, SameSizes, AreSeeds, IsRestoreJob, IsStereoJob, IsSegmentJob}
 use Rattle.vision.specs.Jobs.{Job, IsFinished, restore_job, stereo_job, segment_job}

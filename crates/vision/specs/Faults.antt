@@ -12,9 +12,9 @@ use Rattle.pgm_image.specs.declared.error.PgmError.{PgmError}
 use Rattle.pgm_image.specs.declared.error.PgmError.TheVariants as image
 use Rattle.pgm_image.specs.declared.error.WriteError.{WriteError}
 use Rattle.pgm_image.specs.declared.error.WriteError.TheVariants as write
-use Rattle.image_options.specs.declared.options.RestoreOptions.{RestoreOptions}
-use Rattle.image_options.specs.declared.options.StereoOptions.{StereoOptions}
-use Rattle.image_options.specs.declared.options.SegmentOptions.{SegmentOptions}
+use Rattle.run_options.specs.declared.options.RestoreOptions.{RestoreOptions}
+use Rattle.run_options.specs.declared.options.StereoOptions.{StereoOptions}
+use Rattle.run_options.specs.declared.options.SegmentOptions.{SegmentOptions}
 use Rattle.vision.specs.Inputs.{HoldsPicture, HoldsTwo, SameSizes, RefusesSecond, IsRestoreJob, IsStereoJob, IsSegmentJob}
 use Rattle.vision.specs.Jobs.{Job, RefusesMove, StopsAfter}
 use Rattle.vision.specs.declared.error.VisionError.{VisionError}

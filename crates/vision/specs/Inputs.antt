@@ -6,9 +6,9 @@ use Rattle.pgm_image.specs.Picture.{Picture}
 use Rattle.pgm_image.specs.Signs.{is_space}
 use Rattle.pgm_image.specs.declared.error.PgmError.{PgmError}
 use Rattle.pgm_image.specs.declared.error.PgmError.TheVariants.{BadHeader, BadSample}
-use Rattle.image_options.specs.declared.options.RestoreOptions.{RestoreOptions}
-use Rattle.image_options.specs.declared.options.StereoOptions.{StereoOptions}
-use Rattle.image_options.specs.declared.options.SegmentOptions.{SegmentOptions}
+use Rattle.run_options.specs.declared.options.RestoreOptions.{RestoreOptions}
+use Rattle.run_options.specs.declared.options.StereoOptions.{StereoOptions}
+use Rattle.run_options.specs.declared.options.SegmentOptions.{SegmentOptions}
 use Rattle.vision.specs.Jobs.{Job, restore_job, stereo_job, segment_job}
 
 -- the input begins with this picture

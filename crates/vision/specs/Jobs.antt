@@ -13,9 +13,9 @@ use Rattle.pgm_image.specs.Written.{written, Stops}
 use Rattle.run_options.specs.Limits.{smooth_limit}
 use Rattle.labellings.specs.declared.cycles.Moves.{Moves}
 use Rattle.labellings.specs.declared.cycles.Moves.TheVariants.{Expansion}
-use Rattle.image_options.specs.declared.options.RestoreOptions.{RestoreOptions}
-use Rattle.image_options.specs.declared.options.StereoOptions.{StereoOptions}
-use Rattle.image_options.specs.declared.options.SegmentOptions.{SegmentOptions}
+use Rattle.run_options.specs.declared.options.RestoreOptions.{RestoreOptions}
+use Rattle.run_options.specs.declared.options.StereoOptions.{StereoOptions}
+use Rattle.run_options.specs.declared.options.SegmentOptions.{SegmentOptions}
 use Rattle.vision.specs.Problems.{restore_problem, stereo_problem, segment_problem}
 use Rattle.vision.specs.declared.job.Finished.{Finished}
 use Rattle.vision.specs.declared.report.Report.{Report}

@@ -6,11 +6,11 @@ use Rattle.label_field.specs.Grids.{grid, steps4, steps8, column, distance}
 use Rattle.labellings.specs.Energies.{Instance}
 use Rattle.run_options.specs.declared.shape.Shape.TheVariants.{Potts}
 use Rattle.run_options.specs.Shapes.{shape_cost}
-use Rattle.image_options.specs.declared.options.Neighbours.{Neighbours}
-use Rattle.image_options.specs.declared.options.Neighbours.TheVariants.{Four, Eight}
-use Rattle.image_options.specs.declared.options.RestoreOptions.{RestoreOptions}
-use Rattle.image_options.specs.declared.options.StereoOptions.{StereoOptions}
-use Rattle.image_options.specs.declared.options.SegmentOptions.{SegmentOptions}
+use Rattle.run_options.specs.declared.options.Neighbours.{Neighbours}
+use Rattle.run_options.specs.declared.options.Neighbours.TheVariants.{Four, Eight}
+use Rattle.run_options.specs.declared.options.RestoreOptions.{RestoreOptions}
+use Rattle.run_options.specs.declared.options.StereoOptions.{StereoOptions}
+use Rattle.run_options.specs.declared.options.SegmentOptions.{SegmentOptions}
 use Rattle.pgm_image.specs.Picture.{Picture}
 
 -- the sample of a site

@@ -1,13 +1,13 @@
 //! The pairs of pixels of a picture.
 ghost use Rattle.std.specs.Prelude.{◌≡◌, ◌≤◌, ◌*◌, IfOk, map};
-ghost use Rattle.image_options.specs.Ranges.{AreSegmentOptions};
+ghost use Rattle.run_options.specs.Ranges.{AreSegmentOptions};
 ghost use Rattle.label_field.specs.Limits.{weight_limit};
 ghost use Rattle.label_field.specs.PairLists.{IsPair};
 ghost use Rattle.vision.specs.Problems.{edge_weight, pairs_of, weighted};
 
-use image_options::{Neighbours, SegmentOptions};
 use label_field::{Pair, Pairs};
 use pgm_image::Image;
+use run_options::{Neighbours, SegmentOptions};
 use std::alloc::{AllocError, Global};
 
 /// The pairs of neighbours, each of this weight.

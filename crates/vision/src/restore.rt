@@ -1,7 +1,7 @@
 //! Restoring a picture.
 ghost use Rattle.std.specs.Prelude.{◌≡◌, ◌≢◌, ◌+◌, ◌<◌, ◌≤◌, pos, IfOk, IfErr, OnOk, MatchResult, length, slice_index};
 ghost use Rattle.label_field.specs.Grids.{distance};
-ghost use Rattle.image_options.specs.Ranges.{AreRestoreOptions};
+ghost use Rattle.run_options.specs.Ranges.{AreRestoreOptions};
 ghost use Rattle.run_options.specs.declared.shape.Shape.TheVariants.{Quadratic};
 ghost use Rattle.vision.specs.Faults.{HasRestoreFault, HasRunFault, IsWrite, Leaves, MayCome, TellsPair};
 ghost use Rattle.vision.specs.Inputs.{IsRestoreJob};
@@ -15,9 +15,9 @@ use crate::pairs::pairs_of;
 use crate::{Report, VisionError};
 use byte_streams::Sink;
 use cost_store::DataCost;
-use image_options::RestoreOptions;
 use moves::How;
 use pgm_image::Image;
+use run_options::RestoreOptions;
 use std::alloc::Global;
 
 /// The greatest maxval of a picture that is restored: a label takes one byte.

@@ -1,6 +1,6 @@
 //! Parting a picture in two.
 ghost use Rattle.std.specs.Prelude.{◌≡◌, ◌*◌, ◌<◌, ◌≤◌, pos, All, IfOk, IfErr, OnOk, MatchOption, MatchResult, length, slice_index};
-ghost use Rattle.image_options.specs.Ranges.{AreSegmentOptions};
+ghost use Rattle.run_options.specs.Ranges.{AreSegmentOptions};
 ghost use Rattle.pgm_image.specs.Raster.{IsFirstAbove};
 ghost use Rattle.vision.specs.Faults.{HasRunFault, HasSegmentFault, IsWrite, Leaves, MayCome, TellsPair};
 ghost use Rattle.vision.specs.Inputs.{AreSeeds, IsSegmentJob, SameSizes};
@@ -13,11 +13,10 @@ use crate::pairs::edge_pairs;
 use crate::{Report, VisionError};
 use byte_streams::Sink;
 use cost_store::DataCost;
-use image_options::SegmentOptions;
 use labellings::Moves;
 use moves::How;
 use pgm_image::Image;
-use run_options::Shape;
+use run_options::{SegmentOptions, Shape};
 use std::alloc::Global;
 
 /// The greatest seed: a pixel is free (0), or has label 0 (1) or label 1 (2).

@@ -1,7 +1,7 @@
 //! Matching a left and a right picture.
 ghost use Rattle.std.specs.Prelude.{◌≡◌, ◌≢◌, ◌+◌, ◌-◌, ◌*◌, ◌%◌, ◌<◌, ◌≤◌, pos, min, nat_lt, if◌then◌else◌, IfOk, IfErr, OnOk, MatchResult, length, slice_index};
-ghost use Rattle.image_options.specs.Limits.{cap_limit};
-ghost use Rattle.image_options.specs.Ranges.{AreStereoOptions};
+ghost use Rattle.run_options.specs.Limits.{cap_limit};
+ghost use Rattle.run_options.specs.Ranges.{AreStereoOptions};
 ghost use Rattle.pgm_image.specs.Picture.{IsPicture};
 ghost use Rattle.run_options.specs.declared.shape.Shape.TheVariants.{Quadratic};
 ghost use Rattle.vision.specs.Faults.{HasRunFault, HasStereoFault, IsWrite, Leaves, MayCome, TellsPair};
@@ -15,9 +15,9 @@ use crate::pairs::pairs_of;
 use crate::{Report, VisionError};
 use byte_streams::Sink;
 use cost_store::DataCost;
-use image_options::StereoOptions;
 use moves::How;
 use pgm_image::Image;
+use run_options::StereoOptions;
 use std::alloc::Global;
 
 /// Matches the two pictures of the input, the left one first, and writes the shifts of the left one's pixels as `P5`.

@@ -1,8 +1,8 @@
 //! What labels cost by themselves, and how near a picture is to the least energy.
 use crate::pictures::{LINEAR, ONE, ROW, SHIFTS, SQUARED, SWAPS, ZEROS};
 use crate::tasks::{RESTORE, Task, expect, plain};
-use image_options::{RestoreOptions, StereoOptions};
 use moves::Bound;
+use run_options::{RestoreOptions, StereoOptions};
 use vision::Report;
 
 /// Two unequal labels cost the same.

@@ -1,8 +1,7 @@
 //! Pictures and their answers.
 use crate::tasks::{RESTORE, SEGMENT, STEREO, Task, expect, plain};
-use image_options::{Neighbours, RestoreOptions, SegmentOptions, StereoOptions};
 use labellings::Moves;
-use run_options::Shape;
+use run_options::{Neighbours, RestoreOptions, SegmentOptions, Shape, StereoOptions};
 use std::test::Fail;
 
 pub const ROW: &[u8] = b"P5\n3 1\n3\n\x00\x03\x00";

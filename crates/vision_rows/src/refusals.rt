@@ -3,9 +3,9 @@ use crate::pictures::{ROW, SWAPS};
 use crate::streams::CutWriter;
 use crate::tasks::{RESTORE, SEGMENT, STEREO, Task, run};
 use byte_streams::Watched;
-use image_options::RestoreOptions;
 use moves::MoveError;
 use pgm_image::PgmError;
+use run_options::RestoreOptions;
 use vision::VisionError;
 
 const PART: Task = Task::Segment(SEGMENT);

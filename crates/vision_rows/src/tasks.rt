@@ -1,10 +1,9 @@
 //! A command and its options.
 use crate::streams::CutWriter;
 use byte_streams::Watched;
-use image_options::{Neighbours, RestoreOptions, SegmentOptions, StereoOptions};
 use labellings::Moves;
 use moves::Alone;
-use run_options::Shape;
+use run_options::{Neighbours, RestoreOptions, SegmentOptions, Shape, StereoOptions};
 use std::alloc::Global;
 use std::process::Abort;
 use vision::{Report, VisionError, run_restore, run_segment, run_stereo};

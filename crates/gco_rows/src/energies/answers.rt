@@ -3,7 +3,7 @@ use crate::energies::is_minimised;
 use crate::energies::picture::PICTURE;
 use crate::rows::expect;
 use crate::streams::{CutWriter, ROOM, SlowReader, run};
-use problem_file::{ProblemFault, energy_of, read_table};
+use problem_files::{EnergyFault, energy_of, read_table};
 use pseudo_bool::Term;
 use std::alloc::{AllocError, Global};
 
@@ -113,7 +113,7 @@ terms = 7
 ";
 
 /// Whether the table makes its energy.
-fn is_made(alloc: Global) -> Result<bool, ProblemFault> {
+fn is_made(alloc: Global) -> Result<bool, EnergyFault> {
     let table = read_table(alloc, TABLE)?;
     let energy = energy_of(alloc, &table)?;
     if energy.term_count() != 2 {

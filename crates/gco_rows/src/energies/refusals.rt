@@ -2,9 +2,9 @@
 use crate::energies::is_minimised;
 use crate::rows::expect;
 use crate::streams::{SlowReader, ends};
-use byte_streams::{INPUT_LIMIT, ReadError, WatchedReader, WriteFailed, read_input};
-use fault_lines::{Fault, line_of};
-use problem_file::{Field, ProblemFault};
+use byte_streams::{INPUT_LIMIT, WatchedReader, WriteFailed, read_input};
+use gco_cli::{Fault, line_of};
+use problem_files::EnergyKey;
 use regular::{Fixed, NotRegular};
 use std::alloc::{AllocError, Global};
 use std::process::Abort;
@@ -248,38 +248,24 @@ fn inputs_end_at_the_limit(rt: HostRuntime) {
 
 const LINES: &[(Fault, &str)] = &[
     (Fault::OutOfMemory, "refused 0\n"),
-    (Fault::Read(ReadError::OutOfMemory), "refused 0\n"),
-    (Fault::Problem(ProblemFault::OutOfMemory), "refused 0\n"),
     (
         Fault::Write(WriteFailed { count: 4 }),
         "refused 9 after 4\n",
     ),
+    (Fault::NoSuchVariable(0), "refused 16 term 0\n"),
+    (Fault::SameVariable(7), "refused 17 term 7\n"),
+    (Fault::ValueRange(8_388_607), "refused 18 term 8388607\n"),
+    (Fault::ConstantRange, "refused 18 constant\n"),
+    (Fault::TooManyTerms, "refused 19\n"),
     (
-        Fault::Problem(ProblemFault::NoSuchVariable(0)),
-        "refused 16 term 0\n",
-    ),
-    (
-        Fault::Problem(ProblemFault::SameVariable(7)),
-        "refused 17 term 7\n",
-    ),
-    (
-        Fault::Problem(ProblemFault::ValueRange(8_388_607)),
-        "refused 18 term 8388607\n",
-    ),
-    (
-        Fault::Problem(ProblemFault::ConstantRange),
-        "refused 18 constant\n",
-    ),
-    (Fault::Problem(ProblemFault::TooManyTerms), "refused 19\n"),
-    (
-        Fault::Regularity(NotRegular {
+        Fault::TermNotRegular(NotRegular {
             term: 0,
             fixed: None,
         }),
         "refused 20 term 0\n",
     ),
     (
-        Fault::Regularity(NotRegular {
+        Fault::TermNotRegular(NotRegular {
             term: 10,
             fixed: Some(Fixed {
                 position: 2,
@@ -288,17 +274,17 @@ const LINES: &[(Fault, &str)] = &[
         }),
         "refused 20 term 10 fixed 2 at 1\n",
     ),
-    (Fault::Problem(ProblemFault::BadToml), "refused 28\n"),
+    (Fault::BadToml, "refused 28\n"),
     (
-        Fault::Problem(ProblemFault::BadField(Field::Variables)),
+        Fault::BadEnergyField(EnergyKey::Variables),
         "refused 29 variables\n",
     ),
     (
-        Fault::Problem(ProblemFault::BadElement(Field::Terms, 3)),
+        Fault::BadEnergyElement(EnergyKey::Terms, 3),
         "refused 29 terms 3\n",
     ),
-    (Fault::Read(ReadError::ReadFailed), "refused 31\n"),
-    (Fault::Read(ReadError::InputTooLong), "refused 32\n"),
+    (Fault::ReadFailed, "refused 31\n"),
+    (Fault::InputTooLong, "refused 32\n"),
 ];
 
 #[test]

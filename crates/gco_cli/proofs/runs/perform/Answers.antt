@@ -14,8 +14,7 @@ returns-in_err-answer_request-in-Ok-clause-refused g c =
     let new = stream (g.W.Sink.held c.answer_request.new.sink) (g.W.Sink.has_failed c.answer_request.new.sink) in
     let fault = c.in_err-answer_request-in-Ok.field-0.0 in
     as_fault (IsRefusalFor words source source_new old new) fault c.from_residual.result c.from_residual.ensures.1
-    (of_command words c.in-Ok.request source source_new old new fault c.in-Ok.ensures.asked c.in_err-answer_request-in-Ok.ensures.refused
-    c.in_err-answer_request-in-Ok.ensures.asked c.in_err-answer_request-in-Ok.ensures.read)
+    (of_command words c.in-Ok.request source source_new old new fault c.in-Ok.ensures.asked c.in_err-answer_request-in-Ok.ensures.refused c.in_err-answer_request-in-Ok.ensures.read)
 
 pub returns-in-Err-clause-refused : goal.returns-in-Err-clause-refused
 returns-in-Err-clause-refused g c =

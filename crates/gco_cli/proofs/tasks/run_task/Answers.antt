@@ -1,5 +1,5 @@
 use Rattle.command_line.specs.declared.task.Task.TheVariants.{Energy, Label}
-use Rattle.gco_cli.proofs.RefusalLemmas.{cut_in}
+use Rattle.gco_cli.proofs.RefusalLemmas.{cut_in, task_refused}
 use Rattle.gco_cli.specs.Commands.{IsDueFor, StandsFor}
 use Rattle.gco_cli.specs.Streams.{stream}
 use Rattle.gco_cli.proofs.tasks.run_task.Goals as goal
@@ -23,3 +23,15 @@ returns-in_ok-answer-in-Label-clause-refused g c =
     let answer = c.in_ok-answer-in-Label.answer in
     rw c.in-Label.is (cut_in (IsDueFor (Label c.in-Label.bound) known) (StandsFor refuses (Label c.in-Label.bound) known) old new c.as_slice-in-Label.result.now answer.text.items answer.said.bytes
     c.write_text-in-Label.result c.as_slice-in-Label.ensures.value c.in_ok-answer-in-Label.ensures.due c.write_text-in-Label.ensures.cut)
+
+pub returns-in_err-answer-in-Energy-clause-refused : goal.returns-in_err-answer-in-Energy-clause-refused
+returns-in_err-answer-in-Energy-clause-refused g c =
+    let sink = stream (g.W.Sink.held c.args.sink.now) (g.W.Sink.has_failed c.args.sink.now) in
+    rw c.in-Energy.is (task_refused (g.H.How.refuses c.args.how.now) Energy (g.R.Source.remaining c.args.source.now) sink c.in_err-answer-in-Energy.field-0.0 c.from_residual.result
+    c.from_residual.ensures.1 c.in_err-answer-in-Energy.ensures.stands)
+
+pub returns-in_err-answer-in-Label-clause-refused : goal.returns-in_err-answer-in-Label-clause-refused
+returns-in_err-answer-in-Label-clause-refused g c =
+    let sink = stream (g.W.Sink.held c.args.sink.now) (g.W.Sink.has_failed c.args.sink.now) in
+    rw c.in-Label.is (task_refused (g.H.How.refuses c.args.how.now) (Label c.in-Label.bound) (g.R.Source.remaining c.args.source.now) sink c.in_err-answer-in-Label.field-0.0
+    c.from_residual-in_err-answer-in-Label.result c.from_residual-in_err-answer-in-Label.ensures.1 c.in_err-answer-in-Label.ensures.stands)

@@ -1,0 +1,95 @@
+-- What the libraries refuse, as the program tells it: each case by itself, and memory as memory, whoever asked for it.
+use Rattle.std.specs.Prelude.{◌≡◌, ⊤}
+use Rattle.byte_streams.specs.declared.input.ReadError.{ReadError}
+use Rattle.byte_streams.specs.declared.input.ReadError.TheVariants as read
+use Rattle.problem_files.specs.declared.energy_fault.EnergyFault.{EnergyFault}
+use Rattle.problem_files.specs.declared.energy_fault.EnergyFault.TheVariants as energy
+use Rattle.problem_files.specs.declared.label_fault.LabelFault.{LabelFault}
+use Rattle.problem_files.specs.declared.label_fault.LabelFault.TheVariants as label
+use Rattle.pgm_image.specs.declared.error.PgmError.{PgmError}
+use Rattle.pgm_image.specs.declared.error.PgmError.TheVariants as image
+use Rattle.moves.specs.declared.error.SolveError.{SolveError}
+use Rattle.moves.specs.declared.error.SolveError.TheVariants as solve
+use Rattle.moves.specs.declared.error.MoveError.{MoveError}
+use Rattle.moves.specs.declared.error.MoveError.TheVariants as move
+use Rattle.vision.specs.declared.error.VisionError.{VisionError}
+use Rattle.vision.specs.declared.error.VisionError.TheVariants as vision
+use Rattle.gco_cli.specs.declared.fault.Fault.{Fault}
+use Rattle.gco_cli.specs.declared.fault.Fault.TheVariants.{OutOfMemory, NotPgm, BadHeader, ZeroSize, TooLarge, BadMaxval, Truncated, SampleAboveMax, BadSample, Write, NoSuchSite, NoSuchLabel, SamePair, TooManyPairs, WeightRange, CostRange, NoSuchVariable, SameVariable, ValueRange, ConstantRange, TooManyTerms, Workers, BadOptions, PairNotRegular, SizesDiffer, BadSeed, LabelCostInSwap, BadToml, BadEnergyField, BadEnergyElement, BadLabelField, BadLabelElement, TooManyLevels, ReadFailed, InputTooLong}
+
+-- why an input was not read
+abbrev pub read_fault : ReadError → Fault
+read_fault read.OutOfMemory = OutOfMemory
+read_fault read.ReadFailed = ReadFailed
+read_fault read.InputTooLong = InputTooLong
+
+-- why a file names no energy
+abbrev pub energy_fault : EnergyFault → Fault
+energy_fault energy.OutOfMemory = OutOfMemory
+energy_fault energy.BadToml = BadToml
+energy_fault (energy.BadField key) = BadEnergyField key
+energy_fault (energy.BadElement key place) = BadEnergyElement key place
+energy_fault (energy.NoSuchVariable term) = NoSuchVariable term
+energy_fault (energy.SameVariable term) = SameVariable term
+energy_fault (energy.ValueRange term) = ValueRange term
+energy_fault energy.ConstantRange = ConstantRange
+energy_fault energy.TooManyTerms = TooManyTerms
+
+-- why a file names no problem of labels
+abbrev pub label_fault : LabelFault → Fault
+label_fault label.OutOfMemory = OutOfMemory
+label_fault label.BadToml = BadToml
+label_fault (label.BadField key) = BadLabelField key
+label_fault (label.BadElement key place) = BadLabelElement key place
+label_fault (label.CostRange key place) = CostRange key place
+label_fault (label.NoSuchSite pair) = NoSuchSite pair
+label_fault (label.SamePair pair) = SamePair pair
+label_fault label.TooManyPairs = TooManyPairs
+label_fault (label.WeightRange pair) = WeightRange pair
+label_fault (label.NoSuchLabel site) = NoSuchLabel site
+
+-- why there is no image
+abbrev pub image_fault : PgmError → Fault
+image_fault image.OutOfMemory = OutOfMemory
+image_fault image.NotPgm = NotPgm
+image_fault (image.BadHeader at) = BadHeader at
+image_fault image.ZeroSize = ZeroSize
+image_fault image.TooLarge = TooLarge
+image_fault image.BadMaxval = BadMaxval
+image_fault image.Truncated = Truncated
+image_fault (image.SampleAboveMax index) = SampleAboveMax index
+image_fault (image.BadSample at) = BadSample at
+
+-- why a cut was refused
+abbrev pub cut_fault : SolveError → Fault
+cut_fault solve.OutOfMemory = OutOfMemory
+cut_fault solve.Workers = Workers
+cut_fault solve.BadOptions = BadOptions
+
+-- whatever refuses a cut
+abbrev pub any_cut : SolveError → Type 0
+any_cut error = ⊤
+
+-- the fault tells why a run was refused: never for a label, nor for want of a bound
+abbrev pub TellsMove : MoveError → Fault → Type 0
+TellsMove move.OutOfMemory fault = fault ≡ OutOfMemory
+TellsMove move.LabelCostInSwap fault = fault ≡ LabelCostInSwap
+TellsMove (move.PairNotRegular pair alpha beta) fault = fault ≡ PairNotRegular pair alpha beta
+TellsMove move.Workers fault = fault ≡ Workers
+TellsMove move.BadOptions fault = fault ≡ BadOptions
+TellsMove move.NoSuchLabel fault = ⊥
+TellsMove move.NoBound fault = ⊥
+
+-- the fault tells why an image command was refused
+abbrev pub TellsPicture : VisionError → Fault → Type 0
+TellsPicture vision.OutOfMemory fault = fault ≡ OutOfMemory
+TellsPicture (vision.Image error) fault = fault ≡ image_fault error
+TellsPicture vision.SizesDiffer fault = fault ≡ SizesDiffer
+TellsPicture (vision.BadSeed index) fault = fault ≡ BadSeed index
+TellsPicture vision.TooManyLevels fault = fault ≡ TooManyLevels
+TellsPicture (vision.Move error) fault = TellsMove error fault
+TellsPicture (vision.Write failed) fault = fault ≡ Write failed
+
+-- the fault tells an error of which this holds
+abbrev pub Tells : {E : Type 0} → (E → Fault) → (E → Type 0) → Fault → Type 0
+Tells {E} told Holds fault = (error : E) × Holds error × (fault ≡ told error)

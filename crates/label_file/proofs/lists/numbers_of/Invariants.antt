@@ -1,7 +1,0 @@
-use Rattle.std.proofs.Common.{◌≡◌, map, take}
-use Rattle.toml.specs.View.{view}
-use Rattle.label_file.specs.ListFields.{number_of}
-use Rattle.label_file.proofs.lists.numbers_of.Given as goal
-
-abbrev pub invariant-loop-item : goal.invariant-loop-item
-invariant-loop-item l = l.numbers.items ≡ map (λ v. number_of (view v)) (take l.item-index l.items.items)

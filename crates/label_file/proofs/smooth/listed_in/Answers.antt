@@ -1,8 +1,0 @@
-use Rattle.std.proofs.Common.{map}
-use Rattle.toml.specs.View.{view}
-use Rattle.label_file.proofs.SmoothLemmas.{table_listed}
-use Rattle.label_file.proofs.smooth.listed_in.Goals as goal
-
-pub returns-in-Ok-clause-ok : goal.returns-in-Ok-clause-ok
-returns-in-Ok-clause-ok c =
-    table_listed c.args.labels (view c.args.value.now) (map view c.in_ok-items.items.now.items) c.in-Ok.costs.items c.in_ok-items.ensures.ok c.in-Ok.ensures

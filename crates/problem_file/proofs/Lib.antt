@@ -1,4 +1,0 @@
-pub mod Integers
-pub mod ItemLemmas
-pub mod StatedLemmas
-pub mod TermLemmas

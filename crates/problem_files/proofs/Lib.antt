@@ -1,0 +1,11 @@
+pub mod CostLemmas
+pub mod EnergyItemLemmas
+pub mod Integers
+pub mod LabelItemLemmas
+pub mod LimitLemmas
+pub mod Listed
+pub mod PairLemmas
+pub mod SmoothLemmas
+pub mod StartLemmas
+pub mod StatedLemmas
+pub mod TermLemmas
