@@ -2,3 +2,4 @@ pub mod Ends
 pub mod Parts
 pub mod Listings
 pub mod Meetings
+pub mod AtSite

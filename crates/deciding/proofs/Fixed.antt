@@ -1,7 +1,7 @@
 -- Sites whose labels a move cannot change.
-use Rattle.std.proofs.Common.{◌≡◌, ◌≢◌, ℕ, zero, suc, ◌*◌, ◌<◌, ◌≤◌, Bool, true, false, List, [], ◌∷◌, length, ℤ, pos, ◌+ℤ◌, ◌-ℤ◌, ◌≤ℤ◌, refl, sym, ap, ◌∙◌, inl, inr, subst, arith}
+use Rattle.std.proofs.Common.{◌≡◌, ◌≢◌, ℕ, zero, suc, ◌*◌, ◌<◌, ◌≤◌, Bool, true, false, List, [], ◌∷◌, length, ℤ, pos, ◌-ℤ◌, ◌≤ℤ◌, refl, sym, ap, ◌∙◌, inl, inr, subst, arith}
 use Rattle.std.proofs.lemmas.Int.{ints}
-use Rattle.std.proofs.lemmas.Bool.{cases_eq, cases_lt}
+use Rattle.std.proofs.lemmas.Bool.{cases_eq}
 use Rattle.label_field.specs.declared.pair.Pair.{Pair}
 use Rattle.labellings.specs.declared.change.Move.{Move}
 use Rattle.labellings.specs.Energies.{Instance, plain_energy, labelling}
@@ -9,10 +9,8 @@ use Rattle.labellings.specs.Moves.{label_in, made, pair_entry, IsRegularPair}
 use Rattle.move_energy.specs.declared.choice.Choice.{Choice}
 use Rattle.move_energy.specs.declared.choice.Choice.TheVariants.{Open, Zero, One}
 use Rattle.move_energy.specs.Choices.{bit_of, choice_at, AreAllOpen}
-use Rattle.deciding.specs.declared.bounds.Bounds.{Bounds}
-use Rattle.deciding.specs.Decisions.{Decision, set_bit, put, rise, Passes, HavePassed}
-use Rattle.deciding.specs.MoveValues.{move_value, term_of}
-use Rattle.deciding.specs.Working.{AddsTerm}
+use Rattle.deciding.specs.Decisions.{Decision, set_bit, put, Passes, HavePassed}
+use Rattle.deciding.specs.MoveValues.{move_value}
 use Rattle.deciding.proofs.Putting.{set_at, set_other}
 
 -- both values of the site's variable make one label
@@ -44,20 +42,7 @@ fixed_regular m move f pair first second =
     let none = entry_any m move f pair false false true false first second in
     omega (arith, one, none)
 
-adds_none : (z : ℤ) (a b : ℕ) → a ≡ b → z ≡ z +ℤ (pos a -ℤ pos b)
-adds_none z a b same = omega (arith, ints, same)
-
-pub fixed_adds : (m : Instance) (move : Move) (f : ℕ → ℕ) (pair : Pair) (b : Bounds) → IsFixed move (f pair.first) → IsFixed move (f pair.second)
-    → AddsTerm pair (term_of m move f pair) b b
-fixed_adds m move f pair b first second = record {
-  first_least = adds_none _ _ _ (entry_any m move f pair true true false true first second);
-  first_greatest = adds_none _ _ _ (entry_any m move f pair true false false false first second);
-  second_least = adds_none _ _ _ (entry_any m move f pair true true true false first second);
-  second_greatest = adds_none _ _ _ (entry_any m move f pair false true false false first second);
-  others = λ u off yes. (refl, refl);
-}
-
--- ---- decided before anything is counted
+-- ---- decided before anything is summed
 
 -- the decisions that the choices of the first n sites show
 abbrev pub with_choice : ℕ → Choice → List Decision → List Decision
@@ -121,29 +106,3 @@ shown_passed m move f choices zero fixed never = tt
 shown_passed m move f choices (suc n) fixed never =
     with_passed m move f n (choice_at choices n) (shown_by choices n) (fixed n (omega arith)) (never n (omega arith))
     (shown_passed m move f choices n (λ p l. fixed p (omega (arith, l))) (λ p l. never p (omega (arith, l))))
-
--- so the rises are those with nothing decided
-label_bit : (move : Move) (old : ℕ) (c : Choice) (b : Bool) → (c ≢ Open → IsFixed move old) → label_in move old (bit_of c b) ≡ label_in move old b
-label_bit move old Open b fixed = refl
-label_bit move old Zero b fixed = label_any move old false b (fixed (λ same. cc (same)))
-label_bit move old One b fixed = label_any move old true b (fixed (λ same. cc (same)))
-
-label_put : (move : Move) (f : ℕ → ℕ) (choices : List Choice) (n : ℕ) (x : ℕ → Bool) → ((p : ℕ) → p < n → choice_at choices p ≢ Open → IsFixed move (f p))
-    → (p : ℕ) → label_in move (f p) (put (shown_by choices n) x p) ≡ label_in move (f p) (x p)
-label_put move f choices n x fixed p = elim (cases_lt p n) [
-  | inl below ↦ ap (label_in move (f p)) (shown_put choices n x p below) ∙ label_bit move (f p) (choice_at choices p) (x p) (fixed p below)
-  | inr past ↦ ap (label_in move (f p)) (past_shown choices n x p past)
-]
-
-made_put : (move : Move) (f : ℕ → ℕ) (choices : List Choice) (n : ℕ) (x : ℕ → Bool) (u : ℕ) (b : Bool) → ((p : ℕ) → p < n → choice_at choices p ≢ Open → IsFixed move (f p))
-    → (p : ℕ) → made move f (set_bit (put (shown_by choices n) x) u b) p ≡ made move f (set_bit x u b) p
-made_put move f choices n x u b fixed p = elim (cases_eq p u) [
-  | inl same ↦ ap (label_in move (f p)) (set_at (put (shown_by choices n) x) u p b same ∙ sym (set_at x u p b same))
-  | inr other ↦
-      ap (label_in move (f p)) (set_other (put (shown_by choices n) x) u p b other) ∙ label_put move f choices n x fixed p ∙ sym (ap (label_in move (f p)) (set_other x u p b other))
-]
-
-pub rise_shown : (m : Instance) (move : Move) (f : ℕ → ℕ) (choices : List Choice) (n : ℕ) (x : ℕ → Bool) (u : ℕ) → ((p : ℕ) → p < n → choice_at choices p ≢ Open → IsFixed move (f p))
-    → rise (move_value m move f) u (put (shown_by choices n) x) ≡ rise (move_value m move f) u x
-rise_shown m move f choices n x u fixed =
-    (λ j. pos (plain_energy m (λ p. made_put move f choices n x u true fixed p j)) -ℤ pos (plain_energy m (λ p. made_put move f choices n x u false fixed p j)))

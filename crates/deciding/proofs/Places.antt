@@ -16,10 +16,10 @@ use Rattle.move_energy.specs.Choices.{bit_of, choice_at}
 use Rattle.move_energy.proofs.Joins.{read_at}
 use Rattle.deciding.specs.declared.bounds.Bounds.{Bounds}
 use Rattle.deciding.specs.Decisions.{put}
-use Rattle.deciding.specs.Working.{bound_at, left, room_of, IsWithinRange, IsLooking, IsMarked, AreWaiting, AreWaitingBut, ArePartlyDecided, CanDecide}
+use Rattle.deciding.specs.Working.{bound_at, room_of, IsWithinRange, IsLooking, IsMarked, AreWaiting, AreWaitingBut, ArePartlyDecided, CanDecide}
 use Rattle.by_site.proofs.Ends.{Touches, end_touches}
 use Rattle.deciding.proofs.Ranges.{range_wider, below_not, tells_same}
-use Rattle.deciding.proofs.Left.{degree_most, left_most}
+use Rattle.deciding.proofs.Left.{degree_most}
 use Rattle.deciding.proofs.Spreading.{pair_in}
 
 pub meant_pairs : (m : Instance) (pairs : PairList) → m.pairs ≡ pairs.list → m.sites ≡ pairs.sites → IsPairList pairs → IsInstance m
@@ -85,9 +85,9 @@ range_start old new site value marked most within u =
     (omega (arith, a, (within u).0), omega (arith, b, (within u).1))
 
 -- the loop's facts of a problem
-pub site_free : (m : Instance) (move : Move) (f : ℕ → ℕ) (site : ℕ) (b : Bool) (old : Bounds) → (decided : ArePartlyDecided m move f old) → site < m.sites → choice_at old.choices.items site ≡ Open
+pub site_free : (m : Instance) (move : Move) (f : ℕ → ℕ) (site : ℕ) (b : Bool) (old : Bounds) (n : ℕ) → (decided : ArePartlyDecided m move f n old) → site < m.sites → choice_at old.choices.items site ≡ Open
     → put decided.decisions (λ v. b) site ≡ b
-site_free m move f site b old decided l opened = decided.shown (λ v. b) site l ∙ ap (λ (c : Choice). bit_of c b) opened
+site_free m move f site b old n decided l opened = decided.shown (λ v. b) site l ∙ ap (λ (c : Choice). bit_of c b) opened
 
 -- ---- one site after another
 
@@ -100,17 +100,10 @@ pub room_grows : (old new d most : ℕ) (was b : Bounds) → new + d ≡ old →
 room_grows old new d most was b less few limit range within =
     range_wider (room_of old + 20000000 * d) (room_of new) b (omega (arith, less, few, limit)) (range (room_of old) within)
 
-pub room_first : (pairs : PairList) (ends : Groups) (n : ℕ) (b : Bounds) → AreBySite pairs ends → IsPairList pairs → n ≡ pairs.sites → IsWithinRange (10000000 + 20000000 * length pairs.list) b
-    → (left ends n b.choices.items ≤ 2 * length pairs.list) × IsWithinRange (room_of (left ends n b.choices.items)) b
-room_first pairs ends n b by_site list same within =
-    let P : ℕ → Type 0 = λ k. left ends k b.choices.items ≤ 2 * length pairs.list in
-    let few = subst P (sym same) (left_most pairs ends b.choices.items by_site) in
-    (few, range_wider (10000000 + 20000000 * length pairs.list) (room_of (left ends n b.choices.items)) b (omega (arith, few, list.count)) within)
-
 -- the waiting sites are not part of what was decided
-pub partly_same : (m : Instance) (move : Move) (f : ℕ → ℕ) (old new : Bounds) → new.choices ≡ old.choices → new.least ≡ old.least → new.greatest ≡ old.greatest
-    → ArePartlyDecided m move f old → ArePartlyDecided m move f new
-partly_same m move f old new cs ls gs decided = record {
+pub partly_same : (m : Instance) (move : Move) (f : ℕ → ℕ) (n : ℕ) (old new : Bounds) → new.choices ≡ old.choices → new.least ≡ old.least → new.greatest ≡ old.greatest
+    → ArePartlyDecided m move f n old → ArePartlyDecided m move f n new
+partly_same m move f n old new cs ls gs decided = record {
   decisions = decided.decisions;
   passed = decided.passed;
   shown = λ x p l. decided.shown x p l ∙ ap (λ (v : _). bit_of (choice_at v.items p) (x p)) (sym cs);

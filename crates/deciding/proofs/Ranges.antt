@@ -1,21 +1,14 @@
 -- Bounds that are written, their range, and the sites that wait.
-use Rattle.std.proofs.Common.{◌≡◌, ◌≢◌, ℕ, ◌+◌, ◌*◌, ◌<◌, ◌≤◌, Bool, List, [], ◌∷◌, ◌++◌, length, get_or, All, Contains, ℤ, pos, ◌+ℤ◌, ◌-ℤ◌, ◌≤ℤ◌, ◌<ℤ◌, unsigned_abs, refl, sym, ap, ◌∙◌, inl, inr, subst, arith}
-use Rattle.std.specs.Prelude.{◌↔◌, slice_set}
-use Rattle.std.proofs.lemmas.Int.{ints}
+use Rattle.std.proofs.Common.{◌≡◌, ◌≢◌, ℕ, ◌+◌, ◌*◌, ◌<◌, ◌≤◌, Bool, List, [], ◌∷◌, ◌++◌, length, get_or, All, Contains, ℤ, pos, ◌+ℤ◌, ◌≤ℤ◌, ◌<ℤ◌, unsigned_abs, refl, sym, ap, ◌∙◌, inl, inr, subst, arith}
+use Rattle.std.specs.Prelude.{slice_set}
 use Rattle.std.proofs.lemmas.Bool.{cases_eq, cases_lt}
-use Rattle.std.proofs.lemmas.List.{get_or-set_same, get_or-set_other, get_or_push, get_or_append_left, length-append, length-set}
+use Rattle.std.proofs.lemmas.List.{get_or-set_same, get_or-set_other, get_or_push, get_or_append_left, length-append}
 use Rattle.std.proofs.Math.ListN.{get_or-eq_default}
 use Rattle.sums.proofs.IntegerSumLemmas.{abs-add}
-use Rattle.label_field.specs.declared.pair.Pair.{Pair}
-use Rattle.labellings.specs.declared.change.Move.{Move}
-use Rattle.labellings.specs.Energies.{Instance, labelling}
-use Rattle.move_energy.specs.declared.choice.Choice.{Choice}
-use Rattle.move_energy.specs.declared.choice.Choice.TheVariants.{Open, One}
-use Rattle.move_energy.specs.Choices.{choice_at, Changes, AreAllOpen}
-use Rattle.move_energy.proofs.Whole.{AreOpenBelow, open_none, open_more, open_all}
+use Rattle.move_energy.specs.declared.choice.Choice.TheVariants.{Open}
+use Rattle.move_energy.specs.Choices.{choice_at}
 use Rattle.deciding.specs.declared.bounds.Bounds.{Bounds}
-use Rattle.deciding.specs.MoveValues.{data_rise}
-use Rattle.deciding.specs.Working.{bound_at, CanDecide, IsWithinRange, AreUndecided, AreWaiting, AreWaitingBut, AreCounted, Shifts, least_shift, greatest_shift, AddsTerm, CallsUp, IsMarked, IsLooking}
+use Rattle.deciding.specs.Working.{bound_at, CanDecide, IsSummed, IsWithinRange, AddsBounds, AreWaiting, AreWaitingBut, Shifts, least_shift, greatest_shift, CallsUp, IsMarked, IsLooking}
 
 -- ---- written bounds
 
@@ -58,44 +51,7 @@ raised_range site a b k old new l j small_a small_b least greatest most within u
   )
 ]
 
--- two places are written
-pub raised_term : (pair : Pair) (table : List ℤ) (a b c d : ℤ) (old mid new : Bounds) → pair.first ≢ pair.second
-    → pair.first < length old.least.items → pair.first < length old.greatest.items → pair.second < length mid.least.items → pair.second < length mid.greatest.items
-    → mid.least.items ≡ slice_set old.least.items pair.first (bound_at old.least.items pair.first +ℤ a) → mid.greatest.items ≡ slice_set old.greatest.items pair.first (bound_at old.greatest.items pair.first +ℤ b)
-    → new.least.items ≡ slice_set mid.least.items pair.second (bound_at mid.least.items pair.second +ℤ c) → new.greatest.items ≡ slice_set mid.greatest.items pair.second (bound_at mid.greatest.items pair.second +ℤ d)
-    → a ≡ bound_at table 3 -ℤ bound_at table 1 → b ≡ bound_at table 2 -ℤ bound_at table 0 → c ≡ bound_at table 3 -ℤ bound_at table 2 → d ≡ bound_at table 1 -ℤ bound_at table 0
-    → AddsTerm pair table old new
-raised_term pair table a b c d old mid new apart l1 l2 l3 l4 s1 s2 s3 s4 a_is b_is c_is d_is =
-    let back : pair.second ≢ pair.first = λ same. apart (sym same) in
-    record {
-      first_least = other_bound _ _ _ pair.first _ s3 apart ∙ set_bound _ _ _ _ s1 l1 ∙ ap (λ z. bound_at old.least.items pair.first +ℤ z) a_is;
-      first_greatest = other_bound _ _ _ pair.first _ s4 apart ∙ set_bound _ _ _ _ s2 l2 ∙ ap (λ z. bound_at old.greatest.items pair.first +ℤ z) b_is;
-      second_least = set_bound _ _ _ _ s3 l3 ∙ (λ i. other_bound _ _ _ pair.second _ s1 back i +ℤ c_is i);
-      second_greatest = set_bound _ _ _ _ s4 l4 ∙ (λ i. other_bound _ _ _ pair.second _ s2 back i +ℤ d_is i);
-      others = λ u off yes. (
-        other_bound _ _ _ u _ s3 yes ∙ other_bound _ _ _ u _ s1 off,
-        other_bound _ _ _ u _ s4 yes ∙ other_bound _ _ _ u _ s2 off,
-      );
-    }
-
--- ---- sites that are opened
-
-pub record IsOpenedBelow (move : Move) (f : List ℕ) (n : ℕ) (b : Bounds) : Type 0 where
-  pub least : length b.least.items ≡ n
-  pub greatest : length b.greatest.items ≡ n
-  pub opened : AreOpenBelow move f b.choices.items n
-  pub none : length b.waiting.items ≡ 0
-  pub range : (u : ℕ) → u < n → (unsigned_abs (bound_at b.least.items u) ≤ 10000000) × (unsigned_abs (bound_at b.greatest.items u) ≤ 10000000)
-
-pub opened_none : (move : Move) (f : List ℕ) (b : Bounds) → length b.choices.items ≡ 0 → length b.least.items ≡ 0 → length b.greatest.items ≡ 0 → length b.waiting.items ≡ 0
-    → IsOpenedBelow move f 0 b
-opened_none move f b choices least greatest none = record {
-  least = least;
-  greatest = greatest;
-  opened = open_none move f b.choices.items choices;
-  none = none;
-  range = λ u l. absurd (omega (arith, l));
-}
+-- ---- bounds that are added
 
 pushed_at : {A : Type 0} (old new : List A) (x d : A) (n : ℕ) → new ≡ old ++ x ∷ [] → length old ≡ n → get_or new n d ≡ x
 pushed_at old new x d n is len = ap (λ (xs : List _). get_or xs n d) is ∙ get_or_push old x d n len
@@ -106,70 +62,81 @@ pushed_before old new x d n u is len l = ap (λ (xs : List _). get_or xs u d) is
 pushed_len : {A : Type 0} (old new : List A) (x : A) (n : ℕ) → new ≡ old ++ x ∷ [] → length old ≡ n → length new ≡ n + 1
 pushed_len old new x n is len = ap (λ (xs : List _). length xs) is ∙ omega (arith, length-append old (x ∷ []), len)
 
-pub opened_more : (move : Move) (f : List ℕ) (n : ℕ) (c : Choice) (rise : ℤ) (old new : Bounds) → new.choices.items ≡ old.choices.items ++ c ∷ []
-    → new.least.items ≡ old.least.items ++ rise ∷ [] → new.greatest.items ≡ old.greatest.items ++ rise ∷ [] → new.waiting ≡ old.waiting
-    → c ≡ Open ↔ Changes move (labelling f n) → c ≢ One → unsigned_abs rise ≤ 10000000 → IsOpenedBelow move f n old → IsOpenedBelow move f (n + 1) new
-opened_more move f n c rise old new cs ls gs ws own never small below = record {
-  least = pushed_len _ _ rise n ls below.least;
-  greatest = pushed_len _ _ rise n gs below.greatest;
-  opened = open_more move f old.choices.items new.choices.items n c cs own never below.opened;
-  none = ap (λ (v : _). length v.items) ws ∙ below.none;
-  range = λ u l. elim (cases_lt u n) [
-    | inl before ↦
-        let a = ap unsigned_abs (pushed_before _ _ rise (pos 0) n u ls below.least before) in
-        let b = ap unsigned_abs (pushed_before _ _ rise (pos 0) n u gs below.greatest before) in
-        (omega (arith, a, (below.range u before).0), omega (arith, b, (below.range u before).1))
-    | inr at ↦
-        let here : n ≡ u = omega (arith, at, l) in
-        let a = ap unsigned_abs (sym (ap (bound_at new.least.items) here) ∙ pushed_at _ _ rise (pos 0) n ls below.least) in
-        let b = ap unsigned_abs (sym (ap (bound_at new.greatest.items) here) ∙ pushed_at _ _ rise (pos 0) n gs below.greatest) in
-        (omega (arith, a, small), omega (arith, b, small))
-  ];
-}
+past_end : (xs : List ℤ) (n u : ℕ) → length xs ≡ n → n ≤ u → unsigned_abs (bound_at xs u) ≡ 0
+past_end xs n u len l = ap unsigned_abs (get_or-eq_default xs (pos 0) {n = u} (omega (arith, len, l)))
 
--- the sites' own costs
-abbrev pub AreOwn : Instance → Move → (ℕ → ℕ) → ℕ → Bounds → Type 0
-AreOwn m move f n b = (u : ℕ) → u < n → (bound_at b.least.items u ≡ data_rise m move f u) × (bound_at b.greatest.items u ≡ data_rise m move f u)
-
-pub own_more : (m : Instance) (move : Move) (f : List ℕ) (n : ℕ) (rise : ℤ) (old new : Bounds) → IsOpenedBelow move f n old → new.least.items ≡ old.least.items ++ rise ∷ []
-    → new.greatest.items ≡ old.greatest.items ++ rise ∷ [] → rise ≡ data_rise m move (labelling f) n → AreOwn m move (labelling f) n old
-    → AreOwn m move (labelling f) (n + 1) new
-own_more m move f n rise old new below ls gs is own u l = elim (cases_lt u n) [
-  | inl before ↦ (
-    pushed_before _ _ rise (pos 0) n u ls below.least before ∙ (own u before).0,
-    pushed_before _ _ rise (pos 0) n u gs below.greatest before ∙ (own u before).1,
-  )
-  | inr at ↦
-      let here : n ≡ u = omega (arith, at, l) in (
-        sym (ap (bound_at new.least.items) here) ∙ pushed_at _ _ rise (pos 0) n ls below.least ∙ is ∙ ap (data_rise m move (labelling f)) here,
-        sym (ap (bound_at new.greatest.items) here) ∙ pushed_at _ _ rise (pos 0) n gs below.greatest ∙ is ∙ ap (data_rise m move (labelling f)) here,
-      )
+added_within : (old new : List ℤ) (z : ℤ) (k u most : ℕ) → length old ≡ k → new ≡ old ++ z ∷ [] → unsigned_abs z ≤ most → unsigned_abs (bound_at old u) ≤ most → unsigned_abs (bound_at new u) ≤ most
+added_within old new z k u most len is small before = elim (cases_lt u k) [
+  | inl earlier ↦ (let e = ap unsigned_abs (pushed_before old new z (pos 0) k u is len earlier) in omega (arith, e, before))
+  | inr at ↦ elim (cases_eq u k) [
+    | inl same ↦ (let e = ap unsigned_abs (ap (bound_at new) same ∙ pushed_at old new z (pos 0) k is len) in omega (arith, e, small))
+    | inr other ↦ (let e = past_end new (k + 1) u (pushed_len old new z k is len) (omega (arith, at, other)) in omega (arith, e))
+  ]
 ]
 
-pub opened_all : (move : Move) (f : List ℕ) (n : ℕ) (b : Bounds) → n ≡ length f → IsOpenedBelow move f n b → AreUndecided move f b
-opened_all move f n b all below = record {
-  sized = record { choices = below.opened.count ∙ all; least = below.least ∙ all; greatest = below.greatest ∙ all };
-  opened = open_all move f b.choices.items n all below.opened;
-  none = below.none;
+-- the bounds of a site are added
+pub record AreAdded (k : ℕ) (low high : ℤ) (old new : Bounds) : Type 0 where
+  pub least_len : length old.least.items ≡ k
+  pub greatest_len : length old.greatest.items ≡ k
+  pub least : new.least.items ≡ old.least.items ++ low ∷ []
+  pub greatest : new.greatest.items ≡ old.greatest.items ++ high ∷ []
+  pub choices : new.choices ≡ old.choices
+  pub waiting : new.waiting ≡ old.waiting
+
+pub added_of : (k : ℕ) (low high : ℤ) (old new : Bounds) → length old.least.items ≡ k → length old.greatest.items ≡ length old.least.items → AddsBounds low high old new → AreAdded k low high old new
+added_of k low high old new count same adds = record {
+  least_len = count;
+  greatest_len = same ∙ count;
+  least = adds.least;
+  greatest = adds.greatest;
+  choices = adds.choices;
+  waiting = adds.waiting;
 }
 
-past_end : (xs : List ℤ) (n u : ℕ) → length xs ≡ n → n ≤ u → unsigned_abs (bound_at xs u) ≤ 10000000
-past_end xs n u len l = (let e = ap unsigned_abs (get_or-eq_default xs (pos 0) {n = u} (omega (arith, len, l))) in omega (arith, e))
+-- there are none
+pub empty_list : {A : Type 0} (xs : List A) → length xs ≡ 0 → xs ≡ []
+empty_list [] none = refl
+empty_list (x ∷ xs) none = absurd (omega (arith, none))
 
-pub opened_range : (move : Move) (f : List ℕ) (n : ℕ) (b : Bounds) → IsOpenedBelow move f n b → IsWithinRange 10000000 b
-opened_range move f n b below u = elim (cases_lt u n) [
-  | inl before ↦ below.range u before
-  | inr past ↦ (past_end b.least.items n u below.least past, past_end b.greatest.items n u below.greatest past)
-]
+pub empty_range : (most : ℕ) (b : Bounds) → length b.least.items ≡ 0 → length b.greatest.items ≡ 0 → IsWithinRange most b
+empty_range most b least greatest u =
+    let a = past_end b.least.items 0 u least (omega arith) in
+    let d = past_end b.greatest.items 0 u greatest (omega arith) in
+    (omega (arith, a), omega (arith, d))
 
-plus_zero : (z d : ℤ) → z ≡ d → z ≡ d +ℤ pos 0
-plus_zero z d h = omega (arith, ints, h)
+pub added_range : (k most : ℕ) (least greatest : ℤ) (old new : Bounds) → AreAdded k least greatest old new → unsigned_abs least ≤ most → unsigned_abs greatest ≤ most
+    → IsWithinRange most old → IsWithinRange most new
+added_range k most least greatest old new added small large within u = (
+  added_within old.least.items new.least.items least k u most added.least_len added.least small ((within u).0),
+  added_within old.greatest.items new.greatest.items greatest k u most added.greatest_len added.greatest large ((within u).1),
+)
 
-pub own_counted : (m : Instance) (move : Move) (f : ℕ → ℕ) (n : ℕ) (b : Bounds) → m.sites ≤ n → AreOwn m move f n b → AreCounted m move f 0 b
-own_counted m move f n b most own = record {
-  least = λ u l. plus_zero _ _ ((own u (omega (arith, l, most))).0);
-  greatest = λ u l. plus_zero _ _ ((own u (omega (arith, l, most))).1);
-}
+pub added_summed : (n k : ℕ) (least greatest : ℤ) (old new : Bounds) → AreAdded k least greatest old new → k < n → length old.choices.items ≡ n
+    → (length new.least.items ≡ k + 1) × IsSummed n new
+added_summed n k least greatest old new added inside count =
+    let one = pushed_len old.least.items new.least.items least k added.least added.least_len in
+    let two = pushed_len old.greatest.items new.greatest.items greatest k added.greatest added.greatest_len in (
+      one,
+      record {
+        choices = ap (λ (v : _). length v.items) added.choices ∙ count;
+        greatest = two ∙ sym one;
+        within = omega (arith, one, inside);
+      },
+    )
+
+pub least_before : (k u : ℕ) (least greatest : ℤ) (old new : Bounds) → AreAdded k least greatest old new → u < k
+    → (bound_at new.least.items u ≡ bound_at old.least.items u) × (bound_at new.greatest.items u ≡ bound_at old.greatest.items u)
+least_before k u least greatest old new added l = (
+  pushed_before old.least.items new.least.items least (pos 0) k u added.least added.least_len l,
+  pushed_before old.greatest.items new.greatest.items greatest (pos 0) k u added.greatest added.greatest_len l,
+)
+
+pub least_at : (k : ℕ) (least greatest : ℤ) (old new : Bounds) → AreAdded k least greatest old new
+    → (bound_at new.least.items k ≡ least) × (bound_at new.greatest.items k ≡ greatest)
+least_at k least greatest old new added = (
+  pushed_at old.least.items new.least.items least (pos 0) k added.least added.least_len,
+  pushed_at old.greatest.items new.greatest.items greatest (pos 0) k added.greatest added.greatest_len,
+)
 
 -- ---- sites that wait
 
@@ -194,6 +161,30 @@ shifted_waits n site value surplus old new cs ws shifts waiting =
           subst C (sym items) (waiting.each u l (below_not u n l) (ap (λ (v : _). choice_at v.items u) (sym cs) ∙ opened)
           (tells_same old new u ((shifts.others u off).0) ((shifts.others u off).1) tells));
     }
+
+-- the bounds of the next site were added
+pub added_waits : (k : ℕ) (least greatest : ℤ) (old new : Bounds) → AreAdded k least greatest old new → AreWaiting k old → AreWaitingBut (k + 1) k new
+added_waits k least greatest old new added waiting =
+    let items = ap (λ (v : _). v.items) added.waiting in
+    let P : List ℕ → Type 0 = λ xs. All (λ u. u < k + 1) xs in
+    record {
+      sites = subst P (sym items) (λ i d l. (let h = waiting.sites i d l in omega (arith, h)));
+      each = λ u l off opened tells.
+          let C : List ℕ → Type 0 = λ xs. Contains xs u in
+          let before : u < k = omega (arith, l, off) in
+          let same = least_before k u least greatest old new added before in
+          subst C (sym items) (waiting.each u before off (ap (λ (v : _). choice_at v.items u) (sym added.choices) ∙ opened) (tells_same old new u same.0 same.1 tells));
+    }
+
+-- and it is decided
+pub closed_waits : (k : ℕ) (b : Bounds) → choice_at b.choices.items k ≢ Open → AreWaitingBut (k + 1) k b → AreWaiting (k + 1) b
+closed_waits k b closed but = record {
+  sites = but.sites;
+  each = λ u l off opened tells. elim (cases_eq u k) [
+    | inl same ↦ absurd (closed (sym (ap (choice_at b.choices.items) same) ∙ opened))
+    | inr other ↦ but.each u l other opened tells
+  ];
+}
 
 -- and that site waited already
 pub still_waits : (n site : ℕ) (value : Bool) (surplus : ℤ) (old new : Bounds) → new.choices ≡ old.choices → new.waiting ≡ old.waiting → Shifts site value surplus old new
@@ -245,11 +236,20 @@ decided_waits n site value old new marked but =
 
 -- ---- one site is shifted, and perhaps called up
 
-range_same : (a b : Bounds) (most : ℕ) → b.least ≡ a.least → b.greatest ≡ a.greatest → IsWithinRange most a → IsWithinRange most b
+pub range_same : (a b : Bounds) (most : ℕ) → b.least ≡ a.least → b.greatest ≡ a.greatest → IsWithinRange most a → IsWithinRange most b
 range_same a b most ls gs within u =
     let p = ap (λ (v : _). unsigned_abs (bound_at v.items u)) ls in
     let q = ap (λ (v : _). unsigned_abs (bound_at v.items u)) gs in
     (omega (arith, p, (within u).0), omega (arith, q, (within u).1))
+
+pub summed_same : (n : ℕ) (a b : Bounds) → b.choices ≡ a.choices → b.least ≡ a.least → b.greatest ≡ a.greatest → IsSummed n a → IsSummed n b
+summed_same n a b cs ls gs was =
+    let count = ap (λ (v : _). length v.items) ls in
+    record {
+      choices = ap (λ (v : _). length v.items) cs ∙ was.choices;
+      greatest = ap (λ (v : _). length v.items) gs ∙ was.greatest ∙ sym count;
+      within = omega (arith, count, was.within);
+    }
 
 pub looking_of : (old mid new : Bounds) → mid.choices ≡ old.choices → length mid.least.items ≡ length old.least.items → length mid.greatest.items ≡ length old.greatest.items
     → ((most : ℕ) → IsWithinRange most old → IsWithinRange (most + 20000000) mid) → new.choices ≡ mid.choices → new.least ≡ mid.least → new.greatest ≡ mid.greatest
@@ -277,92 +277,4 @@ shifts_same site value surplus old mid new ls gs shifts = record {
   least = ap (λ (v : _). bound_at v.items site) ls ∙ shifts.least;
   greatest = ap (λ (v : _). bound_at v.items site) gs ∙ shifts.greatest;
   others = λ u other. (ap (λ (v : _). bound_at v.items u) ls ∙ (shifts.others u other).0, ap (λ (v : _). bound_at v.items u) gs ∙ (shifts.others u other).1);
-}
-
-pub set_len : (old new : List ℤ) (site : ℕ) (z : ℤ) → new ≡ slice_set old site z → length new ≡ length old
-set_len old new site z is = ap (λ (xs : List ℤ). length xs) is ∙ length-set old site z
-
-pub raise_fits : (y z : ℕ) → y ≤ 1152921504606846976 → z ≤ 10000000 → y + z < 4611686018427387904
-raise_fits y z h k = omega (arith, h, k)
-
-pub raise_more_fits : (y z : ℕ) → y ≤ 1152921504606846976 + 10000000 → z ≤ 10000000 → y + z < 4611686018427387904
-raise_more_fits y z h k = omega (arith, h, k)
-
--- ---- the sites that wait at the beginning
-
--- of the first k sites those wait that are open and whose bounds tell their value
-pub record AreCalled (first : Bounds) (k : ℕ) (b : Bounds) : Type 0 where
-  pub choices : b.choices ≡ first.choices
-  pub least : b.least ≡ first.least
-  pub greatest : b.greatest ≡ first.greatest
-  pub sites : All (λ u. u < length first.choices.items) b.waiting.items
-  pub each : (u : ℕ) → u < k → choice_at first.choices.items u ≡ Open → CanDecide first u → Contains b.waiting.items u
-  pub few : length b.waiting.items ≤ k
-
-can_same : (old new : Bounds) (u : ℕ) → new.least ≡ old.least → new.greatest ≡ old.greatest → CanDecide old u → CanDecide new u
-can_same old new u ls gs tells =
-    tells_same new old u (sym (ap (λ (v : _). bound_at v.items u) ls)) (sym (ap (λ (v : _). bound_at v.items u) gs)) tells
-
-pub called_none : (first : Bounds) → length first.waiting.items ≡ 0 → AreCalled first 0 first
-called_none first none = record {
-  choices = refl;
-  least = refl;
-  greatest = refl;
-  sites = λ k d l. absurd (omega (arith, l, none));
-  each = λ u below. absurd (omega (arith, below));
-  few = omega (arith, none);
-}
-
--- an open site is called up
-pub called_more : (first : Bounds) (k : ℕ) (old new : Bounds) → k < length first.choices.items → new.choices ≡ old.choices → new.least ≡ old.least → new.greatest ≡ old.greatest
-    → CallsUp k old new → AreCalled first k old → AreCalled first (k + 1) new
-called_more first k old new l cs ls gs calls before = record {
-  choices = cs ∙ before.choices;
-  least = ls ∙ before.least;
-  greatest = gs ∙ before.greatest;
-  sites = calls.sites (length first.choices.items) l before.sites;
-  each = λ u below opened tells. elim (cases_lt u k) [
-    | inl earlier ↦ calls.kept u (before.each u earlier opened tells)
-    | inr at ↦
-        let here : k ≡ u = omega (arith, at, below) in
-        let C : ℕ → Type 0 = λ v. Contains new.waiting.items v in
-        let D : ℕ → Type 0 = λ v. CanDecide first v in
-        subst C here (calls.called (can_same first old k before.least before.greatest (subst D (sym here) tells)))
-  ];
-  few = omega (arith, calls.more, before.few);
-}
-
--- any other is left out
-pub called_others : (first : Bounds) (k : ℕ) (b : Bounds) → choice_at b.choices.items k ≢ Open → AreCalled first k b → AreCalled first (k + 1) b
-called_others first k b closed before = record {
-  choices = before.choices;
-  least = before.least;
-  greatest = before.greatest;
-  sites = before.sites;
-  each = λ u below opened tells. elim (cases_eq u k) [
-    | inl here ↦ absurd (closed (ap (λ (v : _). choice_at v.items k) before.choices ∙ sym (ap (choice_at first.choices.items) here) ∙ opened))
-    | inr other ↦ before.each u (omega (arith, below, other)) opened tells
-  ];
-  few = omega (arith, before.few);
-}
-
-pub all_called : (n : ℕ) (first now : Bounds) → length first.choices.items ≡ n → AreCalled first n now → AreWaiting n now
-all_called n first now all called =
-    let P : ℕ → Type 0 = λ k. All (λ u. u < k) now.waiting.items in
-    record {
-      sites = subst P all called.sites;
-      each = λ u l other opened tells.
-          called.each u l (ap (λ (v : _). choice_at v.items u) (sym called.choices) ∙ opened) (can_same now first u (sym called.least) (sym called.greatest) tells);
-    }
-
-pub undecided_kept : (move : Move) (f : List ℕ) (old new : Bounds) → new.choices ≡ old.choices → new.waiting ≡ old.waiting → length new.least.items ≡ length old.least.items
-    → length new.greatest.items ≡ length old.greatest.items → AreUndecided move f old → AreUndecided move f new
-undecided_kept move f old new cs ws ls gs was = record {
-  sized = record {
-    choices = ap (λ (v : _). length v.items) cs ∙ was.sized.choices;
-    least = ls ∙ was.sized.least;
-    greatest = gs ∙ was.sized.greatest;
-  };
-  opened = (let P : List Choice → Type 0 = λ xs. AreAllOpen move f xs in subst P (ap (λ (v : _). v.items) (sym cs)) was.opened);
-  none = ap (λ (v : _). length v.items) ws ∙ was.none;
 }

@@ -21,6 +21,18 @@ use Rattle.deciding.proofs.Putting.{set_at, set_other}
 pub move_over : (m : Instance) (move : Move) (f : ℕ → ℕ) → IsInstance m → IsOver m.sites (move_value m move f)
 move_over m move f pairs x y same = ap pos (plain-same m (made move f x) (made move f y) pairs (λ p l. ap (label_in move (f p)) (same p l)))
 
+-- so does its rise
+pub rise_over : (m : Instance) (move : Move) (f : ℕ → ℕ) (u : ℕ) (x y : ℕ → Bool) → IsInstance m → ((p : ℕ) → p < m.sites → x p ≡ y p)
+    → rise (move_value m move f) u x ≡ rise (move_value m move f) u y
+rise_over m move f u x y pairs same =
+    let set_same : (b : Bool) (k : ℕ) → k < m.sites → set_bit x u b k ≡ set_bit y u b k = λ b k l. elim (cases_eq k u) [
+      | inl here ↦ set_at x u k b here ∙ sym (set_at y u k b here)
+      | inr other ↦ set_other x u k b other ∙ same k l ∙ sym (set_other y u k b other)
+    ] in
+    let one = move_over m move f pairs (set_bit x u true) (set_bit y u true) (set_same true) in
+    let none = move_over m move f pairs (set_bit x u false) (set_bit y u false) (set_same false) in
+    (λ i. one i -ℤ none i)
+
 data_parts : (m : Instance) (move : Move) (f : ℕ → ℕ) (u : ℕ) (x : ℕ → Bool) → u < m.sites
     → pos (data_energy m (made move f (set_bit x u true))) -ℤ pos (data_energy m (made move f (set_bit x u false))) ≡ data_rise m move f u
 data_parts m move f u x l =

@@ -69,12 +69,12 @@ step_one n here seen d b c old new l unseen was is =
 
 -- ---- the loop over the places of a site's part
 
-pub record IsSpread (m : Instance) (move : Move) (f : ℕ → ℕ) (ds : List Decision) (site : ℕ) (value : Bool) (ends : Groups) (place : ℕ) (b : Bounds) : Type 0 where
+pub record IsSpread (m : Instance) (move : Move) (f : ℕ → ℕ) (n : ℕ) (ds : List Decision) (site : ℕ) (value : Bool) (ends : Groups) (place : ℕ) (b : Bounds) : Type 0 where
   pub seen : ℕ → Bool
-  pub least : (u : ℕ) → u < m.sites → u ≢ site → choice_at b.choices.items u ≡ Open
+  pub least : (u : ℕ) → u < n → u ≢ site → choice_at b.choices.items u ≡ Open
       → bound_at b.least.items u ≡ data_rise m move f u +ℤ int_sum_below (length m.pairs)
       (mixed seen (λ k. pair_rise m move f u (put ds (λ v. true)) (pair_in m.pairs k)) (λ k. pair_rise m move f u (set_bit (put ds (λ v. true)) site value) (pair_in m.pairs k)))
-  pub greatest : (u : ℕ) → u < m.sites → u ≢ site → choice_at b.choices.items u ≡ Open
+  pub greatest : (u : ℕ) → u < n → u ≢ site → choice_at b.choices.items u ≡ Open
       → bound_at b.greatest.items u ≡ data_rise m move f u +ℤ int_sum_below (length m.pairs)
       (mixed seen (λ k. pair_rise m move f u (put ds (λ v. false)) (pair_in m.pairs k)) (λ k. pair_rise m move f u (set_bit (put ds (λ v. false)) site value) (pair_in m.pairs k)))
   pub to_see : (k : ℕ) → k < length m.pairs → seen k ≡ false → Touches site (pair_in m.pairs k)
@@ -82,16 +82,16 @@ pub record IsSpread (m : Instance) (move : Move) (f : ℕ → ℕ) (ds : List De
   pub unseen : (p : ℕ) → place ≤ p → p < start_of ends (site + 1) → seen (place_at ends p / 2) ≡ false
 
 -- before the first: the site's own choice was set
-pub spread_start : (m : Instance) (move : Move) (f : ℕ → ℕ) (site : ℕ) (value : Bool) (ends : Groups) (old new : Bounds) (n : ℕ)
-    → IsGrouped n (ends_of m.pairs) ends → (decided : ArePartlyDecided m move f old) → IsMarked site value old new
-    → IsSpread m move f decided.decisions site value ends (start_of ends site) new
-spread_start m move f site value ends old new n grouped decided marked = record {
+pub spread_start : (m : Instance) (move : Move) (f : ℕ → ℕ) (site : ℕ) (value : Bool) (ends : Groups) (old new : Bounds) (n : ℕ) → n ≤ m.sites
+    → IsGrouped m.sites (ends_of m.pairs) ends → (decided : ArePartlyDecided m move f n old) → IsMarked site value old new
+    → IsSpread m move f n decided.decisions site value ends (start_of ends site) new
+spread_start m move f site value ends old new n most grouped decided marked = record {
   seen = λ k. false;
   least = λ u l off opened.
-      ap (λ (v : _). bound_at v.items u) marked.least ∙ decided.least u l (sym (marked.others u off) ∙ opened) ∙ rise_by_places m move f u (put decided.decisions (λ v. true)) l;
+      ap (λ (v : _). bound_at v.items u) marked.least ∙ decided.least u l (sym (marked.others u off) ∙ opened) ∙ rise_by_places m move f u (put decided.decisions (λ v. true)) (omega (arith, l, most));
   greatest = λ u l off opened.
-      ap (λ (v : _). bound_at v.items u) marked.greatest ∙ decided.greatest u l (sym (marked.others u off) ∙ opened) ∙ rise_by_places m move f u (put decided.decisions (λ v. false)) l;
-  to_see = λ k l un touches. touching_found m.pairs n site k _ ends grouped l touches;
+      ap (λ (v : _). bound_at v.items u) marked.greatest ∙ decided.greatest u l (sym (marked.others u off) ∙ opened) ∙ rise_by_places m move f u (put decided.decisions (λ v. false)) (omega (arith, l, most));
+  to_see = λ k l un touches. touching_found m.pairs m.sites site k _ ends grouped l touches;
   unseen = λ p from to. refl;
 }
 
@@ -99,12 +99,12 @@ later : (a b : ℕ) → a ≤ b → a ≢ b → a + 1 ≤ b
 later a b h k = omega (arith, h, k)
 
 -- one more
-pub spread_step : (m : Instance) (move : Move) (f : ℕ → ℕ) (ds : List Decision) (site : ℕ) (value : Bool) (ends : Groups) (place : ℕ) (pair : Pair) (old new : Bounds)
+pub spread_step : (m : Instance) (move : Move) (f : ℕ → ℕ) (n : ℕ) (ds : List Decision) (site : ℕ) (value : Bool) (ends : Groups) (place : ℕ) (pair : Pair) (old new : Bounds)
     → IsInstance m → IsGrouped m.sites (ends_of m.pairs) ends → site < m.sites → start_of ends site ≤ place → place < start_of ends (site + 1)
     → pair_in m.pairs (place_at ends place / 2) ≡ pair → put ds (λ v. true) site ≡ true → put ds (λ v. false) site ≡ false
-    → new.choices ≡ old.choices → SeesPair m move f site value pair old new → IsSpread m move f ds site value ends place old
-    → IsSpread m move f ds site value ends (place + 1) new
-spread_step m move f ds site value ends place pair old new are grouped inside from to read one none same sees spread =
+    → new.choices ≡ old.choices → SeesPair m move f n site value pair old new → IsSpread m move f n ds site value ends place old
+    → IsSpread m move f n ds site value ends (place + 1) new
+spread_step m move f n ds site value ends place pair old new are grouped inside from to read one none same sees spread =
     let here = place_at ends place / 2 in
     let at = grouped.places site place inside from to in
     let within = (end_touches m.pairs site (place_at ends place) (record { first = 0; second = 0; weight = 0 }) at.0 at.1).0 in
@@ -116,13 +116,13 @@ spread_step m move f ds site value ends place pair old new are grouped inside fr
           step_one (length m.pairs) here spread.seen (data_rise m move f u) (bound_at old.least.items u) (bound_at new.least.items u)
           (λ k. pair_rise m move f u (put ds (λ v. true)) (pair_in m.pairs k)) (λ k. pair_rise m move f u (set_bit (put ds (λ v. true)) site value) (pair_in m.pairs k)) within fresh
           (spread.least u l off (was u opened))
-          (sees.least (put ds (λ v. true)) u one off (was u opened)
+          (sees.least (put ds (λ v. true)) u one l off (was u opened)
           ∙ ap (λ p. bound_at old.least.items u +ℤ (pair_rise m move f u (set_bit (put ds (λ v. true)) site value) p -ℤ pair_rise m move f u (put ds (λ v. true)) p)) (sym read));
       greatest = λ u l off opened.
           step_one (length m.pairs) here spread.seen (data_rise m move f u) (bound_at old.greatest.items u) (bound_at new.greatest.items u)
           (λ k. pair_rise m move f u (put ds (λ v. false)) (pair_in m.pairs k)) (λ k. pair_rise m move f u (set_bit (put ds (λ v. false)) site value) (pair_in m.pairs k)) within fresh
           (spread.greatest u l off (was u opened))
-          (sees.greatest (put ds (λ v. false)) u none off (was u opened)
+          (sees.greatest (put ds (λ v. false)) u none l off (was u opened)
           ∙ ap (λ p. bound_at old.greatest.items u +ℤ (pair_rise m move f u (set_bit (put ds (λ v. false)) site value) p -ℤ pair_rise m move f u (put ds (λ v. false)) p)) (sym read));
       to_see = λ k l un touches. elim (cases_eq k here) [
         | inl equal ↦ absurd (let e = sym (ap (and_at spread.seen here) equal ∙ at_here spread.seen here) ∙ un in cc (e))
@@ -153,17 +153,17 @@ all_seen m move f site value u x seen are none =
           (sym (set_other x site (pair_in m.pairs k).first value apart.0)) (sym (set_other x site (pair_in m.pairs k).second value apart.1))
     ])
 
-passes_of : (m : Instance) (move : Move) (f : ℕ → ℕ) (site : ℕ) (value : Bool) (old : Bounds) → (decided : ArePartlyDecided m move f old) → site < m.sites
+passes_of : (m : Instance) (move : Move) (f : ℕ → ℕ) (n site : ℕ) (value : Bool) (old : Bounds) → (decided : ArePartlyDecided m move f n old) → site < n
     → choice_at old.choices.items site ≡ Open → Tells old site value → Passes (move_value m move f) decided.decisions site value
-passes_of m move f site false old decided l opened tells = (let e = decided.least site l opened in let P : ℤ → Type 0 = λ z. pos 0 ≤ℤ z in subst P e tells)
-passes_of m move f site true old decided l opened tells = (let e = decided.greatest site l opened in let P : ℤ → Type 0 = λ z. z <ℤ pos 0 in subst P e tells)
+passes_of m move f n site false old decided l opened tells = (let e = decided.least site l opened in let P : ℤ → Type 0 = λ z. pos 0 ≤ℤ z in subst P e tells)
+passes_of m move f n site true old decided l opened tells = (let e = decided.greatest site l opened in let P : ℤ → Type 0 = λ z. z <ℤ pos 0 in subst P e tells)
 
 -- after the last
-pub spread_end : (m : Instance) (move : Move) (f : ℕ → ℕ) (site : ℕ) (value : Bool) (ends : Groups) (place : ℕ) (old mid new : Bounds)
-    → IsInstance m → site < m.sites → (decided : ArePartlyDecided m move f old) → choice_at old.choices.items site ≡ Open → Tells old site value
+pub spread_end : (m : Instance) (move : Move) (f : ℕ → ℕ) (n site : ℕ) (value : Bool) (ends : Groups) (place : ℕ) (old mid new : Bounds)
+    → IsInstance m → n ≤ m.sites → site < n → (decided : ArePartlyDecided m move f n old) → choice_at old.choices.items site ≡ Open → Tells old site value
     → IsMarked site value old mid → new.choices ≡ mid.choices
-    → start_of ends (site + 1) ≤ place → IsSpread m move f decided.decisions site value ends place new → ArePartlyDecided m move f new
-spread_end m move f site value ends place old mid new are inside decided was tells marked same past spread =
+    → start_of ends (site + 1) ≤ place → IsSpread m move f n decided.decisions site value ends place new → ArePartlyDecided m move f n new
+spread_end m move f n site value ends place old mid new are most inside decided was tells marked same past spread =
     let choices = ap (λ (v : _). v.items) same in
     let others = λ (u : ℕ) (off : u ≢ site). ap (λ (xs : List Choice). choice_at xs u) choices ∙ marked.others u off in
     let own = λ (b : Bool). ap (λ (xs : List Choice). bit_of (choice_at xs site) b) choices ∙ marked.own b in
@@ -174,15 +174,15 @@ spread_end m move f site value ends place old mid new are inside decided was tel
     let another = λ (u : ℕ) (opened : choice_at new.choices.items u ≡ Open) (same : u ≡ site). closed (ap (choice_at new.choices.items) (sym same) ∙ opened) in
     record {
       decisions = record { variable = site; value = value } ∷ ds;
-      passed = (decided.passed, passes_of m move f site value old decided inside was tells);
+      passed = (decided.passed, passes_of m move f n site value old decided inside was tells);
       shown = λ x p l. elim (cases_eq p site) [
         | inl same ↦ set_at (put ds x) site p value same ∙ sym (own (x p)) ∙ ap (λ q. bit_of (choice_at new.choices.items q) (x p)) (sym same)
         | inr other ↦ set_other (put ds x) site p value other ∙ decided.shown x p l ∙ ap (λ (c : Choice). bit_of c (x p)) (sym (others p other))
       ];
       least = λ u l opened.
           spread.least u l (another u opened) opened ∙ ap (λ s. data_rise m move f u +ℤ s) (all_seen m move f site value u (put ds (λ v. true)) spread.seen are none)
-          ∙ sym (rise_by_places m move f u (set_bit (put ds (λ v. true)) site value) l);
+          ∙ sym (rise_by_places m move f u (set_bit (put ds (λ v. true)) site value) (omega (arith, l, most)));
       greatest = λ u l opened.
           spread.greatest u l (another u opened) opened ∙ ap (λ s. data_rise m move f u +ℤ s) (all_seen m move f site value u (put ds (λ v. false)) spread.seen are none)
-          ∙ sym (rise_by_places m move f u (set_bit (put ds (λ v. false)) site value) l);
+          ∙ sym (rise_by_places m move f u (set_bit (put ds (λ v. false)) site value) (omega (arith, l, most)));
     }

@@ -1,13 +1,12 @@
 -- What is kept while sites are decided.
-use Rattle.std.specs.Prelude.{◌≡◌, ◌≢◌, ◌⊎◌, ℕ, ◌+◌, ◌-◌, ◌*◌, ◌<◌, ◌≤◌, Bool, true, false, List, length, take, slice_index_or, unsigned_abs, ℤ, pos, ◌+ℤ◌, ◌-ℤ◌, ◌≤ℤ◌, ◌<ℤ◌, Result, Ok, Err}
+use Rattle.std.specs.Prelude.{◌≡◌, ◌≢◌, ◌⊎◌, ℕ, ◌+◌, ◌-◌, ◌*◌, ◌<◌, ◌≤◌, Bool, true, false, List, [], ◌∷◌, ◌++◌, length, slice_index_or, unsigned_abs, ℤ, pos, ◌+ℤ◌, ◌-ℤ◌, ◌≤ℤ◌, ◌<ℤ◌, Result, Ok, Err}
 use Rattle.std.specs.List.{All, Contains}
 use Rattle.sums.specs.Sums.{sum_below, counted}
-use Rattle.sums.specs.IntegerSums.{int_sum_by}
 use Rattle.grouping.specs.declared.Groups.{Groups}
 use Rattle.label_field.specs.declared.pair.Pair.{Pair}
 use Rattle.labellings.specs.declared.change.Move.{Move}
 use Rattle.labellings.specs.Energies.{Instance}
-use Rattle.labellings.specs.Moves.{IsAllowed, IsRegularPair}
+use Rattle.labellings.specs.Moves.{label_in, IsAllowed}
 use Rattle.move_energy.specs.declared.error.BuildError.{BuildError}
 use Rattle.move_energy.specs.Problems.{IsPrepareRefusal}
 use Rattle.move_energy.specs.declared.choice.Choice.{Choice}
@@ -16,7 +15,7 @@ use Rattle.by_site.specs.BySite.{degree}
 use Rattle.move_energy.specs.Choices.{bit_of, choice_at, is_open, AreAllOpen}
 use Rattle.deciding.specs.Limits.{surplus_limit, bound_limit}
 use Rattle.deciding.specs.Decisions.{Decision, set_bit, put, rise, HavePassed}
-use Rattle.deciding.specs.MoveValues.{move_value, data_rise, pair_rise, term_of}
+use Rattle.deciding.specs.MoveValues.{move_value, pair_rise}
 use Rattle.deciding.specs.declared.bounds.Bounds.{Bounds}
 
 -- the two sites are the ends of the pair
@@ -50,6 +49,16 @@ Tells b u true = bound_at b.greatest.items u <ℤ pos 0
 abbrev pub CanDecide : Bounds → ℕ → Type 0
 CanDecide b u = Tells b u false ⊎ Tells b u true
 
+-- how many sites were summed: those that have bounds
+abbrev pub summed : Bounds → ℕ
+summed b = length b.least.items
+
+-- a choice of each of n sites, and two bounds of each that was summed
+pub record IsSummed (n : ℕ) (b : Bounds) : Type 0 where
+  pub choices : length b.choices.items ≡ n
+  pub greatest : length b.greatest.items ≡ length b.least.items
+  pub within : length b.least.items ≤ n
+
 -- a choice and two bounds of each of n sites
 pub record IsSized (n : ℕ) (b : Bounds) : Type 0 where
   pub choices : length b.choices.items ≡ n
@@ -61,10 +70,11 @@ pub record AreOfNoSites (b : Bounds) : Type 0 where
   pub sized : IsSized 0 b
   pub none : length b.waiting.items ≡ 0
 
--- exactly the sites that the move can change are open, the others are at 0, and no site waits
+-- exactly the sites that the move can change are open, the others are at 0, none was summed, and none waits
 pub record AreUndecided (move : Move) (f : List ℕ) (b : Bounds) : Type 0 where
-  pub sized : IsSized (length f) b
   pub opened : AreAllOpen move f b.choices.items
+  pub least : length b.least.items ≡ 0
+  pub greatest : length b.greatest.items ≡ 0
   pub none : length b.waiting.items ≡ 0
 
 -- no bound is larger
@@ -83,32 +93,44 @@ pub record AreWaitingBut (n but : ℕ) (b : Bounds) : Type 0 where
 abbrev pub AreWaiting : ℕ → Bounds → Type 0
 AreWaiting n b = AreWaitingBut n n b
 
--- the bounds count the sites' own costs and the first k pairs, with all other sites at 1 and at 0
-pub record AreCounted (m : Instance) (move : Move) (f : ℕ → ℕ) (k : ℕ) (b : Bounds) : Type 0 where
-  pub least : (u : ℕ) → u < m.sites
-      → bound_at b.least.items u
-      ≡ data_rise m move f u +ℤ int_sum_by (pair_rise m move f u (λ v. true)) (take k m.pairs)
-  pub greatest : (u : ℕ) → u < m.sites
-      → bound_at b.greatest.items u
-      ≡ data_rise m move f u +ℤ int_sum_by (pair_rise m move f u (λ v. false)) (take k m.pairs)
+-- what the testing of all pairs answers: each term is regular; or the first that is not
+abbrev pub AreTermsTested : Instance → Move → (ℕ → ℕ) → Result Unit BuildError → Type 0
+AreTermsTested m move f (Ok done) = IsAllowed m move f
+AreTermsTested m move f (Err e) = IsPrepareRefusal m move f e
 
--- what the counting of all pairs answers: each term is regular, and all are counted; or the first that is not
-abbrev pub AreTermsCounted : Instance → Move → (ℕ → ℕ) → Bounds → Bounds → Result Unit BuildError → Type 0
-AreTermsCounted m move f old new (Ok done) =
-    IsAllowed m move f × (AreCounted m move f 0 old → AreCounted m move f (length m.pairs) new)
-AreTermsCounted m move f old new (Err e) = IsPrepareRefusal m move f e
+-- the labels that the move gives a site of this label, at 0 and at 1
+abbrev pub AreTurned : Move → ℕ → ℕ → ℕ → Type 0
+AreTurned move old stays turns = (stays ≡ label_in move old false) × (turns ≡ label_in move old true)
 
--- the sites were decided one after another, each by the test, and the bounds of an open site are its rises
--- with all undecided sites at 1 and at 0
-pub record ArePartlyDecided (m : Instance) (move : Move) (f : ℕ → ℕ) (b : Bounds) : Type 0 where
+-- by how much a pair's cost rises where its first end, or its second, turns from the one label to the other
+abbrev pub end_rise : Instance → ℕ → Bool → ℕ → ℕ → ℕ → ℤ
+end_rise m weight true stays turns other =
+    pos (weight * m.smooth_cost turns other) -ℤ pos (weight * m.smooth_cost stays other)
+end_rise m weight false stays turns other =
+    pos (weight * m.smooth_cost other turns) -ℤ pos (weight * m.smooth_cost other stays)
+
+-- the decided sites have their values, and all others this one
+abbrev pub valued : List Choice → Bool → ℕ → Bool
+valued choices b p = bit_of (choice_at choices p) b
+
+-- the sites were decided one after another, each by the test, and the bounds of each open site below k are its
+-- rises with all undecided sites at 1 and at 0
+pub record ArePartlyDecided (m : Instance) (move : Move) (f : ℕ → ℕ) (k : ℕ) (b : Bounds) : Type 0 where
   pub decisions : List Decision
   pub passed : HavePassed (move_value m move f) decisions
   pub shown : (x : ℕ → Bool) (p : ℕ) → p < m.sites
       → put decisions x p ≡ bit_of (choice_at b.choices.items p) (x p)
-  pub least : (u : ℕ) → u < m.sites → choice_at b.choices.items u ≡ Open
+  pub least : (u : ℕ) → u < k → choice_at b.choices.items u ≡ Open
       → bound_at b.least.items u ≡ rise (move_value m move f) u (put decisions (λ v. true))
-  pub greatest : (u : ℕ) → u < m.sites → choice_at b.choices.items u ≡ Open
+  pub greatest : (u : ℕ) → u < k → choice_at b.choices.items u ≡ Open
       → bound_at b.greatest.items u ≡ rise (move_value m move f) u (put decisions (λ v. false))
+
+-- these are the bounds of one site more
+pub record AddsBounds (low high : ℤ) (old new : Bounds) : Type 0 where
+  pub least : new.least.items ≡ old.least.items ++ low ∷ []
+  pub greatest : new.greatest.items ≡ old.greatest.items ++ high ∷ []
+  pub choices : new.choices ≡ old.choices
+  pub waiting : new.waiting ≡ old.waiting
 
 -- the site has this value, and nothing else changes
 pub record IsMarked (site : ℕ) (value : Bool) (old new : Bounds) : Type 0 where
@@ -120,38 +142,20 @@ pub record IsMarked (site : ℕ) (value : Bool) (old new : Bounds) : Type 0 wher
   pub greatest : new.greatest ≡ old.greatest
   pub waiting : new.waiting ≡ old.waiting
 
--- a pair of this site is seen with the site's value: the bounds of each other open site change as the pair's
--- rise does
-pub record SeesPair (m : Instance) (move : Move) (f : ℕ → ℕ) (site : ℕ) (value : Bool) (pair : Pair)
+-- a pair of this site is seen with the site's value: the bounds of each other open site below k change as the
+-- pair's rise does
+pub record SeesPair (m : Instance) (move : Move) (f : ℕ → ℕ) (k site : ℕ) (value : Bool) (pair : Pair)
     (old new : Bounds) : Type 0 where
-  pub least : (x : ℕ → Bool) (u : ℕ) → x site ≡ true → u ≢ site → choice_at old.choices.items u ≡ Open
+  pub least : (x : ℕ → Bool) (u : ℕ) → x site ≡ true → u < k → u ≢ site
+      → choice_at old.choices.items u ≡ Open
       → bound_at new.least.items u
       ≡ bound_at old.least.items u
       +ℤ (pair_rise m move f u (set_bit x site value) pair -ℤ pair_rise m move f u x pair)
-  pub greatest : (x : ℕ → Bool) (u : ℕ) → x site ≡ false → u ≢ site → choice_at old.choices.items u ≡ Open
+  pub greatest : (x : ℕ → Bool) (u : ℕ) → x site ≡ false → u < k → u ≢ site
+      → choice_at old.choices.items u ≡ Open
       → bound_at new.greatest.items u
       ≡ bound_at old.greatest.items u
       +ℤ (pair_rise m move f u (set_bit x site value) pair -ℤ pair_rise m move f u x pair)
-
--- a pair with these costs is counted at both its ends
-pub record AddsTerm (pair : Pair) (table : List ℤ) (old new : Bounds) : Type 0 where
-  pub first_least : bound_at new.least.items pair.first
-      ≡ bound_at old.least.items pair.first +ℤ (bound_at table 3 -ℤ bound_at table 1)
-  pub first_greatest : bound_at new.greatest.items pair.first
-      ≡ bound_at old.greatest.items pair.first +ℤ (bound_at table 2 -ℤ bound_at table 0)
-  pub second_least : bound_at new.least.items pair.second
-      ≡ bound_at old.least.items pair.second +ℤ (bound_at table 3 -ℤ bound_at table 2)
-  pub second_greatest : bound_at new.greatest.items pair.second
-      ≡ bound_at old.greatest.items pair.second +ℤ (bound_at table 1 -ℤ bound_at table 0)
-  pub others : (u : ℕ) → u ≢ pair.first → u ≢ pair.second
-      → (bound_at new.least.items u ≡ bound_at old.least.items u)
-      × (bound_at new.greatest.items u ≡ bound_at old.greatest.items u)
-
--- what the counting of a pair answers: its term is regular, and is counted; or it is not
-abbrev pub IsTermCounted : Instance → Move → (ℕ → ℕ) → Pair → Bounds → Bounds → Bool → Type 0
-IsTermCounted m move f pair old new true =
-    IsRegularPair m move f pair × AddsTerm pair (term_of m move f pair) old new
-IsTermCounted m move f pair old new false = ¬ IsRegularPair m move f pair
 
 -- the other costs of a site whose neighbour is now 1, or now 0
 abbrev pub least_shift : Bool → ℤ → ℤ

@@ -5,13 +5,13 @@ ghost use Rattle.deciding.specs.Working.{bound_at, CanDecide, CallsUp, AreOfNoSi
 use move_energy::Choice;
 use std::alloc::{AllocError, Global};
 
-/// Of each site what is known of its value, and by how much the energy rises where its value turns from 0 to 1: at least
-/// with every other undecided site at 1, and at most with every other at 0. Then the sites that wait: those whose bounds tell
-/// their value. It takes 21 bytes a site at most.
+/// Of each site what is known of its value, and of each that was summed by how much the energy rises where its value
+/// turns from 0 to 1: at least, with every other undecided site at 1, and at most, with every other at 0. Then the sites
+/// that wait: those whose bounds tell their value. It takes 21 bytes a site at most.
 #[derive(Drop)]
 pub struct Bounds {
     pub choices: Vec<Choice>,
-    /// As many as there are sites. What the numbers are once the sites are decided, no clause says.
+    /// One of each site that was summed. What the numbers are once the sites are decided, no clause says.
     pub least: Vec<i64>,
     pub(crate) greatest: Vec<i64>,
     pub(crate) waiting: Vec<u32>,

@@ -76,19 +76,3 @@ pub fn is_regular(table: &[i64; 4]) -> bool
 {
     surplus(table) >= 0
 }
-
-/// Whether a pair's term is regular. Where the smooth costs were stored as a metric each term of each move is (Boykov,
-/// Veksler and Zabih, PAMI 2001, section 3), so it is not tested.
-pub fn is_allowed<F: Fn(u32, u32) -> i64 + Sync, V: Fn(u32, u32) -> i64 + Sync>(
-    problem: &Problem<F, V>,
-    table: &[i64; 4],
-) -> bool
-    requires posed { IsPosed F.Fn V.Fn problem.now }
-    requires table { All (IsCost (pos pair_cost_limit)) table.now }
-    ensures { Meant F.Fn V.Fn problem.now (λ m. (change : Move) (f : ℕ → ℕ) (pair : Pair) →
-        IsMoveOf problem.now.data_cost.labels change →
-        (f pair.first < problem.now.data_cost.labels) × (f pair.second < problem.now.data_cost.labels) →
-        table.now ≡ term_of m change f pair → IsTrue result ↔ IsRegularPair m change f pair) }
-{
-    problem.smooth_cost.by_metric || is_regular(table)
-}

@@ -4,11 +4,13 @@
 
 mod bounds;
 mod costs;
-mod counting;
 pub mod laws;
 mod listing;
+mod rising;
 mod settling;
 mod sites;
+mod summing;
+mod testing;
 
 pub use bounds::Bounds;
 pub use listing::Lists;

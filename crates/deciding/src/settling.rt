@@ -1,5 +1,5 @@
 //! Deciding the sites that wait, one after another.
-ghost use Rattle.std.specs.Prelude.{◌≡◌, ◌≢◌, ◌⊎◌, ◌<◌, ◌≤◌, ◌+◌, ◌*◌, ◌^◌, ℕ, ℤ, pos, ◌≤ℤ◌, ◌<ℤ◌, Bool, true, false, All, length, slice_get, Some, unsigned_abs, OnOk};
+ghost use Rattle.std.specs.Prelude.{◌≡◌, ◌≢◌, ◌⊎◌, ◌<◌, ◌≤◌, ◌+◌, ◌*◌, ◌^◌, ℕ, ℤ, pos, ◌≤ℤ◌, ◌<ℤ◌, Bool, true, false, All, length, slice_get, Some, unsigned_abs, OnOk, IsTrue, ◌↔◌, []};
 ghost use Rattle.grouping.specs.Grouping.{IsGrouped};
 ghost use Rattle.label_field.specs.PairLists.{IsPair, IsPairList};
 ghost use Rattle.by_site.specs.BySite.{degree, AreBySite};
@@ -11,10 +11,11 @@ ghost use Rattle.move_energy.specs.declared.choice.Choice.TheVariants.{Open};
 ghost use Rattle.move_energy.specs.Choices.{choice_at, bit_of};
 ghost use Rattle.cost_store.specs.Limits.{site_cost_limit};
 ghost use Rattle.deciding.specs.Limits.{surplus_limit};
-ghost use Rattle.deciding.specs.Working.{bound_at, AreEnds, CanDecide, Tells, IsMarked, IsSized, IsWithinRange, AreWaiting, AreWaitingBut, ArePartlyDecided, SeesPair, IsLooking, Shifts, least_shift as least_shift_of, greatest_shift as greatest_shift_of, left, room_of};
+ghost use Rattle.deciding.specs.Working.{bound_at, summed, CanDecide, Tells, IsMarked, IsSummed, IsWithinRange, AreWaiting, AreWaitingBut, ArePartlyDecided, SeesPair, IsLooking, Shifts, least_shift as least_shift_of, greatest_shift as greatest_shift_of, left, room_of};
 
 use crate::Bounds;
 use crate::costs::{surplus, term};
+use crate::rising::other_end;
 use cost_store::Problem;
 use grouping::Groups;
 use label_field::Pair;
@@ -28,18 +29,6 @@ fn decided(value: bool) -> Choice
     ensures closed { result ≢ Open }
 {
     if value { Choice::One } else { Choice::Zero }
-}
-
-/// The other end of a pair.
-fn other_end(pair: Pair, site: u32) -> u32
-    requires { (pair.first ≡ site) ⊎ (pair.second ≡ site) }
-    ensures { AreEnds pair site result }
-{
-    if pair.first == site {
-        pair.second
-    } else {
-        pair.first
-    }
 }
 
 /// What is added to the least rise of a site of which a neighbour got a value, and their pair has this surplus.
@@ -98,7 +87,16 @@ impl Bounds {
         self.call_up(site)
     }
 
-    /// Sees a pair with the value of one of its sites.
+    /// Whether the bounds of a site are asked for: whether it was summed, and is open.
+    fn has_bounds(&self, site: u32) -> bool
+        requires { site < length self.now.choices.items }
+        ensures { IsTrue result ↔
+            ((site < summed self.now) × (choice_at self.now.choices.items site ≡ Open)) }
+    {
+        (site as usize) < self.least.len() && self.choices[site as usize].is_open()
+    }
+
+    /// Sees a pair with the value of one of its sites. A site that was not summed sees it when it is.
     fn see<F: Fn(u32, u32) -> i64 + Sync, V: Fn(u32, u32) -> i64 + Sync>(
         &mut self,
         problem: &Problem<F, V>,
@@ -112,16 +110,16 @@ impl Bounds {
         requires asked { IsAsked problem.now at.now change }
         requires pair { IsPair (length at.now) pair }
         requires end { (pair.first ≡ site) ⊎ (pair.second ≡ site) }
-        requires sized { IsSized (length at.now) self.old }
+        requires sized { IsSummed (length at.now) self.old }
         requires range { IsWithinRange (2 ^ 60) self.old }
-        requires waiting { AreWaiting (length at.now) self.old }
+        requires waiting { AreWaiting (summed self.old) self.old }
         ensures looking { OnOk result (IsLooking 1 self.old self.new) }
-        ensures waiting { OnOk result (AreWaiting (length at.now) self.new) }
+        ensures waiting { OnOk result (AreWaiting (summed self.old) self.new) }
         ensures sees { OnOk result (Meant F.Fn V.Fn problem.now (λ m. SeesPair m change
-            (labelling at.now) site value pair self.old self.new)) }
+            (labelling at.now) (summed self.old) site value pair self.old self.new)) }
     {
         let other = other_end(pair, site);
-        if !self.choices[other as usize].is_open() {
+        if !self.has_bounds(other) {
             return Ok(());
         }
         let table = term(problem, at, change, pair);
@@ -149,12 +147,13 @@ impl Bounds {
         requires posed { IsPosed F.Fn V.Fn problem.now }
         requires asked { IsAsked problem.now at.now change }
         requires by_site { AreBySite problem.now.pairs ends.now }
-        requires site { (site < length at.now) × (choice_at self.old.choices.items site ≡ Open) }
-        requires sized { IsSized (length at.now) self.old }
+        requires site { (site < summed self.old) × (choice_at self.old.choices.items site ≡ Open) }
+        requires sized { IsSummed (length at.now) self.old }
         requires range { IsWithinRange (2 ^ 59) self.old }
-        requires waiting { AreWaitingBut (length at.now) site self.old }
-        ensures sized { OnOk result (IsSized (length at.now) self.new) }
-        ensures waiting { OnOk result (AreWaiting (length at.now) self.new) }
+        requires waiting { AreWaitingBut (summed self.old) site self.old }
+        ensures sized { OnOk result (IsSummed (length at.now) self.new) }
+        ensures same { OnOk result (summed self.new ≡ summed self.old) }
+        ensures waiting { OnOk result (AreWaiting (summed self.old) self.new) }
         ensures range { OnOk result ((most : ℕ) → IsWithinRange most self.old →
             IsWithinRange (most + surplus_limit * degree ends.now site) self.new) }
         ensures more { OnOk result (length self.new.waiting.items ≤
@@ -162,8 +161,8 @@ impl Bounds {
         ensures left { OnOk result (left ends.now (length at.now) self.new.choices.items
             + degree ends.now site ≡ left ends.now (length at.now) self.old.choices.items) }
         ensures decided { OnOk result (Meant F.Fn V.Fn problem.now (λ m. Tells self.old site value →
-            ArePartlyDecided m change (labelling at.now) self.old →
-            ArePartlyDecided m change (labelling at.now) self.new)) }
+            ArePartlyDecided m change (labelling at.now) (summed self.old) self.old →
+            ArePartlyDecided m change (labelling at.now) (summed self.old) self.new)) }
     {
         self.mark(site as usize, value);
         for place in ends.starts[site as usize]..ends.starts[site as usize + 1] {
@@ -194,15 +193,16 @@ impl Bounds {
         requires posed { IsPosed F.Fn V.Fn problem.now }
         requires asked { IsAsked problem.now at.now change }
         requires by_site { AreBySite problem.now.pairs ends.now }
-        requires site { site < length at.now }
-        requires sized { IsSized (length at.now) self.old }
+        requires site { site < summed self.old }
+        requires sized { IsSummed (length at.now) self.old }
         requires left { left ends.now (length at.now) self.old.choices.items ≤ 2 * length
             problem.now.pairs.list }
         requires range { IsWithinRange
             (room_of (left ends.now (length at.now) self.old.choices.items)) self.old }
-        requires waiting { AreWaitingBut (length at.now) site self.old }
-        ensures sized { OnOk result (IsSized (length at.now) self.new) }
-        ensures waiting { OnOk result (AreWaiting (length at.now) self.new) }
+        requires waiting { AreWaitingBut (summed self.old) site self.old }
+        ensures sized { OnOk result (IsSummed (length at.now) self.new) }
+        ensures same { OnOk result (summed self.new ≡ summed self.old) }
+        ensures waiting { OnOk result (AreWaiting (summed self.old) self.new) }
         ensures left { OnOk result (left ends.now (length at.now) self.new.choices.items ≤
             2 * length problem.now.pairs.list) }
         ensures range { OnOk result (IsWithinRange
@@ -211,7 +211,8 @@ impl Bounds {
             + left ends.now (length at.now) self.new.choices.items ≤ length self.old.waiting.items
             + left ends.now (length at.now) self.old.choices.items) }
         ensures decided { OnOk result (Meant F.Fn V.Fn problem.now (λ m. ArePartlyDecided m change (labelling
-            at.now) self.old → ArePartlyDecided m change (labelling at.now) self.new)) }
+            at.now) (summed self.old) self.old →
+            ArePartlyDecided m change (labelling at.now) (summed self.old) self.new)) }
     {
         let place = site as usize;
         if !self.choices[place].is_open() || !self.can_decide(place) {
@@ -232,15 +233,23 @@ impl Bounds {
         requires posed { IsPosed F.Fn V.Fn problem.now }
         requires asked { IsAsked problem.now at.now change }
         requires by_site { AreBySite problem.now.pairs ends.now }
-        requires sized { IsSized (length at.now) self.old }
-        requires range { IsWithinRange (site_cost_limit + surplus_limit * length problem.now.pairs.list)
-            self.old }
-        requires waiting { AreWaiting (length at.now) self.old }
-        ensures sized { OnOk result (IsSized (length at.now) self.new) }
-        ensures none { OnOk result ((u : ℕ) → u < length at.now → choice_at self.new.choices.items u ≡ Open →
-            ¬ CanDecide self.new u) }
+        requires sized { IsSummed (length at.now) self.old }
+        requires left { left ends.now (length at.now) self.old.choices.items ≤ 2 * length
+            problem.now.pairs.list }
+        requires range { IsWithinRange
+            (room_of (left ends.now (length at.now) self.old.choices.items)) self.old }
+        requires waiting { AreWaiting (summed self.old) self.old }
+        ensures sized { OnOk result (IsSummed (length at.now) self.new) }
+        ensures same { OnOk result (summed self.new ≡ summed self.old) }
+        ensures waiting { OnOk result (AreWaiting (summed self.old) self.new) }
+        ensures none { OnOk result (self.new.waiting.items ≡ []) }
+        ensures left { OnOk result (left ends.now (length at.now) self.new.choices.items ≤
+            2 * length problem.now.pairs.list) }
+        ensures range { OnOk result (IsWithinRange
+            (room_of (left ends.now (length at.now) self.new.choices.items)) self.new) }
         ensures decided { OnOk result (Meant F.Fn V.Fn problem.now (λ m. ArePartlyDecided m change (labelling
-            at.now) self.old → ArePartlyDecided m change (labelling at.now) self.new)) }
+            at.now) (summed self.old) self.old →
+            ArePartlyDecided m change (labelling at.now) (summed self.old) self.new)) }
     {
         'settling: while let Some(site) = self.waiting.pop() {
             self.settle(problem, ends, at, change, site)?;

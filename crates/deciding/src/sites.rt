@@ -7,6 +7,7 @@ ghost use Rattle.deciding.specs.Decided.{IsDecidedMove};
 ghost use Rattle.deciding.specs.Listed.{AreListed, AreEmpty};
 ghost use Rattle.deciding.specs.Working.{IsSized, AreOfNoSites};
 
+use crate::testing::test_terms;
 use crate::{Bounds, Lists};
 use by_site::group_pairs;
 use cost_store::Problem;
@@ -61,9 +62,9 @@ impl Deciding {
     /// the open sites do. Refused: the first pair whose term is not regular; smooth costs that were stored as a metric are not
     /// tested, since a metric makes no other term.
     ///
-    /// Sites that the move cannot change are `Zero` from the beginning. It looks at each pair with another end once, and once
-    /// more for each such end that is decided (Iyer, Jegelka, Bilmes, ICML 2013). Then `lists` has how many sites are open,
-    /// and lists them where they are few. Where it refuses, nothing is listed, and no more is said of `bounds` and `lists`.
+    /// Sites that the move cannot change are `Zero` from the beginning. It looks at the pairs of each other site once, and
+    /// once more where it decides the site (Iyer, Jegelka, Bilmes, ICML 2013). Then `lists` has how many sites are open, and
+    /// lists them where they are few. Where it refuses, nothing is listed, and no more is said of `bounds` and `lists`.
     pub fn decide<F: Fn(u32, u32) -> i64 + Sync, V: Fn(u32, u32) -> i64 + Sync>(
         &mut self,
         problem: &Problem<F, V>,
@@ -83,10 +84,9 @@ impl Deciding {
         ensures refused { OnErr result (self.new.lists.listed ≡ false) }
     {
         self.lists.listed = false;
-        self.bounds.count_sites(problem, at, change)?;
-        self.bounds.count_pairs(problem, at, change)?;
-        self.bounds.find_waiting()?;
-        self.bounds.settle_all(problem, &self.ends, at, change)?;
+        test_terms(problem, at, change)?;
+        self.bounds.open_sites(at, change)?;
+        self.bounds.decide_sites(problem, &self.ends, at, change)?;
         self.lists.fill(at, change, &self.bounds.choices)?;
         Ok(())
     }

@@ -3,6 +3,7 @@ use Rattle.grouping.specs.Grouping.{start_of}
 use Rattle.by_site.specs.BySite.{degree}
 use Rattle.labellings.specs.Energies.{labelling}
 use Rattle.move_energy.specs.Choices.{choice_at}
+use Rattle.deciding.specs.Working.{AreWaiting, SeesPair}
 use Rattle.deciding.proofs.Left.{left_less}
 use Rattle.deciding.proofs.Ranges.{range_wider, decided_waits}
 use Rattle.deciding.proofs.Spreading.{IsSpread, spread_start, spread_step, spread_end, pair_in}
@@ -13,28 +14,30 @@ use Rattle.deciding.proofs.bounds.Bounds.decide.Goals as goal
 pub loop-place-init : goal.loop-place-init
 loop-place-init g c =
     let a = c.args in
-    let inside : a.site < a.problem.now.pairs.sites = omega (arith, c.requires.site.0, c.requires.asked.sites) in
+    let inside : a.site < a.problem.now.pairs.sites = omega (arith, c.requires.site.0, c.requires.sized.within, c.requires.asked.sites) in
     let start = start_read a.problem.now.pairs a.ends.now a.site _ c.requires.by_site (omega (arith, inside)) c.index-place.ensures in
     record {
       choices = refl;
       sized = record {
         choices = c.mark.ensures.count ∙ c.requires.sized.choices;
-        least = ap (λ (v : _). length v.items) c.mark.ensures.least ∙ c.requires.sized.least;
-        greatest = ap (λ (v : _). length v.items) c.mark.ensures.greatest ∙ c.requires.sized.greatest;
+        greatest = ap (λ (v : _). length v.items) c.mark.ensures.greatest ∙ c.requires.sized.greatest ∙ sym (ap (λ (v : _). length v.items) c.mark.ensures.least);
+        within = (let e = ap (λ (v : _). length v.items) c.mark.ensures.least in omega (arith, e, c.requires.sized.within));
       };
-      waiting = decided_waits (length a.at.now) a.site a.value a.self.now c.mark.new.self c.mark.ensures c.requires.waiting;
+      same = ap (λ (v : _). length v.items) c.mark.ensures.least;
+      waiting = decided_waits (length a.self.now.least.items) a.site a.value a.self.now c.mark.new.self c.mark.ensures c.requires.waiting;
       more = (let e = ap (λ (v : _). length v.items) c.mark.ensures.waiting in omega (arith, e));
       range = λ most within. range_wider most _ c.mark.new.self (omega arith) (range_start a.self.now c.mark.new.self a.site a.value c.mark.ensures most within);
       spread = λ m answers decided.
-          let P : ℕ → Type 0 = λ p. IsSpread m a.change (labelling a.at.now) decided.decisions a.site a.value a.ends.now p c.mark.new.self in
+          let most : length a.self.now.least.items ≤ m.sites = omega (arith, c.requires.sized.within, c.requires.asked.sites, answers.sites_are) in
+          let P : ℕ → Type 0 = λ p. IsSpread m a.change (labelling a.at.now) (length a.self.now.least.items) decided.decisions a.site a.value a.ends.now p c.mark.new.self in
           subst P (sym start)
-          (spread_start m a.change (labelling a.at.now) a.site a.value a.ends.now a.self.now c.mark.new.self m.sites (meant_grouped m a.problem.now.pairs a.ends.now answers.pairs_are answers.sites_are c.requires.by_site) decided c.mark.ensures);
+          (spread_start m a.change (labelling a.at.now) a.site a.value a.ends.now a.self.now c.mark.new.self (length a.self.now.least.items) most (meant_grouped m a.problem.now.pairs a.ends.now answers.pairs_are answers.sites_are c.requires.by_site) decided c.mark.ensures);
     }
 
 pub get-pair-requires : goal.get-pair-requires
 get-pair-requires g c =
     let a = c.args in
-    let inside : a.site < a.problem.now.pairs.sites = omega (arith, c.requires.site.0, c.requires.asked.sites) in
+    let inside : a.site < a.problem.now.pairs.sites = omega (arith, c.requires.site.0, c.requires.sized.within, c.requires.asked.sites) in
     let start = start_read a.problem.now.pairs a.ends.now a.site _ c.requires.by_site (omega (arith, inside)) c.index-place.ensures in
     let end = start_read a.problem.now.pairs a.ends.now (a.site + 1) _ c.requires.by_site (omega (arith, inside)) c.index-place-end.ensures in
     let from : start_of a.ends.now a.site ≤ c.loop-place.place = omega (arith, start, c.loop-place.auto.place) in
@@ -45,7 +48,7 @@ get-pair-requires g c =
 pub see-requires-clause-end : goal.see-requires-clause-end
 see-requires-clause-end g c = λ κs lives.
     let a = c.args in
-    let inside : a.site < a.problem.now.pairs.sites = omega (arith, c.requires.site.0, c.requires.asked.sites) in
+    let inside : a.site < a.problem.now.pairs.sites = omega (arith, c.requires.site.0, c.requires.sized.within, c.requires.asked.sites) in
     let start = start_read a.problem.now.pairs a.ends.now a.site _ c.requires.by_site (omega (arith, inside)) c.index-place.ensures in
     let end = start_read a.problem.now.pairs a.ends.now (a.site + 1) _ c.requires.by_site (omega (arith, inside)) c.index-place-end.ensures in
     let from : start_of a.ends.now a.site ≤ c.loop-place.place = omega (arith, start, c.loop-place.auto.place) in
@@ -56,7 +59,7 @@ see-requires-clause-end g c = λ κs lives.
 pub see-requires-clause-range : goal.see-requires-clause-range
 see-requires-clause-range g c = λ κs lives.
     let a = c.args in
-    let inside : a.site < a.problem.now.pairs.sites = omega (arith, c.requires.site.0, c.requires.asked.sites) in
+    let inside : a.site < a.problem.now.pairs.sites = omega (arith, c.requires.site.0, c.requires.sized.within, c.requires.asked.sites) in
     let start = start_read a.problem.now.pairs a.ends.now a.site _ c.requires.by_site (omega (arith, inside)) c.index-place.ensures in
     let end = start_read a.problem.now.pairs a.ends.now (a.site + 1) _ c.requires.by_site (omega (arith, inside)) c.index-place-end.ensures in
     let from : start_of a.ends.now a.site ≤ c.loop-place.place = omega (arith, start, c.loop-place.auto.place) in
@@ -66,7 +69,7 @@ see-requires-clause-range g c = λ κs lives.
 pub loop-place-preserved : goal.loop-place-preserved
 loop-place-preserved g c =
     let a = c.args in
-    let inside : a.site < a.problem.now.pairs.sites = omega (arith, c.requires.site.0, c.requires.asked.sites) in
+    let inside : a.site < a.problem.now.pairs.sites = omega (arith, c.requires.site.0, c.requires.sized.within, c.requires.asked.sites) in
     let start = start_read a.problem.now.pairs a.ends.now a.site _ c.requires.by_site (omega (arith, inside)) c.index-place.ensures in
     let end = start_read a.problem.now.pairs a.ends.now (a.site + 1) _ c.requires.by_site (omega (arith, inside)) c.index-place-end.ensures in
     let from : start_of a.ends.now a.site ≤ c.loop-place.place = omega (arith, start, c.loop-place.auto.place) in
@@ -77,26 +80,28 @@ loop-place-preserved g c =
       choices = looking.choices ∙ c.loop-place.invariant.choices;
       sized = record {
         choices = ap (λ (v : _). length v.items) looking.choices ∙ c.loop-place.invariant.sized.choices;
-        least = looking.least_len ∙ c.loop-place.invariant.sized.least;
-        greatest = looking.greatest_len ∙ c.loop-place.invariant.sized.greatest;
+        greatest = looking.greatest_len ∙ c.loop-place.invariant.sized.greatest ∙ sym looking.least_len;
+        within = omega (arith, looking.least_len, c.loop-place.invariant.sized.within);
       };
-      waiting = c.in_ok-see.ensures.waiting;
+      same = looking.least_len ∙ c.loop-place.invariant.same;
+      waiting = (let P : ℕ → Type 0 = λ n. AreWaiting n c.see.new.self in subst P c.loop-place.invariant.same c.in_ok-see.ensures.waiting);
       more = omega (arith, looking.waiting, c.loop-place.invariant.more, from);
       range = range_step (start_of a.ends.now a.site) c.loop-place.place a.self.now c.loop-place.self c.see.new.self from looking c.loop-place.invariant.range;
       spread = λ m answers decided.
           let within : a.site < m.sites = omega (arith, inside, answers.sites_are) in
-          spread_step m a.change (labelling a.at.now) decided.decisions a.site a.value a.ends.now c.loop-place.place c.get-pair.result c.loop-place.self c.see.new.self
+          let S : ℕ → Type 0 = λ n. SeesPair m a.change (labelling a.at.now) n a.site a.value c.get-pair.result c.loop-place.self c.see.new.self in
+          spread_step m a.change (labelling a.at.now) (length a.self.now.least.items) decided.decisions a.site a.value a.ends.now c.loop-place.place c.get-pair.result c.loop-place.self c.see.new.self
           (meant_pairs m a.problem.now.pairs answers.pairs_are answers.sites_are c.requires.posed.pairs) (meant_grouped m a.problem.now.pairs a.ends.now answers.pairs_are answers.sites_are c.requires.by_site) within from to
           ((λ i. pair_in (answers.pairs_are i) (sym read i / 2)) ∙ pair_read a.problem.now.pairs.list _ c.get-pair.result c.get-pair.ensures.value)
-          (site_free m a.change (labelling a.at.now) a.site true a.self.now decided within c.requires.site.1)
-          (site_free m a.change (labelling a.at.now) a.site false a.self.now decided within c.requires.site.1)
-          looking.choices (c.in_ok-see.ensures.sees m answers) (c.loop-place.invariant.spread m answers decided);
+          (site_free m a.change (labelling a.at.now) a.site true a.self.now (length a.self.now.least.items) decided within c.requires.site.1)
+          (site_free m a.change (labelling a.at.now) a.site false a.self.now (length a.self.now.least.items) decided within c.requires.site.1)
+          looking.choices (subst S c.loop-place.invariant.same (c.in_ok-see.ensures.sees m answers)) (c.loop-place.invariant.spread m answers decided);
     }
 
 pub returns-clause-range : goal.returns-clause-range
 returns-clause-range g c = λ most within.
     let a = c.args in
-    let inside : a.site < a.problem.now.pairs.sites = omega (arith, c.requires.site.0, c.requires.asked.sites) in
+    let inside : a.site < a.problem.now.pairs.sites = omega (arith, c.requires.site.0, c.requires.sized.within, c.requires.asked.sites) in
     let end = start_read a.problem.now.pairs a.ends.now (a.site + 1) _ c.requires.by_site (omega (arith, inside)) c.index-place-end.ensures in
     let start = start_read a.problem.now.pairs a.ends.now a.site _ c.requires.by_site (omega (arith, inside)) c.index-place.ensures in
     let ordered = c.requires.by_site.ordered a.site inside in
@@ -109,25 +114,27 @@ returns-clause-left g c =
     let a = c.args in
     let marked = c.mark.ensures in
     let choices = ap (λ (v : _). v.items) c.loop-place.invariant.choices in
-    left_less a.ends.now (length a.at.now) a.site a.self.now.choices.items c.loop-place.self.choices.items c.requires.site.0 c.requires.site.1
+    left_less a.ends.now (length a.at.now) a.site a.self.now.choices.items c.loop-place.self.choices.items (omega (arith, c.requires.site.0, c.requires.sized.within)) c.requires.site.1
     (λ opened. marked.closed (sym (ap (λ (xs : _). choice_at xs a.site) choices) ∙ opened))
     (λ u other. ap (λ (xs : _). choice_at xs u) choices ∙ marked.others u other)
 
 pub returns-clause-decided : goal.returns-clause-decided
 returns-clause-decided g c = λ m answers tells decided.
     let a = c.args in
-    let inside : a.site < a.problem.now.pairs.sites = omega (arith, c.requires.site.0, c.requires.asked.sites) in
+    let inside : a.site < a.problem.now.pairs.sites = omega (arith, c.requires.site.0, c.requires.sized.within, c.requires.asked.sites) in
     let end = start_read a.problem.now.pairs a.ends.now (a.site + 1) _ c.requires.by_site (omega (arith, inside)) c.index-place-end.ensures in
     let past : start_of a.ends.now (a.site + 1) ≤ c.loop-place.place = omega (arith, end, c.loop-place-test.false) in
-    spread_end m a.change (labelling a.at.now) a.site a.value a.ends.now c.loop-place.place a.self.now c.mark.new.self c.loop-place.self
-    (meant_pairs m a.problem.now.pairs answers.pairs_are answers.sites_are c.requires.posed.pairs) (omega (arith, inside, answers.sites_are)) decided c.requires.site.1 tells c.mark.ensures c.loop-place.invariant.choices past
+    let most : length a.self.now.least.items ≤ m.sites = omega (arith, c.requires.sized.within, c.requires.asked.sites, answers.sites_are) in
+    spread_end m a.change (labelling a.at.now) (length a.self.now.least.items) a.site a.value a.ends.now c.loop-place.place a.self.now c.mark.new.self c.loop-place.self
+    (meant_pairs m a.problem.now.pairs answers.pairs_are answers.sites_are c.requires.posed.pairs) most c.requires.site.0 decided c.requires.site.1 tells c.mark.ensures c.loop-place.invariant.choices past
     (c.loop-place.invariant.spread m answers decided)
 
 pub see-requires-clause-sized : goal.see-requires-clause-sized
 see-requires-clause-sized g c = λ κs lives. c.loop-place.invariant.sized
 
 pub see-requires-clause-waiting : goal.see-requires-clause-waiting
-see-requires-clause-waiting g c = λ κs lives. c.loop-place.invariant.waiting
+see-requires-clause-waiting g c = λ κs lives.
+    let P : ℕ → Type 0 = λ n. AreWaiting n c.loop-place.self in subst P (sym c.loop-place.invariant.same) c.loop-place.invariant.waiting
 
 pub returns-in_err-see-clause-sized : goal.returns-in_err-see-clause-sized
 returns-in_err-see-clause-sized g c =
@@ -164,3 +171,8 @@ returns-clause-sized g c = c.loop-place.invariant.sized
 
 pub returns-clause-waiting : goal.returns-clause-waiting
 returns-clause-waiting g c = c.loop-place.invariant.waiting
+
+pub returns-in_err-see-clause-same : goal.returns-in_err-see-clause-same
+returns-in_err-see-clause-same g c =
+    let p = err_from_is_err_and c.from_residual.result c.from_residual.ensures.1 in
+    rw (p.1) tt

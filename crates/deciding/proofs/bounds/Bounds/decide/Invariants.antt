@@ -2,18 +2,19 @@ use Rattle.std.proofs.Common.{◌≡◌, ◌+◌, ◌-◌, ◌*◌, ◌≤◌, �
 use Rattle.cost_store.specs.Posed.{IsMeant}
 use Rattle.grouping.specs.Grouping.{start_of}
 use Rattle.labellings.specs.Energies.{Instance, labelling}
-use Rattle.deciding.specs.Working.{IsSized, AreWaiting, IsWithinRange, ArePartlyDecided}
+use Rattle.deciding.specs.Working.{IsSummed, AreWaiting, IsWithinRange, ArePartlyDecided}
 use Rattle.deciding.proofs.Spreading.{IsSpread}
 use Rattle.deciding.proofs.bounds.Bounds.decide.Given as goal
 
 abbrev pub invariant-loop-place : goal.invariant-loop-place
 invariant-loop-place g l = record {
   choices : l.self.choices ≡ l.initial.self.choices;
-  sized : IsSized (length l.at) l.self;
-  waiting : AreWaiting (length l.at) l.self;
+  sized : IsSummed (length l.at) l.self;
+  same : length l.self.least.items ≡ length l.fn.self.least.items;
+  waiting : AreWaiting (length l.fn.self.least.items) l.self;
   more : length l.self.waiting.items ≤ length l.fn.self.waiting.items + (l.place - start_of l.ends l.site);
   range : (most : ℕ) → IsWithinRange most l.fn.self → IsWithinRange (most + 20000000 * (l.place - start_of l.ends l.site)) l.self;
   spread : (m : Instance) → IsMeant g.F.Fn g.V.Fn l.problem m
-      → (decided : ArePartlyDecided m l.change (labelling l.at) l.fn.self)
-      → IsSpread m l.change (labelling l.at) decided.decisions l.site l.value l.ends l.place l.self;
+      → (decided : ArePartlyDecided m l.change (labelling l.at) (length l.fn.self.least.items) l.fn.self)
+      → IsSpread m l.change (labelling l.at) (length l.fn.self.least.items) decided.decisions l.site l.value l.ends l.place l.self;
 }

@@ -1,41 +1,51 @@
-use Rattle.std.proofs.Common.{refl, length}
+use Rattle.std.proofs.Common.{◌∙◌, ℕ, refl, sym, subst, length, arith}
 use Rattle.labellings.specs.Energies.{labelling}
-use Rattle.deciding.proofs.Places.{room_first, partly_same, popped_waits}
+use Rattle.deciding.specs.Working.{AreWaiting, AreWaitingBut, ArePartlyDecided}
+use Rattle.deciding.proofs.Places.{partly_same, popped_waits}
 use Rattle.std.proofs.lemmas.Result.{err_from_is_err_and}
 use Rattle.deciding.proofs.bounds.Bounds.settle_all.Goals as goal
 
 pub settling-init : goal.settling-init
-settling-init g c =
-    let a = c.args in
-    let room = room_first a.problem.now.pairs a.ends.now (length a.at.now) a.self.now c.requires.by_site c.requires.posed.pairs c.requires.asked.sites c.requires.range in
-    record {
-      sized = c.requires.sized;
-      waiting = c.requires.waiting;
-      few = room.0;
-      range = room.1;
-      decided = λ m answers decided. decided;
-    }
+settling-init g c = record {
+  sized = c.requires.sized;
+  same = refl;
+  waiting = c.requires.waiting;
+  few = c.requires.left;
+  range = c.requires.range;
+  decided = λ m answers decided. decided;
+}
 
 pub settle-requires-clause-site : goal.settle-requires-clause-site
 settle-requires-clause-site g c = λ κs lives.
-    (popped_waits (length c.args.at.now) c.in-Some.site c.settling.self (record c.settling.self { waiting = c.pop.new.self }) c.in-Some.ensures.items refl refl refl c.settling.invariant.waiting).0
+    let n = length c.args.self.now.least.items in
+    let inside = (popped_waits n c.in-Some.site c.settling.self (record c.settling.self { waiting = c.pop.new.self }) c.in-Some.ensures.items refl refl refl c.settling.invariant.waiting).0 in
+    omega (arith, inside, c.settling.invariant.same)
 
 pub settle-requires-clause-waiting : goal.settle-requires-clause-waiting
 settle-requires-clause-waiting g c = λ κs lives.
-    (popped_waits (length c.args.at.now) c.in-Some.site c.settling.self (record c.settling.self { waiting = c.pop.new.self }) c.in-Some.ensures.items refl refl refl c.settling.invariant.waiting).1
+    let n = length c.args.self.now.least.items in
+    let W : ℕ → Type 0 = λ k. AreWaitingBut k c.in-Some.site (record c.settling.self { waiting = c.pop.new.self }) in
+    subst W (sym c.settling.invariant.same)
+    (popped_waits n c.in-Some.site c.settling.self (record c.settling.self { waiting = c.pop.new.self }) c.in-Some.ensures.items refl refl refl c.settling.invariant.waiting).1
 
 pub settling-preserved : goal.settling-preserved
 settling-preserved g c =
     let e = c.in_ok-settle.ensures in
+    let same = c.settling.invariant.same in
+    let n = length c.args.self.now.least.items in
+    let W : ℕ → Type 0 = λ k. AreWaiting k c.settle.new.self in
     record {
       sized = e.sized;
-      waiting = e.waiting;
+      same = e.same ∙ same;
+      waiting = subst W same e.waiting;
       few = e.left;
       range = e.range;
       decided = λ m answers first.
-          e.decided m answers
-          (partly_same m c.args.change (labelling c.args.at.now) c.settling.self (record c.settling.self { waiting = c.pop.new.self }) refl refl refl
-          (c.settling.invariant.decided m answers first));
+          let f = labelling c.args.at.now in
+          let popped = record c.settling.self { waiting = c.pop.new.self } in
+          let D : ℕ → Type 0 = λ k. ArePartlyDecided m c.args.change f k popped in
+          let E : ℕ → Type 0 = λ k. ArePartlyDecided m c.args.change f k c.settle.new.self in
+          subst E same (e.decided m answers (subst D (sym same) (partly_same m c.args.change f n c.settling.self popped refl refl refl (c.settling.invariant.decided m answers first))));
     }
 
 pub settle-requires-clause-by_site : goal.settle-requires-clause-by_site
@@ -44,8 +54,8 @@ settle-requires-clause-by_site g c = λ κs lives. c.requires.by_site
 pub settle-requires-clause-sized : goal.settle-requires-clause-sized
 settle-requires-clause-sized g c = λ κs lives. record {
   choices = c.settling.invariant.sized.choices;
-  least = c.settling.invariant.sized.least;
   greatest = c.settling.invariant.sized.greatest;
+  within = c.settling.invariant.sized.within;
 }
 
 pub settle-requires-clause-left : goal.settle-requires-clause-left
@@ -59,8 +69,28 @@ returns-in_err-settle-clause-sized g c =
     let p = err_from_is_err_and c.from_residual.result c.from_residual.ensures.1 in
     rw (p.1) tt
 
+pub returns-in_err-settle-clause-same : goal.returns-in_err-settle-clause-same
+returns-in_err-settle-clause-same g c =
+    let p = err_from_is_err_and c.from_residual.result c.from_residual.ensures.1 in
+    rw (p.1) tt
+
+pub returns-in_err-settle-clause-waiting : goal.returns-in_err-settle-clause-waiting
+returns-in_err-settle-clause-waiting g c =
+    let p = err_from_is_err_and c.from_residual.result c.from_residual.ensures.1 in
+    rw (p.1) tt
+
 pub returns-in_err-settle-clause-none : goal.returns-in_err-settle-clause-none
 returns-in_err-settle-clause-none g c =
+    let p = err_from_is_err_and c.from_residual.result c.from_residual.ensures.1 in
+    rw (p.1) tt
+
+pub returns-in_err-settle-clause-left : goal.returns-in_err-settle-clause-left
+returns-in_err-settle-clause-left g c =
+    let p = err_from_is_err_and c.from_residual.result c.from_residual.ensures.1 in
+    rw (p.1) tt
+
+pub returns-in_err-settle-clause-range : goal.returns-in_err-settle-clause-range
+returns-in_err-settle-clause-range g c =
     let p = err_from_is_err_and c.from_residual.result c.from_residual.ensures.1 in
     rw (p.1) tt
 
@@ -71,5 +101,5 @@ returns-in_err-settle-clause-decided g c =
 
 pub returns-clause-decided : goal.returns-clause-decided
 returns-clause-decided g c = λ m answers first.
-    partly_same m c.args.change (labelling c.args.at.now) c.settling.self (record c.settling.self { waiting = c.pop.new.self }) refl refl refl
+    partly_same m c.args.change (labelling c.args.at.now) (length c.args.self.now.least.items) c.settling.self (record c.settling.self { waiting = c.pop.new.self }) refl refl refl
     (c.settling.invariant.decided m answers first)

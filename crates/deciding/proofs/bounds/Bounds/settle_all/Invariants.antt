@@ -1,17 +1,19 @@
-use Rattle.std.proofs.Common.{◌+◌, ◌*◌, ◌≤◌, length}
+use Rattle.std.proofs.Common.{◌≡◌, ◌+◌, ◌*◌, ◌≤◌, length}
 use Rattle.cost_store.specs.Posed.{IsMeant}
 use Rattle.labellings.specs.Energies.{Instance, labelling}
-use Rattle.deciding.specs.Working.{IsSized, AreWaiting, IsWithinRange, ArePartlyDecided, left, room_of}
+use Rattle.deciding.specs.Working.{IsSummed, AreWaiting, IsWithinRange, ArePartlyDecided, left, room_of}
 use Rattle.deciding.proofs.bounds.Bounds.settle_all.Given as goal
 
 abbrev pub invariant-settling : goal.invariant-settling
 invariant-settling g l = record {
-  sized : IsSized (length l.at) l.self;
-  waiting : AreWaiting (length l.at) l.self;
+  sized : IsSummed (length l.at) l.self;
+  same : length l.self.least.items ≡ length l.fn.self.least.items;
+  waiting : AreWaiting (length l.fn.self.least.items) l.self;
   few : left l.ends (length l.at) l.self.choices.items ≤ 2 * length l.problem.pairs.list;
   range : IsWithinRange (room_of (left l.ends (length l.at) l.self.choices.items)) l.self;
   decided : (m : Instance) → IsMeant g.F.Fn g.V.Fn l.problem m
-      → ArePartlyDecided m l.change (labelling l.at) l.fn.self → ArePartlyDecided m l.change (labelling l.at) l.self;
+      → ArePartlyDecided m l.change (labelling l.at) (length l.fn.self.least.items) l.fn.self
+      → ArePartlyDecided m l.change (labelling l.at) (length l.fn.self.least.items) l.self;
 }
 
 abbrev pub decreases-settling : goal.decreases-settling

@@ -1,0 +1,135 @@
+use Rattle.std.proofs.Common.{◌≡◌, ◌≤◌, ◌*◌, ◌∙◌, ℕ, ap, sym, subst, length, arith}
+use Rattle.std.proofs.lemmas.Result.{err_from_is_err_and}
+use Rattle.labellings.specs.Energies.{labelling}
+use Rattle.deciding.specs.Working.{AreWaiting, ArePartlyDecided, IsWithinRange, left, room_of}
+use Rattle.deciding.proofs.Left.{left_most}
+use Rattle.deciding.proofs.Places.{none_waits}
+use Rattle.deciding.proofs.Ranges.{empty_list, empty_range}
+use Rattle.deciding.proofs.Whole.{partly_first}
+use Rattle.deciding.proofs.bounds.Bounds.decide_sites.Goals as goal
+
+pub loop-site-init : goal.loop-site-init
+loop-site-init g c =
+    let a = c.args in
+    let u = c.requires.undecided in
+    let L : ℕ → Type 0 = λ n. left a.ends.now n a.self.now.choices.items ≤ 2 * length a.problem.now.pairs.list in
+    record {
+      sized = record { choices = u.opened.count; greatest = u.greatest ∙ sym u.least; within = omega (arith, u.least) };
+      same = u.least;
+      waiting = record { sites = λ i d l. absurd (omega (arith, l, u.none)); each = λ v l. absurd (omega (arith, l)) };
+      none = empty_list a.self.now.waiting.items u.none;
+      few = subst L (sym c.requires.asked.sites) (left_most a.problem.now.pairs a.ends.now a.self.now.choices.items c.requires.by_site);
+      range = empty_range _ a.self.now u.least u.greatest;
+      decided = λ m answers. partly_first m a.change a.at.now a.self.now (omega (arith, answers.sites_are, c.requires.asked.sites)) u;
+    }
+
+pub sum_site-requires-clause-by_site : goal.sum_site-requires-clause-by_site
+sum_site-requires-clause-by_site g c = λ κs lives. c.requires.by_site
+
+pub sum_site-requires-clause-site : goal.sum_site-requires-clause-site
+sum_site-requires-clause-site g c = λ κs lives. (c.loop-site-test.true, c.loop-site.invariant.same)
+
+pub sum_site-requires-clause-sized : goal.sum_site-requires-clause-sized
+sum_site-requires-clause-sized g c = λ κs lives. c.loop-site.invariant.sized
+
+pub sum_site-requires-clause-left : goal.sum_site-requires-clause-left
+sum_site-requires-clause-left g c = λ κs lives. c.loop-site.invariant.few
+
+pub sum_site-requires-clause-range : goal.sum_site-requires-clause-range
+sum_site-requires-clause-range g c = λ κs lives. c.loop-site.invariant.range
+
+pub sum_site-requires-clause-waiting : goal.sum_site-requires-clause-waiting
+sum_site-requires-clause-waiting g c = λ κs lives. c.loop-site.invariant.waiting
+
+pub settle_all-requires-clause-by_site : goal.settle_all-requires-clause-by_site
+settle_all-requires-clause-by_site g c = λ κs lives. c.requires.by_site
+
+pub settle_all-requires-clause-sized : goal.settle_all-requires-clause-sized
+settle_all-requires-clause-sized g c = λ κs lives. c.in_ok-sum_site.ensures.sized
+
+pub settle_all-requires-clause-left : goal.settle_all-requires-clause-left
+settle_all-requires-clause-left g c = λ κs lives.
+    let a = c.args in
+    let same = ap (λ (v : _). left a.ends.now (length a.at.now) v.items) c.in_ok-sum_site.ensures.same in
+    omega (arith, same, c.loop-site.invariant.few)
+
+pub settle_all-requires-clause-range : goal.settle_all-requires-clause-range
+settle_all-requires-clause-range g c = λ κs lives.
+    let a = c.args in
+    let same = ap (λ (v : _). left a.ends.now (length a.at.now) v.items) c.in_ok-sum_site.ensures.same in
+    let R : ℕ → Type 0 = λ n. IsWithinRange (room_of n) c.sum_site.new.self in
+    subst R (sym same) c.in_ok-sum_site.ensures.range
+
+pub settle_all-requires-clause-waiting : goal.settle_all-requires-clause-waiting
+settle_all-requires-clause-waiting g c = λ κs lives.
+    let W : ℕ → Type 0 = λ k. AreWaiting k c.sum_site.new.self in
+    subst W (sym c.in_ok-sum_site.ensures.summed) c.in_ok-sum_site.ensures.waiting
+
+pub loop-site-preserved : goal.loop-site-preserved
+loop-site-preserved g c =
+    let a = c.args in
+    let one = c.in_ok-sum_site.ensures in
+    let e = c.in_ok-settle_all.ensures in
+    let W : ℕ → Type 0 = λ k. AreWaiting k c.settle_all.new.self in
+    record {
+      sized = e.sized;
+      same = e.same ∙ one.summed;
+      waiting = subst W one.summed e.waiting;
+      none = e.none;
+      few = e.left;
+      range = e.range;
+      decided = λ m answers.
+          let D : ℕ → Type 0 = λ k. ArePartlyDecided m a.change (labelling a.at.now) k c.sum_site.new.self in
+          let E : ℕ → Type 0 = λ k. ArePartlyDecided m a.change (labelling a.at.now) k c.settle_all.new.self in
+          subst E one.summed (e.decided m answers (subst D (sym one.summed) (one.decided m answers (c.loop-site.invariant.decided m answers))));
+    }
+
+pub returns-in_err-sum_site-clause-sized : goal.returns-in_err-sum_site-clause-sized
+returns-in_err-sum_site-clause-sized g c =
+    let p = err_from_is_err_and c.from_residual.result c.from_residual.ensures.1 in
+    rw (p.1) tt
+
+pub returns-in_err-sum_site-clause-none : goal.returns-in_err-sum_site-clause-none
+returns-in_err-sum_site-clause-none g c =
+    let p = err_from_is_err_and c.from_residual.result c.from_residual.ensures.1 in
+    rw (p.1) tt
+
+pub returns-in_err-sum_site-clause-decided : goal.returns-in_err-sum_site-clause-decided
+returns-in_err-sum_site-clause-decided g c =
+    let p = err_from_is_err_and c.from_residual.result c.from_residual.ensures.1 in
+    rw (p.1) tt
+
+pub returns-in_err-settle_all-clause-sized : goal.returns-in_err-settle_all-clause-sized
+returns-in_err-settle_all-clause-sized g c =
+    let p = err_from_is_err_and c.from_residual-in_err-settle_all.result c.from_residual-in_err-settle_all.ensures.1 in
+    rw (p.1) tt
+
+pub returns-in_err-settle_all-clause-none : goal.returns-in_err-settle_all-clause-none
+returns-in_err-settle_all-clause-none g c =
+    let p = err_from_is_err_and c.from_residual-in_err-settle_all.result c.from_residual-in_err-settle_all.ensures.1 in
+    rw (p.1) tt
+
+pub returns-in_err-settle_all-clause-decided : goal.returns-in_err-settle_all-clause-decided
+returns-in_err-settle_all-clause-decided g c =
+    let p = err_from_is_err_and c.from_residual-in_err-settle_all.result c.from_residual-in_err-settle_all.ensures.1 in
+    rw (p.1) tt
+
+pub returns-clause-sized : goal.returns-clause-sized
+returns-clause-sized g c =
+    let at_end : c.loop-site.site ≡ length c.args.at.now = omega (arith, c.loop-site-test.false, c.loop-site.auto) in
+    let i = c.loop-site.invariant in
+    record { choices = i.sized.choices; least = i.same ∙ at_end; greatest = i.sized.greatest ∙ i.same ∙ at_end }
+
+pub returns-clause-none : goal.returns-clause-none
+returns-clause-none g c =
+    let at_end : c.loop-site.site ≡ length c.args.at.now = omega (arith, c.loop-site-test.false, c.loop-site.auto) in
+    let i = c.loop-site.invariant in
+    let W : ℕ → Type 0 = λ k. AreWaiting k c.loop-site.self in
+    none_waits (length c.args.at.now) c.loop-site.self i.none (subst W at_end i.waiting)
+
+pub returns-clause-decided : goal.returns-clause-decided
+returns-clause-decided g c = λ m answers.
+    let a = c.args in
+    let at_end : c.loop-site.site ≡ length a.at.now = omega (arith, c.loop-site-test.false, c.loop-site.auto) in
+    let D : ℕ → Type 0 = λ k. ArePartlyDecided m a.change (labelling a.at.now) k c.loop-site.self in
+    subst D at_end (c.loop-site.invariant.decided m answers)

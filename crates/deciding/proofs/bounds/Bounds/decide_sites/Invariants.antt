@@ -1,0 +1,16 @@
+use Rattle.std.proofs.Common.{◌≡◌, ◌*◌, ◌≤◌, [], length}
+use Rattle.cost_store.specs.Posed.{IsMeant}
+use Rattle.labellings.specs.Energies.{Instance, labelling}
+use Rattle.deciding.specs.Working.{IsSummed, AreWaiting, IsWithinRange, ArePartlyDecided, left, room_of}
+use Rattle.deciding.proofs.bounds.Bounds.decide_sites.Given as goal
+
+abbrev pub invariant-loop-site : goal.invariant-loop-site
+invariant-loop-site g l = record {
+  sized : IsSummed (length l.at) l.self;
+  same : length l.self.least.items ≡ l.site;
+  waiting : AreWaiting l.site l.self;
+  none : l.self.waiting.items ≡ [];
+  few : left l.ends (length l.at) l.self.choices.items ≤ 2 * length l.problem.pairs.list;
+  range : IsWithinRange (room_of (left l.ends (length l.at) l.self.choices.items)) l.self;
+  decided : (m : Instance) → IsMeant g.F.Fn g.V.Fn l.problem m → ArePartlyDecided m l.change (labelling l.at) l.site l.self;
+}

@@ -1,0 +1,17 @@
+use Rattle.std.proofs.Common.{◌≡◌, ◌+◌, ◌-◌, ◌*◌, ◌≤◌, true, false, unsigned_abs}
+use Rattle.grouping.specs.Grouping.{start_of}
+use Rattle.cost_store.specs.Posed.{IsMeant}
+use Rattle.labellings.specs.Energies.{Instance, labelling}
+use Rattle.deciding.specs.Working.{valued}
+use Rattle.deciding.proofs.SiteSums.{risen}
+use Rattle.deciding.proofs.rising.site_rises.Given as goal
+
+abbrev pub invariant-loop-place : goal.invariant-loop-place
+invariant-loop-place g l = record {
+  least_small : unsigned_abs l.least ≤ 10000000 + 10000000 * (l.place - start_of l.ends l.site);
+  greatest_small : unsigned_abs l.greatest ≤ 10000000 + 10000000 * (l.place - start_of l.ends l.site);
+  least : (m : Instance) → IsMeant g.F.Fn g.V.Fn l.problem m
+      → l.least ≡ risen m l.change (labelling l.at) l.ends l.site (valued l.choices true) (l.place - start_of l.ends l.site);
+  greatest : (m : Instance) → IsMeant g.F.Fn g.V.Fn l.problem m
+      → l.greatest ≡ risen m l.change (labelling l.at) l.ends l.site (valued l.choices false) (l.place - start_of l.ends l.site);
+}

@@ -1,0 +1,170 @@
+//! By how much the energy rises where the value of one site turns from 0 to 1, as far as the others are decided.
+ghost use Rattle.std.specs.Prelude.{◌≡◌, ◌<◌, ◌≤◌, ◌+◌, ◌*◌, ◌⊎◌, ℕ, ℤ, pos, ◌-ℤ◌, Bool, true, false, length, unsigned_abs};
+ghost use Rattle.label_field.specs.Limits.{weight_limit};
+ghost use Rattle.label_field.specs.PairLists.{IsPair};
+ghost use Rattle.by_site.specs.BySite.{degree, AreBySite};
+ghost use Rattle.labellings.specs.Energies.{labelling};
+ghost use Rattle.labellings.specs.Moves.{label_in};
+ghost use Rattle.cost_store.specs.Limits.{site_cost_limit, pair_cost_limit};
+ghost use Rattle.cost_store.specs.Posed.{IsPosed, IsAsked, Meant};
+ghost use Rattle.deciding.specs.Decisions.{rise};
+ghost use Rattle.deciding.specs.MoveValues.{move_value, pair_rise};
+ghost use Rattle.deciding.specs.Working.{AreEnds, AreTurned, end_rise as end_rise_of, valued};
+
+use crate::costs::data_rise;
+use cost_store::Problem;
+use grouping::Groups;
+use label_field::Pair;
+use labellings::Move;
+use move_energy::Choice;
+
+/// The labels of a site: where its value is 0, and where it is 1.
+#[derive(Clone, Copy)]
+struct Turn {
+    stays: u32,
+    turns: u32,
+}
+
+impl Turn {
+    /// The labels that a move gives a site of this label.
+    fn of(change: Move, label: u32) -> Turn
+        ensures { AreTurned change label result.stays result.turns }
+    {
+        Turn {
+            stays: change.label(label, false),
+            turns: change.label(label, true),
+        }
+    }
+}
+
+/// By how much the energy rises where the value of a site turns from 0 to 1: at least, which is with all undecided
+/// neighbours at 1, and at most, which is with all of them at 0.
+#[derive(Clone, Copy)]
+pub struct Rises {
+    pub least: i64,
+    pub greatest: i64,
+}
+
+/// The other end of a pair.
+pub(crate) fn other_end(pair: Pair, site: u32) -> u32
+    requires { (pair.first ≡ site) ⊎ (pair.second ≡ site) }
+    ensures { AreEnds pair site result }
+{
+    if pair.first == site {
+        pair.second
+    } else {
+        pair.first
+    }
+}
+
+/// The label that the move gives a site: by what was decided of it, and else by this value.
+fn label_by(choices: &[Choice], at: &[u8], change: Move, site: u32, value: bool) -> u32
+    requires site { site < length at.now }
+    requires choices { length choices.now ≡ length at.now }
+    ensures { result ≡ label_in change (labelling at.now site) (valued choices.now value site) }
+{
+    change.label(
+        u32::from(at[site as usize]),
+        choices[site as usize].bit(value),
+    )
+}
+
+/// By how much a pair's cost rises where one of its ends turns, and the other has this label.
+fn end_rise<F: Fn(u32, u32) -> i64 + Sync, V: Fn(u32, u32) -> i64 + Sync>(
+    problem: &Problem<F, V>,
+    weight: u32,
+    first: bool,
+    turn: Turn,
+    other: u32,
+) -> i64
+    requires posed { IsPosed F.Fn V.Fn problem.now }
+    requires weight { weight ≤ weight_limit }
+    requires turn { (turn.stays < problem.now.data_cost.labels)
+        × (turn.turns < problem.now.data_cost.labels) }
+    requires other { other < problem.now.data_cost.labels }
+    ensures rise { Meant F.Fn V.Fn problem.now
+        (λ m. result ≡ end_rise_of m weight first turn.stays turn.turns other) }
+    ensures range { unsigned_abs result ≤ pair_cost_limit }
+{
+    if first {
+        problem.pair_cost(weight, turn.turns, other) - problem.pair_cost(weight, turn.stays, other)
+    } else {
+        problem.pair_cost(weight, other, turn.turns) - problem.pair_cost(weight, other, turn.stays)
+    }
+}
+
+/// By how much a pair's cost rises where its end at a site turns. Where both values of the other end's variable make
+/// one label, as they do once it is decided, one rise is both.
+fn pair_rises<F: Fn(u32, u32) -> i64 + Sync, V: Fn(u32, u32) -> i64 + Sync>(
+    problem: &Problem<F, V>,
+    choices: &[Choice],
+    at: &[u8],
+    change: Move,
+    site: u32,
+    turn: Turn,
+    pair: Pair,
+) -> Rises
+    requires posed { IsPosed F.Fn V.Fn problem.now }
+    requires asked { IsAsked problem.now at.now change }
+    requires choices { length choices.now ≡ length at.now }
+    requires pair { IsPair (length at.now) pair }
+    requires end { (pair.first ≡ site) ⊎ (pair.second ≡ site) }
+    requires turn { AreTurned change (labelling at.now site) turn.stays turn.turns }
+    ensures least { Meant F.Fn V.Fn problem.now (λ m. result.least ≡ pair_rise m change
+        (labelling at.now) site (valued choices.now true) pair) }
+    ensures greatest { Meant F.Fn V.Fn problem.now (λ m. result.greatest ≡ pair_rise m change
+        (labelling at.now) site (valued choices.now false) pair) }
+    ensures range { (unsigned_abs result.least ≤ pair_cost_limit)
+        × (unsigned_abs result.greatest ≤ pair_cost_limit) }
+{
+    let first = pair.first == site;
+    let other = other_end(pair, site);
+    let low = label_by(choices, at, change, other, false);
+    let high = label_by(choices, at, change, other, true);
+    let greatest = end_rise(problem, pair.weight, first, turn, low);
+    if high == low {
+        return Rises {
+            least: greatest,
+            greatest,
+        };
+    }
+    Rises {
+        least: end_rise(problem, pair.weight, first, turn, high),
+        greatest,
+    }
+}
+
+/// By how much the energy rises where a site turns: its own cost's rise and those of its pairs.
+pub(crate) fn site_rises<F: Fn(u32, u32) -> i64 + Sync, V: Fn(u32, u32) -> i64 + Sync>(
+    problem: &Problem<F, V>,
+    ends: &Groups,
+    choices: &[Choice],
+    at: &[u8],
+    change: Move,
+    site: u32,
+) -> Rises
+    requires posed { IsPosed F.Fn V.Fn problem.now }
+    requires asked { IsAsked problem.now at.now change }
+    requires by_site { AreBySite problem.now.pairs ends.now }
+    requires choices { length choices.now ≡ length at.now }
+    requires site { site < length at.now }
+    ensures least { Meant F.Fn V.Fn problem.now (λ m. result.least ≡ rise (move_value m change
+        (labelling at.now)) site (valued choices.now true)) }
+    ensures greatest { Meant F.Fn V.Fn problem.now (λ m. result.greatest ≡ rise (move_value m change
+        (labelling at.now)) site (valued choices.now false)) }
+    ensures range { (unsigned_abs result.least ≤ site_cost_limit + pair_cost_limit * degree ends.now site)
+        × (unsigned_abs result.greatest ≤ site_cost_limit + pair_cost_limit * degree ends.now site) }
+{
+    let label = u32::from(at[site as usize]);
+    let turn = Turn::of(change, label);
+    let own = data_rise(problem, change, site, label);
+    let mut least = own;
+    let mut greatest = own;
+    for place in ends.starts[site as usize]..ends.starts[site as usize + 1] {
+        let pair = problem.pairs.get(ends.places[place as usize] as usize / 2);
+        let rises = pair_rises(problem, choices, at, change, site, turn, pair);
+        least += rises.least;
+        greatest += rises.greatest;
+    }
+    Rises { least, greatest }
+}

@@ -1,0 +1,141 @@
+//! The sites of a move one after another: each is summed, and decided at once where its bounds tell its value.
+ghost use Rattle.std.specs.Prelude.{◌≡◌, ◌≢◌, ◌<◌, ◌≤◌, ◌*◌, ◌+◌, ◌↔◌, ◌++◌, ◌∷◌, [], ℕ, length, OnOk};
+ghost use Rattle.label_field.specs.Limits.{site_limit};
+ghost use Rattle.by_site.specs.BySite.{AreBySite};
+ghost use Rattle.labellings.specs.Energies.{labelling};
+ghost use Rattle.cost_store.specs.Posed.{IsPosed, IsAsked, Meant};
+ghost use Rattle.move_energy.specs.declared.choice.Choice.TheVariants.{Open, One};
+ghost use Rattle.move_energy.specs.Choices.{choice_at, Changes};
+ghost use Rattle.deciding.specs.Working.{summed, CanDecide, IsSized, IsSummed, IsWithinRange, AddsBounds, AreUndecided, AreWaiting, ArePartlyDecided, left, room_of};
+
+use crate::Bounds;
+use crate::rising::site_rises;
+use cost_store::Problem;
+use grouping::Groups;
+use labellings::Move;
+use move_energy::Choice;
+use std::alloc::AllocError;
+
+/// What is known of a site before anything is summed. Where the move cannot change its label its value makes no
+/// difference, and is 0.
+fn first_choice(change: Move, label: u32) -> Choice
+    ensures opened { (result ≡ Open) ↔ Changes change label }
+    ensures none { result ≢ One }
+{
+    if change.can_change(label) {
+        Choice::Open
+    } else {
+        Choice::Zero
+    }
+}
+
+impl Bounds {
+    /// Makes room for so many sites, and forgets what was known.
+    fn clear(&mut self, sites: usize) -> Result<(), AllocError>
+        ensures empty { OnOk result ((length self.new.choices.items ≡ 0) × (length self.new.least.items ≡ 0)
+            × (length self.new.greatest.items ≡ 0) × (length self.new.waiting.items ≡ 0)) }
+    {
+        self.choices.clear();
+        self.choices.reserve(sites)?;
+        self.least.clear();
+        self.least.reserve(sites)?;
+        self.greatest.clear();
+        self.greatest.reserve(sites)?;
+        self.waiting.clear();
+        Ok(())
+    }
+
+    /// Adds what is known of the next site.
+    fn add_choice(&mut self, choice: Choice) -> Result<(), AllocError>
+        ensures choices { OnOk result (self.new.choices.items ≡ self.old.choices.items ++ choice ∷ []) }
+        ensures same { (self.new.least ≡ self.old.least) × (self.new.greatest ≡ self.old.greatest)
+            × (self.new.waiting ≡ self.old.waiting) }
+    {
+        self.choices.push(choice)?;
+        Ok(())
+    }
+
+    /// Opens the sites that the move can change. The others are at 0, and none is summed.
+    pub(crate) fn open_sites(&mut self, at: &[u8], change: Move) -> Result<(), AllocError>
+        ensures undecided { OnOk result (AreUndecided change at.now self.new) }
+    {
+        self.clear(at.len())?;
+        for site in 0..at.len() {
+            let label = u32::from(at[site]);
+            self.add_choice(first_choice(change, label))?;
+        }
+        Ok(())
+    }
+
+    /// Adds the bounds of the next site.
+    fn add_bounds(&mut self, least: i64, greatest: i64) -> Result<(), AllocError>
+        ensures adds { OnOk result (AddsBounds least greatest self.old self.new) }
+        ensures same { self.new.choices ≡ self.old.choices }
+    {
+        self.least.push(least)?;
+        self.greatest.push(greatest)?;
+        Ok(())
+    }
+
+    /// Sums the next site, if it is open, and lets it wait if its bounds tell its value.
+    fn sum_site<F: Fn(u32, u32) -> i64 + Sync, V: Fn(u32, u32) -> i64 + Sync>(
+        &mut self,
+        problem: &Problem<F, V>,
+        ends: &Groups,
+        at: &[u8],
+        change: Move,
+        site: u32,
+    ) -> Result<(), AllocError>
+        requires posed { IsPosed F.Fn V.Fn problem.now }
+        requires asked { IsAsked problem.now at.now change }
+        requires by_site { AreBySite problem.now.pairs ends.now }
+        requires site { (site < length at.now) × (summed self.old ≡ site) }
+        requires sized { IsSummed (length at.now) self.old }
+        requires left { left ends.now (length at.now) self.old.choices.items ≤ 2 * length
+            problem.now.pairs.list }
+        requires range { IsWithinRange
+            (room_of (left ends.now (length at.now) self.old.choices.items)) self.old }
+        requires waiting { AreWaiting site self.old }
+        ensures same { self.new.choices ≡ self.old.choices }
+        ensures summed { OnOk result (summed self.new ≡ site + 1) }
+        ensures sized { OnOk result (IsSummed (length at.now) self.new) }
+        ensures range { OnOk result (IsWithinRange
+            (room_of (left ends.now (length at.now) self.old.choices.items)) self.new) }
+        ensures waiting { OnOk result (AreWaiting (site + 1) self.new) }
+        ensures decided { OnOk result (Meant F.Fn V.Fn problem.now (λ m. ArePartlyDecided m change (labelling
+            at.now) site self.old → ArePartlyDecided m change (labelling at.now) (site + 1) self.new)) }
+    {
+        if !self.choices[site as usize].is_open() {
+            return self.add_bounds(0, 0);
+        }
+        let rises = site_rises(problem, ends, &self.choices, at, change, site);
+        self.add_bounds(rises.least, rises.greatest)?;
+        self.call_up(site)
+    }
+
+    /// Sums the sites one after another. Each whose bounds tell its value is decided at once, and so are those whose values
+    /// then can be told among the sites that were summed before.
+    pub(crate) fn decide_sites<F: Fn(u32, u32) -> i64 + Sync, V: Fn(u32, u32) -> i64 + Sync>(
+        &mut self,
+        problem: &Problem<F, V>,
+        ends: &Groups,
+        at: &[u8],
+        change: Move,
+    ) -> Result<(), AllocError>
+        requires posed { IsPosed F.Fn V.Fn problem.now }
+        requires asked { IsAsked problem.now at.now change }
+        requires by_site { AreBySite problem.now.pairs ends.now }
+        requires undecided { AreUndecided change at.now self.old }
+        ensures sized { OnOk result (IsSized (length at.now) self.new) }
+        ensures none { OnOk result ((u : ℕ) → u < length at.now → choice_at self.new.choices.items u ≡ Open →
+            ¬ CanDecide self.new u) }
+        ensures decided { OnOk result (Meant F.Fn V.Fn problem.now (λ m. ArePartlyDecided m change
+            (labelling at.now) (length at.now) self.new)) }
+    {
+        for site in 0..at.len() {
+            self.sum_site(problem, ends, at, change, site as u32)?;
+            self.settle_all(problem, ends, at, change)?;
+        }
+        Ok(())
+    }
+}
