@@ -3,3 +3,10 @@ pub mod Fixing
 pub mod Parts
 pub mod Ending
 pub mod Existing
+pub mod Marks
+pub mod Around
+pub mod Scanning
+pub mod Opens
+pub mod Listing
+pub mod Seen
+pub mod Noting

@@ -1,14 +1,16 @@
 -- The laws of stages, over the definitions alone.
-use Rattle.std.specs.Prelude.{◌≡◌, ℕ, ◌<◌, Bool, false, ℤ, ◌≤ℤ◌}
+use Rattle.std.specs.Prelude.{◌≡◌, ℕ, ◌<◌, Bool, false, List, ℤ, ◌≤ℤ◌}
 use Rattle.std.specs.List.{All}
 use Rattle.move_energy.specs.declared.choice.Choice.{Choice}
 use Rattle.labellings.specs.declared.change.Move.TheVariants.{Expand}
-use Rattle.labellings.specs.Energies.{Instance, IsInstance}
-use Rattle.labellings.specs.Moves.{IsAllowed}
+use Rattle.labellings.specs.Energies.{Instance, IsInstance, AreLabelsFree, labelling}
+use Rattle.labellings.specs.Moves.{IsAllowed, IsBest}
 use Rattle.deciding.specs.Decisions.{IsSubmodular, IsOver, IsSmallestLeast}
 use Rattle.deciding.specs.MoveValues.{move_value}
 use Rattle.stages.specs.Fixing.{fixed, fixed_value, HasZeros, HasOnes, AreLeastZeros, LiesWithin, IsLeftOpen}
 use Rattle.stages.specs.Fresh.{WasExpanded, AreFresh, HoldsNoFresh, HoldsFresh, IsApart, IsPartOf}
+use Rattle.stages.specs.declared.changes.Changes.{Changes}
+use Rattle.stages.specs.Changes.{AreStamped, IsNotedMove}
 
 -- ---- of any function of an assignment
 
@@ -69,3 +71,13 @@ ClosedStageEndsMove =
     → IsSmallestLeast m.sites (fixed_value (move_value m (Expand a) f) choice) z
     → IsPartOf m a f (fixed choice z) set → HoldsFresh m.sites fresh (fixed choice z) set
     → IsLeftOpen m.sites choice set → IsSmallestLeast m.sites (move_value m (Expand a) f) set
+
+-- ---- of what a run of expansions remembers
+
+-- an expansion that is noted, with what took its label, leaves what is remembered true of the labels that it made
+abbrev pub NotedMoveIsStamped : Type 0
+NotedMoveIsStamped =
+    (m : Instance) (a : ℕ) (f g : List ℕ) (took : ℕ → Bool) (old new : Changes)
+    → AreLabelsFree m → IsBest m (Expand a) f g
+    → ((p : ℕ) → p < m.sites → took p ≡ false → labelling g p ≡ labelling f p) → IsNotedMove a took old new
+    → AreStamped m (labelling f) old → AreStamped m (labelling g) new

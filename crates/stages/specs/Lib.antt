@@ -1,3 +1,6 @@
 pub mod Fixing
 pub mod Fresh
 pub mod Laws
+pub mod Looking
+pub mod Working
+pub mod Changes

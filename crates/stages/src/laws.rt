@@ -12,7 +12,7 @@ ghost use Rattle.stages.specs.Fixing.{fixed_value};
 ghost use Rattle.stages.specs.Fresh.{LowersNothing};
 ghost use Rattle.stages.specs.Laws.{OnesBoundLeast, RestAndFixedIsLeast};
 ghost use Rattle.stages.specs.Laws.{PartWithoutFreshIsEmpty, ClosedSetHoldsLeast};
-ghost use Rattle.stages.specs.Laws.{ClosedSetIsLeast, ClosedStageEndsMove};
+ghost use Rattle.stages.specs.Laws.{ClosedSetIsLeast, ClosedStageEndsMove, NotedMoveIsStamped};
 
 /// There is a least assignment with the fewest ones: the least ones are closed under "both" and "either"
 /// (Topkis 1978). So what is kept for each such assignment is kept for one.
@@ -72,4 +72,10 @@ pub fn closed_set_is_least()
 /// takes the label.
 pub fn closed_stage_ends_move()
     ensures { ClosedStageEndsMove }
+{}
+
+/// What a run of expansions remembers stays true over each move that is noted: of the label itself no expansion lowers
+/// anything now, and of each other label the sites that took the label of the move have its number, which is later.
+pub fn noted_move_is_stamped()
+    ensures { NotedMoveIsStamped }
 {}

@@ -1,0 +1,83 @@
+-- What is kept while a stage marks, opens and takes sites.
+use Rattle.std.specs.Prelude.{◌≡◌, ◌≢◌, ◌↔◌, ◌⊎◌, ℕ, ◌<◌, ◌≤◌, Bool, true, cond, List, [], ◌∷◌, ◌++◌, length, slice_index}
+use Rattle.std.specs.List.{All, Contains}
+use Rattle.grouping.specs.declared.Groups.{Groups}
+use Rattle.label_field.specs.declared.pair.Pair.{Pair}
+use Rattle.label_field.specs.PairLists.{PairList}
+use Rattle.by_site.specs.BySite.{degree, pair_of}
+use Rattle.move_energy.specs.declared.choice.Choice.{Choice}
+use Rattle.move_energy.specs.declared.choice.Choice.TheVariants.{Open, Zero}
+use Rattle.move_energy.specs.Choices.{choice_at, value_of}
+use Rattle.stages.specs.declared.stage.Stage.{Stage}
+use Rattle.stages.specs.Looking.{marked}
+
+-- a site is marked too
+pub record IsMarkedToo (site : ℕ) (old new : List Bool) : Type 0 where
+  pub count : length new ≡ length old
+  pub each : (p : ℕ) → marked new p ≡ true ↔ ((marked old p ≡ true) ⊎ (p ≡ site))
+
+-- and it is listed, where it was not marked
+abbrev pub IsListedToo : ℕ → List Bool → List ℕ → List ℕ → Type 0
+IsListedToo site flags old new = new ≡ old ++ cond (marked flags site) [] (site ∷ [])
+
+-- of each of n sites there is a mark, and the marked ones are listed
+pub record AreMarks (n : ℕ) (flags : List Bool) (sites : List ℕ) : Type 0 where
+  pub count : length flags ≡ n
+  pub listed : (p : ℕ) → p < n → marked flags p ≡ true ↔ Contains sites p
+  pub inside : All (λ p. p < n) sites
+
+-- each marked site stays marked
+abbrev pub StaysMarked : List Bool → List Bool → Type 0
+StaysMarked old new = (p : ℕ) → marked old p ≡ true → marked new p ≡ true
+
+-- the other end of the pair is fresh, if it could take the label
+abbrev pub IsMarkedAcross : ℕ → (ℕ → ℕ) → ℕ → (ℕ → Bool) → Pair → Type 0
+IsMarkedAcross a f site fresh pair =
+    (pair.first ≡ site → f pair.second ≢ a → fresh pair.second ≡ true)
+    × (pair.second ≡ site → f pair.first ≢ a → fresh pair.first ≡ true)
+
+-- the site and those beside it are fresh, of all that could take the label
+pub record IsMarkedAround (pairs : PairList) (ends : Groups) (a : ℕ) (f : ℕ → ℕ) (site : ℕ)
+    (fresh : ℕ → Bool) : Type 0 where
+  pub own : f site ≢ a → fresh site ≡ true
+  pub beside : (k : ℕ) → k < degree ends site → IsMarkedAcross a f site fresh (pair_of pairs.list ends site k)
+
+-- ---- opening
+
+-- the same sites are at 0
+pub record KeepsZeros (old new : List Choice) : Type 0 where
+  pub count : length new ≡ length old
+  pub each : (p : ℕ) → p < length old → choice_at new p ≡ Zero ↔ choice_at old p ≡ Zero
+
+-- ---- taking
+
+-- what takes the label are open sites that the cut showed at 1
+pub record AreShown (choices : List Choice) (bits : List Bool) (stage : Stage) : Type 0 where
+  pub marks : AreMarks (length choices) stage.taken.items stage.taking.items
+  pub shown : (p : ℕ) → p < length choices → marked stage.taken.items p ≡ true
+      → (choice_at choices p ≡ Open) × (value_of choices bits p ≡ true)
+  pub front : All (λ p. p < length choices) stage.front.items
+
+-- what takes the label stays, each site at its place of the list, and so do the sites to open next
+pub record IsWider (old new : Stage) : Type 0 where
+  pub taken : StaysMarked old.taken.items new.taken.items
+  pub more : length old.taking.items ≤ length new.taking.items
+  pub same : (k : ℕ) → k < length old.taking.items
+      → slice_index new.taking.items k ≡ slice_index old.taking.items k
+  pub front : length old.front.items ≤ length new.front.items
+
+-- where no site is to be opened, the site takes the label if it is at 1
+abbrev pub IsSeen : List Choice → List Bool → ℕ → Stage → Type 0
+IsSeen choices bits site stage =
+    length stage.front.items ≡ 0 → value_of choices bits site ≡ true → marked stage.taken.items site ≡ true
+
+-- the other end of the pair was seen
+abbrev pub IsSeenAcross : List Choice → List Bool → ℕ → Pair → Stage → Type 0
+IsSeenAcross choices bits site pair stage =
+    (pair.first ≡ site → IsSeen choices bits pair.second stage)
+    × (pair.second ≡ site → IsSeen choices bits pair.first stage)
+
+-- the sites beside a site were seen
+abbrev pub AreSeenAround : PairList → Groups → List Choice → List Bool → ℕ → Stage → Type 0
+AreSeenAround pairs ends choices bits site stage = (k : ℕ) → k < degree ends site
+    → IsSeenAcross choices bits site (pair_of pairs.list ends site k) stage

@@ -1,0 +1,183 @@
+//! Finding what takes the label after a stage, and whether that ends the move.
+ghost use Rattle.std.specs.Prelude.{◌≡◌, ℕ, ◌<◌, ◌≤◌, true, false, length, slice_index, IsTrue, IfOk, OnOk};
+ghost use Rattle.std.specs.List.{All, Contains};
+ghost use Rattle.by_site.specs.BySite.{AreBySite};
+ghost use Rattle.move_energy.specs.Choices.{choice_at, value_of, open_count, IsNumbering};
+ghost use Rattle.stages.specs.Looking.{marked, AreTaking, IsClosedIn};
+ghost use Rattle.stages.specs.Working.{AreShown, IsWider, IsSeen, AreSeenAround};
+
+use crate::Stage;
+use crate::stage::{mark, other_end, unmark_all};
+use by_site::{ends_at, pair_at};
+use grouping::Groups;
+use label_field::Pairs;
+use move_energy::Choice;
+use std::alloc::AllocError;
+
+/// What the cut of a stage showed of a site, or what was known: whether it counts as 1.
+fn value_at(choices: &[Choice], numbers: &[u32], bits: &[bool], site: u32) -> bool
+    requires numbering { IsNumbering choices.now numbers.now }
+    requires bits { length bits.now ≡ open_count choices.now }
+    requires site { site < length choices.now }
+    ensures { result ≡ value_of choices.now bits.now site }
+{
+    match choices[site as usize] {
+        Choice::Open => bits[numbers[site as usize] as usize],
+        Choice::Zero => false,
+        Choice::One => true,
+    }
+}
+
+impl Stage {
+    /// Sees a site that is fresh, or beside one that takes the label: it takes the label too if the cut showed it at 1, and is
+    /// to be opened if it was not looked at.
+    fn see(
+        &mut self,
+        choices: &[Choice],
+        numbers: &[u32],
+        bits: &[bool],
+        site: u32,
+    ) -> Result<(), AllocError>
+        requires numbering { IsNumbering choices.now numbers.now }
+        requires bits { length bits.now ≡ open_count choices.now }
+        requires site { site < length choices.now }
+        requires shown { AreShown choices.now bits.now self.old }
+        ensures shown { OnOk result (AreShown choices.now bits.now self.new) }
+        ensures wider { OnOk result (IsWider self.old self.new) }
+        ensures seen { OnOk result (IsSeen choices.now bits.now site self.new) }
+        ensures same { (self.new.fresh ≡ self.old.fresh) × (self.new.fresh_sites ≡ self.old.fresh_sites)
+            × (self.new.opened ≡ self.old.opened) }
+    {
+        if !value_at(choices, numbers, bits, site) {
+            return Ok(());
+        }
+        if choices[site as usize].is_open() {
+            return mark(&mut self.taken, &mut self.taking, site);
+        }
+        self.front.push(site)?;
+        Ok(())
+    }
+
+    /// Sees the sites beside a site.
+    fn see_around(
+        &mut self,
+        pairs: &Pairs,
+        ends: &Groups,
+        choices: &[Choice],
+        numbers: &[u32],
+        bits: &[bool],
+        site: u32,
+    ) -> Result<(), AllocError>
+        requires by_site { AreBySite pairs.now ends.now }
+        requires sites { length choices.now ≡ pairs.now.sites }
+        requires numbering { IsNumbering choices.now numbers.now }
+        requires bits { length bits.now ≡ open_count choices.now }
+        requires site { site < length choices.now }
+        requires shown { AreShown choices.now bits.now self.old }
+        ensures shown { OnOk result (AreShown choices.now bits.now self.new) }
+        ensures wider { OnOk result (IsWider self.old self.new) }
+        ensures seen { OnOk result (AreSeenAround pairs.now ends.now choices.now bits.now site self.new) }
+        ensures same { (self.new.fresh ≡ self.old.fresh) × (self.new.fresh_sites ≡ self.old.fresh_sites)
+            × (self.new.opened ≡ self.old.opened) }
+    {
+        for index in 0..ends_at(pairs, ends, site) {
+            let pair = pair_at(pairs, ends, site, index);
+            self.see(choices, numbers, bits, other_end(pair, site))?;
+        }
+        Ok(())
+    }
+
+    /// Sees the fresh sites.
+    fn see_fresh(
+        &mut self,
+        choices: &[Choice],
+        numbers: &[u32],
+        bits: &[bool],
+    ) -> Result<(), AllocError>
+        requires numbering { IsNumbering choices.now numbers.now }
+        requires bits { length bits.now ≡ open_count choices.now }
+        requires inside { All (λ p. p < length choices.now) self.old.fresh_sites.items }
+        requires shown { AreShown choices.now bits.now self.old }
+        ensures shown { OnOk result (AreShown choices.now bits.now self.new) }
+        ensures seen { OnOk result (All (λ p. IsSeen choices.now bits.now p self.new)
+            self.old.fresh_sites.items) }
+        ensures same { (self.new.fresh ≡ self.old.fresh) × (self.new.fresh_sites ≡ self.old.fresh_sites)
+            × (self.new.opened ≡ self.old.opened) }
+    {
+        for index in 0..self.fresh_sites.len() {
+            let site = self.fresh_sites[index];
+            self.see(choices, numbers, bits, site)?;
+        }
+        Ok(())
+    }
+
+    /// Sees the sites beside each that takes the label, those that are taken meanwhile too. It answers whether it came to
+    /// the end, which it does, since a site is taken once.
+    fn see_beside(
+        &mut self,
+        pairs: &Pairs,
+        ends: &Groups,
+        choices: &[Choice],
+        numbers: &[u32],
+        bits: &[bool],
+    ) -> Result<bool, AllocError>
+        requires by_site { AreBySite pairs.now ends.now }
+        requires sites { length choices.now ≡ pairs.now.sites }
+        requires numbering { IsNumbering choices.now numbers.now }
+        requires bits { length bits.now ≡ open_count choices.now }
+        requires shown { AreShown choices.now bits.now self.old }
+        ensures shown { OnOk result (AreShown choices.now bits.now self.new) }
+        ensures wider { OnOk result (IsWider self.old self.new) }
+        ensures seen { IfOk result (λ end. IsTrue end → All (λ p. AreSeenAround pairs.now ends.now choices.now
+            bits.now p self.new) self.new.taking.items) }
+        ensures same { (self.new.fresh ≡ self.old.fresh) × (self.new.fresh_sites ≡ self.old.fresh_sites)
+            × (self.new.opened ≡ self.old.opened) }
+    {
+        for index in 0..choices.len() {
+            if index >= self.taking.len() {
+                return Ok(true);
+            }
+            let site = self.taking[index];
+            self.see_around(pairs, ends, choices, numbers, bits, site)?;
+        }
+        Ok(self.taking.len() <= choices.len())
+    }
+
+    /// Finds the parts of what the cut of a stage showed at 1 that hold a fresh site, and answers whether they are closed:
+    /// whether no pair leads from them to a site that was not looked at and could take the label, and no fresh site was
+    /// left out. Then they are what takes the label (Boykov, Veksler, Zabih, PAMI 2001, for what an expansion is). Where
+    /// they are not closed, `front` has sites to open next. `numbers` are the numbers of the open sites' variables, and
+    /// `bits` the values of these.
+    ///
+    /// It takes time in proportion to the sites, one byte each, and to the fresh and taken ones and their pairs.
+    pub fn close(
+        &mut self,
+        pairs: &Pairs,
+        ends: &Groups,
+        choices: &[Choice],
+        numbers: &[u32],
+        bits: &[bool],
+    ) -> Result<bool, AllocError>
+        requires by_site { AreBySite pairs.now ends.now }
+        requires sites { length choices.now ≡ pairs.now.sites }
+        requires numbering { IsNumbering choices.now numbers.now }
+        requires bits { length bits.now ≡ open_count choices.now }
+        requires fresh { (p : ℕ) → p < pairs.now.sites → marked self.old.fresh.items p ≡ true →
+            Contains self.old.fresh_sites.items p }
+        requires inside { All (λ p. p < pairs.now.sites) self.old.fresh_sites.items }
+        ensures closed { IfOk result (λ closed. IsTrue closed → IsClosedIn pairs.now
+            (value_of choices.now bits.now) (choice_at choices.now) (marked self.new.taken.items)
+            (marked self.new.fresh.items)) }
+        ensures taking { OnOk result (AreTaking pairs.now.sites self.new) }
+        ensures same { (self.new.fresh ≡ self.old.fresh) × (self.new.fresh_sites ≡ self.old.fresh_sites)
+            × (self.new.opened ≡ self.old.opened) }
+    {
+        pairs.keeps();
+        unmark_all(&mut self.taken, choices.len())?;
+        self.taking.clear();
+        self.front.clear();
+        self.see_fresh(choices, numbers, bits)?;
+        let end = self.see_beside(pairs, ends, choices, numbers, bits)?;
+        Ok(end && self.front.is_empty())
+    }
+}

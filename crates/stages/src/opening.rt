@@ -1,0 +1,298 @@
+//! Opening the sites of a stage.
+ghost use Rattle.std.specs.Prelude.{◌≡◌, ◌==◌, ◌↔◌, ◌++◌, ◌∷◌, [], cond, not, ℕ, ◌+◌, ◌<◌, ◌≤◌, true, false, length, OnOk};
+ghost use Rattle.std.specs.List.{All};
+ghost use Rattle.label_field.specs.Limits.{site_limit};
+ghost use Rattle.by_site.specs.BySite.{AreBySite, IsListing};
+ghost use Rattle.labellings.specs.Energies.{labelling};
+ghost use Rattle.move_energy.specs.declared.choice.Choice.TheVariants.{Zero};
+ghost use Rattle.move_energy.specs.Choices.{choice_at, choice_of, is_open, open_at, value_of, open_count, AreOpenSites, AreSettled};
+ghost use Rattle.stages.specs.Looking.{AreTaking};
+ghost use Rattle.stages.specs.Working.{KeepsZeros};
+
+use crate::Stage;
+use crate::stage::other_end;
+use by_site::{ends_at, pair_at};
+use grouping::Groups;
+use label_field::Pairs;
+use move_energy::Choice;
+use std::alloc::AllocError;
+
+/// So many rings of sites are opened around those that a stage has to look at.
+const RINGS: usize = 5;
+
+/// In the rings may be this many sites, and one for each two sites that are open without them, and one for each around
+/// which they lie.
+const RING_ROOM: usize = 16;
+
+/// So many sites are looked over at once for an open one.
+const BLOCK: usize = 64;
+
+/// What is known of a site before the first stage: it is at 0 if it has the label, and else counts as 1.
+fn first_choice(label: u32, alpha: u32) -> Choice
+    ensures { result ≡ choice_of (not (label == alpha)) }
+{
+    if label == alpha {
+        Choice::Zero
+    } else {
+        Choice::One
+    }
+}
+
+/// The value that a cut showed.
+fn shown(bit: bool) -> Choice
+    ensures { result ≡ choice_of bit }
+{
+    if bit { Choice::One } else { Choice::Zero }
+}
+
+/// The choice of each site before the first stage.
+fn choose_each(choices: &mut [Choice], at: &[u8], alpha: u32)
+    requires { length choices.old ≡ length at.now }
+    ensures { (p : ℕ) → p < length at.now →
+        choice_at choices.new p ≡ choice_of (not (labelling at.now p == alpha)) }
+{
+    for site in 0..at.len() {
+        choices[site] = first_choice(u32::from(at[site]), alpha);
+    }
+}
+
+/// The choices before the first stage.
+fn choose_first(choices: &mut Vec<Choice>, at: &[u8], alpha: u32) -> Result<(), AllocError>
+    ensures count { OnOk result (length choices.new.items ≡ length at.now) }
+    ensures each { OnOk result ((p : ℕ) → p < length at.now →
+        choice_at choices.new.items p ≡ choice_of (not (labelling at.now p == alpha))) }
+{
+    choices.resize(at.len(), Choice::One)?;
+    choose_each(choices.as_mut_slice(), at, alpha);
+    Ok(())
+}
+
+/// Opens a site that was not looked at. It answers whether it was one.
+fn open_site(choices: &mut Vec<Choice>, site: u32) -> bool
+    requires { site < length choices.old.items }
+    ensures { KeepsZeros choices.old.items choices.new.items }
+{
+    let opens = match choices[site as usize] {
+        Choice::One => true,
+        Choice::Open | Choice::Zero => false,
+    };
+    if opens {
+        choices[site as usize] = Choice::Open;
+    }
+    opens
+}
+
+/// Opens those of the sites that were not looked at.
+fn open_all(choices: &mut Vec<Choice>, sites: &[u32])
+    requires { All (λ p. p < length choices.old.items) sites.now }
+    ensures { KeepsZeros choices.old.items choices.new.items }
+{
+    for site in sites {
+        open_site(choices, *site);
+    }
+}
+
+/// What the cut of a stage showed: the open sites are at 0 or count as 1.
+fn settle(choices: &mut Vec<Choice>, opened: &[u32], bits: &[bool])
+    requires listed { AreOpenSites choices.old.items opened.now }
+    requires bits { length bits.now ≡ open_count choices.old.items }
+    ensures { AreSettled choices.old.items bits.now choices.new.items }
+{
+    for index in 0..opened.len() {
+        choices[opened[index] as usize] = shown(bits[index]);
+    }
+}
+
+/// Adds a site to a list where it is open.
+fn add_open(list: &mut Vec<u32>, site: u32, choice: Choice) -> Result<(), AllocError>
+    ensures { OnOk result (list.new.items ≡ list.old.items ++ cond (is_open choice) (site ∷ []) []) }
+{
+    if choice.is_open() {
+        list.push(site)?;
+    }
+    Ok(())
+}
+
+/// Whether one of the sites from one on, before another, is open.
+fn has_open(choices: &[Choice], from: usize, to: usize) -> bool
+    requires { to ≤ length choices.now }
+    ensures { result ≡ false → (p : ℕ) → from ≤ p → p < to → open_at choices.now p ≡ false }
+{
+    let mut any = false;
+    for site in from..to {
+        if choices[site].is_open() {
+            any = true;
+        }
+    }
+    any
+}
+
+/// Adds the open ones of the sites from one on, before another, to the list of those before these.
+fn list_block(
+    opened: &mut Vec<u32>,
+    choices: &[Choice],
+    from: usize,
+    to: usize,
+) -> Result<(), AllocError>
+    requires block { (from ≤ to) × (to ≤ length choices.now) }
+    requires few { length choices.now ≤ site_limit }
+    requires listed { IsListing (open_at choices.now) from opened.old.items }
+    ensures { OnOk result (IsListing (open_at choices.now) to opened.new.items) }
+{
+    if !has_open(choices, from, to) {
+        return Ok(());
+    }
+    for site in from..to {
+        add_open(opened, site as u32, choices[site])?;
+    }
+    Ok(())
+}
+
+/// Lists the open sites. They are few, so that most blocks of sites are passed over at once.
+fn list_open(opened: &mut Vec<u32>, choices: &[Choice]) -> Result<(), AllocError>
+    requires { length choices.now ≤ site_limit }
+    ensures { OnOk result (AreOpenSites choices.now opened.new.items) }
+{
+    opened.clear();
+    let mut from = 0;
+    while from < choices.len() {
+        let to = choices.len().min(from + BLOCK);
+        list_block(opened, choices, from, to)?;
+        from = to;
+    }
+    Ok(())
+}
+
+/// Opens the sites beside a site that were not looked at, and lists them.
+fn open_beside(
+    pairs: &Pairs,
+    ends: &Groups,
+    choices: &mut Vec<Choice>,
+    ring: &mut Vec<u32>,
+    site: u32,
+) -> Result<(), AllocError>
+    requires by_site { AreBySite pairs.now ends.now }
+    requires sites { length choices.old.items ≡ pairs.now.sites }
+    requires site { site < pairs.now.sites }
+    requires inside { All (λ p. p < pairs.now.sites) ring.old.items }
+    ensures zeros { OnOk result (KeepsZeros choices.old.items choices.new.items) }
+    ensures inside { OnOk result (All (λ p. p < pairs.now.sites) ring.new.items) }
+    ensures more { OnOk result (length ring.old.items ≤ length ring.new.items) }
+{
+    for index in 0..ends_at(pairs, ends, site) {
+        let other = other_end(pair_at(pairs, ends, site, index), site);
+        if open_site(choices, other) {
+            ring.push(other)?;
+        }
+    }
+    Ok(())
+}
+
+/// Opens a ring: the sites beside those that are listed from a place on, of those that were not looked at. They are
+/// listed too.
+fn open_ring(
+    pairs: &Pairs,
+    ends: &Groups,
+    choices: &mut Vec<Choice>,
+    ring: &mut Vec<u32>,
+    from: usize,
+) -> Result<(), AllocError>
+    requires by_site { AreBySite pairs.now ends.now }
+    requires sites { length choices.old.items ≡ pairs.now.sites }
+    requires inside { All (λ p. p < pairs.now.sites) ring.old.items }
+    ensures zeros { OnOk result (KeepsZeros choices.old.items choices.new.items) }
+    ensures inside { OnOk result (All (λ p. p < pairs.now.sites) ring.new.items) }
+{
+    for index in from..ring.len() {
+        let site = ring[index];
+        open_beside(pairs, ends, choices, ring, site)?;
+    }
+    Ok(())
+}
+
+/// Opens rings around the listed sites, until so many sites are listed.
+fn open_rings(
+    pairs: &Pairs,
+    ends: &Groups,
+    choices: &mut Vec<Choice>,
+    ring: &mut Vec<u32>,
+    most: usize,
+) -> Result<(), AllocError>
+    requires by_site { AreBySite pairs.now ends.now }
+    requires sites { length choices.old.items ≡ pairs.now.sites }
+    requires inside { All (λ p. p < pairs.now.sites) ring.old.items }
+    ensures zeros { OnOk result (KeepsZeros choices.old.items choices.new.items) }
+    ensures inside { OnOk result (All (λ p. p < pairs.now.sites) ring.new.items) }
+{
+    let mut from = 0;
+    for _ in 0..RINGS {
+        let to = ring.len();
+        if to < most {
+            open_ring(pairs, ends, choices, ring, from)?;
+        }
+        from = to;
+    }
+    Ok(())
+}
+
+impl Stage {
+    /// The choices of the first stage: sites that have the label are at 0, fresh sites and rings around them are open, and
+    /// all others count as 1. `opened` lists the open ones.
+    pub fn open_first(
+        &mut self,
+        choices: &mut Vec<Choice>,
+        pairs: &Pairs,
+        ends: &Groups,
+        at: &[u8],
+        alpha: u32,
+    ) -> Result<(), AllocError>
+        requires by_site { AreBySite pairs.now ends.now }
+        requires sites { length at.now ≡ pairs.now.sites }
+        requires inside { All (λ p. p < pairs.now.sites) self.old.fresh_sites.items }
+        ensures count { OnOk result (length choices.new.items ≡ length at.now) }
+        ensures zeros { OnOk result ((p : ℕ) → p < length at.now →
+            (choice_at choices.new.items p ≡ Zero ↔ labelling at.now p ≡ alpha)) }
+        ensures opened { OnOk result (AreOpenSites choices.new.items self.new.opened.items) }
+        ensures same { (self.new.fresh ≡ self.old.fresh) × (self.new.fresh_sites ≡ self.old.fresh_sites) }
+    {
+        pairs.keeps();
+        choose_first(choices, at, alpha)?;
+        self.front.clear();
+        self.front.extend_from_slice(&self.fresh_sites)?;
+        open_all(choices, &self.front);
+        let most = self.front.len() * 2 + self.front.len() / 2 + RING_ROOM;
+        open_rings(pairs, ends, choices, &mut self.front, most)?;
+        list_open(&mut self.opened, choices)
+    }
+
+    /// The choices of the next stage: what the cut showed to be 0 is 0 for good; the parts that hold a fresh site, `front` and
+    /// rings around it are open, and all else counts as 1. `opened` lists the open ones. It answers no where they are over
+    /// half of the sites: then a whole move is cheaper.
+    pub fn reopen(
+        &mut self,
+        choices: &mut Vec<Choice>,
+        pairs: &Pairs,
+        ends: &Groups,
+        bits: &[bool],
+    ) -> Result<bool, AllocError>
+        requires by_site { AreBySite pairs.now ends.now }
+        requires sites { length choices.old.items ≡ pairs.now.sites }
+        requires listed { AreOpenSites choices.old.items self.old.opened.items }
+        requires bits { length bits.now ≡ open_count choices.old.items }
+        requires taking { AreTaking pairs.now.sites self.old }
+        ensures count { OnOk result (length choices.new.items ≡ length choices.old.items) }
+        ensures zeros { OnOk result ((p : ℕ) → p < length choices.old.items →
+            (choice_at choices.new.items p ≡ Zero ↔ value_of choices.old.items bits.now p ≡ false)) }
+        ensures opened { OnOk result (AreOpenSites choices.new.items self.new.opened.items) }
+        ensures same { (self.new.fresh ≡ self.old.fresh) × (self.new.fresh_sites ≡ self.old.fresh_sites) }
+    {
+        pairs.keeps();
+        settle(choices, &self.opened, bits);
+        open_all(choices, &self.taking);
+        open_all(choices, &self.front);
+        let most = self.front.len() * 2 + (self.taking.len() + self.front.len()) / 2 + RING_ROOM;
+        open_rings(pairs, ends, choices, &mut self.front, most)?;
+        list_open(&mut self.opened, choices)?;
+        Ok(self.opened.len() <= choices.len() / 2)
+    }
+}
