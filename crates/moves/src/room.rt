@@ -22,6 +22,7 @@ use label_costs::add_label_costs;
 use label_field::Pairs;
 use labellings::Move;
 use move_energy::{BuildError, MoveEnergy};
+use stages::Stage;
 use std::alloc::{AllocError, Global};
 use std::mem::swap;
 
@@ -62,13 +63,14 @@ pub fn give_numbers_back(alloc: Global, listed: bool, of_sites: &mut Vec<u32>) {
     }
 }
 
-/// The room of a run: what decides the sites of its moves, once the pairs were grouped by their sites, and the energy of
-/// its moves.
+/// The room of a run: what decides the sites of its moves, once the pairs were grouped by their sites, the energy of its
+/// moves, and where its later expansions look.
 #[derive(Drop)]
 pub struct Room {
     pub grouped: bool,
     pub deciding: Deciding,
     pub built: MoveEnergy,
+    pub stage: Stage,
 }
 
 impl Room {
@@ -80,14 +82,16 @@ impl Room {
             grouped: false,
             deciding: Deciding::empty(alloc),
             built: MoveEnergy::new(alloc),
+            stage: Stage::empty(alloc),
         }
     }
 
     /// Groups the pairs by their sites, where that was not done before.
-    fn group(&mut self, alloc: Global, pairs: &Pairs) -> Result<(), AllocError>
+    pub(crate) fn group(&mut self, alloc: Global, pairs: &Pairs) -> Result<(), AllocError>
         requires by_site { IsGroupedFor pairs.now self.old }
         ensures grouped { OnOk result (AreBySite pairs.now self.new.deciding.ends) }
         ensures by_site { IsGroupedFor pairs.now self.new }
+        ensures same { (self.new.built ≡ self.old.built) × (self.new.stage ≡ self.old.stage) }
     {
         if !self.grouped {
             self.deciding = Deciding::new(alloc, pairs)?;

@@ -1,5 +1,6 @@
 //! The labels that the values of a move's sites make.
 ghost use Rattle.std.specs.Prelude.{◌≡◌, ◌≢◌, ◌≤◌, ◌<◌, ◌↔◌, ℕ, length, IsTrue, IsFalse, slice_index, slice_set};
+ghost use Rattle.labellings.specs.declared.change.Move.TheVariants.{Expand};
 ghost use Rattle.labellings.specs.Energies.{labelling};
 ghost use Rattle.labellings.specs.Moves.{IsBest, IsMoveOf, label_in};
 ghost use Rattle.cost_store.specs.Posed.{IsPosed, Meant, Fits, AreOfOneSize};
@@ -8,6 +9,7 @@ ghost use Rattle.moves.specs.Building.{site_values, made_value, HasChanges, AreC
 ghost use Rattle.cost_store.specs.LabelCosts.{costs_of};
 ghost use Rattle.moves.specs.LabelCosts.{IsFreeFor};
 ghost use Rattle.moves.specs.Problems.{IsMade};
+ghost use Rattle.moves.specs.Stages.{HasTaken};
 
 use crate::listed::lowers;
 use crate::room::Room;
@@ -33,6 +35,8 @@ pub(crate) fn take_best<F: Fn(u32, u32) -> i64 + Sync, V: Fn(u32, u32) -> i64 + 
         AreChangesListed problem.now.pairs change field.old.at room.now }
     ensures sizes { AreOfOneSize field.old field.new }
     ensures made { IsMade change field.old.at field.new.at result }
+    ensures taken { (a : ℕ) → change ≡ Expand a →
+        HasTaken a (site_values room.now.built.variables.choices.items) field.old.at field.new.at }
     ensures best { Meant F.Fn V.Fn problem.now (λ m. IsSmallestLeast m.sites (made_value m change (labelling
         field.old.at)) (site_values room.now.built.variables.choices.items) → (IsBest m change field.old.at
         field.new.at × ((IsTrue result → field.new.at ≢ field.old.at) × (IsFalse result → field.new.at ≡
@@ -128,7 +132,7 @@ pub(crate) fn value_of(choices: &[Choice], site: u32) -> bool
 }
 
 /// Gives a site the label that this value makes. It answers whether that is another.
-fn relabel_site(labelling: &mut Labelling, site: u32, bit: bool, change: Move) -> bool
+pub(crate) fn relabel_site(labelling: &mut Labelling, site: u32, bit: bool, change: Move) -> bool
     requires below { IsMoveOf labelling.old.labels change }
     requires site { site < length labelling.old.at }
     ensures written { labelling.new ≡ record labelling.old {

@@ -207,3 +207,6 @@ build_move-requires-clause-asked g c = λ κs lives.
       labels = subst C c.requires.fits.labels c.as_slice.ensures.below;
       move_of = subst P (c.labels.ensures.value ∙ c.requires.fits.labels) (c.is_below.ensures.0 c.if-not-is_below.false);
     }
+
+pub returns-clause-taken : goal.returns-clause-taken
+returns-clause-taken g c = c.take_best.ensures.taken

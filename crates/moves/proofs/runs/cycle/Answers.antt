@@ -32,6 +32,7 @@ returns-in-Err-clause-cycled g c = λ m meant.
 pub loop-place-preserved : goal.loop-place-preserved
 loop-place-preserved g c = record {
   by_site = c.in-Ok.ensures.by_site;
+  stamped = c.in-Ok.ensures.stamped;
   labels = c.in-Ok.ensures.sizes.labels ∙ c.loop-place.invariant.labels;
   sites = c.in-Ok.ensures.sizes.sites ∙ c.loop-place.invariant.sites;
   so_far = λ m meant.
@@ -44,7 +45,7 @@ loop-place-preserved g c = record {
         | then-turned w ↦ ((λ so. (w.changed-is, w.last-is)), λ still. (let is = w.if-turned.true in absurd (cc (is, still))))
         | else-turned w ↦ ((λ so. (let is = w.if-turned.false in absurd (cc (is, so)))), λ still. (w.changed-is, w.last-is))
       ] in
-      so_far_more m (moves_of c.args.moves c.args.problem.now.data_cost.labels) c.loop-place.place c.move_at.result c.args.labelling.now.at c.loop-place.labelling.at c.make_move.new.labelling.at
+      so_far_more m (moves_of c.args.moves c.args.problem.now.data_cost.labels) c.loop-place.place c.move_at.result c.args.labelling.now.at c.loop-place.labelling.at c.make_next.new.labelling.at
       c.loop-place.changed c.if-turned.changed c.in-Ok.turned c.loop-place.last c.if-turned.last
       (pairs_meant _ _ _ m c.requires.posed meant)
       (c.loop-place.invariant.so_far m meant) here moved.1 moved.2 moved.3 told.0 told.1;
@@ -65,6 +66,7 @@ returns-clause-known g c = λ m meant.
 pub loop-place-init : goal.loop-place-init
 loop-place-init g c = record {
   by_site = c.requires.by_site;
+  stamped = c.requires.stamped;
   labels = refl;
   sites = refl;
   so_far = λ m meant. so_far_starts m (moves_of c.args.moves c.args.problem.now.data_cost.labels) c.args.labelling.now.at c.args.last.now (c.requires.known m meant);
@@ -84,8 +86,8 @@ returns-then-place-last-clause-known g c = λ m meant i move from here.
 pub returns-then-place-last-clause-refused : goal.returns-then-place-last-clause-refused
 returns-then-place-last-clause-refused g c = tt
 
-pub make_move-requires-clause-by_site : goal.make_move-requires-clause-by_site
-make_move-requires-clause-by_site g c = λ κs lives. c.loop-place.invariant.by_site
+pub make_next-requires-clause-by_site : goal.make_next-requires-clause-by_site
+make_next-requires-clause-by_site g c = λ κs lives. c.loop-place.invariant.by_site
 
 pub returns-in-Err-clause-by_site : goal.returns-in-Err-clause-by_site
 returns-in-Err-clause-by_site g c = c.in-Err.ensures.by_site
@@ -123,3 +125,15 @@ returns-then-place-last-clause-own g c = tt
 
 pub returns-clause-own : goal.returns-clause-own
 returns-clause-own g c = tt
+
+pub make_next-requires-clause-stamped : goal.make_next-requires-clause-stamped
+make_next-requires-clause-stamped g c = λ κs lives. c.loop-place.invariant.stamped
+
+pub returns-then-place-last-clause-stamped : goal.returns-then-place-last-clause-stamped
+returns-then-place-last-clause-stamped g c = c.loop-place.invariant.stamped
+
+pub returns-in-Err-clause-stamped : goal.returns-in-Err-clause-stamped
+returns-in-Err-clause-stamped g c = c.in-Err.ensures.stamped
+
+pub returns-clause-stamped : goal.returns-clause-stamped
+returns-clause-stamped g c = c.loop-place.invariant.stamped

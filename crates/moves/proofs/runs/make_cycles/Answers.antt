@@ -35,6 +35,7 @@ returns-then-not-branch-clause-run g c = λ m meant.
 pub loop-done-preserved : goal.loop-done-preserved
 loop-done-preserved g c = record {
   by_site = c.in_ok-cycle.ensures.by_site;
+  stamped = c.in_ok-cycle.ensures.stamped;
   labels = c.in_ok-cycle.ensures.sizes.labels ∙ c.loop-done.invariant.labels;
   sites = c.in_ok-cycle.ensures.sizes.sites ∙ c.loop-done.invariant.sites;
   so_far = λ m meant.
@@ -100,6 +101,7 @@ returns-clause-refused g c = tt
 pub loop-done-init : goal.loop-done-init
 loop-done-init g c = record {
   by_site = c.requires.by_site;
+  stamped = c.requires.stamped;
   labels = refl;
   sites = refl;
   so_far = λ m meant.
@@ -107,3 +109,6 @@ loop-done-init g c = record {
       let all = c.count-last.ensures ∙ ap (λ k. length (moves_of c.args.moves k)) (c.labels.ensures.value ∙ c.requires.fits.labels) in
       (refl, λ i move from here. (let within = slice_get_within moves i move here in absurd (omega (arith, within, from, all))));
 }
+
+pub cycle-requires-clause-stamped : goal.cycle-requires-clause-stamped
+cycle-requires-clause-stamped g c = λ κs lives. c.loop-done.invariant.stamped

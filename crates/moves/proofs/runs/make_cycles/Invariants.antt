@@ -1,7 +1,8 @@
 use Rattle.std.proofs.Common.{◌≡◌, length}
-use Rattle.labellings.specs.Energies.{Instance}
+use Rattle.labellings.specs.Energies.{Instance, labelling}
 use Rattle.labellings.specs.Chains.{Cycles}
 use Rattle.cost_store.specs.Posed.{IsMeant}
+use Rattle.stages.specs.Changes.{AreStamped}
 use Rattle.moves.specs.Building.{IsGroupedFor}
 use Rattle.labellings.specs.Chains.{moves_of}
 use Rattle.moves.specs.Cycles.{AreBestFrom}
@@ -10,6 +11,7 @@ use Rattle.moves.proofs.runs.make_cycles.Given as goal
 abbrev pub invariant-loop-done : goal.invariant-loop-done
 invariant-loop-done g l = record {
   by_site : IsGroupedFor l.problem.pairs l.room;
+  stamped : (m : Instance) → IsMeant g.F.Fn g.V.Fn l.problem m → AreStamped m (labelling l.labelling.at) l.changes;
   labels : l.labelling.labels ≡ l.fn.labelling.labels;
   sites : length l.labelling.at ≡ length l.fn.labelling.at;
   so_far : (m : Instance) → IsMeant g.F.Fn g.V.Fn l.problem m →

@@ -1,4 +1,4 @@
-use Rattle.std.proofs.Common.{◌∙◌, ℕ, List, length, ap, sym, subst, refl, arith}
+use Rattle.std.proofs.Common.{◌≡◌, ◌∙◌, ℕ, List, length, ap, sym, subst, refl, arith}
 use Rattle.cost_store.proofs.Meaning.{pairs_meant}
 use Rattle.moves.specs.Building.{site_values}
 use Rattle.labellings.specs.declared.change.Move.{Move}
@@ -6,7 +6,9 @@ use Rattle.cost_store.specs.LabelCosts.{costs_of}
 use Rattle.moves.specs.LabelCosts.{IsFreeFor}
 use Rattle.moves.proofs.Answers.{costs_free}
 use Rattle.moves.proofs.Least.{expanded_best, lower_best, kept_best, free_le, free_lt}
+use Rattle.std.specs.Prelude.{slice_index}
 use Rattle.labellings.specs.Energies.{labelling}
+use Rattle.labellings.specs.Moves.{label_in}
 use Rattle.labellings.proofs.Best.{stays-reached}
 use Rattle.moves.proofs.Relabelled.{values_reach}
 use Rattle.moves.proofs.Rising.{not_lower}
@@ -85,3 +87,14 @@ returns-in-Expand-clause-sizes g c = record { labels = c.relabel.ensures.sizes.0
 
 pub returns-else-not-lowers-clause-sizes : goal.returns-else-not-lowers-clause-sizes
 returns-else-not-lowers-clause-sizes g c = record { labels = c.relabel-in-Swap.ensures.sizes.0; sites = c.relabel-in-Swap.ensures.sizes.1 }
+
+pub returns-in-Expand-clause-taken : goal.returns-in-Expand-clause-taken
+returns-in-Expand-clause-taken g c = λ a is p l.
+    subst (λ (move : Move). slice_index c.relabel.new.labelling.at p ≡ label_in move (slice_index c.args.field.now.at p) (site_values c.args.room.now.built.variables.choices.items p)) is
+    (c.relabel.ensures.each p l)
+
+pub returns-then-not-lowers-clause-taken : goal.returns-then-not-lowers-clause-taken
+returns-then-not-lowers-clause-taken g c = λ a is. (let swap = c.in-Swap.is in absurd (cc (swap, is)))
+
+pub returns-else-not-lowers-clause-taken : goal.returns-else-not-lowers-clause-taken
+returns-else-not-lowers-clause-taken g c = λ a is. (let swap = c.in-Swap.is in absurd (cc (swap, is)))

@@ -1,0 +1,71 @@
+-- The stages of an expansion that is made once more, and what it answers.
+use Rattle.std.specs.Prelude.{◌≡◌, ℕ, ◌<◌, Bool, true, List, length, Option, Some, None, Result, Ok, Err}
+use Rattle.std.specs.List.{All, Contains}
+use Rattle.label_field.specs.PairLists.{PairList}
+use Rattle.labellings.specs.declared.change.Move.{Move}
+use Rattle.labellings.specs.declared.change.Move.TheVariants.{Expand}
+use Rattle.labellings.specs.Energies.{Instance, labelling}
+use Rattle.labellings.specs.Moves.{label_in}
+use Rattle.by_site.specs.BySite.{AreBySite}
+use Rattle.move_energy.specs.declared.choice.Choice.{Choice}
+use Rattle.move_energy.specs.Choices.{choice_at, value_of, AreOpenSites}
+use Rattle.deciding.specs.Decisions.{IsSmallestLeast}
+use Rattle.deciding.specs.MoveValues.{move_value}
+use Rattle.stages.specs.declared.changes.Changes.{Changes}
+use Rattle.stages.specs.Changes.{changed_after}
+use Rattle.stages.specs.Fixing.{fixed, fixed_value, AreLeastZeros}
+use Rattle.stages.specs.Fresh.{WasExpanded, AreFresh}
+use Rattle.stages.specs.Looking.{marked}
+use Rattle.moves.specs.declared.error.MoveError.{MoveError}
+use Rattle.moves.specs.declared.room.Room.{Room}
+use Rattle.moves.specs.Problems.{IsMoved}
+
+-- the bits of the open sites and what is fixed are the least values of a stage: of all sites, some of which are fixed, the
+-- least with the fewest ones
+pub record IsStageLeast (m : Instance) (move : Move) (f : ℕ → ℕ) (choices : List Choice) (bits : List Bool)
+    : Type 0 where
+  pub values : ℕ → Bool
+  pub least : IsSmallestLeast m.sites (fixed_value (move_value m move f) (choice_at choices)) values
+  pub shown : (p : ℕ) → fixed (choice_at choices) values p ≡ value_of choices bits p
+
+-- a stage can be cut: its choices are of the sites, its open sites and its fresh sites are listed, and the pairs are by
+-- their sites
+pub record IsStageReady (pairs : PairList) (room : Room) : Type 0 where
+  pub by_site : AreBySite pairs room.deciding.ends
+  pub sites : length room.built.variables.choices.items ≡ pairs.sites
+  pub opened : AreOpenSites room.built.variables.choices.items room.stage.opened.items
+  pub listed : (p : ℕ) → p < pairs.sites → marked room.stage.fresh.items p ≡ true
+      → Contains room.stage.fresh_sites.items p
+  pub inside : All (λ p. p < pairs.sites) room.stage.fresh_sites.items
+
+-- the stage's zeros are zeros of the least values of the expansion
+abbrev pub AreStageZeros : Instance → ℕ → List ℕ → Room → Type 0
+AreStageZeros m a f room =
+    AreLeastZeros m.sites (move_value m (Expand a) (labelling f)) (choice_at room.built.variables.choices.items)
+
+-- among the stage's fresh sites are all that changed since the label's last expansion, and those beside them
+abbrev pub AreStageFresh : Instance → ℕ → List ℕ → Changes → Room → Type 0
+AreStageFresh m a f changes room =
+    AreFresh m a (labelling f) (changed_after changes a) (marked room.stage.fresh.items)
+
+-- what takes the label is what is taken in the room
+abbrev pub IsTakenLeast : Instance → ℕ → List ℕ → Room → Type 0
+IsTakenLeast m a f room =
+    IsSmallestLeast m.sites (move_value m (Expand a) (labelling f)) (marked room.stage.taken.items)
+
+-- a closed stage ends the expansion, where its zeros and its fresh sites are what they are called
+abbrev pub EndsMove : Instance → ℕ → List ℕ → Room → Room → Type 0
+EndsMove m a f old new =
+    (changed : ℕ → Bool) → WasExpanded m a changed (labelling f)
+    → AreFresh m a (labelling f) changed (marked old.stage.fresh.items)
+    → AreStageZeros m a f old → IsTakenLeast m a f new
+
+-- each site has the label that its value makes in an expansion
+abbrev pub HasTaken : ℕ → (ℕ → Bool) → List ℕ → List ℕ → Type 0
+HasTaken a took f g = (p : ℕ) → p < length f → labelling g p ≡ label_in (Expand a) (labelling f p) (took p)
+
+-- what an expansion that looks near the changes alone answers: what the whole one would; or nothing, the labels as they were
+abbrev pub IsLater : Instance → ℕ → List ℕ → List ℕ → Result (Option Bool) MoveError → Type 0
+IsLater m a f g (Ok None) = g ≡ f
+IsLater m a f g (Ok (Some changed)) = IsMoved m (Expand a) f g (Ok changed)
+IsLater m a f g (Err e) = IsMoved m (Expand a) f g (Err e)

@@ -1,0 +1,147 @@
+//! One stage of an expansion that is made once more: its cut, and what is done with what the cut shows.
+ghost use Rattle.std.specs.Prelude.{◌≡◌, ◌<◌, ℕ, Bool, false, true, length, OnOk, IfOk, IfErr};
+ghost use Rattle.by_site.specs.BySite.{AreBySite};
+ghost use Rattle.labellings.specs.declared.change.Move.TheVariants.{Expand};
+ghost use Rattle.labellings.specs.Energies.{labelling};
+ghost use Rattle.labellings.specs.Moves.{IsAllowed};
+ghost use Rattle.cost_store.specs.Posed.{IsPosed, Meant, IsAsked};
+ghost use Rattle.move_energy.specs.declared.choice.Choice.TheVariants.{Zero};
+ghost use Rattle.move_energy.specs.Choices.{choice_at, value_of, open_count, IsNumbering, AreOpenSites};
+ghost use Rattle.stages.specs.Looking.{marked, IsClosedIn, AreTaking};
+ghost use Rattle.moves.specs.Problems.{IsCutRefusal};
+ghost use Rattle.moves.specs.Stages.{IsStageLeast, IsStageReady, AreStageZeros, EndsMove};
+
+use crate::one_move::minimise;
+use crate::room::Room;
+use crate::{How, MoveError};
+use compile_cut::Quadratic;
+use cost_store::Problem;
+use grouping::Groups;
+use label_field::Pairs;
+use labellings::Move;
+use move_energy::MoveEnergy;
+use std::alloc::{AllocError, Global};
+use std::mem::replace;
+
+/// What a stage leaves: the sites that take the label are found, or there are more sites to look at, or too many of them.
+#[derive(Clone, Copy)]
+pub(crate) enum Standing {
+    Closed,
+    Open,
+    GivenUp,
+}
+
+/// The cut of a partly fixed move, over the listed open sites: a bit for each.
+fn cut_stage<F: Fn(u32, u32) -> i64 + Sync, V: Fn(u32, u32) -> i64 + Sync, H: How>(
+    alloc: Global,
+    problem: &Problem<F, V>,
+    built: &mut MoveEnergy,
+    ends: &Groups,
+    opened: &[u32],
+    at: &[u8],
+    change: Move,
+    how: &H,
+) -> Result<Vec<bool>, MoveError>
+    requires ready { H.ready how.now }
+    requires asked { IsAsked problem.now at.now change }
+    requires posed { IsPosed F.Fn V.Fn problem.now }
+    requires choices { length built.old.variables.choices.items ≡ length at.now }
+    requires by_site { AreBySite problem.now.pairs ends.now }
+    requires opened { AreOpenSites built.old.variables.choices.items opened.now }
+    requires allowed { Meant F.Fn V.Fn problem.now (λ m. IsAllowed m change (labelling at.now)) }
+    ensures kept { built.new.variables.choices.items ≡ built.old.variables.choices.items }
+    ensures numbering { OnOk result (IsNumbering built.new.variables.choices.items
+        built.new.variables.of_sites.items) }
+    ensures count { IfOk result (λ bits. length bits.items ≡ open_count built.new.variables.choices.items) }
+    ensures least { Meant F.Fn V.Fn problem.now (λ m. IfOk result (λ bits. IsStageLeast m change
+        (labelling at.now) built.new.variables.choices.items bits.items)) }
+    ensures refused { IfErr result (IsCutRefusal (H.refuses how.now)) }
+{
+    built.build_listed(alloc, problem, ends, opened, at, change)?;
+    let form = replace(&mut built.form, Quadratic::new(alloc));
+    minimise(alloc, form, how)
+}
+
+/// What is done with what a cut showed: where the sites that take the label are not closed in, more sites are opened.
+fn end_stage(room: &mut Room, pairs: &Pairs, bits: &[bool]) -> Result<Standing, AllocError>
+    requires ready { IsStageReady pairs.now room.old }
+    requires numbering { IsNumbering room.old.built.variables.choices.items
+        room.old.built.variables.of_sites.items }
+    requires bits { length bits.now ≡ open_count room.old.built.variables.choices.items }
+    ensures same { (room.new.grouped ≡ room.old.grouped) × (room.new.deciding ≡ room.old.deciding) }
+    ensures fresh { room.new.stage.fresh.items ≡ room.old.stage.fresh.items }
+    ensures closed { IfOk result (λ standing. standing ≡ Standing.Closed → IsClosedIn pairs.now
+        (value_of room.old.built.variables.choices.items bits.now)
+        (choice_at room.old.built.variables.choices.items)
+        (marked room.new.stage.taken.items) (marked room.old.stage.fresh.items)) }
+    ensures taking { IfOk result (λ standing. standing ≡ Standing.Closed →
+        AreTaking pairs.now.sites room.new.stage) }
+    ensures open { IfOk result (λ standing. standing ≡ Standing.Open → IsStageReady pairs.now room.new) }
+    ensures zeros { IfOk result (λ standing. standing ≡ Standing.Open → (p : ℕ) → p < pairs.now.sites →
+        choice_at room.new.built.variables.choices.items p ≡ Zero →
+        value_of room.old.built.variables.choices.items bits.now p ≡ false) }
+{
+    let closed = room.stage.close(
+        pairs,
+        &room.deciding.ends,
+        &room.built.variables.choices,
+        &room.built.variables.of_sites,
+        bits,
+    )?;
+    if closed {
+        return Ok(Standing::Closed);
+    }
+    let more = room.stage.reopen(
+        &mut room.built.variables.choices,
+        pairs,
+        &room.deciding.ends,
+        bits,
+    )?;
+    if more {
+        Ok(Standing::Open)
+    } else {
+        Ok(Standing::GivenUp)
+    }
+}
+
+/// One stage: its cut, and what is done with what that shows.
+pub(crate) fn make_stage<F: Fn(u32, u32) -> i64 + Sync, V: Fn(u32, u32) -> i64 + Sync, H: How>(
+    alloc: Global,
+    problem: &Problem<F, V>,
+    room: &mut Room,
+    at: &[u8],
+    alpha: u32,
+    how: &H,
+) -> Result<Standing, MoveError>
+    requires ready { H.ready how.now }
+    requires asked { IsAsked problem.now at.now (Expand alpha) }
+    requires posed { IsPosed F.Fn V.Fn problem.now }
+    requires stage { IsStageReady problem.now.pairs room.old }
+    requires allowed { Meant F.Fn V.Fn problem.now (λ m. IsAllowed m (Expand alpha) (labelling at.now)) }
+    ensures same { (room.new.grouped ≡ room.old.grouped) × (room.new.deciding ≡ room.old.deciding) }
+    ensures fresh { room.new.stage.fresh.items ≡ room.old.stage.fresh.items }
+    ensures closed { Meant F.Fn V.Fn problem.now (λ m. IfOk result (λ standing.
+        standing ≡ Standing.Closed → EndsMove m alpha at.now room.old room.new)) }
+    ensures taking { IfOk result (λ standing. standing ≡ Standing.Closed →
+        AreTaking problem.now.pairs.sites room.new.stage) }
+    ensures open { IfOk result (λ standing. standing ≡ Standing.Open →
+        IsStageReady problem.now.pairs room.new) }
+    ensures zeros { Meant F.Fn V.Fn problem.now (λ m. IfOk result (λ standing. standing ≡ Standing.Open →
+        AreStageZeros m alpha at.now room.old → AreStageZeros m alpha at.now room.new)) }
+    ensures refused { IfErr result (IsCutRefusal (H.refuses how.now)) }
+{
+    let bits = cut_stage(
+        alloc,
+        problem,
+        &mut room.built,
+        &room.deciding.ends,
+        &room.stage.opened,
+        at,
+        Move::Expand(alpha),
+        how,
+    )?;
+    match end_stage(room, &problem.pairs, &bits) {
+        Ok(standing) => Ok(standing),
+        Err(_) => Err(MoveError::OutOfMemory),
+    }
+}
