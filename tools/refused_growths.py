@@ -1,15 +1,18 @@
 #!/usr/bin/env python3
-"""Runs the program on small inputs and refuses each of its growths of memory in turn.
+"""Runs the program on small inputs and refuses each of its growths of memory, and each of its threads, in turn.
 
     refused_growths.py --gco crates/gco/out/gco
 
 For each input and each N, the N-th call that asks for memory (malloc or realloc) answers none, until a run meets
 none. Such a run has to end with `refused 0` and nothing written, or with exactly the answer that ample memory gives
 (a library may do without what it was refused); with workers also with `refused 22`, where one could not be started.
+Of each command by workers each start of a thread (pthread_create) is refused in the same way: such a run has to end with
+`refused 22` and nothing written, or with exactly the answer; and each command has to start one for some input.
 The calls are counted and refused by a small library that is loaded before the C library; a C compiler is needed to
 build it. The status is 1 where a run ended otherwise.
 """
 import argparse
+import collections
 import os
 import subprocess
 import sys
@@ -18,33 +21,46 @@ import tempfile
 SHIM = r'''
 #define _GNU_SOURCE
 #include <dlfcn.h>
+#include <errno.h>
 #include <fcntl.h>
+#include <pthread.h>
 #include <stdlib.h>
 #include <unistd.h>
-static long count, refused = -1;
+typedef void *(*Work)(void *);
+static long growths, refused_growth = -1, threads, refused_thread = -1;
 static void *(*next_malloc)(size_t);
 static void *(*next_realloc)(void *, size_t);
+static int (*next_create)(pthread_t *, const pthread_attr_t *, Work, void *);
 static void begin(void) {
   if (next_malloc) return;
   next_malloc = (void *(*)(size_t))dlsym(RTLD_NEXT, "malloc");
   next_realloc = (void *(*)(void *, size_t))dlsym(RTLD_NEXT, "realloc");
-  if (getenv("REFUSED_GROWTH")) refused = atol(getenv("REFUSED_GROWTH"));
+  next_create = (int (*)(pthread_t *, const pthread_attr_t *, Work, void *))dlsym(RTLD_NEXT, "pthread_create");
+  if (getenv("REFUSED_GROWTH")) refused_growth = atol(getenv("REFUSED_GROWTH"));
+  if (getenv("REFUSED_THREAD")) refused_thread = atol(getenv("REFUSED_THREAD"));
 }
-static int is_refused(void) {
-  if (__atomic_add_fetch(&count, 1, __ATOMIC_SEQ_CST) != refused) return 0;
+static int is_refused(long *count, long refused) {
+  if (__atomic_add_fetch(count, 1, __ATOMIC_SEQ_CST) != refused) return 0;
   int file = open(getenv("MET"), O_WRONLY);
   (void)!write(file, "x", 1);
   close(file);
   return 1;
 }
-void *malloc(size_t size) { begin(); return is_refused() ? 0 : next_malloc(size); }
-void *realloc(void *old, size_t size) { begin(); return is_refused() ? 0 : next_realloc(old, size); }
+void *malloc(size_t size) { begin(); return is_refused(&growths, refused_growth) ? 0 : next_malloc(size); }
+void *realloc(void *old, size_t size) { begin(); return is_refused(&growths, refused_growth) ? 0 : next_realloc(old, size); }
+int pthread_create(pthread_t *thread, const pthread_attr_t *how, Work work, void *given) {
+  begin();
+  return is_refused(&threads, refused_thread) ? EAGAIN : next_create(thread, how, work, given);
+}
 '''
 
 ROW = b'P5\n3 1\n3\n\0\3\0'
 LONE = b'P5\n1 1\n255\n\7'
 PAIR = b'P5\n4 1\n9\n\0\t\0\0P5\n4 1\n9\n\t\0\0\0'
 SEEDED = b'P5\n3 1\n255\n\n\x0c\xc8P5\n3 1\n2\n\1\0\2'
+# In these two not all sites are decided before a cut, so that workers have one to make.
+TWISTED = b'P5\n3 3\n9\n\6\4\6\x08\6\t\5\x08\tP5\n3 3\n9\n\6\t\3\5\0\4\t\2\5'
+MIXED = b'P5\n3 2\n9\n\3\t\4\4\1\1P5\n3 2\n2\n\0\0\0\0\0\0'
 SWAP = b'sites = 2\nlabels = 3\ndata = [0,9,3,3,9,0]\nsmooth = [0,1,4,1,0,1,4,1,0]\npairs = [[0,1]]\nstart = [0,2]\nmoves = "swap"'
 TWICE = b'sites = 2\nlabels = 2\ndata = [0,3,3,0]\npairs = [[0,1],[0,1]]'
 COSTLY = b'sites = 2\nlabels = 3\ndata = [0,3,9,9,3,0]\nlabel_costs = [5,5,5]'
@@ -66,7 +82,9 @@ COMMANDS = [
     (['restore', '--blocks', '16'], LONE),
     (['restore'], ROW[:11]),
     (['stereo', '--labels', '2', '--cap', '9', '--weight', '1', '--bound'], PAIR),
+    (['stereo', '--labels', '2', '--cap', '9', '--weight', '2', '--bound'], TWISTED),
     (['segment', '--low', '11', '--high', '200'], SEEDED),
+    (['segment', '--low', '2', '--high', '7', '--strong', '3', '--weak', '1', '--edge', '2'], MIXED),
 ]
 
 CASES = [(words + more, given) for more in ([], ['--threads', '2']) for words, given in COMMANDS] + [
@@ -77,38 +95,58 @@ CASES = [(words + more, given) for more in ([], ['--threads', '2']) for words, g
 ]
 
 
-def run(gco, words, given, shim, growth):
-    """The status and both streams of a run whose growth of this number is refused, and whether it had so many."""
+def run(gco, words, given, shim, what, number):
+    """The status and both streams of a run whose growth or thread of this number is refused, and whether it had so many."""
     with tempfile.NamedTemporaryFile() as met:
-        environment = dict(os.environ, LD_PRELOAD=shim, MET=met.name, REFUSED_GROWTH=str(growth))
+        environment = dict(os.environ, LD_PRELOAD=shim, MET=met.name, **{what: str(number)})
         done = subprocess.run([gco] + words, input=given, capture_output=True, env=environment)
         return (done.returncode, done.stdout, done.stderr), met.read() != b''
+
+
+def refuse_each(gco, words, given, shim, what, right):
+    """How often something of the kind was met, how often the run was refused for it, and how often it ended wrongly."""
+    whole, _ = run(gco, words, given, shim, what, -1)
+    met = refused = wrong = 0
+    ended, is_met = run(gco, words, given, shim, what, 1)
+    while is_met:
+        met += 1
+        refused += ended != whole
+        if ended not in [whole] + right:
+            wrong += 1
+            print('%s %d of gco %s: %r' % (what, met, ' '.join(words), ended))
+        ended, is_met = run(gco, words, given, shim, what, met + 1)
+    return met, refused, wrong
+
+
+NO_MEMORY = (1, b'', b'refused 0\n')
+NO_WORKER = (1, b'', b'refused 22\n')
 
 
 def main():
     parser = argparse.ArgumentParser(description=__doc__.splitlines()[0])
     parser.add_argument('--gco', required=True)
     gco = parser.parse_args().gco
-    wrong = 0
+    all_wrong = 0
+    threads = collections.Counter()
     with tempfile.TemporaryDirectory() as folder:
         shim = folder + '/shim.so'
         subprocess.run(['cc', '-O1', '-shared', '-fPIC', '-x', 'c', '-', '-o', shim, '-ldl'], input=SHIM.encode(), check=True)
         for words, given in CASES:
-            whole, met = run(gco, words, given, shim, -1)
-            right = [whole, (1, b'', b'refused 0\n')]
-            if '--threads' in words:
-                right.append((1, b'', b'refused 22\n'))
-            growths = refused = 0
-            ended, met = run(gco, words, given, shim, 1)
-            while met:
-                growths += 1
-                refused += ended != whole
-                if ended not in right:
-                    wrong += 1
-                    print('growth %d of gco %s: %r' % (growths, ' '.join(words), ended))
-                ended, met = run(gco, words, given, shim, growths + 1)
-            print('%4d growths, %4d times refused: gco %s' % (growths, refused, ' '.join(words)))
-    sys.exit(1 if wrong else 0)
+            by_workers = '--threads' in words
+            right = [NO_MEMORY, NO_WORKER] if by_workers else [NO_MEMORY]
+            met, refused, wrong = refuse_each(gco, words, given, shim, 'REFUSED_GROWTH', right)
+            all_wrong += wrong
+            print('%4d growths, %4d times refused: gco %s' % (met, refused, ' '.join(words)))
+            if by_workers:
+                met, refused, wrong = refuse_each(gco, words, given, shim, 'REFUSED_THREAD', [NO_WORKER])
+                all_wrong += wrong
+                threads[words[0]] += met
+                print('%4d threads, %4d times refused: gco %s' % (met, refused, ' '.join(words)))
+    for command, met in threads.items():
+        if met == 0:
+            all_wrong += 1
+            print('no thread of gco %s --threads 2' % command)
+    sys.exit(1 if all_wrong else 0)
 
 
 if __name__ == '__main__':

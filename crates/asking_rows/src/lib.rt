@@ -1,4 +1,4 @@
-//! Tests of moves and pictures by workers, and of cuts that are refused.
+//! Tests of moves and pictures by workers, of how workers share a net, and of cuts that are refused.
 #![tactic(auto)]
 
 #[cfg(test)]
@@ -11,3 +11,5 @@ mod pictures;
 mod random;
 #[cfg(test)]
 mod refusing;
+#[cfg(test)]
+mod sharing;

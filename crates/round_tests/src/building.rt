@@ -45,29 +45,107 @@ pub fn idle_nodes(rt: &(impl Abort + AllocGlobal)) -> Result<Net, AllocError> {
 /// How many nodes each half of the long way has.
 const HALF: u32 = 2_048;
 
-/// 4,096 nodes and one way that leads from the first to the last over a border of two blocks at each step: a unit
-/// goes from the source to node 0, and from node 4,095 to the sink.
-pub fn long_way(rt: &(impl Abort + AllocGlobal)) -> Result<Net, AllocError> {
+/// Two halves of so many nodes and one way that leads from the first to the last over a border of two blocks at each
+/// step: a unit goes from the source to the first node, and from the last to the sink.
+fn way_over(rt: &(impl Abort + AllocGlobal), half: u32) -> Result<Net, AllocError> {
+    assert!(*rt; 1 <= half);
+    assert!(*rt; half <= HALF);
     let alloc = rt.alloc();
-    let mut sources = vec![in alloc; 0; 2 * HALF as usize]?;
-    let mut sinks = vec![in alloc; 0; 2 * HALF as usize]?;
+    let mut sources = vec![in alloc; 0; 2 * half as usize]?;
+    let mut sinks = vec![in alloc; 0; 2 * half as usize]?;
     sources[0] = 1;
-    sinks[2 * HALF as usize - 1] = 1;
+    sinks[2 * half as usize - 1] = 1;
     let mut arcs = Vec::new(alloc);
-    for j in 0..HALF {
+    for j in 0..half {
         arcs.push(Arc {
             from: j,
-            to: HALF + j,
+            to: half + j,
             capacity: 1,
         })?;
     }
-    for j in 0..HALF - 1 {
+    for j in 0..half - 1 {
         arcs.push(Arc {
-            from: HALF + j,
+            from: half + j,
             to: j + 1,
             capacity: 1,
         })?;
     }
+    Ok(net_of(rt, sources, sinks, arcs))
+}
+
+/// 4,096 nodes and such a way, which crosses the border 4,095 times.
+pub fn long_way(rt: &(impl Abort + AllocGlobal)) -> Result<Net, AllocError> {
+    way_over(rt, HALF)
+}
+
+/// 64 nodes and such a way, which crosses the border 63 times.
+pub fn short_way(rt: &(impl Abort + AllocGlobal)) -> Result<Net, AllocError> {
+    way_over(rt, 32)
+}
+
+/// Ten nodes, of which node 5 gets 5 and can pass 1 to each of the nodes 0 to 4, each of which can give the sink 1.
+pub fn fan(rt: &(impl Abort + AllocGlobal)) -> Result<Net, AllocError> {
+    let alloc = rt.alloc();
+    let sources = Vec::from_slice(alloc, &[0, 0, 0, 0, 0, 5, 0, 0, 0, 0])?;
+    let sinks = Vec::from_slice(alloc, &[1, 1, 1, 1, 1, 0, 0, 0, 0, 0])?;
+    let mut arcs = Vec::new(alloc);
+    for to in 0..5 {
+        arcs.push(Arc {
+            from: 5,
+            to,
+            capacity: 1,
+        })?;
+    }
+    Ok(net_of(rt, sources, sinks, arcs))
+}
+
+/// Three nodes: an arc leads from node 0 to each of the others, one from node 2 to node 0, a unit goes from the source to
+/// node 2, and from node 0 to the sink.
+pub fn between_two(rt: &(impl Abort + AllocGlobal)) -> Result<Net, AllocError> {
+    let alloc = rt.alloc();
+    let sources = Vec::from_slice(alloc, &[0, 0, 1])?;
+    let sinks = Vec::from_slice(alloc, &[1, 0, 0])?;
+    let mut arcs = Vec::new(alloc);
+    for (from, to) in [(0, 1), (2, 0)] {
+        arcs.push(Arc {
+            from,
+            to,
+            capacity: 1,
+        })?;
+    }
+    Ok(net_of(rt, sources, sinks, arcs))
+}
+
+/// Arcs of capacity 1 from each node to the next, from the first to the last.
+fn add_way(arcs: &mut Vec<Arc>, first: u32, last: u32) -> Result<(), AllocError> {
+    for v in first..last {
+        arcs.push(Arc {
+            from: v,
+            to: v.saturating_add(1),
+            capacity: 1,
+        })?;
+    }
+    Ok(())
+}
+
+/// 128 nodes and two ways from node 0, each of which ends with a unit to the sink: a short one over the nodes 64 to 103,
+/// and a long one over the nodes 1 to 60. A unit goes from the source to node 0, and one to node 103.
+pub fn two_ways(rt: &(impl Abort + AllocGlobal)) -> Result<Net, AllocError> {
+    let alloc = rt.alloc();
+    let mut sources = vec![in alloc; 0; 128]?;
+    let mut sinks = vec![in alloc; 0; 128]?;
+    sources[0] = 1;
+    sources[103] = 1;
+    sinks[60] = 1;
+    sinks[103] = 1;
+    let mut arcs = Vec::new(alloc);
+    arcs.push(Arc {
+        from: 0,
+        to: 64,
+        capacity: 1,
+    })?;
+    add_way(&mut arcs, 0, 60)?;
+    add_way(&mut arcs, 64, 103)?;
     Ok(net_of(rt, sources, sinks, arcs))
 }
 

@@ -14,7 +14,8 @@ pub struct Calls {
 }
 
 impl Calls {
-    fn new() -> Calls {
+    /// No turn was called for yet.
+    pub fn new() -> Calls {
         Calls {
             first: AtomicU32::new(0),
             second: AtomicU32::new(0),
@@ -30,7 +31,7 @@ impl Calls {
     }
 
     /// A block has called for a turn.
-    fn call(&self, block: u32, turn: u32) {
+    pub fn call(&self, block: u32, turn: u32) {
         self.of(block)
             .store(turn.saturating_add(1), Ordering::SeqCst);
     }
@@ -41,7 +42,7 @@ impl Calls {
     }
 
     /// Whether a block has called for so many turns before the tries were over.
-    fn wait(&self, block: u32, turns: u32) -> bool {
+    pub fn wait(&self, block: u32, turns: u32) -> bool {
         for _ in 0..TRIES {
             if turns <= self.count(block) {
                 return true;

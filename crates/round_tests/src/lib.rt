@@ -1,13 +1,18 @@
 //! Tests of what workers are told, share and do: the ranges of their options, a book from which two threads draw,
 //! a ring between two threads, and two blocks at one worker and at two. And of rounds of running workers: that their
-//! turns overlap, that a round goes on while work and turns are left, and that after rounds of any options the
-//! solver over blocks finds the one answer. The same of the solver that makes the rounds itself.
+//! turns overlap, that a round goes on while work and turns are left, which block has a turn when, and that after rounds of
+//! any options the solver over blocks finds the one answer. The same of the solver that makes the rounds itself, and how many
+//! it makes.
 #![tactic(auto)]
 
 #[cfg(test)]
 mod alike;
 #[cfg(test)]
 mod building;
+#[cfg(test)]
+mod calls;
+#[cfg(test)]
+mod counting;
 #[cfg(test)]
 mod crews;
 #[cfg(test)]
@@ -26,3 +31,5 @@ mod rings;
 mod rows;
 #[cfg(test)]
 mod solving;
+#[cfg(test)]
+mod turns;

@@ -1,0 +1,134 @@
+//! Workers share a net as their options tell: in as many blocks, threads, turns and rounds, and with as much room.
+use crate::pictures::TWO;
+use flow_network::{Arc, Net};
+use moves::How;
+use std::alloc::AllocError;
+use std::hint::spin_loop;
+use std::process::Abort;
+use std::sync::Wait;
+use std::sync::atomic::{AtomicU32, Ordering};
+use std::test::Fail;
+use std::thread::Threads;
+use worker_options::{Gate, Options};
+use workers::Workers;
+
+/// How often a block that waits looks whether another has come.
+const TRIES: u32 = 10_000_000;
+
+/// Counts the calls for turn 0, and those for later turns. Where blocks are to meet it holds each call for turn 0 until
+/// there were two, and counts those that met so.
+#[derive(Drop)]
+struct Counts {
+    meets: bool,
+    first: AtomicU32,
+    later: AtomicU32,
+    met: AtomicU32,
+}
+
+impl Counts {
+    /// Waits until two calls for turn 0 came, or the tries are over.
+    fn meet(&self) {
+        for _ in 0..TRIES {
+            if self.first.load(Ordering::SeqCst) >= 2 {
+                self.met.fetch_add(1, Ordering::SeqCst);
+                return;
+            }
+            spin_loop();
+        }
+    }
+}
+
+impl Gate for Counts {
+    fn pass(&self, _block: u32, turn: u32) -> bool {
+        if turn > 0 {
+            self.later.fetch_add(1, Ordering::SeqCst);
+            return true;
+        }
+        self.first.fetch_add(1, Ordering::SeqCst);
+        if self.meets {
+            self.meet();
+        }
+        true
+    }
+}
+
+/// Ten nodes, of which node 5 gets 5 and can pass 1 to each of the nodes 0 to 4, each of which can give the sink 1.
+fn fan(rt: &(impl Abort + AllocGlobal)) -> Result<Net, AllocError> {
+    let alloc = rt.alloc();
+    let sources = Vec::from_slice(alloc, &[0, 0, 0, 0, 0, 5, 0, 0, 0, 0])?;
+    let sinks = Vec::from_slice(alloc, &[1, 1, 1, 1, 1, 0, 0, 0, 0, 0])?;
+    let mut arcs = Vec::new(alloc);
+    for to in 0..5 {
+        arcs.push(Arc {
+            from: 5,
+            to,
+            capacity: 1,
+        })?;
+    }
+    assert!(*rt; Net::fits(sources.as_slice(), sinks.as_slice(), arcs.as_slice()));
+    Ok(Net::new(sources, sinks, arcs))
+}
+
+/// How often the gate is called for turn 0, how often for later turns, and how many calls for turn 0 met another, where
+/// workers cut the fan.
+fn counted<R: Threads + Wait + Abort + AllocGlobal + Sync>(
+    rt: &R,
+    options: Options,
+    meets: bool,
+) -> Result<(u32, u32, u32), AllocError> {
+    let counts = Counts {
+        meets,
+        first: AtomicU32::new(0),
+        later: AtomicU32::new(0),
+        met: AtomicU32::new(0),
+    };
+    let net = fan(rt)?;
+    let gate: &(dyn Gate + Sync) = &counts;
+    let how = Workers {
+        rt,
+        options,
+        gate: &gate,
+    };
+    assert!(*rt; how.solve(rt.alloc(), net).is_ok());
+    Ok((
+        counts.first.load(Ordering::SeqCst),
+        counts.later.load(Ordering::SeqCst),
+        counts.met.load(Ordering::SeqCst),
+    ))
+}
+
+/// One thread over two blocks of the fan, of which each has its turn 0 alone in a round, first that of block 0.
+const ONE: Options = Options {
+    threads: 1,
+    blocks: 2,
+    turns: 0,
+    ..TWO
+};
+
+/// Options, how often the gate is called for turn 0, and how often for later turns. A round has a turn 0 of each block. In
+/// the first the letters are put; in the second they are given to the sink. A ring of one place takes a letter a round, and one
+/// block does all in its turn 0. With turns to draw block 0 has one for the letters, block 1 one for their answers, and each
+/// a further one, which does nothing.
+const ROWS: &[(Options, u32, u32)] = &[
+    (ONE, 4, 0),
+    (Options { ring: 1, ..ONE }, 12, 0),
+    (Options { rounds: 1, ..ONE }, 2, 0),
+    (Options { rounds: 0, ..ONE }, 0, 0),
+    (Options { blocks: 1, ..ONE }, 1, 0),
+    (Options { turns: 64, ..ONE }, 2, 4),
+];
+
+#[test]
+fn options_are_kept(rt: HostRuntime) -> Result<(), Fail> {
+    for (options, first, later) in ROWS {
+        let counts = counted(&rt, *options, false)?;
+        let (asked_first, asked_later, _) = counts;
+        assert!(rt;
+            counts == (*first, *later, 0),
+            "{asked_first}, {asked_later} in place of {first}, {later}"
+        );
+    }
+    let counts = counted(&rt, Options { threads: 2, ..ONE }, true)?;
+    assert!(rt; counts.0 >= 2 && counts.2 == counts.0);
+    Ok(())
+}
