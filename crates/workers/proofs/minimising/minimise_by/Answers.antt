@@ -2,7 +2,7 @@ use Rattle.std.proofs.Common.{◌∙◌, ap, arith, rules}
 use Rattle.flow_network.specs.Cut.{set_of}
 use Rattle.pseudo_bool.specs.Formula.{Formula, assignment}
 use Rattle.compile_cut.proofs.Best.{best_of_cut, front_shows}
-use Rattle.minimum_by.proofs.minimise_by.Goals as goal
+use Rattle.workers.proofs.minimising.minimise_by.Goals as goal
 
 pub returns-clause-best : goal.returns-clause-best
 returns-clause-best g c =
