@@ -60,4 +60,10 @@ impl Graph {
     {
         self.arcs.as_slice()
     }
+    /// The arcs alone, in the order in which they were put in. Their list can be given back as it is read.
+    pub fn into_arcs(self) -> Vec<Arc>
+        ensures { result.items ≡ self.arcs }
+    {
+        self.arcs
+    }
 }

@@ -5,7 +5,7 @@ ghost use Rattle.flow_network.specs.Cut.{nodes, set_of, IsNet, IsSmallestLeastCu
 ghost use Rattle.flow_network.specs.Preflow.{IsReach};
 ghost use Rattle.flow_network.specs.Answer.{side_of, IsRightCut};
 ghost use Rattle.sink_distances.specs.Distances.{AreDistances};
-ghost use Rattle.sink_distances.specs.Rows.{carried, first_at, second_at, places_of, IsRows, AreEmpty};
+ghost use Rattle.sink_distances.specs.Rows.{carried, firsts_of, first_at, second_at, places_of, IsRows, AreEmpty};
 ghost use Rattle.plain_cut.specs.State.{work_flow, IsWork, IsFinished};
 
 use crate::opening::open;
@@ -13,7 +13,7 @@ use crate::rounds::begin_round;
 use crate::turns::run;
 use crate::work::{Work, raise_all};
 use flow_network::{Net, Solved, cut_capacity};
-use sink_distances::{Outline, Rows, rows_by_node, side_below};
+use sink_distances::{Outline, Rows, rows_by_node, rows_of, side_below};
 use std::alloc::{AllocError, Global};
 
 /// The work at its end, whose labels are the exact distances. It takes the net's rows, sources and sinks over.
@@ -86,16 +86,14 @@ pub fn solve(alloc: Global, net: &Net) -> Result<Solved, AllocError>
 /// the same way and refused for the same reasons.
 ///
 /// It takes the net over: the net's own lists of sources and sinks become what the solver changes, so it needs 16
-/// bytes a node less than `solve`, and the arcs are given back once they stand in rows.
+/// bytes a node less than `solve`, and the arcs are given back as they are put into rows.
 pub fn smallest_side(alloc: Global, net: Net) -> Result<Vec<bool>, AllocError>
     ensures bits { IfOk result (λ side. length side.items ≡ nodes net) }
     ensures smallest { IfOk result (λ side. IsSmallestLeastCut net (set_of side.items)) }
 {
     let (graph, sources, sinks) = net.into_parts();
     let outline = Outline::of(&graph);
-    let (rows, firsts) = rows_by_node(alloc, &graph)?;
-    drop(firsts);
-    drop(graph);
+    let rows = rows_of(alloc, graph)?;
     let work = finish(alloc, &outline, rows, sources, sinks)?;
     least_side(alloc, &outline, &work)
 }
@@ -126,7 +124,7 @@ fn turn_to_given(sinks: &[u64], rooms: &mut [u64])
 
 /// What each arc carries: what its direction back can carry. `firsts` tells where each arc's other direction stands.
 fn carried_by(alloc: Global, rows: &Rows, firsts: &[u32]) -> Result<Vec<u64>, AllocError>
-    requires firsts { firsts.now ≡ rows.now.firsts.value.items }
+    requires firsts { firsts.now ≡ firsts_of rows.now }
     requires first { (k : ℕ) → k < length firsts.now → first_at rows.now k < length rows.now.cells.items }
     requires second { (k : ℕ) → k < length firsts.now → second_at rows.now k < length rows.now.cells.items }
     ensures { IfOk result (λ flow. flow.items ≡ carried rows.now) }

@@ -8,7 +8,7 @@ use Rattle.flow_network.specs.Cut.{Network, nodes, IsNet}
 use Rattle.flow_network.specs.Preflow.{arc_at, IsResidual}
 use Rattle.flow_network.proofs.Duality.{arc_is}
 use Rattle.sink_distances.specs.declared.rows.Rows.{Rows}
-use Rattle.sink_distances.specs.Rows.{head_at, opposite_at, residual_at, start_at, first_at, second_at, carried, IsPlace, IsOf, IsRows, IsSent}
+use Rattle.sink_distances.specs.Rows.{head_at, opposite_at, residual_at, start_at, firsts_of, first_at, second_at, carried, IsPlace, IsOf, IsRows, IsSent}
 use Rattle.sink_distances.specs.Search.{IsBefore}
 
 -- ---- what each arc carries
@@ -17,11 +17,11 @@ pub carried_at : (net : Network) (rows : Rows) (k : ℕ) → IsRows net rows →
     → slice_index (carried rows) k ≡ residual_at rows (second_at rows k)
 carried_at net rows k h l =
     let f = λ (p : ℕ). residual_at rows (opposite_at rows p) in
-    let long : k < length (map f rows.firsts.value.items) = omega (arith, length-map rows.firsts.value.items f, h.firsts_len) in
-    get_or_default (map f rows.firsts.value.items) k 0 (f 0) long ∙ get_or-map f rows.firsts.value.items k 0
+    let long : k < length (map f (firsts_of rows)) = omega (arith, length-map (firsts_of rows) f, h.firsts_len) in
+    get_or_default (map f (firsts_of rows)) k 0 (f 0) long ∙ get_or-map f (firsts_of rows) k 0
 
 pub carried_len : (net : Network) (rows : Rows) → IsRows net rows → length (carried rows) ≡ length net.arcs
-carried_len net rows h = length-map rows.firsts.value.items (λ p. residual_at rows (opposite_at rows p)) ∙ h.firsts_len
+carried_len net rows h = length-map (firsts_of rows) (λ p. residual_at rows (opposite_at rows p)) ∙ h.firsts_len
 
 -- ---- a place of a row
 
