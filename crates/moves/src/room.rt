@@ -64,13 +64,14 @@ pub fn give_numbers_back(alloc: Global, listed: bool, of_sites: &mut Vec<u32>) {
 }
 
 /// The room of a run: what decides the sites of its moves, once the pairs were grouped by their sites, the energy of its
-/// moves, and where its later expansions look.
+/// moves, where its later expansions look, and the lists of its cuts.
 #[derive(Drop)]
 pub struct Room {
     pub grouped: bool,
     pub deciding: Deciding,
     pub built: MoveEnergy,
     pub stage: Stage,
+    pub cutting: plain_cut::Room,
 }
 
 impl Room {
@@ -83,6 +84,7 @@ impl Room {
             deciding: Deciding::empty(alloc),
             built: MoveEnergy::new(alloc),
             stage: Stage::empty(alloc),
+            cutting: plain_cut::Room::new(alloc),
         }
     }
 

@@ -41,6 +41,7 @@ fn cut_stage<F: Fn(u32, u32) -> i64 + Sync, V: Fn(u32, u32) -> i64 + Sync, H: Ho
     at: &[u8],
     change: Move,
     how: &H,
+    cutting: &mut plain_cut::Room,
 ) -> Result<Vec<bool>, MoveError>
     requires ready { H.ready how.now }
     requires asked { IsAsked problem.now at.now change }
@@ -59,7 +60,7 @@ fn cut_stage<F: Fn(u32, u32) -> i64 + Sync, V: Fn(u32, u32) -> i64 + Sync, H: Ho
 {
     built.build_listed(alloc, problem, ends, opened, at, change)?;
     let form = replace(&mut built.form, Quadratic::new(alloc));
-    minimise(alloc, form, how)
+    minimise(alloc, form, how, cutting)
 }
 
 /// What is done with what a cut showed: where the sites that take the label are not closed in, more sites are opened.
@@ -139,6 +140,7 @@ pub(crate) fn make_stage<F: Fn(u32, u32) -> i64 + Sync, V: Fn(u32, u32) -> i64 +
         at,
         Move::Expand(alpha),
         how,
+        &mut room.cutting,
     )?;
     match end_stage(room, &problem.pairs, &bits) {
         Ok(standing) => Ok(standing),

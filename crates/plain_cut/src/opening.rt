@@ -6,7 +6,8 @@ ghost use Rattle.plain_cut.specs.State.{IsWork, IsUnlabelled};
 use crate::pushes::{carry, try_push_sink};
 use crate::work::{Work, start};
 use sink_distances::{Outline, Rows};
-use std::alloc::{AllocError, Global};
+use std::alloc::AllocError;
+use std::collections::VecDeque;
 
 /// Sends along the direction what the node has and it can still carry.
 fn send(net: &Outline, work: &mut Work, v: usize, p: usize)
@@ -88,13 +89,14 @@ fn send_last(net: &Outline, work: &mut Work, v: usize, up: bool)
 /// higher nodes, all excess goes as far as it can in the first pass, what the sink has not taken comes back in the
 /// second, and goes other ways in the third.
 ///
-/// It takes the net's rows, sources and sinks over.
+/// It takes the net's rows, sources and sinks over. Labels and queue stand in what these lists stood in.
 pub fn open(
-    alloc: Global,
     net: &Outline,
     rows: Rows,
     sources: Vec<u64>,
     sinks: Vec<u64>,
+    labels: Vec<u32>,
+    queue: VecDeque<u32>,
 ) -> Result<Work, AllocError>
     requires rows { IsRows net.now rows }
     requires empty { AreEmpty net.now rows }
@@ -103,7 +105,7 @@ pub fn open(
     ensures work { IfOk result (λ w. IsWork net.now w) }
     ensures limits { IsNet net.now }
 {
-    let mut work = start(alloc, net, rows, sources, sinks)?;
+    let mut work = start(net, rows, sources, sinks, labels, queue)?;
     'up: for v in 0..net.nodes() {
         send_first(net, &mut work, v);
     }

@@ -9,20 +9,25 @@ ghost use Rattle.sink_distances.specs.Rows.{carried, firsts_of, first_at, second
 ghost use Rattle.plain_cut.specs.State.{work_flow, IsWork, IsFinished};
 
 use crate::opening::open;
+use crate::room::Room;
 use crate::rounds::begin_round;
 use crate::turns::run;
 use crate::work::{Work, raise_all};
 use flow_network::{Net, Solved, cut_capacity};
-use sink_distances::{Outline, Rows, rows_by_node, rows_of, side_below};
+use sink_distances::{Outline, Rows, Spare, rows_by_node, rows_of, side_below, zeros};
 use std::alloc::{AllocError, Global};
+use std::collections::VecDeque;
+use std::mem::replace;
 
-/// The work at its end, whose labels are the exact distances. It takes the net's rows, sources and sinks over.
+/// The work at its end, whose labels are the exact distances. It takes the net's rows, sources and sinks over, and the
+/// room's labels and queue; the order goes back to the room.
 fn finish(
     alloc: Global,
     net: &Outline,
     rows: Rows,
     sources: Vec<u64>,
     sinks: Vec<u64>,
+    room: &mut Room,
 ) -> Result<Work, AllocError>
     requires rows { IsRows net.now rows }
     requires empty { AreEmpty net.now rows }
@@ -34,9 +39,12 @@ fn finish(
     ensures exact { IfOk result (λ w. AreDistances net.now (work_flow net.now w) w.labels.items) }
 {
     let nodes = net.nodes();
-    let mut order = vec![in alloc; 0; nodes]?;
-    let mut work = open(alloc, net, rows, sources, sinks)?;
+    let labels = replace(&mut room.labels, Vec::new(alloc));
+    let queue = replace(&mut room.queue, VecDeque::new(alloc));
+    let mut order = zeros(replace(&mut room.order, Vec::new(alloc)), nodes)?;
+    let mut work = open(net, rows, sources, sinks, labels, queue)?;
     settle(net, &mut work, order.as_mut_slice())?;
+    room.order = order;
     Ok(work)
 }
 
@@ -78,7 +86,8 @@ pub fn solve(alloc: Global, net: &Net) -> Result<Solved, AllocError>
     let sinks = Vec::from_slice(alloc, net.sinks())?;
     let shape = Outline::of(net.graph());
     let (rows, firsts) = rows_by_node(alloc, net.graph())?;
-    let work = finish(alloc, &shape, rows, sources, sinks)?;
+    let mut room = Room::new(alloc);
+    let work = finish(alloc, &shape, rows, sources, sinks, &mut room)?;
     answer_of(alloc, net, &shape, work, firsts.as_slice())
 }
 
@@ -91,11 +100,24 @@ pub fn smallest_side(alloc: Global, net: Net) -> Result<Vec<bool>, AllocError>
     ensures bits { IfOk result (λ side. length side.items ≡ nodes net) }
     ensures smallest { IfOk result (λ side. IsSmallestLeastCut net (set_of side.items)) }
 {
+    let mut room = Room::new(alloc);
+    smallest_side_in(alloc, net, &mut room)
+}
+
+/// What `smallest_side` answers, in room that is kept from one net to the next: up to 262,144 nodes the lists of rows, labels,
+/// queue and order stand in what they stood in before.
+pub fn smallest_side_in(alloc: Global, net: Net, room: &mut Room) -> Result<Vec<bool>, AllocError>
+    ensures bits { IfOk result (λ side. length side.items ≡ nodes net) }
+    ensures smallest { IfOk result (λ side. IsSmallestLeastCut net (set_of side.items)) }
+{
     let (graph, sources, sinks) = net.into_parts();
     let outline = Outline::of(&graph);
-    let rows = rows_of(alloc, graph)?;
-    let work = finish(alloc, &outline, rows, sources, sinks)?;
-    least_side(alloc, &outline, &work)
+    let spare = replace(&mut room.rows, Spare::new(alloc));
+    let rows = rows_of(graph, spare)?;
+    let work = finish(alloc, &outline, rows, sources, sinks, room)?;
+    let side = least_side(alloc, &outline, &work)?;
+    room.keep(alloc, work);
+    Ok(side)
 }
 
 /// The nodes that reach the sink, of work that is finished, whose labels are the exact distances.

@@ -5,8 +5,8 @@ ghost use Rattle.sink_distances.specs.Distances.{AreDistances};
 ghost use Rattle.sink_distances.specs.Rows.{IsRows, AreEmpty};
 ghost use Rattle.plain_cut.specs.State.{work_flow, IsWork, IsRaised, IsUnlabelled};
 
-use sink_distances::{Outline, Rows, write_row_distances};
-use std::alloc::{AllocError, Global};
+use sink_distances::{Outline, Rows, write_row_distances, zeros};
+use std::alloc::AllocError;
 use std::collections::VecDeque;
 
 /// What the solver changes: a preflow, its excess, the labels, and the nodes that wait for their turn.
@@ -51,12 +51,14 @@ pub fn queue_again(
 
 /// The work at the start: no flow but that of the source, all labels 0, no node queued. It takes the net's rows,
 /// sources and sinks over: what the source sends each node is what the node has, and what it can send the sink its room.
+/// Labels and queue stand in what these lists stood in.
 pub fn start(
-    alloc: Global,
     net: &Outline,
     rows: Rows,
     sources: Vec<u64>,
     sinks: Vec<u64>,
+    labels: Vec<u32>,
+    mut queue: VecDeque<u32>,
 ) -> Result<Work, AllocError>
     requires rows { IsRows net.now rows }
     requires empty { AreEmpty net.now rows }
@@ -66,12 +68,13 @@ pub fn start(
     ensures limits { IsNet net.now }
 {
     let nodes = net.nodes();
-    let queue = VecDeque::with_capacity(alloc, nodes)?;
+    queue.clear();
+    queue.reserve_exact(nodes)?;
     Ok(Work {
         rows,
         rooms: sinks,
         excess: sources,
-        labels: vec![in alloc; 0; nodes]?,
+        labels: zeros(labels, nodes)?,
         queue,
         relabels: 0,
     })

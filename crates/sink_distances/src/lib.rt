@@ -16,11 +16,11 @@ mod search;
 mod side;
 
 pub use adjacency::{Adjacency, arcs_by_node};
-pub use filling::{rows_by_node, rows_of};
+pub use filling::{rows_by_node, rows_of, zeros};
 pub use labels::top_label;
 pub use outline::Outline;
 pub use rooms::are_rooms;
-pub use rows::{Cell, Rows};
+pub use rows::{Cell, Rows, Spare};
 pub use search::{mark, write_distances, write_row_distances};
 pub use side::{distances, side_below, sink_side};
 

@@ -8,5 +8,5 @@ returns-clause-work c =
     start_work c.args.net.now _ c.nodes-nodes.ensures.limits
     c.requires.rows c.requires.empty
     c.requires.sinks c.requires.sources
-    (c.in_ok-vec.ensures.items_if_clones_equal (λ y e. e) ∙ ap zero_to c.nodes-nodes.ensures.value)
-    (rw c.in_ok-queue.ensures.items (λ k d l. absurd (omega (arith, l))))
+    (c.in_ok-zeros.ensures ∙ ap zero_to c.nodes-nodes.ensures.value)
+    (rw (c.reserve_exact.ensures.items, c.clear.ensures.items) (λ k d l. absurd (omega (arith, l))))
