@@ -5,12 +5,12 @@ use Rattle.sums.proofs.SumLemmas.{sum_below-change, sum_below-le, counted-le}
 use Rattle.grouping.specs.declared.Groups.{Groups}
 use Rattle.grouping.specs.Grouping.{start_of}
 use Rattle.label_field.specs.PairLists.{PairList}
-use Rattle.by_site.specs.BySite.{degree, AreBySite}
+use Rattle.move_energy.specs.BySite.{degree, AreBySite}
 use Rattle.move_energy.specs.declared.choice.Choice.{Choice}
 use Rattle.move_energy.specs.declared.choice.Choice.TheVariants.{Open, Zero, One}
 use Rattle.move_energy.specs.Choices.{choice_at, is_open}
 use Rattle.deciding.specs.Working.{left}
-use Rattle.by_site.proofs.Ends.{ends_len}
+use Rattle.move_energy.proofs.PairEnds.{ends_len}
 
 closed_not : (c : Choice) → ¬ (c ≡ Open) → is_open c ≡ false
 closed_not Open off = absurd (off refl)

@@ -7,7 +7,7 @@ use Rattle.grouping.specs.declared.Groups.{Groups}
 use Rattle.grouping.specs.Grouping.{IsGrouped, start_of, place_at}
 use Rattle.label_field.specs.declared.pair.Pair.{Pair}
 use Rattle.label_field.specs.PairLists.{IsPair, PairList, IsPairList}
-use Rattle.by_site.specs.BySite.{ends_of, AreBySite}
+use Rattle.move_energy.specs.BySite.{ends_of, AreBySite}
 use Rattle.labellings.specs.declared.change.Move.{Move}
 use Rattle.labellings.specs.Energies.{Instance, IsInstance}
 use Rattle.move_energy.specs.declared.choice.Choice.{Choice}
@@ -17,7 +17,7 @@ use Rattle.move_energy.proofs.Joins.{read_at}
 use Rattle.deciding.specs.declared.bounds.Bounds.{Bounds}
 use Rattle.deciding.specs.Decisions.{put}
 use Rattle.deciding.specs.Working.{bound_at, room_of, IsWithinRange, IsLooking, IsMarked, AreWaiting, AreWaitingBut, ArePartlyDecided, CanDecide}
-use Rattle.by_site.proofs.Ends.{Touches, end_touches}
+use Rattle.move_energy.proofs.PairEnds.{Touches, end_touches}
 use Rattle.deciding.proofs.Ranges.{range_wider, below_not, tells_same}
 use Rattle.deciding.proofs.Left.{degree_most}
 use Rattle.deciding.proofs.Spreading.{pair_in}

@@ -8,8 +8,8 @@ use Rattle.sums.proofs.IntegerSumLemmas.{within_fits, abs-add}
 use Rattle.grouping.specs.declared.Groups.{Groups}
 use Rattle.grouping.specs.Grouping.{IsGrouped, start_of, place_at}
 use Rattle.label_field.specs.declared.pair.Pair.{Pair}
-use Rattle.by_site.specs.BySite.{ends_of, degree, pair_in, pair_of}
-use Rattle.by_site.proofs.AtSite.{site_sum}
+use Rattle.move_energy.specs.BySite.{ends_of, degree, pair_in, pair_of}
+use Rattle.move_energy.proofs.AtSite.{site_sum}
 use Rattle.labellings.specs.declared.change.Move.{Move}
 use Rattle.labellings.specs.Energies.{Instance, IsInstance}
 use Rattle.labellings.specs.Moves.{label_in}

@@ -10,7 +10,7 @@ use Rattle.grouping.specs.declared.Groups.{Groups}
 use Rattle.grouping.specs.Grouping.{IsGrouped, start_of, place_at}
 use Rattle.label_field.specs.declared.pair.Pair.{Pair}
 use Rattle.label_field.specs.PairLists.{IsPair}
-use Rattle.by_site.specs.BySite.{ends_of}
+use Rattle.move_energy.specs.BySite.{ends_of}
 use Rattle.labellings.specs.declared.change.Move.{Move}
 use Rattle.labellings.specs.Energies.{Instance, IsInstance}
 use Rattle.move_energy.specs.declared.choice.Choice.{Choice}
@@ -23,7 +23,7 @@ use Rattle.deciding.specs.Working.{bound_at, Tells, IsMarked, ArePartlyDecided, 
 use Rattle.deciding.proofs.Putting.{set_at, set_other}
 use Rattle.deciding.proofs.Rises.{rise_parts}
 use Rattle.deciding.proofs.Seeing.{pair_rise-same}
-use Rattle.by_site.proofs.Ends.{Touches, end_touches, touching_found, apart_pairs}
+use Rattle.move_energy.proofs.PairEnds.{Touches, end_touches, touching_found, apart_pairs}
 
 -- the pair at a place of the list
 abbrev pub pair_in : List Pair → ℕ → Pair

@@ -2,7 +2,7 @@
 use Rattle.std.specs.Prelude.{◌≡◌, ◌↔◌, ◌==◌, ◌||◌, ℕ, ◌*◌, ◌≤◌, Bool, false, not, IsTrue, List, [], length}
 use Rattle.labellings.specs.declared.change.Move.{Move}
 use Rattle.labellings.specs.Moves.{label_in}
-use Rattle.by_site.specs.BySite.{IsListing}
+use Rattle.move_energy.specs.BySite.{IsListing}
 use Rattle.move_energy.specs.declared.choice.Choice.{Choice}
 use Rattle.move_energy.specs.Choices.{bit_of, choice_at, open_count, open_at, AreOpenSites}
 use Rattle.deciding.specs.declared.listing.Lists.{Lists}

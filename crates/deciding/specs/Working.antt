@@ -11,7 +11,7 @@ use Rattle.move_energy.specs.declared.error.BuildError.{BuildError}
 use Rattle.move_energy.specs.Problems.{IsPrepareRefusal}
 use Rattle.move_energy.specs.declared.choice.Choice.{Choice}
 use Rattle.move_energy.specs.declared.choice.Choice.TheVariants.{Open}
-use Rattle.by_site.specs.BySite.{degree}
+use Rattle.move_energy.specs.BySite.{degree}
 use Rattle.move_energy.specs.Choices.{bit_of, choice_at, is_open, AreAllOpen}
 use Rattle.deciding.specs.Limits.{surplus_limit, bound_limit}
 use Rattle.deciding.specs.Decisions.{Decision, set_bit, put, rise, HavePassed}

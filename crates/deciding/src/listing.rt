@@ -1,6 +1,6 @@
 //! The sites that a move has left to look at, listed where they are few.
 ghost use Rattle.std.specs.Prelude.{◌≡◌, ◌↔◌, ◌==◌, ◌||◌, ◌<◌, ◌≤◌, ◌++◌, ◌∷◌, [], cond, not, false, length, IsTrue, OnOk, OnErr};
-ghost use Rattle.by_site.specs.BySite.{IsListing};
+ghost use Rattle.move_energy.specs.BySite.{IsListing};
 ghost use Rattle.labellings.specs.Energies.{labelling};
 ghost use Rattle.labellings.specs.Moves.{label_in};
 ghost use Rattle.label_field.specs.Limits.{site_limit};

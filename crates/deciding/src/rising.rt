@@ -2,7 +2,7 @@
 ghost use Rattle.std.specs.Prelude.{◌≡◌, ◌<◌, ◌≤◌, ◌+◌, ◌*◌, ◌⊎◌, ℕ, ℤ, pos, ◌-ℤ◌, Bool, true, false, length, unsigned_abs};
 ghost use Rattle.label_field.specs.Limits.{weight_limit};
 ghost use Rattle.label_field.specs.PairLists.{IsPair};
-ghost use Rattle.by_site.specs.BySite.{degree, AreBySite};
+ghost use Rattle.move_energy.specs.BySite.{degree, AreBySite};
 ghost use Rattle.labellings.specs.Energies.{labelling};
 ghost use Rattle.labellings.specs.Moves.{label_in};
 ghost use Rattle.cost_store.specs.Limits.{site_cost_limit, pair_cost_limit};

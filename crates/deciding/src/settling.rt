@@ -2,7 +2,7 @@
 ghost use Rattle.std.specs.Prelude.{◌≡◌, ◌≢◌, ◌⊎◌, ◌<◌, ◌≤◌, ◌+◌, ◌*◌, ◌^◌, ℕ, ℤ, pos, ◌≤ℤ◌, ◌<ℤ◌, Bool, true, false, All, length, slice_get, Some, unsigned_abs, OnOk, IsTrue, ◌↔◌, []};
 ghost use Rattle.grouping.specs.Grouping.{IsGrouped};
 ghost use Rattle.label_field.specs.PairLists.{IsPair, IsPairList};
-ghost use Rattle.by_site.specs.BySite.{degree, AreBySite};
+ghost use Rattle.move_energy.specs.BySite.{degree, AreBySite};
 ghost use Rattle.labellings.specs.Energies.{labelling};
 ghost use Rattle.labellings.specs.Moves.{IsAllowed};
 ghost use Rattle.cost_store.specs.Posed.{IsPosed, IsAsked, Meant};

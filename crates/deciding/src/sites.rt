@@ -1,6 +1,6 @@
 //! Deciding the sites of a move.
 ghost use Rattle.std.specs.Prelude.{◌≡◌, ◌<◌, ◌≤◌, ℕ, [], All, length, IfOk, OnOk, OnErr, false};
-ghost use Rattle.by_site.specs.BySite.{AreBySite};
+ghost use Rattle.move_energy.specs.BySite.{AreBySite};
 ghost use Rattle.labellings.specs.Energies.{labelling};
 ghost use Rattle.cost_store.specs.Posed.{IsPosed, IsAsked, Meant};
 ghost use Rattle.deciding.specs.Decided.{IsDecidedMove};
@@ -9,12 +9,11 @@ ghost use Rattle.deciding.specs.Working.{IsSized, AreOfNoSites};
 
 use crate::testing::test_terms;
 use crate::{Bounds, Lists};
-use by_site::group_pairs;
 use cost_store::Problem;
 use grouping::Groups;
 use label_field::Pairs;
 use labellings::Move;
-use move_energy::BuildError;
+use move_energy::{BuildError, group_pairs};
 use std::alloc::{AllocError, Global};
 
 /// The ends of a list of pairs by their sites, made once a run, and the room in which the sites of a move are decided.

@@ -1,7 +1,7 @@
 //! The sites of a move one after another: each is summed, and decided at once where its bounds tell its value.
 ghost use Rattle.std.specs.Prelude.{◌≡◌, ◌≢◌, ◌<◌, ◌≤◌, ◌*◌, ◌+◌, ◌↔◌, ◌++◌, ◌∷◌, [], ℕ, length, OnOk};
 ghost use Rattle.label_field.specs.Limits.{site_limit};
-ghost use Rattle.by_site.specs.BySite.{AreBySite};
+ghost use Rattle.move_energy.specs.BySite.{AreBySite};
 ghost use Rattle.labellings.specs.Energies.{labelling};
 ghost use Rattle.cost_store.specs.Posed.{IsPosed, IsAsked, Meant};
 ghost use Rattle.move_energy.specs.declared.choice.Choice.TheVariants.{Open, One};

@@ -9,9 +9,9 @@ use Rattle.sums.proofs.SumLemmas.{sum_below-same, sum_below-add, sum_below-le-lo
 use Rattle.grouping.specs.declared.Groups.{Groups}
 use Rattle.label_field.specs.declared.pair.Pair.{Pair}
 use Rattle.label_field.specs.PairLists.{PairList, IsPair}
-use Rattle.by_site.specs.BySite.{AreBySite, degree, pair_of, is_counted, has_chosen, listing, met_below, met_at}
-use Rattle.by_site.proofs.Listings.{listed_sites_are_summed}
-use Rattle.by_site.proofs.Meetings.{pairs_are_met_once}
+use Rattle.move_energy.specs.BySite.{AreBySite, degree, pair_of, is_counted, has_chosen, listing, met_below, met_at}
+use Rattle.move_energy.proofs.Listings.{listed_sites_are_summed}
+use Rattle.move_energy.proofs.Meetings.{pairs_are_met_once}
 use Rattle.labellings.specs.declared.change.Move.{Move}
 use Rattle.labellings.specs.Energies.{Instance, labelling, pair_cost, plain_energy}
 use Rattle.labellings.specs.Moves.{label_in}

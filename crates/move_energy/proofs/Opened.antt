@@ -6,8 +6,8 @@ use Rattle.std.proofs.lemmas.List.{length-set, get_or-set_same, get_or-set_other
 use Rattle.std.proofs.lemmas.List.Elements.{All-from_get_or}
 use Rattle.sums.specs.Sums.{counted}
 use Rattle.sums.proofs.SumLemmas.{sum_below-same}
-use Rattle.by_site.specs.BySite.{listing}
-use Rattle.by_site.proofs.Listings.{chosen_below, listing_length, listing_short, listing_place, listing_has}
+use Rattle.move_energy.specs.BySite.{listing}
+use Rattle.move_energy.proofs.Listings.{chosen_below, listing_length, listing_short, listing_place, listing_has}
 use Rattle.labellings.specs.Energies.{labelling}
 use Rattle.move_energy.specs.declared.choice.Choice.{Choice}
 use Rattle.move_energy.specs.declared.choice.Choice.TheVariants.{Open, Zero as DecidedZero, One as DecidedOne}

@@ -2,7 +2,7 @@
 -- known of them once the energy is least.
 use Rattle.std.specs.Prelude.{◌≡◌, ◌≢◌, ◌↔◌, ℕ, ◌<◌, Bool, true, false, List, length, slice_index_or, ℤ, pos, ◌+ℤ◌, vec_len}
 use Rattle.sums.specs.Sums.{sum_below}
-use Rattle.by_site.specs.BySite.{IsListing}
+use Rattle.move_energy.specs.BySite.{IsListing}
 use Rattle.labellings.specs.declared.change.Move.{Move}
 use Rattle.labellings.specs.Energies.{Instance, labelling, plain_energy}
 use Rattle.labellings.specs.Moves.{label_in, made}

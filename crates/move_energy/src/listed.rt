@@ -3,7 +3,7 @@ ghost use Rattle.std.specs.Prelude.{◌≡◌, ◌<◌, ◌≤◌, ◌-◌, ℕ,
 ghost use Rattle.sums.specs.Sums.{counted};
 ghost use Rattle.label_field.specs.Limits.{site_limit};
 ghost use Rattle.label_field.specs.PairLists.{IsPair};
-ghost use Rattle.by_site.specs.BySite.{AreBySite, is_counted, met_at};
+ghost use Rattle.move_energy.specs.BySite.{AreBySite, is_counted, met_at};
 ghost use Rattle.labellings.specs.Energies.{labelling, pair_cost as cost_of_pair};
 ghost use Rattle.pseudo_bool.specs.Limits.{term_limit};
 ghost use Rattle.compile_cut.specs.Form.{IsBounded};
@@ -14,8 +14,8 @@ ghost use Rattle.move_energy.specs.Problems.{IsFitPair, Stands};
 
 use crate::MoveEnergy;
 use crate::building::{add_pair, add_site};
+use crate::by_site::{ends_at, pair_at};
 use crate::variables::Variables;
-use by_site::{ends_at, pair_at};
 use compile_cut::Quadratic;
 use cost_store::Problem;
 use grouping::Groups;

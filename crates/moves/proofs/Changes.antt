@@ -13,9 +13,9 @@ use Rattle.sums.proofs.IntegerSumLemmas.{within_fits, abs-add}
 use Rattle.grouping.specs.declared.Groups.{Groups}
 use Rattle.label_field.specs.declared.pair.Pair.{Pair}
 use Rattle.label_field.specs.PairLists.{PairList, IsPair}
-use Rattle.by_site.specs.BySite.{AreBySite, IsListing, listing, is_counted, has_chosen, pair_of, met_below, met_at}
-use Rattle.by_site.proofs.Listings.{chosen_below, listing_place, listing_has, listing_short, listed_sites_are_summed}
-use Rattle.by_site.proofs.Meetings.{pairs_are_met_once}
+use Rattle.move_energy.specs.BySite.{AreBySite, IsListing, listing, is_counted, has_chosen, pair_of, met_below, met_at}
+use Rattle.move_energy.proofs.Listings.{chosen_below, listing_place, listing_has, listing_short, listed_sites_are_summed}
+use Rattle.move_energy.proofs.Meetings.{pairs_are_met_once}
 use Rattle.labellings.specs.declared.change.Move.{Move}
 use Rattle.labellings.specs.Energies.{Instance, labelling, pair_cost}
 use Rattle.labellings.specs.Moves.{made, label_in}

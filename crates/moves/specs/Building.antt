@@ -14,7 +14,7 @@ use Rattle.sums.specs.Sums.{counted}
 use Rattle.grouping.specs.declared.Groups.{Groups}
 use Rattle.label_field.specs.declared.pair.Pair.{Pair}
 use Rattle.label_field.specs.PairLists.{PairList}
-use Rattle.by_site.specs.BySite.{AreBySite, IsListing, met_at}
+use Rattle.move_energy.specs.BySite.{AreBySite, IsListing, met_at}
 use Rattle.deciding.specs.Listed.{AreListed}
 use Rattle.deciding.specs.Decisions.{IsSmallestLeast}
 use Rattle.deciding.specs.MoveValues.{move_value}

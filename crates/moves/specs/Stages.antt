@@ -6,7 +6,7 @@ use Rattle.labellings.specs.declared.change.Move.{Move}
 use Rattle.labellings.specs.declared.change.Move.TheVariants.{Expand}
 use Rattle.labellings.specs.Energies.{Instance, labelling}
 use Rattle.labellings.specs.Moves.{label_in}
-use Rattle.by_site.specs.BySite.{AreBySite}
+use Rattle.move_energy.specs.BySite.{AreBySite}
 use Rattle.move_energy.specs.declared.choice.Choice.{Choice}
 use Rattle.move_energy.specs.Choices.{choice_at, value_of, AreOpenSites}
 use Rattle.deciding.specs.Decisions.{IsSmallestLeast}

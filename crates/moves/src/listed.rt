@@ -3,7 +3,7 @@ ghost use Rattle.std.specs.Prelude.{◌≡◌, ◌<◌, ◌≤◌, ◌*◌, ◌�
 ghost use Rattle.sums.specs.Sums.{counted};
 ghost use Rattle.label_field.specs.Limits.{site_limit};
 ghost use Rattle.label_field.specs.PairLists.{IsPair};
-ghost use Rattle.by_site.specs.BySite.{AreBySite, is_counted as is_counted_at, met_at};
+ghost use Rattle.move_energy.specs.BySite.{AreBySite, is_counted as is_counted_at, met_at};
 ghost use Rattle.labellings.specs.Energies.{labelling, plain_energy, data_energy, smooth_energy, pair_cost as cost_of_pair};
 ghost use Rattle.labellings.specs.Moves.{made};
 ghost use Rattle.cost_store.specs.Limits.{pair_cost_limit, data_energy_limit, smooth_energy_limit};
@@ -12,12 +12,11 @@ ghost use Rattle.moves.specs.Building.{site_values, moves_site, moved_met, HasCh
 
 use crate::lowering::{is_negative, lowers_all, made_label, pair_rise, site_rise};
 use crate::room::Room;
-use by_site::{ends_at, pair_at};
 use cost_store::Problem;
 use grouping::Groups;
 use label_field::Pair;
 use labellings::Move;
-use move_energy::Choice;
+use move_energy::{Choice, ends_at, pair_at};
 
 /// Whether a site's value changes its label.
 fn is_moved(at: &[u8], change: Move, choices: &[Choice], site: u32) -> bool

@@ -1,6 +1,6 @@
 //! The energy of a move, of which sites are decided before it is built.
 ghost use Rattle.std.specs.Prelude.{◌≡◌, ◌+◌, ◌<◌, ◌≤◌, All, length, vec_len, false, OnOk, IsTrue};
-ghost use Rattle.by_site.specs.BySite.{AreBySite};
+ghost use Rattle.move_energy.specs.BySite.{AreBySite};
 ghost use Rattle.labellings.specs.Energies.{labelling};
 ghost use Rattle.labellings.specs.Moves.{IsAllowed};
 ghost use Rattle.label_field.specs.Limits.{site_limit, label_limit};
@@ -14,14 +14,13 @@ ghost use Rattle.moves.specs.Building.{IsGroupedFor, IsNear, IsNearWhereListed, 
 ghost use Rattle.cost_store.specs.LabelCosts.{costs_of, AreCosts};
 ghost use Rattle.moves.specs.LabelCosts.{IsFreeFor};
 ghost use Rattle.labellings.specs.declared.change.Move.TheVariants.{Expand};
-ghost use Rattle.label_costs.specs.Costs.{AreCostsOf};
+ghost use Rattle.move_energy.specs.LabelCosts.{AreCostsOf};
 
 use cost_store::{Problem, costs_of, has_cost};
 use deciding::{Bounds, Deciding};
-use label_costs::add_label_costs;
 use label_field::Pairs;
 use labellings::Move;
-use move_energy::{BuildError, MoveEnergy};
+use move_energy::{BuildError, MoveEnergy, add_label_costs};
 use stages::Stage;
 use std::alloc::{AllocError, Global};
 use std::mem::swap;

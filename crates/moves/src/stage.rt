@@ -1,6 +1,6 @@
 //! One stage of an expansion that is made once more: its cut, and what is done with what the cut shows.
 ghost use Rattle.std.specs.Prelude.{◌≡◌, ◌<◌, ℕ, Bool, false, true, length, OnOk, IfOk, IfErr};
-ghost use Rattle.by_site.specs.BySite.{AreBySite};
+ghost use Rattle.move_energy.specs.BySite.{AreBySite};
 ghost use Rattle.labellings.specs.declared.change.Move.TheVariants.{Expand};
 ghost use Rattle.labellings.specs.Energies.{labelling};
 ghost use Rattle.labellings.specs.Moves.{IsAllowed};

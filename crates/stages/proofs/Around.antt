@@ -8,9 +8,9 @@ use Rattle.grouping.specs.Grouping.{start_of, place_at}
 use Rattle.label_field.specs.declared.pair.Pair.{Pair}
 use Rattle.label_field.specs.PairLists.{PairList, IsPair}
 use Rattle.labellings.specs.Energies.{Instance}
-use Rattle.by_site.specs.BySite.{AreBySite, degree, pair_in, pair_of}
-use Rattle.by_site.proofs.Ends.{Touches, touching_found, end_touches}
-use Rattle.by_site.proofs.Parts.{inside_part, pair_has}
+use Rattle.move_energy.specs.BySite.{AreBySite, degree, pair_in, pair_of}
+use Rattle.move_energy.proofs.PairEnds.{Touches, touching_found, end_touches}
+use Rattle.move_energy.proofs.Parts.{inside_part, pair_has}
 use Rattle.stages.specs.Fresh.{AreFresh, IsFreshAcross}
 use Rattle.stages.specs.Looking.{AreEnds, AreBeside, IsNearChange}
 use Rattle.stages.specs.Working.{IsMarkedAcross, IsMarkedAround}

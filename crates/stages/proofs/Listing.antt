@@ -1,7 +1,7 @@
 -- Sites that are passed over, since none of them is chosen.
 use Rattle.std.proofs.Common.{◌≡◌, ℕ, zero, suc, ◌+◌, ◌-◌, ◌<◌, ◌≤◌, Bool, false, cond, List, [], ◌∷◌, ◌++◌, sym, ap, ◌∙◌, arith}
 use Rattle.std.proofs.lemmas.List.{append-nil}
-use Rattle.by_site.specs.BySite.{listing, IsListing}
+use Rattle.move_energy.specs.BySite.{listing, IsListing}
 
 listing_on : (chosen : ℕ → Bool) (n k : ℕ) → ((p : ℕ) → n ≤ p → p < n + k → chosen p ≡ false) → listing chosen (n + k) ≡ listing chosen n
 listing_on chosen n zero none = (let same : n + zero ≡ n = omega arith in ap (listing chosen) same)

@@ -6,7 +6,7 @@ use Rattle.grouping.specs.declared.Groups.{Groups}
 use Rattle.label_field.specs.declared.pair.Pair.{Pair}
 use Rattle.label_field.specs.PairLists.{PairList, IsPair}
 use Rattle.labellings.specs.Energies.{labelling}
-use Rattle.by_site.specs.BySite.{AreBySite, pair_in, pair_of}
+use Rattle.move_energy.specs.BySite.{AreBySite, pair_in, pair_of}
 use Rattle.move_energy.specs.declared.choice.Choice.{Choice}
 use Rattle.move_energy.specs.declared.choice.Choice.TheVariants.{Open, Zero}
 use Rattle.move_energy.specs.Choices.{bit_of, choice_at, rank, value_of, IsNumbering}

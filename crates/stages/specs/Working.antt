@@ -4,7 +4,7 @@ use Rattle.std.specs.List.{All, Contains}
 use Rattle.grouping.specs.declared.Groups.{Groups}
 use Rattle.label_field.specs.declared.pair.Pair.{Pair}
 use Rattle.label_field.specs.PairLists.{PairList}
-use Rattle.by_site.specs.BySite.{degree, pair_of}
+use Rattle.move_energy.specs.BySite.{degree, pair_of}
 use Rattle.move_energy.specs.declared.choice.Choice.{Choice}
 use Rattle.move_energy.specs.declared.choice.Choice.TheVariants.{Open, Zero}
 use Rattle.move_energy.specs.Choices.{choice_at, value_of}

@@ -1,17 +1,16 @@
 //! Finding what takes the label after a stage, and whether that ends the move.
 ghost use Rattle.std.specs.Prelude.{◌≡◌, ℕ, ◌<◌, ◌≤◌, true, false, length, slice_index, IsTrue, IfOk, OnOk};
 ghost use Rattle.std.specs.List.{All, Contains};
-ghost use Rattle.by_site.specs.BySite.{AreBySite};
+ghost use Rattle.move_energy.specs.BySite.{AreBySite};
 ghost use Rattle.move_energy.specs.Choices.{choice_at, value_of, open_count, IsNumbering};
 ghost use Rattle.stages.specs.Looking.{marked, AreTaking, IsClosedIn};
 ghost use Rattle.stages.specs.Working.{AreShown, IsWider, IsSeen, AreSeenAround};
 
 use crate::Stage;
 use crate::stage::{mark, other_end, unmark_all};
-use by_site::{ends_at, pair_at};
 use grouping::Groups;
 use label_field::Pairs;
-use move_energy::Choice;
+use move_energy::{Choice, ends_at, pair_at};
 use std::alloc::AllocError;
 
 /// What the cut of a stage showed of a site, or what was known: whether it counts as 1.

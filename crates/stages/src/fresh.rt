@@ -1,15 +1,15 @@
 //! Marking the fresh sites.
 ghost use Rattle.std.specs.Prelude.{◌≡◌, ◌≢◌, ◌⊎◌, ℕ, ◌<◌, ◌≤◌, true, false, length, slice_index, OnOk};
-ghost use Rattle.by_site.specs.BySite.{AreBySite, degree, pair_of};
+ghost use Rattle.move_energy.specs.BySite.{AreBySite, degree, pair_of};
 ghost use Rattle.labellings.specs.Energies.{labelling};
 ghost use Rattle.stages.specs.Looking.{marked, changed_since, AreBeside, AreFreshSites};
 ghost use Rattle.stages.specs.Working.{AreMarks, StaysMarked, IsMarkedAround};
 
 use crate::Stage;
 use crate::stage::{mark, other_end, unmark_all};
-use by_site::{ends_at, pair_at};
 use grouping::Groups;
 use label_field::Pairs;
+use move_energy::{ends_at, pair_at};
 use std::alloc::AllocError;
 
 impl Stage {

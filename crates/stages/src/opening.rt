@@ -2,7 +2,7 @@
 ghost use Rattle.std.specs.Prelude.{◌≡◌, ◌==◌, ◌↔◌, ◌++◌, ◌∷◌, [], cond, not, ℕ, ◌+◌, ◌<◌, ◌≤◌, true, false, length, OnOk};
 ghost use Rattle.std.specs.List.{All};
 ghost use Rattle.label_field.specs.Limits.{site_limit};
-ghost use Rattle.by_site.specs.BySite.{AreBySite, IsListing};
+ghost use Rattle.move_energy.specs.BySite.{AreBySite, IsListing};
 ghost use Rattle.labellings.specs.Energies.{labelling};
 ghost use Rattle.move_energy.specs.declared.choice.Choice.TheVariants.{Zero};
 ghost use Rattle.move_energy.specs.Choices.{choice_at, choice_of, is_open, open_at, value_of, open_count, AreOpenSites, AreSettled};
@@ -11,10 +11,9 @@ ghost use Rattle.stages.specs.Working.{KeepsZeros};
 
 use crate::Stage;
 use crate::stage::other_end;
-use by_site::{ends_at, pair_at};
 use grouping::Groups;
 use label_field::Pairs;
-use move_energy::Choice;
+use move_energy::{Choice, ends_at, pair_at};
 use std::alloc::AllocError;
 
 /// So many rings of sites are opened around those that a stage has to look at.

@@ -1,6 +1,6 @@
 use Rattle.std.proofs.Common.{◌≡◌, ◌<◌, ◌≤◌, ◌+◌, ◌-◌, ◌/◌, ◌∙◌, pos, ◌-ℤ◌, w64, to_z, true, false, ap, sym, arith}
 use Rattle.grouping.specs.Grouping.{start_of}
-use Rattle.by_site.specs.BySite.{degree, pair_in}
+use Rattle.move_energy.specs.BySite.{degree, pair_in}
 use Rattle.labellings.specs.Energies.{labelling}
 use Rattle.labellings.specs.Moves.{label_in}
 use Rattle.deciding.specs.Working.{valued}

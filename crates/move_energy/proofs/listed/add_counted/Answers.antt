@@ -1,6 +1,6 @@
 use Rattle.std.proofs.Common.{◌≡◌, ◌∙◌, sym, true, false}
 use Rattle.labellings.specs.Energies.{labelling, pair_cost}
-use Rattle.by_site.specs.BySite.{is_counted}
+use Rattle.move_energy.specs.BySite.{is_counted}
 use Rattle.move_energy.specs.Choices.{choice_at, open_at, rank, made_by}
 use Rattle.move_energy.proofs.Adding.{counted_longer, uncounted_longer, counted_adds, uncounted_adds, fit_adds}
 use Rattle.move_energy.proofs.listed.add_counted.Goals as goal

@@ -1,5 +1,5 @@
 use Rattle.std.proofs.Common.{◌≤◌, ◌∙◌, ℕ, Bool, sum_by, length, refl, arith}
-use Rattle.by_site.specs.BySite.{met_at}
+use Rattle.move_energy.specs.BySite.{met_at}
 use Rattle.labellings.specs.Energies.{labelling, pair_cost}
 use Rattle.move_energy.specs.Choices.{choice_at, open_at, rank, made_by}
 use Rattle.move_energy.proofs.Steps.{longer_none}

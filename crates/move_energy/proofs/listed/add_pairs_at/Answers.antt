@@ -1,8 +1,8 @@
 use Rattle.std.proofs.Common.{◌<◌, ◌∙◌, ℕ, Bool, sym, subst, refl, arith}
 use Rattle.label_field.specs.declared.pair.Pair.{Pair}
 use Rattle.label_field.specs.PairLists.{IsPair}
-use Rattle.by_site.specs.BySite.{degree, met_below}
-use Rattle.by_site.proofs.Parts.{pair_has}
+use Rattle.move_energy.specs.BySite.{degree, met_below}
+use Rattle.move_energy.proofs.Parts.{pair_has}
 use Rattle.labellings.specs.Energies.{labelling, pair_cost}
 use Rattle.move_energy.specs.Built.{AddsCost, IsLonger}
 use Rattle.move_energy.specs.Choices.{choice_at, open_at, rank, made_by}

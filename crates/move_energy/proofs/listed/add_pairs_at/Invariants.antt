@@ -1,6 +1,6 @@
 use Rattle.std.proofs.Common.{All}
 use Rattle.cost_store.specs.Posed.{IsMeant}
-use Rattle.by_site.specs.BySite.{met_below}
+use Rattle.move_energy.specs.BySite.{met_below}
 use Rattle.labellings.specs.Energies.{Instance, labelling, pair_cost}
 use Rattle.move_energy.specs.Choices.{choice_at, open_at, rank, made_by}
 use Rattle.move_energy.specs.Built.{AddsCost, IsLonger}

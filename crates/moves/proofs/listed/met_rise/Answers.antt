@@ -1,7 +1,7 @@
 use Rattle.std.proofs.Common.{◌≡◌, ◌≤◌, ◌+◌, ◌∙◌, pos, ◌-ℤ◌, ap, arith, w64, to_z}
 use Rattle.sums.specs.Sums.{counted}
 use Rattle.sums.proofs.SumLemmas.{counted-le}
-use Rattle.by_site.specs.BySite.{is_counted, met_below}
+use Rattle.move_energy.specs.BySite.{is_counted, met_below}
 use Rattle.labellings.specs.Energies.{labelling, pair_cost}
 use Rattle.labellings.specs.Moves.{made}
 use Rattle.moves.specs.Building.{site_values, moves_site}

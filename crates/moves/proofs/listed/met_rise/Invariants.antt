@@ -1,5 +1,5 @@
 use Rattle.std.proofs.Common.{◌≡◌, ◌≤◌, ◌*◌, pos, ◌-ℤ◌, unsigned_abs}
-use Rattle.by_site.specs.BySite.{met_below}
+use Rattle.move_energy.specs.BySite.{met_below}
 use Rattle.cost_store.specs.Posed.{IsMeant}
 use Rattle.labellings.specs.Energies.{Instance, labelling, pair_cost}
 use Rattle.labellings.specs.Moves.{made}

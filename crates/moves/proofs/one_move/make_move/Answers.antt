@@ -7,7 +7,7 @@ use Rattle.compile_cut.specs.declared.quadratic.Quadratic.{Quadratic}
 use Rattle.compile_cut.specs.Form.{quadratic_value, IsBounded}
 use Rattle.deciding.specs.Decisions.{IsSmallestLeast}
 use Rattle.moves.proofs.Answers.{cut_refusal, cut_may_come, pair_may_come, pair_refusal, taken_free, costs_costly}
-use Rattle.by_site.specs.BySite.{AreBySite}
+use Rattle.move_energy.specs.BySite.{AreBySite}
 use Rattle.deciding.specs.declared.sites.Deciding.{Deciding}
 use Rattle.cost_store.proofs.Meaning.{pairs_meant}
 use Rattle.moves.proofs.Least.{settled_least}

@@ -1,4 +1,4 @@
-use Rattle.by_site.specs.BySite.{IsListing}
+use Rattle.move_energy.specs.BySite.{IsListing}
 use Rattle.move_energy.specs.Choices.{open_at}
 use Rattle.stages.proofs.opening.list_block.Given as goal
 

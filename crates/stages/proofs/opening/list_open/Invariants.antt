@@ -1,5 +1,5 @@
 use Rattle.std.proofs.Common.{◌-◌, ◌≤◌, length}
-use Rattle.by_site.specs.BySite.{IsListing}
+use Rattle.move_energy.specs.BySite.{IsListing}
 use Rattle.move_energy.specs.Choices.{open_at}
 use Rattle.stages.proofs.opening.list_open.Given as goal
 

@@ -1,6 +1,6 @@
 use Rattle.std.proofs.Common.{◌<◌, ◌≤◌, ◌+◌, ◌-◌, ◌*◌, ◌/◌, ◌∙◌, ℕ, true, false, ap, sym, subst, refl, length, arith}
 use Rattle.grouping.specs.Grouping.{start_of}
-use Rattle.by_site.specs.BySite.{degree}
+use Rattle.move_energy.specs.BySite.{degree}
 use Rattle.labellings.specs.Energies.{labelling}
 use Rattle.move_energy.specs.Choices.{choice_at}
 use Rattle.deciding.specs.Working.{AreWaiting, SeesPair}

@@ -1,6 +1,6 @@
 use Rattle.std.proofs.Common.{length}
 use Rattle.std.proofs.lemmas.Result.{on_ok_weaker}
-use Rattle.by_site.specs.BySite.{degree}
+use Rattle.move_energy.specs.BySite.{degree}
 use Rattle.deciding.specs.Working.{left}
 use Rattle.deciding.proofs.Places.{on_ok_two, room_grows}
 use Rattle.deciding.proofs.bounds.Bounds.settle.Goals as goal

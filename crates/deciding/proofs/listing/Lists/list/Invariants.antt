@@ -1,6 +1,6 @@
 use Rattle.std.proofs.Common.{◌≡◌}
 use Rattle.labellings.specs.Energies.{labelling}
-use Rattle.by_site.specs.BySite.{IsListing}
+use Rattle.move_energy.specs.BySite.{IsListing}
 use Rattle.move_energy.specs.Choices.{open_at}
 use Rattle.deciding.specs.Listed.{changes}
 use Rattle.deciding.proofs.listing.Lists.list.Given as goal

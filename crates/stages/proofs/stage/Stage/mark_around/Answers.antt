@@ -1,6 +1,6 @@
 use Rattle.std.proofs.Common.{◌≡◌, ◌≢◌, ◌⊎◌, true, inr, subst, below_more, arith}
 use Rattle.label_field.specs.declared.pair.Pair.{Pair}
-use Rattle.by_site.specs.BySite.{pair_of}
+use Rattle.move_energy.specs.BySite.{pair_of}
 use Rattle.labellings.specs.Energies.{labelling}
 use Rattle.stages.specs.Looking.{marked, AreBeside}
 use Rattle.stages.specs.Working.{IsMarkedAcross}

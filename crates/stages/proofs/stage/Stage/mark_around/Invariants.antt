@@ -1,5 +1,5 @@
 use Rattle.std.proofs.Common.{◌≡◌, ◌≢◌, ◌⊎◌, ℕ, ◌<◌, true, length}
-use Rattle.by_site.specs.BySite.{pair_of}
+use Rattle.move_energy.specs.BySite.{pair_of}
 use Rattle.labellings.specs.Energies.{labelling}
 use Rattle.stages.specs.Looking.{marked, AreBeside}
 use Rattle.stages.specs.Working.{AreMarks, StaysMarked, IsMarkedAcross}

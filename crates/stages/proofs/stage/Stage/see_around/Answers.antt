@@ -1,6 +1,6 @@
 use Rattle.std.proofs.Common.{◌∙◌, subst, below_more}
 use Rattle.label_field.specs.declared.pair.Pair.{Pair}
-use Rattle.by_site.specs.BySite.{pair_of}
+use Rattle.move_energy.specs.BySite.{pair_of}
 use Rattle.stages.specs.Working.{IsSeen, IsSeenAcross}
 use Rattle.stages.proofs.Around.{at_other}
 use Rattle.stages.proofs.Seen.{wider_then, across_wider}

@@ -1,5 +1,5 @@
 use Rattle.std.proofs.Common.{◌≡◌, ℕ, ◌<◌}
-use Rattle.by_site.specs.BySite.{pair_of}
+use Rattle.move_energy.specs.BySite.{pair_of}
 use Rattle.stages.specs.Working.{AreShown, IsWider, IsSeenAcross}
 use Rattle.stages.proofs.stage.Stage.see_around.Given as goal
 

@@ -1,0 +1,155 @@
+//! What labels cost by themselves, added to the form of an expansion.
+ghost use Rattle.std.specs.Prelude.{◌≡◌, ◌≢◌, ◌+◌, ◌<◌, ◌≤◌, ℕ, Bool, pos, All, length, vec_len, OnOk};
+ghost use Rattle.sums.specs.Sums.{counted};
+ghost use Rattle.label_field.specs.Limits.{site_limit, pair_limit, label_limit};
+ghost use Rattle.labellings.specs.declared.change.Move.TheVariants.{Expand};
+ghost use Rattle.labellings.specs.Energies.{labelling, is_used};
+ghost use Rattle.pseudo_bool.specs.Limits.{term_limit};
+ghost use Rattle.compile_cut.specs.Limits.{form_nodes};
+ghost use Rattle.compile_cut.specs.Form.{IsBounded};
+ghost use Rattle.cost_store.specs.Promises.{IsCost};
+ghost use Rattle.move_energy.specs.Choices.{open_count, AreAllOpen, IsNumbering};
+ghost use Rattle.cost_store.specs.Limits.{label_cost_limit};
+ghost use Rattle.move_energy.specs.Limits.{label_terms};
+ghost use Rattle.move_energy.specs.LabelCosts.{uses, costs_below, AddsHidden, IsWider};
+
+use crate::Variables;
+use crate::nodes::{list_each, list_having};
+use compile_cut::Quadratic;
+use cost_store::mark_used;
+use std::alloc::{AllocError, Global};
+
+/// Adds what the label of the expansion costs by itself: it is paid if any site takes it, where none has it before.
+fn add_own(
+    form: &mut Quadratic,
+    nodes: &mut Vec<u32>,
+    variables: &Variables,
+    at: &[u8],
+    alpha: u32,
+    used: bool,
+    cost: u64,
+) -> Result<(), AllocError>
+    requires used { used ≡ is_used (length at.now) (labelling at.now) alpha }
+    requires opened { AreAllOpen (Expand alpha) at.now variables.now.choices.items }
+    requires numbering { IsNumbering variables.now.choices.items variables.now.of_sites.items }
+    requires few { length at.now ≤ site_limit }
+    requires cost { cost ≤ label_cost_limit }
+    requires nodes { open_count variables.now.choices.items ≤ vec_len form.old.weights }
+    requires room { vec_len form.old.weights < form_nodes }
+    requires bounded { IsBounded term_limit form.old }
+    ensures wider { OnOk result (IsWider 1 label_terms form.old form.new) }
+    ensures adds { OnOk result (AddsHidden form.old form.new
+        (λ x. counted (uses alpha at.now variables.now.choices.items alpha x) cost)) }
+{
+    if used {
+        return Ok(());
+    }
+    list_each(nodes, variables)?;
+    form.add_if_any(nodes, cost)
+}
+
+/// Adds what another label costs by itself: it is paid unless all its sites take the label of the expansion, and never
+/// where it has none.
+fn add_other(
+    form: &mut Quadratic,
+    nodes: &mut Vec<u32>,
+    variables: &Variables,
+    at: &[u8],
+    alpha: u32,
+    label: u32,
+    used: bool,
+    cost: u64,
+) -> Result<(), AllocError>
+    requires other { label ≢ alpha }
+    requires used { used ≡ is_used (length at.now) (labelling at.now) label }
+    requires opened { AreAllOpen (Expand alpha) at.now variables.now.choices.items }
+    requires numbering { IsNumbering variables.now.choices.items variables.now.of_sites.items }
+    requires few { length at.now ≤ site_limit }
+    requires cost { cost ≤ label_cost_limit }
+    requires nodes { open_count variables.now.choices.items ≤ vec_len form.old.weights }
+    requires room { vec_len form.old.weights < form_nodes }
+    requires bounded { IsBounded term_limit form.old }
+    ensures wider { OnOk result (IsWider 1 label_terms form.old form.new) }
+    ensures adds { OnOk result (AddsHidden form.old form.new
+        (λ x. counted (uses alpha at.now variables.now.choices.items label x) cost)) }
+{
+    if !used {
+        return Ok(());
+    }
+    list_having(nodes, variables, at, label)?;
+    form.add_unless_all(nodes, cost)
+}
+
+/// Adds what a label costs by itself.
+fn add_label(
+    form: &mut Quadratic,
+    nodes: &mut Vec<u32>,
+    variables: &Variables,
+    at: &[u8],
+    alpha: u32,
+    label: u32,
+    used: bool,
+    cost: u64,
+) -> Result<(), AllocError>
+    requires used { used ≡ is_used (length at.now) (labelling at.now) label }
+    requires opened { AreAllOpen (Expand alpha) at.now variables.now.choices.items }
+    requires numbering { IsNumbering variables.now.choices.items variables.now.of_sites.items }
+    requires few { length at.now ≤ site_limit }
+    requires cost { cost ≤ label_cost_limit }
+    requires nodes { open_count variables.now.choices.items ≤ vec_len form.old.weights }
+    requires room { vec_len form.old.weights < form_nodes }
+    requires bounded { IsBounded term_limit form.old }
+    ensures wider { OnOk result (IsWider 1 label_terms form.old form.new) }
+    ensures adds { OnOk result (AddsHidden form.old form.new
+        (λ x. counted (uses alpha at.now variables.now.choices.items label x) cost)) }
+{
+    if cost == 0 {
+        return Ok(());
+    }
+    if label == alpha {
+        return add_own(form, nodes, variables, at, alpha, used, cost);
+    }
+    add_other(form, nodes, variables, at, alpha, label, used, cost)
+}
+
+/// Adds what the labels cost by themselves to the form of an expansion of which nothing is decided, by a hidden node for
+/// each label that costs something and has a site that may leave it, and for that of the expansion where no site has it: of
+/// the sets that are the same on the other nodes, the least value is, but for a fixed number, the old one and what the
+/// labels of the labelling cost. Refuses only where memory runs out.
+pub fn add_label_costs(
+    alloc: Global,
+    form: &mut Quadratic,
+    variables: &Variables,
+    at: &[u8],
+    alpha: u32,
+    costs: &[i64],
+) -> Result<(), AllocError>
+    requires opened { AreAllOpen (Expand alpha) at.now variables.now.choices.items }
+    requires numbering { IsNumbering variables.now.choices.items variables.now.of_sites.items }
+    requires few { (length at.now ≤ site_limit) × (length costs.now ≤ label_limit) }
+    requires costs { All (IsCost (pos label_cost_limit)) costs.now }
+    requires nodes { vec_len form.old.weights ≡ open_count variables.now.choices.items }
+    requires bounded { IsBounded (site_limit + pair_limit) form.old }
+    ensures nodes { OnOk result (vec_len form.new.weights ≤ vec_len form.old.weights + label_limit) }
+    ensures bounded { OnOk result (IsBounded term_limit form.new) }
+    ensures adds { OnOk result (AddsHidden form.old form.new
+        (costs_below (length costs.now) alpha at.now variables.now.choices.items costs.now)) }
+{
+    let marks = mark_used(at);
+    let mut nodes = Vec::new(alloc);
+    for label in 0..costs.len() {
+        let cost = costs[label].unsigned_abs();
+        let used = marks[label];
+        add_label(
+            form,
+            &mut nodes,
+            variables,
+            at,
+            alpha,
+            label as u32,
+            used,
+            cost,
+        )?;
+    }
+    Ok(())
+}
