@@ -37,6 +37,8 @@ from random_moves import Problem, best as best_of_all, choices, is_regular, padd
 
 SIDE = 64
 LABELS = 4
+# What two neighbours cost whose labels differ.
+UNLIKE = 2
 
 
 def sample(x, y):
@@ -63,7 +65,7 @@ def data_cost(site, label):
 
 
 def smooth_cost(first, second):
-    return 2 if first != second else 0
+    return UNLIKE if first != second else 0
 
 
 def rise(labels, alpha, values, site, undecided):

@@ -18,7 +18,7 @@ use std::test::Fail;
 const FIRST_CYCLE: &[(usize, usize)] = &[(0, 0), (863, 3225), (855, 2191), (145, 1039)];
 
 /// A board of fields of 16 by 16 pixels, some of which have another sample.
-fn sample(site: u32) -> u32
+pub fn sample(site: u32) -> u32
     requires { site < 4096 }
     ensures { result < 4 }
 {

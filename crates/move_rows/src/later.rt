@@ -1,0 +1,158 @@
+//! How many cuts a run of expansions has whose later expansions look near the changes alone, and how many sites these
+//! have, on the picture of `opened`. The labels are those of a run whose moves are all made whole.
+ghost use Rattle.std.specs.Prelude.{◌≡◌, ◌<◌, ◌≤◌, ◌+◌, ◌*◌, ◌≤ℤ◌, pos, length, IfOk, All};
+ghost use Rattle.cost_store.specs.Limits.{smooth_limit};
+ghost use Rattle.cost_store.specs.Promises.{IsCost, entry_at};
+ghost use Rattle.moves.specs.declared.error.SolveError.TheVariants.{OutOfMemory};
+
+use crate::opened::sample;
+use crate::random::CutAlone;
+use cost_store::{DataCost, Problem, SMOOTH_LIMIT, SmoothCost, check_table, is_metric};
+use flow_network::Net;
+use label_field::{Labelling, Pairs};
+use moves::{Alone, How, SolveError, run_expansion};
+use std::alloc::{AllocError, Global};
+use std::process::Abort;
+use std::sync::atomic::{AtomicUsize, Ordering};
+use std::test::Fail;
+
+/// What two unlike labels cost, how many cycles are allowed, how many cuts there are, and how many sites these have
+/// together. Made by tools/stage_sites.py, which finds by itself where a later expansion looks.
+const RUNS: &[(i64, u32, usize, usize)] = &[
+    (2, 1, 4, 1863),
+    (2, 2, 8, 2193),
+    (2, 3, 12, 3597),
+    (2, 4, 13, 3640),
+    (5, 1, 4, 11552),
+    (5, 2, 12, 20909),
+    (5, 3, 28, 24113),
+    (5, 4, 28, 24113),
+];
+
+/// As `Alone`, but it counts the nets that it is given, and their nodes.
+#[derive(Drop)]
+struct Counting {
+    cuts: AtomicUsize,
+    nodes: AtomicUsize,
+}
+
+impl How for Counting {
+    ghost ready = { λ _. Unit {0} };
+
+    ghost refuses = { λ _ e. e ≡ OutOfMemory };
+
+    fn solve(&self, alloc: Global, net: Net) -> Result<Vec<bool>, SolveError> {
+        self.cuts.fetch_add(1, Ordering::SeqCst);
+        self.nodes.fetch_add(net.nodes(), Ordering::SeqCst);
+        Alone.solve(alloc, net)
+    }
+}
+
+/// The table of what each two of four labels cost.
+fn smooth_of(rt: &impl Abort, alloc: Global, unlike: i64) -> Result<Vec<i64>, AllocError>
+    ensures size { IfOk result (λ table. length table.items ≡ 16) }
+    ensures costs { IfOk result (λ table. All (IsCost smooth_limit) table.items) }
+{
+    let mut table = Vec::new(alloc);
+    for first in 0..4u32 {
+        for second in 0..4u32 {
+            table.push(if first == second { 0 } else { unlike })?;
+        }
+    }
+    let is_table = check_table(table.as_slice(), SMOOTH_LIMIT).is_ok();
+    assert!(*rt; is_table && table.len() == 16);
+    Ok(table)
+}
+
+/// Runs expansions of the picture. It answers whether it was not refused.
+fn expands<H: How>(
+    alloc: Global,
+    pairs: Pairs,
+    labelling: &mut Labelling,
+    smooth: &[i64],
+    cycles: u32,
+    how: &H,
+) -> bool
+    requires ready { H.ready how.now }
+    requires pairs { pairs.sites ≡ 4096 }
+    requires sites { (length labelling.old.at ≡ 4096) × (labelling.old.labels ≡ 4) }
+    requires smooth { (length smooth.now ≡ 16) × All (IsCost smooth_limit) smooth.now }
+{
+    pairs.keeps();
+    let problem = Problem {
+        pairs,
+        data_cost: DataCost::new(
+            |site: u32, label: u32| -> i64
+                requires { (site < 4096) × (label < 4) }
+                ensures { (pos 0 ≤ℤ result) × (result ≤ℤ pos 15) }
+            { i64::from(5 * sample(site).abs_diff(label)) },
+            4096,
+            4,
+        ),
+        smooth_cost: SmoothCost::stored(
+            |first: u32, second: u32| -> i64
+                requires { first * 4 + second < length smooth.now }
+                ensures { result ≡ entry_at 4 smooth.entry.now first second }
+            { smooth[first as usize * 4 + second as usize] },
+            4,
+            is_metric(smooth, 4),
+        ),
+        label_costs: None,
+    };
+    run_expansion(alloc, &problem, labelling, cycles, how).is_ok()
+}
+
+/// The labels where a run of expansions of the picture ends that starts from label 0 everywhere; none where it is refused.
+fn labels_after<H: How>(
+    rt: &impl Abort,
+    alloc: Global,
+    unlike: i64,
+    cycles: u32,
+    how: &H,
+) -> Result<Option<Vec<u8>>, Fail>
+    requires { H.ready how.now }
+{
+    let pairs = Pairs::grid4(alloc, 64, 64, 1)?;
+    let mut labelling = Labelling::new(alloc, 4096, 4)?;
+    let smooth = smooth_of(rt, alloc, unlike)?;
+    assert!(*rt; pairs.sites() == 4096);
+    assert!(*rt; labelling.sites() == 4096);
+    assert!(*rt; labelling.labels() == 4);
+    if !expands(alloc, pairs, &mut labelling, smooth.as_slice(), cycles, how) {
+        return Ok(None);
+    }
+    Ok(Some(Vec::from_slice(alloc, labelling.as_slice())?))
+}
+
+/// How many cuts a run has, and how many sites these have. It ends with the labels of a run whose moves are made whole.
+fn counted(
+    rt: &impl Abort,
+    alloc: Global,
+    unlike: i64,
+    cycles: u32,
+) -> Result<(usize, usize), Fail> {
+    let counting = Counting {
+        cuts: AtomicUsize::new(0),
+        nodes: AtomicUsize::new(0),
+    };
+    let near = labels_after(rt, alloc, unlike, cycles, &counting)?;
+    let whole = labels_after(rt, alloc, unlike, cycles, &CutAlone)?;
+    assert!(*rt; near.is_some() && near == whole);
+    Ok((
+        counting.cuts.load(Ordering::SeqCst),
+        counting.nodes.load(Ordering::SeqCst),
+    ))
+}
+
+#[test]
+fn later_expansions_open_few_sites(rt: HostRuntime) -> Result<(), Fail> {
+    for (unlike, cycles, cuts, sites) in RUNS {
+        let told = counted(&rt, rt.alloc(), *unlike, *cycles)?;
+        let (told_cuts, told_sites) = told;
+        assert!(rt;
+            told == (*cuts, *sites),
+            "unlike {unlike}, cycles {cycles}: {told_cuts} cuts of {told_sites} in place of {cuts} of {sites}"
+        );
+    }
+    Ok(())
+}
