@@ -55,7 +55,7 @@ int pthread_create(pthread_t *thread, const pthread_attr_t *how, Work work, void
 '''
 
 ROW = b'P5\n3 1\n3\n\0\3\0'
-LONE = b'P5\n1 1\n255\n\7'
+LONE = b'P5\n1 1\n3\n\2'
 PAIR = b'P5\n4 1\n9\n\0\t\0\0P5\n4 1\n9\n\t\0\0\0'
 SEEDED = b'P5\n3 1\n255\n\n\x0c\xc8P5\n3 1\n2\n\1\0\2'
 # In these two not all sites are decided before a cut, so that workers have one to make.
