@@ -1,6 +1,8 @@
 -- Bounds that are written, their range, and the sites that wait.
 use Rattle.std.proofs.Common.{◌≡◌, ◌≢◌, ℕ, ◌+◌, ◌*◌, ◌<◌, ◌≤◌, Bool, List, [], ◌∷◌, ◌++◌, length, get_or, All, Contains, ℤ, pos, ◌+ℤ◌, ◌≤ℤ◌, ◌<ℤ◌, unsigned_abs, refl, sym, ap, ◌∙◌, inl, inr, subst, arith}
 use Rattle.std.specs.Prelude.{slice_set}
+use Rattle.std.specs.List.{sum_by}
+use Rattle.std.proofs.lemmas.List.Sums.{sum_by-set, sum_by_push}
 use Rattle.std.proofs.lemmas.Bool.{cases_eq, cases_lt}
 use Rattle.std.proofs.lemmas.List.{get_or-set_same, get_or-set_other, get_or_push, get_or_append_left, length-append}
 use Rattle.std.proofs.Math.ListN.{get_or-eq_default}
@@ -8,7 +10,7 @@ use Rattle.sums.proofs.IntegerSumLemmas.{abs-add}
 use Rattle.move_energy.specs.declared.choice.Choice.TheVariants.{Open}
 use Rattle.move_energy.specs.Choices.{choice_at}
 use Rattle.deciding.specs.declared.bounds.Bounds.{Bounds}
-use Rattle.deciding.specs.Working.{bound_at, CanDecide, IsSummed, IsWithinRange, AddsBounds, AreWaiting, AreWaitingBut, Shifts, least_shift, greatest_shift, CallsUp, IsMarked, IsLooking}
+use Rattle.deciding.specs.Working.{bound_at, CanDecide, IsSummed, IsWithinRange, AddsBounds, AreWaiting, AreWaitingBut, Shifts, least_shift, greatest_shift, CallsUp, IsMarked, IsLooking, greatest_total}
 
 -- ---- written bounds
 
@@ -50,6 +52,15 @@ raised_range site a b k old new l j small_a small_b least greatest most within u
     abs_same _ _ most k (other_bound old.greatest.items new.greatest.items site u _ greatest other) ((within u).1),
   )
 ]
+
+-- nor do all greatest ones together
+pub raised_total : (site k : ℕ) (b : ℤ) (old new : Bounds) → site < length old.greatest.items → unsigned_abs b ≤ k
+    → new.greatest.items ≡ slice_set old.greatest.items site (bound_at old.greatest.items site +ℤ b) → greatest_total new ≤ greatest_total old + k
+raised_total site k b old new l small greatest =
+    let e = ap (λ (xs : List ℤ). sum_by unsigned_abs xs) greatest in
+    let set = sum_by-set unsigned_abs old.greatest.items site (bound_at old.greatest.items site +ℤ b) (pos 0) l in
+    let a = abs-add (bound_at old.greatest.items site) b in
+    omega (arith, e, set, a, small)
 
 -- ---- bounds that are added
 
@@ -93,10 +104,22 @@ added_of k low high old new count same adds = record {
   waiting = adds.waiting;
 }
 
+-- all greatest ones together, with one more
+pub added_total : (k most : ℕ) (least greatest : ℤ) (old new : Bounds) → AreAdded k least greatest old new → unsigned_abs greatest ≤ most → greatest_total new ≤ greatest_total old + most
+added_total k most least greatest old new added small =
+    let e = ap (λ (xs : List ℤ). sum_by unsigned_abs xs) added.greatest in
+    omega (arith, e, sum_by_push unsigned_abs old.greatest.items greatest, small)
+
+pub total_same : (a b : Bounds) → b.greatest ≡ a.greatest → greatest_total b ≡ greatest_total a
+total_same a b gs = ap (λ (v : _). sum_by unsigned_abs v.items) gs
+
 -- there are none
 pub empty_list : {A : Type 0} (xs : List A) → length xs ≡ 0 → xs ≡ []
 empty_list [] none = refl
 empty_list (x ∷ xs) none = absurd (omega (arith, none))
+
+pub total_none : (b : Bounds) → length b.greatest.items ≡ 0 → greatest_total b ≡ 0
+total_none b none = ap (λ (xs : List ℤ). sum_by unsigned_abs xs) (empty_list b.greatest.items none)
 
 pub empty_range : (most : ℕ) (b : Bounds) → length b.least.items ≡ 0 → length b.greatest.items ≡ 0 → IsWithinRange most b
 empty_range most b least greatest u =
@@ -252,14 +275,15 @@ summed_same n a b cs ls gs was =
     }
 
 pub looking_of : (old mid new : Bounds) → mid.choices ≡ old.choices → length mid.least.items ≡ length old.least.items → length mid.greatest.items ≡ length old.greatest.items
-    → ((most : ℕ) → IsWithinRange most old → IsWithinRange (most + 20000000) mid) → new.choices ≡ mid.choices → new.least ≡ mid.least → new.greatest ≡ mid.greatest
+    → ((most : ℕ) → IsWithinRange most old → IsWithinRange (most + 20000000) mid) → greatest_total mid ≤ greatest_total old + 20000000 → new.choices ≡ mid.choices → new.least ≡ mid.least → new.greatest ≡ mid.greatest
     → length new.waiting.items ≤ length old.waiting.items + 1 → IsLooking 1 old new
-looking_of old mid new mc ml mg range nc nl ng few = record {
+looking_of old mid new mc ml mg range total nc nl ng few = record {
   choices = nc ∙ mc;
   least_len = ap (λ (v : _). length v.items) nl ∙ ml;
   greatest_len = ap (λ (v : _). length v.items) ng ∙ mg;
   waiting = few;
   range = λ most within. range_wider (most + 20000000) (most + 20000000 * 1) new (omega arith) (range_same mid new (most + 20000000) nl ng (range most within));
+  total = omega (arith, total, total_same mid new ng);
 }
 
 pub looking_none : (b : Bounds) → IsLooking 1 b b
@@ -269,6 +293,7 @@ looking_none b = record {
   greatest_len = refl;
   waiting = omega arith;
   range = λ most within. range_wider most (most + 20000000 * 1) b (omega arith) within;
+  total = omega arith;
 }
 
 pub shifts_same : (site : ℕ) (value : Bool) (surplus : ℤ) (old mid new : Bounds) → new.least ≡ mid.least → new.greatest ≡ mid.greatest → Shifts site value surplus old mid

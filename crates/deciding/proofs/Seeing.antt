@@ -11,8 +11,9 @@ use Rattle.move_energy.specs.declared.choice.Choice.TheVariants.{Open}
 use Rattle.move_energy.specs.Choices.{choice_at}
 use Rattle.deciding.specs.declared.bounds.Bounds.{Bounds}
 use Rattle.deciding.specs.Decisions.{set_bit}
-use Rattle.deciding.specs.MoveValues.{pair_rise, term_of}
-use Rattle.deciding.specs.Working.{bound_at, AreEnds, surplus_of, Shifts, SeesPair, least_shift, greatest_shift}
+use Rattle.deciding.specs.MoveValues.{pair_rise}
+use Rattle.move_energy.specs.Weights.{surplus_of, term_of}
+use Rattle.deciding.specs.Working.{bound_at, AreEnds, Shifts, SeesPair, least_shift, greatest_shift}
 use Rattle.deciding.proofs.Putting.{set_at}
 use Rattle.deciding.proofs.Rises.{pair_rise-first, pair_rise-second, pair_rise-none}
 

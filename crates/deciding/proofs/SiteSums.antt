@@ -20,10 +20,10 @@ use Rattle.deciding.proofs.Rises.{rise_parts, pair_rise-first, pair_rise-second,
 
 -- ---- one pair
 
-test_true : (a b : ℕ) → a ≡ b → (a == b) ≡ true
+pub test_true : (a b : ℕ) → a ≡ b → (a == b) ≡ true
 test_true a b h = grind (arith, nat_tests, h)
 
-test_false : (a b : ℕ) → a ≢ b → (a == b) ≡ false
+pub test_false : (a b : ℕ) → a ≢ b → (a == b) ≡ false
 test_false a b h = grind (arith, nat_tests, h)
 
 second_other : (pair : Pair) (site other : ℕ) → AreEnds pair site other → pair.first ≢ pair.second → pair.first ≡ site → pair.second ≡ other

@@ -1,14 +1,18 @@
 -- From the first bounds to the last.
-use Rattle.std.proofs.Common.{◌≡◌, ℕ, ◌+◌, ◌<◌, ◌≤◌, Bool, true, false, List, length, ℤ, pos, ◌≤ℤ◌, ◌<ℤ◌, sym, ap, ◌∙◌, inl, inr, subst, arith}
+use Rattle.std.proofs.Common.{◌≡◌, ℕ, ◌+◌, ◌<◌, ◌≤◌, ◌==◌, Bool, true, false, List, length, ℤ, pos, ◌-ℤ◌, ◌≤ℤ◌, ◌<ℤ◌, sym, ap, ◌∙◌, inl, inr, subst, arith}
 use Rattle.labellings.specs.declared.change.Move.{Move}
 use Rattle.labellings.specs.Energies.{Instance, IsInstance, labelling}
+use Rattle.move_energy.specs.declared.choice.Choice.{Choice}
 use Rattle.move_energy.specs.declared.choice.Choice.TheVariants.{Open}
+use Rattle.move_energy.specs.Weights.{AreWeights}
 use Rattle.std.proofs.lemmas.Bool.{cases_eq}
 use Rattle.move_energy.specs.Choices.{bit_of, choice_at}
-use Rattle.deciding.proofs.Rises.{rise_over}
+use Rattle.deciding.proofs.Putting.{set_at, set_other}
+use Rattle.deciding.proofs.SiteSums.{test_true, test_false}
+use Rattle.deciding.proofs.Rises.{rise_over, move_over}
 use Rattle.deciding.proofs.Ranges.{AreAdded, least_before, least_at}
 use Rattle.deciding.specs.declared.bounds.Bounds.{Bounds}
-use Rattle.deciding.specs.Decisions.{put, rise, Passes}
+use Rattle.deciding.specs.Decisions.{set_bit, put, rise, Passes}
 use Rattle.deciding.specs.MoveValues.{move_value}
 use Rattle.deciding.specs.Working.{bound_at, valued, CanDecide, AreUndecided, ArePartlyDecided}
 use Rattle.deciding.specs.Decided.{AreDecided}
@@ -73,3 +77,32 @@ decided_last m move f n b most none decided = record {
   shown = decided.shown;
   none_left = λ p value l opened passes. none p (omega (arith, l, most)) opened (tells_of m move f n b p value decided (omega (arith, l, most)) opened passes);
 }
+
+-- ---- the weights
+
+ones_set : (choices : List Choice) (x : ℕ → Bool) (u k : ℕ) → choice_at choices u ≡ Open → x k ≡ bit_of (choice_at choices k) false
+    → set_bit x u true k ≡ bit_of (choice_at choices k) (k == u)
+ones_set choices x u k opened is = elim (cases_eq k u) [
+  | inl same ↦
+      let here : bit_of (choice_at choices k) (k == u) ≡ (k == u) = ap (λ (c : Choice). bit_of c (k == u)) (ap (choice_at choices) same ∙ opened) in
+      set_at x u k true same ∙ sym (here ∙ test_true k u same)
+  | inr other ↦ set_other x u k true other ∙ is ∙ sym (ap (bit_of (choice_at choices k)) (test_false k u other))
+]
+
+zeros_set : (choices : List Choice) (x : ℕ → Bool) (u k : ℕ) → choice_at choices u ≡ Open → x k ≡ bit_of (choice_at choices k) false
+    → set_bit x u false k ≡ bit_of (choice_at choices k) false
+zeros_set choices x u k opened is = elim (cases_eq k u) [
+  | inl same ↦ set_at x u k false same ∙ sym (ap (λ (c : Choice). bit_of c false) (ap (choice_at choices) same ∙ opened))
+  | inr other ↦ set_other x u k false other ∙ is
+]
+
+-- the greatest rises of the open sites are their weights
+pub partly_weights : (m : Instance) (move : Move) (f : ℕ → ℕ) (n : ℕ) (b : Bounds) → IsInstance m → m.sites ≤ n → ArePartlyDecided m move f n b
+    → AreWeights m move f (choice_at b.choices.items) b.greatest.items
+partly_weights m move f n b pairs most decided u l opened =
+    let x = put decided.decisions (λ v. false) in
+    let one = move_over m move f pairs (set_bit x u true) (λ k. bit_of (choice_at b.choices.items k) (k == u))
+    (λ k within. ones_set b.choices.items x u k opened (decided.shown (λ v. false) k within)) in
+    let none = move_over m move f pairs (set_bit x u false) (λ k. bit_of (choice_at b.choices.items k) false)
+    (λ k within. zeros_set b.choices.items x u k opened (decided.shown (λ v. false) k within)) in
+    decided.greatest u (omega (arith, l, most)) opened ∙ (λ i. one i -ℤ none i)

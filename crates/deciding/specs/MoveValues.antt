@@ -1,9 +1,9 @@
 -- The energies of the labellings that a move makes, as a function of the sites' values.
-use Rattle.std.specs.Prelude.{ℕ, Bool, true, false, ℤ, pos, ◌-ℤ◌, List, [], ◌∷◌}
+use Rattle.std.specs.Prelude.{ℕ, Bool, true, false, ℤ, pos, ◌-ℤ◌}
 use Rattle.label_field.specs.declared.pair.Pair.{Pair}
 use Rattle.labellings.specs.declared.change.Move.{Move}
 use Rattle.labellings.specs.Energies.{Instance, plain_energy, pair_cost}
-use Rattle.labellings.specs.Moves.{label_in, made, pair_entry}
+use Rattle.labellings.specs.Moves.{label_in, made}
 use Rattle.deciding.specs.Decisions.{set_bit}
 
 -- what the labels that a value for each site makes cost the sites and the pairs
@@ -20,9 +20,3 @@ abbrev pub pair_rise : Instance → Move → (ℕ → ℕ) → ℕ → (ℕ → 
 pair_rise m move f u x pair =
     pos (pair_cost m (made move f (set_bit x u true)) pair)
     -ℤ pos (pair_cost m (made move f (set_bit x u false)) pair)
-
--- what a pair costs at the values 00, 01, 10 and 11 of its ends
-abbrev pub term_of : Instance → Move → (ℕ → ℕ) → Pair → List ℤ
-term_of m move f pair =
-    pos (pair_entry m move f pair false false) ∷ pos (pair_entry m move f pair false true)
-    ∷ pos (pair_entry m move f pair true false) ∷ pos (pair_entry m move f pair true true) ∷ []

@@ -1,6 +1,6 @@
 -- What is kept while sites are decided.
 use Rattle.std.specs.Prelude.{◌≡◌, ◌≢◌, ◌⊎◌, ℕ, ◌+◌, ◌-◌, ◌*◌, ◌<◌, ◌≤◌, Bool, true, false, List, [], ◌∷◌, ◌++◌, length, slice_index_or, unsigned_abs, ℤ, pos, ◌+ℤ◌, ◌-ℤ◌, ◌≤ℤ◌, ◌<ℤ◌, Result, Ok, Err}
-use Rattle.std.specs.List.{All, Contains}
+use Rattle.std.specs.List.{All, Contains, sum_by}
 use Rattle.sums.specs.Sums.{sum_below, counted}
 use Rattle.grouping.specs.declared.Groups.{Groups}
 use Rattle.label_field.specs.declared.pair.Pair.{Pair}
@@ -13,7 +13,8 @@ use Rattle.move_energy.specs.declared.choice.Choice.{Choice}
 use Rattle.move_energy.specs.declared.choice.Choice.TheVariants.{Open}
 use Rattle.move_energy.specs.BySite.{degree}
 use Rattle.move_energy.specs.Choices.{bit_of, choice_at, is_open, AreAllOpen}
-use Rattle.deciding.specs.Limits.{surplus_limit, bound_limit}
+use Rattle.move_energy.specs.Limits.{surplus_limit}
+use Rattle.deciding.specs.Limits.{bound_limit}
 use Rattle.deciding.specs.Decisions.{Decision, set_bit, put, rise, HavePassed}
 use Rattle.deciding.specs.MoveValues.{move_value, pair_rise}
 use Rattle.deciding.specs.declared.bounds.Bounds.{Bounds}
@@ -35,10 +36,6 @@ left ends n choices = sum_below n (λ u. counted (is_open (choice_at choices u))
 -- surplus
 abbrev pub room_of : ℕ → ℕ
 room_of n = bound_limit - surplus_limit * n
-
--- by how much the costs of a pair at 01 and 10 are together above those at 00 and 11
-abbrev pub surplus_of : List ℤ → ℤ
-surplus_of table = (bound_at table 1 +ℤ bound_at table 2) -ℤ (bound_at table 0 +ℤ bound_at table 3)
 
 -- the bounds of a site tell that it has this value
 abbrev pub Tells : Bounds → ℕ → Bool → Type 0
@@ -82,6 +79,10 @@ abbrev pub IsWithinRange : ℕ → Bounds → Type 0
 IsWithinRange most b =
     (u : ℕ) → (unsigned_abs (bound_at b.least.items u) ≤ most)
     × (unsigned_abs (bound_at b.greatest.items u) ≤ most)
+
+-- the greatest rises of all sites together, without their signs
+abbrev pub greatest_total : Bounds → ℕ
+greatest_total b = sum_by unsigned_abs b.greatest.items
 
 -- each open site whose bounds tell its value waits, but perhaps this one; and only sites wait
 pub record AreWaitingBut (n but : ℕ) (b : Bounds) : Type 0 where
@@ -182,10 +183,12 @@ pub record CallsUp (site : ℕ) (old new : Bounds) : Type 0 where
   pub sites : (n : ℕ) → site < n → All (λ u. u < n) old.waiting.items → All (λ u. u < n) new.waiting.items
   pub more : length new.waiting.items ≤ length old.waiting.items + 1
 
--- the choices stay, no bound grows by more than a surplus for each, and at most so many sites more wait
+-- the choices stay, no bound grows by more than a surplus for each, nor all greatest ones together, and at most so
+-- many sites more wait
 pub record IsLooking (more : ℕ) (old new : Bounds) : Type 0 where
   pub choices : new.choices ≡ old.choices
   pub least_len : length new.least.items ≡ length old.least.items
   pub greatest_len : length new.greatest.items ≡ length old.greatest.items
   pub waiting : length new.waiting.items ≤ length old.waiting.items + more
   pub range : (most : ℕ) → IsWithinRange most old → IsWithinRange (most + surplus_limit * more) new
+  pub total : greatest_total new ≤ greatest_total old + surplus_limit * more

@@ -13,7 +13,8 @@ pub struct Bounds {
     pub choices: Vec<Choice>,
     /// One of each site that was summed. What the numbers are once the sites are decided, no clause says.
     pub least: Vec<i64>,
-    pub(crate) greatest: Vec<i64>,
+    /// One of each site that was summed. Once the sites are decided, those of the open ones are their weights in the energy.
+    pub greatest: Vec<i64>,
     pub(crate) waiting: Vec<u32>,
 }
 

@@ -10,17 +10,16 @@ ghost use Rattle.move_energy.specs.declared.choice.Choice.{Choice};
 ghost use Rattle.move_energy.specs.declared.choice.Choice.TheVariants.{Open};
 ghost use Rattle.move_energy.specs.Choices.{choice_at, bit_of};
 ghost use Rattle.cost_store.specs.Limits.{site_cost_limit};
-ghost use Rattle.deciding.specs.Limits.{surplus_limit};
-ghost use Rattle.deciding.specs.Working.{bound_at, summed, CanDecide, Tells, IsMarked, IsSummed, IsWithinRange, AreWaiting, AreWaitingBut, ArePartlyDecided, SeesPair, IsLooking, Shifts, least_shift as least_shift_of, greatest_shift as greatest_shift_of, left, room_of};
+ghost use Rattle.move_energy.specs.Limits.{surplus_limit};
+ghost use Rattle.deciding.specs.Working.{bound_at, summed, CanDecide, Tells, IsMarked, IsSummed, IsWithinRange, AreWaiting, AreWaitingBut, ArePartlyDecided, SeesPair, IsLooking, Shifts, least_shift as least_shift_of, greatest_shift as greatest_shift_of, left, room_of, greatest_total};
 
 use crate::Bounds;
-use crate::costs::{surplus, term};
 use crate::rising::other_end;
 use cost_store::Problem;
 use grouping::Groups;
 use label_field::Pair;
 use labellings::Move;
-use move_energy::Choice;
+use move_energy::{Choice, surplus, term};
 use std::alloc::AllocError;
 
 /// What is known of a variable once it has a value.
@@ -58,6 +57,7 @@ impl Bounds {
         ensures shifts { Shifts site value surplus self.old self.new }
         ensures range { (most : ℕ) → IsWithinRange most self.old →
             IsWithinRange (most + surplus_limit) self.new }
+        ensures total { greatest_total self.new ≤ greatest_total self.old + surplus_limit }
         ensures sized { (length self.new.least.items ≡ length self.old.least.items)
             × (length self.new.greatest.items ≡ length self.old.greatest.items) }
         ensures same { (self.new.choices ≡ self.old.choices) × (self.new.waiting ≡ self.old.waiting) }
@@ -156,6 +156,8 @@ impl Bounds {
         ensures waiting { OnOk result (AreWaiting (summed self.old) self.new) }
         ensures range { OnOk result ((most : ℕ) → IsWithinRange most self.old →
             IsWithinRange (most + surplus_limit * degree ends.now site) self.new) }
+        ensures total { OnOk result (greatest_total self.new ≤
+            greatest_total self.old + surplus_limit * degree ends.now site) }
         ensures more { OnOk result (length self.new.waiting.items ≤
             length self.old.waiting.items + degree ends.now site) }
         ensures left { OnOk result (left ends.now (length at.now) self.new.choices.items
@@ -207,6 +209,9 @@ impl Bounds {
             2 * length problem.now.pairs.list) }
         ensures range { OnOk result (IsWithinRange
             (room_of (left ends.now (length at.now) self.new.choices.items)) self.new) }
+        ensures total { OnOk result (greatest_total self.new
+            + surplus_limit * left ends.now (length at.now) self.new.choices.items ≤ greatest_total self.old
+            + surplus_limit * left ends.now (length at.now) self.old.choices.items) }
         ensures less { OnOk result (length self.new.waiting.items
             + left ends.now (length at.now) self.new.choices.items ≤ length self.old.waiting.items
             + left ends.now (length at.now) self.old.choices.items) }
@@ -247,6 +252,9 @@ impl Bounds {
             2 * length problem.now.pairs.list) }
         ensures range { OnOk result (IsWithinRange
             (room_of (left ends.now (length at.now) self.new.choices.items)) self.new) }
+        ensures total { OnOk result (greatest_total self.new
+            + surplus_limit * left ends.now (length at.now) self.new.choices.items ≤ greatest_total self.old
+            + surplus_limit * left ends.now (length at.now) self.old.choices.items) }
         ensures decided { OnOk result (Meant F.Fn V.Fn problem.now (λ m. ArePartlyDecided m change (labelling
             at.now) (summed self.old) self.old →
             ArePartlyDecided m change (labelling at.now) (summed self.old) self.new)) }

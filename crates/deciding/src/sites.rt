@@ -1,6 +1,10 @@
 //! Deciding the sites of a move.
 ghost use Rattle.std.specs.Prelude.{◌≡◌, ◌<◌, ◌≤◌, ℕ, [], All, length, IfOk, OnOk, OnErr, false};
+ghost use Rattle.compile_cut.specs.Weights.{weights_size};
 ghost use Rattle.move_energy.specs.BySite.{AreBySite};
+ghost use Rattle.move_energy.specs.Choices.{choice_at};
+ghost use Rattle.move_energy.specs.Limits.{weights_limit};
+ghost use Rattle.move_energy.specs.Weights.{AreWeights};
 ghost use Rattle.labellings.specs.Energies.{labelling};
 ghost use Rattle.cost_store.specs.Posed.{IsPosed, IsAsked, Meant};
 ghost use Rattle.deciding.specs.Decided.{IsDecidedMove};
@@ -62,8 +66,9 @@ impl Deciding {
     /// tested, since a metric makes no other term.
     ///
     /// Sites that the move cannot change are `Zero` from the beginning. It looks at the pairs of each other site once, and
-    /// once more where it decides the site (Iyer, Jegelka, Bilmes, ICML 2013). Then `lists` has how many sites are open, and
-    /// lists them where they are few. Where it refuses, nothing is listed, and no more is said of `bounds` and `lists`.
+    /// once more where it decides the site (Iyer, Jegelka, Bilmes, ICML 2013). Then `bounds.greatest` says of each open site by
+    /// how much the energy rises where it turns to 1 while every other open site is at 0; `lists` has how many sites are open,
+    /// and lists them where they are few. Where it refuses, nothing is listed, and no more is said of `bounds` and `lists`.
     pub fn decide<F: Fn(u32, u32) -> i64 + Sync, V: Fn(u32, u32) -> i64 + Sync>(
         &mut self,
         problem: &Problem<F, V>,
@@ -76,6 +81,9 @@ impl Deciding {
         ensures kept { self.new.ends ≡ self.old.ends }
         ensures count { OnOk result (length self.new.bounds.choices.items ≡ length at.now) }
         ensures sized { OnOk result (IsSized (length at.now) self.new.bounds) }
+        ensures weights { Meant F.Fn V.Fn problem.now (λ m. OnOk result (AreWeights m change (labelling at.now)
+            (choice_at self.new.bounds.choices.items) self.new.bounds.greatest.items)) }
+        ensures small { OnOk result (weights_size self.new.bounds.greatest.items ≤ weights_limit) }
         ensures decided { Meant F.Fn V.Fn problem.now (λ m. IsDecidedMove m change at.now
             self.new.bounds.choices.items result) }
         ensures listed { OnOk result (AreListed change (labelling at.now) self.new.bounds.choices.items

@@ -1,12 +1,14 @@
 //! The sites of a move one after another: each is summed, and decided at once where its bounds tell its value.
 ghost use Rattle.std.specs.Prelude.{◌≡◌, ◌≢◌, ◌<◌, ◌≤◌, ◌*◌, ◌+◌, ◌↔◌, ◌++◌, ◌∷◌, [], ℕ, length, OnOk};
 ghost use Rattle.label_field.specs.Limits.{site_limit};
-ghost use Rattle.move_energy.specs.BySite.{AreBySite};
+ghost use Rattle.move_energy.specs.BySite.{AreBySite, degree};
+ghost use Rattle.move_energy.specs.Limits.{weights_limit};
+ghost use Rattle.cost_store.specs.Limits.{site_cost_limit, pair_cost_limit};
 ghost use Rattle.labellings.specs.Energies.{labelling};
 ghost use Rattle.cost_store.specs.Posed.{IsPosed, IsAsked, Meant};
 ghost use Rattle.move_energy.specs.declared.choice.Choice.TheVariants.{Open, One};
 ghost use Rattle.move_energy.specs.Choices.{choice_at, Changes};
-ghost use Rattle.deciding.specs.Working.{summed, CanDecide, IsSized, IsSummed, IsWithinRange, AddsBounds, AreUndecided, AreWaiting, ArePartlyDecided, left, room_of};
+ghost use Rattle.deciding.specs.Working.{summed, CanDecide, IsSized, IsSummed, IsWithinRange, AddsBounds, AreUndecided, AreWaiting, ArePartlyDecided, left, room_of, greatest_total};
 
 use crate::Bounds;
 use crate::rising::site_rises;
@@ -101,6 +103,8 @@ impl Bounds {
         ensures sized { OnOk result (IsSummed (length at.now) self.new) }
         ensures range { OnOk result (IsWithinRange
             (room_of (left ends.now (length at.now) self.old.choices.items)) self.new) }
+        ensures total { OnOk result (greatest_total self.new ≤ greatest_total self.old + site_cost_limit
+            + pair_cost_limit * degree ends.now site) }
         ensures waiting { OnOk result (AreWaiting (site + 1) self.new) }
         ensures decided { OnOk result (Meant F.Fn V.Fn problem.now (λ m. ArePartlyDecided m change (labelling
             at.now) site self.old → ArePartlyDecided m change (labelling at.now) (site + 1) self.new)) }
@@ -127,6 +131,7 @@ impl Bounds {
         requires by_site { AreBySite problem.now.pairs ends.now }
         requires undecided { AreUndecided change at.now self.old }
         ensures sized { OnOk result (IsSized (length at.now) self.new) }
+        ensures total { OnOk result (greatest_total self.new ≤ weights_limit) }
         ensures none { OnOk result ((u : ℕ) → u < length at.now → choice_at self.new.choices.items u ≡ Open →
             ¬ CanDecide self.new u) }
         ensures decided { OnOk result (Meant F.Fn V.Fn problem.now (λ m. ArePartlyDecided m change

@@ -7,11 +7,11 @@ ghost use Rattle.cost_store.specs.Posed.{IsPosed, IsAsked, Meant};
 ghost use Rattle.move_energy.specs.Choices.{Changes};
 ghost use Rattle.deciding.specs.Working.{AreTermsTested};
 
-use crate::costs::{is_regular, term};
+use crate::costs::is_regular;
 use cost_store::Problem;
 use label_field::Pair;
 use labellings::Move;
-use move_energy::BuildError;
+use move_energy::{BuildError, term};
 
 /// Whether the move can change the label of an end of the pair.
 fn can_change_end(at: &[u8], change: Move, pair: Pair) -> bool

@@ -52,7 +52,7 @@ fn add_listed_sites<F: Fn(u32, u32) -> i64 + Sync, V: Fn(u32, u32) -> i64 + Sync
 }
 
 /// Whether a pair of an open site is counted at that site.
-fn counts_at(variables: &Variables, site: u32, pair: Pair) -> bool
+pub(crate) fn counts_at(variables: &Variables, site: u32, pair: Pair) -> bool
     requires { pair.first < length variables.now.choices.items }
     ensures { result ≡ is_counted (open_at variables.now.choices.items) site pair }
 {

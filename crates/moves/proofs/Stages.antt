@@ -1,5 +1,5 @@
 -- The stages of an expansion that is made once more.
-use Rattle.std.proofs.Common.{◌≡◌, ◌≢◌, ◌⊎◌, ◌↔◌, ℕ, ◌+◌, ◌<◌, ◌≤◌, Bool, true, false, cond, List, All, length, get_or, vec_len, ℤ, pos, ◌+ℤ◌, ◌≤ℤ◌, IsTrue, IfOk, Result, Ok, Err, refl, sym, ap, ◌∙◌, inl, inr, subst, arith}
+use Rattle.std.proofs.Common.{◌≡◌, ◌≢◌, ◌⊎◌, ◌↔◌, ℕ, ◌+◌, ◌<◌, Bool, true, false, cond, List, All, length, get_or, vec_len, ℤ, pos, ◌+ℤ◌, ◌≤ℤ◌, IsTrue, IfOk, Result, Ok, Err, refl, sym, ap, ◌∙◌, inl, inr, subst, arith}
 use Rattle.std.specs.Prelude.{slice_index, slice_set, IsFalse, OnOk}
 use Rattle.std.specs.List.{Contains}
 use Rattle.std.proofs.lemmas.Int.{ints}
@@ -22,13 +22,12 @@ use Rattle.move_energy.specs.Choices.{bit_of, choice_at, value_of, rank, made_by
 use Rattle.deciding.specs.Decisions.{IsSmallestLeast}
 use Rattle.deciding.specs.MoveValues.{move_value}
 use Rattle.deciding.proofs.Rises.{move_falls, move_over}
-use Rattle.stages.specs.Fixing.{fixed, fixed_value, AreLeastZeros, LiesWithin}
+use Rattle.stages.specs.Fixing.{fixed, fixed_value, AreLeastZeros}
 use Rattle.stages.specs.Fresh.{WasExpanded, AreFresh, IsApart}
-use Rattle.stages.specs.Looking.{marked, IsClosedIn}
+use Rattle.stages.specs.Looking.{IsClosedIn}
 use Rattle.stages.proofs.Parts.{ones_can_take}
 use Rattle.stages.proofs.Fixing.{ones_bound}
 use Rattle.stages.proofs.Ending.{stage_ends}
-use Rattle.moves.specs.Building.{made_value}
 use Rattle.moves.specs.Stages.{IsStageLeast, HasTaken}
 use Rattle.moves.proofs.Least.{expanded_best, free_least}
 

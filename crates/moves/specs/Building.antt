@@ -1,15 +1,18 @@
 -- The energy of a move, and what its least assignment says of the sites.
-use Rattle.std.specs.Prelude.{◌≡◌, ◌<◌, ◌==◌, ℕ, Bool, true, false, not, List, length, vec_len, IsTrue, Result, Ok, Err, ℤ, pos}
+use Rattle.std.specs.Prelude.{◌≡◌, ◌<◌, ◌≤◌, ◌==◌, ℕ, Bool, true, false, not, List, length, vec_len, IsTrue, Result, Ok, Err, ℤ, pos}
 use Rattle.labellings.specs.declared.change.Move.{Move}
 use Rattle.labellings.specs.Energies.{Instance, labelling, energy}
 use Rattle.labellings.specs.Moves.{IsAllowed, made}
 use Rattle.pseudo_bool.specs.Formula.{assignment}
 use Rattle.compile_cut.specs.Form.{quadratic_value}
+use Rattle.compile_cut.specs.Weights.{weights_size}
 use Rattle.move_energy.specs.declared.choice.Choice.{Choice}
 use Rattle.move_energy.specs.declared.building.MoveEnergy.{MoveEnergy}
 use Rattle.move_energy.specs.declared.error.BuildError.{BuildError}
 use Rattle.move_energy.specs.Choices.{bit_of, choice_at, value_of}
 use Rattle.move_energy.specs.Problems.{IsPrepareRefusal}
+use Rattle.move_energy.specs.Limits.{weights_limit}
+use Rattle.move_energy.specs.Weights.{AreWeights}
 use Rattle.sums.specs.Sums.{counted}
 use Rattle.grouping.specs.declared.Groups.{Groups}
 use Rattle.label_field.specs.declared.pair.Pair.{Pair}
@@ -32,6 +35,18 @@ pub record IsNear (pairs : PairList) (move : Move) (f : List ℕ) (room : Room) 
 -- they are, where a move is to look at the listed sites alone
 abbrev pub IsNearWhereListed : PairList → Move → List ℕ → Room → Type 0
 IsNearWhereListed pairs move f room = IsTrue room.deciding.lists.listed → IsNear pairs move f room
+
+-- the room has a weight for each site, and together they are in their limit
+abbrev pub AreWeightsSized : ℕ → Room → Type 0
+AreWeightsSized n room =
+    (length room.deciding.bounds.greatest.items ≡ n)
+    × (weights_size room.deciding.bounds.greatest.items ≤ weights_limit)
+
+-- the weights of the open sites are those of the partly decided move from f
+abbrev pub KnowsWeights : Instance → Move → List ℕ → Room → Type 0
+KnowsWeights m move f room =
+    AreWeights m move (labelling f) (choice_at room.built.variables.choices.items)
+    room.deciding.bounds.greatest.items
 
 -- the value of each site's variable, once its choice is settled
 abbrev pub site_values : List Choice → ℕ → Bool

@@ -10,14 +10,15 @@ ghost use Rattle.cost_store.specs.Posed.{IsPosed, Meant, IsAsked};
 ghost use Rattle.move_energy.specs.Choices.{AreOpenSites, AreSettled};
 ghost use Rattle.move_energy.specs.Problems.{Stands};
 ghost use Rattle.deciding.specs.Decided.{IsDecidedMove};
-ghost use Rattle.moves.specs.Building.{IsGroupedFor, IsNear, IsNearWhereListed, IsBuiltPlain, IsBuiltMove};
+ghost use Rattle.moves.specs.Building.{IsGroupedFor, IsNear, IsNearWhereListed, AreWeightsSized, KnowsWeights, IsBuiltPlain, IsBuiltMove};
 ghost use Rattle.cost_store.specs.LabelCosts.{costs_of, AreCosts};
 ghost use Rattle.moves.specs.LabelCosts.{IsFreeFor};
 ghost use Rattle.labellings.specs.declared.change.Move.TheVariants.{Expand};
 ghost use Rattle.move_energy.specs.LabelCosts.{AreCostsOf};
 
 use cost_store::{Problem, costs_of, has_cost};
-use deciding::{Bounds, Deciding};
+use deciding::{Bounds, Deciding, Lists};
+use grouping::Groups;
 use label_field::Pairs;
 use labellings::Move;
 use move_energy::{BuildError, MoveEnergy, add_label_costs};
@@ -26,9 +27,8 @@ use std::alloc::{AllocError, Global};
 use std::mem::swap;
 
 /// The most sites whose bounds and whose variables' numbers keep their memory for the next move. The bounds of more sites,
-/// over 5 MB, are given back once the sites are decided, since the energy and the cut come then and nobody asks for a bound
-/// again; the numbers, over 1 MB, once the energy is built, since the cut comes then and its values are taken in the order of
-/// the sites.
+/// over 5 MB, and their numbers, over 1 MB, are given back once the energy is built, since the cut comes then: nobody asks
+/// for a bound again, and the cut's values are taken in the order of the sites.
 const KEPT_SITES: usize = 1 << 18;
 
 /// The most open sites beside which the pairs stay grouped by their sites. The form, the net and the cut of more take
@@ -43,15 +43,20 @@ fn give_bounds_back(alloc: Global, bounds: &mut Bounds) {
     }
 }
 
-/// Gives the memory of the grouped pairs back where many sites are open.
+/// Gives the memory of the grouped pairs back where many sites are open. The bounds stay.
 fn give_groups_back(alloc: Global, grouped: &mut bool, deciding: &mut Deciding)
     requires far { deciding.old.lists.listed ≡ false }
     ensures far { deciding.new.lists.listed ≡ false }
     ensures kept { IsTrue grouped.new → IsTrue grouped.old × (deciding.new.ends ≡ deciding.old.ends) }
+    ensures bounds { deciding.new.bounds ≡ deciding.old.bounds }
 {
     if deciding.lists.count > GROUPED_SITES {
         *grouped = false;
-        *deciding = Deciding::empty(alloc);
+        deciding.ends = Groups {
+            starts: Vec::new(alloc),
+            places: Vec::new(alloc),
+        };
+        deciding.lists = Lists::empty(alloc);
     }
 }
 
@@ -133,6 +138,8 @@ fn decide<F: Fn(u32, u32) -> i64 + Sync, V: Fn(u32, u32) -> i64 + Sync>(
     ensures by_site { IsGroupedFor problem.now.pairs room.new }
     ensures near { OnOk result (IsNear problem.now.pairs change at.now room.new) }
     ensures choices { OnOk result (length room.new.built.variables.choices.items ≡ length at.now) }
+    ensures sized { OnOk result (AreWeightsSized (length at.now) room.new) }
+    ensures weights { Meant F.Fn V.Fn problem.now (λ m. OnOk result (KnowsWeights m change at.now room.new)) }
     ensures decided { Meant F.Fn V.Fn problem.now (λ m. IsDecidedMove m change at.now
         room.new.built.variables.choices.items result) }
 {
@@ -145,7 +152,7 @@ fn decide<F: Fn(u32, u32) -> i64 + Sync, V: Fn(u32, u32) -> i64 + Sync>(
     Ok(())
 }
 
-/// The energy of a move over its listed open sites. What was decided is not looked at.
+/// The energy of a move over its listed open sites, from their weights. What was decided is not looked at.
 fn build_near<F: Fn(u32, u32) -> i64 + Sync, V: Fn(u32, u32) -> i64 + Sync>(
     alloc: Global,
     problem: &Problem<F, V>,
@@ -158,6 +165,8 @@ fn build_near<F: Fn(u32, u32) -> i64 + Sync, V: Fn(u32, u32) -> i64 + Sync>(
     requires choices { length room.old.built.variables.choices.items ≡ length at.now }
     requires near { IsNear problem.now.pairs change at.now room.old }
     requires listed { IsTrue room.old.deciding.lists.listed }
+    requires sized { AreWeightsSized (length at.now) room.old }
+    requires weights { Meant F.Fn V.Fn problem.now (λ m. KnowsWeights m change at.now room.old) }
     requires allowed { Meant F.Fn V.Fn problem.now (λ m. IsAllowed m change (labelling at.now)) }
     ensures same { (room.new.grouped ≡ room.old.grouped) × (room.new.deciding ≡ room.old.deciding) }
     ensures kept { room.new.built.variables.choices.items ≡ room.old.built.variables.choices.items }
@@ -165,17 +174,18 @@ fn build_near<F: Fn(u32, u32) -> i64 + Sync, V: Fn(u32, u32) -> i64 + Sync>(
     ensures few { OnOk result (vec_len room.new.built.form.weights ≤ site_limit) }
     ensures stands { Meant F.Fn V.Fn problem.now (λ m. OnOk result (Stands m change at.now room.new.built)) }
 {
-    room.built.build_listed(
+    room.built.build_weighted_listed(
         alloc,
         problem,
         &room.deciding.ends,
         &room.deciding.lists.opened,
+        &room.deciding.bounds.greatest,
         at,
         change,
     )
 }
 
-/// The energy of a move, for which all sites and pairs are looked at.
+/// The energy of a move from the weights of its open sites, for which all sites and pairs are passed.
 fn build_all<F: Fn(u32, u32) -> i64 + Sync, V: Fn(u32, u32) -> i64 + Sync>(
     alloc: Global,
     problem: &Problem<F, V>,
@@ -188,6 +198,9 @@ fn build_all<F: Fn(u32, u32) -> i64 + Sync, V: Fn(u32, u32) -> i64 + Sync>(
     requires choices { length room.old.built.variables.choices.items ≡ length at.now }
     requires by_site { IsGroupedFor problem.now.pairs room.old }
     requires far { room.old.deciding.lists.listed ≡ false }
+    requires sized { AreWeightsSized (length at.now) room.old }
+    requires weights { Meant F.Fn V.Fn problem.now (λ m. KnowsWeights m change at.now room.old) }
+    requires allowed { Meant F.Fn V.Fn problem.now (λ m. IsAllowed m change (labelling at.now)) }
     ensures by_site { IsGroupedFor problem.now.pairs room.new }
     ensures far { room.new.deciding.lists.listed ≡ false }
     ensures kept { room.new.built.variables.choices.items ≡ room.old.built.variables.choices.items }
@@ -195,12 +208,12 @@ fn build_all<F: Fn(u32, u32) -> i64 + Sync, V: Fn(u32, u32) -> i64 + Sync>(
     ensures few { OnOk result (vec_len room.new.built.form.weights ≤ site_limit) }
     ensures stands { Meant F.Fn V.Fn problem.now (λ m. OnOk result (Stands m change at.now room.new.built)) }
 {
-    give_bounds_back(alloc, &mut room.deciding.bounds);
     give_groups_back(alloc, &mut room.grouped, &mut room.deciding);
-    match room.built.build(alloc, problem, at, change) {
-        Ok(()) => Ok(()),
-        Err(_) => Err(AllocError),
-    }
+    let weights = &room.deciding.bounds.greatest;
+    room.built
+        .build_weighted(alloc, problem, weights, at, change)?;
+    give_bounds_back(alloc, &mut room.deciding.bounds);
+    Ok(())
 }
 
 /// The energy of a move whose sites are decided, over its open sites.
@@ -216,6 +229,8 @@ fn build_open<F: Fn(u32, u32) -> i64 + Sync, V: Fn(u32, u32) -> i64 + Sync>(
     requires choices { length room.old.built.variables.choices.items ≡ length at.now }
     requires by_site { IsGroupedFor problem.now.pairs room.old }
     requires near { IsNear problem.now.pairs change at.now room.old }
+    requires sized { AreWeightsSized (length at.now) room.old }
+    requires weights { Meant F.Fn V.Fn problem.now (λ m. KnowsWeights m change at.now room.old) }
     requires allowed { Meant F.Fn V.Fn problem.now (λ m. IsAllowed m change (labelling at.now)) }
     ensures by_site { IsGroupedFor problem.now.pairs room.new }
     ensures near { IsNearWhereListed problem.now.pairs change at.now room.new }

@@ -1,4 +1,4 @@
-use Rattle.std.proofs.Common.{◌≡◌, ◌↔◌, ◌<◌, ◌∙◌, ℕ, List, true, length, sym, subst, refl, arith}
+use Rattle.std.proofs.Common.{◌≡◌, ◌↔◌, ◌<◌, ◌∙◌, ℕ, List, true, sym, subst, refl, arith}
 use Rattle.std.specs.List.{Contains}
 use Rattle.std.proofs.lemmas.Result.{err_from_is_err_and}
 use Rattle.labellings.specs.declared.change.Move.TheVariants.{Expand}
@@ -9,7 +9,6 @@ use Rattle.deciding.specs.MoveValues.{move_value}
 use Rattle.stages.specs.Changes.{changed_after}
 use Rattle.stages.specs.Fresh.{WasExpanded}
 use Rattle.stages.specs.Looking.{marked, AreTaking}
-use Rattle.moves.specs.Stages.{HasTaken}
 use Rattle.moves.proofs.Answers.{costs_free, cut_refusal}
 use Rattle.moves.proofs.Relabelled.{values_reach}
 use Rattle.moves.proofs.Stages.{metric_allowed, taken_best}

@@ -1,4 +1,4 @@
-use Rattle.std.proofs.Common.{◌≡◌, ◌∙◌, ◌<◌, length, get_or, slice_index, refl, ap, arith}
+use Rattle.std.proofs.Common.{◌∙◌, ◌<◌, length, get_or, slice_index, refl, ap, arith}
 use Rattle.label_field.specs.LabelFields.{LabelField}
 use Rattle.moves.proofs.Relabelled.{unchanged_at}
 use Rattle.moves.proofs.Stages.{given_more, given_all}

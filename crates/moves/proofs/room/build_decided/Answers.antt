@@ -28,3 +28,6 @@ returns-clause-built g c = λ m meant.
       λ bits least. decided_least m c.args.change (labelling c.args.at.now) (choice_at made.variables.choices.items) made.form (rank made.variables.choices.items)
           (assignment bits) pairs decided.0 (subst P (sym c.in_ok-build_open.ensures.kept) decided.1) stands least,
     )
+
+pub build_open-requires-clause-weights : goal.build_open-requires-clause-weights
+build_open-requires-clause-weights g c = λ κs lives m meant. c.in_ok-decide.ensures.weights m meant

@@ -5,7 +5,7 @@ use Rattle.labellings.specs.Energies.{labelling}
 use Rattle.move_energy.specs.Choices.{choice_at}
 use Rattle.deciding.specs.Working.{AreWaiting, SeesPair}
 use Rattle.deciding.proofs.Left.{left_less}
-use Rattle.deciding.proofs.Ranges.{range_wider, decided_waits}
+use Rattle.deciding.proofs.Ranges.{range_wider, decided_waits, total_same}
 use Rattle.deciding.proofs.Spreading.{IsSpread, spread_start, spread_step, spread_end, pair_in}
 use Rattle.deciding.proofs.Places.{start_read, place_read, place_within, place_touches, pair_read, meant_pairs, meant_grouped, range_start, range_step, range_enough, site_free}
 use Rattle.std.proofs.lemmas.Result.{err_from_is_err_and}
@@ -27,6 +27,7 @@ loop-place-init g c =
       waiting = decided_waits (length a.self.now.least.items) a.site a.value a.self.now c.mark.new.self c.mark.ensures c.requires.waiting;
       more = (let e = ap (λ (v : _). length v.items) c.mark.ensures.waiting in omega (arith, e));
       range = λ most within. range_wider most _ c.mark.new.self (omega arith) (range_start a.self.now c.mark.new.self a.site a.value c.mark.ensures most within);
+      total = (let e = total_same a.self.now c.mark.new.self c.mark.ensures.greatest in omega (arith, e));
       spread = λ m answers decided.
           let most : length a.self.now.least.items ≤ m.sites = omega (arith, c.requires.sized.within, c.requires.asked.sites, answers.sites_are) in
           let P : ℕ → Type 0 = λ p. IsSpread m a.change (labelling a.at.now) (length a.self.now.least.items) decided.decisions a.site a.value a.ends.now p c.mark.new.self in
@@ -87,6 +88,7 @@ loop-place-preserved g c =
       waiting = (let P : ℕ → Type 0 = λ n. AreWaiting n c.see.new.self in subst P c.loop-place.invariant.same c.in_ok-see.ensures.waiting);
       more = omega (arith, looking.waiting, c.loop-place.invariant.more, from);
       range = range_step (start_of a.ends.now a.site) c.loop-place.place a.self.now c.loop-place.self c.see.new.self from looking c.loop-place.invariant.range;
+      total = omega (arith, looking.total, c.loop-place.invariant.total, from);
       spread = λ m answers decided.
           let within : a.site < m.sites = omega (arith, inside, answers.sites_are) in
           let S : ℕ → Type 0 = λ n. SeesPair m a.change (labelling a.at.now) n a.site a.value c.get-pair.result c.loop-place.self c.see.new.self in
@@ -174,5 +176,20 @@ returns-clause-waiting g c = c.loop-place.invariant.waiting
 
 pub returns-in_err-see-clause-same : goal.returns-in_err-see-clause-same
 returns-in_err-see-clause-same g c =
+    let p = err_from_is_err_and c.from_residual.result c.from_residual.ensures.1 in
+    rw (p.1) tt
+
+pub returns-clause-total : goal.returns-clause-total
+returns-clause-total g c =
+    let a = c.args in
+    let inside : a.site < a.problem.now.pairs.sites = omega (arith, c.requires.site.0, c.requires.sized.within, c.requires.asked.sites) in
+    let end = start_read a.problem.now.pairs a.ends.now (a.site + 1) _ c.requires.by_site (omega (arith, inside)) c.index-place-end.ensures in
+    let start = start_read a.problem.now.pairs a.ends.now a.site _ c.requires.by_site (omega (arith, inside)) c.index-place.ensures in
+    let ordered = c.requires.by_site.ordered a.site inside in
+    let last : c.loop-place.place - start_of a.ends.now a.site ≤ degree a.ends.now a.site = omega (arith, start, end, ordered, c.loop-place.auto.place-end) in
+    omega (arith, last, c.loop-place.invariant.total)
+
+pub returns-in_err-see-clause-total : goal.returns-in_err-see-clause-total
+returns-in_err-see-clause-total g c =
     let p = err_from_is_err_and c.from_residual.result c.from_residual.ensures.1 in
     rw (p.1) tt

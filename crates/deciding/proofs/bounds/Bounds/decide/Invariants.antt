@@ -2,7 +2,7 @@ use Rattle.std.proofs.Common.{◌≡◌, ◌+◌, ◌-◌, ◌*◌, ◌≤◌, �
 use Rattle.cost_store.specs.Posed.{IsMeant}
 use Rattle.grouping.specs.Grouping.{start_of}
 use Rattle.labellings.specs.Energies.{Instance, labelling}
-use Rattle.deciding.specs.Working.{IsSummed, AreWaiting, IsWithinRange, ArePartlyDecided}
+use Rattle.deciding.specs.Working.{IsSummed, AreWaiting, IsWithinRange, ArePartlyDecided, greatest_total}
 use Rattle.deciding.proofs.Spreading.{IsSpread}
 use Rattle.deciding.proofs.bounds.Bounds.decide.Given as goal
 
@@ -14,6 +14,7 @@ invariant-loop-place g l = record {
   waiting : AreWaiting (length l.fn.self.least.items) l.self;
   more : length l.self.waiting.items ≤ length l.fn.self.waiting.items + (l.place - start_of l.ends l.site);
   range : (most : ℕ) → IsWithinRange most l.fn.self → IsWithinRange (most + 20000000 * (l.place - start_of l.ends l.site)) l.self;
+  total : greatest_total l.self ≤ greatest_total l.fn.self + 20000000 * (l.place - start_of l.ends l.site);
   spread : (m : Instance) → IsMeant g.F.Fn g.V.Fn l.problem m
       → (decided : ArePartlyDecided m l.change (labelling l.at) (length l.fn.self.least.items) l.fn.self)
       → IsSpread m l.change (labelling l.at) (length l.fn.self.least.items) decided.decisions l.site l.value l.ends l.place l.self;

@@ -1,10 +1,11 @@
-use Rattle.std.proofs.Common.{◌≡◌, ◌≤◌, ◌*◌, ◌∙◌, ℕ, ap, sym, subst, length, arith}
+use Rattle.std.proofs.Common.{◌≡◌, ◌<◌, ◌≤◌, ◌*◌, ◌∙◌, ℕ, ap, sym, subst, length, arith}
 use Rattle.std.proofs.lemmas.Result.{err_from_is_err_and}
 use Rattle.labellings.specs.Energies.{labelling}
 use Rattle.deciding.specs.Working.{AreWaiting, ArePartlyDecided, IsWithinRange, left, room_of}
+use Rattle.move_energy.proofs.PairEnds.{ends_len}
 use Rattle.deciding.proofs.Left.{left_most}
 use Rattle.deciding.proofs.Places.{none_waits}
-use Rattle.deciding.proofs.Ranges.{empty_list, empty_range}
+use Rattle.deciding.proofs.Ranges.{empty_list, empty_range, total_none}
 use Rattle.deciding.proofs.Whole.{partly_first}
 use Rattle.deciding.proofs.bounds.Bounds.decide_sites.Goals as goal
 
@@ -20,6 +21,8 @@ loop-site-init g c =
       none = empty_list a.self.now.waiting.items u.none;
       few = subst L (sym c.requires.asked.sites) (left_most a.problem.now.pairs a.ends.now a.self.now.choices.items c.requires.by_site);
       range = empty_range _ a.self.now u.least u.greatest;
+      total = (let few : left a.ends.now (length a.at.now) a.self.now.choices.items ≤ 2 * length a.problem.now.pairs.list = subst L (sym c.requires.asked.sites) (left_most a.problem.now.pairs a.ends.now a.self.now.choices.items c.requires.by_site) in
+          omega (arith, few, total_none a.self.now u.greatest));
       decided = λ m answers. partly_first m a.change a.at.now a.self.now (omega (arith, answers.sites_are, c.requires.asked.sites)) u;
     }
 
@@ -78,6 +81,10 @@ loop-site-preserved g c =
       none = e.none;
       few = e.left;
       range = e.range;
+      total = (let inside : c.loop-site.site < a.problem.now.pairs.sites = omega (arith, c.loop-site-test.true, c.requires.asked.sites) in
+          let ordered = c.requires.by_site.ordered c.loop-site.site inside in
+          let same = ap (λ (v : _). left a.ends.now (length a.at.now) v.items) one.same in
+          omega (arith, e.total, one.total, same, ordered, c.loop-site.invariant.total));
       decided = λ m answers.
           let D : ℕ → Type 0 = λ k. ArePartlyDecided m a.change (labelling a.at.now) k c.sum_site.new.self in
           let E : ℕ → Type 0 = λ k. ArePartlyDecided m a.change (labelling a.at.now) k c.settle_all.new.self in
@@ -133,3 +140,21 @@ returns-clause-decided g c = λ m answers.
     let at_end : c.loop-site.site ≡ length a.at.now = omega (arith, c.loop-site-test.false, c.loop-site.auto) in
     let D : ℕ → Type 0 = λ k. ArePartlyDecided m a.change (labelling a.at.now) k c.loop-site.self in
     subst D at_end (c.loop-site.invariant.decided m answers)
+
+pub returns-clause-total : goal.returns-clause-total
+returns-clause-total g c =
+    let a = c.args in
+    let at_end : c.loop-site.site ≡ length a.at.now = omega (arith, c.loop-site-test.false, c.loop-site.auto) in
+    let inside : c.loop-site.site ≤ a.problem.now.pairs.sites = omega (arith, at_end, c.requires.asked.sites) in
+    let most = c.requires.by_site.within c.loop-site.site inside in
+    omega (arith, c.loop-site.invariant.total, inside, most, ends_len a.problem.now.pairs.list, c.requires.posed.pairs.count, c.requires.posed.pairs.sites)
+
+pub returns-in_err-sum_site-clause-total : goal.returns-in_err-sum_site-clause-total
+returns-in_err-sum_site-clause-total g c =
+    let p = err_from_is_err_and c.from_residual.result c.from_residual.ensures.1 in
+    rw (p.1) tt
+
+pub returns-in_err-settle_all-clause-total : goal.returns-in_err-settle_all-clause-total
+returns-in_err-settle_all-clause-total g c =
+    let p = err_from_is_err_and c.from_residual-in_err-settle_all.result c.from_residual-in_err-settle_all.ensures.1 in
+    rw (p.1) tt

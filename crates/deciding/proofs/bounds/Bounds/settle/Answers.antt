@@ -1,4 +1,4 @@
-use Rattle.std.proofs.Common.{length}
+use Rattle.std.proofs.Common.{length, arith}
 use Rattle.std.proofs.lemmas.Result.{on_ok_weaker}
 use Rattle.move_energy.specs.BySite.{degree}
 use Rattle.deciding.specs.Working.{left}
@@ -29,3 +29,6 @@ returns-clause-sized g c = c.decide.ensures.sized
 
 pub returns-clause-waiting : goal.returns-clause-waiting
 returns-clause-waiting g c = c.decide.ensures.waiting
+
+pub returns-clause-total : goal.returns-clause-total
+returns-clause-total g c = on_ok_two c.decide.result _ _ _ (λ less total. omega (arith, less, total)) c.decide.ensures.left c.decide.ensures.total

@@ -12,6 +12,7 @@ settling-init g c = record {
   waiting = c.requires.waiting;
   few = c.requires.left;
   range = c.requires.range;
+  total = omega arith;
   decided = λ m answers decided. decided;
 }
 
@@ -40,6 +41,7 @@ settling-preserved g c =
       waiting = subst W same e.waiting;
       few = e.left;
       range = e.range;
+      total = omega (arith, e.total, c.settling.invariant.total);
       decided = λ m answers first.
           let f = labelling c.args.at.now in
           let popped = record c.settling.self { waiting = c.pop.new.self } in
@@ -103,3 +105,8 @@ pub returns-clause-decided : goal.returns-clause-decided
 returns-clause-decided g c = λ m answers first.
     partly_same m c.args.change (labelling c.args.at.now) (length c.args.self.now.least.items) c.settling.self (record c.settling.self { waiting = c.pop.new.self }) refl refl refl
     (c.settling.invariant.decided m answers first)
+
+pub returns-in_err-settle-clause-total : goal.returns-in_err-settle-clause-total
+returns-in_err-settle-clause-total g c =
+    let p = err_from_is_err_and c.from_residual.result c.from_residual.ensures.1 in
+    rw (p.1) tt

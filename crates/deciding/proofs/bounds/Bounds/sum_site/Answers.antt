@@ -1,4 +1,4 @@
-use Rattle.std.proofs.Common.{◌<◌, ◌≤◌, ◌+◌, ◌∙◌, List, true, false, ap, sym, length, arith}
+use Rattle.std.proofs.Common.{◌<◌, ◌≤◌, ◌+◌, ◌*◌, ◌∙◌, List, true, false, unsigned_abs, ap, sym, length, arith}
 use Rattle.std.proofs.lemmas.Result.{on_ok_weaker}
 use Rattle.move_energy.specs.BySite.{degree}
 use Rattle.labellings.specs.Energies.{labelling}
@@ -11,7 +11,7 @@ use Rattle.deciding.specs.MoveValues.{move_value}
 use Rattle.deciding.specs.Working.{valued, left, room_of}
 use Rattle.deciding.proofs.Left.{degree_most}
 use Rattle.deciding.proofs.Places.{meant_pairs, partly_same}
-use Rattle.deciding.proofs.Ranges.{added_of, added_summed, added_range, added_waits, closed_waits, called_waits, range_same, summed_same}
+use Rattle.deciding.proofs.Ranges.{added_of, added_summed, added_range, added_waits, closed_waits, called_waits, range_same, summed_same, added_total, total_same}
 use Rattle.deciding.proofs.SiteSums.{sum_passed, sum_room}
 use Rattle.deciding.proofs.Whole.{partly_more}
 use Rattle.deciding.proofs.bounds.Bounds.sum_site.Goals as goal
@@ -115,3 +115,21 @@ returns-clause-decided g c =
       sum_passed rises.result.greatest (degree a.ends.now a.site) rises.ensures.range.1 few ∙ rises.ensures.greatest m answers
           ∙ ap (λ (cs : List Choice). rise (move_value m a.change (labelling a.at.now)) a.site (valued cs false)) c.deref.ensures.value,
     )) decided)) c.call_up.ensures.calls
+
+pub returns-then-not-is_open-clause-total : goal.returns-then-not-is_open-clause-total
+returns-then-not-is_open-clause-total g c =
+    let a = c.args in
+    on_ok_weaker c.add_bounds.result (λ adds. (let more = added_total a.site 0 _ _ a.self.now c.add_bounds.new.self (added_of a.site _ _ a.self.now c.add_bounds.new.self c.requires.site.1 c.requires.sized.greatest adds) (omega arith) in
+    omega (arith, more))) c.add_bounds.ensures.adds
+
+pub returns-clause-total : goal.returns-clause-total
+returns-clause-total g c =
+    let a = c.args in
+    let added = added_of a.site _ _ a.self.now c.add_bounds-2.new.self c.requires.site.1 c.requires.sized.greatest c.in_ok-add_bounds.ensures.adds in
+    let s = c.call_up.ensures.same in
+    let inside : a.site < a.problem.now.pairs.sites = omega (arith, c.requires.site.0, c.requires.asked.sites) in
+    let few : degree a.ends.now a.site ≤ 8388608 = omega (arith, degree_most a.problem.now.pairs a.ends.now a.site c.requires.by_site inside, c.requires.posed.pairs.count) in
+    let rises = c.site_rises-rises in
+    let size = ap unsigned_abs (sum_passed rises.result.greatest (degree a.ends.now a.site) rises.ensures.range.1 few) in
+    let more = added_total a.site (10000000 + 10000000 * degree a.ends.now a.site) _ _ a.self.now c.add_bounds-2.new.self added (omega (arith, size, rises.ensures.range.1)) in
+    on_ok_weaker c.call_up.result (λ calls. omega (arith, more, total_same c.add_bounds-2.new.self c.call_up.new.self s.2)) c.call_up.ensures.calls

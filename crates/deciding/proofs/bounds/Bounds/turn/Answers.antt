@@ -1,7 +1,7 @@
 use Rattle.std.proofs.Common.{◌∙◌, ap, arith}
 use Rattle.deciding.specs.Working.{least_shift, greatest_shift}
 use Rattle.deciding.proofs.Numbers.{passed_on, passed_range}
-use Rattle.deciding.proofs.Ranges.{raised_shifts, raised_range}
+use Rattle.deciding.proofs.Ranges.{raised_shifts, raised_range, raised_total}
 use Rattle.deciding.proofs.bounds.Bounds.turn.Goals as goal
 
 pub returns-clause-shifts : goal.returns-clause-shifts
@@ -15,3 +15,8 @@ returns-clause-range c =
     raised_range c.args.site _ _ 20000000 c.args.self.now c.raise.new.self c.requires.site.0 c.requires.site.1
     (passed_range c.least_shift.result 20000000 (omega arith) c.least_shift.ensures.range) (passed_range c.greatest_shift.result 20000000 (omega arith) c.greatest_shift.ensures.range)
     c.raise.ensures.least c.raise.ensures.greatest
+
+pub returns-clause-total : goal.returns-clause-total
+returns-clause-total c =
+    raised_total c.args.site 20000000 _ c.args.self.now c.raise.new.self c.requires.site.1
+    (passed_range c.greatest_shift.result 20000000 (omega arith) c.greatest_shift.ensures.range) c.raise.ensures.greatest

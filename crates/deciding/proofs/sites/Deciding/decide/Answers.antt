@@ -1,6 +1,7 @@
 use Rattle.std.proofs.Common.{◌≡◌, ◌∙◌, refl, sym, length, arith}
 use Rattle.labellings.specs.Energies.{labelling}
-use Rattle.deciding.proofs.Whole.{decided_last}
+use Rattle.deciding.proofs.Places.{meant_pairs}
+use Rattle.deciding.proofs.Whole.{decided_last, partly_weights}
 use Rattle.std.proofs.lemmas.Result.{err_from_is_err_and}
 use Rattle.deciding.proofs.sites.Deciding.decide.Goals as goal
 
@@ -52,3 +53,28 @@ returns-clause-kept g c = refl
 
 pub returns-clause-count : goal.returns-clause-count
 returns-clause-count g c = c.in_ok-decide_sites.ensures.sized.choices
+
+pub returns-clause-weights : goal.returns-clause-weights
+returns-clause-weights g c = λ m meant.
+    let a = c.args in
+    let sites : m.sites ≡ length a.at.now = meant.sites_are ∙ sym c.requires.asked.sites in
+    partly_weights m a.change (labelling a.at.now) (length a.at.now) c.decide_sites.new.self (meant_pairs m a.problem.now.pairs meant.pairs_are meant.sites_are c.requires.posed.pairs)
+    (omega (arith, sites)) (c.in_ok-decide_sites.ensures.decided m meant)
+
+pub returns-clause-small : goal.returns-clause-small
+returns-clause-small g c = c.in_ok-decide_sites.ensures.total
+
+pub returns-in_err-test_terms-clause-weights : goal.returns-in_err-test_terms-clause-weights
+returns-in_err-test_terms-clause-weights g c = λ m meant.
+    let p = err_from_is_err_and c.from_residual.result c.from_residual.ensures.1 in
+    rw (p.1) tt
+
+pub returns-in_err-open_sites-clause-weights : goal.returns-in_err-open_sites-clause-weights
+returns-in_err-open_sites-clause-weights g c = λ m meant.
+    let p = err_from_is_err_and c.from_residual-in_err-open_sites.result c.from_residual-in_err-open_sites.ensures.1 in
+    rw (p.1) tt
+
+pub returns-in_err-decide_sites-clause-weights : goal.returns-in_err-decide_sites-clause-weights
+returns-in_err-decide_sites-clause-weights g c = λ m meant.
+    let p = err_from_is_err_and c.from_residual-in_err-decide_sites.result c.from_residual-in_err-decide_sites.ensures.1 in
+    rw (p.1) tt

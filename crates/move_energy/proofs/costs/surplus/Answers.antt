@@ -1,8 +1,8 @@
 use Rattle.std.proofs.Common.{pos, ℕ, ◌<◌, length, arith}
 use Rattle.std.proofs.lemmas.List.Elements.{All-get_or}
 use Rattle.cost_store.specs.Promises.{IsCost}
-use Rattle.deciding.proofs.Numbers.{surplus_fits, surplus_is}
-use Rattle.deciding.proofs.costs.surplus.Goals as goal
+use Rattle.move_energy.proofs.TableSurplus.{surplus_fits, surplus_is}
+use Rattle.move_energy.proofs.costs.surplus.Goals as goal
 
 pub overflow_sub-result : goal.overflow_sub-result
 overflow_sub-result c =

@@ -1,0 +1,86 @@
+use Rattle.std.proofs.Common.{◌≤◌, ◌∙◌, ℕ, Bool, sum_by, length, refl, arith}
+use Rattle.move_energy.specs.BySite.{met_at}
+use Rattle.labellings.specs.Energies.{labelling}
+use Rattle.move_energy.specs.Choices.{choice_at, open_at, rank}
+use Rattle.move_energy.specs.Weights.{unsaved}
+use Rattle.move_energy.proofs.Steps.{longer_none}
+use Rattle.move_energy.proofs.Opened.{opened_has}
+use Rattle.move_energy.proofs.Adding.{cost_none, site_more, site_all, met_few, sum_longer, sum_room, sum_bounded}
+use Rattle.move_energy.proofs.weighted_listed.add_listed_surpluses.Goals as goal
+
+pub loop-index-init : goal.loop-index-init
+loop-index-init g c = record {
+  longer = longer_none c.args.form.now;
+  adds = λ m answers fit. cost_none c.args.form.now (λ x. 0) (λ x. refl);
+}
+
+pub add_surpluses_at-requires-clause-by_site : goal.add_surpluses_at-requires-clause-by_site
+add_surpluses_at-requires-clause-by_site g c = λ κs lives. c.requires.by_site
+
+pub add_surpluses_at-requires-clause-choices : goal.add_surpluses_at-requires-clause-choices
+add_surpluses_at-requires-clause-choices g c = λ κs lives. c.requires.choices
+
+pub add_surpluses_at-requires-clause-numbering : goal.add_surpluses_at-requires-clause-numbering
+add_surpluses_at-requires-clause-numbering g c = λ κs lives. c.requires.numbering
+
+pub add_surpluses_at-requires-clause-variables : goal.add_surpluses_at-requires-clause-variables
+add_surpluses_at-requires-clause-variables g c = λ κs lives. c.loop-index.invariant.longer.nodes ∙ c.requires.variables
+
+pub add_surpluses_at-requires-clause-site : goal.add_surpluses_at-requires-clause-site
+add_surpluses_at-requires-clause-site g c =
+    let has = opened_has c.args.variables.now.choices.items c.args.opened.now c.loop-index.index c.requires.listed c.loop-index-test.true in
+    omega (arith, has.0, c.requires.choices)
+
+pub add_surpluses_at-requires-clause-met : goal.add_surpluses_at-requires-clause-met
+add_surpluses_at-requires-clause-met g c = λ κs lives.
+    let a = c.args in
+    let choices = a.variables.now.choices.items in
+    let met = met_at a.problem.now.pairs.list a.ends.now (open_at choices) (λ pair. 1) in
+    let few : sum_by met a.opened.now ≤ length a.problem.now.pairs.list =
+    met_few a.problem.now.pairs a.ends.now choices a.opened.now (length a.at.now) c.requires.by_site c.requires.posed.pairs.each
+    c.requires.asked.sites c.requires.choices c.requires.listed in
+    (sum_room met a.opened.now c.loop-index.index (length a.problem.now.pairs.list) a.form.now c.loop-index.form c.loop-index-test.true few
+    c.requires.posed.pairs.count c.requires.bounded c.loop-index.invariant.longer).0
+
+pub add_surpluses_at-requires-clause-bounded : goal.add_surpluses_at-requires-clause-bounded
+add_surpluses_at-requires-clause-bounded g c = λ κs lives.
+    let a = c.args in
+    let choices = a.variables.now.choices.items in
+    let met = met_at a.problem.now.pairs.list a.ends.now (open_at choices) (λ pair. 1) in
+    let few : sum_by met a.opened.now ≤ length a.problem.now.pairs.list =
+    met_few a.problem.now.pairs a.ends.now choices a.opened.now (length a.at.now) c.requires.by_site c.requires.posed.pairs.each
+    c.requires.asked.sites c.requires.choices c.requires.listed in
+    (sum_room met a.opened.now c.loop-index.index (length a.problem.now.pairs.list) a.form.now c.loop-index.form c.loop-index-test.true few
+    c.requires.posed.pairs.count c.requires.bounded c.loop-index.invariant.longer).1
+
+pub loop-index-preserved : goal.loop-index-preserved
+loop-index-preserved g c =
+    let a = c.args in
+    let choices = a.variables.now.choices.items in
+    record {
+      longer = sum_longer (met_at a.problem.now.pairs.list a.ends.now (open_at choices) (λ pair. 1)) a.opened.now c.loop-index.index a.form.now c.loop-index.form c.add_surpluses_at.new.form
+          c.loop-index-test.true c.loop-index.invariant.longer c.in_ok-add_surpluses_at.ensures.longer;
+      adds = λ m answers fit.
+          site_more a.form.now c.loop-index.form c.add_surpluses_at.new.form
+          (λ (x : ℕ → Bool). met_at a.problem.now.pairs.list a.ends.now (open_at choices) (unsaved m a.change (labelling a.at.now) (choice_at choices) (rank choices) x))
+          a.opened.now c.loop-index.index c.loop-index-test.true (c.loop-index.invariant.adds m answers fit) (c.in_ok-add_surpluses_at.ensures.adds m answers fit);
+    }
+
+pub returns-clause-bounded : goal.returns-clause-bounded
+returns-clause-bounded g c =
+    let a = c.args in
+    let choices = a.variables.now.choices.items in
+    let met = met_at a.problem.now.pairs.list a.ends.now (open_at choices) (λ pair. 1) in
+    let few : sum_by met a.opened.now ≤ length a.problem.now.pairs.list =
+    met_few a.problem.now.pairs a.ends.now choices a.opened.now (length a.at.now) c.requires.by_site c.requires.posed.pairs.each
+    c.requires.asked.sites c.requires.choices c.requires.listed in
+    sum_bounded met a.opened.now c.loop-index.index (length a.problem.now.pairs.list) a.form.now c.loop-index.form few
+    c.requires.posed.pairs.count c.requires.bounded c.loop-index.invariant.longer
+
+pub returns-clause-adds : goal.returns-clause-adds
+returns-clause-adds g c = λ m answers fit.
+    let a = c.args in
+    let choices = a.variables.now.choices.items in
+    site_all a.form.now c.loop-index.form
+    (λ (x : ℕ → Bool). met_at a.problem.now.pairs.list a.ends.now (open_at choices) (unsaved m a.change (labelling a.at.now) (choice_at choices) (rank choices) x))
+    a.opened.now c.loop-index.index (omega (arith, c.loop-index-test.false)) (c.loop-index.invariant.adds m answers fit)
