@@ -1,11 +1,11 @@
 #!/usr/bin/env python3
 """How many sites of moves are left for a cut: of a first cycle on a picture that a formula gives, and of listed moves.
 
-The numbers of the test `few_sites_are_left_open` of the crate `move_rows`, and the table of its test
+The numbers of the test `few_sites_are_left_open` of the crate `move_tests`, and the table of its test
 `listed_moves_are_best`. To make them again, at the top of the repository:
 
     python3 tools/open_sites.py
-    python3 tools/open_sites.py --rows > crates/move_rows/src/listed.rt
+    python3 tools/open_sites.py --rows > crates/move_tests/src/listed.rt
 
 It knows these definitions alone (Boykov, Veksler, Zabih 2001, sections 1 to 3; Iyer, Jegelka, Bilmes, ICML
 2013, section 4), those of moves by tools/random_moves.py.

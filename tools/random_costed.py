@@ -2,9 +2,9 @@
 """Small random moves and runs where labels cost something by themselves, and small random runs over metrics, each
 with its answer and its bound, worked out over all labellings.
 
-Writes the table of such rows in the tests of the crate `move_rows`. To make it again, at the top of the repository:
+Writes the table of such rows in the tests of the crate `move_tests`. To make it again, at the top of the repository:
 
-    python3 tools/random_costed.py > crates/move_rows/src/costs.rt
+    python3 tools/random_costed.py > crates/move_tests/src/costs.rt
 
 It knows the definitions of tools/random_moves.py and of a run in tools/random_runs.py, and these (Delong, Osokin,
 Isack, Boykov 2012, section 1; Boykov, Veksler, Zabih 2001, theorem 6.1).

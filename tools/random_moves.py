@@ -1,9 +1,9 @@
 #!/usr/bin/env python3
 """Small random moves between labellings, each with its best answer, worked out over all that it reaches.
 
-Writes the table of the tests of the crate `move_rows`. To make it again, at the top of the repository:
+Writes the table of the tests of the crate `move_tests`. To make it again, at the top of the repository:
 
-    python3 tools/random_moves.py > crates/move_rows/src/cases.rt
+    python3 tools/random_moves.py > crates/move_tests/src/cases.rt
 
 It knows these definitions alone (Boykov, Veksler, Zabih 2001, sections 1 to 3; Kolmogorov, Zabih 2004,
 section 4).

@@ -1,10 +1,10 @@
 #!/usr/bin/env python3
 """Small random runs of moves between labellings, each with its answer, worked out over all labellings.
 
-Writes the table of the runs in the tests of the crate `move_rows`. To make it again, at the top of the
+Writes the table of the runs in the tests of the crate `move_tests`. To make it again, at the top of the
 repository:
 
-    python3 tools/random_runs.py > crates/move_rows/src/chains.rt
+    python3 tools/random_runs.py > crates/move_tests/src/chains.rt
 
 It knows the definitions of tools/random_moves.py, and these. A cycle of expansions takes the labels in rising
 order; a cycle of swaps takes each two labels alpha < beta in dictionary order. A run makes cycles of moves, each

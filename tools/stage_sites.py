@@ -1,7 +1,7 @@
 #!/usr/bin/env python3
 """How many cuts a run of expansions has whose later expansions look near the changes alone, and how many sites these.
 
-The numbers of the test `later_expansions_open_few_sites` of the crate `move_rows`. To make them again, at the top of the
+The numbers of the test `later_expansions_open_few_sites` of the crate `move_tests`. To make them again, at the top of the
 repository:
 
     python3 tools/stage_sites.py

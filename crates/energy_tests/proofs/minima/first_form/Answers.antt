@@ -1,6 +1,6 @@
 use Rattle.std.proofs.Common.{pos, arith}
 use Rattle.compile_cut.proofs.TermLemmas.{bounded-weaker, constant_bounded, constant_nodes}
-use Rattle.energy_rows.proofs.minima.first_form.Goals as goal
+use Rattle.energy_tests.proofs.minima.first_form.Goals as goal
 
 pub add_one-requires-clause-bounded : goal.add_one-requires-clause-bounded
 add_one-requires-clause-bounded c = bounded-weaker 0 8388608 c.in_ok-form.form (omega arith) (constant_bounded (pos 0) 2 c.in_ok-form.form (omega arith) c.in_ok-form.ensures)
