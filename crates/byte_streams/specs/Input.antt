@@ -1,6 +1,8 @@
--- What reading a whole input answers.
+-- What a call of a source does to its stream, and what reading a whole input answers.
 use Rattle.std.specs.Prelude.{◌≡◌, ◌<◌, ◌≤◌, ◌||◌, ℕ, Bool, true, false, List, length, Result, Ok, Err, IfOk, is_err, Vec, ⊤}
+use Rattle.std.specs.Io.KnownBytes.{ReadConsumes}
 use Rattle.std.specs.declared.alloc.Global.{Global}
+use Rattle.byte_streams.specs.Streams.{Stream}
 use Rattle.byte_streams.specs.declared.input.ReadError.{ReadError}
 use Rattle.byte_streams.specs.declared.input.ReadError.TheVariants.{OutOfMemory, ReadFailed, InputTooLong}
 
@@ -19,9 +21,10 @@ abbrev pub IsReadOr : List ℕ → Result (Vec ℕ Global) ReadError → Type 0
 IsReadOr input (Ok v) = (v.items ≡ input) × (length input ≤ input_limit)
 IsReadOr input (Err error) = IsReadRefusal input error
 
--- a call failed exactly where it answered a fault
-abbrev pub NotesFault : {T E : Type 0} → Bool → Bool → Result T E → Type 0
-NotesFault old new r = new ≡ (is_err r || old)
+-- the stream gave as many bytes as the call answers, and none only at its end or to a buffer without room; and it
+-- failed exactly where the call answered a fault
+abbrev pub Gives : {E : Type 0} → Stream → Stream → Result ℕ E → List ℕ → Type 0
+Gives old new r buffer = ReadConsumes old.bytes new.bytes r buffer × (new.has_failed ≡ (is_err r || old.has_failed))
 
 -- a call that gives no byte to a buffer with room tells the end
 abbrev pub NotesEnd : {E : Type 0} → Bool → Result ℕ E → List ℕ → Type 0
@@ -33,7 +36,7 @@ is_fault ReadFailed = true
 is_fault InputTooLong = false
 is_fault OutOfMemory = false
 
--- the source failed on the way exactly where the answer says so
-abbrev pub TellsFault : {T : Type 0} → Bool → Bool → Result T ReadError → Type 0
-TellsFault old new (Ok x) = new ≡ old
-TellsFault old new (Err error) = new ≡ (is_fault error || old)
+-- the stream failed on the way exactly where the answer says so
+abbrev pub TellsFault : {T : Type 0} → Stream → Stream → Result T ReadError → Type 0
+TellsFault old new (Ok x) = new.has_failed ≡ old.has_failed
+TellsFault old new (Err error) = new.has_failed ≡ (is_fault error || old.has_failed)

@@ -1,8 +1,8 @@
 //! Reading a whole input, up to a limit.
-ghost use Rattle.std.specs.Prelude.{◌≡◌, ◌+◌, ◌<◌, ◌≤◌, Bool, true, List, ℕ, Option, None, IfSome, IfOk, OnOk, length};
+ghost use Rattle.std.specs.Prelude.{◌≡◌, ◌+◌, ◌<◌, ◌≤◌, Bool, true, IfSome, IfOk, OnOk, length};
 ghost use Rattle.std.specs.Io.{ReadsAtMost};
-ghost use Rattle.std.specs.Io.KnownBytes.{ReadConsumes};
-ghost use Rattle.byte_streams.specs.Input.{IsReadOr, NotesEnd, NotesFault, TellsFault, input_limit};
+ghost use Rattle.byte_streams.specs.Input.{Gives, IsReadOr, NotesEnd, TellsFault, input_limit};
+ghost use Rattle.byte_streams.specs.Streams.{Stream};
 
 use std::alloc::Global;
 use std::io;
@@ -27,11 +27,8 @@ pub enum ReadError {
 
 /// Bytes to read, which remembers whether it failed.
 pub trait Source {
-    // The bytes that it will give from here on, where they are known.
-    ghost remaining: { Self → Option (List ℕ) } = { λ _. None };
-
-    // A call answered a fault.
-    ghost has_failed: { Self → Bool };
+    // The bytes that it will give from here on, where they are known, and whether a call answered a fault.
+    ghost stream: { Self → Stream };
 
     // A call gave no byte to a buffer with room: the end. True of a source that does not remember it.
     ghost has_ended: { Self → Bool } = { λ _. true };
@@ -39,8 +36,7 @@ pub trait Source {
     /// Fills the front of the buffer and answers how many bytes it gave.
     fn take(&mut self, buffer: &mut [u8]) -> io::Result<usize>
         ensures bound { ReadsAtMost result buffer.new }
-        ensures bytes { ReadConsumes (remaining self.old) (remaining self.new) result buffer.new }
-        ensures notes { NotesFault (has_failed self.old) (has_failed self.new) result }
+        ensures gives { Gives (stream self.old) (stream self.new) result buffer.new }
         ensures ends { NotesEnd (has_ended self.new) result buffer.new };
 }
 
@@ -54,9 +50,7 @@ pub struct WatchedReader<'a, R> {
 }
 
 impl<R: Read> Source for WatchedReader<'_, R> {
-    ghost remaining = { λ s. R.remaining s.reader.now };
-
-    ghost has_failed = { λ s. s.has_failed };
+    ghost stream = { λ s. record { bytes = R.remaining s.reader.now; has_failed = s.has_failed } };
 
     fn take(&mut self, buffer: &mut [u8]) -> io::Result<usize> {
         let result = self.reader.read(buffer);
@@ -71,10 +65,10 @@ impl<R: Read> Source for WatchedReader<'_, R> {
 /// `INPUT_LIMIT` + 1 calls of `take`. A fault is told exactly where a call answered one; a call that
 /// answers `Interrupted` is a fault like any other and is not made again.
 pub fn read_input<S: Source>(alloc: Global, source: &mut S) -> Result<Vec<u8>, ReadError>
-    ensures input { IfSome (S.remaining source.old) (λ input. IsReadOr input result) }
+    ensures input { IfSome (S.stream source.old).bytes (λ input. IsReadOr input result) }
     ensures limit { IfOk result (λ input. length input.items ≤ input_limit) }
     ensures ended { OnOk result (S.has_ended source.new ≡ true) }
-    ensures fault { TellsFault (S.has_failed source.old) (S.has_failed source.new) result }
+    ensures fault { TellsFault (S.stream source.old) (S.stream source.new) result }
 {
     let mut input = Vec::new(alloc);
     let mut chunk = [0u8; CHUNK];

@@ -1,7 +1,8 @@
 -- What the reading of a problem of labels refuses is a fault that its bytes have.
-use Rattle.std.proofs.Common.{◌≡◌, ◌≢◌, ◌≤◌, ℕ, List, Option, IfSome, Err, inl, inr, length, refl, subst}
+use Rattle.std.proofs.Common.{◌≡◌, ◌≢◌, ◌≤◌, ℕ, List, IfSome, Err, inl, inr, length, refl, subst}
 use Rattle.std.specs.Prelude.{IsUtf8}
 use Rattle.byte_streams.specs.Input.{IsReadRefusal, input_limit}
+use Rattle.byte_streams.specs.Streams.{Stream}
 use Rattle.byte_streams.specs.declared.input.ReadError.{ReadError}
 use Rattle.gco_cli.specs.declared.fault.Fault.{Fault}
 use Rattle.problem_files.specs.Names.{Problem, problem_in}
@@ -15,7 +16,7 @@ use Rattle.gco_cli.specs.Instances.{instance_named}
 use Rattle.gco_cli.proofs.InputLemmas.{IsWhole, of_read, of_refusal}
 use Rattle.gco_cli.specs.Label.{HasLabelFault, HasProblemFault, HasReadingFault, HoldsProblem, IsRunFault}
 use Rattle.gco_cli.specs.Faults.{TellsMove, label_fault, read_fault}
-use Rattle.gco_cli.specs.Streams.{OfSomeInput}
+use Rattle.gco_cli.specs.Inputs.{OfSomeInput}
 
 both : (bytes : List ℕ) (fault : LabelFault) → fault ≢ OutOfMemory → fault ≢ BadToml
     → (fault ≢ OutOfMemory → IsUtf8 bytes → problem_in bytes ≡ Err fault) → (fault ≢ OutOfMemory → fault ≢ BadToml → IsUtf8 bytes)
@@ -35,17 +36,17 @@ has_fault bytes TooManyPairs refused text = both bytes TooManyPairs (λ e. cc) (
 has_fault bytes (WeightRange pair) refused text = both bytes (WeightRange pair) (λ e. cc) (λ e. cc) refused text
 has_fault bytes (NoSuchLabel site) refused text = both bytes (NoSuchLabel site) (λ e. cc) (λ e. cc) refused text
 
-pub label_stands : (bytes items : List ℕ) (known : Option (List ℕ)) (fault : LabelFault) → bytes ≡ items
-    → IsWhole items known → length items ≤ input_limit → (fault ≢ OutOfMemory → IsUtf8 bytes → problem_in bytes ≡ Err fault)
-    → (fault ≢ OutOfMemory → fault ≢ BadToml → IsUtf8 bytes) → OfSomeInput known (λ input. HasReadingFault input (label_fault fault))
-label_stands bytes items known fault is whole limit refused text =
-    of_read known items (λ input. HasReadingFault input (label_fault fault)) whole
+pub label_stands : (bytes items : List ℕ) (source : Stream) (fault : LabelFault) → bytes ≡ items
+    → IsWhole items source → length items ≤ input_limit → (fault ≢ OutOfMemory → IsUtf8 bytes → problem_in bytes ≡ Err fault)
+    → (fault ≢ OutOfMemory → fault ≢ BadToml → IsUtf8 bytes) → OfSomeInput source (λ input. HasReadingFault input (label_fault fault))
+label_stands bytes items source fault is whole limit refused text =
+    of_read source items (λ input. HasReadingFault input (label_fault fault)) whole
     (inr (limit, (fault, subst (λ (xs : List ℕ). HasProblemFault xs fault) is (has_fault bytes fault refused text), refl)))
 
 -- an input that was not read
-pub unread_label : (known : Option (List ℕ)) (error : ReadError) → IfSome known (λ input. IsReadRefusal input error)
-    → OfSomeInput known (λ input. HasReadingFault input (read_fault error))
-unread_label known error is = let h = of_refusal known error is in (h.0, h.1, inl (error, h.2, refl))
+pub unread_label : (source : Stream) (error : ReadError) → IfSome source.bytes (λ input. IsReadRefusal input error)
+    → OfSomeInput source (λ input. HasReadingFault input (read_fault error))
+unread_label source error is = let h = of_refusal source error is in (h.0, h.1, inl (error, h.2, refl))
 
 -- a refused run is a fault of the problem
 pub run_fault : (cut : SolveError → Type 0) (p : Problem) (error : MoveError) (fault : Fault) → Answers (instance_named p) p.moves p.cycles p.start.at (Err error)
@@ -53,11 +54,11 @@ pub run_fault : (cut : SolveError → Type 0) (p : Problem) (error : MoveError) 
 run_fault cut p error fault answers refused tells = inr (error, refused, answers, tells)
 
 -- a fault of the reading is one of the command
-pub read_stands : (cut : SolveError → Type 0) (known : Option (List ℕ)) (f : Fault) → OfSomeInput known (λ input. HasReadingFault input f)
-    → OfSomeInput known (λ input. HasLabelFault cut input f)
-read_stands cut known f h = (h.0, h.1, inl h.2)
+pub read_stands : (cut : SolveError → Type 0) (source : Stream) (f : Fault) → OfSomeInput source (λ input. HasReadingFault input f)
+    → OfSomeInput source (λ input. HasLabelFault cut input f)
+read_stands cut source f h = (h.0, h.1, inl h.2)
 
 -- so is the fault of a run of the problem that the input names
-pub run_stands : (cut : SolveError → Type 0) (known : Option (List ℕ)) (p : Problem) (f : Fault) → OfSomeInput known (λ input. HoldsProblem input p)
-    → IsRunFault cut p f → OfSomeInput known (λ input. HasLabelFault cut input f)
-run_stands cut known p f h is = (h.0, h.1, inr (p, h.2, is))
+pub run_stands : (cut : SolveError → Type 0) (source : Stream) (p : Problem) (f : Fault) → OfSomeInput source (λ input. HoldsProblem input p)
+    → IsRunFault cut p f → OfSomeInput source (λ input. HasLabelFault cut input f)
+run_stands cut source p f h is = (h.0, h.1, inr (p, h.2, is))

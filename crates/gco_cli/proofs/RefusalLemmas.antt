@@ -13,7 +13,7 @@ use Rattle.gco_cli.proofs.FaultKinds.{task_own}
 use Rattle.gco_cli.specs.Commands.{IsDueFor, StandsFor, StandsForAsked, cuts_refuse}
 use Rattle.gco_cli.specs.Refusals.{IsHelp, IsRefusalFor, IsRefusalOf, SaysRefusal, ShowsHelp, status_of}
 use Rattle.gco_cli.specs.Run.{IsCut, IsCutIn, IsDue, IsRun, Leaves, Refuses, Streams, Writes, is_failed_read, is_bad_option}
-use Rattle.gco_cli.specs.Streams.{Stream, Took}
+use Rattle.byte_streams.specs.Streams.{Stream, Took}
 use Rattle.gco_cli.specs.declared.refusal.Refusal.{Refusal}
 use Rattle.gco_cli.specs.declared.refusal.Refusal.TheVariants.{Fault as Faulty, Words}
 
@@ -32,23 +32,23 @@ leaves : (old new : Stream) (fault : Fault) → is_bad_option fault ≡ false
 leaves old new fault is failed = record { failed = failed; unread = λ is_too. cc }
 
 -- the refusal of a command is for no option
-not_asked : (request : Request) (known : Option (List ℕ)) (old new : Stream) (fault : Fault)
-    → Refuses (IsDueFor request.task known) (StandsForAsked request known) old new fault → is_bad_option fault ≡ false
-not_asked request known old new fault (inl stands) = (task_own (cuts_refuse request.workers) request.task stands.0.0 fault stands.0.2).1
-not_asked request known old new fault (inr stops) = ap is_bad_option stops.3.1
+not_asked : (request : Request) (source old new : Stream) (fault : Fault)
+    → Refuses (IsDueFor request.task source) (StandsForAsked request source) old new fault → is_bad_option fault ≡ false
+not_asked request source old new fault (inl stands) = (task_own (cuts_refuse request.workers) request.task stands.0.0 fault stands.0.2).1
+not_asked request source old new fault (inr stops) = ap is_bad_option stops.3.1
 
 -- a refusal of a command that was asked for is one of the run
 pub of_command : (words : List (List ℕ)) (request : Request) (source source_new old new : Stream) (fault : Fault) → Asks words request
-    → Refuses (IsDueFor request.task source.bytes) (StandsForAsked request source.bytes) old new fault
+    → Refuses (IsDueFor request.task source) (StandsForAsked request source) old new fault
     → source_new.has_failed ≡ (is_failed_read fault || source.has_failed)
     → IsRefusalFor words source source_new old new (Faulty fault)
 of_command words request source source_new old new fault asks refuses read = (
   elim refuses [
     | inl stands ↦ inl (inr (inr (request, asks, stands.0)), stands.1, stands.2)
-    | inr stops ↦ inr (cut_weaker (IsDueFor request.task source.bytes) (IsDue words source.bytes) old new fault
+    | inr stops ↦ inr (cut_weaker (IsDueFor request.task source) (IsDue words source) old new fault
         (λ text said due. inr (request, asks, due)) stops)
   ],
-  leaves source source_new fault (not_asked request source.bytes old new fault refuses) read,
+  leaves source source_new fault (not_asked request source old new fault refuses) read,
 )
 
 unread : (source : Stream) (fault : Fault) → is_failed_read fault ≡ false → Leaves source source fault
@@ -58,7 +58,7 @@ unread source fault is = record { failed = rw is refl; unread = λ is_too. refl 
 of_help : (words : List (List ℕ)) (source old new : Stream) (fault : Fault) → AsksForHelp words
     → IsCut IsHelp old new fault → IsRefusalFor words source source old new (Faulty fault)
 of_help words source old new fault asks stops = (
-  inr (cut_weaker IsHelp (IsDue words source.bytes) old new fault (λ text said is. inl (asks, is.0, is.1)) stops),
+  inr (cut_weaker IsHelp (IsDue words source) old new fault (λ text said is. inl (asks, is.0, is.1)) stops),
   unread source fault (rw stops.3.1 refl),
 )
 
@@ -79,19 +79,19 @@ all_refused words no_task source old new (Ok said) is has of = tt
 all_refused words no_task source old new (Err e) is has of = refused words no_task source old new e is has of
 
 -- words without a task: what was shown is what was due
-pub all_shown : {T : Type 0} (bytes : T → List ℕ) (words : List (List ℕ)) (no_task : NoTask) (known : Option (List ℕ)) (old new : Stream)
-    (failed : Bool) (r : Result T Refusal) → IsNoTaskFor words no_task → IfOk r (λ said. ShowsHelp no_task old new (bytes said))
-    → IfOk r (λ said. Writes (IsDue words known) old new (bytes said) × (failed ≡ failed))
-all_shown bytes words (Help text) known old new failed (Ok said) is shows = ((shows.0, inl (is, shows.1.0, shows.1.1), shows.2), refl)
-all_shown bytes words OutOfMemory known old new failed (Ok said) is shows = absurd shows
-all_shown bytes words (Refused text) known old new failed (Ok said) is shows = absurd shows
-all_shown bytes words (BadOption option) known old new failed (Ok said) is shows = absurd shows
-all_shown bytes words no_task known old new failed (Err e) is shows = tt
+pub all_shown : {T : Type 0} (bytes : T → List ℕ) (words : List (List ℕ)) (no_task : NoTask) (source old new : Stream)
+    (r : Result T Refusal) → IsNoTaskFor words no_task → IfOk r (λ said. ShowsHelp no_task old new (bytes said))
+    → IfOk r (λ said. Writes (IsDue words source) old new (bytes said) × (source.has_failed ≡ source.has_failed))
+all_shown bytes words (Help text) source old new (Ok said) is shows = ((shows.0, inl (is, shows.1.0, shows.1.1), shows.2), refl)
+all_shown bytes words OutOfMemory source old new (Ok said) is shows = absurd shows
+all_shown bytes words (Refused text) source old new (Ok said) is shows = absurd shows
+all_shown bytes words (BadOption option) source old new (Ok said) is shows = absurd shows
+all_shown bytes words no_task source old new (Err e) is shows = tt
 
 -- the end of a run, and what was said of it, is the run
 pub run_of : {T : Type 0} (bytes : T → List ℕ) (words : List (List ℕ)) (old new : Streams) (end : Result T Refusal)
     → MatchResult end (λ said. Took old.faults new.faults (bytes said)) (SaysRefusal old.faults new.faults)
-    → IfOk end (λ said. Writes (IsDue words old.source.bytes) old.sink new.sink (bytes said)
+    → IfOk end (λ said. Writes (IsDue words old.source) old.sink new.sink (bytes said)
     × (new.source.has_failed ≡ old.source.has_failed))
     → IfErr end (IsRefusalFor words old.source new.source old.sink new.sink)
     → IsRun words old new (status_of end)
@@ -122,9 +122,9 @@ cut_in Due Is old new text items said (Err fault) same due cut =
     inr (items, said, due, subst (λ (xs : List ℕ). IsCutIn xs old new fault) same cut)
 
 -- a command was refused before anything was written
-pub task_refused : {T : Type 0} (cut : SolveError → Type 0) (task : Task) (known : Option (List ℕ)) (sink : Stream) (fault : Fault) (r : Result T Fault)
-    → IsErrAnd r (λ e. e ≡ fault) → StandsFor cut task known fault → IfErr r (Refuses (IsDueFor task known) (StandsFor cut task known) sink sink)
-task_refused cut task known sink fault (Ok x) is stands = tt
-task_refused cut task known sink fault (Err e) is stands =
-    let P : Fault → Type 0 = λ f. Refuses (IsDueFor task known) (StandsFor cut task known) sink sink f in
+pub task_refused : {T : Type 0} (cut : SolveError → Type 0) (task : Task) (source sink : Stream) (fault : Fault) (r : Result T Fault)
+    → IsErrAnd r (λ e. e ≡ fault) → StandsFor cut task source fault → IfErr r (Refuses (IsDueFor task source) (StandsFor cut task source) sink sink)
+task_refused cut task source sink fault (Ok x) is stands = tt
+task_refused cut task source sink fault (Err e) is stands =
+    let P : Fault → Type 0 = λ f. Refuses (IsDueFor task source) (StandsFor cut task source) sink sink f in
     subst P (sym is) (inl (stands, (task_own cut task stands.0 fault stands.2).0, refl))

@@ -1,5 +1,6 @@
 -- What each command is: the answer that is due to an input, and the faults that an input has.
 use Rattle.std.specs.Prelude.{◌≡◌, ℕ, List, [], Option, Some, None}
+use Rattle.byte_streams.specs.Streams.{Stream}
 use Rattle.command_line.specs.declared.task.Request.{Request}
 use Rattle.command_line.specs.declared.task.Task.{Task}
 use Rattle.command_line.specs.declared.task.Task.TheVariants.{Energy, Label, Picture}
@@ -11,7 +12,7 @@ use Rattle.gco_cli.specs.declared.fault.Fault.{Fault}
 use Rattle.gco_cli.specs.Energy.{AnswersInput, HasEnergyFault}
 use Rattle.gco_cli.specs.Label.{AnswersLabels, HasLabelFault}
 use Rattle.gco_cli.specs.Pictures.{AnswersPicture, HasPictureFault}
-use Rattle.gco_cli.specs.Streams.{OfSomeInput}
+use Rattle.gco_cli.specs.Inputs.{OfSomeInput}
 
 -- the command of a task writes this text for this input, and says this beside it
 abbrev pub IsAnswer : Task → List ℕ → List ℕ → List ℕ → Type 0
@@ -31,12 +32,12 @@ cuts_refuse None e = e ≡ OutOfMemory
 cuts_refuse (Some options) e = MayRefuse options e
 
 -- the same of some input that the source may give
-abbrev pub IsDueFor : Task → Option (List ℕ) → List ℕ → List ℕ → Type 0
-IsDueFor task known text said = OfSomeInput known (λ input. IsAnswer task input text said)
+abbrev pub IsDueFor : Task → Stream → List ℕ → List ℕ → Type 0
+IsDueFor task source text said = OfSomeInput source (λ input. IsAnswer task input text said)
 
-abbrev pub StandsFor : (SolveError → Type 0) → Task → Option (List ℕ) → Fault → Type 0
-StandsFor refuses task known fault = OfSomeInput known (λ input. HasFaultFor refuses task input fault)
+abbrev pub StandsFor : (SolveError → Type 0) → Task → Stream → Fault → Type 0
+StandsFor refuses task source fault = OfSomeInput source (λ input. HasFaultFor refuses task input fault)
 
 -- and for what is asked for
-abbrev pub StandsForAsked : Request → Option (List ℕ) → Fault → Type 0
-StandsForAsked request known fault = StandsFor (cuts_refuse request.workers) request.task known fault
+abbrev pub StandsForAsked : Request → Stream → Fault → Type 0
+StandsForAsked request source fault = StandsFor (cuts_refuse request.workers) request.task source fault

@@ -8,5 +8,5 @@ pub mod Lines
 pub mod Pictures
 pub mod Refusals
 pub mod Run
-pub mod Streams
+pub mod Inputs
 pub mod Instances

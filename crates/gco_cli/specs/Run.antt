@@ -1,5 +1,5 @@
 -- What a run answers and leaves.
-use Rattle.std.specs.Prelude.{◌≡◌, ◌≢◌, ◌⊎◌, ◌<◌, ◌≤◌, ◌||◌, ℕ, Bool, true, false, List, [], length, Option, Result, Ok, Err, String, string_bytes, codes}
+use Rattle.std.specs.Prelude.{◌≡◌, ◌≢◌, ◌⊎◌, ◌<◌, ◌≤◌, ◌||◌, ℕ, Bool, true, false, List, [], length, Result, Ok, Err, String, string_bytes, codes}
 use Rattle.std.specs.declared.alloc.Global.{Global}
 use Rattle.std.specs.declared.io.ErrorKind.{ErrorKind}
 use Rattle.std.specs.declared.io.ErrorKind.TheVariants.{InvalidData}
@@ -12,20 +12,20 @@ use Rattle.gco_cli.specs.FaultLine.{fault_line}
 use Rattle.gco_cli.specs.declared.fault.Fault.{Fault}
 use Rattle.gco_cli.specs.declared.fault.Fault.TheVariants.{OutOfMemory, Write, BadOption, ReadFailed}
 use Rattle.gco_cli.specs.Commands.{IsDueFor, StandsForAsked}
-use Rattle.gco_cli.specs.Streams.{Stream, Stops, Takes, Took, stream}
+use Rattle.byte_streams.specs.Streams.{Stream, Stops, Takes, Took}
 
 -- what a run of these words writes, and says beside it: help that was asked for, which is not empty, or the answer
 -- of a command
-abbrev pub IsDue : List (List ℕ) → Option (List ℕ) → List ℕ → List ℕ → Type 0
-IsDue words known text said = (AsksForHelp words × (0 < length text) × (said ≡ []))
-    ⊎ ((request : Request) × Asks words request × IsDueFor request.task known text said)
+abbrev pub IsDue : List (List ℕ) → Stream → List ℕ → List ℕ → Type 0
+IsDue words source text said = (AsksForHelp words × (0 < length text) × (said ≡ []))
+    ⊎ ((request : Request) × Asks words request × IsDueFor request.task source text said)
 
 -- the fault is one of a run of these words: memory may always be refused, the words may name a bad option,
 -- and a command has its faults
-abbrev pub Stands : List (List ℕ) → Option (List ℕ) → Fault → Type 0
-Stands words known fault = (fault ≡ OutOfMemory)
+abbrev pub Stands : List (List ℕ) → Stream → Fault → Type 0
+Stands words source fault = (fault ≡ OutOfMemory)
     ⊎ (((option : OptionName) × NamesBadOption words option × (fault ≡ BadOption option))
-    ⊎ ((request : Request) × Asks words request × StandsForAsked request known fault))
+    ⊎ ((request : Request) × Asks words request × StandsForAsked request source fault))
 
 -- the fault says that a sink failed
 abbrev pub is_write : Fault → Bool
@@ -59,9 +59,9 @@ abbrev pub Refuses : (List ℕ → List ℕ → Type 0) → (Fault → Type 0) �
 Refuses Due Is old new fault = (Is fault × (is_write fault ≡ false) × (new ≡ old)) ⊎ IsCut Due old new fault
 
 -- the source failed on the way exactly where the answer says so
-abbrev pub TellsRead : {T : Type 0} → Bool → Bool → Result T Fault → Type 0
-TellsRead old new (Ok x) = new ≡ old
-TellsRead old new (Err fault) = new ≡ (is_failed_read fault || old)
+abbrev pub TellsRead : {T : Type 0} → Stream → Stream → Result T Fault → Type 0
+TellsRead old new (Ok x) = new.has_failed ≡ old.has_failed
+TellsRead old new (Err fault) = new.has_failed ≡ (is_failed_read fault || old.has_failed)
 
 -- a refused run has failed to read exactly where its fault says so, and read nothing where an option was
 -- refused
@@ -81,14 +81,14 @@ streams source sink faults = record { source = source; sink = sink; faults = fau
 -- status 0: what is due was written whole, and what is due beside it said
 pub record IsDone (words : List (List ℕ)) (old new : Streams) : Type 0 where
   pub said : List ℕ
-  pub written : Writes (IsDue words old.source.bytes) old.sink new.sink said
+  pub written : Writes (IsDue words old.source) old.sink new.sink said
   pub told : Took old.faults new.faults said
   pub read : new.source.has_failed ≡ old.source.has_failed
 
 -- status 1: the run was refused, and the line of its fault said
 pub record IsRefused (words : List (List ℕ)) (old new : Streams) : Type 0 where
   pub fault : Fault
-  pub stands : Refuses (IsDue words old.source.bytes) (Stands words old.source.bytes) old.sink new.sink fault
+  pub stands : Refuses (IsDue words old.source) (Stands words old.source) old.sink new.sink fault
   pub told : Took old.faults new.faults (fault_line fault)
   pub read : Leaves old.source new.source fault
 

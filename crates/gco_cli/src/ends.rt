@@ -1,7 +1,7 @@
 //! What is said at the end of a run, and its exit status.
 ghost use Rattle.std.specs.Prelude.{◌≡◌, MatchResult};
 ghost use Rattle.gco_cli.specs.Refusals.{SaysRefusal, status_of};
-ghost use Rattle.gco_cli.specs.Streams.{Took, stream};
+ghost use Rattle.byte_streams.specs.Streams.{Took};
 
 use crate::fault_line::{Line, line_of};
 use crate::refusal::Refusal;
@@ -9,10 +9,8 @@ use byte_streams::{Sink, put_text};
 
 /// Says what is due at the end of a run, and answers the exit status.
 pub fn say_end<E: Sink>(faults: &mut E, end: Result<Line, Refusal>) -> u8
-    ensures told { MatchResult end (λ said. Took (stream (E.held faults.old) (E.has_failed faults.old))
-        (stream (E.held faults.new) (E.has_failed faults.new)) said.bytes)
-        (SaysRefusal (stream (E.held faults.old) (E.has_failed faults.old))
-        (stream (E.held faults.new) (E.has_failed faults.new))) }
+    ensures told { MatchResult end (λ said. Took (E.stream faults.old) (E.stream faults.new) said.bytes)
+        (SaysRefusal (E.stream faults.old) (E.stream faults.new)) }
     ensures status { result ≡ status_of end }
     ensures kept { E.loan faults.new ≡ E.loan faults.old }
 {
@@ -25,8 +23,7 @@ pub fn say_end<E: Sink>(faults: &mut E, end: Result<Line, Refusal>) -> u8
 
 /// Says a text, and answers the exit status. A fault of the sink is passed over.
 pub fn say<E: Sink>(faults: &mut E, text: &str, status: u8) -> u8
-    ensures told { Took (stream (E.held faults.old) (E.has_failed faults.old))
-        (stream (E.held faults.new) (E.has_failed faults.new)) text.now }
+    ensures told { Took (E.stream faults.old) (E.stream faults.new) text.now }
     ensures status { result ≡ status }
     ensures kept { E.loan faults.new ≡ E.loan faults.old }
 {

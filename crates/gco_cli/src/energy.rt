@@ -4,7 +4,7 @@ ghost use Rattle.command_line.specs.declared.task.Task.TheVariants.{Energy as En
 ghost use Rattle.gco_cli.specs.Commands.{IsDueFor, StandsFor};
 ghost use Rattle.gco_cli.specs.Energy.{HasFileFault, HoldsEnergy};
 ghost use Rattle.gco_cli.specs.Run.{TellsRead};
-ghost use Rattle.gco_cli.specs.Streams.{OfSomeInput};
+ghost use Rattle.gco_cli.specs.Inputs.{OfSomeInput};
 
 use crate::answers::answer;
 use crate::fault::Fault;
@@ -24,9 +24,9 @@ pub fn answer_energy<H: How, R: Source>(
     source: &mut R,
 ) -> Result<Answer, Fault>
     requires { H.ready how.now }
-    ensures due { IfOk result (λ a. IsDueFor EnergyTask (R.remaining source.old) a.text.items a.said.bytes) }
-    ensures stands { IfErr result (StandsFor (H.refuses how.now) EnergyTask (R.remaining source.old)) }
-    ensures read { TellsRead (R.has_failed source.old) (R.has_failed source.new) result }
+    ensures due { IfOk result (λ a. IsDueFor EnergyTask (R.stream source.old) a.text.items a.said.bytes) }
+    ensures stands { IfErr result (StandsFor (H.refuses how.now) EnergyTask (R.stream source.old)) }
+    ensures read { TellsRead (R.stream source.old) (R.stream source.new) result }
 {
     let energy = read_problem(alloc, source)?;
     let regular = check(&energy)?;
@@ -39,10 +39,10 @@ pub fn answer_energy<H: How, R: Source>(
 // The energy that the input names.
 fn read_problem<R: Source>(alloc: Global, source: &mut R) -> Result<Energy, Fault>
     ensures named { IfOk result (λ energy.
-        OfSomeInput (R.remaining source.old) (λ input. HoldsEnergy input energy)) }
+        OfSomeInput (R.stream source.old) (λ input. HoldsEnergy input energy)) }
     ensures stands { IfErr result (λ fault.
-        OfSomeInput (R.remaining source.old) (λ input. HasFileFault input fault)) }
-    ensures read { TellsRead (R.has_failed source.old) (R.has_failed source.new) result }
+        OfSomeInput (R.stream source.old) (λ input. HasFileFault input fault)) }
+    ensures read { TellsRead (R.stream source.old) (R.stream source.new) result }
 {
     let bytes = read_input(alloc, source)?;
     Ok(read_energy(alloc, bytes.as_slice())?)

@@ -11,7 +11,7 @@ ghost use Rattle.run_options.specs.Limits.{smooth_limit};
 ghost use Rattle.gco_cli.specs.Commands.{IsDueFor, StandsFor};
 ghost use Rattle.gco_cli.specs.Label.{AnswersProblem, HasReadingFault, HoldsProblem, IsRunFault, numbers_text, parts_of, run_text};
 ghost use Rattle.gco_cli.specs.Run.{TellsRead};
-ghost use Rattle.gco_cli.specs.Streams.{OfSomeInput};
+ghost use Rattle.gco_cli.specs.Inputs.{OfSomeInput};
 
 use crate::fault::Fault;
 use crate::fault_line::Line;
@@ -34,9 +34,9 @@ pub fn answer_label<H: How, R: Source>(
 ) -> Result<Answer, Fault>
     requires { H.ready how.now }
     ensures due { IfOk result (λ a.
-        IsDueFor (LabelTask bound) (R.remaining source.old) a.text.items a.said.bytes) }
-    ensures stands { IfErr result (StandsFor (H.refuses how.now) (LabelTask bound) (R.remaining source.old)) }
-    ensures read { TellsRead (R.has_failed source.old) (R.has_failed source.new) result }
+        IsDueFor (LabelTask bound) (R.stream source.old) a.text.items a.said.bytes) }
+    ensures stands { IfErr result (StandsFor (H.refuses how.now) (LabelTask bound) (R.stream source.old)) }
+    ensures read { TellsRead (R.stream source.old) (R.stream source.new) result }
 {
     let problem = read_problem(alloc, source)?;
     Ok(Answer {
@@ -47,12 +47,12 @@ pub fn answer_label<H: How, R: Source>(
 
 // The problem that the input names.
 fn read_problem<R: Source>(alloc: Global, source: &mut R) -> Result<LabelProblem, Fault>
-    ensures named { IfOk result (λ problem. OfSomeInput (R.remaining source.old)
+    ensures named { IfOk result (λ problem. OfSomeInput (R.stream source.old)
         (λ input. HoldsProblem input (told problem))) }
     ensures limits { IfOk result (λ problem. IsInLimits (told problem)) }
-    ensures stands { IfErr result (λ fault. OfSomeInput (R.remaining source.old)
+    ensures stands { IfErr result (λ fault. OfSomeInput (R.stream source.old)
         (λ input. HasReadingFault input fault)) }
-    ensures read { TellsRead (R.has_failed source.old) (R.has_failed source.new) result }
+    ensures read { TellsRead (R.stream source.old) (R.stream source.new) result }
 {
     let bytes = read_input(alloc, source)?;
     Ok(read_label(alloc, bytes.as_slice())?)

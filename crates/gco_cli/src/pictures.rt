@@ -1,5 +1,5 @@
 //! `gco restore`, `gco stereo` and `gco segment`.
-ghost use Rattle.std.specs.Prelude.{◌≡◌, IfOk, IfErr, OnOk};
+ghost use Rattle.std.specs.Prelude.{◌≡◌, IfOk, IfErr};
 ghost use Rattle.command_line.specs.Task.{FitsPicture};
 ghost use Rattle.command_line.specs.declared.task.Task.TheVariants.{Picture};
 ghost use Rattle.vision.specs.Faults.{IsWrite, Leaves, MayCome};
@@ -7,7 +7,6 @@ ghost use Rattle.vision.specs.Jobs.{Does, Job};
 ghost use Rattle.gco_cli.specs.Commands.{IsDueFor, StandsFor};
 ghost use Rattle.gco_cli.specs.Pictures.{HasPictureError, IsPictureJob, asks_bound, tells_labels};
 ghost use Rattle.gco_cli.specs.Run.{Refuses, TellsRead, Writes};
-ghost use Rattle.gco_cli.specs.Streams.{stream};
 
 use crate::fault::Fault;
 use crate::fault_line::Line;
@@ -30,14 +29,12 @@ pub fn picture<H: How, R: Source, W: Sink>(
 ) -> Result<Line, Fault>
     requires options { FitsPicture options }
     requires ready { H.ready how.now }
-    ensures done { IfOk result (λ said. Writes (IsDueFor (Picture options) (R.remaining source.old))
-        (stream (W.held sink.old) (W.has_failed sink.old))
-        (stream (W.held sink.new) (W.has_failed sink.new)) said.bytes) }
-    ensures refused { IfErr result (Refuses (IsDueFor (Picture options) (R.remaining source.old))
-        (StandsFor (H.refuses how.now) (Picture options) (R.remaining source.old))
-        (stream (W.held sink.old) (W.has_failed sink.old))
-        (stream (W.held sink.new) (W.has_failed sink.new))) }
-    ensures read { TellsRead (R.has_failed source.old) (R.has_failed source.new) result }
+    ensures done { IfOk result (λ said. Writes (IsDueFor (Picture options) (R.stream source.old))
+        (W.stream sink.old) (W.stream sink.new) said.bytes) }
+    ensures refused { IfErr result (Refuses (IsDueFor (Picture options) (R.stream source.old))
+        (StandsFor (H.refuses how.now) (Picture options) (R.stream source.old))
+        (W.stream sink.old) (W.stream sink.new)) }
+    ensures read { TellsRead (R.stream source.old) (R.stream source.new) result }
     ensures kept { W.loan sink.new ≡ W.loan sink.old }
 {
     let input = read_input(alloc, source)?;
@@ -58,10 +55,9 @@ fn run_picture<H: How, W: Sink>(
     requires options { FitsPicture options.now }
     requires ready { H.ready how.now }
     ensures done { IfOk result (λ report. (job : Job) × IsPictureJob options.now input.now job
-        × Does job (W.held sink.old) (W.held sink.new) report) }
-    ensures sound { OnOk result (W.has_failed sink.new ≡ W.has_failed sink.old) }
+        × Does job (W.stream sink.old) (W.stream sink.new) report) }
     ensures refused { IfErr result (Leaves (IsPictureJob options.now input.now)
-        (HasPictureError options.now input.now) (W.held sink.old) (W.held sink.new) (W.has_failed sink.new)) }
+        (HasPictureError options.now input.now) (W.stream sink.old) (W.stream sink.new)) }
     ensures cut { IfErr result (MayCome (H.refuses how.now)) }
     ensures unchanged { IfErr result (λ e. (¬ IsWrite e) → sink.new ≡ sink.old) }
     ensures kept { W.loan sink.new ≡ W.loan sink.old }

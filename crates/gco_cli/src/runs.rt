@@ -6,7 +6,6 @@ ghost use Rattle.workers.specs.Refusals.{MayRefuse};
 ghost use Rattle.gco_cli.specs.Commands.{IsDueFor, StandsFor, StandsForAsked};
 ghost use Rattle.gco_cli.specs.Refusals.{IsRefusalFor};
 ghost use Rattle.gco_cli.specs.Run.{IsDue, IsRun, IsUnread, Refuses, TellsRead, Writes, streams};
-ghost use Rattle.gco_cli.specs.Streams.{stream};
 
 use crate::ends::say_end;
 use crate::fault::Fault;
@@ -36,19 +35,11 @@ pub fn run_words<
 >(rt: &A, words: io::Result<Vec<S>>, source: &mut R, sink: &mut W, faults: &mut E) -> u8
     ensures run { MatchResult words
         (λ given. IsRun (map S.text given.items)
-        (streams (stream (R.remaining source.old) (R.has_failed source.old))
-        (stream (W.held sink.old) (W.has_failed sink.old))
-        (stream (E.held faults.old) (E.has_failed faults.old)))
-        (streams (stream (R.remaining source.new) (R.has_failed source.new))
-        (stream (W.held sink.new) (W.has_failed sink.new))
-        (stream (E.held faults.new) (E.has_failed faults.new))) result)
+        (streams (R.stream source.old) (W.stream sink.old) (E.stream faults.old))
+        (streams (R.stream source.new) (W.stream sink.new) (E.stream faults.new)) result)
         (λ error. IsUnread (error_kind error)
-        (streams (stream (R.remaining source.old) (R.has_failed source.old))
-        (stream (W.held sink.old) (W.has_failed sink.old))
-        (stream (E.held faults.old) (E.has_failed faults.old)))
-        (streams (stream (R.remaining source.new) (R.has_failed source.new))
-        (stream (W.held sink.new) (W.has_failed sink.new))
-        (stream (E.held faults.new) (E.has_failed faults.new))) result) }
+        (streams (R.stream source.old) (W.stream sink.old) (E.stream faults.old))
+        (streams (R.stream source.new) (W.stream sink.new) (E.stream faults.new)) result) }
     ensures kept { (W.loan sink.new ≡ W.loan sink.old) × (E.loan faults.new ≡ E.loan faults.old) }
 {
     match words {
@@ -69,12 +60,8 @@ pub fn run_streams<A: AllocGlobal + Threads + Wait + Sync, S: AsStr, R: Source, 
     faults: &mut E,
 ) -> u8
     ensures run { IsRun (map S.text words.now)
-        (streams (stream (R.remaining source.old) (R.has_failed source.old))
-        (stream (W.held sink.old) (W.has_failed sink.old))
-        (stream (E.held faults.old) (E.has_failed faults.old)))
-        (streams (stream (R.remaining source.new) (R.has_failed source.new))
-        (stream (W.held sink.new) (W.has_failed sink.new))
-        (stream (E.held faults.new) (E.has_failed faults.new))) result }
+        (streams (R.stream source.old) (W.stream sink.old) (E.stream faults.old))
+        (streams (R.stream source.new) (W.stream sink.new) (E.stream faults.new)) result }
     ensures kept { (W.loan sink.new ≡ W.loan sink.old) × (E.loan faults.new ≡ E.loan faults.old) }
 {
     let end = perform(rt, rt.alloc(), words, source, sink);
@@ -89,15 +76,11 @@ fn perform<A: Threads + Wait + Sync, S: AsStr, R: Source, W: Sink>(
     source: &mut R,
     sink: &mut W,
 ) -> Result<Line, Refusal>
-    ensures done { IfOk result (λ said. Writes (IsDue (map S.text words.now) (R.remaining source.old))
-        (stream (W.held sink.old) (W.has_failed sink.old))
-        (stream (W.held sink.new) (W.has_failed sink.new)) said.bytes
-        × (R.has_failed source.new ≡ R.has_failed source.old)) }
+    ensures done { IfOk result (λ said. Writes (IsDue (map S.text words.now) (R.stream source.old))
+        (W.stream sink.old) (W.stream sink.new) said.bytes
+        × ((R.stream source.new).has_failed ≡ (R.stream source.old).has_failed)) }
     ensures refused { IfErr result (IsRefusalFor (map S.text words.now)
-        (stream (R.remaining source.old) (R.has_failed source.old))
-        (stream (R.remaining source.new) (R.has_failed source.new))
-        (stream (W.held sink.old) (W.has_failed sink.old))
-        (stream (W.held sink.new) (W.has_failed sink.new))) }
+        (R.stream source.old) (R.stream source.new) (W.stream sink.old) (W.stream sink.new)) }
     ensures kept { W.loan sink.new ≡ W.loan sink.old }
 {
     match parse(alloc, words) {
@@ -115,14 +98,11 @@ fn answer_request<A: Threads + Wait + Sync, R: Source, W: Sink>(
     sink: &mut W,
 ) -> Result<Line, Fault>
     requires { Fits request }
-    ensures done { IfOk result (λ said. Writes (IsDueFor request.task (R.remaining source.old))
-        (stream (W.held sink.old) (W.has_failed sink.old))
-        (stream (W.held sink.new) (W.has_failed sink.new)) said.bytes) }
-    ensures refused { IfErr result (Refuses (IsDueFor request.task (R.remaining source.old))
-        (StandsForAsked request (R.remaining source.old))
-        (stream (W.held sink.old) (W.has_failed sink.old))
-        (stream (W.held sink.new) (W.has_failed sink.new))) }
-    ensures read { TellsRead (R.has_failed source.old) (R.has_failed source.new) result }
+    ensures done { IfOk result (λ said. Writes (IsDueFor request.task (R.stream source.old))
+        (W.stream sink.old) (W.stream sink.new) said.bytes) }
+    ensures refused { IfErr result (Refuses (IsDueFor request.task (R.stream source.old))
+        (StandsForAsked request (R.stream source.old)) (W.stream sink.old) (W.stream sink.new)) }
+    ensures read { TellsRead (R.stream source.old) (R.stream source.new) result }
     ensures kept { W.loan sink.new ≡ W.loan sink.old }
 {
     match request.workers {
@@ -141,14 +121,11 @@ fn run_by_workers<A: Threads + Wait + Sync, R: Source, W: Sink>(
     sink: &mut W,
 ) -> Result<Line, Fault>
     requires { FitsTask task }
-    ensures done { IfOk result (λ said. Writes (IsDueFor task (R.remaining source.old))
-        (stream (W.held sink.old) (W.has_failed sink.old))
-        (stream (W.held sink.new) (W.has_failed sink.new)) said.bytes) }
-    ensures refused { IfErr result (Refuses (IsDueFor task (R.remaining source.old))
-        (StandsFor (MayRefuse options) task (R.remaining source.old))
-        (stream (W.held sink.old) (W.has_failed sink.old))
-        (stream (W.held sink.new) (W.has_failed sink.new))) }
-    ensures read { TellsRead (R.has_failed source.old) (R.has_failed source.new) result }
+    ensures done { IfOk result (λ said. Writes (IsDueFor task (R.stream source.old))
+        (W.stream sink.old) (W.stream sink.new) said.bytes) }
+    ensures refused { IfErr result (Refuses (IsDueFor task (R.stream source.old))
+        (StandsFor (MayRefuse options) task (R.stream source.old)) (W.stream sink.old) (W.stream sink.new)) }
+    ensures read { TellsRead (R.stream source.old) (R.stream source.new) result }
     ensures kept { W.loan sink.new ≡ W.loan sink.old }
 {
     let open = Open;

@@ -4,7 +4,6 @@ ghost use Rattle.command_line.specs.Task.{FitsTask, HasText};
 ghost use Rattle.gco_cli.specs.Commands.{IsDueFor, StandsFor};
 ghost use Rattle.gco_cli.specs.Refusals.{IsCutHelp, IsHelp, IsRefusalOf, ShowsHelp};
 ghost use Rattle.gco_cli.specs.Run.{Refuses, TellsRead, Writes};
-ghost use Rattle.gco_cli.specs.Streams.{stream};
 
 use crate::energy::answer_energy;
 use crate::fault::Fault;
@@ -28,14 +27,11 @@ pub fn run_task<H: How, R: Source, W: Sink>(
 ) -> Result<Line, Fault>
     requires fits { FitsTask task }
     requires ready { H.ready how.now }
-    ensures done { IfOk result (λ said. Writes (IsDueFor task (R.remaining source.old))
-        (stream (W.held sink.old) (W.has_failed sink.old))
-        (stream (W.held sink.new) (W.has_failed sink.new)) said.bytes) }
-    ensures refused { IfErr result (Refuses (IsDueFor task (R.remaining source.old))
-        (StandsFor (H.refuses how.now) task (R.remaining source.old))
-        (stream (W.held sink.old) (W.has_failed sink.old))
-        (stream (W.held sink.new) (W.has_failed sink.new))) }
-    ensures read { TellsRead (R.has_failed source.old) (R.has_failed source.new) result }
+    ensures done { IfOk result (λ said. Writes (IsDueFor task (R.stream source.old))
+        (W.stream sink.old) (W.stream sink.new) said.bytes) }
+    ensures refused { IfErr result (Refuses (IsDueFor task (R.stream source.old))
+        (StandsFor (H.refuses how.now) task (R.stream source.old)) (W.stream sink.old) (W.stream sink.new)) }
+    ensures read { TellsRead (R.stream source.old) (R.stream source.new) result }
     ensures kept { W.loan sink.new ≡ W.loan sink.old }
 {
     match task {
@@ -54,10 +50,8 @@ pub fn run_task<H: How, R: Source, W: Sink>(
 /// Where the words have no task: writes help that was asked for.
 pub fn end_without_task<W: Sink>(no_task: NoTask, sink: &mut W) -> Result<Line, Refusal>
     requires { HasText no_task }
-    ensures done { IfOk result (λ said. ShowsHelp no_task (stream (W.held sink.old) (W.has_failed sink.old))
-        (stream (W.held sink.new) (W.has_failed sink.new)) said.bytes) }
-    ensures refused { IfErr result (IsRefusalOf no_task (stream (W.held sink.old) (W.has_failed sink.old))
-        (stream (W.held sink.new) (W.has_failed sink.new))) }
+    ensures done { IfOk result (λ said. ShowsHelp no_task (W.stream sink.old) (W.stream sink.new) said.bytes) }
+    ensures refused { IfErr result (IsRefusalOf no_task (W.stream sink.old) (W.stream sink.new)) }
     ensures kept { W.loan sink.new ≡ W.loan sink.old }
 {
     match no_task {
@@ -71,10 +65,8 @@ pub fn end_without_task<W: Sink>(no_task: NoTask, sink: &mut W) -> Result<Line, 
 // Writes help, which is not empty. Nothing is said beside it.
 fn show_help<W: Sink>(sink: &mut W, text: &str) -> Result<Line, Refusal>
     requires { 0 < length text.now }
-    ensures done { IfOk result (λ said. Writes IsHelp (stream (W.held sink.old) (W.has_failed sink.old))
-        (stream (W.held sink.new) (W.has_failed sink.new)) said.bytes) }
-    ensures cut { IfErr result (IsCutHelp (stream (W.held sink.old) (W.has_failed sink.old))
-        (stream (W.held sink.new) (W.has_failed sink.new))) }
+    ensures done { IfOk result (λ said. Writes IsHelp (W.stream sink.old) (W.stream sink.new) said.bytes) }
+    ensures cut { IfErr result (IsCutHelp (W.stream sink.old) (W.stream sink.new)) }
     ensures kept { W.loan sink.new ≡ W.loan sink.old }
 {
     match write_text(sink, text.as_bytes(), Line::new()) {

@@ -4,7 +4,6 @@ ghost use Rattle.std.specs.declared.io.ErrorKind.TheVariants.{InvalidData};
 ghost use Rattle.gco_cli.specs.FaultLine.{fault_line};
 ghost use Rattle.gco_cli.specs.declared.fault.Fault.TheVariants.{OutOfMemory};
 ghost use Rattle.gco_cli.specs.Run.{IsSaid};
-ghost use Rattle.gco_cli.specs.Streams.{stream};
 
 use crate::ends::say;
 use crate::fault::Fault;
@@ -16,11 +15,10 @@ use std::io::ErrorKind;
 /// `InvalidData`, and else memory was refused.
 pub fn refuse_unread<E: Sink>(kind: ErrorKind, faults: &mut E) -> u8
     ensures no_text { kind ≡ InvalidData
-        → IsSaid (stream (E.held faults.old) (E.has_failed faults.old))
-        (stream (E.held faults.new) (E.has_failed faults.new)) (codes "error: an argument is not text\n") 2 result }
+        → IsSaid (E.stream faults.old) (E.stream faults.new)
+        (codes "error: an argument is not text\n") 2 result }
     ensures no_memory { kind ≢ InvalidData
-        → IsSaid (stream (E.held faults.old) (E.has_failed faults.old))
-        (stream (E.held faults.new) (E.has_failed faults.new)) (fault_line OutOfMemory) 1 result }
+        → IsSaid (E.stream faults.old) (E.stream faults.new) (fault_line OutOfMemory) 1 result }
     ensures kept { E.loan faults.new ≡ E.loan faults.old }
 {
     match kind {

@@ -1,7 +1,7 @@
 //! What a command answers, and how it is written.
 ghost use Rattle.std.specs.Prelude.{◌≡◌, IfOk, IfErr};
 ghost use Rattle.gco_cli.specs.Run.{IsCutIn};
-ghost use Rattle.gco_cli.specs.Streams.{Takes, stream};
+ghost use Rattle.byte_streams.specs.Streams.{Takes};
 
 use crate::fault::Fault;
 use crate::fault_line::Line;
@@ -19,10 +19,8 @@ pub struct Answer {
 /// Writes a text, and hands on what is to be said beside it.
 pub fn write_text<W: Sink>(sink: &mut W, text: &[u8], said: Line) -> Result<Line, Fault>
     ensures done { IfOk result (λ line. (line ≡ said) ×
-        Takes (stream (W.held sink.old) (W.has_failed sink.old))
-        (stream (W.held sink.new) (W.has_failed sink.new)) text.now) }
-    ensures cut { IfErr result (IsCutIn text.now (stream (W.held sink.old) (W.has_failed sink.old))
-        (stream (W.held sink.new) (W.has_failed sink.new))) }
+        Takes (W.stream sink.old) (W.stream sink.new) text.now) }
+    ensures cut { IfErr result (IsCutIn text.now (W.stream sink.old) (W.stream sink.new)) }
     ensures kept { W.loan sink.new ≡ W.loan sink.old }
 {
     match put_text(sink, text) {

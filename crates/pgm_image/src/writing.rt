@@ -1,15 +1,15 @@
 //! An image to a writer.
-ghost use Rattle.std.specs.Prelude.{◌≡◌, ◌≤◌, ◌<◌, ◌+◌, ◌*◌, ◌^◌, ◌++◌, ◌∷◌, [], length, decimal, All, true, OnOk, OnErr, IfOk, IfErr};
-ghost use Rattle.std.specs.Io.KnownBytes.{Appends};
+ghost use Rattle.std.specs.Prelude.{◌≡◌, ◌≤◌, ◌<◌, ◌+◌, ◌*◌, ◌^◌, ◌++◌, ◌∷◌, [], length, decimal, All, OnOk, IfErr};
 ghost use Rattle.arrayvec.specs.ArrayString.{array_string_len};
 ghost use Rattle.arrayvec.specs.ArrayVec.{array_vec_len};
+ghost use Rattle.byte_streams.specs.Streams.{Stops, Takes};
 ghost use Rattle.pgm_image.specs.Raster.{raster};
-ghost use Rattle.pgm_image.specs.Written.{written, header_text, StopsAfter};
+ghost use Rattle.pgm_image.specs.Written.{StopsAsTold, header_text, written};
 
 use crate::error::WriteError;
 use crate::image::Image;
 use arrayvec::{ArrayString, ArrayVec};
-use byte_streams::{Sink, Watched, put_text};
+use byte_streams::{Sink, Watched, WriteFailed, put_text};
 use itoa::Buffer;
 use std::io::Write;
 
@@ -77,49 +77,27 @@ fn raster_of(maxval: u32, samples: &[u16]) -> ArrayVec<u8, PART_ROOM>
     bytes
 }
 
-/// Puts a piece, after `taken` bytes that were put before.
-fn put_piece<S: Sink>(sink: &mut S, taken: usize, piece: &[u8]) -> Result<usize, WriteError>
-    requires { taken + length piece.now < 2 ^ 40 }
-    ensures ok { IfOk result (λ n. n ≡ taken + length piece.now) }
-    ensures all { OnOk result (Appends (S.held sink.old) (S.held sink.new) piece.now) }
-    ensures sound { OnOk result (S.has_failed sink.new ≡ S.has_failed sink.old) }
-    ensures failed { IfErr result (λ e.
-        StopsAfter (S.held sink.old) (S.held sink.new) taken piece.now e) }
-    ensures only { OnErr result (S.has_failed sink.new ≡ true) }
-    ensures kept { S.loan sink.new ≡ S.loan sink.old }
-{
-    match put_text(sink, piece) {
-        Ok(()) => Ok(taken + piece.len()),
-        Err(failed) => Err(WriteError::WriteFailed(taken + failed.count)),
-    }
-}
-
-/// Puts the raster, after `taken` bytes that were put before.
-fn put_raster<S: Sink>(
-    sink: &mut S,
-    taken: usize,
-    maxval: u32,
-    samples: &[u16],
-) -> Result<(), WriteError>
+/// Puts the raster. It is refused as `put_text` is.
+fn put_raster<S: Sink>(sink: &mut S, maxval: u32, samples: &[u16]) -> Result<(), WriteFailed>
     requires small { All (λ x. x ≤ maxval) samples.now }
-    requires size { taken + 2 * length samples.now < 2 ^ 40 }
-    ensures ok { OnOk result
-        (Appends (S.held sink.old) (S.held sink.new) (raster maxval samples.now)) }
-    ensures sound { OnOk result (S.has_failed sink.new ≡ S.has_failed sink.old) }
-    ensures failed { IfErr result (λ e.
-        StopsAfter (S.held sink.old) (S.held sink.new) taken (raster maxval samples.now) e) }
-    ensures only { OnErr result (S.has_failed sink.new ≡ true) }
+    requires size { 2 * length samples.now < 2 ^ 40 }
+    ensures takes { OnOk result (Takes (S.stream sink.old) (S.stream sink.new) (raster maxval samples.now)) }
+    ensures stops { IfErr result (λ e.
+        Stops (S.stream sink.old) (S.stream sink.new) (raster maxval samples.now) e.count) }
     ensures kept { S.loan sink.new ≡ S.loan sink.old }
 {
-    let mut taken = taken;
+    let mut taken = 0;
     let mut rest = samples;
     while !rest.is_empty() {
         let (part, after) = rest.split_at(rest.len().min(PART_LIMIT));
         let piece = raster_of(maxval, part);
-        taken = match put_piece(sink, taken, piece.as_slice()) {
-            Ok(taken) => taken,
-            Err(e) => return Err(e),
-        };
+        let bytes = piece.as_slice();
+        match put_text(sink, bytes) {
+            Ok(()) => taken += bytes.len(),
+            Err(failed) => return Err(WriteFailed {
+                count: taken + failed.count,
+            }),
+        }
         rest = after;
     }
     Ok(())
@@ -130,22 +108,19 @@ fn put_raster<S: Sink>(
 /// `WriteFailed` comes only where a call of the sink failed. The sink then took exactly the told
 /// count of bytes, the first ones of the written form.
 pub fn put_image<S: Sink>(image: &Image, sink: &mut S) -> Result<(), WriteError>
-    ensures ok { OnOk result
-        (Appends (S.held sink.old) (S.held sink.new) (written image.now)) }
-    ensures sound { OnOk result (S.has_failed sink.new ≡ S.has_failed sink.old) }
-    ensures failed { IfErr result (λ e.
-        StopsAfter (S.held sink.old) (S.held sink.new) 0 (written image.now) e) }
-    ensures only { OnErr result (S.has_failed sink.new ≡ true) }
+    ensures takes { OnOk result (Takes (S.stream sink.old) (S.stream sink.new) (written image.now)) }
+    ensures stops { IfErr result (StopsAsTold (S.stream sink.old) (S.stream sink.new) (written image.now)) }
     ensures kept { S.loan sink.new ≡ S.loan sink.old }
 {
     let header = header_of(image);
-    let taken = match put_piece(sink, 0, header.as_bytes()) {
-        Ok(taken) => taken,
-        Err(e) => return Err(e),
-    };
-    match put_raster(sink, taken, image.maxval(), image.samples()) {
+    let text = header.as_bytes();
+    match put_text(sink, text) {
+        Ok(()) => {}
+        Err(failed) => return Err(WriteError::WriteFailed(failed.count)),
+    }
+    match put_raster(sink, image.maxval(), image.samples()) {
         Ok(()) => Ok(()),
-        Err(e) => Err(e),
+        Err(failed) => Err(WriteError::WriteFailed(text.len() + failed.count)),
     }
 }
 
@@ -154,13 +129,11 @@ pub fn put_image<S: Sink>(image: &Image, sink: &mut S) -> Result<(), WriteError>
 /// `WriteFailed` comes only where a call of the writer answered a fault, or took no byte of a piece that was not
 /// empty. The writer then took exactly the told count of bytes, the first ones of the written form, which are
 /// fewer than all.
-pub fn write_image<W: Write>(image: &Image, sink: &mut Watched<'_, W>) -> Result<(), WriteError>
-    ensures ok { OnOk result (Appends (W.contents sink.old.writer.now)
-        (W.contents sink.new.writer.now) (written image.now)) }
-    ensures sound { OnOk result (sink.new.has_failed ≡ sink.old.has_failed) }
-    ensures failed { IfErr result (λ e. StopsAfter (W.contents sink.old.writer.now)
-        (W.contents sink.new.writer.now) 0 (written image.now) e) }
-    ensures only { OnErr result (sink.new.has_failed ≡ true) }
+pub fn write_image<'a, W: Write>(image: &Image, sink: &mut Watched<'a, W>) -> Result<(), WriteError>
+    ensures takes { OnOk result (Takes (⟦<Watched<'a, W> as Sink>⟧.stream sink.old)
+        (⟦<Watched<'a, W> as Sink>⟧.stream sink.new) (written image.now)) }
+    ensures stops { IfErr result (StopsAsTold (⟦<Watched<'a, W> as Sink>⟧.stream sink.old)
+        (⟦<Watched<'a, W> as Sink>⟧.stream sink.new) (written image.now)) }
     ensures kept { sink.new.writer.ghost_name ≡ sink.old.writer.ghost_name }
 {
     put_image(image, sink)

@@ -1,8 +1,8 @@
 -- From what is ready to be written to what a command did.
-use Rattle.std.proofs.Common.{◌≡◌, ℕ, Bool, true, List, Option, Result, Ok, Err, IfOk, IfErr, OnOk, OnErr, sym, subst}
-use Rattle.std.specs.Io.KnownBytes.{Appends}
+use Rattle.std.proofs.Common.{◌≡◌, ℕ, Result, Ok, Err, IfOk, IfErr, OnOk, sym, subst}
+use Rattle.byte_streams.specs.Streams.{Stops, Stream, Takes}
 use Rattle.pgm_image.specs.Picture.{Picture}
-use Rattle.pgm_image.specs.Written.{written, Stops}
+use Rattle.pgm_image.specs.Written.{written}
 use Rattle.vision.specs.Faults.{IsStop, IsWrite, Leaves}
 use Rattle.vision.specs.Jobs.{Job, Does, IsFinished, Tells}
 use Rattle.vision.specs.declared.error.VisionError.{VisionError}
@@ -11,49 +11,48 @@ use Rattle.vision.specs.declared.job.Finished.{Finished}
 use Rattle.vision.specs.declared.report.Report.{Report}
 
 -- a picture that was written whole
-pub does : (IsJob : Job → Type 0) (f : Finished) (old new : Option (List ℕ)) (r : Result Report VisionError)
+pub does : (IsJob : Job → Type 0) (f : Finished) (old new : Stream) (r : Result Report VisionError)
     → ((job : Job) × IsJob job × IsFinished job f) → IfOk r (λ (report : Report). report ≡ f.report)
-    → OnOk r (Appends old new (written f.image)) → IfOk r (λ (report : Report). (job : Job) × IsJob job × Does job old new report)
+    → OnOk r (Takes old new (written f.image)) → IfOk r (λ (report : Report). (job : Job) × IsJob job × Does job old new report)
 does IsJob f old new (Ok report) is told took = (
   is.0,
   is.1,
   record {
     labels = f.image.samples;
     ends = is.2.ends;
-    took = subst (λ (p : Picture). Appends old new (written p)) is.2.image_is took;
+    took = subst (λ (p : Picture). Takes old new (written p)) is.2.image_is took;
     tells = subst (λ (q : Report). Tells is.0 f.image.samples is.2.ends.settled q) (sym told) is.2.tells;
   },
 )
 does IsJob f old new (Err e) is told took = tt
 
-stop_leaves : (IsJob : Job → Type 0) (HasFault : VisionError → Type 0) (f : Finished) (old new : Option (List ℕ)) (failed : Bool) (e : VisionError)
-    → ((job : Job) × IsJob job × IsFinished job f) → IsStop (λ (count : ℕ). Stops old new 0 (written f.image) count) e → failed ≡ true
-    → Leaves IsJob HasFault old new failed e
-stop_leaves IsJob HasFault f old new failed OutOfMemory is stops only = absurd stops
-stop_leaves IsJob HasFault f old new failed (Image x) is stops only = absurd stops
-stop_leaves IsJob HasFault f old new failed SizesDiffer is stops only = absurd stops
-stop_leaves IsJob HasFault f old new failed (BadSeed i) is stops only = absurd stops
-stop_leaves IsJob HasFault f old new failed TooManyLevels is stops only = absurd stops
-stop_leaves IsJob HasFault f old new failed (Move x) is stops only = absurd stops
-stop_leaves IsJob HasFault f old new failed (Write stop) is stops only = (
+stop_leaves : (IsJob : Job → Type 0) (HasFault : VisionError → Type 0) (f : Finished) (old new : Stream) (e : VisionError)
+    → ((job : Job) × IsJob job × IsFinished job f) → IsStop (λ (count : ℕ). Stops old new (written f.image) count) e
+    → Leaves IsJob HasFault old new e
+stop_leaves IsJob HasFault f old new OutOfMemory is stops = absurd stops
+stop_leaves IsJob HasFault f old new (Image x) is stops = absurd stops
+stop_leaves IsJob HasFault f old new SizesDiffer is stops = absurd stops
+stop_leaves IsJob HasFault f old new (BadSeed i) is stops = absurd stops
+stop_leaves IsJob HasFault f old new TooManyLevels is stops = absurd stops
+stop_leaves IsJob HasFault f old new (Move x) is stops = absurd stops
+stop_leaves IsJob HasFault f old new (Write stop) is stops = (
   is.0,
   is.1,
   record {
     labels = f.image.samples;
     ends = is.2.ends;
-    took = subst (λ (p : Picture). Stops old new 0 (written p) stop.count) is.2.image_is stops;
+    took = subst (λ (p : Picture). Stops old new (written p) stop.count) is.2.image_is stops;
     report = f.report;
     tells = is.2.tells;
   },
-  only,
 )
 
 -- a picture whose writing stopped
-pub leaves : (IsJob : Job → Type 0) (HasFault : VisionError → Type 0) (f : Finished) (old new : Option (List ℕ)) (failed : Bool) (r : Result Report VisionError)
-    → ((job : Job) × IsJob job × IsFinished job f) → IfErr r (IsStop (λ (count : ℕ). Stops old new 0 (written f.image) count))
-    → OnErr r (failed ≡ true) → IfErr r (Leaves IsJob HasFault old new failed)
-leaves IsJob HasFault f old new failed (Ok report) is stops only = tt
-leaves IsJob HasFault f old new failed (Err e) is stops only = stop_leaves IsJob HasFault f old new failed e is stops only
+pub leaves : (IsJob : Job → Type 0) (HasFault : VisionError → Type 0) (f : Finished) (old new : Stream) (r : Result Report VisionError)
+    → ((job : Job) × IsJob job × IsFinished job f) → IfErr r (IsStop (λ (count : ℕ). Stops old new (written f.image) count))
+    → IfErr r (Leaves IsJob HasFault old new)
+leaves IsJob HasFault f old new (Ok report) is stops = tt
+leaves IsJob HasFault f old new (Err e) is stops = stop_leaves IsJob HasFault f old new e is stops
 
 stop_is_write : (After : ℕ → Type 0) (e : VisionError) → IsStop After e → IsWrite e
 stop_is_write After OutOfMemory stops = stops

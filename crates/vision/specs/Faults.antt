@@ -1,6 +1,7 @@
 -- Why a command was refused: the first cause in the order first image, second image, sizes, seeds, levels,
 -- moves, writing.
-use Rattle.std.specs.Prelude.{◌≡◌, ℕ, ◌<◌, ◌⊎◌, ⊤, Bool, true, List, Option}
+use Rattle.std.specs.Prelude.{◌≡◌, ℕ, ◌<◌, ◌⊎◌, ⊤, List}
+use Rattle.byte_streams.specs.Streams.{Stream}
 use Rattle.moves.specs.declared.error.MoveError.{MoveError}
 use Rattle.moves.specs.declared.error.MoveError.TheVariants as move
 use Rattle.moves.specs.declared.error.SolveError.{SolveError}
@@ -82,11 +83,9 @@ HasSegmentFault o input e = HasPairFault input e
 
 -- a refusal leaves the writer as it was, unless the writer failed: then it took the first bytes of the
 -- picture's written form, as many as are told
-abbrev pub Leaves : (Job → Type 0) → (VisionError → Type 0) → Option (List ℕ) → Option (List ℕ) → Bool
-    → VisionError → Type 0
-Leaves IsJob HasFault old new failed (Write stop) =
-    (job : Job) × IsJob job × StopsAfter job old new stop.count × (failed ≡ true)
-Leaves IsJob HasFault old new failed e = HasFault e
+abbrev pub Leaves : (Job → Type 0) → (VisionError → Type 0) → Stream → Stream → VisionError → Type 0
+Leaves IsJob HasFault old new (Write stop) = (job : Job) × IsJob job × StopsAfter job old new stop.count
+Leaves IsJob HasFault old new e = HasFault e
 
 abbrev pub IsWrite : VisionError → Type 0
 IsWrite (Write failed) = ⊤

@@ -1,6 +1,6 @@
 -- What a command does with the problem that its pictures and options name.
-use Rattle.std.specs.Prelude.{◌≡◌, ℕ, ◌-◌, max, Bool, false, IsTrue, IsFalse, IfSome, ◌≤◌, List, replicate, Option, None, pos, Err}
-use Rattle.std.specs.Io.KnownBytes.{Appends}
+use Rattle.std.specs.Prelude.{◌≡◌, ℕ, ◌-◌, max, Bool, false, IsTrue, IsFalse, IfSome, ◌≤◌, List, replicate, None, pos, Err}
+use Rattle.byte_streams.specs.Streams.{Stops, Stream, Takes}
 use Rattle.labellings.specs.declared.change.Move.{Move}
 use Rattle.labellings.specs.Energies.{Instance, labelling, data_energy, smooth_energy, label_energy, energy}
 use Rattle.labellings.specs.Chains.{IsChain, moves_of as cycle_of}
@@ -9,7 +9,7 @@ use Rattle.moves.specs.Problems.{IsRun}
 use Rattle.moves.specs.declared.error.MoveError.{MoveError}
 use Rattle.moves.specs.declared.error.MoveError.TheVariants.{LabelCostInSwap}
 use Rattle.pgm_image.specs.Picture.{Picture, picture, IsPicture}
-use Rattle.pgm_image.specs.Written.{written, Stops}
+use Rattle.pgm_image.specs.Written.{written}
 use Rattle.run_options.specs.Limits.{smooth_limit}
 use Rattle.labellings.specs.declared.cycles.Moves.{Moves}
 use Rattle.labellings.specs.declared.cycles.Moves.TheVariants.{Expansion}
@@ -90,17 +90,17 @@ pub record Tells (job : Job) (labels : List ℕ) (settled : Bool) (report : Repo
 
 -- the writer took exactly the written form of the picture of the chain's last labels, of which the report
 -- tells
-pub record Does (job : Job) (old new : Option (List ℕ)) (report : Report) : Type 0 where
+pub record Does (job : Job) (old new : Stream) (report : Report) : Type 0 where
   pub labels : List ℕ
   pub ends : EndsAt job labels
-  pub took : Appends old new (written (picture_of job labels))
+  pub took : Takes old new (written (picture_of job labels))
   pub tells : Tells job labels ends.settled report
 
 -- the writer took exactly the first so many bytes of that written form, and not all; this is what would have been told
-pub record StopsAfter (job : Job) (old new : Option (List ℕ)) (count : ℕ) : Type 0 where
+pub record StopsAfter (job : Job) (old new : Stream) (count : ℕ) : Type 0 where
   pub labels : List ℕ
   pub ends : EndsAt job labels
-  pub took : Stops old new 0 (written (picture_of job labels)) count
+  pub took : Stops old new (written (picture_of job labels)) count
   pub report : Report
   pub tells : Tells job labels ends.settled report
 

@@ -1,6 +1,6 @@
 //! The run of a problem of labels over the pixels of a picture, and the picture that it makes.
-ghost use Rattle.std.specs.Prelude.{◌≡◌, ◌↔◌, ℕ, ◌+◌, ◌*◌, ◌<◌, ◌≤◌, pos, ◌≤ℤ◌, ◌+ℤ◌, All, IfOk, IfErr, IfSome, IsTrue, MatchResult, OnOk, OnErr, length, true, unwrap_or, if◌then◌else◌};
-ghost use Rattle.std.specs.Io.KnownBytes.{Appends};
+ghost use Rattle.std.specs.Prelude.{◌≡◌, ◌↔◌, ℕ, ◌+◌, ◌*◌, ◌<◌, ◌≤◌, pos, ◌≤ℤ◌, ◌+ℤ◌, All, IfOk, IfErr, IfSome, IsTrue, MatchResult, OnOk, length, unwrap_or, if◌then◌else◌};
+ghost use Rattle.byte_streams.specs.Streams.{Stops, Takes};
 ghost use Rattle.label_field.specs.LabelFields.{AreSizes};
 ghost use Rattle.labellings.specs.Energies.{Instance};
 ghost use Rattle.cost_store.specs.Limits.{data_limit, smooth_limit};
@@ -9,7 +9,7 @@ ghost use Rattle.cost_store.specs.Promises.{IsCost, IsMetricTable, IsTable, Keep
 ghost use Rattle.moves.specs.Instances.{IsInstanceOf};
 ghost use Rattle.moves.specs.Runs.{IsSized};
 ghost use Rattle.pgm_image.specs.Picture.{IsPicture, picture};
-ghost use Rattle.pgm_image.specs.Written.{written, Stops};
+ghost use Rattle.pgm_image.specs.Written.{written};
 ghost use Rattle.run_options.specs.Limits.{label_cost_limit, trunc_limit};
 ghost use Rattle.run_options.specs.Shapes.{shape_cost};
 ghost use Rattle.vision.specs.Faults.{HasRunFault, IsStop, MayCome, TellsPair};
@@ -214,11 +214,9 @@ pub(crate) fn put_finished<S: Sink>(
     sink: &mut S,
 ) -> Result<Report, VisionError>
     ensures told { IfOk result (λ report. report ≡ finished.now.report) }
-    ensures taken { OnOk result (Appends (S.held sink.old) (S.held sink.new) (written finished.now.image)) }
-    ensures sound { OnOk result (S.has_failed sink.new ≡ S.has_failed sink.old) }
-    ensures failed { IfErr result (IsStop (λ count.
-        Stops (S.held sink.old) (S.held sink.new) 0 (written finished.now.image) count)) }
-    ensures only { OnErr result (S.has_failed sink.new ≡ true) }
+    ensures takes { OnOk result (Takes (S.stream sink.old) (S.stream sink.new) (written finished.now.image)) }
+    ensures stops { IfErr result (IsStop
+        (Stops (S.stream sink.old) (S.stream sink.new) (written finished.now.image))) }
     ensures kept { S.loan sink.new ≡ S.loan sink.old }
 {
     put_image(&finished.image, sink)?;

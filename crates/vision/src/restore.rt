@@ -1,5 +1,5 @@
 //! Restoring a picture.
-ghost use Rattle.std.specs.Prelude.{◌≡◌, ◌≢◌, ◌+◌, ◌<◌, ◌≤◌, pos, IfOk, IfErr, OnOk, MatchResult, length, slice_index};
+ghost use Rattle.std.specs.Prelude.{◌≡◌, ◌≢◌, ◌+◌, ◌<◌, ◌≤◌, pos, IfOk, IfErr, MatchResult, length, slice_index};
 ghost use Rattle.label_field.specs.Grids.{distance};
 ghost use Rattle.run_options.specs.Ranges.{AreRestoreOptions};
 ghost use Rattle.run_options.specs.declared.shape.Shape.TheVariants.{Quadratic};
@@ -46,10 +46,9 @@ pub fn run_restore<H: How, S: Sink>(
     requires options { AreRestoreOptions options.now }
     requires ready { H.ready how.now }
     ensures done { IfOk result (λ report. (job : Job) × IsRestoreJob options.now input.now job
-        × Does job (S.held sink.old) (S.held sink.new) report) }
-    ensures sound { OnOk result (S.has_failed sink.new ≡ S.has_failed sink.old) }
+        × Does job (S.stream sink.old) (S.stream sink.new) report) }
     ensures refused { IfErr result (Leaves (IsRestoreJob options.now input.now)
-        (HasRestoreFault options.now input.now) (S.held sink.old) (S.held sink.new) (S.has_failed sink.new)) }
+        (HasRestoreFault options.now input.now) (S.stream sink.old) (S.stream sink.new)) }
     ensures cut { IfErr result (MayCome (H.refuses how.now)) }
     ensures metric { options.now.smooth ≢ Quadratic → IfErr result (λ e. ¬ TellsPair e) }
     ensures unchanged { IfErr result (λ e. (¬ IsWrite e) → sink.new ≡ sink.old) }

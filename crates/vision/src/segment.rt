@@ -1,5 +1,5 @@
 //! Parting a picture in two.
-ghost use Rattle.std.specs.Prelude.{◌≡◌, ◌*◌, ◌<◌, ◌≤◌, pos, All, IfOk, IfErr, OnOk, MatchOption, MatchResult, length, slice_index};
+ghost use Rattle.std.specs.Prelude.{◌≡◌, ◌*◌, ◌<◌, ◌≤◌, pos, All, IfOk, IfErr, MatchOption, MatchResult, length, slice_index};
 ghost use Rattle.run_options.specs.Ranges.{AreSegmentOptions};
 ghost use Rattle.pgm_image.specs.Raster.{IsFirstAbove};
 ghost use Rattle.vision.specs.Faults.{HasRunFault, HasSegmentFault, IsWrite, Leaves, MayCome, TellsPair};
@@ -49,10 +49,9 @@ pub fn run_segment<H: How, S: Sink>(
     requires options { AreSegmentOptions options.now }
     requires ready { H.ready how.now }
     ensures done { IfOk result (λ report. (job : Job) × IsSegmentJob options.now input.now job
-        × Does job (S.held sink.old) (S.held sink.new) report) }
-    ensures sound { OnOk result (S.has_failed sink.new ≡ S.has_failed sink.old) }
+        × Does job (S.stream sink.old) (S.stream sink.new) report) }
     ensures refused { IfErr result (Leaves (IsSegmentJob options.now input.now)
-        (HasSegmentFault options.now input.now) (S.held sink.old) (S.held sink.new) (S.has_failed sink.new)) }
+        (HasSegmentFault options.now input.now) (S.stream sink.old) (S.stream sink.new)) }
     ensures cut { IfErr result (MayCome (H.refuses how.now)) }
     ensures metric { IfErr result (λ e. ¬ TellsPair e) }
     ensures unchanged { IfErr result (λ e. (¬ IsWrite e) → sink.new ≡ sink.old) }

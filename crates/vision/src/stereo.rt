@@ -1,5 +1,5 @@
 //! Matching a left and a right picture.
-ghost use Rattle.std.specs.Prelude.{◌≡◌, ◌≢◌, ◌+◌, ◌-◌, ◌*◌, ◌%◌, ◌<◌, ◌≤◌, pos, min, nat_lt, if◌then◌else◌, IfOk, IfErr, OnOk, MatchResult, length, slice_index};
+ghost use Rattle.std.specs.Prelude.{◌≡◌, ◌≢◌, ◌+◌, ◌-◌, ◌*◌, ◌%◌, ◌<◌, ◌≤◌, pos, min, nat_lt, if◌then◌else◌, IfOk, IfErr, MatchResult, length, slice_index};
 ghost use Rattle.run_options.specs.Limits.{cap_limit};
 ghost use Rattle.run_options.specs.Ranges.{AreStereoOptions};
 ghost use Rattle.pgm_image.specs.Picture.{IsPicture};
@@ -44,10 +44,9 @@ pub fn run_stereo<H: How, S: Sink>(
     requires options { AreStereoOptions options.now }
     requires ready { H.ready how.now }
     ensures done { IfOk result (λ report. (job : Job) × IsStereoJob options.now input.now job
-        × Does job (S.held sink.old) (S.held sink.new) report) }
-    ensures sound { OnOk result (S.has_failed sink.new ≡ S.has_failed sink.old) }
+        × Does job (S.stream sink.old) (S.stream sink.new) report) }
     ensures refused { IfErr result (Leaves (IsStereoJob options.now input.now)
-        (HasStereoFault options.now input.now) (S.held sink.old) (S.held sink.new) (S.has_failed sink.new)) }
+        (HasStereoFault options.now input.now) (S.stream sink.old) (S.stream sink.new)) }
     ensures cut { IfErr result (MayCome (H.refuses how.now)) }
     ensures metric { options.now.smooth ≢ Quadratic → IfErr result (λ e. ¬ TellsPair e) }
     ensures unchanged { IfErr result (λ e. (¬ IsWrite e) → sink.new ≡ sink.old) }

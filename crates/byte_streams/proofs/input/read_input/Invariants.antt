@@ -5,5 +5,5 @@ use Rattle.byte_streams.proofs.input.read_input.Given as goal
 abbrev pub invariant-loop : goal.invariant-loop
 invariant-loop g l =
     (l.counter ≤ length l.input.items) × (length l.input.items ≤ 268435456)
-    × Consumes (g.S.Source.remaining l.initial.source) (g.S.Source.remaining l.source) l.input.items
-    × (g.S.Source.has_failed l.source ≡ g.S.Source.has_failed l.initial.source)
+    × Consumes (g.S.Source.stream l.initial.source).bytes (g.S.Source.stream l.source).bytes l.input.items
+    × ((g.S.Source.stream l.source).has_failed ≡ (g.S.Source.stream l.initial.source).has_failed)

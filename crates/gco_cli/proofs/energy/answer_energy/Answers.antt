@@ -6,16 +6,16 @@ use Rattle.gco_cli.proofs.energy.answer_energy.Goals as goal
 pub returns-in_err-energy-clause-stands : goal.returns-in_err-energy-clause-stands
 returns-in_err-energy-clause-stands g c =
     let p = err_from_is_err_and c.from_residual.result c.from_residual.ensures.1 in
-    rw (p.1, p.2) (file_stands (g.H.How.refuses c.args.how.now) (g.R.Source.remaining c.args.source.now) c.in_err-energy.field-0.0 c.in_err-energy.ensures.stands)
+    rw (p.1, p.2) (file_stands (g.H.How.refuses c.args.how.now) (g.R.Source.stream c.args.source.now) c.in_err-energy.field-0.0 c.in_err-energy.ensures.stands)
 
 pub returns-in_err-regular-clause-stands : goal.returns-in_err-regular-clause-stands
 returns-in_err-regular-clause-stands g c =
     let p = err_from_is_err_and c.from_residual-in_err-regular.result c.from_residual-in_err-regular.ensures.1 in
-    rw (p.1, p.2) (irregular_stands (g.H.How.refuses c.args.how.now) (g.R.Source.remaining c.args.source.now) c.in_ok-energy.energy c.in_err-regular.field-0.0
+    rw (p.1, p.2) (irregular_stands (g.H.How.refuses c.args.how.now) (g.R.Source.stream c.args.source.now) c.in_ok-energy.energy c.in_err-regular.field-0.0
     c.in_ok-energy.ensures.named c.in_err-regular.ensures.first)
 
 pub returns-in_err-answer-clause-stands : goal.returns-in_err-answer-clause-stands
 returns-in_err-answer-clause-stands g c =
     let p = err_from_is_err_and c.from_residual-in_err-answer.result c.from_residual-in_err-answer.ensures.1 in
-    rw (p.1, p.2) (cut_stands (g.H.How.refuses c.args.how.now) (g.R.Source.remaining c.args.source.now) c.in_ok-energy.energy c.in_err-answer.field-0.0
+    rw (p.1, p.2) (cut_stands (g.H.How.refuses c.args.how.now) (g.R.Source.stream c.args.source.now) c.in_ok-energy.energy c.in_err-answer.field-0.0
     c.in_ok-energy.ensures.named (c.in_ok-regular.ensures.regular.0 (refl {a = true})) c.in_err-answer.ensures.refused)

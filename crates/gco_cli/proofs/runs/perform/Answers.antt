@@ -1,6 +1,5 @@
 use Rattle.std.proofs.Common.{map, inr}
 use Rattle.gco_cli.specs.Refusals.{IsRefusalFor}
-use Rattle.gco_cli.specs.Streams.{stream}
 use Rattle.gco_cli.proofs.RefusalLemmas.{all_refused, all_shown, as_fault, of_command}
 use Rattle.gco_cli.proofs.runs.perform.Goals as goal
 
@@ -8,28 +7,23 @@ pub returns-in_err-answer_request-in-Ok-clause-refused :
     goal.returns-in_err-answer_request-in-Ok-clause-refused
 returns-in_err-answer_request-in-Ok-clause-refused g c =
     let words = map g.S.AsStr.text c.args.words.now in
-    let source = stream (g.R.Source.remaining c.args.source.now) (g.R.Source.has_failed c.args.source.now) in
-    let source_new = stream (g.R.Source.remaining c.answer_request.new.source) (g.R.Source.has_failed c.answer_request.new.source) in
-    let old = stream (g.W.Sink.held c.args.sink.now) (g.W.Sink.has_failed c.args.sink.now) in
-    let new = stream (g.W.Sink.held c.answer_request.new.sink) (g.W.Sink.has_failed c.answer_request.new.sink) in
+    let source = g.R.Source.stream c.args.source.now in
+    let source_new = g.R.Source.stream c.answer_request.new.source in
+    let old = g.W.Sink.stream c.args.sink.now in
+    let new = g.W.Sink.stream c.answer_request.new.sink in
     let fault = c.in_err-answer_request-in-Ok.field-0.0 in
     as_fault (IsRefusalFor words source source_new old new) fault c.from_residual.result c.from_residual.ensures.1
     (of_command words c.in-Ok.request source source_new old new fault c.in-Ok.ensures.asked c.in_err-answer_request-in-Ok.ensures.refused c.in_err-answer_request-in-Ok.ensures.read)
 
 pub returns-in-Err-clause-refused : goal.returns-in-Err-clause-refused
 returns-in-Err-clause-refused g c =
-    all_refused (map g.S.AsStr.text c.args.words.now) c.in-Err.no_task
-    (stream (g.R.Source.remaining c.args.source.now) (g.R.Source.has_failed c.args.source.now))
-    (stream (g.W.Sink.held c.args.sink.now) (g.W.Sink.has_failed c.args.sink.now))
-    (stream (g.W.Sink.held c.end_without_task.new.sink) (g.W.Sink.has_failed c.end_without_task.new.sink))
+    all_refused (map g.S.AsStr.text c.args.words.now) c.in-Err.no_task (g.R.Source.stream c.args.source.now) (g.W.Sink.stream c.args.sink.now) (g.W.Sink.stream c.end_without_task.new.sink)
     c.end_without_task.result c.in-Err.ensures.refused c.in-Err.ensures.told c.end_without_task.ensures.refused
 
 pub returns-in-Err-clause-done : goal.returns-in-Err-clause-done
 returns-in-Err-clause-done g c =
-    all_shown (λ said. said.bytes) (map g.S.AsStr.text c.args.words.now) c.in-Err.no_task (g.R.Source.remaining c.args.source.now)
-    (stream (g.W.Sink.held c.args.sink.now) (g.W.Sink.has_failed c.args.sink.now))
-    (stream (g.W.Sink.held c.end_without_task.new.sink) (g.W.Sink.has_failed c.end_without_task.new.sink))
-    (g.R.Source.has_failed c.args.source.now) c.end_without_task.result c.in-Err.ensures.refused c.end_without_task.ensures.done
+    all_shown (λ said. said.bytes) (map g.S.AsStr.text c.args.words.now) c.in-Err.no_task (g.R.Source.stream c.args.source.now) (g.W.Sink.stream c.args.sink.now) (g.W.Sink.stream c.end_without_task.new.sink)
+    c.end_without_task.result c.in-Err.ensures.refused c.end_without_task.ensures.done
 
 pub returns-in_ok-answer_request-in-Ok-clause-done : goal.returns-in_ok-answer_request-in-Ok-clause-done
 returns-in_ok-answer_request-in-Ok-clause-done g c =

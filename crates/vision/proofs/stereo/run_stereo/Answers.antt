@@ -1,5 +1,6 @@
 use Rattle.std.proofs.Common.{◌≡◌, ℕ, rules}
-use Rattle.pgm_image.specs.Written.{written, Stops}
+use Rattle.byte_streams.specs.Streams.{Stops}
+use Rattle.pgm_image.specs.Written.{written}
 use Rattle.vision.specs.Faults.{HasStereoFault}
 use Rattle.vision.specs.Inputs.{IsStereoJob}
 use Rattle.vision.specs.Jobs.{Job}
@@ -17,22 +18,19 @@ returns-in_err-finished-clause-unchanged g c = search rules
 
 pub returns-clause-done : goal.returns-clause-done
 returns-clause-done g c =
-    does (λ (job : Job). IsStereoJob c.args.options.now c.args.input.now job) c.in_ok-finished.finished (g.S.Sink.held c.args.sink.now) (g.S.Sink.held c.put_finished.new.sink)
-    c.put_finished.result c.in_ok-finished.ensures.finished c.put_finished.ensures.told c.put_finished.ensures.taken
-
-pub returns-clause-sound : goal.returns-clause-sound
-returns-clause-sound g c = c.put_finished.ensures.sound
+    does (λ (job : Job). IsStereoJob c.args.options.now c.args.input.now job) c.in_ok-finished.finished (g.S.Sink.stream c.args.sink.now) (g.S.Sink.stream c.put_finished.new.sink)
+    c.put_finished.result c.in_ok-finished.ensures.finished c.put_finished.ensures.told c.put_finished.ensures.takes
 
 pub returns-clause-refused : goal.returns-clause-refused
 returns-clause-refused g c =
     leaves (λ (job : Job). IsStereoJob c.args.options.now c.args.input.now job) (HasStereoFault c.args.options.now c.args.input.now) c.in_ok-finished.finished
-    (g.S.Sink.held c.args.sink.now) (g.S.Sink.held c.put_finished.new.sink) (g.S.Sink.has_failed c.put_finished.new.sink)
-    c.put_finished.result c.in_ok-finished.ensures.finished c.put_finished.ensures.failed c.put_finished.ensures.only
+    (g.S.Sink.stream c.args.sink.now) (g.S.Sink.stream c.put_finished.new.sink)
+    c.put_finished.result c.in_ok-finished.ensures.finished c.put_finished.ensures.stops
 
 pub returns-clause-unchanged : goal.returns-clause-unchanged
 returns-clause-unchanged g c =
-    told_as_write (λ (count : ℕ). Stops (g.S.Sink.held c.args.sink.now) (g.S.Sink.held c.put_finished.new.sink) 0 (written c.in_ok-finished.finished.image) count)
-    (c.put_finished.new.sink ≡ c.args.sink.now) c.put_finished.result c.put_finished.ensures.failed
+    told_as_write (λ (count : ℕ). Stops (g.S.Sink.stream c.args.sink.now) (g.S.Sink.stream c.put_finished.new.sink) (written c.in_ok-finished.finished.image) count)
+    (c.put_finished.new.sink ≡ c.args.sink.now) c.put_finished.result c.put_finished.ensures.stops
 
 pub returns-in_err-finished-clause-cut : goal.returns-in_err-finished-clause-cut
 returns-in_err-finished-clause-cut g c =
@@ -45,10 +43,10 @@ returns-in_err-finished-clause-metric g c =
     λ apart. rw (p.1, p.2) (c.in_err-finished.ensures.metric apart)
 
 pub returns-clause-cut : goal.returns-clause-cut
-returns-clause-cut g c = IfErr-weaker c.put_finished.result _ _ (λ e stops. stop_may_come (g.H.How.refuses c.args.how.now) _ e stops) c.put_finished.ensures.failed
+returns-clause-cut g c = IfErr-weaker c.put_finished.result _ _ (λ e stops. stop_may_come (g.H.How.refuses c.args.how.now) _ e stops) c.put_finished.ensures.stops
 
 pub returns-clause-metric : goal.returns-clause-metric
-returns-clause-metric g c = λ apart. IfErr-weaker c.put_finished.result _ _ (λ e stops. stop_tells_none _ e stops) c.put_finished.ensures.failed
+returns-clause-metric g c = λ apart. IfErr-weaker c.put_finished.result _ _ (λ e stops. stop_tells_none _ e stops) c.put_finished.ensures.stops
 
 pub returns-clause-kept : goal.returns-clause-kept
 returns-clause-kept g c = c.put_finished.ensures.kept

@@ -1,18 +1,11 @@
--- What happens to a stream.
-use Rattle.std.specs.Prelude.{◌≡◌, ◌⊎◌, ◌<◌, ℕ, Bool, true, List, length, Option, IfSome, take}
+-- A stream of bytes, and what happens to it.
+use Rattle.std.specs.Prelude.{◌≡◌, ◌⊎◌, ◌<◌, ℕ, Bool, true, List, length, Option, take}
 use Rattle.std.specs.Io.KnownBytes.{Appends}
 
 -- the bytes that a stream has still to give, or has taken, where they are known; and whether it has failed
 pub record Stream : Type 0 where
   pub bytes : Option (List ℕ)
   pub has_failed : Bool
-
-abbrev pub stream : Option (List ℕ) → Bool → Stream
-stream bytes has_failed = record { bytes = bytes; has_failed = has_failed }
-
--- this holds of some input that a source may give: of its known bytes, where they are known
-abbrev pub OfSomeInput : Option (List ℕ) → (List ℕ → Type 0) → Type 0
-OfSomeInput known P = (input : List ℕ) × IfSome known (λ bytes. input ≡ bytes) × P input
 
 -- the stream took the whole text, and did not fail
 abbrev pub Takes : Stream → Stream → List ℕ → Type 0
