@@ -81,8 +81,8 @@ impl Deciding {
         ensures kept { self.new.ends ≡ self.old.ends }
         ensures count { OnOk result (length self.new.bounds.choices.items ≡ length at.now) }
         ensures sized { OnOk result (IsSized (length at.now) self.new.bounds) }
-        ensures weights { Meant F.Fn V.Fn problem.now (λ m. OnOk result (AreWeights m change (labelling at.now)
-            (choice_at self.new.bounds.choices.items) self.new.bounds.greatest.items)) }
+        ensures weights { Meant F.Fn V.Fn problem.now (λ m. OnOk result (AreWeights m change
+            (labelling at.now) (choice_at self.new.bounds.choices.items) self.new.bounds.greatest.items)) }
         ensures small { OnOk result (weights_size self.new.bounds.greatest.items ≤ weights_limit) }
         ensures decided { Meant F.Fn V.Fn problem.now (λ m. IsDecidedMove m change at.now
             self.new.bounds.choices.items result) }
