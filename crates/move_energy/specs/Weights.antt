@@ -23,7 +23,8 @@ open_energy m move f choice x = pos (plain_energy m (made move f (λ p. bit_of (
 -- being at 0
 abbrev pub AreWeights : Instance → Move → (ℕ → ℕ) → (ℕ → Choice) → List ℤ → Type 0
 AreWeights m move f choice weights = (u : ℕ) → u < m.sites → choice u ≡ Open
-    → weight_at weights u ≡ open_energy m move f choice (λ p. p == u) -ℤ open_energy m move f choice (λ p. false)
+    → weight_at weights u
+    ≡ open_energy m move f choice (λ p. p == u) -ℤ open_energy m move f choice (λ p. false)
 
 -- by how much a pair's costs at 01 and 10 are together above those at 00 and 11
 abbrev pub pair_surplus : Instance → Move → (ℕ → ℕ) → Pair → ℕ
@@ -35,7 +36,7 @@ pair_surplus m move f pair =
 abbrev pub are_open : (ℕ → Choice) → Pair → Bool
 are_open choice pair = is_open (choice pair.first) && is_open (choice pair.second)
 
--- what a pair of two open sites costs more than where both are at 1
+-- what of the surplus of a pair of two open sites is not saved: all of it, unless both are at 1
 abbrev pub unsaved : Instance → Move → (ℕ → ℕ) → (ℕ → Choice) → (ℕ → ℕ) → (ℕ → Bool) → Pair → ℕ
 unsaved m move f choice variable x pair =
     counted (are_open choice pair)
