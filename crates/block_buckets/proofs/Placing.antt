@@ -5,7 +5,7 @@ use Rattle.std.proofs.lemmas.List.{length-set}
 use Rattle.std.proofs.lemmas.List.Sums.{sum_by-set}
 use Rattle.std.proofs.lemmas.Bool.Decides.{nat_tests}
 use Rattle.block_net.specs.Views.{BlockView, count, excess_in, label_in}
-use Rattle.label_buckets.specs.Rows.{Standing, nodes, row_in, aside, nowhere, bucket_of, moved, AreEmpty, IsHighest}
+use Rattle.block_net.specs.Rows.{Standing, nodes, row_in, aside, nowhere, bucket_of, moved, AreEmpty, IsHighest}
 use Rattle.block_buckets.specs.Active.{IsActive}
 use Rattle.block_buckets.specs.Standing.{bucket_in, MayStand, Nowhere, Aside, InBucket, IsRight, IsFit, IsStanding, IsRenewed}
 

@@ -1,7 +1,7 @@
 -- A block whose active nodes stand in buckets by their labels.
 use Rattle.std.specs.Prelude.{◌≡◌, ℕ, ◌+◌, ◌<◌, ◌≤◌, min, cond, nat_lt, sum_by}
 use Rattle.block_net.specs.Views.{BlockView, count, label_in}
-use Rattle.label_buckets.specs.Rows.{Standing, nodes, row_in, aside, nowhere, bucket_of}
+use Rattle.block_net.specs.Rows.{Standing, nodes, row_in, aside, nowhere, bucket_of}
 use Rattle.block_buckets.specs.Active.{IsActive}
 
 -- a block, and where its nodes stand

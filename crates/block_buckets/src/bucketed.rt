@@ -2,13 +2,12 @@ ghost use Rattle.std.specs.Prelude.{◌≡◌, ◌≢◌, ◌↔◌, ◌⊎◌, 
 ghost use Rattle.flow_network.specs.Limits.{node_limit};
 ghost use Rattle.flow_network.specs.Progress.{top_label};
 ghost use Rattle.block_net.specs.Views.{count, excess_in, label_in, room_in, lane_in, border_in, first_lane, first_border, out_of, highest, pushed, given, labelled, sent, accepted, settled, returned};
-ghost use Rattle.label_buckets.specs.Rows.{nodes};
+ghost use Rattle.block_net.specs.Rows.{nodes};
 ghost use Rattle.block_buckets.specs.Active.{IsActive};
 ghost use Rattle.block_buckets.specs.Standing.{IsAside, HasHighestBucket, KeepsAside, StaysAside, waiting};
 
 use crate::renewing::{is_active, move_up, renew};
-use block_net::{Border, Cells, InnerLane};
-use label_buckets::Buckets;
+use block_net::{Border, Buckets, Cells, InnerLane};
 use std::alloc::{AllocError, Global};
 use std::marker::Model;
 

@@ -3,8 +3,7 @@ ghost use Rattle.block_net.specs.Views.{count};
 ghost use Rattle.block_buckets.specs.Active.{IsActive};
 ghost use Rattle.block_buckets.specs.Standing.{MayStand, IsFit, IsRenewed};
 
-use block_net::Cells;
-use label_buckets::Buckets;
+use block_net::{Buckets, Cells};
 
 /// Whether a node has excess and is not cut off.
 pub fn is_active(cells: &Cells, v: usize) -> bool

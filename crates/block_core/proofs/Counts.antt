@@ -13,7 +13,8 @@ use Rattle.parcel.specs.Soundness.{opened}
 use Rattle.parcel.proofs.Opening.{map_at, opened_sound}
 use Rattle.block_net.specs.Split.{CanSplit}
 use Rattle.block_core.specs.Mails.{room_at, IsHeld}
-use Rattle.block_core.specs.Views.{BlocksView, first_of, state_of}
+use Rattle.parcel.specs.Effects.{BlocksView, state_of}
+use Rattle.laid_blocks.specs.Views.{first_of}
 use Rattle.block_core.specs.Counting.{put_room, IsSquareOf, joined, IsCounted}
 
 room_same : (n : ℕ) (rooms : List (List ℕ)) (b c y : ℕ) → IsSquareOf n rooms → b < n → c < n → room_at (put_room rooms b c y) b c ≡ y

@@ -16,7 +16,7 @@ use Rattle.parcel.proofs.Ends.{near_block_in, far_block_in}
 use Rattle.parcel.proofs.Fitting.{way_fits}
 use Rattle.parcel.proofs.Kept.{effect_kept}
 use Rattle.parcel.proofs.Ways.{way_same}
-use Rattle.block_core.specs.Views.{BlocksView, state_of, pushed, sent}
+use Rattle.parcel.specs.Effects.{BlocksView, state_of, pushed, sent}
 use Rattle.block_core.specs.Mails.{IsHeld, room_at}
 use Rattle.block_core.proofs.Keeping.{effect_net}
 

@@ -14,7 +14,7 @@ use Rattle.parcel.proofs.Ends.{far_in}
 use Rattle.parcel.proofs.Owning.{accept_fits}
 use Rattle.parcel.proofs.Replies.{front_out}
 use Rattle.parcel.proofs.Ways.{square_put}
-use Rattle.block_core.specs.Views.{BlocksView, state_of, accepted, settled, returned}
+use Rattle.parcel.specs.Effects.{BlocksView, state_of, accepted, settled, returned}
 use Rattle.block_core.specs.Mails.{IsHeld, room_at}
 use Rattle.block_core.proofs.Effects.{room_after, border_apart}
 

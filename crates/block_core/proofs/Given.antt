@@ -7,11 +7,11 @@ use Rattle.sums.proofs.SumLemmas.{sum_below-add, sum_below-same, sum_below-le, s
 use Rattle.flow_network.specs.Cut.{nodes}
 use Rattle.block_net.specs.Views.{BlockView, count, room_in}
 use Rattle.block_net.specs.Whole.{Whole, block_at, home, place}
-use Rattle.block_core.specs.Views.{blocks_in, IsLaid, IsSpot}
+use Rattle.laid_blocks.specs.Views.{blocks_in, IsLaid, IsSpot}
 use Rattle.block_core.specs.Pieces.{given_at, given_by}
-use Rattle.block_core.proofs.Opened.{laid_long}
-use Rattle.block_core.proofs.ByBlock.{nodes_of}
-use Rattle.block_core.proofs.Steps.{at_read, room_read}
+use Rattle.laid_blocks.proofs.Opened.{laid_long}
+use Rattle.laid_blocks.proofs.ByBlock.{nodes_of}
+use Rattle.laid_blocks.proofs.Steps.{at_read, room_read}
 
 -- ---- the nodes of a block
 

@@ -1,13 +1,7 @@
 pub mod Nested
-pub mod Writing
-pub mod Steps
-pub mod Allowing
-pub mod Opened
-pub mod ByBlock
 pub mod Keeping
 pub mod Effects
 pub mod Fronts
-pub mod Lowering
 pub mod Raised
 pub mod Counts
 pub mod Given

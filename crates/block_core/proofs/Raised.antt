@@ -6,9 +6,10 @@ use Rattle.parcel.specs.Reach.{LeadsIn, IsExact, AreExact}
 use Rattle.parcel.specs.States as core
 use Rattle.parcel.specs.Events.{IsQuiet, Happens, raised}
 use Rattle.parcel.proofs.Kept.{kept}
-use Rattle.block_core.specs.Views.{BlocksView, state_of}
+use Rattle.parcel.specs.Effects.{BlocksView, state_of}
 use Rattle.block_core.specs.Mails.{IsHeld}
-use Rattle.block_core.specs.Raising.{bare, told}
+use Rattle.parcel.specs.Effects.{told}
+use Rattle.laid_blocks.specs.Raising.{bare}
 
 module _ (b : BlocksView) (ways : List (List (List Message))) (got : ℕ) where
   to_state : (d v : ℕ) → LeadsIn (bare b) d v → LeadsIn (state_of b ways got) d v

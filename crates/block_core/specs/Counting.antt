@@ -4,7 +4,7 @@ use Rattle.sums.specs.Sums.{sum_below, counted}
 use Rattle.parcel.specs.Directions.{forward, backward}
 use Rattle.parcel.specs.Soundness.{joins}
 use Rattle.block_core.specs.Mails.{room_at}
-use Rattle.block_core.specs.Views.{BlocksView}
+use Rattle.parcel.specs.Effects.{BlocksView}
 
 abbrev pub put_room : List (List ℕ) → ℕ → ℕ → ℕ → List (List ℕ)
 put_room rooms b c y = slice_set rooms b (slice_set (slice_index_or rooms b []) c y)

@@ -3,7 +3,8 @@ use Rattle.std.specs.Prelude.{◌≡◌}
 use Rattle.parcel.specs.States as core
 use Rattle.block_net.specs.declared.parts.Parts.{Parts}
 use Rattle.block_net.specs.Whole.{whole_of}
-use Rattle.block_core.specs.Views.{blocks_in, state_of, IsLaid}
+use Rattle.parcel.specs.Effects.{state_of}
+use Rattle.laid_blocks.specs.Views.{blocks_in, IsLaid}
 
 -- the blocks show the state
 pub record IsIn (s : core.State) (p : Parts) : Type 0 where

@@ -5,7 +5,8 @@ use Rattle.flow_network.specs.Cut.{nodes}
 use Rattle.parcel.specs.States as core
 use Rattle.block_net.specs.Whole.{Whole, home, whole_of}
 use Rattle.block_core.specs.declared.pieces.Pieces.{Pieces}
-use Rattle.block_core.specs.Views.{blocks_in, state_of}
+use Rattle.parcel.specs.Effects.{state_of}
+use Rattle.laid_blocks.specs.Views.{blocks_in}
 
 -- the state that the pieces make
 abbrev pub state_in : Pieces → core.State

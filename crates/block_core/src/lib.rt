@@ -6,17 +6,13 @@
 #![tactic(auto)]
 
 mod apply;
-mod blocks;
-mod by_block;
 mod compact;
 mod mail;
 mod pieces;
-mod raise;
 mod rooms;
 mod state;
 
 pub use apply::{Core, NotEnabled};
-pub use blocks::spot;
 pub use mail::Mail;
 pub use pieces::Pieces;
 pub use state::State;

@@ -5,7 +5,7 @@ ghost use Rattle.block_net.specs.Split.{homes_made};
 ghost use Rattle.block_core.specs.Mails.{room_at};
 ghost use Rattle.block_core.specs.Counting.{put_room, IsCounted};
 
-use crate::blocks::Blocks;
+use laid_blocks::Blocks;
 use parcel::Direction;
 use std::alloc::{AllocError, Global};
 use std::marker::Model;

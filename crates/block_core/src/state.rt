@@ -8,18 +8,18 @@ ghost use Rattle.parcel.specs.Soundness.{IsSound, opened};
 ghost use Rattle.parcel.specs.Events.{Happens, IsActive, IsQuiet, Enabled, effect};
 ghost use Rattle.block_net.specs.Limits.{block_limit};
 ghost use Rattle.block_net.specs.Split.{CanSplit};
-ghost use Rattle.block_core.specs.Views.{IsLaid};
+ghost use Rattle.laid_blocks.specs.Views.{IsLaid};
 ghost use Rattle.block_core.specs.Mails.{IsHeld};
 ghost use Rattle.block_core.specs.Parts.{IsIn};
 ghost use Rattle.block_net.specs.Whole.{whole_of};
 ghost use Rattle.block_core.specs.Pieces.{state_in};
 
-use crate::blocks::{Blocks, copy_of};
 use crate::mail::Mail;
 use crate::pieces::Pieces;
 use crate::rooms::Rooms;
 use block_net::Parts;
 use flow_network::Net;
+use laid_blocks::{Blocks, copy_of};
 use parcel::{Direction, Event, Flight, Message};
 use std::alloc::{AllocError, Global};
 use std::marker::Model;
@@ -34,7 +34,7 @@ pub struct State {
 
 impl Model for State {
     ghost use Rattle.parcel.specs.States as core;
-    ghost use Rattle.block_core.specs.Views.{state_of};
+    ghost use Rattle.parcel.specs.Effects.{state_of};
     ghost use Rattle.block_core.specs.Mails.{IsHeld};
 
     ghost Value = { core.State };
@@ -208,7 +208,7 @@ impl State {
     fn may_push_sink(&self, v: usize) -> bool
         ensures { IsTrue result ↔ Enabled self.now (PushSink v) }
     {
-        self.is_active(v) && self.blocks.room(v) > 0 && self.blocks.label(v) == 1
+        self.is_active(v) && self.blocks.may_give(v)
     }
 
     /// Excess of a node goes to the sink; no where that is not enabled, and nothing changes.
@@ -235,11 +235,7 @@ impl State {
         if self.blocks.arcs() <= direction.arc || self.blocks.is_border(direction) {
             return false;
         }
-        let near = self.blocks.near(direction);
-        let far = self.blocks.far(direction);
-        self.is_active(near)
-            && self.blocks.lane(direction).residual > 0
-            && self.blocks.label(near) as u64 == self.blocks.label(far) as u64 + 1
+        self.is_active(self.blocks.near(direction)) && self.blocks.may_push(direction)
     }
 
     /// Whether excess can leave along a direction to another block.
@@ -249,12 +245,7 @@ impl State {
         if self.blocks.arcs() <= direction.arc || !self.blocks.is_border(direction) {
             return false;
         }
-        let near = self.blocks.near(direction);
-        let lane = self.blocks.lane(direction);
-        self.is_active(near)
-            && lane.residual > 0
-            && self.blocks.label(near) as u64 == lane.known as u64 + 1
-            && lane.flight.is_none()
+        self.is_active(self.blocks.near(direction)) && self.blocks.may_send(direction)
     }
 
     /// Excess goes along a direction within a block; no where that is not enabled, and nothing changes.

@@ -9,13 +9,14 @@ use Rattle.parcel.specs.Soundness.{IsSound, opened}
 use Rattle.block_net.specs.declared.parts.Parts.{Parts}
 use Rattle.block_net.specs.Views.{BlockView, count, excess_in, label_in, room_in, lane_in, pushed, given}
 use Rattle.block_net.specs.Whole.{Whole, no_block, block_at, home, place, whole_of, with_blocks}
-use Rattle.block_core.specs.Views.{IsLaid, IsSpot, blocks_in, state_of}
+use Rattle.parcel.specs.Effects.{state_of}
+use Rattle.laid_blocks.specs.Views.{IsLaid, IsSpot, blocks_in}
 use Rattle.block_core.specs.Mails.{HasRooms, IsHeld}
 use Rattle.block_core.specs.declared.pieces.Pieces.{Pieces}
 use Rattle.block_core.specs.Parts.{IsIn}
 use Rattle.block_core.specs.Pieces.{state_in}
-use Rattle.block_core.proofs.Steps.{label_read}
-use Rattle.block_core.proofs.Writing.{block_same}
+use Rattle.laid_blocks.proofs.Steps.{label_read}
+use Rattle.laid_blocks.proofs.Writing.{block_same}
 use Rattle.discharge.specs.Steps.{IsOfNode}
 use Rattle.block_laws.specs.Loose.{IsStanding}
 use Rattle.block_laws.proofs.Laid.{put_own, seated}

@@ -14,9 +14,9 @@ use Rattle.parcel.proofs.Raising.{told_is}
 use Rattle.block_net.specs.declared.parts.Parts.{Parts}
 use Rattle.block_net.specs.Views.{count, excess_in}
 use Rattle.block_net.specs.Whole.{Whole, LiesAt, block_at, home, place, whole_of}
-use Rattle.block_core.specs.Views.{blocks_in}
+use Rattle.laid_blocks.specs.Views.{blocks_in}
 use Rattle.block_core.specs.Parts.{IsIn}
-use Rattle.block_core.proofs.Steps.{excess_read}
+use Rattle.laid_blocks.proofs.Steps.{excess_read}
 use Rattle.block_cut.specs.Rest.{IsAtRest}
 
 -- a path is one after the labels have changed, too

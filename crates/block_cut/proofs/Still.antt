@@ -17,7 +17,8 @@ use Rattle.parcel.proofs.Ends.{far_in, block_in}
 use Rattle.parcel.specs.Workers.{MayStart}
 use Rattle.block_net.specs.Views.{BlockView, border_in}
 use Rattle.block_net.specs.Whole.{Whole, block_at, home, whole_of, with_blocks}
-use Rattle.block_core.specs.Views.{BlocksView, IsLaid, blocks_in, state_of}
+use Rattle.parcel.specs.Effects.{BlocksView, state_of}
+use Rattle.laid_blocks.specs.Views.{IsLaid, blocks_in}
 use Rattle.block_core.specs.Mails.{MailView, HasRooms, room_at}
 use Rattle.block_core.specs.declared.pieces.Pieces.{Pieces}
 use Rattle.block_core.specs.Pieces.{state_in}

@@ -5,3 +5,7 @@ pub mod Turns
 pub mod Passes
 pub mod Opening
 pub mod Rest
+pub mod Laws
+pub mod Search
+pub mod Workspaces
+pub mod Homes

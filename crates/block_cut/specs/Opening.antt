@@ -6,7 +6,7 @@ use Rattle.parcel.specs.Soundness.{IsSound}
 use Rattle.flow_network.specs.Cut.{nodes}
 use Rattle.block_net.specs.Views.{BlockView, count, label_in}
 use Rattle.block_net.specs.Whole.{Whole, block_at, whole_of, with_blocks}
-use Rattle.block_core.specs.Views.{IsLaid}
+use Rattle.laid_blocks.specs.Views.{IsLaid}
 use Rattle.block_core.specs.declared.pieces.Pieces.{Pieces}
 use Rattle.block_laws.specs.Loose.{IsStanding}
 use Rattle.block_cut.specs.Passes.{state_at}

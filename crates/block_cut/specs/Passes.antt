@@ -8,7 +8,8 @@ use Rattle.parcel.specs.Workers.{MayStart}
 use Rattle.parcel.specs.Soundness.{IsSound, count}
 use Rattle.block_net.specs.Views.{BlockView}
 use Rattle.block_net.specs.Whole.{whole_of, with_blocks}
-use Rattle.block_core.specs.Views.{IsLaid, blocks_in, state_of}
+use Rattle.parcel.specs.Effects.{state_of}
+use Rattle.laid_blocks.specs.Views.{IsLaid, blocks_in}
 use Rattle.block_core.specs.Mails.{MailView, IsHeld}
 use Rattle.block_core.specs.declared.pieces.Pieces.{Pieces}
 use Rattle.block_core.specs.Pieces.{state_in}

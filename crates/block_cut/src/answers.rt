@@ -5,9 +5,10 @@ ghost use Rattle.flow_network.specs.Answer.{side_of, IsRightCut};
 ghost use Rattle.parcel.specs.Soundness.{IsFinished};
 ghost use Rattle.parcel.specs.Reach.{AreExact};
 
+use crate::flow::flow_of;
+use crate::workspace::Workspace;
 use block_core::State;
 use flow_network::Solved;
-use global_relabel::{Workspace, flow_of};
 use sink_distances::sink_side;
 use std::alloc::{AllocError, Global};
 

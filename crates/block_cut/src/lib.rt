@@ -4,20 +4,40 @@
 //! whatever the blocks did before, with messages on the way and labels that are not exact, the answer is the
 //! same. `take_in` takes what is on the way. The steps of `finish` that others take too are `push_first`, `is_at_rest`,
 //! `answer_of` and `least_side`.
+//!
+//! The exact distance of a node is the least number of residual directions that lead from it to the sink, within
+//! blocks and between them, whatever is on the way (Goldberg, Tarjan 1988, section 3). Distances are found by levels
+//! from the sink, straight over what the blocks hold, and labels are raised to them.
 #![tactic(auto)]
+
+ghost use Rattle.block_cut.specs.Laws.{ExactAreDistances};
 
 mod answers;
 mod ends;
+mod exact;
+mod flow;
+mod homes;
 mod opening;
 mod orders;
 mod passes;
 mod rest;
+mod search;
 mod solver;
 mod takes;
 mod turns;
+mod workspace;
 
 pub use answers::{answer_of, least_side};
+pub use exact::{distances, raise_all, sink_side};
+pub use flow::flow_of;
 pub use opening::push_first;
 pub use rest::is_at_rest;
 pub use solver::{finish, finish_side, solve};
 pub use takes::take_in;
+pub use workspace::Workspace;
+
+/// A law: in a sound state with no message on the way, exact labels are the distances over the flow that the
+/// state shows, and those distances are exact labels.
+pub fn exact_are_distances()
+    ensures { ExactAreDistances }
+{}

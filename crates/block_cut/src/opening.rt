@@ -2,7 +2,7 @@ ghost use Rattle.std.specs.Prelude.{◌≡◌, ◌<◌, IsTrue, length};
 ghost use Rattle.parcel.specs.Events.{IsQuiet};
 ghost use Rattle.block_core.specs.Mails.{IsHeld};
 ghost use Rattle.block_core.specs.Pieces.{state_in};
-ghost use Rattle.block_core.specs.Views.{IsLaid};
+ghost use Rattle.laid_blocks.specs.Views.{IsLaid};
 ghost use Rattle.block_net.specs.Views.{count};
 ghost use Rattle.block_net.specs.Whole.{whole_of};
 ghost use Rattle.discharge.specs.Steps.{IsOfNode};

@@ -11,10 +11,10 @@ use crate::opening::open_if_new;
 use crate::passes::work;
 use crate::rest::is_at_rest;
 use crate::takes::take_in;
+use crate::workspace::Workspace;
 use block_core::State;
 use block_net::ARC_LIMIT;
 use flow_network::{Net, Solved};
-use global_relabel::Workspace;
 use std::alloc::{AllocError, Global};
 
 /// The labels of a state that is not finished become the exact ones that are at hand, and excess goes on.

@@ -14,10 +14,11 @@ use Rattle.block_net.specs.declared.rows.Border.{Border}
 use Rattle.block_net.specs.Views as block
 use Rattle.block_net.specs.Views.{BlockView, count, excess_in, label_in, room_in, lane_in, border_in, highest}
 use Rattle.block_net.specs.Whole.{Whole, block_at, home, slot, put_block, border_of}
-use Rattle.block_core.specs.Views.{BlocksView, state_of, IsRow, gave, labelled}
-use Rattle.block_core.proofs.Allowing.{highest_is}
+use Rattle.parcel.specs.Effects.{BlocksView, state_of, gave, labelled}
+use Rattle.laid_blocks.specs.Views.{IsRow}
+use Rattle.laid_blocks.proofs.Allowing.{highest_is}
 use Rattle.block_core.proofs.Effects.{pushed_is, sent_is}
-use Rattle.block_core.proofs.Steps.{IsAt, excess_read, label_read, room_read, inner_read, border_read, far_spot, back_row, gave_at, labelled_at, pushed_at, sent_at}
+use Rattle.laid_blocks.proofs.Steps.{IsAt, excess_read, label_read, room_read, inner_read, border_read, far_spot, back_row, gave_at, labelled_at, pushed_at, sent_at}
 use Rattle.discharge.specs.Steps as steps
 use Rattle.discharge.specs.Steps.{Held, after, parcel_of}
 use Rattle.block_laws.specs.Seats.{IsSeated, logs_of}

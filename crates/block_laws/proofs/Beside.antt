@@ -9,7 +9,7 @@ use Rattle.block_net.specs.declared.rows.InnerLane.{InnerLane}
 use Rattle.block_net.specs.declared.rows.Border.{Border}
 use Rattle.block_net.specs.Views.{BlockView, lane_in, border_in}
 use Rattle.block_net.specs.Whole.{Whole, block_at, block_with, home, place, near_home, slot, is_outer, lane_of, border_of, shown_lane, shown_border, shown_of, put_block, with_blocks}
-use Rattle.block_core.proofs.Writing.{home_put, outer_put, block_same}
+use Rattle.laid_blocks.proofs.Writing.{home_put, outer_put, block_same}
 
 module _ (w : Whole) (blocks : List BlockView) (many : length blocks ≡ length w.blocks) where
   -- the blocks of old with block b alone as it came back

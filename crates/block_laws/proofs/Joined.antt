@@ -11,8 +11,9 @@ use Rattle.parcel.specs.Rounds.{IsJoined}
 use Rattle.block_net.specs.Views.{BlockView}
 use Rattle.block_net.specs.Whole.{Whole, block_with, home, place, shown_of, with_blocks}
 use Rattle.block_net.proofs.Tables.{length_table, table_at}
-use Rattle.block_core.specs.Views.{IsLaid, blocks_in, state_of}
-use Rattle.block_core.proofs.Writing.{numbers, lane_read}
+use Rattle.parcel.specs.Effects.{state_of}
+use Rattle.laid_blocks.specs.Views.{IsLaid, blocks_in}
+use Rattle.laid_blocks.proofs.Writing.{numbers, lane_read}
 use Rattle.block_laws.specs.Rounds.{quiet_state}
 use Rattle.block_laws.proofs.Beside.{one, read_one, shown_one}
 

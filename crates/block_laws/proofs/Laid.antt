@@ -6,8 +6,8 @@ use Rattle.parcel.specs.Directions.{near}
 use Rattle.parcel.specs.States as core
 use Rattle.block_net.specs.Views.{BlockView, count}
 use Rattle.block_net.specs.Whole.{Whole, no_block, block_at, put_block, home, IsFilled}
-use Rattle.block_core.specs.Views.{IsLaid}
-use Rattle.block_core.proofs.Writing.{block_same}
+use Rattle.laid_blocks.specs.Views.{IsLaid}
+use Rattle.laid_blocks.proofs.Writing.{block_same}
 use Rattle.block_laws.specs.Seats.{IsSeated}
 
 -- a block in its own stead changes nothing

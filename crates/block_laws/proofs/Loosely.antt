@@ -10,8 +10,8 @@ use Rattle.parcel.proofs.Inside.{pushed_kept, given_kept}
 use Rattle.block_net.specs.Views as block
 use Rattle.block_net.specs.Views.{BlockView, count, excess_in, label_in, room_in, lane_in}
 use Rattle.block_net.specs.Whole.{Whole, put_block}
-use Rattle.block_core.specs.Views.{BlocksView, state_of, gave}
-use Rattle.block_core.proofs.Steps.{excess_read, label_read, room_read, inner_read, far_spot, back_row, gave_at, pushed_at}
+use Rattle.parcel.specs.Effects.{BlocksView, state_of, gave}
+use Rattle.laid_blocks.proofs.Steps.{excess_read, label_read, room_read, inner_read, far_spot, back_row, gave_at, pushed_at}
 use Rattle.discharge.specs.Steps.{IsOfNode}
 use Rattle.block_laws.specs.Loose.{IsStanding}
 use Rattle.block_laws.proofs.Seated.{view_with, at_seat, node_seat, view_after, seat_after, lane_found}

@@ -9,9 +9,10 @@ use Rattle.parcel.specs.Soundness.{IsSound}
 use Rattle.block_net.specs.Views.{BlockView, count}
 use Rattle.block_net.specs.Whole.{Whole, no_block, block_at, block_with, home, place}
 use Rattle.block_net.proofs.Tables.{length_table, table_at}
-use Rattle.block_core.specs.Views.{IsLaid, blocks_in, state_of}
+use Rattle.parcel.specs.Effects.{state_of}
+use Rattle.laid_blocks.specs.Views.{IsLaid, blocks_in}
 use Rattle.block_laws.proofs.Laid.{seated}
-use Rattle.block_core.proofs.Writing.{numbers, same_spot}
+use Rattle.laid_blocks.proofs.Writing.{numbers, same_spot}
 use Rattle.block_laws.specs.Rounds.{Ways}
 
 -- ---- counting one of them

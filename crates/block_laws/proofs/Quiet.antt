@@ -8,7 +8,8 @@ use Rattle.parcel.proofs.Quiet.{quiet_empty}
 use Rattle.block_net.specs.Views.{BlockView}
 use Rattle.block_net.specs.Whole.{Whole}
 use Rattle.block_core.specs.Mails.{HasRooms, IsHeld, room_at}
-use Rattle.block_core.specs.Views.{blocks_in, state_of}
+use Rattle.parcel.specs.Effects.{state_of}
+use Rattle.laid_blocks.specs.Views.{blocks_in}
 use Rattle.block_laws.specs.Rounds.{Ways, IsRound, quiet_state, state_after}
 
 pub quiet_is_start : (w : Whole) (got : ℕ) (ways : Ways) → IsSound (state_of (blocks_in w) ways got) → IsQuiet (state_of (blocks_in w) ways got)

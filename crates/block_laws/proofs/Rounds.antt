@@ -14,7 +14,8 @@ use Rattle.parcel.proofs.Keeping.{round_kept}
 use Rattle.block_net.specs.Views.{BlockView}
 use Rattle.block_net.specs.Whole.{Whole, table, block_at, with_blocks}
 use Rattle.block_net.proofs.Tables.{table_at}
-use Rattle.block_core.specs.Views.{IsLaid, blocks_in, state_of}
+use Rattle.parcel.specs.Effects.{state_of}
+use Rattle.laid_blocks.specs.Views.{IsLaid, blocks_in}
 use Rattle.discharge.specs.Steps.{Held}
 use Rattle.block_laws.specs.Seats.{log_at, logs_of, shown_by}
 use Rattle.block_laws.specs.Turns.{IsLed}

@@ -11,9 +11,10 @@ use Rattle.parcel.specs.Events as events
 use Rattle.parcel.specs.Workers.{Does}
 use Rattle.block_net.specs.Views.{BlockView, count}
 use Rattle.block_net.specs.Whole.{Whole, block_at, block_with, home, place, StandsAt, put_block}
-use Rattle.block_core.specs.Views.{BlocksView, blocks_in, state_of, IsSpot, IsRow}
-use Rattle.block_core.proofs.Writing.{spot_put, row_put, block_same}
-use Rattle.block_core.proofs.Steps.{IsAt, excess_read, label_read, top_read}
+use Rattle.parcel.specs.Effects.{BlocksView, state_of}
+use Rattle.laid_blocks.specs.Views.{blocks_in, IsSpot, IsRow}
+use Rattle.laid_blocks.proofs.Writing.{spot_put, row_put, block_same}
+use Rattle.laid_blocks.proofs.Steps.{IsAt, excess_read, label_read, top_read}
 use Rattle.block_buckets.specs.Active as standing
 use Rattle.discharge.specs.Steps as steps
 use Rattle.discharge.specs.Steps.{Held}

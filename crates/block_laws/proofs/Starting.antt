@@ -9,7 +9,8 @@ use Rattle.parcel.specs.Workers.{MayStart}
 use Rattle.parcel.specs.RoundLaws.{no_messages}
 use Rattle.block_net.specs.Whole.{Whole, table, no_block, block_at, put_block}
 use Rattle.block_net.proofs.Tables.{table_is}
-use Rattle.block_core.specs.Views.{IsLaid, blocks_in, state_of}
+use Rattle.parcel.specs.Effects.{state_of}
+use Rattle.laid_blocks.specs.Views.{IsLaid, blocks_in}
 use Rattle.discharge.specs.Seen.{Seen}
 use Rattle.discharge.specs.Steps.{Step, IsSure}
 use Rattle.block_laws.specs.Turns.{HasRoom}

@@ -10,11 +10,12 @@ use Rattle.parcel.specs.Directions.{near, far}
 use Rattle.parcel.specs.States as core
 use Rattle.parcel.specs.Events as events
 use Rattle.parcel.specs.Workers.{MayStart}
-use Rattle.block_net.specs.Views.{BlockView, label_in, room_in, lane_in, highest}
+use Rattle.block_net.specs.Views.{BlockView, label_in, room_in, lane_in, MayPush, MaySend, highest}
 use Rattle.block_net.specs.Whole.{Whole, place, slot, put_block}
-use Rattle.block_core.specs.Views.{BlocksView, state_of, IsSpot, IsRow}
-use Rattle.block_core.proofs.Allowing.{highest_is}
-use Rattle.block_core.proofs.Steps.{IsAt, node_below, excess_read, label_read, room_read, top_read, inner_read, border_read, far_spot}
+use Rattle.parcel.specs.Effects.{BlocksView, state_of}
+use Rattle.laid_blocks.specs.Views.{IsSpot, IsRow}
+use Rattle.laid_blocks.proofs.Allowing.{highest_is}
+use Rattle.laid_blocks.proofs.Steps.{IsAt, node_below, excess_read, label_read, room_read, top_read, inner_read, border_read, far_spot}
 use Rattle.discharge.specs.Seen.{Seen}
 use Rattle.block_buckets.specs.Active as standing
 use Rattle.discharge.specs.Steps as steps
@@ -59,7 +60,7 @@ start_push w b got h x seat may =
     let residual = ap (λ (q : Lane). q.residual) (inner_read w1 v b B x j at row) in
     let label = label_read w1 v b B u p at spot in
     let label' = label_read w1 v b B (far v.net x) (lane_in B j).far at (far_spot w1 v b B x j at row) in
-    let may_push : steps.MayPush B p j = record {
+    let may_push : MayPush B p j = record {
       residual = omega (arith, on.3, residual);
       level = omega (arith, on.4, label, label');
     } in
@@ -119,7 +120,7 @@ start_send w b got h x s seat room may =
     let known = ap (λ (q : Lane). q.known) lane in
     let flight = ap (λ (q : Lane). q.flight) lane in
     let label = label_read w1 v b B u p at spot in
-    let may_send : steps.MaySend B p j = record {
+    let may_send : MaySend B p j = record {
       residual = omega (arith, on.3, residual);
       level = omega (arith, on.4, label, known);
       idle = flight ∙ on.5;

@@ -18,9 +18,10 @@ use Rattle.block_net.specs.declared.rows.Border.{Border}
 use Rattle.block_net.specs.Views as block
 use Rattle.block_net.specs.Views.{BlockView, label_in, border_in}
 use Rattle.block_net.specs.Whole.{Whole, home, put_block}
-use Rattle.block_core.specs.Views.{BlocksView, state_of, IsRow, accepted, settled, returned}
+use Rattle.parcel.specs.Effects.{BlocksView, state_of, accepted, settled, returned}
+use Rattle.laid_blocks.specs.Views.{IsRow}
 use Rattle.block_core.proofs.Effects.{border_apart}
-use Rattle.block_core.proofs.Steps.{label_read, top_read, border_read, border_capacity, border_spot, back_spot, out_same, accepted_at, settled_at, returned_at}
+use Rattle.laid_blocks.proofs.Steps.{label_read, top_read, border_read, border_capacity, border_spot, back_spot, out_same, accepted_at, settled_at, returned_at}
 use Rattle.discharge.specs.Seen.{add_to}
 use Rattle.discharge.specs.Steps as steps
 use Rattle.discharge.specs.Steps.{Held, accepting, refusing, settling}

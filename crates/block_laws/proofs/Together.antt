@@ -8,8 +8,8 @@ use Rattle.block_net.specs.declared.rows.InnerLane.{InnerLane}
 use Rattle.block_net.specs.declared.rows.Border.{Border}
 use Rattle.block_net.specs.Views.{BlockView, count}
 use Rattle.block_net.specs.Whole.{Whole, block_at, home, is_outer, IsInnerAt, IsBorderAt, StandsAt, IsPlaced, with_blocks}
-use Rattle.block_core.specs.Views.{IsLaid}
-use Rattle.block_core.proofs.Writing.{block_same}
+use Rattle.laid_blocks.specs.Views.{IsLaid}
+use Rattle.laid_blocks.proofs.Writing.{block_same}
 use Rattle.block_laws.proofs.Laid.{filled_together}
 use Rattle.block_laws.proofs.Beside.{one, home_all, outer_all, home_one, outer_one, place_one, with_one, read_one, lane_one, border_one}
 

@@ -7,7 +7,8 @@ use Rattle.parcel.specs.Soundness.{IsSound}
 use Rattle.parcel.specs.Workers.{MayStart}
 use Rattle.block_net.specs.Views.{BlockView, count}
 use Rattle.block_net.specs.Whole.{Whole, block_at}
-use Rattle.block_core.specs.Views.{IsLaid, blocks_in, state_of}
+use Rattle.parcel.specs.Effects.{state_of}
+use Rattle.laid_blocks.specs.Views.{IsLaid, blocks_in}
 use Rattle.block_core.specs.Mails.{HasRooms, IsHeld, room_at}
 use Rattle.discharge.specs.Seen.{Seen}
 use Rattle.discharge.specs.Steps.{Step, IsSure}

@@ -9,7 +9,8 @@ use Rattle.parcel.specs.Rounds.{RoundOf}
 use Rattle.parcel.specs.RoundLaws.{no_messages}
 use Rattle.block_net.specs.Views.{BlockView}
 use Rattle.block_net.specs.Whole.{Whole, block_at, with_blocks}
-use Rattle.block_core.specs.Views.{IsLaid, blocks_in, state_of}
+use Rattle.parcel.specs.Effects.{state_of}
+use Rattle.laid_blocks.specs.Views.{IsLaid, blocks_in}
 use Rattle.discharge.specs.Steps.{Held, DoesMany}
 
 -- of each block and each block, the messages on the way from the one to the other

@@ -5,7 +5,8 @@ use Rattle.parcel.specs.declared.message.Message.{Message}
 use Rattle.parcel.specs.States.{State}
 use Rattle.block_net.specs.Views.{BlockView, count}
 use Rattle.block_net.specs.Whole.{Whole, table, put_block}
-use Rattle.block_core.specs.Views.{IsLaid, IsSpot, IsRow, blocks_in, state_of}
+use Rattle.parcel.specs.Effects.{state_of}
+use Rattle.laid_blocks.specs.Views.{IsLaid, IsSpot, IsRow, blocks_in}
 use Rattle.discharge.specs.Steps.{Held}
 
 -- what went through the ends of the ways of block b: on the way from b to j what it put for j, and on the way

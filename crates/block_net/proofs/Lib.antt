@@ -10,3 +10,5 @@ mod Splitting
 mod Ordered
 mod Written
 mod Held
+pub mod Linking
+pub mod Moving

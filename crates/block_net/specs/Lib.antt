@@ -2,3 +2,5 @@ pub mod Limits
 pub mod Views
 pub mod Whole
 pub mod Split
+pub mod Circles
+pub mod Rows

@@ -95,6 +95,19 @@ pub record IsBlock (b : BlockView) : Type 0 where
   pub residuals : sum_by (λ x. x.residual) b.lanes < 2 ^ 62
   pub total : sum b.excess + sum_by spare b.borders < 2 ^ 62
 
+-- ---- when excess of an active node can go on
+
+-- along a direction within the block
+pub record MayPush (b : BlockView) (v j : ℕ) : Type 0 where
+  pub residual : 0 < (lane_in b j).residual
+  pub level : label_in b v ≡ label_in b (lane_in b j).far + 1
+
+-- along a direction to another block
+pub record MaySend (b : BlockView) (v j : ℕ) : Type 0 where
+  pub residual : 0 < (border_in b j).residual
+  pub level : label_in b v ≡ (border_in b j).known + 1
+  pub idle : (border_in b j).flight ≡ None
+
 -- ---- what each event does to the block
 
 -- an amount goes along a direction within the block

@@ -1,9 +1,10 @@
-ghost use Rattle.std.specs.Prelude.{◌≡◌, ◌≢◌, ◌+◌, ◌^◌, ◌<◌, ◌≤◌, All, IfOk, None, length};
+ghost use Rattle.std.specs.Prelude.{◌≡◌, ◌≢◌, ◌↔◌, IsTrue, ◌+◌, ◌^◌, ◌<◌, ◌≤◌, All, IfOk, None, length};
 ghost use Rattle.flow_network.specs.Limits.{node_limit};
 ghost use Rattle.flow_network.specs.Progress.{top_label};
 ghost use Rattle.block_net.specs.Split.{CanSplit, starts_made, rows_made, block_rows, block_made};
-ghost use Rattle.block_net.specs.Views.{BlockView, count, excess_in, label_in, room_in, lane_in, border_in, first_lane, first_border, out_of, pushed, given, labelled, sent, accepted, settled, returned, informed, lane_allows, border_allows, highest};
+ghost use Rattle.block_net.specs.Views.{BlockView, count, excess_in, label_in, room_in, lane_in, border_in, first_lane, first_border, out_of, MayPush, MaySend, pushed, given, labelled, sent, accepted, settled, returned, informed, lane_allows, border_allows, highest};
 
+use crate::buckets::Buckets;
 use crate::by_node::outer_starts;
 use crate::compact::CompactBorder;
 use crate::ends::bounds;
@@ -12,7 +13,6 @@ use crate::make::starts_from;
 use crate::opening::nodes_from;
 use crate::{Border, InnerLane};
 use flow_network::Net;
-use label_buckets::Buckets;
 use parcel::Flight;
 use std::alloc::{AllocError, Global};
 use std::marker::Model;
@@ -243,6 +243,34 @@ impl Cells {
             least = u32::min(least, self.border_allows(first_border + k));
         }
         least
+    }
+
+    /// Whether excess of an active node can go to the sink.
+    pub fn may_give(&self, v: usize) -> bool
+        requires { v < count self.now }
+        ensures { IsTrue result ↔ (0 < room_in self.now v) × (label_in self.now v ≡ 1) }
+    {
+        self.room(v) > 0 && self.label(v) == 1
+    }
+
+    /// Whether excess of an active node can go along a direction within the block.
+    pub fn may_push(&self, v: usize, j: usize) -> bool
+        requires node { v < count self.now }
+        requires place { j < length self.now.lanes }
+        ensures { IsTrue result ↔ MayPush self.now v j }
+    {
+        let lane = self.lane(j);
+        lane.residual > 0 && self.label(v) == self.label(lane.far as usize) + 1
+    }
+
+    /// Whether excess of an active node can leave along a direction to another block.
+    pub fn may_send(&self, v: usize, j: usize) -> bool
+        requires node { v < count self.now }
+        requires place { j < length self.now.borders }
+        ensures { IsTrue result ↔ MaySend self.now v j }
+    {
+        let border = self.border(j);
+        border.residual > 0 && self.label(v) == border.known + 1 && border.flight.is_none()
     }
 
     /// An amount of a node's excess goes along a direction within the block.

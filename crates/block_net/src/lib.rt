@@ -5,10 +5,16 @@
 //! and in a list of their own, in 48 bytes each, those to other blocks, which also keep the label known of the
 //! far end and the parcel that is out. Its calls are the steps of the push-relabel method on one block (Goldberg,
 //! Tarjan 1988, section 2). `Parts::split` makes the blocks of a net.
+//!
+//! A `Buckets` has for so many nodes so many rows: one for each bucket, and one for the nodes that are set aside. The
+//! nodes of a row stand in a circle with a place of the row's own, so that a node joins and leaves a row by four
+//! writes, wherever it stands. Nodes, places and rows are numbers: what a label is, the caller knows.
 #![tactic(auto)]
 
+mod buckets;
 mod by_node;
 mod cells;
+mod circles;
 mod compact;
 mod ends;
 mod filling;
@@ -21,6 +27,7 @@ mod opening;
 mod parts;
 mod rows;
 
+pub use buckets::Buckets;
 pub use cells::Cells;
 pub use homes::homes_of;
 pub use limits::{ARC_LIMIT, BLOCK_LIMIT};

@@ -11,7 +11,7 @@ use Rattle.block_tests.specs.Runs.{two_source_net}
 use Rattle.parcel.proofs.Opening.{opened_sound}
 use Rattle.block_net.specs.Views.{count, first_lane, first_border}
 use Rattle.block_net.specs.Whole.{block_at, block_with, home, place, near_home, slot, is_outer, IsInnerAt, IsBorderAt, StandsAt, LiesAt, IsPlaced, IsFilled, with_blocks}
-use Rattle.block_core.specs.Views.{IsLaid}
+use Rattle.laid_blocks.specs.Views.{IsLaid}
 use Rattle.discharge.specs.Steps.{Held, Rise, Send, DoesMany}
 use Rattle.block_laws.specs.Rounds.{fresh}
 use Rattle.block_tests.specs.Seats.{whole_before, blocks_after, left_on_the_way, BlocksComeBack}

@@ -9,7 +9,7 @@ use Rattle.block_tests.specs.Runs.{two_source_net}
 use Rattle.block_net.specs.declared.rows.Border.{Border}
 use Rattle.block_net.specs.Views.{BlockView}
 use Rattle.block_net.specs.Whole.{Whole}
-use Rattle.block_core.specs.Views.{IsLaid}
+use Rattle.laid_blocks.specs.Views.{IsLaid}
 use Rattle.block_laws.specs.Rounds.{Ways, AreBack, quiet_state}
 
 -- a block of one node with one direction to the other block

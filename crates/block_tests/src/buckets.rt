@@ -1,11 +1,10 @@
 ghost use Rattle.std.specs.Prelude.{◌≡◌, IfOk};
 ghost use Rattle.block_net.specs.Views.{count};
-ghost use Rattle.label_buckets.specs.Rows.{nodes};
+ghost use Rattle.block_net.specs.Rows.{nodes};
 
 use crate::building::net_of;
 use block_buckets::Bucketed;
-use block_net::{ARC_LIMIT, Cells, Parts};
-use label_buckets::Buckets;
+use block_net::{ARC_LIMIT, Buckets, Cells, Parts};
 use std::alloc::AllocError;
 use std::process::Abort;
 use std::test::Fail;

@@ -4,7 +4,7 @@ use Rattle.parcel.specs.declared.message.Message.{Message}
 use Rattle.parcel.specs.declared.message.Message.TheVariants.{Parcel, Accepted, Refused}
 use Rattle.parcel.specs.Directions.{opposite}
 use Rattle.parcel.specs.Workers.{IsFair}
-use Rattle.block_net.specs.Views.{BlockView, excess_in, label_in, room_in, lane_in, border_in, first_lane, first_border, out_of, pushed, given, labelled, sent, accepted, settled, returned, highest}
+use Rattle.block_net.specs.Views.{BlockView, excess_in, label_in, room_in, lane_in, border_in, first_lane, first_border, out_of, MayPush, MaySend, pushed, given, labelled, sent, accepted, settled, returned, highest}
 use Rattle.block_buckets.specs.Active.{IsActive}
 use Rattle.discharge.specs.declared.letter.Letter.{Letter}
 use Rattle.discharge.specs.Seen.{Seen, add_to}
@@ -31,15 +31,6 @@ pub record IsOfNode (b : BlockView) (v j : ℕ) : Type 0 where
 pub record IsBorderOfNode (b : BlockView) (v j : ℕ) : Type 0 where
   pub low : first_border b v ≤ j
   pub high : j < first_border b (v + 1)
-
-pub record MayPush (b : BlockView) (v j : ℕ) : Type 0 where
-  pub residual : 0 < (lane_in b j).residual
-  pub level : label_in b v ≡ label_in b (lane_in b j).far + 1
-
-pub record MaySend (b : BlockView) (v j : ℕ) : Type 0 where
-  pub residual : 0 < (border_in b j).residual
-  pub level : label_in b v ≡ (border_in b j).known + 1
-  pub idle : (border_in b j).flight ≡ None
 
 -- a direction to block c stands at the place
 pub record IsFrom (b : BlockView) (c j : ℕ) : Type 0 where

@@ -1,8 +1,8 @@
 ghost use Rattle.std.specs.Prelude.{◌≡◌, ◌<◌, ◌≤◌, ℕ, length};
-ghost use Rattle.block_net.specs.Views.{label_in, room_in, highest};
+ghost use Rattle.block_net.specs.Views.{label_in, room_in, MayPush, highest};
 ghost use Rattle.discharge.specs.Seen.{Seen};
 ghost use Rattle.block_buckets.specs.Active.{IsActive};
-ghost use Rattle.discharge.specs.Steps.{IsOfNode, IsBorderOfNode, MayPush, IsSure, Send};
+ghost use Rattle.discharge.specs.Steps.{IsOfNode, IsBorderOfNode, IsSure, Send};
 ghost use Rattle.discharge.specs.Works.{Does};
 
 use crate::{Letter, Ways};
@@ -17,11 +17,10 @@ pub(crate) fn try_give(cells: &mut Bucketed, v: usize) -> u32
     ensures does { (s : Seen) → Does cells.old.block s result cells.new.block s }
     ensures idle { result ≡ 0 → ¬ ((0 < room_in cells.old.block v) × (label_in cells.old.block v ≡ 1)) }
 {
-    let room = cells.room(v);
-    if room == 0 || cells.label(v) != 1 {
+    if !cells.cells().may_give(v) {
         return 0;
     }
-    let amount = u64::min(cells.excess(v), room);
+    let amount = u64::min(cells.excess(v), cells.room(v));
     cells.give(v, amount);
     1
 }
@@ -36,11 +35,10 @@ pub(crate) fn try_push(cells: &mut Bucketed, v: usize, j: usize) -> u32
     ensures does { (s : Seen) → Does cells.old.block s result cells.new.block s }
     ensures idle { result ≡ 0 → ¬ MayPush cells.old.block v j }
 {
-    let lane = cells.lane(j);
-    if lane.residual == 0 || cells.label(v) != cells.label(lane.far as usize) + 1 {
+    if !cells.cells().may_push(v, j) {
         return 0;
     }
-    let amount = u64::min(cells.excess(v), lane.residual);
+    let amount = u64::min(cells.excess(v), cells.lane(j).residual);
     cells.push(v, j, amount);
     1
 }
@@ -56,11 +54,11 @@ pub(crate) fn try_send<W: Ways>(cells: &mut Bucketed, ways: &mut W, v: usize, j:
     ensures does { Does cells.old.block (W.seen ways.old) result cells.new.block (W.seen ways.new) }
     ensures idle { result ≡ 0 → ¬ IsSure cells.old.block (W.seen ways.old) (Send v j) }
 {
-    let border = cells.border(j);
-    let label = cells.label(v);
-    if border.residual == 0 || label != border.known + 1 || border.flight.is_some() {
+    if !cells.cells().may_send(v, j) {
         return 0;
     }
+    let border = cells.border(j);
+    let label = cells.label(v);
     if !ways.room(border.to) {
         return 0;
     }

@@ -10,7 +10,8 @@ use Rattle.parcel.specs.declared.message.Message.{Message}
 use Rattle.parcel.specs.declared.message.Message.TheVariants.{Parcel, Accepted, Refused}
 use Rattle.parcel.specs.Directions.{forward, backward, opposite, is_same, IsDirection, near, far}
 use Rattle.parcel.specs.States.{State, Lane, Lanes, lane_at, put_lane, way_at, put_message, over_messages, label_of, room_of, flight_of, residual_of, known_of, near_block, far_block, block_of, is_border}
-use Rattle.parcel.specs.Events.{IsQuiet, pushed, given, relabelled, sent, accepted, refused, settled, learned}
+use Rattle.parcel.specs.Effects.{learned}
+use Rattle.parcel.specs.Events.{IsQuiet, pushed, given, relabelled, sent, accepted, refused, settled}
 use Rattle.parcel.specs.Soundness.{IsSound, IsSquare}
 use Rattle.parcel.proofs.Lanes.{same_itself as same_is, not_same as not_same_is, long_put, lane_other, cases_direction, near_opposite, far_opposite, border_opposite, opposite_twice}
 use Rattle.parcel.proofs.Ways.{EachWay, each_put, square_put, messages_more, all_more}

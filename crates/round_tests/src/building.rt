@@ -1,8 +1,8 @@
 //! Nets from tables, and their states in blocks with exact labels.
 use block_core::State;
+use block_cut::raise_all;
 use block_net::{ARC_LIMIT, BLOCK_LIMIT};
 use flow_network::{Arc, Net};
-use global_relabel::raise_all;
 use std::alloc::{AllocError, Global};
 use std::process::Abort;
 

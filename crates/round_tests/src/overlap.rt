@@ -55,7 +55,7 @@ fn round_drains(rt: HostRuntime) -> Result<(), Fail> {
     let gate = Alternate::new();
     let state = round(&rt, state, &options, &gate)?;
     assert!(rt; gate.went_far());
-    let labels = global_relabel::distances(rt.alloc(), &state)?;
+    let labels = block_cut::distances(rt.alloc(), &state)?;
     assert!(rt; is_finished(&state, labels.as_slice()));
     assert!(rt; state.got() == 1);
     Ok(())

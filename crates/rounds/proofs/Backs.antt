@@ -10,7 +10,7 @@ use Rattle.parcel.specs.Soundness.{IsSquare}
 use Rattle.parcel.specs.Workers.{MayStart}
 use Rattle.block_net.specs.Views.{BlockView, border_in, count}
 use Rattle.block_net.specs.Whole.{Whole, no_block, block_at}
-use Rattle.block_core.specs.Views.{IsLaid}
+use Rattle.laid_blocks.specs.Views.{IsLaid}
 use Rattle.discharge.specs.Seen.{Seen}
 use Rattle.discharge.specs.Steps.{Held, DoesMany, IsSure, held}
 use Rattle.block_laws.specs.Turns.{HasRoom}

@@ -7,7 +7,7 @@ use Rattle.parcel.specs.Directions.{far}
 use Rattle.parcel.proofs.Ends.{far_in}
 use Rattle.block_net.specs.Views.{BlockView, count, border_in}
 use Rattle.block_net.specs.Whole.{Whole, no_block, block_at, home, slot, shown}
-use Rattle.block_core.specs.Views.{IsLaid}
+use Rattle.laid_blocks.specs.Views.{IsLaid}
 use Rattle.block_core.proofs.Effects.{border_apart}
 use Rattle.rounds.specs.Seated.{AreSmall}
 

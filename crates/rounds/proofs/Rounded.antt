@@ -5,7 +5,8 @@ use Rattle.parcel.specs.Events.{IsQuiet}
 use Rattle.parcel.specs.Soundness.{IsSound, IsSquare}
 use Rattle.block_net.specs.Views.{BlockView}
 use Rattle.block_net.specs.Whole.{Whole, with_blocks}
-use Rattle.block_core.specs.Views.{IsLaid, blocks_in, state_of}
+use Rattle.parcel.specs.Effects.{state_of}
+use Rattle.laid_blocks.specs.Views.{IsLaid, blocks_in}
 use Rattle.block_core.specs.Mails.{IsHeld}
 use Rattle.block_laws.specs.Rounds.{Ways, AreBack, IsRound, quiet_state, state_after}
 use Rattle.block_laws.proofs.Quiet.{quiet_is_start, round_is_held}

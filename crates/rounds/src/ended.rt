@@ -4,9 +4,8 @@ ghost use Rattle.flow_network.specs.Cut.{nodes, set_of, IsSmallestLeastCut};
 ghost use Rattle.flow_network.specs.Answer.{side_of, IsRightCut};
 
 use block_core::State;
-use block_cut::{answer_of, finish, finish_side, least_side};
+use block_cut::{Workspace, answer_of, finish, finish_side, least_side};
 use flow_network::Solved;
-use global_relabel::Workspace;
 use std::alloc::{AllocError, Global};
 
 /// A state after its rounds, and lists for its net: where it is known to be finished, they hold its exact labels.

@@ -1,5 +1,5 @@
 ghost use Rattle.std.specs.Prelude.{◌≡◌};
-ghost use Rattle.block_core.specs.Views.{IsLaid};
+ghost use Rattle.laid_blocks.specs.Views.{IsLaid};
 ghost use Rattle.block_core.specs.Mails.{IsHeld};
 ghost use Rattle.block_net.specs.Whole.{whole_of};
 ghost use Rattle.rounds.specs.Together.{gathered_state};

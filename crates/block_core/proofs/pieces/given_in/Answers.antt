@@ -2,10 +2,10 @@ use Rattle.std.proofs.Common.{◌≡◌, ◌∙◌, ◌+◌, ◌-◌, ◌<◌, �
 use Rattle.sums.specs.Sums.{sum_below}
 use Rattle.block_net.specs.Views.{BlockView, count}
 use Rattle.block_net.specs.Whole.{Whole, block_at, whole_of}
-use Rattle.block_core.specs.Views.{blocks_in}
+use Rattle.laid_blocks.specs.Views.{blocks_in}
 use Rattle.block_core.specs.Pieces.{given_at}
 use Rattle.block_core.proofs.Given.{read_node, in_a_row, some_nodes}
-use Rattle.block_core.proofs.Steps.{at_read}
+use Rattle.laid_blocks.proofs.Steps.{at_read}
 use Rattle.block_core.proofs.pieces.given_in.Goals as goal
 
 pub overflow_add-given : goal.overflow_add-given

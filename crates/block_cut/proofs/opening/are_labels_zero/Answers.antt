@@ -1,8 +1,8 @@
 use Rattle.std.proofs.Common.{◌≡◌, ◌<◌, length, refl, sym, subst, inl, inr, arith}
 use Rattle.std.proofs.lemmas.Bool.{cases_lt}
-use Rattle.block_core.specs.Views.{blocks_in}
+use Rattle.laid_blocks.specs.Views.{blocks_in}
 use Rattle.block_net.specs.Whole.{whole_of}
-use Rattle.block_core.proofs.Steps.{at_read}
+use Rattle.laid_blocks.proofs.Steps.{at_read}
 use Rattle.block_cut.specs.Opening.{IsFlat}
 use Rattle.block_cut.proofs.Opened.{zeros_of_flat}
 use Rattle.block_cut.proofs.opening.are_labels_zero.Goals as goal

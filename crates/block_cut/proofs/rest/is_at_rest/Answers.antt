@@ -3,8 +3,8 @@ use Rattle.std.proofs.lemmas.Bool.{true≢false}
 use Rattle.std.proofs.lemmas.List.{get_or_read}
 use Rattle.block_net.specs.Views.{BlockView, count}
 use Rattle.block_net.specs.Whole.{block_at, whole_of}
-use Rattle.block_core.specs.Views.{blocks_in}
-use Rattle.block_core.proofs.Steps.{at_read}
+use Rattle.laid_blocks.specs.Views.{blocks_in}
+use Rattle.laid_blocks.proofs.Steps.{at_read}
 use Rattle.block_cut.specs.Rest.{IsAtRest}
 use Rattle.block_cut.proofs.Resting.{place_below, rest_of_finished, finished_of_rest}
 use Rattle.block_cut.proofs.rest.is_at_rest.Goals as goal

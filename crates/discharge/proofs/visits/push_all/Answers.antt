@@ -1,7 +1,7 @@
 use Rattle.std.proofs.Common.{◌≡◌, ℕ, ◌+◌, inl, inr, List, slice_index, sym, ◌∙◌, ap, subst, arith}
 use Rattle.std.proofs.lemmas.Bool.{cases_lt, false≢true}
 use Rattle.block_net.specs.Views.{BlockView}
-use Rattle.discharge.specs.Steps.{MayPush}
+use Rattle.block_net.specs.Views.{MayPush}
 use Rattle.block_buckets.specs.Active.{IsActive}
 use Rattle.discharge.proofs.Runs.{no_seen, does_more}
 use Rattle.discharge.proofs.visits.push_all.Goals as goal

@@ -1,7 +1,7 @@
 use Rattle.std.proofs.Common.{◌≡◌, ℕ, ◌<◌, ◌≤◌}
 use Rattle.block_net.specs.Views.{first_lane}
 use Rattle.discharge.specs.Seen.{Seen}
-use Rattle.discharge.specs.Steps.{MayPush}
+use Rattle.block_net.specs.Views.{MayPush}
 use Rattle.discharge.specs.Works.{Does}
 use Rattle.discharge.proofs.visits.push_all.Given as goal
 

@@ -1,5 +1,5 @@
 use Rattle.std.proofs.Common.{◌∙◌, ℕ, ap}
-use Rattle.label_buckets.specs.Rows.{moved, bucket_of}
+use Rattle.block_net.specs.Rows.{moved, bucket_of}
 use Rattle.block_buckets.proofs.Placing.{put_stands}
 use Rattle.block_buckets.proofs.bucketed.Bucketed.restore_aside.Goals as goal
 

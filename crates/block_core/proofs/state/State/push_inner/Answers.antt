@@ -2,7 +2,7 @@ use Rattle.std.proofs.Common.{sym, subst}
 use Rattle.parcel.specs.States as core
 use Rattle.parcel.specs.declared.event.Event.TheVariants.{PushInner}
 use Rattle.parcel.specs.Events.{Enabled}
-use Rattle.block_core.specs.Views.{state_of}
+use Rattle.parcel.specs.Effects.{state_of}
 use Rattle.block_core.proofs.Keeping.{held_next}
 use Rattle.block_core.proofs.Effects.{pushed_is}
 use Rattle.block_core.proofs.state.State.push_inner.Goals as goal

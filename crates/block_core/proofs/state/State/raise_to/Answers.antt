@@ -3,7 +3,7 @@ use Rattle.parcel.specs.declared.event.Event.TheVariants.{RaiseAll}
 use Rattle.parcel.specs.States as core
 use Rattle.parcel.specs.Reach.{AreExact}
 use Rattle.parcel.specs.Events.{IsQuiet, Happens}
-use Rattle.block_core.specs.Views.{state_of}
+use Rattle.parcel.specs.Effects.{state_of}
 use Rattle.parcel.proofs.Raising.{exact-le-top}
 use Rattle.block_core.proofs.Raised.{told_happens, held_raised}
 use Rattle.block_core.proofs.state.State.raise_to.Goals as goal

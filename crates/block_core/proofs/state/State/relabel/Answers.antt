@@ -2,7 +2,7 @@ use Rattle.std.proofs.Common.{◌≡◌, refl, sym, subst, arith}
 use Rattle.parcel.specs.States as core
 use Rattle.parcel.specs.declared.event.Event.TheVariants.{Relabel}
 use Rattle.parcel.specs.Events.{IsActive, Enabled, effect, highest_label}
-use Rattle.block_core.specs.Views.{state_of}
+use Rattle.parcel.specs.Effects.{state_of}
 use Rattle.block_core.proofs.Keeping.{held_next}
 use Rattle.block_core.proofs.state.State.relabel.Goals as goal
 

@@ -3,7 +3,7 @@ use Rattle.parcel.specs.declared.message.Message.TheVariants.{Parcel}
 use Rattle.parcel.specs.declared.event.Event.TheVariants.{Refuse}
 use Rattle.parcel.specs.Directions.{far}
 use Rattle.parcel.specs.States as core
-use Rattle.block_core.specs.Views.{state_of}
+use Rattle.parcel.specs.Effects.{state_of}
 use Rattle.block_core.proofs.Keeping.{held_next}
 use Rattle.block_core.proofs.Fronts.{parcel_out, parcel_arc, may_refuse, refuse_room, refuse_is}
 use Rattle.block_core.proofs.state.State.return_parcel.Goals as goal

@@ -2,7 +2,7 @@ use Rattle.std.proofs.Common.{◌≡◌, sym, ◌∙◌, ap, subst}
 use Rattle.parcel.specs.States as core
 use Rattle.parcel.specs.declared.event.Event.TheVariants.{Send}
 use Rattle.parcel.specs.Events.{Enabled}
-use Rattle.block_core.specs.Views.{state_of}
+use Rattle.parcel.specs.Effects.{state_of}
 use Rattle.block_core.proofs.Keeping.{held_next}
 use Rattle.block_core.proofs.Effects.{send_room, sent_is}
 use Rattle.block_core.proofs.state.State.send.Goals as goal

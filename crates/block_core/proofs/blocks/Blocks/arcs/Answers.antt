@@ -1,6 +1,0 @@
-use Rattle.block_core.proofs.Opened.{laid_long}
-use Rattle.block_core.proofs.blocks.Blocks.arcs.Goals as goal
-
-pub returns-clause-long : goal.returns-clause-long
-returns-clause-long c =
-    laid_long _ _ c.self.invariant c.self.view_is

@@ -1,8 +1,0 @@
-use Rattle.std.proofs.Common.{ℕ, ◌<◌}
-use Rattle.parcel.specs.Directions.{forward, backward}
-use Rattle.block_core.specs.Raising.{IsStableAlong}
-use Rattle.block_core.proofs.Lowering.{IsPass}
-use Rattle.block_core.proofs.blocks.Blocks.lower_arcs.Given as goal
-
-abbrev pub invariant-arcs : goal.invariant-arcs
-invariant-arcs l = IsPass l.initial.self l.self l.lowered ((k : ℕ) → k < l.arc → IsStableAlong l.initial.self (forward k) × IsStableAlong l.initial.self (backward k))

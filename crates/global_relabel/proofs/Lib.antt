@@ -1,7 +1,0 @@
-pub mod Bridge
-pub mod ResidualNet
-pub mod Places
-pub mod Seeing
-pub mod Homing
-pub mod Rooms
-pub mod Residuals

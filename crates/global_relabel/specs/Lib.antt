@@ -1,4 +1,0 @@
-pub mod Laws
-pub mod Search
-pub mod Workspaces
-pub mod Homes

@@ -1,0 +1,47 @@
+use Rattle.std.proofs.Common.{◌≡◌, sym, subst, arith}
+use Rattle.block_net.specs.Views.{BlockView}
+use Rattle.block_net.specs.Whole.{Whole, put_block, whole_of}
+use Rattle.parcel.specs.Effects.{gave}
+use Rattle.laid_blocks.specs.Views.{blocks_in, IsLaid}
+use Rattle.laid_blocks.proofs.Steps.{at_read, excess_read, room_read, gave_at}
+use Rattle.laid_blocks.proofs.blocks.Blocks.give.Goals as goal
+
+pub give-requires-clause-excess : goal.give-requires-clause-excess
+give-requires-clause-excess c =
+    let i = c.self.inside in
+    let w : Whole = whole_of i.net i.parts in
+    let b = c.spot-block.result.0 in
+    let p = c.spot-block.result.1 in
+    let B = c.index_mut.result.now in
+    let at = at_read w c.args.self.now b B c.self.invariant c.self.view_is c.spot-block.ensures.block c.index_mut.ensures.value in
+    omega (arith, excess_read w _ b B c.args.v p at c.spot-block.ensures, c.requires.excess)
+
+pub give-requires-clause-room : goal.give-requires-clause-room
+give-requires-clause-room c =
+    let i = c.self.inside in
+    let w : Whole = whole_of i.net i.parts in
+    let b = c.spot-block.result.0 in
+    let p = c.spot-block.result.1 in
+    let B = c.index_mut.result.now in
+    let at = at_read w c.args.self.now b B c.self.invariant c.self.view_is c.spot-block.ensures.block c.index_mut.ensures.value in
+    omega (arith, room_read w _ b B c.args.v p at c.spot-block.ensures, c.requires.room)
+
+pub invariant_of-self : goal.invariant_of-self
+invariant_of-self c =
+    let i = c.self.inside in
+    let w : Whole = whole_of i.net i.parts in
+    let b = c.spot-block.result.0 in
+    let p = c.spot-block.result.1 in
+    let B = c.index_mut.result.now in
+    let at = at_read w c.args.self.now b B c.self.invariant c.self.view_is c.spot-block.ensures.block c.index_mut.ensures.value in
+    subst (λ (q : BlockView). IsLaid (put_block w b q)) (sym c.give.ensures.given) (gave_at w _ b B c.args.v p c.args.amount at c.spot-block.ensures c.give.ensures.place).laid
+
+pub returns : goal.returns
+returns c =
+    let i = c.self.inside in
+    let w : Whole = whole_of i.net i.parts in
+    let b = c.spot-block.result.0 in
+    let p = c.spot-block.result.1 in
+    let B = c.index_mut.result.now in
+    let at = at_read w c.args.self.now b B c.self.invariant c.self.view_is c.spot-block.ensures.block c.index_mut.ensures.value in
+    subst (λ (q : BlockView). blocks_in (put_block w b q) ≡ gave c.args.self.now c.args.v c.args.amount) (sym c.give.ensures.given) (gave_at w _ b B c.args.v p c.args.amount at c.spot-block.ensures c.give.ensures.place).view

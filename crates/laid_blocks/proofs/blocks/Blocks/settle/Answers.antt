@@ -1,0 +1,35 @@
+use Rattle.std.proofs.lemmas.Grind.{common_steps}
+use Rattle.std.proofs.Common.{◌≡◌, true, sym, subst, arith}
+use Rattle.block_net.specs.Views.{BlockView}
+use Rattle.block_net.specs.Whole.{Whole, put_block, whole_of}
+use Rattle.parcel.specs.Effects.{settled}
+use Rattle.laid_blocks.specs.Views.{blocks_in, IsLaid}
+use Rattle.laid_blocks.proofs.Steps.{at_read, row_as, settled_at}
+use Rattle.laid_blocks.proofs.blocks.Blocks.settle.Goals as goal
+
+pub invariant_of-self : goal.invariant_of-self
+invariant_of-self c =
+    let i = c.self.inside in
+    let w : Whole = whole_of i.net i.parts in
+    let b = c.row-block.result.0 in
+    let p = c.row-block.result.1 in
+    let B = c.index_mut.result.now in
+    let at = at_read w c.args.self.now b B c.self.invariant c.self.view_is c.row-block.ensures.block c.index_mut.ensures.value in
+    let x = c.args.direction in
+    let row = row_as w _ b B x true p at c.row-block.ensures c.requires.border in
+    subst (λ (q : BlockView). IsLaid (put_block w b q)) (sym c.settle.ensures) (settled_at w _ b B x p at row).laid
+
+pub returns : goal.returns
+returns c =
+    let i = c.self.inside in
+    let w : Whole = whole_of i.net i.parts in
+    let b = c.row-block.result.0 in
+    let p = c.row-block.result.1 in
+    let B = c.index_mut.result.now in
+    let at = at_read w c.args.self.now b B c.self.invariant c.self.view_is c.row-block.ensures.block c.index_mut.ensures.value in
+    let x = c.args.direction in
+    let row = row_as w _ b B x true p at c.row-block.ensures c.requires.border in
+    subst (λ (q : BlockView). blocks_in (put_block w b q) ≡ settled c.args.self.now x) (sym c.settle.ensures) (settled_at w _ b B x p at row).view
+
+pub settle-requires : goal.settle-requires
+settle-requires c = grind (arith, common_steps)

@@ -1,0 +1,62 @@
+use Rattle.std.proofs.lemmas.Grind.{common_steps}
+use Rattle.std.proofs.Common.{◌≡◌, true, sym, ap, subst, arith}
+use Rattle.parcel.specs.declared.lane.Lane.{Lane}
+use Rattle.parcel.specs.States as core
+use Rattle.parcel.specs.Soundness.{amount_out}
+use Rattle.block_net.specs.Views.{BlockView, border_in}
+use Rattle.block_net.specs.Whole.{Whole, put_block, whole_of}
+use Rattle.parcel.specs.Effects.{returned}
+use Rattle.laid_blocks.specs.Views.{blocks_in, IsLaid}
+use Rattle.laid_blocks.proofs.Steps.{at_read, top_read, border_read, row_as, border_spot, out_same, returned_at}
+use Rattle.laid_blocks.proofs.blocks.Blocks.take_back.Goals as goal
+
+pub take_back-requires-clause-fits : goal.take_back-requires-clause-fits
+take_back-requires-clause-fits c =
+    let i = c.self.inside in
+    let w : Whole = whole_of i.net i.parts in
+    let b = c.row-block.result.0 in
+    let p = c.row-block.result.1 in
+    let B = c.index_mut.result.now in
+    let at = at_read w c.args.self.now b B c.self.invariant c.self.view_is c.row-block.ensures.block c.index_mut.ensures.value in
+    let x = c.args.direction in
+    let row = row_as w _ b B x true p at c.row-block.ensures c.requires.border in
+    omega (arith, out_same (border_in B p).flight, ap (λ (q : Lane). amount_out q.flight) (border_read w _ b B x p at row), c.requires.fits)
+
+pub take_back-requires-clause-told : goal.take_back-requires-clause-told
+take_back-requires-clause-told c =
+    let i = c.self.inside in
+    let w : Whole = whole_of i.net i.parts in
+    let b = c.row-block.result.0 in
+    let p = c.row-block.result.1 in
+    let B = c.index_mut.result.now in
+    let at = at_read w c.args.self.now b B c.self.invariant c.self.view_is c.row-block.ensures.block c.index_mut.ensures.value in
+    let x = c.args.direction in
+    let row = row_as w _ b B x true p at c.row-block.ensures c.requires.border in
+    omega (arith, top_read w _ b B at, c.requires.told)
+
+pub invariant_of-self : goal.invariant_of-self
+invariant_of-self c =
+    let i = c.self.inside in
+    let w : Whole = whole_of i.net i.parts in
+    let b = c.row-block.result.0 in
+    let p = c.row-block.result.1 in
+    let B = c.index_mut.result.now in
+    let at = at_read w c.args.self.now b B c.self.invariant c.self.view_is c.row-block.ensures.block c.index_mut.ensures.value in
+    let x = c.args.direction in
+    let row = row_as w _ b B x true p at c.row-block.ensures c.requires.border in
+    subst (λ (q : BlockView). IsLaid (put_block w b q)) (sym c.take_back.ensures) (returned_at w _ b B x p c.args.amount c.args.told at row (border_spot w _ b B x p at row)).laid
+
+pub returns : goal.returns
+returns c =
+    let i = c.self.inside in
+    let w : Whole = whole_of i.net i.parts in
+    let b = c.row-block.result.0 in
+    let p = c.row-block.result.1 in
+    let B = c.index_mut.result.now in
+    let at = at_read w c.args.self.now b B c.self.invariant c.self.view_is c.row-block.ensures.block c.index_mut.ensures.value in
+    let x = c.args.direction in
+    let row = row_as w _ b B x true p at c.row-block.ensures c.requires.border in
+    subst (λ (q : BlockView). blocks_in (put_block w b q) ≡ returned c.args.self.now x c.args.amount c.args.told) (sym c.take_back.ensures) (returned_at w _ b B x p c.args.amount c.args.told at row (border_spot w _ b B x p at row)).view
+
+pub take_back-requires-clause-place : goal.take_back-requires-clause-place
+take_back-requires-clause-place c = grind (arith, common_steps)

@@ -1,0 +1,73 @@
+-- What the blocks of a net show of its nodes and directions.
+use Rattle.std.specs.Prelude.{Bool, true, false, cond, replicate, ℕ, ◌≡◌, ◌<◌, ◌≤◌, List, length, map, None}
+use Rattle.flow_network.specs.declared.arc.Arc.{Arc}
+use Rattle.flow_network.specs.Cut.{Network, nodes, IsNet}
+use Rattle.parcel.specs.declared.lane.Lane.{Lane}
+use Rattle.parcel.specs.declared.direction.Direction.{Direction}
+use Rattle.parcel.specs.Directions.{IsDirection}
+use Rattle.parcel.specs.Effects.{BlocksView}
+use Rattle.block_net.specs.Limits.{arc_limit, block_limit}
+use Rattle.block_net.specs.Whole.{Whole, home, place, near_home, slot, is_outer, shown, IsPlaced, IsFilled}
+
+-- what a whole of blocks shows, without the messages on the way
+abbrev pub blocks_in : Whole → BlocksView
+blocks_in w = record {
+  net = w.net;
+  blocks = length w.blocks;
+  excess = (shown w).excess;
+  labels = (shown w).labels;
+  rooms = (shown w).rooms;
+  lanes = (shown w).lanes;
+}
+
+-- what is kept of the blocks of a net
+pub record IsLaid (w : Whole) : Type 0 where
+  pub net : IsNet w.net
+  pub arcs : length w.net.arcs ≤ arc_limit
+  pub some : 1 ≤ length w.blocks
+  pub few : length w.blocks ≤ block_limit
+  pub placed : IsPlaced w
+  pub filled : IsFilled w
+
+-- a node, its block and its place there
+pub record IsSpot (w : Whole) (v b p : ℕ) : Type 0 where
+  pub node : v < nodes w.net
+  pub home : home w v ≡ b
+  pub place : place w v ≡ p
+  pub block : b < length w.blocks
+
+-- a direction, whether it leads to another block, the block that it leaves and its slot there
+pub record IsRow (w : Whole) (x : Direction) (leaves : Bool) (b j : ℕ) : Type 0 where
+  pub direction : IsDirection w.net x
+  pub outer : is_outer w x ≡ leaves
+  pub home : near_home w x ≡ b
+  pub slot : slot w x ≡ j
+  pub block : b < length w.blocks
+
+-- the lists are as long as the net says
+pub record IsLong (b : BlocksView) : Type 0 where
+  pub net : IsNet b.net
+  pub some : 1 ≤ b.blocks
+  pub few : b.blocks ≤ block_limit
+  pub excess : length b.excess ≡ nodes b.net
+  pub labels : length b.labels ≡ nodes b.net
+  pub rooms : length b.rooms ≡ nodes b.net
+  pub forth : length b.lanes.forth ≡ length b.net.arcs
+  pub back : length b.lanes.back ≡ length b.net.arcs
+
+-- ---- the opening
+
+-- the lanes of the arcs in one sense
+abbrev pub first_lanes : Bool → List Arc → List Lane
+first_lanes back arcs =
+    map (λ arc. record { residual = cond back 0 arc.capacity; known = 0; flight = None }) arcs
+
+abbrev pub first_of : Network → ℕ → BlocksView
+first_of net blocks = record {
+  net = net;
+  blocks = blocks;
+  excess = net.sources;
+  labels = replicate (nodes net) 0;
+  rooms = net.sinks;
+  lanes = record { forth = first_lanes false net.arcs; back = first_lanes true net.arcs };
+}

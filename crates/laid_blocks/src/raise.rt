@@ -1,0 +1,158 @@
+ghost use Rattle.std.specs.Prelude.{◌≡◌, ◌+◌, ◌<◌, ◌≤◌, ℕ, false, List, length, slice_index};
+ghost use Rattle.flow_network.specs.Cut.{nodes};
+ghost use Rattle.flow_network.specs.Progress.{top};
+ghost use Rattle.parcel.specs.Reach.{AreExact};
+ghost use Rattle.parcel.specs.Directions.{IsDirection, forward, backward};
+ghost use Rattle.parcel.specs.States.{lane_at};
+ghost use Rattle.parcel.specs.Effects.{told};
+ghost use Rattle.laid_blocks.specs.Raising.{bare, IsReached, IsLowered, IsStableAt, IsStableAlong, IsStable};
+ghost use Rattle.parcel.specs.Effects.{BlocksView};
+ghost use Rattle.laid_blocks.specs.Views.{IsLong};
+
+use crate::blocks::Blocks;
+use parcel::Direction;
+
+impl Blocks {
+    /// A node that can give the sink gets the label 1, where its label is above; whether it was.
+    fn lower_node(&mut self, v: usize) -> bool
+        requires { v < nodes self.old.net }
+        ensures lowered { IsLowered self.old self.new result }
+        ensures stable { result ≡ false → IsStableAt self.old v }
+    {
+        if self.room(v) == 0 || self.label(v) <= 1 {
+            return false;
+        }
+        self.relabel(v, 1);
+        true
+    }
+
+    /// The near end of a residual direction gets the label of the far end and 1, where its label is above;
+    /// whether it was.
+    fn lower_along(&mut self, direction: Direction) -> bool
+        requires { IsDirection self.old.net direction }
+        ensures lowered { IsLowered self.old self.new result }
+        ensures stable { result ≡ false → IsStableAlong self.old direction }
+    {
+        let near = self.near(direction);
+        let far = self.far(direction);
+        let label = self.label(far);
+        if self.lane(direction).residual == 0 || self.label(near) as u64 <= label as u64 + 1 {
+            return false;
+        }
+        self.relabel(near, label + 1);
+        true
+    }
+
+    /// Labels come down by what the nodes can give the sink; whether any did.
+    fn lower_nodes(&mut self) -> bool
+        ensures lowered { IsLowered self.old self.new result }
+        ensures stable { result ≡ false → (v : ℕ) → v < nodes self.old.net → IsStableAt self.old v }
+    {
+        let mut lowered = false;
+        'nodes: for v in 0..self.nodes() {
+            if self.lower_node(v) {
+                lowered = true;
+            }
+        }
+        lowered
+    }
+
+    /// Labels come down along the directions of an arc; whether any did.
+    fn lower_arc(&mut self, arc: usize) -> bool
+        requires { arc < length self.old.net.arcs }
+        ensures lowered { IsLowered self.old self.new result }
+        ensures stable { result ≡ false
+            → IsStableAlong self.old (forward arc) × IsStableAlong self.old (backward arc) }
+    {
+        let forward = self.lower_along(Direction { arc, back: false });
+        let backward = self.lower_along(Direction { arc, back: true });
+        forward || backward
+    }
+
+    /// Labels come down along the directions; whether any did.
+    fn lower_arcs(&mut self) -> bool
+        ensures lowered { IsLowered self.old self.new result }
+        ensures stable { result ≡ false → (k : ℕ) → k < length self.old.net.arcs
+            → IsStableAlong self.old (forward k) × IsStableAlong self.old (backward k) }
+    {
+        let mut lowered = false;
+        'arcs: for arc in 0..self.arcs() {
+            if self.lower_arc(arc) {
+                lowered = true;
+            }
+        }
+        lowered
+    }
+
+    /// Labels come down once over; whether any did.
+    fn lower_all(&mut self) -> bool
+        ensures lowered { IsLowered self.old self.new result }
+        ensures stable { result ≡ false → IsStable self.old }
+    {
+        let nodes = self.lower_nodes();
+        let arcs = self.lower_arcs();
+        nodes || arcs
+    }
+
+    /// Each label becomes the top one.
+    fn cut_off(&mut self)
+        ensures rest { self.new ≡ record self.old { labels = self.new.labels } }
+        ensures long { IsLong self.old }
+        ensures len { length self.new.labels ≡ nodes self.old.net }
+        ensures tops { (v : ℕ) → v < nodes self.old.net → slice_index self.new.labels v ≡ top self.old.net }
+    {
+        let top = self.nodes() as u32 + 2;
+        'nodes: for v in 0..self.nodes() {
+            self.relabel(v, top);
+        }
+    }
+
+    /// Each label becomes the exact one, by passes from the top label down until none changes. Takes no
+    /// memory (Bellman 1958; Goldberg, Tarjan 1988, section 2).
+    fn find_labels(&mut self)
+        ensures rest { self.new ≡ record self.old { labels = self.new.labels } }
+        ensures exact { AreExact (bare self.old) self.new.labels }
+    {
+        self.cut_off();
+        'passes: while self.lower_all() {}
+    }
+
+    /// Each direction to another block knows the label of its far end: one pass over the directions between blocks.
+    fn tell_all(&mut self)
+        ensures { self.new ≡ told self.old }
+    {
+        'each: for block in 0..self.count() {
+            self.tell_from(block);
+        }
+    }
+
+    /// Each node gets the label that is told, block by block.
+    fn set_labels(&mut self, labels: &[u32])
+        requires len { length labels.now ≡ nodes self.old.net }
+        requires limit { (v : ℕ) → v < nodes self.old.net → slice_index labels.now v ≤ top self.old.net }
+        ensures { self.new ≡ record self.old { labels = labels.now } }
+    {
+        'each: for block in 0..self.count() {
+            self.relabel_block(block, labels);
+        }
+    }
+
+    /// Each node gets the label that is told, and each direction to another block knows that of its far end.
+    pub fn raise_to(&mut self, labels: &[u32])
+        requires len { length labels.now ≡ nodes self.old.net }
+        requires limit { (v : ℕ) → v < nodes self.old.net → slice_index labels.now v ≤ top self.old.net }
+        ensures { self.new ≡ told (record self.old { labels = labels.now }) }
+    {
+        self.set_labels(labels);
+        self.tell_all();
+    }
+
+    /// Each label becomes the exact one, and each direction to another block knows that of its far end.
+    pub fn raise(&mut self)
+        ensures { (labels : List ℕ) × AreExact (bare self.old) labels
+            × (self.new ≡ told (record self.old { labels = labels })) }
+    {
+        self.find_labels();
+        self.tell_all();
+    }
+}
