@@ -11,7 +11,7 @@ use Rattle.parcel.proofs.Words.{put_here, put_other}
 use Rattle.block_core.specs.Mails.{MailView, room_at}
 use Rattle.discharge.specs.declared.letter.Letter.{Letter}
 use Rattle.discharge.specs.Seen.{IsPut, IsTake, add_to}
-use Rattle.block_laws.proofs.Logs.{added, not_added}
+use Rattle.block_cut.proofs.Logs.{added, not_added}
 use Rattle.block_cut.specs.Ends.{EndsView, ends_view, first_to, now_to, first_from, now_from, is_other, letter_of, seen_by, IsEnds}
 
 -- ---- lists

@@ -12,7 +12,7 @@ use Rattle.laid_blocks.specs.Views.{IsLaid, blocks_in}
 use Rattle.block_core.specs.Mails.{MailView, HasRooms, IsHeld}
 use Rattle.block_core.specs.declared.pieces.Pieces.{Pieces}
 use Rattle.block_core.specs.Pieces.{state_in}
-use Rattle.block_laws.proofs.Laid.{put_own, seated}
+use Rattle.block_cut.proofs.Laid.{put_own, seated}
 use Rattle.block_cut.specs.Turns.{ReachesFrom}
 use Rattle.block_cut.specs.Passes.{state_at, IsGoing, IsReady, IsStill}
 use Rattle.block_cut.proofs.Lowering.{none_starts}

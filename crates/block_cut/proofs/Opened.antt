@@ -18,9 +18,9 @@ use Rattle.block_core.specs.Pieces.{state_in}
 use Rattle.laid_blocks.proofs.Steps.{label_read}
 use Rattle.laid_blocks.proofs.Writing.{block_same}
 use Rattle.discharge.specs.Steps.{IsOfNode}
-use Rattle.block_laws.specs.Loose.{IsStanding}
-use Rattle.block_laws.proofs.Laid.{put_own, seated}
-use Rattle.block_laws.proofs.Loosely.{loose_push_keeps, loose_give_keeps}
+use Rattle.block_cut.specs.Loose.{IsStanding}
+use Rattle.block_cut.proofs.Laid.{put_own, seated}
+use Rattle.block_cut.proofs.Loosely.{loose_push_keeps, loose_give_keeps}
 use Rattle.block_cut.specs.Passes.{state_at}
 use Rattle.block_cut.specs.Opening.{IsFlat, AreLabelsZero, Opens, AreOpening}
 

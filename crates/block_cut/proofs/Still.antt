@@ -23,10 +23,10 @@ use Rattle.block_core.specs.Mails.{MailView, HasRooms, room_at}
 use Rattle.block_core.specs.declared.pieces.Pieces.{Pieces}
 use Rattle.block_core.specs.Pieces.{state_in}
 use Rattle.discharge.specs.Steps.{Step, IsSure, held}
-use Rattle.block_laws.specs.Turns.{HasRoom}
-use Rattle.block_laws.specs.Seats.{logs_of}
-use Rattle.block_laws.proofs.Laid.{put_own, seated}
-use Rattle.block_laws.proofs.Starts.{start_is_step}
+use Rattle.block_cut.specs.TurnEvents.{HasRoom}
+use Rattle.block_cut.specs.Seats.{logs_of}
+use Rattle.block_cut.proofs.Laid.{put_own, seated}
+use Rattle.block_cut.proofs.Starts.{start_is_step}
 use Rattle.block_cut.specs.Ends.{is_other, ends_view, seen_by}
 use Rattle.block_cut.specs.Turns.{ReachesFrom}
 use Rattle.block_cut.specs.Passes.{state_at, IsGoing, IsReady, IsStill}

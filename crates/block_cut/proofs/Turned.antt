@@ -5,8 +5,8 @@ use Rattle.parcel.specs.declared.message.Message.{Message}
 use Rattle.block_net.specs.Views.{BlockView}
 use Rattle.block_core.specs.Mails.{MailView}
 use Rattle.discharge.specs.Steps.{held, DoesMany}
-use Rattle.block_laws.specs.Turns.{IsTurned}
-use Rattle.block_laws.proofs.Runs.{turn_is_run, turned_ways}
+use Rattle.block_cut.specs.TurnEvents.{IsTurned}
+use Rattle.block_cut.proofs.Runs.{turn_is_run, turned_ways}
 use Rattle.block_cut.specs.Ends.{EndsView, first_to, first_from, now_from, seen_by, IsEnds}
 use Rattle.block_cut.specs.Turns.{IsReached, ReachesFrom}
 use Rattle.block_cut.proofs.Ending.{with_now, beyond, before}

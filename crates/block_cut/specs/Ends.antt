@@ -9,7 +9,7 @@ use Rattle.block_net.specs.Limits.{arc_limit}
 use Rattle.block_core.specs.Mails.{MailView, room_at}
 use Rattle.discharge.specs.declared.letter.Letter.{Letter}
 use Rattle.discharge.specs.Seen.{Seen}
-use Rattle.block_laws.specs.Turns.{IsTurned}
+use Rattle.block_cut.specs.TurnEvents.{IsTurned}
 
 -- which of how many blocks the ends are of, the ways when they were made and now, and of each direction of so
 -- many arcs its place in its block

@@ -9,3 +9,8 @@ pub mod Laws
 pub mod Search
 pub mod Workspaces
 pub mod Homes
+pub mod Seats
+pub mod TurnEvents
+pub mod Loose
+pub mod Rounds
+pub mod HistoryLaws

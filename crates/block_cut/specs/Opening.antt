@@ -8,7 +8,7 @@ use Rattle.block_net.specs.Views.{BlockView, count, label_in}
 use Rattle.block_net.specs.Whole.{Whole, block_at, whole_of, with_blocks}
 use Rattle.laid_blocks.specs.Views.{IsLaid}
 use Rattle.block_core.specs.declared.pieces.Pieces.{Pieces}
-use Rattle.block_laws.specs.Loose.{IsStanding}
+use Rattle.block_cut.specs.Loose.{IsStanding}
 use Rattle.block_cut.specs.Passes.{state_at}
 
 -- all labels of a block are 0

@@ -6,7 +6,7 @@ use Rattle.parcel.specs.Events.{Run}
 use Rattle.parcel.specs.Soundness.{IsSound, count}
 use Rattle.block_net.specs.Views.{BlockView}
 use Rattle.block_net.specs.Whole.{Whole}
-use Rattle.block_laws.specs.Seats.{IsSeated, state_with}
+use Rattle.block_cut.specs.Seats.{IsSeated, state_with}
 
 -- n events of the core lead from the state with the one block and ways to that with the other, which is
 -- sound, and the count falls by at least as much

@@ -8,6 +8,12 @@
 //! The exact distance of a node is the least number of residual directions that lead from it to the sink, within
 //! blocks and between them, whatever is on the way (Goldberg, Tarjan 1988, section 3). Distances are found by levels
 //! from the sink, straight over what the blocks hold, and labels are raised to them.
+//!
+//! `discharge` says what a block did in the block's own terms: places of its lists, and messages. The laws of
+//! `histories` say the same in terms of the net: events of the core (`parcel`) that the block does by itself, one after
+//! another, and when a turn does at least one. Those of `loose` are of pushes that ask for less than the events do. Those
+//! of `seats` put all blocks together that come back from running workers: with the messages that are left on the way
+//! they are a round, so they show a sound state, and each stands in its seat for the next round.
 #![tactic(auto)]
 
 ghost use Rattle.block_cut.specs.Laws.{ExactAreDistances};
@@ -16,12 +22,15 @@ mod answers;
 mod ends;
 mod exact;
 mod flow;
+pub mod histories;
 mod homes;
+pub mod loose;
 mod opening;
 mod orders;
 mod passes;
 mod rest;
 mod search;
+pub mod seats;
 mod solver;
 mod takes;
 mod turns;

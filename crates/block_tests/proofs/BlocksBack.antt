@@ -13,7 +13,7 @@ use Rattle.block_net.specs.Views.{count, first_lane, first_border}
 use Rattle.block_net.specs.Whole.{block_at, block_with, home, place, near_home, slot, is_outer, IsInnerAt, IsBorderAt, StandsAt, LiesAt, IsPlaced, IsFilled, with_blocks}
 use Rattle.laid_blocks.specs.Views.{IsLaid}
 use Rattle.discharge.specs.Steps.{Held, Rise, Send, DoesMany}
-use Rattle.block_laws.specs.Rounds.{fresh}
+use Rattle.block_cut.specs.Rounds.{fresh}
 use Rattle.block_tests.specs.Seats.{whole_before, blocks_after, left_on_the_way, BlocksComeBack}
 
 by_node : (P : ℕ → Type 0) → P 0 → P 1 → (v : ℕ) → v < 2 → P v

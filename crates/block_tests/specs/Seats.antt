@@ -10,7 +10,7 @@ use Rattle.block_net.specs.declared.rows.Border.{Border}
 use Rattle.block_net.specs.Views.{BlockView}
 use Rattle.block_net.specs.Whole.{Whole}
 use Rattle.laid_blocks.specs.Views.{IsLaid}
-use Rattle.block_laws.specs.Rounds.{Ways, AreBack, quiet_state}
+use Rattle.block_cut.specs.Rounds.{Ways, AreBack, quiet_state}
 
 -- a block of one node with one direction to the other block
 abbrev pub part : ℕ → ℕ → ℕ → Border → BlockView

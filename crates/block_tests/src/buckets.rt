@@ -3,7 +3,7 @@ ghost use Rattle.block_net.specs.Views.{count};
 ghost use Rattle.block_net.specs.Rows.{nodes};
 
 use crate::building::net_of;
-use block_buckets::Bucketed;
+use discharge::Bucketed;
 use block_net::{ARC_LIMIT, Buckets, Cells, Parts};
 use std::alloc::AllocError;
 use std::process::Abort;

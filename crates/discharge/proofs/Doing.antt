@@ -8,7 +8,7 @@ use Rattle.block_net.specs.declared.rows.Border.{Border}
 use Rattle.block_net.specs.Views.{MayPush, MaySend, BlockView, excess_in, label_in, room_in, lane_in, border_in, no_border, pushed, given, labelled, sent, highest}
 use Rattle.discharge.specs.Seen.{Seen, IsLook, IsPut, add_to}
 use Rattle.discharge.specs.Steps.{Push, Give, Rise, Send, IsOfNode, IsBorderOfNode, parcel_of}
-use Rattle.block_buckets.specs.Active.{IsActive}
+use Rattle.discharge.specs.Active.{IsActive}
 use Rattle.discharge.specs.Works.{IsAlike, Does}
 use Rattle.discharge.proofs.Runs.{does_one, look_sent, look_taken}
 

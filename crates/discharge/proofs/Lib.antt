@@ -4,3 +4,4 @@ pub mod Passing
 pub mod Receiving
 pub mod Turning
 pub mod Others
+pub mod Placing

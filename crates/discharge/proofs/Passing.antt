@@ -2,7 +2,7 @@
 use Rattle.std.proofs.Common.{◌⊎◌, ℕ, inl, inr, arith}
 use Rattle.std.proofs.lemmas.Bool.{cases_lt}
 use Rattle.block_net.specs.Views.{BlockView, count, excess_in, label_in}
-use Rattle.block_buckets.specs.Active.{IsActive}
+use Rattle.discharge.specs.Active.{IsActive}
 use Rattle.discharge.specs.Seen.{Seen}
 use Rattle.discharge.specs.Works.{IsIdle}
 use Rattle.discharge.proofs.Runs.{idle_inactive}

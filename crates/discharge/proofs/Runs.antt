@@ -7,7 +7,7 @@ use Rattle.discharge.specs.declared.letter.Letter.{Letter}
 use Rattle.block_net.specs.Views.{BlockView}
 use Rattle.discharge.specs.Seen.{Seen, IsLook}
 use Rattle.discharge.specs.Steps.{Step, Push, Give, Rise, Send, Held, held, Enabled, after, Run, DoesMany, IsSure}
-use Rattle.block_buckets.specs.Active.{IsActive}
+use Rattle.discharge.specs.Active.{IsActive}
 use Rattle.discharge.specs.Works.{IsAlike, Does, IsIdle, IsStuck, IsIdleFrom}
 
 pub run_append : (es fs : List Step) (h g k : Held) → Run h es g → Run g fs k → Run h (es ++ fs) k

@@ -2,3 +2,5 @@ pub mod Seen
 pub mod Steps
 pub mod Works
 pub mod Turns
+pub mod Active
+pub mod Standing

@@ -5,7 +5,7 @@ use Rattle.parcel.specs.declared.message.Message.TheVariants.{Parcel, Accepted, 
 use Rattle.parcel.specs.Directions.{opposite}
 use Rattle.parcel.specs.Workers.{IsFair}
 use Rattle.block_net.specs.Views.{BlockView, excess_in, label_in, room_in, lane_in, border_in, first_lane, first_border, out_of, MayPush, MaySend, pushed, given, labelled, sent, accepted, settled, returned, highest}
-use Rattle.block_buckets.specs.Active.{IsActive}
+use Rattle.discharge.specs.Active.{IsActive}
 use Rattle.discharge.specs.declared.letter.Letter.{Letter}
 use Rattle.discharge.specs.Seen.{Seen, add_to}
 

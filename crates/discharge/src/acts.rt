@@ -1,12 +1,11 @@
 ghost use Rattle.std.specs.Prelude.{◌≡◌, ◌<◌, ◌≤◌, ℕ, length};
 ghost use Rattle.block_net.specs.Views.{label_in, room_in, MayPush, highest};
 ghost use Rattle.discharge.specs.Seen.{Seen};
-ghost use Rattle.block_buckets.specs.Active.{IsActive};
+ghost use Rattle.discharge.specs.Active.{IsActive};
 ghost use Rattle.discharge.specs.Steps.{IsOfNode, IsBorderOfNode, IsSure, Send};
 ghost use Rattle.discharge.specs.Works.{Does};
 
-use crate::{Letter, Ways};
-use block_buckets::Bucketed;
+use crate::{Bucketed, Letter, Ways};
 use parcel::Message;
 
 /// Excess of an active node goes to the sink, where that is enabled.

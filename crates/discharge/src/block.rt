@@ -3,10 +3,9 @@ ghost use Rattle.block_net.specs.Views.{count};
 ghost use Rattle.discharge.specs.Steps.{IsSure, Step, DoesMany, held};
 ghost use Rattle.discharge.specs.Turns.{IsKnown};
 
-use crate::Ways;
 use crate::passes::{push_wave, work};
 use crate::receive::receive_all;
-use block_buckets::Bucketed;
+use crate::{Bucketed, Ways};
 use block_net::Cells;
 use std::alloc::{AllocError, Global};
 use std::marker::Model;

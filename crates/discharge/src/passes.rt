@@ -1,11 +1,10 @@
 ghost use Rattle.std.specs.Prelude.{◌≡◌, ◌<◌, ◌≤◌, ℕ};
 ghost use Rattle.block_net.specs.Views.{count};
-ghost use Rattle.block_buckets.specs.Standing.{IsAside};
+ghost use Rattle.discharge.specs.Standing.{IsAside};
 ghost use Rattle.discharge.specs.Works.{Does, IsIdle};
 
-use crate::Ways;
 use crate::visits::{push_on, visit};
-use block_buckets::Bucketed;
+use crate::{Bucketed, Ways};
 
 /// A node passes on what it has, where it is an active node of the block: at most `limit` events.
 fn push_if_active<W: Ways>(cells: &mut Bucketed, ways: &mut W, v: usize, limit: u32) -> u32

@@ -4,8 +4,7 @@ ghost use Rattle.parcel.specs.Directions.{opposite};
 ghost use Rattle.discharge.specs.Steps.{IsFrom, MayAccept, MayRefuse, MaySettle};
 ghost use Rattle.discharge.specs.Works.{Does, IsIdleFrom};
 
-use crate::{Letter, Ways};
-use block_buckets::Bucketed;
+use crate::{Bucketed, Letter, Ways};
 use block_net::Cells;
 use parcel::{Direction, Flight, Message};
 

@@ -4,9 +4,8 @@ ghost use Rattle.discharge.specs.Seen.{Seen};
 ghost use Rattle.discharge.specs.Steps.{Enabled, IsSure, Push, Give, Rise, Send};
 ghost use Rattle.discharge.specs.Works.{Does, IsIdle, IsStuck};
 
-use crate::Ways;
 use crate::acts::{try_give, try_push, try_rise, try_send};
-use block_buckets::Bucketed;
+use crate::{Bucketed, Ways};
 
 /// A node's excess goes to the sink, where that is enabled: at most `limit` events.
 fn give_once(cells: &mut Bucketed, v: usize, limit: u32) -> u32

@@ -13,9 +13,9 @@ use Rattle.block_net.specs.Whole.{Whole, no_block, block_at}
 use Rattle.laid_blocks.specs.Views.{IsLaid}
 use Rattle.discharge.specs.Seen.{Seen}
 use Rattle.discharge.specs.Steps.{Held, DoesMany, IsSure, held}
-use Rattle.block_laws.specs.Turns.{HasRoom}
-use Rattle.block_laws.specs.Rounds.{Ways, fresh, quiet_state}
-use Rattle.block_laws.proofs.Starting.{start_is_sure}
+use Rattle.block_cut.specs.TurnEvents.{HasRoom}
+use Rattle.block_cut.specs.Rounds.{Ways, fresh, quiet_state}
+use Rattle.block_cut.proofs.Starting.{start_is_sure}
 use Rattle.block_workers.specs.declared.port.Port.{Port}
 use Rattle.block_workers.specs.Ports.{put, taken, free, capacity, IsNewPort}
 use Rattle.block_workers.specs.declared.ends.Ends.{Ends}

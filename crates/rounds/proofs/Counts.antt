@@ -9,7 +9,7 @@ use Rattle.parcel.specs.declared.event.Event.{Event}
 use Rattle.block_net.specs.Views.{count}
 use Rattle.block_net.specs.Whole.{Whole, block_at, home}
 use Rattle.laid_blocks.specs.Views.{IsLaid}
-use Rattle.block_laws.specs.Rounds.{quiet_state}
+use Rattle.block_cut.specs.Rounds.{quiet_state}
 use Rattle.rounds.specs.Short.{nodes_in, AreBlocksOf}
 
 -- ---- sums

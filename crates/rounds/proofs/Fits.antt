@@ -7,8 +7,8 @@ use Rattle.parcel.proofs.Local.{belongs_direction}
 use Rattle.block_net.specs.Views.{BlockView}
 use Rattle.block_net.specs.Whole.{Whole}
 use Rattle.block_core.specs.Mails.{HasRooms}
-use Rattle.block_laws.specs.Rounds.{Ways, IsRound, state_after}
-use Rattle.block_laws.proofs.Quiet.{round_is_held}
+use Rattle.block_cut.specs.Rounds.{Ways, IsRound, state_after}
+use Rattle.block_cut.proofs.Quiet.{round_is_held}
 use Rattle.rounds.specs.Left.{AreFitting}
 
 pub round_fits : (w : Whole) (got : ℕ) (blocks : List BlockView) (left : Ways) (steps : ℕ → ℕ) (rooms : List (List ℕ)) → HasRooms w.net (length w.blocks) rooms

@@ -8,9 +8,9 @@ use Rattle.block_net.specs.Whole.{Whole, with_blocks}
 use Rattle.parcel.specs.Effects.{state_of}
 use Rattle.laid_blocks.specs.Views.{IsLaid, blocks_in}
 use Rattle.block_core.specs.Mails.{IsHeld}
-use Rattle.block_laws.specs.Rounds.{Ways, AreBack, IsRound, quiet_state, state_after}
-use Rattle.block_laws.proofs.Quiet.{quiet_is_start, round_is_held}
-use Rattle.block_laws.proofs.Rounds.{seats_make_round}
+use Rattle.block_cut.specs.Rounds.{Ways, AreBack, IsRound, quiet_state, state_after}
+use Rattle.block_cut.proofs.Quiet.{quiet_is_start, round_is_held}
+use Rattle.block_cut.proofs.Rounds.{seats_make_round}
 use Rattle.rounds.specs.Links.{RingsView, sent_in, taken_in, room_in}
 use Rattle.rounds.specs.Left.{AreLeft, AreFitting, HaveRoomFor}
 use Rattle.rounds.specs.Together.{AreBackAfter, HaveRun}

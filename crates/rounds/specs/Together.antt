@@ -8,7 +8,7 @@ use Rattle.block_net.specs.Whole.{Whole, block_at, whole_of}
 use Rattle.block_net.specs.declared.parts.Parts.{Parts}
 use Rattle.parcel.specs.Effects.{state_of}
 use Rattle.laid_blocks.specs.Views.{IsLaid, blocks_in}
-use Rattle.block_laws.specs.Rounds.{Ways, AreBack, lacking}
+use Rattle.block_cut.specs.Rounds.{Ways, AreBack, lacking}
 use Rattle.rounds.specs.Links.{RingsView, sent_in, taken_in}
 use Rattle.rounds.specs.Left.{AreLeft}
 

@@ -1,7 +1,7 @@
 use Rattle.std.proofs.Common.{◌≡◌, ℕ, ◌+◌, ◌<◌, inl, inr, Contains, sym, ◌∙◌, ap, subst, arith}
 use Rattle.std.proofs.lemmas.Bool.{cases_lt}
 use Rattle.block_net.specs.Views.{BlockView, count}
-use Rattle.block_buckets.specs.Standing.{BucketedView, IsAside}
+use Rattle.discharge.specs.Standing.{BucketedView, IsAside}
 use Rattle.discharge.specs.Steps.{held, DoesMany, IsSure}
 use Rattle.discharge.specs.Works.{IsIdle}
 use Rattle.discharge.specs.Turns.{IsKnown}

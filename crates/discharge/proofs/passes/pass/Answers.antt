@@ -1,7 +1,7 @@
 use Rattle.std.proofs.Common.{◌≡◌, ℕ, ◌+◌, ◌<◌, inl, inr, refl, sym, ◌∙◌, ap, subst, arith}
 use Rattle.block_net.specs.Views.{BlockView, count}
-use Rattle.block_buckets.specs.Active.{IsActive}
-use Rattle.block_buckets.specs.Standing.{BucketedView, IsAside, waiting}
+use Rattle.discharge.specs.Active.{IsActive}
+use Rattle.discharge.specs.Standing.{BucketedView, IsAside, waiting}
 use Rattle.discharge.specs.Works.{Does, IsIdle}
 use Rattle.discharge.proofs.Runs.{does_look, does_more, does_as, look_more, idle_look}
 use Rattle.discharge.proofs.Passing.{active_idle}

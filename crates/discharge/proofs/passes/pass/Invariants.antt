@@ -1,5 +1,5 @@
 use Rattle.std.proofs.Common.{◌≡◌, ◌⊎◌, ℕ, ◌<◌}
-use Rattle.block_buckets.specs.Standing.{IsAside, waiting}
+use Rattle.discharge.specs.Standing.{IsAside, waiting}
 use Rattle.discharge.specs.Works.{Does, IsIdle}
 use Rattle.discharge.proofs.passes.pass.Given as goal
 

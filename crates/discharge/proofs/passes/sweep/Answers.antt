@@ -1,6 +1,6 @@
 use Rattle.std.proofs.Common.{◌<◌, ℕ, ◌∙◌, subst, sym, arith}
 use Rattle.block_net.specs.Views.{BlockView, count}
-use Rattle.block_buckets.specs.Standing.{BucketedView, IsAside}
+use Rattle.discharge.specs.Standing.{BucketedView, IsAside}
 use Rattle.discharge.specs.Works.{IsIdle}
 use Rattle.discharge.proofs.Runs.{does_more, idle_look}
 use Rattle.discharge.proofs.passes.sweep.Goals as goal

@@ -2,7 +2,7 @@ use Rattle.std.proofs.Common.{◌≡◌, ℕ, ◌+◌, inl, inr, List, slice_ind
 use Rattle.std.proofs.lemmas.Bool.{cases_lt, false≢true}
 use Rattle.block_net.specs.Views.{BlockView}
 use Rattle.block_net.specs.Views.{MayPush}
-use Rattle.block_buckets.specs.Active.{IsActive}
+use Rattle.discharge.specs.Active.{IsActive}
 use Rattle.discharge.proofs.Runs.{no_seen, does_more}
 use Rattle.discharge.proofs.visits.push_all.Goals as goal
 

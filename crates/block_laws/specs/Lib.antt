@@ -1,5 +1,0 @@
-pub mod Seats
-pub mod Turns
-pub mod Loose
-pub mod Rounds
-pub mod Laws
