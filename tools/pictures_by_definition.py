@@ -3,7 +3,7 @@
 
     python3 tools/pictures_by_definition.py
 
-prints the expected values of the tests in crates/vision_rows: of each case the labels where the chain of best
+prints the expected values of the tests in crates/picture_tests: of each case the labels where the chain of best
 moves from all 0 ends, and both parts of its energy. It shares nothing with the program.
 """
 

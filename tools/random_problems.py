@@ -1,10 +1,10 @@
 #!/usr/bin/env python3
 """Small random problems of `gco label` with what the program says of each, worked out over all labellings.
 
-Writes the table of the problems in the tests of the crate `gco_rows`. To make it again, at the top of the
+Writes the table of the problems in the tests of the crate `gco_tests`. To make it again, at the top of the
 repository:
 
-    python3 tools/random_problems.py > crates/gco_rows/src/labels/problems.rt
+    python3 tools/random_problems.py > crates/gco_tests/src/labels/problems.rt
 
 It knows the definitions of tools/random_moves.py and of a run in tools/random_runs.py, the costs that the
 names of `smooth` stand for, and the lines that docs/LABEL.md tells. The fields of a problem stand in any

@@ -1,7 +1,7 @@
 //! Moves on a small grid, on one thread and by workers.
 ghost use Rattle.std.specs.Prelude.{◌≤◌, ◌<◌, ◌+◌, ◌*◌, ◌≤ℤ◌, pos};
 
-use crate::pictures::TWO;
+use crate::by_workers::TWO;
 use cost_store::{DataCost, Problem, SmoothCost};
 use label_field::{Labelling, Pairs};
 use moves::{Alone, Ended, How, MoveError, expand, run_expansion};

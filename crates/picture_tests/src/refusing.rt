@@ -1,7 +1,7 @@
 //! A cut that is refused: the moves made before it stand, and no picture is written.
 ghost use Rattle.std.specs.Prelude.{◌≤◌, ◌<◌, ◌+◌, ◌*◌, ◌≤ℤ◌, pos};
 
-use crate::pictures::{Kept, RESTORE};
+use crate::by_workers::{Kept, RESTORE};
 use byte_streams::Watched;
 use cost_store::{DataCost, Problem, SmoothCost};
 use flow_network::Net;

@@ -1,7 +1,7 @@
 //! Small pictures that are drawn at random, restored on one thread and by workers.
 ghost use Rattle.std.specs.Prelude.{◌<◌};
 
-use crate::pictures::{Counter, Kept};
+use crate::by_workers::{Counter, Kept};
 use byte_streams::Watched;
 use labellings::Moves;
 use moves::{Alone, How};

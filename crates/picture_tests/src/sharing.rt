@@ -1,5 +1,5 @@
 //! Workers share a net as their options tell: in as many blocks, threads, turns and rounds, and with as much room.
-use crate::pictures::TWO;
+use crate::by_workers::TWO;
 use flow_network::{Arc, Net};
 use moves::How;
 use std::alloc::AllocError;

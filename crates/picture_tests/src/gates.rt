@@ -1,5 +1,5 @@
 //! Gates that let blocks do their first turns alone.
-use crate::pictures::{SHORT, is_kept, striped};
+use crate::by_workers::{SHORT, is_kept, striped};
 use std::alloc::{AllocError, Global};
 use std::process::Abort;
 use std::sync::Wait;
