@@ -18,8 +18,8 @@ pub mod Residuals
 pub mod Logs
 pub mod Seated
 pub mod Acts
-pub mod Takes
-pub mod Histories
+pub mod TakeSteps
+pub mod BlockHistories
 pub mod Starts
 pub mod Runs
 pub mod Laid

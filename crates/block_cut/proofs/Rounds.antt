@@ -19,7 +19,7 @@ use Rattle.laid_blocks.specs.Views.{IsLaid, blocks_in}
 use Rattle.discharge.specs.Steps.{Held}
 use Rattle.block_cut.specs.Seats.{log_at, logs_of, shown_by}
 use Rattle.block_cut.specs.TurnEvents.{IsLed}
-use Rattle.block_cut.proofs.Histories.{turn_is_history}
+use Rattle.block_cut.proofs.BlockHistories.{turn_is_history}
 use Rattle.block_cut.proofs.Laid.{seated}
 use Rattle.block_cut.specs.Rounds.{AreBack, IsRound, fresh, quiet_state, lacking, state_after}
 use Rattle.block_cut.proofs.Starting.{shows_all, is_quiet}

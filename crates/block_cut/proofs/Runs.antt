@@ -19,7 +19,7 @@ use Rattle.discharge.specs.Steps.{Held, DoesMany}
 use Rattle.block_cut.specs.Seats.{IsSeated, log_at, logs_of, state_with}
 use Rattle.block_cut.specs.TurnEvents.{IsTurned, IsTurnRun}
 use Rattle.block_cut.proofs.Logs.{own_row, own_column, other_row}
-use Rattle.block_cut.proofs.Histories.{turn_is_history}
+use Rattle.block_cut.proofs.BlockHistories.{turn_is_history}
 
 -- ---- the logs
 

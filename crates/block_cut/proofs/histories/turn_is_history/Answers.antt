@@ -1,4 +1,4 @@
-use Rattle.block_cut.proofs.Histories as histories
+use Rattle.block_cut.proofs.BlockHistories as histories
 use Rattle.block_cut.proofs.histories.turn_is_history.Goals as goal
 
 pub returns : goal.returns

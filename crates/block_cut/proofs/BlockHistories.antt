@@ -6,7 +6,7 @@ use Rattle.block_cut.specs.Seats.{IsSeated, shown_by}
 use Rattle.block_cut.specs.TurnEvents.{IsLed}
 use Rattle.block_cut.proofs.Seated.{Goes}
 use Rattle.block_cut.proofs.Acts.{push_goes, give_goes, rise_goes, send_goes}
-use Rattle.block_cut.proofs.Takes.{accept_goes, refuse_goes, settle_goes}
+use Rattle.block_cut.proofs.TakeSteps.{accept_goes, refuse_goes, settle_goes}
 
 step_goes : (w : Whole) (b : ℕ) (h : Held) (got : ℕ) (e : Step) → IsSeated w b h.block → Enabled h.block e → Goes w b h (after h e) got
 step_goes w b h got (Push p j) seat on = push_goes w b h p j got seat on
