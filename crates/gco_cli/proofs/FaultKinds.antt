@@ -12,22 +12,26 @@ use Rattle.problem_files.specs.declared.label_fault.LabelFault.TheVariants as la
 use Rattle.pgm_image.specs.declared.error.PgmError.{PgmError}
 use Rattle.pgm_image.specs.declared.error.PgmError.TheVariants as image
 use Rattle.pseudo_bool.specs.Formula.{Formula}
-use Rattle.moves.specs.Problems.{IsRunRefusal}
 use Rattle.moves.specs.declared.error.SolveError.{SolveError}
 use Rattle.moves.specs.declared.error.SolveError.TheVariants as solve
 use Rattle.moves.specs.declared.error.MoveError.{MoveError}
 use Rattle.moves.specs.declared.error.MoveError.TheVariants as move
-use Rattle.vision.specs.Faults.{HasRestoreFault, HasSegmentFault, HasStereoFault, IsWrite, MayCome}
+use Rattle.run_options.specs.declared.options.RestoreOptions.{RestoreOptions}
+use Rattle.run_options.specs.declared.options.StereoOptions.{StereoOptions}
+use Rattle.run_options.specs.declared.options.SegmentOptions.{SegmentOptions}
+use Rattle.pgm_image.specs.Front.{Refuses}
+use Rattle.vision.specs.Faults.{HasJobError, HasNoImage, HasPairError, HasRestoreError, HasRunError, HasSegmentError, HasStereoError, IsWrite, TellsRun, image_error}
+use Rattle.vision.specs.Inputs.{IsRestoreJob, IsSegmentJob, IsStereoJob, RefusesSecond}
+use Rattle.vision.specs.Jobs.{Job}
 use Rattle.vision.specs.declared.error.VisionError.{VisionError}
 use Rattle.vision.specs.declared.error.VisionError.TheVariants as vision
-use Rattle.byte_streams.specs.declared.sink.WriteFailed.{WriteFailed}
 use Rattle.command_line.specs.declared.task.PictureOptions.{PictureOptions}
 use Rattle.command_line.specs.declared.task.PictureOptions.TheVariants.{Restore, Stereo, Segment}
 use Rattle.command_line.specs.declared.task.Task.{Task}
 use Rattle.command_line.specs.declared.task.Task.TheVariants.{Energy, Label, Picture}
 use Rattle.gco_cli.specs.Commands.{HasFaultFor}
 use Rattle.gco_cli.specs.Energy.{HasEnergyFault, HasFileFault, IsCutFault, IsUnsolved}
-use Rattle.gco_cli.specs.Faults.{Tells, TellsMove, TellsPicture, any_cut, cut_fault, energy_fault, image_fault, label_fault, read_fault}
+use Rattle.gco_cli.specs.Faults.{Tells, TellsMove, cut_fault, energy_fault, label_fault, picture_fault, read_fault}
 use Rattle.gco_cli.specs.Label.{HasLabelFault, HasProblemFault, HasReadingFault, IsRunFault}
 use Rattle.gco_cli.specs.Pictures.{HasPictureError, HasPictureFault}
 use Rattle.gco_cli.specs.Run.{is_bad_option, is_failed_read, is_write}
@@ -75,17 +79,6 @@ label_plain label.TooManyPairs = (refl, (refl, refl))
 label_plain (label.WeightRange pair) = (refl, (refl, refl))
 label_plain (label.NoSuchLabel site) = (refl, (refl, refl))
 
-image_plain : (e : PgmError) → IsPlain (image_fault e)
-image_plain image.OutOfMemory = (refl, (refl, refl))
-image_plain image.NotPgm = (refl, (refl, refl))
-image_plain (image.BadHeader at) = (refl, (refl, refl))
-image_plain image.ZeroSize = (refl, (refl, refl))
-image_plain image.TooLarge = (refl, (refl, refl))
-image_plain image.BadMaxval = (refl, (refl, refl))
-image_plain image.Truncated = (refl, (refl, refl))
-image_plain (image.SampleAboveMax index) = (refl, (refl, refl))
-image_plain (image.BadSample at) = (refl, (refl, refl))
-
 cut_plain : (e : SolveError) → IsPlain (cut_fault e)
 cut_plain solve.OutOfMemory = (refl, (refl, refl))
 cut_plain solve.Workers = (refl, (refl, refl))
@@ -104,39 +97,101 @@ move_plain move.BadOptions fault is = same IsPlain fault _ is (refl, (refl, refl
 move_plain move.NoSuchLabel fault is = absurd is
 move_plain move.NoBound fault is = absurd is
 
-pub picture_plain : (e : VisionError) (fault : Fault) → (¬ IsWrite e) → TellsPicture e fault → IsPlain fault
-picture_plain vision.OutOfMemory fault kept is = same IsPlain fault _ is (refl, (refl, refl))
-picture_plain (vision.Image error) fault kept is = same IsPlain fault _ is (image_plain error)
-picture_plain vision.SizesDiffer fault kept is = same IsPlain fault _ is (refl, (refl, refl))
-picture_plain (vision.BadSeed index) fault kept is = same IsPlain fault _ is (refl, (refl, refl))
-picture_plain vision.TooManyLevels fault kept is = same IsPlain fault _ is (refl, (refl, refl))
-picture_plain (vision.Move error) fault kept is = move_plain error fault is
-picture_plain (vision.Write failed) fault kept is = absurd (kept tt)
+pub picture_plain : (e : VisionError) → (¬ IsWrite e) → IsPlain (picture_fault e)
+picture_plain vision.OutOfMemory other = (refl, (refl, refl))
+picture_plain vision.NotPgm other = (refl, (refl, refl))
+picture_plain (vision.BadHeader at) other = (refl, (refl, refl))
+picture_plain vision.ZeroSize other = (refl, (refl, refl))
+picture_plain vision.TooLarge other = (refl, (refl, refl))
+picture_plain vision.BadMaxval other = (refl, (refl, refl))
+picture_plain vision.Truncated other = (refl, (refl, refl))
+picture_plain (vision.SampleAboveMax index) other = (refl, (refl, refl))
+picture_plain (vision.BadSample at) other = (refl, (refl, refl))
+picture_plain vision.SizesDiffer other = (refl, (refl, refl))
+picture_plain (vision.BadSeed index) other = (refl, (refl, refl))
+picture_plain vision.TooManyLevels other = (refl, (refl, refl))
+picture_plain (vision.PairNotRegular pair alpha beta) other = (refl, (refl, refl))
+picture_plain vision.LabelCostInSwap other = (refl, (refl, refl))
+picture_plain vision.Workers other = (refl, (refl, refl))
+picture_plain vision.BadOptions other = (refl, (refl, refl))
+picture_plain (vision.Write failed) other = absurd (other tt)
 
 -- no read failed where an image command was refused
-pub picture_unread : (e : VisionError) (fault : Fault) → TellsPicture e fault → is_failed_read fault ≡ false
-picture_unread vision.OutOfMemory fault is = (picture_plain vision.OutOfMemory fault (λ w. w) is).0
-picture_unread (vision.Image error) fault is = (picture_plain (vision.Image error) fault (λ w. w) is).0
-picture_unread vision.SizesDiffer fault is = (picture_plain vision.SizesDiffer fault (λ w. w) is).0
-picture_unread (vision.BadSeed index) fault is = (picture_plain (vision.BadSeed index) fault (λ w. w) is).0
-picture_unread vision.TooManyLevels fault is = (picture_plain vision.TooManyLevels fault (λ w. w) is).0
-picture_unread (vision.Move error) fault is = (picture_plain (vision.Move error) fault (λ w. w) is).0
-picture_unread (vision.Write failed) fault is = ap is_failed_read is
+pub picture_unread : (e : VisionError) → is_failed_read (picture_fault e) ≡ false
+picture_unread vision.OutOfMemory = refl
+picture_unread vision.NotPgm = refl
+picture_unread (vision.BadHeader at) = refl
+picture_unread vision.ZeroSize = refl
+picture_unread vision.TooLarge = refl
+picture_unread vision.BadMaxval = refl
+picture_unread vision.Truncated = refl
+picture_unread (vision.SampleAboveMax index) = refl
+picture_unread (vision.BadSample at) = refl
+picture_unread vision.SizesDiffer = refl
+picture_unread (vision.BadSeed index) = refl
+picture_unread vision.TooManyLevels = refl
+picture_unread (vision.PairNotRegular pair alpha beta) = refl
+picture_unread vision.LabelCostInSwap = refl
+picture_unread vision.Workers = refl
+picture_unread vision.BadOptions = refl
+picture_unread (vision.Write failed) = refl
 
 -- nothing that an input has is a writer's
-not_write : (Has : VisionError → Type 0) → ((failed : WriteFailed) → ¬ Has (vision.Write failed)) → (e : VisionError) → Has e → ¬ IsWrite e
-not_write Has never vision.OutOfMemory has = λ w. w
-not_write Has never (vision.Image error) has = λ w. w
-not_write Has never vision.SizesDiffer has = λ w. w
-not_write Has never (vision.BadSeed index) has = λ w. w
-not_write Has never vision.TooManyLevels has = λ w. w
-not_write Has never (vision.Move error) has = λ w. w
-not_write Has never (vision.Write failed) has = absurd (never failed has)
+as_told : (e told : VisionError) → e ≡ told → (¬ IsWrite told) → ¬ IsWrite e
+as_told e told is other = λ writes. other (subst IsWrite is writes)
 
-pub error_not_write : (o : PictureOptions) (input : List ℕ) (e : VisionError) → HasPictureError o input e → ¬ IsWrite e
-error_not_write (Restore o) input e has = not_write (HasRestoreFault o input) (λ failed h. h) e has
-error_not_write (Stereo o) input e has = not_write (HasStereoFault o input) (λ failed h. h) e has
-error_not_write (Segment o) input e has = not_write (HasSegmentFault o input) (λ failed h. h) e has
+reason_not_write : (reason : PgmError) → ¬ IsWrite (image_error reason)
+reason_not_write image.OutOfMemory = λ w. w
+reason_not_write image.NotPgm = λ w. w
+reason_not_write (image.BadHeader at) = λ w. w
+reason_not_write image.ZeroSize = λ w. w
+reason_not_write image.TooLarge = λ w. w
+reason_not_write image.BadMaxval = λ w. w
+reason_not_write image.Truncated = λ w. w
+reason_not_write (image.SampleAboveMax index) = λ w. w
+reason_not_write (image.BadSample at) = λ w. w
+
+run_not_write : (error : MoveError) (e : VisionError) → TellsRun error e → ¬ IsWrite e
+run_not_write move.OutOfMemory e is = as_told e vision.OutOfMemory is (λ w. w)
+run_not_write move.LabelCostInSwap e is = as_told e vision.LabelCostInSwap is (λ w. w)
+run_not_write (move.PairNotRegular pair alpha beta) e is = as_told e (vision.PairNotRegular pair alpha beta) is (λ w. w)
+run_not_write move.Workers e is = as_told e vision.Workers is (λ w. w)
+run_not_write move.BadOptions e is = as_told e vision.BadOptions is (λ w. w)
+run_not_write move.NoSuchLabel e is = absurd is
+run_not_write move.NoBound e is = absurd is
+
+image_not_write : (Refused : PgmError → Type 0) (e : VisionError) → HasNoImage Refused e → ¬ IsWrite e
+image_not_write Refused e has = as_told e (image_error has.0) has.2 (reason_not_write has.0)
+
+pair_not_write : (input : List ℕ) (e : VisionError) → HasPairError input e → ¬ IsWrite e
+pair_not_write input e (inl has) = image_not_write (λ reason. Refuses input reason ⊎ RefusesSecond input reason) e has
+pair_not_write input e (inr has) = as_told e vision.SizesDiffer has.1 (λ w. w)
+
+job_error : (refuses : SolveError → Type 0) (job : Job) (e : VisionError) → HasRunError refuses job e → ¬ IsWrite e
+job_error refuses job e (inl is) = as_told e vision.OutOfMemory is (λ w. w)
+job_error refuses job e (inr has) = run_not_write has.0 e has.3
+
+job_not_write : (refuses : SolveError → Type 0) (IsJob : Job → Type 0) (e : VisionError) → HasJobError refuses IsJob e → ¬ IsWrite e
+job_not_write refuses IsJob e has = job_error refuses has.0 e has.2
+
+restore_not_write : (refuses : SolveError → Type 0) (o : RestoreOptions) (input : List ℕ) (e : VisionError) → HasRestoreError refuses o input e → ¬ IsWrite e
+restore_not_write refuses o input e (inl has) = image_not_write (Refuses input) e has
+restore_not_write refuses o input e (inr (inl has)) = as_told e vision.TooManyLevels has.1 (λ w. w)
+restore_not_write refuses o input e (inr (inr has)) = job_not_write refuses (IsRestoreJob o input) e has
+
+stereo_not_write : (refuses : SolveError → Type 0) (o : StereoOptions) (input : List ℕ) (e : VisionError) → HasStereoError refuses o input e → ¬ IsWrite e
+stereo_not_write refuses o input e (inl has) = pair_not_write input e has
+stereo_not_write refuses o input e (inr has) = job_not_write refuses (IsStereoJob o input) e has
+
+segment_not_write : (refuses : SolveError → Type 0) (o : SegmentOptions) (input : List ℕ) (e : VisionError) → HasSegmentError refuses o input e → ¬ IsWrite e
+segment_not_write refuses o input e (inl has) = pair_not_write input e has
+segment_not_write refuses o input e (inr (inl has)) = as_told e (vision.BadSeed has.0) has.2 (λ w. w)
+segment_not_write refuses o input e (inr (inr has)) = job_not_write refuses (IsSegmentJob o input) e has
+
+pub error_not_write : (refuses : SolveError → Type 0) (o : PictureOptions) (input : List ℕ) (e : VisionError) → HasPictureError refuses o input e → ¬ IsWrite e
+error_not_write refuses (Restore o) input e has = restore_not_write refuses o input e has
+error_not_write refuses (Stereo o) input e has = stereo_not_write refuses o input e has
+error_not_write refuses (Segment o) input e has = segment_not_write refuses o input e has
 
 -- what a fault tells of is of its kind
 told : {E : Type 0} (P : Fault → Type 0) (tell : E → Fault) (Holds : E → Type 0) (fault : Fault) → ((e : E) → P (tell e))
@@ -179,45 +234,10 @@ labels_own refuses input fault (inr h) = (run_fault_plain refuses h.0 fault h.2)
 
 picture_own : (refuses : SolveError → Type 0) (o : PictureOptions) (input : List ℕ) (fault : Fault) → HasPictureFault refuses o input fault → IsOwn fault
 picture_own refuses o input fault (inl h) = told IsOwn read_fault (IsReadRefusal input) fault read_own h
-picture_own refuses o input fault (inr h) = (picture_plain h.1.0 fault (error_not_write o input h.1.0 h.1.1) h.1.3).1
+picture_own refuses o input fault (inr h) = same IsOwn fault _ h.1.2 (picture_plain h.1.0 (error_not_write refuses o input h.1.0 h.1.1)).1
 
 -- a fault that an input has is no writer's and of no option
 pub task_own : (refuses : SolveError → Type 0) (task : Task) (input : List ℕ) (fault : Fault) → HasFaultFor refuses task input fault → IsOwn fault
 task_own refuses Energy input fault h = energy_own refuses input fault h
 task_own refuses (Label bound) input fault h = labels_own refuses input fault h
 task_own refuses (Picture o) input fault h = picture_own refuses o input fault h
-
--- what one way to cut may refuse some way may
-pub any_run : (refuses : SolveError → Type 0) (e : MoveError) → IsRunRefusal refuses e → IsRunRefusal any_cut e
-any_run refuses move.OutOfMemory h = tt
-any_run refuses move.LabelCostInSwap h = tt
-any_run refuses (move.PairNotRegular pair alpha beta) h = tt
-any_run refuses move.Workers h = tt
-any_run refuses move.BadOptions h = tt
-any_run refuses move.NoSuchLabel h = h
-any_run refuses move.NoBound h = h
-
-pub any_picture : (refuses : SolveError → Type 0) (e : VisionError) → MayCome refuses e → MayCome any_cut e
-any_picture refuses vision.OutOfMemory h = tt
-any_picture refuses (vision.Image error) h = tt
-any_picture refuses vision.SizesDiffer h = tt
-any_picture refuses (vision.BadSeed index) h = tt
-any_picture refuses vision.TooManyLevels h = tt
-any_picture refuses (vision.Move move.OutOfMemory) h = h
-any_picture refuses (vision.Move move.LabelCostInSwap) h = tt
-any_picture refuses (vision.Move (move.PairNotRegular pair alpha beta)) h = tt
-any_picture refuses (vision.Move move.Workers) h = tt
-any_picture refuses (vision.Move move.BadOptions) h = tt
-any_picture refuses (vision.Move move.NoSuchLabel) h = h
-any_picture refuses (vision.Move move.NoBound) h = h
-any_picture refuses (vision.Write failed) h = tt
-
--- a move that an image command tells is one that a run may refuse
-pub move_told : (e : MoveError) → MayCome any_cut (vision.Move e) → IsRunRefusal any_cut e
-move_told move.OutOfMemory h = tt
-move_told move.LabelCostInSwap h = tt
-move_told (move.PairNotRegular pair alpha beta) h = tt
-move_told move.Workers h = tt
-move_told move.BadOptions h = tt
-move_told move.NoSuchLabel h = h
-move_told move.NoBound h = h

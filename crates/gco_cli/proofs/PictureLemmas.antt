@@ -9,16 +9,15 @@ use Rattle.command_line.specs.declared.task.PictureOptions.{PictureOptions}
 use Rattle.command_line.specs.declared.task.PictureOptions.TheVariants.{Restore, Stereo, Segment}
 use Rattle.pgm_image.specs.Written.{written}
 use Rattle.moves.specs.declared.error.SolveError.{SolveError}
-use Rattle.vision.specs.Faults.{IsWrite, Leaves, MayCome}
+use Rattle.vision.specs.Faults.{IsWrite, Leaves}
 use Rattle.vision.specs.Jobs.{Does, Job, StopsAfter, Tells, picture_of}
 use Rattle.vision.specs.declared.error.VisionError.{VisionError}
-use Rattle.vision.specs.declared.error.VisionError.TheVariants as vision
 use Rattle.vision.specs.declared.report.Report.{Report}
 use Rattle.gco_cli.specs.declared.fault.Fault.{Fault}
 use Rattle.gco_cli.specs.declared.fault.Fault.TheVariants.{Write}
-use Rattle.gco_cli.proofs.FaultKinds.{picture_plain, read_own}
+use Rattle.gco_cli.proofs.FaultKinds.{error_not_write, picture_plain, read_own}
 use Rattle.gco_cli.proofs.InputLemmas.{IsWhole, of_read, of_refusal}
-use Rattle.gco_cli.specs.Faults.{TellsPicture, read_fault}
+use Rattle.gco_cli.specs.Faults.{picture_fault, read_fault}
 use Rattle.gco_cli.specs.Pictures.{AnswersJob, AnswersPicture, HasPictureError, HasPictureFault, IsPictureJob, asks_bound, parts_at, parts_told, picture_lines, tells_labels}
 use Rattle.gco_cli.specs.Run.{IsCut, Refuses, Writes, is_write}
 use Rattle.byte_streams.specs.Streams.{Stream}
@@ -76,8 +75,8 @@ wrote o tells asked bytes said source old new report labels_are bound_is is (job
 
 -- the sink failed within it
 stopped : (o : PictureOptions) (bytes : List ℕ) (source old new : Stream) (stop : WriteFailed) (fault : Fault) (job : Job)
-    → IsInput bytes source → IsPictureJob o bytes job → StopsAfter job old new stop.count
-    → fault ≡ Write stop → IsCut (Due o source) old new fault
+    → IsInput bytes source → IsPictureJob o bytes job → StopsAfter job old new stop.count → fault ≡ Write stop
+    → IsCut (Due o source) old new fault
 stopped o bytes source old new stop fault job is of stops tells =
     let text = written (picture_of job stops.labels) in
     let said = picture_lines (tells_labels o) job.bound (parts_at job stops.labels) stops.report.bound in (
@@ -92,43 +91,23 @@ stopped o bytes source old new stop fault job is of stops tells =
             is = refl;
             says = refl;
           }),
-      (
-        stop,
-        tells,
-        stops.took,
-      ),
+      (stop, tells, stops.took),
     )
 
--- nothing was written, and the fault is one of the input
-stands : (cut : SolveError → Type 0) (o : PictureOptions) (bytes : List ℕ) (source old new : Stream) (e : VisionError) (fault : Fault)
-    → IsInput bytes source → HasPictureError o bytes e → MayCome cut e → (¬ IsWrite e) → new ≡ old → TellsPicture e fault
-    → Refuses (Due o source) (Fault_of cut o source) old new fault
-stands cut o bytes source old new e fault is has may quiet kept tells =
-    inl (
-      of_read source bytes (λ input. HasPictureFault cut o input fault) is.0 (inr (is.1, (e, has, may, tells))),
-      (picture_plain e fault quiet tells).1.0,
-      kept,
-    )
-
--- a refusal of the command leaves what it must
+-- a refusal of the command leaves what it must: nothing was written, and the fault is one of the input, or the sink failed
 pub refuses : (cut : SolveError → Type 0) (o : PictureOptions) (bytes : List ℕ) (source old new : Stream)
     (e : VisionError) (fault : Fault) → IsInput bytes source
-    → Leaves (IsPictureJob o bytes) (HasPictureError o bytes) old new e
-    → MayCome cut e → ((¬ IsWrite e) → new ≡ old) → TellsPicture e fault → Refuses (Due o source) (Fault_of cut o source) old new fault
-refuses cut o bytes source old new (vision.Write stop) fault is (job, of, stops) may kept tells =
-    inr (stopped o bytes source old new stop fault job is of stops tells)
-refuses cut o bytes source old new vision.OutOfMemory fault is has may kept tells =
-    stands cut o bytes source old new vision.OutOfMemory fault is has may (λ w. w) (kept (λ w. w)) tells
-refuses cut o bytes source old new (vision.Image error) fault is has may kept tells =
-    stands cut o bytes source old new (vision.Image error) fault is has may (λ w. w) (kept (λ w. w)) tells
-refuses cut o bytes source old new vision.SizesDiffer fault is has may kept tells =
-    stands cut o bytes source old new vision.SizesDiffer fault is has may (λ w. w) (kept (λ w. w)) tells
-refuses cut o bytes source old new (vision.BadSeed index) fault is has may kept tells =
-    stands cut o bytes source old new (vision.BadSeed index) fault is has may (λ w. w) (kept (λ w. w)) tells
-refuses cut o bytes source old new vision.TooManyLevels fault is has may kept tells =
-    stands cut o bytes source old new vision.TooManyLevels fault is has may (λ w. w) (kept (λ w. w)) tells
-refuses cut o bytes source old new (vision.Move error) fault is has may kept tells =
-    stands cut o bytes source old new (vision.Move error) fault is has may (λ w. w) (kept (λ w. w)) tells
+    → Leaves (IsPictureJob o bytes) (HasPictureError cut o bytes) old new e
+    → ((¬ IsWrite e) → new ≡ old) → fault ≡ picture_fault e → Refuses (Due o source) (Fault_of cut o source) old new fault
+refuses cut o bytes source old new e fault is (inl has) kept tells =
+    let quiet = error_not_write cut o bytes e has in
+    inl (
+      of_read source bytes (λ input. HasPictureFault cut o input fault) is.0 (inr (is.1, (e, has, tells))),
+      ap is_write tells ∙ (picture_plain e quiet).1.0,
+      kept quiet,
+    )
+refuses cut o bytes source old new e fault is (inr stop) kept tells =
+    inr (stopped o bytes source old new stop.2.0 fault stop.0 is stop.1 stop.2.1 (tells ∙ ap picture_fault stop.2.2))
 
 -- bytes that are those that were read are the input
 pub read_whole : (bytes items : List ℕ) (source : Stream) → bytes ≡ items → IsWhole items source → length items ≤ input_limit

@@ -1,13 +1,11 @@
 -- What the libraries refuse, as the program tells it: each case by itself, and memory as memory, whoever asked for it.
-use Rattle.std.specs.Prelude.{◌≡◌, ⊤}
+use Rattle.std.specs.Prelude.{◌≡◌}
 use Rattle.byte_streams.specs.declared.input.ReadError.{ReadError}
 use Rattle.byte_streams.specs.declared.input.ReadError.TheVariants as read
 use Rattle.problem_files.specs.declared.energy_fault.EnergyFault.{EnergyFault}
 use Rattle.problem_files.specs.declared.energy_fault.EnergyFault.TheVariants as energy
 use Rattle.problem_files.specs.declared.label_fault.LabelFault.{LabelFault}
 use Rattle.problem_files.specs.declared.label_fault.LabelFault.TheVariants as label
-use Rattle.pgm_image.specs.declared.error.PgmError.{PgmError}
-use Rattle.pgm_image.specs.declared.error.PgmError.TheVariants as image
 use Rattle.moves.specs.declared.error.SolveError.{SolveError}
 use Rattle.moves.specs.declared.error.SolveError.TheVariants as solve
 use Rattle.moves.specs.declared.error.MoveError.{MoveError}
@@ -48,27 +46,11 @@ label_fault label.TooManyPairs = TooManyPairs
 label_fault (label.WeightRange pair) = WeightRange pair
 label_fault (label.NoSuchLabel site) = NoSuchLabel site
 
--- why there is no image
-abbrev pub image_fault : PgmError → Fault
-image_fault image.OutOfMemory = OutOfMemory
-image_fault image.NotPgm = NotPgm
-image_fault (image.BadHeader at) = BadHeader at
-image_fault image.ZeroSize = ZeroSize
-image_fault image.TooLarge = TooLarge
-image_fault image.BadMaxval = BadMaxval
-image_fault image.Truncated = Truncated
-image_fault (image.SampleAboveMax index) = SampleAboveMax index
-image_fault (image.BadSample at) = BadSample at
-
 -- why a cut was refused
 abbrev pub cut_fault : SolveError → Fault
 cut_fault solve.OutOfMemory = OutOfMemory
 cut_fault solve.Workers = Workers
 cut_fault solve.BadOptions = BadOptions
-
--- whatever refuses a cut
-abbrev pub any_cut : SolveError → Type 0
-any_cut error = ⊤
 
 -- the fault tells why a run was refused: never for a label, nor for want of a bound
 abbrev pub TellsMove : MoveError → Fault → Type 0
@@ -80,15 +62,25 @@ TellsMove move.BadOptions fault = fault ≡ BadOptions
 TellsMove move.NoSuchLabel fault = ⊥
 TellsMove move.NoBound fault = ⊥
 
--- the fault tells why an image command was refused
-abbrev pub TellsPicture : VisionError → Fault → Type 0
-TellsPicture vision.OutOfMemory fault = fault ≡ OutOfMemory
-TellsPicture (vision.Image error) fault = fault ≡ image_fault error
-TellsPicture vision.SizesDiffer fault = fault ≡ SizesDiffer
-TellsPicture (vision.BadSeed index) fault = fault ≡ BadSeed index
-TellsPicture vision.TooManyLevels fault = fault ≡ TooManyLevels
-TellsPicture (vision.Move error) fault = TellsMove error fault
-TellsPicture (vision.Write failed) fault = fault ≡ Write failed
+-- why an image command was refused
+abbrev pub picture_fault : VisionError → Fault
+picture_fault vision.OutOfMemory = OutOfMemory
+picture_fault vision.NotPgm = NotPgm
+picture_fault (vision.BadHeader at) = BadHeader at
+picture_fault vision.ZeroSize = ZeroSize
+picture_fault vision.TooLarge = TooLarge
+picture_fault vision.BadMaxval = BadMaxval
+picture_fault vision.Truncated = Truncated
+picture_fault (vision.SampleAboveMax index) = SampleAboveMax index
+picture_fault (vision.BadSample at) = BadSample at
+picture_fault vision.SizesDiffer = SizesDiffer
+picture_fault (vision.BadSeed index) = BadSeed index
+picture_fault vision.TooManyLevels = TooManyLevels
+picture_fault (vision.PairNotRegular pair alpha beta) = PairNotRegular pair alpha beta
+picture_fault vision.LabelCostInSwap = LabelCostInSwap
+picture_fault vision.Workers = Workers
+picture_fault vision.BadOptions = BadOptions
+picture_fault (vision.Write failed) = Write failed
 
 -- the fault tells an error of which this holds
 abbrev pub Tells : {E : Type 0} → (E → Fault) → (E → Type 0) → Fault → Type 0

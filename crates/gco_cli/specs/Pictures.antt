@@ -9,14 +9,14 @@ use Rattle.moves.specs.declared.bound.Bound.{Bound}
 use Rattle.moves.specs.declared.error.SolveError.{SolveError}
 use Rattle.pgm_image.specs.Written.{written}
 use Rattle.vision.specs.Jobs.{EndsAt, Job, picture_of}
-use Rattle.vision.specs.Faults.{HasRestoreFault, HasSegmentFault, HasStereoFault, MayCome}
+use Rattle.vision.specs.Faults.{HasRestoreError, HasSegmentError, HasStereoError}
 use Rattle.vision.specs.Inputs.{IsRestoreJob, IsSegmentJob, IsStereoJob}
 use Rattle.vision.specs.declared.error.VisionError.{VisionError}
 use Rattle.vision.specs.declared.report.Report.{Report}
 use Rattle.gco_cli.specs.Lines.{bound_line, energy_words}
 use Rattle.gco_cli.specs.declared.lines.Parts.{Parts}
 use Rattle.gco_cli.specs.declared.fault.Fault.{Fault}
-use Rattle.gco_cli.specs.Faults.{Tells, TellsPicture, read_fault}
+use Rattle.gco_cli.specs.Faults.{Tells, picture_fault, read_fault}
 
 -- the energy of labels, and its parts
 abbrev pub parts_at : Job → List ℕ → Parts
@@ -58,10 +58,10 @@ IsPictureJob (Stereo o) input job = IsStereoJob o input job
 IsPictureJob (Segment o) input job = IsSegmentJob o input job
 
 -- the error that the input has for these options
-abbrev pub HasPictureError : PictureOptions → List ℕ → VisionError → Type 0
-HasPictureError (Restore o) input error = HasRestoreFault o input error
-HasPictureError (Stereo o) input error = HasStereoFault o input error
-HasPictureError (Segment o) input error = HasSegmentFault o input error
+abbrev pub HasPictureError : (SolveError → Type 0) → PictureOptions → List ℕ → VisionError → Type 0
+HasPictureError refuses (Restore o) input error = HasRestoreError refuses o input error
+HasPictureError refuses (Stereo o) input error = HasStereoError refuses o input error
+HasPictureError refuses (Segment o) input error = HasSegmentError refuses o input error
 
 -- whether the part of the labels is to be told: where restoring is asked for with a cost of the labels
 abbrev pub tells_labels : PictureOptions → Bool
@@ -80,8 +80,7 @@ abbrev pub AnswersPicture : PictureOptions → List ℕ → List ℕ → List �
 AnswersPicture o input text said =
     (length input ≤ input_limit) × ((job : Job) × IsPictureJob o input job × AnswersJob (tells_labels o) job text said)
 
--- the fault that the input has: it was not read, or its pictures have it; a move is refused for a pair or for its cut
+-- the fault that the input has: it was not read, or its pictures have it
 abbrev pub HasPictureFault : (SolveError → Type 0) → PictureOptions → List ℕ → Fault → Type 0
 HasPictureFault refuses o input fault = Tells read_fault (IsReadRefusal input) fault
-    ⊎ ((length input ≤ input_limit)
-    × ((error : VisionError) × HasPictureError o input error × MayCome refuses error × TellsPicture error fault))
+    ⊎ ((length input ≤ input_limit) × Tells picture_fault (HasPictureError refuses o input) fault)

@@ -1,14 +1,13 @@
 //! What the libraries refuse, as faults of the program: each case by itself, and memory as memory.
 ghost use Rattle.std.specs.Prelude.{◌≡◌};
 ghost use Rattle.moves.specs.Problems.{IsRunRefusal};
-ghost use Rattle.vision.specs.Faults.{MayCome};
-ghost use Rattle.gco_cli.specs.Faults.{TellsMove, TellsPicture, any_cut, cut_fault, energy_fault, image_fault, label_fault, read_fault};
+ghost use Rattle.vision.specs.Faults.{any_cut};
+ghost use Rattle.gco_cli.specs.Faults.{TellsMove, cut_fault, energy_fault, label_fault, picture_fault, read_fault};
 ghost use Rattle.gco_cli.specs.declared.fault.Fault.TheVariants.{OutOfMemory, TermNotRegular};
 
 use crate::fault::Fault;
 use byte_streams::ReadError;
 use moves::{MoveError, SolveError};
-use pgm_image::PgmError;
 use problem_files::{EnergyFault, LabelFault};
 use regular::NotRegular;
 use std::alloc::AllocError;
@@ -91,20 +90,30 @@ impl From<SolveError> for Fault {
     }
 }
 
-impl From<PgmError> for Fault {
-    ghost from_gives = { λ error fault. fault ≡ image_fault error };
+impl From<VisionError> for Fault {
+    ghost from_gives = { λ error fault. fault ≡ picture_fault error };
 
-    fn from(error: PgmError) -> Fault {
+    fn from(error: VisionError) -> Fault {
         match error {
-            PgmError::OutOfMemory => Fault::OutOfMemory,
-            PgmError::NotPgm => Fault::NotPgm,
-            PgmError::BadHeader(at) => Fault::BadHeader(at),
-            PgmError::ZeroSize => Fault::ZeroSize,
-            PgmError::TooLarge => Fault::TooLarge,
-            PgmError::BadMaxval => Fault::BadMaxval,
-            PgmError::Truncated => Fault::Truncated,
-            PgmError::SampleAboveMax(index) => Fault::SampleAboveMax(index),
-            PgmError::BadSample(at) => Fault::BadSample(at),
+            VisionError::OutOfMemory => Fault::OutOfMemory,
+            VisionError::NotPgm => Fault::NotPgm,
+            VisionError::BadHeader(at) => Fault::BadHeader(at),
+            VisionError::ZeroSize => Fault::ZeroSize,
+            VisionError::TooLarge => Fault::TooLarge,
+            VisionError::BadMaxval => Fault::BadMaxval,
+            VisionError::Truncated => Fault::Truncated,
+            VisionError::SampleAboveMax(index) => Fault::SampleAboveMax(index),
+            VisionError::BadSample(at) => Fault::BadSample(at),
+            VisionError::SizesDiffer => Fault::SizesDiffer,
+            VisionError::BadSeed(index) => Fault::BadSeed(index),
+            VisionError::TooManyLevels => Fault::TooManyLevels,
+            VisionError::PairNotRegular { pair, alpha, beta } => {
+                Fault::PairNotRegular { pair, alpha, beta }
+            }
+            VisionError::LabelCostInSwap => Fault::LabelCostInSwap,
+            VisionError::Workers => Fault::Workers,
+            VisionError::BadOptions => Fault::BadOptions,
+            VisionError::Write(failed) => Fault::Write(failed),
         }
     }
 }
@@ -124,21 +133,5 @@ pub fn move_fault(error: MoveError) -> Fault
         MoveError::BadOptions => Fault::BadOptions,
         MoveError::NoSuchLabel => unreachable!(),
         MoveError::NoBound => unreachable!(),
-    }
-}
-
-/// The fault of an image command that was refused. Its run refuses no label, and asks for no bound.
-pub fn picture_fault(error: VisionError) -> Fault
-    requires { MayCome any_cut error }
-    ensures { TellsPicture error result }
-{
-    match error {
-        VisionError::OutOfMemory => Fault::OutOfMemory,
-        VisionError::Image(error) => Fault::from(error),
-        VisionError::SizesDiffer => Fault::SizesDiffer,
-        VisionError::BadSeed(index) => Fault::BadSeed(index),
-        VisionError::TooManyLevels => Fault::TooManyLevels,
-        VisionError::Move(error) => move_fault(error),
-        VisionError::Write(failed) => Fault::Write(failed),
     }
 }

@@ -2,7 +2,7 @@
 ghost use Rattle.std.specs.Prelude.{◌≡◌, IfOk, IfErr};
 ghost use Rattle.command_line.specs.Task.{FitsPicture};
 ghost use Rattle.command_line.specs.declared.task.Task.TheVariants.{Picture};
-ghost use Rattle.vision.specs.Faults.{IsWrite, Leaves, MayCome};
+ghost use Rattle.vision.specs.Faults.{IsWrite, Leaves};
 ghost use Rattle.vision.specs.Jobs.{Does, Job};
 ghost use Rattle.gco_cli.specs.Commands.{IsDueFor, StandsFor};
 ghost use Rattle.gco_cli.specs.Pictures.{HasPictureError, IsPictureJob, asks_bound, tells_labels};
@@ -10,7 +10,6 @@ ghost use Rattle.gco_cli.specs.Run.{Refuses, TellsRead, Writes};
 
 use crate::fault::Fault;
 use crate::fault_line::Line;
-use crate::library_faults::picture_fault;
 use crate::lines::report_lines;
 use byte_streams::{Sink, Source, read_input};
 use command_line::PictureOptions;
@@ -40,7 +39,7 @@ pub fn picture<H: How, R: Source, W: Sink>(
     let input = read_input(alloc, source)?;
     match run_picture(alloc, input.as_slice(), &options, how, sink) {
         Ok(report) => Ok(report_lines(&report, tells_labels(&options), asks_bound(&options))),
-        Err(error) => Err(picture_fault(error)),
+        Err(error) => Err(Fault::from(error)),
     }
 }
 
@@ -57,8 +56,7 @@ fn run_picture<H: How, W: Sink>(
     ensures done { IfOk result (λ report. (job : Job) × IsPictureJob options.now input.now job
         × Does job (W.stream sink.old) (W.stream sink.new) report) }
     ensures refused { IfErr result (Leaves (IsPictureJob options.now input.now)
-        (HasPictureError options.now input.now) (W.stream sink.old) (W.stream sink.new)) }
-    ensures cut { IfErr result (MayCome (H.refuses how.now)) }
+        (HasPictureError (H.refuses how.now) options.now input.now) (W.stream sink.old) (W.stream sink.new)) }
     ensures unchanged { IfErr result (λ e. (¬ IsWrite e) → sink.new ≡ sink.old) }
     ensures kept { W.loan sink.new ≡ W.loan sink.old }
 {

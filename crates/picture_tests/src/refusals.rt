@@ -3,8 +3,6 @@ use crate::pictures::{ROW, SWAPS};
 use crate::streams::CutWriter;
 use crate::tasks::{RESTORE, SEGMENT, STEREO, Task, run};
 use byte_streams::Watched;
-use moves::MoveError;
-use pgm_image::PgmError;
 use run_options::RestoreOptions;
 use vision::VisionError;
 
@@ -18,11 +16,7 @@ const COSTLY: RestoreOptions = RestoreOptions {
 
 /// A command, its input, and why it is refused.
 const ROWS: [(Task, &[u8], VisionError); 17] = [
-    (
-        Task::Restore(RESTORE),
-        b"",
-        VisionError::Image(PgmError::NotPgm),
-    ),
+    (Task::Restore(RESTORE), b"", VisionError::NotPgm),
     (
         Task::Restore(RESTORE),
         b"P5\n1 1\n256\n\x01\x00",
@@ -31,39 +25,31 @@ const ROWS: [(Task, &[u8], VisionError); 17] = [
     (
         Task::Restore(RESTORE),
         b"P5\n1 1\n256\n\x01",
-        VisionError::Image(PgmError::Truncated),
+        VisionError::Truncated,
     ),
     // The first image is read to its end before the second is looked at.
-    (
-        PART,
-        b"P5\n3 1\n2\n\x01\x00",
-        VisionError::Image(PgmError::Truncated),
-    ),
-    (
-        PART,
-        b"P5\n3 1\n255\n\x0a\x0c\xc8",
-        VisionError::Image(PgmError::NotPgm),
-    ),
+    (PART, b"P5\n3 1\n2\n\x01\x00", VisionError::Truncated),
+    (PART, b"P5\n3 1\n255\n\x0a\x0c\xc8", VisionError::NotPgm),
     (
         PART,
         b"P5\n3 1\n255\n\x0a\x0c\xc8 \n\t",
-        VisionError::Image(PgmError::NotPgm),
+        VisionError::NotPgm,
     ),
     (
         PART,
         b"P5 3 1 255\n\x0a\x0c\xc8P5 3 1 2x",
-        VisionError::Image(PgmError::BadHeader(22)),
+        VisionError::BadHeader(22),
     ),
     (
         PART,
         b"P5 3 1 255\n\x0a\x0c\xc8\n P2 3 1 2 1 0#",
-        VisionError::Image(PgmError::BadSample(28)),
+        VisionError::BadSample(28),
     ),
     // No comment is skipped between the images.
     (
         PART,
         b"P5 3 1 255\n\x0a\x0c\xc8# seeds\nP5 3 1 2\n\x01\x00\x02",
-        VisionError::Image(PgmError::NotPgm),
+        VisionError::NotPgm,
     ),
     (
         PART,
@@ -86,11 +72,7 @@ const ROWS: [(Task, &[u8], VisionError); 17] = [
         b"P5\n1 2\n9\n\x01\x02P5\n2 1\n9\n\x01\x02",
         VisionError::SizesDiffer,
     ),
-    (
-        Task::Restore(COSTLY),
-        ROW,
-        VisionError::Move(MoveError::LabelCostInSwap),
-    ),
+    (Task::Restore(COSTLY), ROW, VisionError::LabelCostInSwap),
     // Also where no move is made.
     (
         Task::Restore(RestoreOptions {
@@ -98,7 +80,7 @@ const ROWS: [(Task, &[u8], VisionError); 17] = [
             ..COSTLY
         }),
         ROW,
-        VisionError::Move(MoveError::LabelCostInSwap),
+        VisionError::LabelCostInSwap,
     ),
     // The image is looked at first.
     (
@@ -109,7 +91,7 @@ const ROWS: [(Task, &[u8], VisionError); 17] = [
     (
         Task::Restore(COSTLY),
         b"P5\n1 1\n256\n\x01",
-        VisionError::Image(PgmError::Truncated),
+        VisionError::Truncated,
     ),
 ];
 

@@ -52,7 +52,7 @@ const ERRORS: &[(SolveError, MoveError, VisionError)] = &[
     (
         SolveError::Workers,
         MoveError::Workers,
-        VisionError::Move(MoveError::Workers),
+        VisionError::Workers,
     ),
 ];
 

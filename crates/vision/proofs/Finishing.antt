@@ -1,16 +1,18 @@
 -- From a run to what is written.
-use Rattle.std.proofs.Common.{◌≡◌, ◌∙◌, ℕ, ◌+◌, ◌≤◌, ℤ, pos, ◌+ℤ◌, ◌≤ℤ◌, Bool, true, false, List, Option, Some, None, IfSome, IsTrue, IsFalse, replicate, Ok, Err, if◌then◌else◌, refl, sym, ap, subst, arith}
+use Rattle.std.proofs.Common.{◌≡◌, ◌∙◌, ℕ, ◌+◌, ◌≤◌, ℤ, pos, ◌+ℤ◌, ◌≤ℤ◌, Bool, true, false, List, Option, Some, None, IfSome, IsTrue, IsFalse, replicate, Ok, Err, if◌then◌else◌, inr, refl, sym, ap, subst, arith}
 use Rattle.std.proofs.lemmas.Int.{ints}
 use Rattle.labellings.specs.Energies.{Instance, labelling, data_energy, smooth_energy, label_energy}
 use Rattle.moves.specs.Runs.{Answers, TellsBound}
 use Rattle.moves.specs.declared.tables.Run.{Run}
 use Rattle.moves.specs.declared.bound.Bound.{Bound}
 use Rattle.moves.specs.declared.error.MoveError.{MoveError}
-use Rattle.moves.specs.declared.error.MoveError.TheVariants as move
+use Rattle.moves.specs.declared.error.SolveError.{SolveError}
+use Rattle.moves.specs.Problems.{IsRunRefusal}
 use Rattle.pgm_image.specs.Picture.{Picture, picture, IsPicture}
 use Rattle.labellings.specs.declared.cycles.Moves.{Moves}
-use Rattle.vision.specs.Faults.{HasRunFault, of_move}
-use Rattle.vision.specs.Jobs.{Job, job_of, EndsAt, Tells, RefusesMove, IsFinished}
+use Rattle.vision.specs.Faults.{HasRunError, TellsRun}
+use Rattle.vision.specs.declared.error.VisionError.{VisionError}
+use Rattle.vision.specs.Jobs.{Job, job_of, EndsAt, Tells, IsFinished}
 use Rattle.vision.specs.declared.job.Finished.{Finished}
 use Rattle.vision.specs.declared.report.Report.{Report}
 
@@ -92,18 +94,9 @@ finished m moves cycles asked p maxval start run f zeros ran small valid image_i
       tells = both.1;
     }
 
--- a refused run is a fault of the job
-pub run_fault : (job : Job) (e : MoveError) → RefusesMove job e → HasRunFault job (of_move e)
-run_fault job move.NoSuchLabel refused = refused
-run_fault job move.LabelCostInSwap refused = refused
-run_fault job (move.PairNotRegular pair alpha beta) refused = refused
-run_fault job move.Workers refused = refused
-run_fault job move.BadOptions refused = refused
-run_fault job move.NoBound refused = refused
-run_fault job move.OutOfMemory refused = tt
-
-pub refused : (m : Instance) (moves : Moves) (cycles : ℕ) (asked : Bool) (p : Picture) (maxval : ℕ) (start : List ℕ) (e : MoveError)
-    → start ≡ replicate m.sites 0 → Answers m moves cycles start (Err e) → HasRunFault (job_of m moves cycles asked p maxval) (of_move e)
-refused m moves cycles asked p maxval start e zeros ran =
-    let A : List ℕ → Type 0 = λ s. Answers m moves cycles s (Err e) in
-    run_fault (job_of m moves cycles asked p maxval) e (subst A zeros ran)
+-- a refused run is an error of the job
+pub refused : (refuses : SolveError → Type 0) (m : Instance) (moves : Moves) (cycles : ℕ) (asked : Bool) (p : Picture) (maxval : ℕ) (start : List ℕ)
+    (error : MoveError) (e : VisionError) → start ≡ replicate m.sites 0 → IsRunRefusal refuses error → Answers m moves cycles start (Err error)
+    → TellsRun error e → HasRunError refuses (job_of m moves cycles asked p maxval) e
+refused refuses m moves cycles asked p maxval start error e zeros may ran told =
+    let A : List ℕ → Type 0 = λ s. Answers m moves cycles s (Err error) in inr (error, may, subst A zeros ran, told)

@@ -1,5 +1,5 @@
 -- Potts and linear costs are a metric, and nothing but a move tells a pair.
-use Rattle.std.proofs.Common.{◌≡◌, ◌≢◌, ℕ, ◌+◌, ◌<◌, ◌≤◌, ◌==◌, List, ℤ, if◌then◌else◌, refl, arith}
+use Rattle.std.proofs.Common.{◌≡◌, ◌≢◌, ℕ, ◌+◌, ◌<◌, ◌≤◌, ◌==◌, ◌⊎◌, List, ℤ, if◌then◌else◌, inl, inr, refl, subst, arith}
 use Rattle.cost_store.specs.Promises.{IsMetricTable, IsTable}
 use Rattle.moves.proofs.Entries.{metric_table}
 use Rattle.labellings.specs.Energies.{IsMetric}
@@ -9,9 +9,13 @@ use Rattle.moves.specs.declared.error.MoveError.TheVariants as move
 use Rattle.run_options.specs.Shapes.{shape_cost}
 use Rattle.run_options.specs.declared.shape.Shape.{Shape}
 use Rattle.run_options.specs.declared.shape.Shape.TheVariants.{Potts, Linear, Quadratic}
-use Rattle.vision.specs.Faults.{HasFirstFault, HasPairFault, IsStop, TellsPair, of_move}
+use Rattle.pgm_image.specs.Front.{Refuses}
+use Rattle.pgm_image.specs.declared.error.PgmError.{PgmError}
+use Rattle.pgm_image.specs.declared.error.PgmError.TheVariants as image
+use Rattle.vision.specs.Faults.{HasNoImage, HasPairError, IsStop, TellsPair, TellsRun, image_error}
+use Rattle.vision.specs.Inputs.{RefusesSecond}
 use Rattle.vision.specs.declared.error.VisionError.{VisionError}
-use Rattle.vision.specs.declared.error.VisionError.TheVariants.{OutOfMemory, Image, SizesDiffer, BadSeed, TooManyLevels, Move, Write}
+use Rattle.vision.specs.declared.error.VisionError.TheVariants.{OutOfMemory, SizesDiffer, LabelCostInSwap, Workers, BadOptions, Write}
 
 abbrev potts : ℕ → ℕ → ℕ
 potts a b = if a == b then 0 else 1
@@ -52,39 +56,37 @@ shape_metric_table shape k most table some cut apart is =
 pub potts_metric_table : (k most : ℕ) (table : List ℤ) → 0 < k → 1 ≤ most → IsTable k k (shape_cost Potts most) table → IsMetricTable k table
 potts_metric_table k most table some cut is = shape_metric_table Potts k most table some cut (λ same. cc) is
 
+-- what is one of these tells what that one tells
+as_told : (e told : VisionError) → e ≡ told → (¬ TellsPair told) → ¬ TellsPair e
+as_told e told is none = λ tells. none (subst TellsPair is tells)
+
 -- a move tells what its own refusal tells
-pub move_tells : (e : MoveError) → (¬ TellsPairNotRegular e) → ¬ TellsPair (of_move e)
-move_tells move.NoSuchLabel none = none
-move_tells move.LabelCostInSwap none = none
-move_tells (move.PairNotRegular pair alpha beta) none = none
-move_tells move.Workers none = none
-move_tells move.BadOptions none = none
-move_tells move.NoBound none = none
-move_tells move.OutOfMemory none = none
+pub move_tells : (error : MoveError) (e : VisionError) → TellsRun error e → (¬ TellsPairNotRegular error) → ¬ TellsPair e
+move_tells move.NoSuchLabel e is none = absurd is
+move_tells move.LabelCostInSwap e is none = as_told e LabelCostInSwap is none
+move_tells (move.PairNotRegular pair alpha beta) e is none = λ tells. none tt
+move_tells move.Workers e is none = as_told e Workers is none
+move_tells move.BadOptions e is none = as_told e BadOptions is none
+move_tells move.NoBound e is none = absurd is
+move_tells move.OutOfMemory e is none = as_told e OutOfMemory is none
 
-pub first_tells_none : (input : List ℕ) (e : VisionError) → HasFirstFault input e → ¬ TellsPair e
-first_tells_none input OutOfMemory has tells = tells
-first_tells_none input (Image x) has tells = tells
-first_tells_none input SizesDiffer has tells = tells
-first_tells_none input (BadSeed i) has tells = tells
-first_tells_none input TooManyLevels has tells = tells
-first_tells_none input (Move x) has tells = has
-first_tells_none input (Write w) has tells = tells
+reason_tells_none : (reason : PgmError) → ¬ TellsPair (image_error reason)
+reason_tells_none image.OutOfMemory tells = tells
+reason_tells_none image.NotPgm tells = tells
+reason_tells_none (image.BadHeader at) tells = tells
+reason_tells_none image.ZeroSize tells = tells
+reason_tells_none image.TooLarge tells = tells
+reason_tells_none image.BadMaxval tells = tells
+reason_tells_none image.Truncated tells = tells
+reason_tells_none (image.SampleAboveMax index) tells = tells
+reason_tells_none (image.BadSample at) tells = tells
 
-pub pair_tells_none : (input : List ℕ) (e : VisionError) → HasPairFault input e → ¬ TellsPair e
-pair_tells_none input OutOfMemory has tells = tells
-pair_tells_none input (Image x) has tells = tells
-pair_tells_none input SizesDiffer has tells = tells
-pair_tells_none input (BadSeed i) has tells = tells
-pair_tells_none input TooManyLevels has tells = tells
-pair_tells_none input (Move x) has tells = has
-pair_tells_none input (Write w) has tells = tells
+pub image_tells_none : (Refused : PgmError → Type 0) (e : VisionError) → HasNoImage Refused e → ¬ TellsPair e
+image_tells_none Refused e has = as_told e (image_error has.0) has.2 (reason_tells_none has.0)
+
+pub pair_tells_none : (input : List ℕ) (e : VisionError) → HasPairError input e → ¬ TellsPair e
+pair_tells_none input e (inl has) = image_tells_none (λ reason. Refuses input reason ⊎ RefusesSecond input reason) e has
+pair_tells_none input e (inr has) = as_told e SizesDiffer has.1 (λ tells. tells)
 
 pub stop_tells_none : (After : ℕ → Type 0) (e : VisionError) → IsStop After e → ¬ TellsPair e
-stop_tells_none After OutOfMemory is tells = tells
-stop_tells_none After (Image x) is tells = tells
-stop_tells_none After SizesDiffer is tells = tells
-stop_tells_none After (BadSeed i) is tells = tells
-stop_tells_none After TooManyLevels is tells = tells
-stop_tells_none After (Move x) is tells = is
-stop_tells_none After (Write w) is tells = tells
+stop_tells_none After e is = as_told e (Write is.0) is.2 (λ tells. tells)

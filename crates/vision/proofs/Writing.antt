@@ -1,12 +1,13 @@
 -- From what is ready to be written to what a command did.
-use Rattle.std.proofs.Common.{◌≡◌, ℕ, Result, Ok, Err, IfOk, IfErr, OnOk, sym, subst}
+use Rattle.std.proofs.Common.{◌≡◌, ℕ, List, Result, Ok, Err, IfOk, IfErr, OnOk, inr, refl, sym, subst}
 use Rattle.byte_streams.specs.Streams.{Stops, Stream, Takes}
 use Rattle.pgm_image.specs.Picture.{Picture}
-use Rattle.pgm_image.specs.Written.{written}
-use Rattle.vision.specs.Faults.{IsStop, IsWrite, Leaves}
+use Rattle.pgm_image.specs.Written.{StopsAsTold, written}
+use Rattle.pgm_image.specs.declared.error.WriteError.{WriteError}
+use Rattle.pgm_image.specs.declared.error.WriteError.TheVariants as write
+use Rattle.vision.specs.Faults.{IsStop, IsWrite, Leaves, write_error}
 use Rattle.vision.specs.Jobs.{Job, Does, IsFinished, Tells}
 use Rattle.vision.specs.declared.error.VisionError.{VisionError}
-use Rattle.vision.specs.declared.error.VisionError.TheVariants.{OutOfMemory, Image, SizesDiffer, BadSeed, TooManyLevels, Move, Write}
 use Rattle.vision.specs.declared.job.Finished.{Finished}
 use Rattle.vision.specs.declared.report.Report.{Report}
 
@@ -26,42 +27,34 @@ does IsJob f old new (Ok report) is told took = (
 )
 does IsJob f old new (Err e) is told took = tt
 
-stop_leaves : (IsJob : Job → Type 0) (HasFault : VisionError → Type 0) (f : Finished) (old new : Stream) (e : VisionError)
-    → ((job : Job) × IsJob job × IsFinished job f) → IsStop (λ (count : ℕ). Stops old new (written f.image) count) e
-    → Leaves IsJob HasFault old new e
-stop_leaves IsJob HasFault f old new OutOfMemory is stops = absurd stops
-stop_leaves IsJob HasFault f old new (Image x) is stops = absurd stops
-stop_leaves IsJob HasFault f old new SizesDiffer is stops = absurd stops
-stop_leaves IsJob HasFault f old new (BadSeed i) is stops = absurd stops
-stop_leaves IsJob HasFault f old new TooManyLevels is stops = absurd stops
-stop_leaves IsJob HasFault f old new (Move x) is stops = absurd stops
-stop_leaves IsJob HasFault f old new (Write stop) is stops = (
-  is.0,
-  is.1,
-  record {
-    labels = f.image.samples;
-    ends = is.2.ends;
-    took = subst (λ (p : Picture). Stops old new (written p) stop.count) is.2.image_is stops;
-    report = f.report;
-    tells = is.2.tells;
-  },
-)
-
 -- a picture whose writing stopped
-pub leaves : (IsJob : Job → Type 0) (HasFault : VisionError → Type 0) (f : Finished) (old new : Stream) (r : Result Report VisionError)
+pub leaves : (IsJob : Job → Type 0) (HasError : VisionError → Type 0) (f : Finished) (old new : Stream) (r : Result Report VisionError)
     → ((job : Job) × IsJob job × IsFinished job f) → IfErr r (IsStop (λ (count : ℕ). Stops old new (written f.image) count))
-    → IfErr r (Leaves IsJob HasFault old new)
-leaves IsJob HasFault f old new (Ok report) is stops = tt
-leaves IsJob HasFault f old new (Err e) is stops = stop_leaves IsJob HasFault f old new e is stops
+    → IfErr r (Leaves IsJob HasError old new)
+leaves IsJob HasError f old new (Ok report) is stops = tt
+leaves IsJob HasError f old new (Err e) is stops =
+    inr (
+      is.0,
+      is.1,
+      (
+        stops.0,
+        record {
+          labels = f.image.samples;
+          ends = is.2.ends;
+          took = subst (λ (p : Picture). Stops old new (written p) stops.0.count) is.2.image_is stops.1;
+          report = f.report;
+          tells = is.2.tells;
+        },
+        stops.2,
+      ),
+    )
+
+-- a writing that stopped, as the library tells it
+pub stop_told : (old new : Stream) (text : List ℕ) (w : WriteError) → StopsAsTold old new text w → IsStop (Stops old new text) (write_error w)
+stop_told old new text (write.WriteFailed count) stops = (record { count = count }, stops, refl)
 
 stop_is_write : (After : ℕ → Type 0) (e : VisionError) → IsStop After e → IsWrite e
-stop_is_write After OutOfMemory stops = stops
-stop_is_write After (Image x) stops = stops
-stop_is_write After SizesDiffer stops = stops
-stop_is_write After (BadSeed i) stops = stops
-stop_is_write After TooManyLevels stops = stops
-stop_is_write After (Move x) stops = stops
-stop_is_write After (Write stop) stops = tt
+stop_is_write After e stops = subst IsWrite (sym stops.2) tt
 
 -- a writing that stopped is told as that
 pub told_as_write : (After : ℕ → Type 0) (Same : Type 0) (r : Result Report VisionError) → IfErr r (IsStop After)

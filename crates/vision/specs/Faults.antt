@@ -2,10 +2,11 @@
 -- moves, writing.
 use Rattle.std.specs.Prelude.{◌≡◌, ℕ, ◌<◌, ◌⊎◌, ⊤, List}
 use Rattle.byte_streams.specs.Streams.{Stream}
+use Rattle.byte_streams.specs.declared.sink.WriteFailed.{WriteFailed}
 use Rattle.moves.specs.declared.error.MoveError.{MoveError}
 use Rattle.moves.specs.declared.error.MoveError.TheVariants as move
 use Rattle.moves.specs.declared.error.SolveError.{SolveError}
-use Rattle.moves.specs.Problems.{IsRunRefusal, TellsPairNotRegular}
+use Rattle.moves.specs.Problems.{IsRunRefusal}
 use Rattle.pgm_image.specs.Front.{Refuses}
 use Rattle.pgm_image.specs.Picture.{Picture}
 use Rattle.pgm_image.specs.Raster.{IsFirstAbove}
@@ -19,73 +20,89 @@ use Rattle.run_options.specs.declared.options.SegmentOptions.{SegmentOptions}
 use Rattle.vision.specs.Inputs.{HoldsPicture, HoldsTwo, SameSizes, RefusesSecond, IsRestoreJob, IsStereoJob, IsSegmentJob}
 use Rattle.vision.specs.Jobs.{Job, RefusesMove, StopsAfter}
 use Rattle.vision.specs.declared.error.VisionError.{VisionError}
-use Rattle.vision.specs.declared.error.VisionError.TheVariants.{OutOfMemory, Image, SizesDiffer, BadSeed, TooManyLevels, Move, Write}
+use Rattle.vision.specs.declared.error.VisionError.TheVariants.{OutOfMemory, NotPgm, BadHeader, ZeroSize, TooLarge, BadMaxval, Truncated, SampleAboveMax, BadSample, SizesDiffer, BadSeed, TooManyLevels, PairNotRegular, LabelCostInSwap, Workers, BadOptions, Write}
 
--- a refusal of the libraries below as a command tells it: memory is told as memory, whoever asked for it
-abbrev pub of_image : PgmError → VisionError
-of_image image.OutOfMemory = OutOfMemory
-of_image e = Image e
+-- why there is no image, as a command tells it
+abbrev pub image_error : PgmError → VisionError
+image_error image.OutOfMemory = OutOfMemory
+image_error image.NotPgm = NotPgm
+image_error (image.BadHeader at) = BadHeader at
+image_error image.ZeroSize = ZeroSize
+image_error image.TooLarge = TooLarge
+image_error image.BadMaxval = BadMaxval
+image_error image.Truncated = Truncated
+image_error (image.SampleAboveMax index) = SampleAboveMax index
+image_error (image.BadSample at) = BadSample at
 
-abbrev pub of_move : MoveError → VisionError
-of_move move.OutOfMemory = OutOfMemory
-of_move e = Move e
+-- the error tells why a run was refused: never for a label, nor for want of a bound
+abbrev pub TellsRun : MoveError → VisionError → Type 0
+TellsRun move.OutOfMemory e = e ≡ OutOfMemory
+TellsRun move.LabelCostInSwap e = e ≡ LabelCostInSwap
+TellsRun (move.PairNotRegular pair alpha beta) e = e ≡ PairNotRegular pair alpha beta
+TellsRun move.Workers e = e ≡ Workers
+TellsRun move.BadOptions e = e ≡ BadOptions
+TellsRun move.NoSuchLabel e = ⊥
+TellsRun move.NoBound e = ⊥
 
-abbrev pub of_write : WriteError → VisionError
-of_write (write.WriteFailed taken) = Write (record { count = taken })
+-- why a picture was not written whole
+abbrev pub write_error : WriteError → VisionError
+write_error (write.WriteFailed count) = Write (record { count = count })
 
--- the fault of an input of one image
-abbrev pub HasFirstFault : List ℕ → VisionError → Type 0
-HasFirstFault input OutOfMemory = ⊤
-HasFirstFault input (Image e) = Refuses input e
-HasFirstFault input SizesDiffer = ⊥
-HasFirstFault input (BadSeed i) = ⊥
-HasFirstFault input TooManyLevels = ⊥
-HasFirstFault input (Move e) = ⊥
-HasFirstFault input (Write failed) = ⊥
+-- whatever refuses a cut
+abbrev pub any_cut : SolveError → Type 0
+any_cut error = ⊤
 
--- that of an input of two images of one size
-abbrev pub HasPairFault : List ℕ → VisionError → Type 0
-HasPairFault input OutOfMemory = ⊤
-HasPairFault input (Image e) = Refuses input e ⊎ RefusesSecond input e
-HasPairFault input SizesDiffer = (a : Picture) × (b : Picture) × HoldsTwo input a b × (¬ SameSizes a b)
-HasPairFault input (BadSeed i) = ⊥
-HasPairFault input TooManyLevels = ⊥
-HasPairFault input (Move e) = ⊥
-HasPairFault input (Write failed) = ⊥
+-- there is no image, for a reason of this kind
+abbrev pub HasNoImage : (PgmError → Type 0) → VisionError → Type 0
+HasNoImage Refused e = (reason : PgmError) × Refused reason × (e ≡ image_error reason)
 
--- that of a job's run
-abbrev pub HasRunFault : Job → VisionError → Type 0
-HasRunFault job OutOfMemory = ⊤
-HasRunFault job (Image e) = ⊥
-HasRunFault job SizesDiffer = ⊥
-HasRunFault job (BadSeed i) = ⊥
-HasRunFault job TooManyLevels = ⊥
-HasRunFault job (Move e) = RefusesMove job e
-HasRunFault job (Write failed) = ⊥
+-- no image is at the front of the input
+abbrev pub HasImageError : List ℕ → VisionError → Type 0
+HasImageError input e = HasNoImage (Refuses input) e
+
+-- no image is at the front of the input or none behind it, or the two differ in size
+abbrev pub HasPairError : List ℕ → VisionError → Type 0
+HasPairError input e = HasNoImage (λ reason. Refuses input reason ⊎ RefusesSecond input reason) e
+    ⊎ (((a : Picture) × (b : Picture) × HoldsTwo input a b × (¬ SameSizes a b)) × (e ≡ SizesDiffer))
+
+-- the run of a job was refused: memory may always be, and a move for a pair, for a label's cost, or for its cut
+abbrev pub HasRunError : (SolveError → Type 0) → Job → VisionError → Type 0
+HasRunError refuses job e = (e ≡ OutOfMemory)
+    ⊎ ((error : MoveError) × IsRunRefusal refuses error × RefusesMove job error × TellsRun error e)
+
+-- the same of a job that an input names
+abbrev pub HasJobError : (SolveError → Type 0) → (Job → Type 0) → VisionError → Type 0
+HasJobError refuses IsJob e = (job : Job) × IsJob job × HasRunError refuses job e
 
 -- why nothing was written
-abbrev pub HasRestoreFault : RestoreOptions → List ℕ → VisionError → Type 0
-HasRestoreFault o input TooManyLevels = (p : Picture) × HoldsPicture input p × (255 < p.maxval)
-HasRestoreFault o input (Move e) = (job : Job) × IsRestoreJob o input job × RefusesMove job e
-HasRestoreFault o input e = HasFirstFault input e
+abbrev pub HasRestoreError : (SolveError → Type 0) → RestoreOptions → List ℕ → VisionError → Type 0
+HasRestoreError refuses o input e = HasImageError input e
+    ⊎ ((((p : Picture) × HoldsPicture input p × (255 < p.maxval)) × (e ≡ TooManyLevels))
+    ⊎ HasJobError refuses (IsRestoreJob o input) e)
 
-abbrev pub HasStereoFault : StereoOptions → List ℕ → VisionError → Type 0
-HasStereoFault o input (Move e) = (job : Job) × IsStereoJob o input job × RefusesMove job e
-HasStereoFault o input e = HasPairFault input e
+abbrev pub HasStereoError : (SolveError → Type 0) → StereoOptions → List ℕ → VisionError → Type 0
+HasStereoError refuses o input e = HasPairError input e ⊎ HasJobError refuses (IsStereoJob o input) e
 
 -- the first seed above 2 has this index
-abbrev pub HasSegmentFault : SegmentOptions → List ℕ → VisionError → Type 0
-HasSegmentFault o input (BadSeed i) =
+abbrev pub HasBadSeed : List ℕ → ℕ → Type 0
+HasBadSeed input index =
     (p : Picture) × (seeds : Picture) × HoldsTwo input p seeds × SameSizes p seeds
-    × IsFirstAbove 2 seeds.samples i
-HasSegmentFault o input (Move e) = (job : Job) × IsSegmentJob o input job × RefusesMove job e
-HasSegmentFault o input e = HasPairFault input e
+    × IsFirstAbove 2 seeds.samples index
+
+abbrev pub HasSegmentError : (SolveError → Type 0) → SegmentOptions → List ℕ → VisionError → Type 0
+HasSegmentError refuses o input e = HasPairError input e
+    ⊎ (((index : ℕ) × HasBadSeed input index × (e ≡ BadSeed index))
+    ⊎ HasJobError refuses (IsSegmentJob o input) e)
+
+-- the writer failed, after so many bytes of which this holds
+abbrev pub IsStop : (ℕ → Type 0) → VisionError → Type 0
+IsStop After e = (failed : WriteFailed) × After failed.count × (e ≡ Write failed)
 
 -- a refusal leaves the writer as it was, unless the writer failed: then it took the first bytes of the
 -- picture's written form, as many as are told
 abbrev pub Leaves : (Job → Type 0) → (VisionError → Type 0) → Stream → Stream → VisionError → Type 0
-Leaves IsJob HasFault old new (Write stop) = (job : Job) × IsJob job × StopsAfter job old new stop.count
-Leaves IsJob HasFault old new e = HasFault e
+Leaves IsJob HasError old new e = HasError e
+    ⊎ ((job : Job) × IsJob job × IsStop (StopsAfter job old new) e)
 
 abbrev pub IsWrite : VisionError → Type 0
 IsWrite (Write failed) = ⊤
@@ -93,17 +110,5 @@ IsWrite e = ⊥
 
 -- the refusal is that of a pair whose term is not regular
 abbrev pub TellsPair : VisionError → Type 0
-TellsPair (Move e) = TellsPairNotRegular e
+TellsPair (PairNotRegular pair alpha beta) = ⊤
 TellsPair e = ⊥
-
--- where the refusal is that of a move: a pair's, or the cut's, as what solves it may refuse. Memory is told
--- as memory
-abbrev pub MayCome : (SolveError → Type 0) → VisionError → Type 0
-MayCome refuses (Move move.OutOfMemory) = ⊥
-MayCome refuses (Move e) = IsRunRefusal refuses e
-MayCome refuses e = ⊤
-
--- the writer failed, after so many bytes of which this holds
-abbrev pub IsStop : (ℕ → Type 0) → VisionError → Type 0
-IsStop After (Write failed) = After failed.count
-IsStop After e = ⊥

@@ -1,6 +1,7 @@
 //! Why a command on pictures was refused.
 ghost use Rattle.std.specs.Prelude.{◌≡◌};
-ghost use Rattle.vision.specs.Faults.{of_image, of_move, of_write};
+ghost use Rattle.moves.specs.Problems.{IsRunRefusal};
+ghost use Rattle.vision.specs.Faults.{TellsRun, any_cut, image_error, write_error};
 ghost use Rattle.vision.specs.declared.error.VisionError.TheVariants.{OutOfMemory};
 
 use byte_streams::WriteFailed;
@@ -9,17 +10,39 @@ use pgm_image::{PgmError, WriteError};
 use std::alloc::{AllocError, AllocFailed};
 use thiserror::Error;
 
-/// Why a command on pictures was refused: the first cause in this order, but that memory may be refused anywhere before
-/// the first byte is written. Positions count bytes from the first one of the input, also those of the second image;
-/// indices count samples, row by row, from 0.
+/// Why a command on pictures was refused: one case for each cause, and the first that holds in the order image, sizes,
+/// seeds, levels, moves, writing, but that memory may be refused anywhere before the first byte is written. The first
+/// image is looked at before the second. Positions count bytes from the first one of the input, also those of the
+/// second image; indices count samples, row by row, from 0.
 #[derive(Clone, Copy, Debug, PartialEq, Eq, Error)]
 pub enum VisionError {
-    /// Memory was refused.
+    /// Memory was refused, whoever asked for it.
     #[error("out of memory")]
     OutOfMemory,
-    /// An image of the input was refused, the first before the second.
-    #[error("{0}")]
-    Image(PgmError),
+    /// Neither `P5` nor `P2` stands where an image is to begin.
+    #[error("not a PGM image")]
+    NotPgm,
+    /// The header of an image cannot go on at this position, or the input ends there within it.
+    #[error("the header cannot go on at byte {0}")]
+    BadHeader(usize),
+    /// The width or the height of an image is 0.
+    #[error("an image without samples")]
+    ZeroSize,
+    /// An image is above the limits of its sizes.
+    #[error("an image above the limits")]
+    TooLarge,
+    /// The maxval of an image is out of its range.
+    #[error("a maxval outside 1 to 65,535")]
+    BadMaxval,
+    /// The input ends before the last sample of an image.
+    #[error("the input ends within the samples")]
+    Truncated,
+    /// The sample of an image with this index is the first above maxval.
+    #[error("sample {0} is above maxval")]
+    SampleAboveMax(usize),
+    /// No sample of an image can go on at this position.
+    #[error("no sample can go on at byte {0}")]
+    BadSample(usize),
     /// The two images differ in width or height.
     #[error("the images differ in size")]
     SizesDiffer,
@@ -29,38 +52,66 @@ pub enum VisionError {
     /// The picture to be restored has more than 256 grey levels.
     #[error("too many grey levels")]
     TooManyLevels,
-    /// A move was refused.
-    #[error("{0}")]
-    Move(MoveError),
+    /// The first pair whose term in a move is not regular, and the labels of the move: one of an expansion, two of a
+    /// swap.
+    #[error("the term of pair {pair} is not regular")]
+    PairNotRegular {
+        pair: usize,
+        alpha: u32,
+        beta: Option<u32>,
+    },
+    /// Swaps are asked for, and a label costs something by itself.
+    #[error("a label costs something by itself, which a swap does not take")]
+    LabelCostInSwap,
+    /// The system refused to start a worker.
+    #[error("a worker could not be started")]
+    Workers,
+    /// An option of the workers is out of its limits.
+    #[error("an option is out of its limits")]
+    BadOptions,
     /// The writer failed within the picture.
     #[error("the writer failed after {} bytes", .0.count)]
     Write(WriteFailed),
 }
 
 impl From<PgmError> for VisionError {
-    ghost from_gives = { λ image e. e ≡ of_image image };
+    ghost from_gives = { λ reason e. e ≡ image_error reason };
 
-    fn from(error: PgmError) -> VisionError {
-        match error {
+    fn from(reason: PgmError) -> VisionError {
+        match reason {
             PgmError::OutOfMemory => VisionError::OutOfMemory,
-            error => VisionError::Image(error),
+            PgmError::NotPgm => VisionError::NotPgm,
+            PgmError::BadHeader(at) => VisionError::BadHeader(at),
+            PgmError::ZeroSize => VisionError::ZeroSize,
+            PgmError::TooLarge => VisionError::TooLarge,
+            PgmError::BadMaxval => VisionError::BadMaxval,
+            PgmError::Truncated => VisionError::Truncated,
+            PgmError::SampleAboveMax(index) => VisionError::SampleAboveMax(index),
+            PgmError::BadSample(at) => VisionError::BadSample(at),
         }
     }
 }
 
-impl From<MoveError> for VisionError {
-    ghost from_gives = { λ move e. e ≡ of_move move };
-
-    fn from(error: MoveError) -> VisionError {
-        match error {
-            MoveError::OutOfMemory => VisionError::OutOfMemory,
-            error => VisionError::Move(error),
+/// The error of a run of moves that was refused. A run refuses no label, and asks for no bound.
+pub(crate) fn run_error(error: MoveError) -> VisionError
+    requires { IsRunRefusal any_cut error }
+    ensures { TellsRun error result }
+{
+    match error {
+        MoveError::OutOfMemory => VisionError::OutOfMemory,
+        MoveError::LabelCostInSwap => VisionError::LabelCostInSwap,
+        MoveError::PairNotRegular { pair, alpha, beta } => {
+            VisionError::PairNotRegular { pair, alpha, beta }
         }
+        MoveError::Workers => VisionError::Workers,
+        MoveError::BadOptions => VisionError::BadOptions,
+        MoveError::NoSuchLabel => unreachable!(),
+        MoveError::NoBound => unreachable!(),
     }
 }
 
 impl From<WriteError> for VisionError {
-    ghost from_gives = { λ write e. e ≡ of_write write };
+    ghost from_gives = { λ write e. e ≡ write_error write };
 
     fn from(error: WriteError) -> VisionError {
         let WriteError::WriteFailed(count) = error;

@@ -1,7 +1,7 @@
 //! The images of an input.
 ghost use Rattle.std.specs.Prelude.{◌≡◌, ◌+◌, ◌<◌, ◌≤◌, ◌^◌, IfOk, IfErr, length};
 ghost use Rattle.pgm_image.specs.Signs.{is_space};
-ghost use Rattle.vision.specs.Faults.{HasFirstFault, HasPairFault};
+ghost use Rattle.vision.specs.Faults.{HasImageError, HasPairError};
 ghost use Rattle.vision.specs.Inputs.{HoldsPicture, HoldsTwo, IsPastSpaces, SameSizes, moved, place_of};
 
 use crate::VisionError;
@@ -11,7 +11,7 @@ use std::alloc::Global;
 /// The image at the front of the input.
 pub(crate) fn read_one(alloc: Global, input: &[u8]) -> Result<Image, VisionError>
     ensures held { IfOk result (HoldsPicture input.now) }
-    ensures refused { IfErr result (HasFirstFault input.now) }
+    ensures refused { IfErr result (HasImageError input.now) }
 {
     let (image, _) = read_image(alloc, input)?;
     Ok(image)
@@ -21,7 +21,7 @@ pub(crate) fn read_one(alloc: Global, input: &[u8]) -> Result<Image, VisionError
 /// width and the same height.
 pub(crate) fn read_two(alloc: Global, input: &[u8]) -> Result<(Image, Image), VisionError>
     ensures held { IfOk result (λ x. HoldsTwo input.now x.0 x.1 × SameSizes x.0 x.1) }
-    ensures refused { IfErr result (HasPairFault input.now) }
+    ensures refused { IfErr result (HasPairError input.now) }
 {
     let (first, used) = read_image(alloc, input)?;
     let at = past_spaces(input, used);

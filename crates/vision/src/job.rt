@@ -12,9 +12,10 @@ ghost use Rattle.pgm_image.specs.Picture.{IsPicture, picture};
 ghost use Rattle.pgm_image.specs.Written.{written};
 ghost use Rattle.run_options.specs.Limits.{label_cost_limit, trunc_limit};
 ghost use Rattle.run_options.specs.Shapes.{shape_cost};
-ghost use Rattle.vision.specs.Faults.{HasRunFault, IsStop, MayCome, TellsPair};
+ghost use Rattle.vision.specs.Faults.{HasRunError, IsStop, TellsPair};
 ghost use Rattle.vision.specs.Jobs.{IsFinished, job_of};
 
+use crate::error::run_error;
 use crate::{Report, VisionError};
 use byte_streams::Sink;
 use cost_store::{DataCost, is_metric};
@@ -69,8 +70,8 @@ pub(crate) fn run_job<F: Fn(u32, u32) -> i64 + Sync, H: How>(
         IsInstanceOf (F.post data_cost.f) pairs data_cost.labels smooth.now m →
         HasCosts m label_costs →
         MatchResult result (IsFinished (job_of m plan.moves plan.cycles plan.bound picture.now plan.maxval))
-        (HasRunFault (job_of m plan.moves plan.cycles plan.bound picture.now plan.maxval)) }
-    ensures cut { IfErr result (MayCome (H.refuses how.now)) }
+        (HasRunError (H.refuses how.now)
+        (job_of m plan.moves plan.cycles plan.bound picture.now plan.maxval)) }
     ensures metric { IsMetricTable data_cost.labels smooth.now → (m : Instance) →
         IsInstanceOf (F.post data_cost.f) pairs data_cost.labels smooth.now m →
         HasCosts m label_costs →
@@ -78,7 +79,7 @@ pub(crate) fn run_job<F: Fn(u32, u32) -> i64 + Sync, H: How>(
 {
     let _valid = picture.samples();
     let start = Labelling::new(alloc, data_cost.sites, data_cost.labels)?;
-    let run = run_with_table(
+    let run = match run_with_table(
         alloc,
         pairs,
         data_cost,
@@ -91,7 +92,10 @@ pub(crate) fn run_job<F: Fn(u32, u32) -> i64 + Sync, H: How>(
             cycles: plan.cycles,
         },
         how,
-    )?;
+    ) {
+        Ok(run) => run,
+        Err(error) => return Err(run_error(error)),
+    };
     Ok(finish(alloc, picture, plan, &run)?)
 }
 

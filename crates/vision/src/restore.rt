@@ -3,7 +3,7 @@ ghost use Rattle.std.specs.Prelude.{◌≡◌, ◌≢◌, ◌+◌, ◌<◌, ◌�
 ghost use Rattle.label_field.specs.Grids.{distance};
 ghost use Rattle.run_options.specs.Ranges.{AreRestoreOptions};
 ghost use Rattle.run_options.specs.declared.shape.Shape.TheVariants.{Quadratic};
-ghost use Rattle.vision.specs.Faults.{HasRestoreFault, HasRunFault, IsWrite, Leaves, MayCome, TellsPair};
+ghost use Rattle.vision.specs.Faults.{HasRestoreError, HasRunError, IsWrite, Leaves, TellsPair};
 ghost use Rattle.vision.specs.Inputs.{IsRestoreJob};
 ghost use Rattle.vision.specs.Jobs.{Does, IsFinished, Job, restore_job};
 
@@ -31,11 +31,12 @@ const LEVEL_LIMIT: u32 = 255;
 /// and the input's maxval; the report has their energy, and how near it is to the least where that is asked for. Nothing
 /// is written before the last move is finished. What follows the image in the input is not looked at.
 ///
-/// Refused, the first that holds: `Image` where no image is at the front of the input, `TooManyLevels` where
-/// maxval is above 255, `Move` as the run of moves is: of `LabelCostInSwap` exactly where swaps are asked for and the
-/// label cost is above 0; `Write` where the sink failed, which then took the first bytes of the picture's written form,
-/// as many as are told. `OutOfMemory` may come before the first byte is written. `Potts` and `Linear` costs are a
-/// metric: with them no move is refused for a pair. The options are to be in their ranges, which `fits` tells.
+/// Refused, the first that holds: as `read_image` is where no image is at the front of the input (`NotPgm` to
+/// `BadSample`), `TooManyLevels` where maxval is above 255, as the run of moves is (`PairNotRegular` to
+/// `BadOptions`): of `LabelCostInSwap` exactly where swaps are asked for and the label cost is above 0; `Write` where
+/// the sink failed, which then took the first bytes of the picture's written form, as many as are told. `OutOfMemory`
+/// may come before the first byte is written. `Potts` and `Linear` costs are a metric: with them no move is refused
+/// for a pair. The options are to be in their ranges, which `fits` tells.
 pub fn run_restore<H: How, S: Sink>(
     alloc: Global,
     input: &[u8],
@@ -48,8 +49,7 @@ pub fn run_restore<H: How, S: Sink>(
     ensures done { IfOk result (λ report. (job : Job) × IsRestoreJob options.now input.now job
         × Does job (S.stream sink.old) (S.stream sink.new) report) }
     ensures refused { IfErr result (Leaves (IsRestoreJob options.now input.now)
-        (HasRestoreFault options.now input.now) (S.stream sink.old) (S.stream sink.new)) }
-    ensures cut { IfErr result (MayCome (H.refuses how.now)) }
+        (HasRestoreError (H.refuses how.now) options.now input.now) (S.stream sink.old) (S.stream sink.new)) }
     ensures metric { options.now.smooth ≢ Quadratic → IfErr result (λ e. ¬ TellsPair e) }
     ensures unchanged { IfErr result (λ e. (¬ IsWrite e) → sink.new ≡ sink.old) }
     ensures kept { S.loan sink.new ≡ S.loan sink.old }
@@ -69,8 +69,7 @@ fn restore_input<H: How>(
     requires ready { H.ready how.now }
     ensures finished { IfOk result (λ f. (job : Job) × IsRestoreJob options.now input.now job
         × IsFinished job f) }
-    ensures refused { IfErr result (HasRestoreFault options.now input.now) }
-    ensures cut { IfErr result (MayCome (H.refuses how.now)) }
+    ensures refused { IfErr result (HasRestoreError (H.refuses how.now) options.now input.now) }
     ensures metric { options.now.smooth ≢ Quadratic → IfErr result (λ e. ¬ TellsPair e) }
 {
     let picture = read_one(alloc, input)?;
@@ -91,8 +90,7 @@ fn restore<H: How>(
     requires levels { picture.now.maxval ≤ 255 }
     requires ready { H.ready how.now }
     ensures run { MatchResult result (IsFinished (restore_job options.now picture.now))
-        (HasRunFault (restore_job options.now picture.now)) }
-    ensures cut { IfErr result (MayCome (H.refuses how.now)) }
+        (HasRunError (H.refuses how.now) (restore_job options.now picture.now)) }
     ensures metric { options.now.smooth ≢ Quadratic → IfErr result (λ e. ¬ TellsPair e) }
 {
     let samples = picture.samples();

@@ -2,7 +2,7 @@
 ghost use Rattle.std.specs.Prelude.{◌≡◌, ◌*◌, ◌<◌, ◌≤◌, pos, All, IfOk, IfErr, MatchOption, MatchResult, length, slice_index};
 ghost use Rattle.run_options.specs.Ranges.{AreSegmentOptions};
 ghost use Rattle.pgm_image.specs.Raster.{IsFirstAbove};
-ghost use Rattle.vision.specs.Faults.{HasRunFault, HasSegmentFault, IsWrite, Leaves, MayCome, TellsPair};
+ghost use Rattle.vision.specs.Faults.{HasRunError, HasSegmentError, IsWrite, Leaves, TellsPair};
 ghost use Rattle.vision.specs.Inputs.{AreSeeds, IsSegmentJob, SameSizes};
 ghost use Rattle.vision.specs.Jobs.{Does, IsFinished, Job, segment_job};
 ghost use Rattle.vision.specs.Problems.{part_cost};
@@ -34,11 +34,11 @@ const SEED_COST: u32 = 10_000_000;
 /// the last move is finished. Between the images there may be white space, and what follows the second is not looked
 /// at.
 ///
-/// Refused, the first that holds: `Image` where no image is at the front of the input, or none behind it,
-/// `SizesDiffer` where they differ in width or height, `BadSeed` with the first seed above 2, `Move` as the
-/// run of moves is, but never for a pair, `Write` where the sink failed, which then took the first bytes of
-/// the picture's written form, as many as are told. `OutOfMemory` may come before the first byte is written.
-/// The options are to be in their ranges, which `fits` tells.
+/// Refused, the first that holds: as `read_image` is where no image is at the front of the input, or none behind it
+/// (`NotPgm` to `BadSample`), `SizesDiffer` where they differ in width or height, `BadSeed` with the first seed above
+/// 2, as the run of moves is (`Workers`, `BadOptions`), but never for a pair, `Write` where the sink failed, which
+/// then took the first bytes of the picture's written form, as many as are told. `OutOfMemory` may come before the
+/// first byte is written. The options are to be in their ranges, which `fits` tells.
 pub fn run_segment<H: How, S: Sink>(
     alloc: Global,
     input: &[u8],
@@ -51,8 +51,7 @@ pub fn run_segment<H: How, S: Sink>(
     ensures done { IfOk result (λ report. (job : Job) × IsSegmentJob options.now input.now job
         × Does job (S.stream sink.old) (S.stream sink.new) report) }
     ensures refused { IfErr result (Leaves (IsSegmentJob options.now input.now)
-        (HasSegmentFault options.now input.now) (S.stream sink.old) (S.stream sink.new)) }
-    ensures cut { IfErr result (MayCome (H.refuses how.now)) }
+        (HasSegmentError (H.refuses how.now) options.now input.now) (S.stream sink.old) (S.stream sink.new)) }
     ensures metric { IfErr result (λ e. ¬ TellsPair e) }
     ensures unchanged { IfErr result (λ e. (¬ IsWrite e) → sink.new ≡ sink.old) }
     ensures kept { S.loan sink.new ≡ S.loan sink.old }
@@ -72,8 +71,7 @@ fn part_input<H: How>(
     requires ready { H.ready how.now }
     ensures finished { IfOk result (λ f. (job : Job) × IsSegmentJob options.now input.now job
         × IsFinished job f) }
-    ensures refused { IfErr result (HasSegmentFault options.now input.now) }
-    ensures cut { IfErr result (MayCome (H.refuses how.now)) }
+    ensures refused { IfErr result (HasSegmentError (H.refuses how.now) options.now input.now) }
     ensures metric { IfErr result (λ e. ¬ TellsPair e) }
 {
     let (picture, seeds) = read_two(alloc, input)?;
@@ -107,8 +105,7 @@ fn part<H: How>(
     requires sizes { SameSizes picture.now seeds.now }
     requires ready { H.ready how.now }
     ensures run { MatchResult result (IsFinished (segment_job options.now picture.now seeds.now))
-        (HasRunFault (segment_job options.now picture.now seeds.now)) }
-    ensures cut { IfErr result (MayCome (H.refuses how.now)) }
+        (HasRunError (H.refuses how.now) (segment_job options.now picture.now seeds.now)) }
     ensures metric { IfErr result (λ e. ¬ TellsPair e) }
 {
     let smooth = smooth_costs(alloc, Shape::Potts, 1, 2)?;

@@ -4,7 +4,7 @@ ghost use Rattle.run_options.specs.Limits.{cap_limit};
 ghost use Rattle.run_options.specs.Ranges.{AreStereoOptions};
 ghost use Rattle.pgm_image.specs.Picture.{IsPicture};
 ghost use Rattle.run_options.specs.declared.shape.Shape.TheVariants.{Quadratic};
-ghost use Rattle.vision.specs.Faults.{HasRunFault, HasStereoFault, IsWrite, Leaves, MayCome, TellsPair};
+ghost use Rattle.vision.specs.Faults.{HasRunError, HasStereoError, IsWrite, Leaves, TellsPair};
 ghost use Rattle.vision.specs.Inputs.{IsStereoJob, SameSizes};
 ghost use Rattle.vision.specs.Jobs.{Does, IsFinished, Job, stereo_job};
 ghost use Rattle.vision.specs.Problems.{shift_cost};
@@ -29,11 +29,12 @@ use std::alloc::Global;
 /// the report has their energy, and how near it is to the least where that is asked for. Nothing is written before the
 /// last move is finished. Between the images there may be white space, and what follows the second is not looked at.
 ///
-/// Refused, the first that holds: `Image` where no image is at the front of the input, or none behind it,
-/// `SizesDiffer` where they differ in width or height, `Move` as the run of moves is, `Write` where the sink
-/// failed, which then took the first bytes of the picture's written form, as many as are told. `OutOfMemory`
-/// may come before the first byte is written. `Potts` and `Linear` costs are a metric: with them no move is
-/// refused for a pair. The options are to be in their ranges, which `fits` tells.
+/// Refused, the first that holds: as `read_image` is where no image is at the front of the input, or none behind it
+/// (`NotPgm` to `BadSample`), `SizesDiffer` where they differ in width or height, as the run of moves is
+/// (`PairNotRegular` to `BadOptions`), `Write` where the sink failed, which then took the first bytes of the picture's
+/// written form, as many as are told. `OutOfMemory` may come before the first byte is written. `Potts` and `Linear`
+/// costs are a metric: with them no move is refused for a pair. The options are to be in their ranges, which `fits`
+/// tells.
 pub fn run_stereo<H: How, S: Sink>(
     alloc: Global,
     input: &[u8],
@@ -46,8 +47,7 @@ pub fn run_stereo<H: How, S: Sink>(
     ensures done { IfOk result (λ report. (job : Job) × IsStereoJob options.now input.now job
         × Does job (S.stream sink.old) (S.stream sink.new) report) }
     ensures refused { IfErr result (Leaves (IsStereoJob options.now input.now)
-        (HasStereoFault options.now input.now) (S.stream sink.old) (S.stream sink.new)) }
-    ensures cut { IfErr result (MayCome (H.refuses how.now)) }
+        (HasStereoError (H.refuses how.now) options.now input.now) (S.stream sink.old) (S.stream sink.new)) }
     ensures metric { options.now.smooth ≢ Quadratic → IfErr result (λ e. ¬ TellsPair e) }
     ensures unchanged { IfErr result (λ e. (¬ IsWrite e) → sink.new ≡ sink.old) }
     ensures kept { S.loan sink.new ≡ S.loan sink.old }
@@ -67,8 +67,7 @@ fn match_input<H: How>(
     requires ready { H.ready how.now }
     ensures finished { IfOk result (λ f. (job : Job) × IsStereoJob options.now input.now job
         × IsFinished job f) }
-    ensures refused { IfErr result (HasStereoFault options.now input.now) }
-    ensures cut { IfErr result (MayCome (H.refuses how.now)) }
+    ensures refused { IfErr result (HasStereoError (H.refuses how.now) options.now input.now) }
     ensures metric { options.now.smooth ≢ Quadratic → IfErr result (λ e. ¬ TellsPair e) }
 {
     let (left, right) = read_two(alloc, input)?;
@@ -87,8 +86,7 @@ fn match_pictures<H: How>(
     requires sizes { SameSizes left.now right.now }
     requires ready { H.ready how.now }
     ensures run { MatchResult result (IsFinished (stereo_job options.now left.now right.now))
-        (HasRunFault (stereo_job options.now left.now right.now)) }
-    ensures cut { IfErr result (MayCome (H.refuses how.now)) }
+        (HasRunError (H.refuses how.now) (stereo_job options.now left.now right.now)) }
     ensures metric { options.now.smooth ≢ Quadratic → IfErr result (λ e. ¬ TellsPair e) }
 {
     let labels = options.labels;

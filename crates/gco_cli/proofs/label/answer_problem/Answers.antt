@@ -1,5 +1,5 @@
 use Rattle.problem_files.specs.Names.{told}
-use Rattle.gco_cli.proofs.FaultKinds.{any_run}
+use Rattle.vision.proofs.Coming.{any_run}
 use Rattle.gco_cli.proofs.LabelFaults.{run_fault}
 use Rattle.gco_cli.proofs.label.answer_problem.Goals as goal
 

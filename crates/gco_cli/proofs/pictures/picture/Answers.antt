@@ -25,5 +25,5 @@ returns-clause-refused g c =
     let new = g.W.Sink.stream c.run_picture.new.sink in
     let bytes = c.as_slice.result.now in
     let is : IsInput bytes source = read_whole bytes c.in_ok-input.input.items source c.as_slice.ensures.value c.in_ok-input.ensures.input c.in_ok-input.ensures.limit in
-    refuses (g.H.How.refuses c.args.how.now) c.args.options bytes source old new c.in-Err.error c.picture_fault.result is c.in-Err.ensures.refused
-    c.in-Err.ensures.cut (λ no. let same = c.in-Err.ensures.unchanged no in cc) c.picture_fault.ensures
+    refuses (g.H.How.refuses c.args.how.now) c.args.options bytes source old new c.in-Err.error c.from.result is c.in-Err.ensures.refused
+    (λ no. let same = c.in-Err.ensures.unchanged no in cc) c.from.ensures

@@ -1,7 +1,7 @@
-use Rattle.std.proofs.Common.{List, ℕ, length-drop, subst, arith}
+use Rattle.std.proofs.Common.{List, ℕ, length-drop, inl, inr, refl, subst, arith}
 use Rattle.std.proofs.lemmas.List.{take_rest}
 use Rattle.pgm_image.specs.Front.{Front, Refuses}
-use Rattle.vision.proofs.Images.{second_fault}
+use Rattle.std.proofs.lemmas.Result.{err_from_is_err_and}
 use Rattle.vision.proofs.Places.{place_within}
 use Rattle.vision.proofs.inputs.read_two.Goals as goal
 use Rattle.vision.proofs.inputs.read_two.Goals.{then-width-via-then-width, then-width-via-else-width+then-height}
@@ -13,28 +13,45 @@ moved-requires c =
     let size = length-drop c.past_spaces-at.result c.args.input.now in
     omega (arith, within, size, c.past_spaces-at.ensures.within)
 
+pub returns-in_err-first-clause-refused : goal.returns-in_err-first-clause-refused
+returns-in_err-first-clause-refused c =
+    let p = err_from_is_err_and c.from_residual.result c.from_residual.ensures.1 in
+    rw (p.1, p.2) (inl (c.in_err-first.field-0.0, inl c.in_err-first.ensures.refused, refl))
+
 pub returns-in-Err-clause-refused : goal.returns-in-Err-clause-refused
 returns-in-Err-clause-refused c =
     let R : List ℕ → Type 0 = λ bytes. Refuses bytes c.in-Err.error in
-    rw (c.from.ensures, c.moved.ensures)
-    (second_fault c.args.input.now c.in_ok-first.first c.past_spaces-at.result c.in-Err.error
-    (record { used = c.in_ok-first.used; front = c.in_ok-first.ensures.image; past = c.past_spaces-at.ensures })
-    (subst R (take_rest c.args.input.now c.past_spaces-at.result) c.in-Err.ensures.refused))
+    inl (
+      c.moved.result,
+      inr (record {
+        first = c.in_ok-first.first;
+        at = c.past_spaces-at.result;
+        own = c.in-Err.error;
+        begins = record { used = c.in_ok-first.used; front = c.in_ok-first.ensures.image; past = c.past_spaces-at.ensures };
+        refuses = subst R (take_rest c.args.input.now c.past_spaces-at.result) c.in-Err.ensures.refused;
+        e_is = c.moved.ensures;
+      }),
+      c.from.ensures,
+    )
 
 pub returns-then-width-clause-refused : goal.returns-then-width-clause-refused
 returns-then-width-clause-refused c =
-    let F : List ℕ → Type 0 = λ bytes. Front bytes c.in-Ok.found.0 c.in-Ok.found.1 in (
-      c.in_ok-first.first,
-      c.in-Ok.found.0,
+    let F : List ℕ → Type 0 = λ bytes. Front bytes c.in-Ok.found.0 c.in-Ok.found.1 in
+    inr (
       (
-        c.past_spaces-at.result,
-        record { used = c.in_ok-first.used; front = c.in_ok-first.ensures.image; past = c.past_spaces-at.ensures },
-        (c.in-Ok.found.1, subst F (take_rest c.args.input.now c.past_spaces-at.result) c.in-Ok.ensures.image),
+        c.in_ok-first.first,
+        c.in-Ok.found.0,
+        (
+          c.past_spaces-at.result,
+          record { used = c.in_ok-first.used; front = c.in_ok-first.ensures.image; past = c.past_spaces-at.ensures },
+          (c.in-Ok.found.1, subst F (take_rest c.args.input.now c.past_spaces-at.result) c.in-Ok.ensures.image),
+        ),
+        λ same. elim c.then-width.branch [
+          | then-width-via-then-width w ↦ absurd (omega (arith, same.0, c.width.ensures, c.width-2.ensures))
+          | then-width-via-else-width+then-height w ↦ absurd (omega (arith, same.1, w.height.ensures, w.height-else-width.ensures))
+        ],
       ),
-      λ same. elim c.then-width.branch [
-        | then-width-via-then-width w ↦ absurd (omega (arith, same.0, c.width.ensures, c.width-2.ensures))
-        | then-width-via-else-width+then-height w ↦ absurd (omega (arith, same.1, w.height.ensures, w.height-else-width.ensures))
-      ],
+      refl,
     )
 
 pub returns-clause-held : goal.returns-clause-held

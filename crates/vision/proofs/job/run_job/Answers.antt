@@ -1,57 +1,51 @@
-use Rattle.std.proofs.Common.{◌∙◌, ℕ, replicate, sym, ap, subst}
+use Rattle.std.proofs.Common.{◌∙◌, ℕ, replicate, inl, refl, sym, ap, subst}
 use Rattle.std.proofs.lemmas.Result.{err_from_is_err_and}
 use Rattle.label_field.specs.LabelFields.{LabelField}
 use Rattle.std.specs.Prelude.{◌↔◌}
 use Rattle.std.proofs.Common.{IsTrue}
 use Rattle.cost_store.specs.LabelCosts.{AreLabelCosts}
 use Rattle.cost_store.specs.Promises.{IsMetricTable}
-use Rattle.vision.proofs.Coming.{run_may_come}
+use Rattle.vision.proofs.Coming.{any_run}
 use Rattle.vision.proofs.Finishing.{finished, refused}
 use Rattle.vision.proofs.Metrics.{move_tells}
 use Rattle.vision.proofs.job.run_job.Goals as goal
 
-pub returns-in_err-run-clause-run : goal.returns-in_err-run-clause-run
-returns-in_err-run-clause-run g c = λ m is has.
+pub run_error-requires : goal.run_error-requires
+run_error-requires g c = any_run (g.H.How.refuses c.args.how.now) c.in-Err.error c.in-Err.ensures.refused
+
+pub returns-in-Err-clause-run : goal.returns-in-Err-clause-run
+returns-in-Err-clause-run g c = λ m is has.
     let zeros = ap (λ (f : LabelField). f.at) c.in_ok-start.ensures ∙ ap (λ n. replicate n 0) (c.requires.sites.0 ∙ sym (is.sites_are ∙ c.requires.sites.1)) in
-    let p = err_from_is_err_and c.from_residual-in_err-run.result c.from_residual-in_err-run.ensures.1 in
-    rw (p.1, p.2) (refused m c.args.plan.moves c.args.plan.cycles c.args.plan.bound c.args.picture.now c.args.plan.maxval c.in_ok-start.start.at _ zeros (c.in_err-run.ensures.run m (rw (ap (λ (f : LabelField). f.labels) c.in_ok-start.ensures) is) has))
+    refused (g.H.How.refuses c.args.how.now) m c.args.plan.moves c.args.plan.cycles c.args.plan.bound c.args.picture.now c.args.plan.maxval c.in_ok-start.start.at c.in-Err.error
+    c.run_error.result zeros c.in-Err.ensures.refused (c.in-Err.ensures.run m (rw (ap (λ (f : LabelField). f.labels) c.in_ok-start.ensures) is) has) c.run_error.ensures
 
 pub returns-clause-run : goal.returns-clause-run
 returns-clause-run g c = λ m is has.
     let zeros = ap (λ (f : LabelField). f.at) c.in_ok-start.ensures ∙ ap (λ n. replicate n 0) (c.requires.sites.0 ∙ sym (is.sites_are ∙ c.requires.sites.1)) in
-    finished m c.args.plan.moves c.args.plan.cycles c.args.plan.bound c.args.picture.now c.args.plan.maxval c.in_ok-start.start.at c.in_ok-run.run' c.in_ok-finish.field-0
-    zeros (c.in_ok-run.ensures.run m (rw (ap (λ (f : LabelField). f.labels) c.in_ok-start.ensures) is) has)
-    (c.in_ok-run.ensures.bounded m (rw (ap (λ (f : LabelField). f.labels) c.in_ok-start.ensures) is) has) c.in_ok-finish.ensures.valid c.in_ok-finish.ensures.image c.in_ok-finish.ensures.report
+    finished m c.args.plan.moves c.args.plan.cycles c.args.plan.bound c.args.picture.now c.args.plan.maxval c.in_ok-start.start.at c.in-Ok.run' c.in_ok-finish.field-0
+    zeros (c.in-Ok.ensures.run m (rw (ap (λ (f : LabelField). f.labels) c.in_ok-start.ensures) is) has)
+    (c.in-Ok.ensures.bounded m (rw (ap (λ (f : LabelField). f.labels) c.in_ok-start.ensures) is) has) c.in_ok-finish.ensures.valid c.in_ok-finish.ensures.image c.in_ok-finish.ensures.report
 
-pub returns-in_err-run-clause-metric : goal.returns-in_err-run-clause-metric
-returns-in_err-run-clause-metric g c = λ metric m is has.
+pub returns-in-Err-clause-metric : goal.returns-in-Err-clause-metric
+returns-in-Err-clause-metric g c = λ metric m is has.
     let labels = ap (λ (f : LabelField). f.labels) c.in_ok-start.ensures in
-    let p = err_from_is_err_and c.from_residual-in_err-run.result c.from_residual-in_err-run.ensures.1 in
-    rw (p.1, p.2) (move_tells _ (c.in_err-run.ensures.metric (rw labels metric) m (rw labels is) has))
-
-pub returns-in_err-run-clause-cut : goal.returns-in_err-run-clause-cut
-returns-in_err-run-clause-cut g c =
-    let p = err_from_is_err_and c.from_residual-in_err-run.result c.from_residual-in_err-run.ensures.1 in
-    rw (p.1, p.2) (run_may_come (g.H.How.refuses c.args.how.now) _ c.in_err-run.ensures.refused)
+    move_tells c.in-Err.error c.run_error.result c.run_error.ensures (c.in-Err.ensures.metric (rw labels metric) m (rw labels is) has)
 
 pub returns-in_err-start : goal.returns-in_err-start
 returns-in_err-start g c =
     let p = err_from_is_err_and c.from_residual.result c.from_residual.ensures.1 in
-    record { run = λ m is has. rw (p.1, p.2) tt; cut = rw (p.1, p.2) tt; metric = λ metric m is has. rw (p.1, p.2) (λ tells. tells) }
+    record { run = λ m is has. rw (p.1, p.2) (inl refl); metric = λ metric m is has. rw (p.1, p.2) (λ tells. tells) }
 
 pub returns-in_err-finish : goal.returns-in_err-finish
 returns-in_err-finish g c =
     let p = err_from_is_err_and c.from_residual-in_err-finish.result c.from_residual-in_err-finish.ensures.1 in
-    record { run = λ m is has. rw (p.1, p.2) tt; cut = rw (p.1, p.2) tt; metric = λ metric m is has. rw (p.1, p.2) (λ tells. tells) }
+    record { run = λ m is has. rw (p.1, p.2) (inl refl); metric = λ metric m is has. rw (p.1, p.2) (λ tells. tells) }
 
 pub run_with_table-requires-clause-ready : goal.run_with_table-requires-clause-ready
 run_with_table-requires-clause-ready g c = λ lives within. c.requires.ready
 
 pub run_with_table-requires-clause-costs : goal.run_with_table-requires-clause-costs
 run_with_table-requires-clause-costs g c = λ lives within. c.requires.costs
-
-pub returns-clause-cut : goal.returns-clause-cut
-returns-clause-cut g c = tt
 
 pub returns-clause-metric : goal.returns-clause-metric
 returns-clause-metric g c = λ metric m is has. tt

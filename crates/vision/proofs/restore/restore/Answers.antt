@@ -1,10 +1,10 @@
-use Rattle.std.proofs.Common.{arith, ◌∙◌, ℕ, ◌+◌, Bool, List, ℤ, pos, MatchResult, slice_index, sym, ap, subst}
+use Rattle.std.proofs.Common.{arith, ◌∙◌, ℕ, ◌+◌, Bool, List, ℤ, pos, MatchResult, slice_index, sym, ap, subst, inl, refl}
 use Rattle.cost_store.specs.Promises.{IsTable}
 use Rattle.label_field.specs.Grids.{distance}
 use Rattle.label_field.specs.PairLists.{PairList}
 use Rattle.run_options.specs.Shapes.{shape_cost}
 use Rattle.labellings.specs.declared.cycles.Moves.{Moves}
-use Rattle.vision.specs.Faults.{HasRunFault}
+use Rattle.vision.specs.Faults.{HasRunError}
 use Rattle.vision.specs.Jobs.{IsFinished, job_of}
 use Rattle.vision.specs.Problems.{restore_problem}
 use Rattle.vision.specs.declared.job.Plan.{Plan}
@@ -18,7 +18,7 @@ returns-clause-run g c =
     let p = c.args.picture.now in
     let maxval = c.maxval-maxval.ensures in
     let problem = restore_problem o p in
-    let M : Moves → ℕ → Bool → ℕ → Type 0 = λ m k b v. MatchResult c.run_job.result (IsFinished (job_of problem m k b p v)) (HasRunFault (job_of problem m k b p v)) in
+    let M : Moves → ℕ → Bool → ℕ → Type 0 = λ m k b v. MatchResult c.run_job.result (IsFinished (job_of problem m k b p v)) (HasRunError (g.H.How.refuses c.args.how.now) (job_of problem m k b p v)) in
     let J : Plan → Type 0 = λ q. M q.moves q.cycles q.bound q.maxval in
     let S : List ℤ → Type 0 = λ t. IsTable (c.maxval-maxval.result + 1) (c.maxval-maxval.result + 1) (shape_cost o.smooth o.trunc) t in
     subst (M o.moves o.cycles o.bound) maxval (subst J c.restore_plan-plan.ensures (c.run_job.ensures.run problem (rw c.new-data_cost.ensures.stored (record {
@@ -50,20 +50,17 @@ returns-clause-metric g c = λ apart.
 pub returns-in_err-smooth : goal.returns-in_err-smooth
 returns-in_err-smooth g c =
     let p = err_from_is_err_and c.from_residual.result c.from_residual.ensures.1 in
-    record { run = rw (p.1, p.2) tt; cut = rw (p.1, p.2) tt; metric = λ apart. rw (p.1, p.2) (λ tells. tells) }
+    record { run = rw (p.1, p.2) (inl refl); metric = λ apart. rw (p.1, p.2) (λ tells. tells) }
 
 pub returns-in_err-pairs : goal.returns-in_err-pairs
 returns-in_err-pairs g c =
     let p = err_from_is_err_and c.from_residual-in_err-pairs.result c.from_residual-in_err-pairs.ensures.1 in
-    record { run = rw (p.1, p.2) tt; cut = rw (p.1, p.2) tt; metric = λ apart. rw (p.1, p.2) (λ tells. tells) }
-
-pub returns-clause-cut : goal.returns-clause-cut
-returns-clause-cut g c = c.run_job.ensures.cut
+    record { run = rw (p.1, p.2) (inl refl); metric = λ apart. rw (p.1, p.2) (λ tells. tells) }
 
 pub returns-in_err-label_costs : goal.returns-in_err-label_costs
 returns-in_err-label_costs g c =
     let p = err_from_is_err_and c.from_residual-in_err-label_costs.result c.from_residual-in_err-label_costs.ensures.1 in
-    record { run = rw (p.1, p.2) tt; cut = rw (p.1, p.2) tt; metric = λ apart. rw (p.1, p.2) (λ tells. tells) }
+    record { run = rw (p.1, p.2) (inl refl); metric = λ apart. rw (p.1, p.2) (λ tells. tells) }
 
 pub is_metric_cost-by_metric-requires-clause-table : goal.is_metric_cost-by_metric-requires-clause-table
 is_metric_cost-by_metric-requires-clause-table g c =

@@ -1,4 +1,4 @@
-use Rattle.std.proofs.Common.{arith, ◌∙◌, List, ℤ, pos, slice_index, refl, sym, ap, subst}
+use Rattle.std.proofs.Common.{arith, ◌∙◌, List, ℤ, pos, slice_index, refl, sym, ap, subst, inl}
 use Rattle.cost_store.specs.Promises.{IsTable}
 use Rattle.label_field.specs.PairLists.{PairList}
 use Rattle.run_options.specs.Shapes.{shape_cost}
@@ -47,15 +47,12 @@ returns-clause-metric g c =
 pub returns-in_err-smooth : goal.returns-in_err-smooth
 returns-in_err-smooth g c =
     let p = err_from_is_err_and c.from_residual.result c.from_residual.ensures.1 in
-    record { run = rw (p.1, p.2) tt; cut = rw (p.1, p.2) tt; metric = rw (p.1, p.2) (λ tells. tells) }
+    record { run = rw (p.1, p.2) (inl refl); metric = rw (p.1, p.2) (λ tells. tells) }
 
 pub returns-in_err-pairs : goal.returns-in_err-pairs
 returns-in_err-pairs g c =
     let p = err_from_is_err_and c.from_residual-in_err-pairs.result c.from_residual-in_err-pairs.ensures.1 in
-    record { run = rw (p.1, p.2) tt; cut = rw (p.1, p.2) tt; metric = rw (p.1, p.2) (λ tells. tells) }
-
-pub returns-clause-cut : goal.returns-clause-cut
-returns-clause-cut g c = c.run_job.ensures.cut
+    record { run = rw (p.1, p.2) (inl refl); metric = rw (p.1, p.2) (λ tells. tells) }
 
 pub is_metric_cost-by_metric-requires-clause-table : goal.is_metric_cost-by_metric-requires-clause-table
 is_metric_cost-by_metric-requires-clause-table g c =

@@ -1,12 +1,11 @@
-use Rattle.std.proofs.Common.{◌≡◌, ℕ, rules}
+use Rattle.std.proofs.Common.{◌≡◌, ℕ, inl, rules}
 use Rattle.std.proofs.lemmas.Result.{IfOk-from_err, IfErr-weaker, err_from_is_err_and}
 use Rattle.byte_streams.specs.Streams.{Stops}
 use Rattle.pgm_image.specs.Written.{written}
-use Rattle.vision.specs.Faults.{HasSegmentFault}
+use Rattle.vision.specs.Faults.{HasSegmentError}
 use Rattle.vision.specs.Inputs.{IsSegmentJob}
 use Rattle.vision.specs.Jobs.{Job}
 use Rattle.vision.proofs.Writing.{does, leaves, told_as_write}
-use Rattle.vision.proofs.Coming.{stop_may_come}
 use Rattle.vision.proofs.Metrics.{stop_tells_none}
 use Rattle.vision.proofs.segment.run_segment.Goals as goal
 
@@ -14,7 +13,9 @@ pub returns-in_err-finished-clause-done : goal.returns-in_err-finished-clause-do
 returns-in_err-finished-clause-done g c = IfOk-from_err _ _ c.from_residual.ensures.0
 
 pub returns-in_err-finished-clause-refused : goal.returns-in_err-finished-clause-refused
-returns-in_err-finished-clause-refused g c = search rules
+returns-in_err-finished-clause-refused g c =
+    let p = err_from_is_err_and c.from_residual.result c.from_residual.ensures.1 in
+    rw (p.1, p.2) (inl c.in_err-finished.ensures.refused)
 
 pub returns-in_err-finished-clause-unchanged : goal.returns-in_err-finished-clause-unchanged
 returns-in_err-finished-clause-unchanged g c = search rules
@@ -26,7 +27,7 @@ returns-clause-done g c =
 
 pub returns-clause-refused : goal.returns-clause-refused
 returns-clause-refused g c =
-    leaves (λ (job : Job). IsSegmentJob c.args.options.now c.args.input.now job) (HasSegmentFault c.args.options.now c.args.input.now) c.in_ok-finished.finished
+    leaves (λ (job : Job). IsSegmentJob c.args.options.now c.args.input.now job) (HasSegmentError (g.H.How.refuses c.args.how.now) c.args.options.now c.args.input.now) c.in_ok-finished.finished
     (g.S.Sink.stream c.args.sink.now) (g.S.Sink.stream c.put_finished.new.sink)
     c.put_finished.result c.in_ok-finished.ensures.finished c.put_finished.ensures.stops
 
@@ -35,18 +36,10 @@ returns-clause-unchanged g c =
     told_as_write (λ (count : ℕ). Stops (g.S.Sink.stream c.args.sink.now) (g.S.Sink.stream c.put_finished.new.sink) (written c.in_ok-finished.finished.image) count)
     (c.put_finished.new.sink ≡ c.args.sink.now) c.put_finished.result c.put_finished.ensures.stops
 
-pub returns-in_err-finished-clause-cut : goal.returns-in_err-finished-clause-cut
-returns-in_err-finished-clause-cut g c =
-    let p = err_from_is_err_and c.from_residual.result c.from_residual.ensures.1 in
-    rw (p.1, p.2) c.in_err-finished.ensures.cut
-
 pub returns-in_err-finished-clause-metric : goal.returns-in_err-finished-clause-metric
 returns-in_err-finished-clause-metric g c =
     let p = err_from_is_err_and c.from_residual.result c.from_residual.ensures.1 in
     rw (p.1, p.2) c.in_err-finished.ensures.metric
-
-pub returns-clause-cut : goal.returns-clause-cut
-returns-clause-cut g c = IfErr-weaker c.put_finished.result _ _ (λ e stops. stop_may_come (g.H.How.refuses c.args.how.now) _ e stops) c.put_finished.ensures.stops
 
 pub returns-clause-metric : goal.returns-clause-metric
 returns-clause-metric g c = IfErr-weaker c.put_finished.result _ _ (λ e stops. stop_tells_none _ e stops) c.put_finished.ensures.stops

@@ -1,8 +1,8 @@
-use Rattle.std.proofs.Common.{ℕ, List, ℤ, MatchResult, refl, sym, ap, subst}
+use Rattle.std.proofs.Common.{ℕ, List, ℤ, MatchResult, refl, sym, ap, subst, inl}
 use Rattle.cost_store.specs.Promises.{IsTable}
 use Rattle.label_field.specs.PairLists.{PairList}
 use Rattle.run_options.specs.Shapes.{shape_cost}
-use Rattle.vision.specs.Faults.{HasRunFault}
+use Rattle.vision.specs.Faults.{HasRunError}
 use Rattle.vision.specs.Jobs.{IsFinished, job_of}
 use Rattle.vision.specs.Problems.{stereo_problem}
 use Rattle.vision.proofs.Metrics.{shape_metric_table}
@@ -14,7 +14,7 @@ returns-clause-run g c =
     let o = c.args.options.now in
     let left = c.args.left.now in
     let problem = stereo_problem o left c.args.right.now in
-    let J : ℕ → Type 0 = λ v. MatchResult c.run_job.result (IsFinished (job_of problem o.moves o.cycles o.bound left v)) (HasRunFault (job_of problem o.moves o.cycles o.bound left v)) in
+    let J : ℕ → Type 0 = λ v. MatchResult c.run_job.result (IsFinished (job_of problem o.moves o.cycles o.bound left v)) (HasRunError (g.H.How.refuses c.args.how.now) (job_of problem o.moves o.cycles o.bound left v)) in
     let S : List ℤ → Type 0 = λ t. IsTable o.labels o.labels (shape_cost o.smooth o.trunc) t in
     subst J c.max.ensures (c.run_job.ensures.run problem (rw c.new-data_cost.ensures.stored (record {
       sites_are = sym (ap (λ (l : PairList). l.sites) c.in_ok-pairs.ensures);
@@ -42,15 +42,12 @@ returns-clause-metric g c = λ apart.
 pub returns-in_err-smooth : goal.returns-in_err-smooth
 returns-in_err-smooth g c =
     let p = err_from_is_err_and c.from_residual.result c.from_residual.ensures.1 in
-    record { run = rw (p.1, p.2) tt; cut = rw (p.1, p.2) tt; metric = λ apart. rw (p.1, p.2) (λ tells. tells) }
+    record { run = rw (p.1, p.2) (inl refl); metric = λ apart. rw (p.1, p.2) (λ tells. tells) }
 
 pub returns-in_err-pairs : goal.returns-in_err-pairs
 returns-in_err-pairs g c =
     let p = err_from_is_err_and c.from_residual-in_err-pairs.result c.from_residual-in_err-pairs.ensures.1 in
-    record { run = rw (p.1, p.2) tt; cut = rw (p.1, p.2) tt; metric = λ apart. rw (p.1, p.2) (λ tells. tells) }
-
-pub returns-clause-cut : goal.returns-clause-cut
-returns-clause-cut g c = c.run_job.ensures.cut
+    record { run = rw (p.1, p.2) (inl refl); metric = λ apart. rw (p.1, p.2) (λ tells. tells) }
 
 pub is_metric_cost-by_metric-requires-clause-table : goal.is_metric_cost-by_metric-requires-clause-table
 is_metric_cost-by_metric-requires-clause-table g c =
