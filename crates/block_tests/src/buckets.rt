@@ -3,8 +3,8 @@ ghost use Rattle.block_net.specs.Views.{count};
 ghost use Rattle.block_net.specs.Rows.{nodes};
 
 use crate::building::net_of;
-use discharge::Bucketed;
 use block_net::{ARC_LIMIT, Buckets, Cells, Parts};
+use discharge::Bucketed;
 use std::alloc::AllocError;
 use std::process::Abort;
 use std::test::Fail;
