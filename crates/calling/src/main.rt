@@ -2,7 +2,7 @@
 #![tactic(auto)]
 
 ghost use Rattle.std.specs.Prelude.{◌≡◌, ◌↔◌, ℕ, Bool, ◌≤ℤ◌, IfOk, IfSome, IsNone};
-ghost use Rattle.pseudo_bool.specs.Formula.{value_at};
+ghost use Rattle.pseudo_bool.specs.Energies.{value_at};
 ghost use Rattle.regular.specs.Regularity.{IsRegular};
 
 use minimum::minimise;

@@ -2,7 +2,7 @@
 use Rattle.std.proofs.Common.{◌≡◌, ℕ, ◌≤◌, Bool, false, List, take, slice_index_or, ℤ, pos, ◌+ℤ◌, ◌≤ℤ◌, sym, ◌∙◌, arith}
 use Rattle.std.proofs.lemmas.Int.{ints}
 use Rattle.std.proofs.lemmas.List.{get_or-take}
-use Rattle.pseudo_bool.specs.Formula.{Formula, value_at}
+use Rattle.pseudo_bool.specs.Energies.{Energy, value_at}
 use Rattle.flow_network.specs.Cut.{Network, nodes, capacity_of, IsLeastCut, IsSmallestLeastCut}
 use Rattle.compile_cut.specs.Shown.{IsSmallestLeastAssignment, Shows, ShowsValues}
 
@@ -17,7 +17,7 @@ least_too : (net : Network) (side other : ℕ → Bool) → IsLeastCut net side 
 least_too net side other least low third = let base = least third in omega (arith, low, base)
 
 -- the assignment that it shows is a least one, whose ones are among the ones of every least assignment
-pub best_of_cut : (e : Formula) (net : Network) (k : ℤ) (side x : ℕ → Bool) → e.variables ≤ nodes net → ShowsValues net k e
+pub best_of_cut : (e : Energy) (net : Network) (k : ℤ) (side x : ℕ → Bool) → e.variables ≤ nodes net → ShowsValues net k e
     → IsSmallestLeastCut net side → Shows e.variables x side → IsSmallestLeastAssignment e x
 best_of_cut e net k side x within shown best shows =
     let here = shown x in
@@ -31,7 +31,7 @@ best_of_cut e net k side x within shown best shows =
     }
 
 -- and its value is the cut's capacity and the constant
-pub value_of_cut : (e : Formula) (net : Network) (k : ℤ) (side x : ℕ → Bool) → ShowsValues net k e
+pub value_of_cut : (e : Energy) (net : Network) (k : ℤ) (side x : ℕ → Bool) → ShowsValues net k e
     → IsLeastCut net side → Shows e.variables x side → value_at e x ≡ pos (capacity_of net side) +ℤ k
 value_of_cut e net k side x shown least shows =
     let here = shown x in

@@ -7,7 +7,7 @@ use Rattle.sums.specs.Sums.{sum_below, counted}
 use Rattle.sums.specs.IntegerSums.{int_counted}
 use Rattle.sums.proofs.SumLemmas.{sum_below-front}
 use Rattle.sums.proofs.IntegerSumLemmas.{int_sum_below-front}
-use Rattle.pseudo_bool.specs.Formula.{entry}
+use Rattle.pseudo_bool.specs.Energies.{entry}
 use Rattle.flow_network.specs.declared.arc.Arc.{Arc}
 use Rattle.flow_network.specs.Cut.{capacity_of, IsArc, IsNet}
 use Rattle.compile_cut.specs.Weights.{weights_value, weights_size, arcs_value, arcs_size, source_part, sink_part}

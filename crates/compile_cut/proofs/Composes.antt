@@ -1,14 +1,14 @@
 -- A form of the terms as a net.
 use Rattle.std.proofs.Common.{◌≡◌, ℕ, Bool, ℤ, pos, ◌+ℤ◌, refl, arith}
 use Rattle.std.proofs.lemmas.Int.{ints}
-use Rattle.pseudo_bool.specs.Formula.{Formula, IsEnergy}
+use Rattle.pseudo_bool.specs.Energies.{Energy, IsEnergy}
 use Rattle.flow_network.specs.Cut.{Network, capacity_of}
 use Rattle.compile_cut.specs.declared.quadratic.Quadratic.{Quadratic}
 use Rattle.compile_cut.specs.Shown.{ShowsValues}
-use Rattle.compile_cut.specs.Form.{quadratic_value, SaysValues}
+use Rattle.compile_cut.specs.Quadratics.{quadratic_value, SaysValues}
 use Rattle.compile_cut.proofs.TermLemmas.{terms_value-same}
 
-pub shows_values : (e : Formula) (q : Quadratic) (net : Network) (k : ℤ) → IsEnergy e → SaysValues e q
+pub shows_values : (e : Energy) (q : Quadratic) (net : Network) (k : ℤ) → IsEnergy e → SaysValues e q
     → ((x : ℕ → Bool) → pos (capacity_of net x) +ℤ k ≡ quadratic_value q x) → ShowsValues net k e
 shows_values e q net k limits says is x =
     let best = says.reached x in (

@@ -4,7 +4,7 @@ use Rattle.std.proofs.lemmas.Int.{ints, to_z-of_z}
 use Rattle.sums.specs.Sums.{counted}
 use Rattle.sums.specs.IntegerSums.{int_counted}
 use Rattle.sums.proofs.IntegerSumLemmas.{within_fits, add_is, abs-add, abs-sub}
-use Rattle.pseudo_bool.specs.Formula.{entry, digit}
+use Rattle.pseudo_bool.specs.Energies.{entry, digit}
 use Rattle.regular.specs.Regularity.{IsRegularTable}
 
 pub one_parts : (table : List ℤ) (k w : ℤ) (b : Bool) → k ≡ entry table 0 → w ≡ entry table 1 -ℤ entry table 0

@@ -10,13 +10,13 @@ use Rattle.sums.specs.IntegerSums.{int_sum_by, int_counted}
 use Rattle.sums.proofs.IntegerSumLemmas.{int_sum_by_more, int_sum_below-same, int_sum_below-zero}
 use Rattle.pseudo_bool.specs.declared.term.Term.{Term}
 use Rattle.pseudo_bool.specs.declared.term.Term.TheVariants.{One, Two, Three}
-use Rattle.pseudo_bool.specs.Formula.{Formula, IsTerm, IsEnergy, digit, entry, term_value}
+use Rattle.pseudo_bool.specs.Energies.{Energy, IsTerm, IsEnergy, digit, entry, term_value}
 use Rattle.flow_network.specs.declared.arc.Arc.{Arc}
 use Rattle.flow_network.specs.Cut.{IsArc}
 use Rattle.compile_cut.specs.declared.quadratic.Quadratic.{Quadratic}
 use Rattle.compile_cut.specs.Shown.{Shows, three_digit, three_count}
 use Rattle.compile_cut.specs.Weights.{weights_value, weights_size, arcs_value, IsAbove}
-use Rattle.compile_cut.specs.Form.{quadratic_value, IsBounded, IsConstant, AddsTerm, SaysValues}
+use Rattle.compile_cut.specs.Quadratics.{quadratic_value, IsBounded, IsConstant, AddsTerm, SaysValues}
 
 -- ---- assignments that agree on the variables have one value
 
@@ -58,18 +58,18 @@ adds_exactly old new t is =
 
 -- ---- the loop over the terms
 
-pub record HasAdded (e : Formula) (i : ℕ) (q : Quadratic) : Type 0 where
+pub record HasAdded (e : Energy) (i : ℕ) (q : Quadratic) : Type 0 where
   pub values : SaysValues (record e { terms = take i e.terms }) q
   pub bounded : IsBounded i q
   pub variables : e.variables ≤ vec_len q.weights
   pub hidden : vec_len q.weights ≤ e.variables + sum_by three_digit (take i e.terms)
 
-pub more_terms : (e : Formula) (i : ℕ) (t : Term) (x : ℕ → Bool) → i < length e.terms → slice_get e.terms i ≡ Some t
+pub more_terms : (e : Energy) (i : ℕ) (t : Term) (x : ℕ → Bool) → i < length e.terms → slice_get e.terms i ≡ Some t
     → int_sum_by (term_value x) (take (i + 1) e.terms) ≡ int_sum_by (term_value x) (take i e.terms) +ℤ term_value x t
 more_terms e i t x l is =
     int_sum_by_more (term_value x) e.terms i t l ∙ ap (λ u. int_sum_by (term_value x) (take i e.terms) +ℤ term_value x u) (get_or_from_slice_get e.terms i t t is)
 
-step_values : (e : Formula) (i : ℕ) (t : Term) (old new : Quadratic) → i < length e.terms → slice_get e.terms i ≡ Some t → IsTerm e.variables t
+step_values : (e : Energy) (i : ℕ) (t : Term) (old new : Quadratic) → i < length e.terms → slice_get e.terms i ≡ Some t → IsTerm e.variables t
     → e.variables ≤ vec_len old.weights → SaysValues (record e { terms = take i e.terms }) old → AddsTerm old new t
     → SaysValues (record e { terms = take (i + 1) e.terms }) new
 step_values e i t old new l is term within values adds =
@@ -82,7 +82,7 @@ step_values e i t old new l is term within values adds =
           (after.0, (λ v below. after.1 v (omega arith) ∙ before.1 v below), omega (arith, ints, after.2, before.2, same, more_terms e i t x l is));
     }
 
-pub step : (e : Formula) (i : ℕ) (t : Term) (old new : Quadratic) → i < length e.terms → slice_get e.terms i ≡ Some t → IsTerm e.variables t
+pub step : (e : Energy) (i : ℕ) (t : Term) (old new : Quadratic) → i < length e.terms → slice_get e.terms i ≡ Some t → IsTerm e.variables t
     → HasAdded e i old → AddsTerm old new t → IsBounded (i + 1) new → vec_len new.weights ≡ vec_len old.weights + three_digit t
     → HasAdded e (i + 1) new
 step e i t old new l is term had adds bounded len =
@@ -130,7 +130,7 @@ constant_bounded k n q small is =
       above = rw is.arcs (All-nil IsAbove);
     }
 
-pub start : (e : Formula) (q : Quadratic) → IsEnergy e → IsConstant e.constant e.variables q → HasAdded e 0 q
+pub start : (e : Energy) (q : Quadratic) → IsEnergy e → IsConstant e.constant e.variables q → HasAdded e 0 q
 start e q limits is =
     let value = constant_value e.constant e.variables q is in
     let len = constant_nodes e.constant e.variables q is in
@@ -145,7 +145,7 @@ start e q limits is =
     }
 
 -- after the last term
-pub whole_values : (e : Formula) (i : ℕ) (q : Quadratic) → length e.terms ≤ i → SaysValues (record e { terms = take i e.terms }) q → SaysValues e q
+pub whole_values : (e : Energy) (i : ℕ) (q : Quadratic) → length e.terms ≤ i → SaysValues (record e { terms = take i e.terms }) q → SaysValues e q
 whole_values e i q l says =
     let P : List Term → Type 0 = λ ts. SaysValues (record e { terms = ts }) q in
     subst P (take_all i e.terms l) says
@@ -155,7 +155,7 @@ three_digit-le (One first table) = omega arith
 three_digit-le (Two first second table) = omega arith
 three_digit-le (Three first second third table) = omega arith
 
-pub three_count-le : (e : Formula) → three_count e ≤ length e.terms
+pub three_count-le : (e : Energy) → three_count e ≤ length e.terms
 three_count-le e = omega (arith, sum_by-le three_digit 1 e.terms (λ k d l. three_digit-le _))
 
 pub three_taken-le : (i : ℕ) (ts : List Term) → sum_by three_digit (take i ts) ≤ i

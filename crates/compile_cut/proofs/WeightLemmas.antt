@@ -11,7 +11,7 @@ use Rattle.std.proofs.lemmas.List.Sums.{get_or-le-sum_by, sum_by-cons}
 use Rattle.sums.specs.Sums.{counted}
 use Rattle.sums.specs.IntegerSums.{int_sum_below, int_counted}
 use Rattle.sums.proofs.IntegerSumLemmas.{int_sum_below-change, int_sum_below-same}
-use Rattle.pseudo_bool.specs.Formula.{entry, digit}
+use Rattle.pseudo_bool.specs.Energies.{entry, digit}
 use Rattle.flow_network.specs.declared.arc.Arc.{Arc}
 use Rattle.flow_network.specs.Cut.{enters, IsArc}
 use Rattle.compile_cut.specs.Shown.{Shows}

@@ -6,5 +6,5 @@ pub mod Limits
 pub mod Shown
 pub mod Weights
 pub mod Three
-pub mod Form
+pub mod Quadratics
 pub mod Laws

@@ -1,7 +1,7 @@
 use Rattle.std.specs.Prelude.{◌≡◌, ℕ, ◌<◌, ◌≤◌, Bool, sum_by, ℤ, pos, ◌+ℤ◌, ◌≤ℤ◌}
 use Rattle.pseudo_bool.specs.declared.term.Term.{Term}
 use Rattle.pseudo_bool.specs.declared.term.Term.TheVariants.{One, Two, Three}
-use Rattle.pseudo_bool.specs.Formula.{Formula, value_at}
+use Rattle.pseudo_bool.specs.Energies.{Energy, value_at}
 use Rattle.flow_network.specs.Cut.{Network, capacity_of, LiesWithin}
 
 -- the node of each variable is in the set exactly where the variable is 1: other nodes are free
@@ -23,7 +23,7 @@ pub record IsLeastShown (net : Network) (variables : ℕ) (x : ℕ → Bool) (le
   pub lowest : (other : ℕ → Bool) → Shows variables x other → least ≤ capacity_of net other
 
 -- every assignment's value is the least capacity of the cuts that show it, plus the constant
-abbrev pub ShowsValues : Network → ℤ → Formula → Type 0
+abbrev pub ShowsValues : Network → ℤ → Energy → Type 0
 ShowsValues net constant e =
     (x : ℕ → Bool) → (least : ℕ) × IsLeastShown net e.variables x least
     × (value_at e x ≡ pos least +ℤ constant)
@@ -35,10 +35,10 @@ three_digit (Two first second table) = 0
 three_digit (Three first second third table) = 1
 
 -- how many terms of three variables there are
-abbrev pub three_count : Formula → ℕ
+abbrev pub three_count : Energy → ℕ
 three_count e = sum_by three_digit e.terms
 
 -- a least assignment, whose ones are among the ones of every least assignment
-pub record IsSmallestLeastAssignment (e : Formula) (x : ℕ → Bool) : Type 0 where
+pub record IsSmallestLeastAssignment (e : Energy) (x : ℕ → Bool) : Type 0 where
   pub least : (y : ℕ → Bool) → value_at e x ≤ℤ value_at e y
   pub smallest : (y : ℕ → Bool) → value_at e y ≡ value_at e x → LiesWithin e.variables x y

@@ -2,7 +2,7 @@ use Rattle.std.specs.Prelude.{◌≡◌, ℕ, suc, ◌+◌, ◌*◌, ◌≤◌, 
 use Rattle.sums.specs.Sums.{counted}
 use Rattle.sums.specs.IntegerSums.{int_counted}
 use Rattle.pseudo_bool.specs.Limits.{value_limit}
-use Rattle.pseudo_bool.specs.Formula.{entry, digit, IsValue}
+use Rattle.pseudo_bool.specs.Energies.{entry, digit, IsValue}
 use Rattle.compile_cut.specs.declared.three.ThreePart.{ThreePart}
 
 -- the coefficient of the product of the three variables, in the polynomial that a table is

@@ -1,7 +1,7 @@
 use Rattle.std.specs.Prelude.{ℕ, suc, ◌<◌, Bool, List, length, sum_by, ℤ, pos, negsuc, unsigned_abs}
 use Rattle.sums.specs.Sums.{counted}
 use Rattle.sums.specs.IntegerSums.{int_sum_below, int_counted}
-use Rattle.pseudo_bool.specs.Formula.{entry}
+use Rattle.pseudo_bool.specs.Energies.{entry}
 use Rattle.flow_network.specs.declared.arc.Arc.{Arc}
 use Rattle.flow_network.specs.Cut.{enters}
 

@@ -3,7 +3,7 @@ ghost use Rattle.pseudo_bool.specs.Limits.{term_limit};
 ghost use Rattle.flow_network.specs.Cut.{nodes, capacity_of};
 ghost use Rattle.compile_cut.specs.Limits.{form_nodes, form_size, form_constant, compiled_constant};
 ghost use Rattle.compile_cut.specs.Weights.{weights_size, source_part, sink_part, IsAbove};
-ghost use Rattle.compile_cut.specs.Form.{quadratic_value, IsBounded};
+ghost use Rattle.compile_cut.specs.Quadratics.{quadratic_value, IsBounded};
 
 use crate::Compiled;
 use crate::quadratic::Quadratic;

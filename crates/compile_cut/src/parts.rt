@@ -1,6 +1,6 @@
 ghost use Rattle.std.specs.Prelude.{◌≡◌, ◌+◌, ◌*◌, ◌<◌, ◌≤◌, length, All, pos, ◌+ℤ◌, ◌-ℤ◌, ◌≤ℤ◌, unsigned_abs};
 ghost use Rattle.pseudo_bool.specs.Limits.{value_limit};
-ghost use Rattle.pseudo_bool.specs.Formula.{entry, IsValue};
+ghost use Rattle.pseudo_bool.specs.Energies.{entry, IsValue};
 ghost use Rattle.regular.specs.Regularity.{IsRegularTable};
 
 /// What a table has at a place less what it has at another.

@@ -2,13 +2,13 @@ ghost use Rattle.std.specs.Prelude.{◌≡◌, ℕ, ◌+◌, ◌*◌, ◌<◌, �
 ghost use Rattle.sums.specs.Sums.{counted};
 ghost use Rattle.sums.specs.IntegerSums.{int_counted};
 ghost use Rattle.pseudo_bool.specs.Limits.{term_limit};
-ghost use Rattle.pseudo_bool.specs.Formula.{entry, digit, IsValue, IsTerm, IsEnergy, value_at};
+ghost use Rattle.pseudo_bool.specs.Energies.{entry, digit, IsValue, IsTerm, IsEnergy, value_at};
 ghost use Rattle.regular.specs.Regularity.{IsRegular, IsRegularTerm, IsRegularTable, projection};
 ghost use Rattle.regular.specs.declared.fixed.Fixed.{Fixed};
 ghost use Rattle.flow_network.specs.Cut.{IsArc};
 ghost use Rattle.compile_cut.specs.Limits.{form_nodes};
 ghost use Rattle.compile_cut.specs.Weights.{weights_value, weights_size, arcs_value, arcs_size, IsAbove};
-ghost use Rattle.compile_cut.specs.Form.{quadratic_value, IsBounded, IsConstant, AddsTerm, SaysValues};
+ghost use Rattle.compile_cut.specs.Quadratics.{quadratic_value, IsBounded, IsConstant, AddsTerm, SaysValues};
 ghost use Rattle.compile_cut.specs.Shown.{three_count, three_digit};
 
 use crate::adding::{

@@ -1,6 +1,6 @@
 ghost use Rattle.std.specs.Prelude.{◌≡◌, ◌+◌, ◌*◌, ◌<◌, ◌≤◌, Bool, not, All, pos, ◌+ℤ◌, ◌-ℤ◌, ◌≤ℤ◌, unsigned_abs};
 ghost use Rattle.pseudo_bool.specs.Limits.{value_limit};
-ghost use Rattle.pseudo_bool.specs.Formula.{entry, IsValue};
+ghost use Rattle.pseudo_bool.specs.Energies.{entry, IsValue};
 ghost use Rattle.regular.specs.declared.fixed.Fixed.{Fixed};
 ghost use Rattle.regular.specs.Regularity.{IsRegularTable, projection};
 ghost use Rattle.compile_cut.specs.Three.{cubic_weight, turned_table, part_value, IsLeastOverHidden, IsSmall};

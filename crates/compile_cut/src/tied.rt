@@ -5,7 +5,7 @@ ghost use Rattle.pseudo_bool.specs.Limits.{value_limit, term_limit};
 ghost use Rattle.flow_network.specs.Cut.{IsArc};
 ghost use Rattle.compile_cut.specs.Limits.{form_nodes};
 ghost use Rattle.compile_cut.specs.Weights.{arcs_value, arcs_size, IsAbove};
-ghost use Rattle.compile_cut.specs.Form.{IsBounded, AddsLeast, IsTied};
+ghost use Rattle.compile_cut.specs.Quadratics.{IsBounded, AddsLeast, IsTied};
 
 use crate::adding::add_arc;
 use crate::quadratic::Quadratic;

@@ -1,7 +1,7 @@
 //! Cuts that show values, and minima of small energies. The values were worked by hand.
 ghost use Rattle.std.specs.Prelude.{◌≡◌, vec_len, IfOk};
 ghost use Rattle.pseudo_bool.specs.Limits.{term_limit};
-ghost use Rattle.compile_cut.specs.Form.{IsBounded};
+ghost use Rattle.compile_cut.specs.Quadratics.{IsBounded};
 
 use crate::rows::expect;
 use compile_cut::{Net, Quadratic, compile, net_of};

@@ -1,6 +1,6 @@
 -- What the terms of a call mean.
 use Rattle.std.specs.Prelude.{ℕ, ℤ, Bool, cond, ◌==◌, slice_index, List, [], ◌∷◌, ◌++◌, map}
-use Rattle.pseudo_bool.specs.Formula.{Formula}
+use Rattle.pseudo_bool.specs.Energies.{Energy}
 use Rattle.pseudo_bool.specs.declared.term.Term.{Term}
 use Rattle.pseudo_bool.specs.declared.term.Term.TheVariants.{One, Two, Three}
 use Rattle.gco_c.specs.declared.terms.GcoOne.{GcoOne}
@@ -25,7 +25,7 @@ three_of given = Three given.first given.second given.third (three_numbers given
 
 -- the energy that the arrays of a call are: the constant, the terms of one variable, then those of two, then those of
 -- three
-abbrev pub formula_given : ℕ → ℤ → List GcoOne → List GcoTwo → List GcoThree → Formula
+abbrev pub formula_given : ℕ → ℤ → List GcoOne → List GcoTwo → List GcoThree → Energy
 formula_given variables constant ones twos threes = record {
   constant = constant;
   variables = variables;

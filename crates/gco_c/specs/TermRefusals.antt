@@ -1,6 +1,6 @@
 -- Why a call over yes-no variables is refused. Each cause is told where what comes before it is in order.
 use Rattle.std.specs.Prelude.{◌≡◌, ℕ, ◌<◌, List, [], ◌∷◌, ◌++◌, length, ◌⊎◌, Option}
-use Rattle.pseudo_bool.specs.Formula.{Formula, IsEnergy, IsValue}
+use Rattle.pseudo_bool.specs.Energies.{Energy, IsEnergy, IsValue}
 use Rattle.pseudo_bool.specs.Limits.{variable_limit}
 use Rattle.pseudo_bool.specs.Refusals.{IsRefusal}
 use Rattle.pseudo_bool.specs.declared.error.EnergyError.{EnergyError}
@@ -22,12 +22,12 @@ term_refusal place term_why.TooManyTerms = why.TooManyPairs
 term_refusal place term_why.OutOfMemory = why.OutOfMemory
 
 -- a term is refused beside those of an energy, and told by their number
-abbrev pub IsTermTold : Formula → Term → Refusal → Type 0
+abbrev pub IsTermTold : Energy → Term → Refusal → Type 0
 IsTermTold e term refusal =
     IsEnergy e × ((error : EnergyError) × IsRefusal e term error × (refusal ≡ term_refusal (length e.terms) error))
 
 -- of terms that were to be added to an energy one is refused, and each before it was added
-pub record AreTermsRefused (e : Formula) (terms : List Term) (refusal : Refusal) : Type 0 where
+pub record AreTermsRefused (e : Energy) (terms : List Term) (refusal : Refusal) : Type 0 where
   pub before : List Term
   pub term : Term
   pub after : List Term
@@ -35,13 +35,13 @@ pub record AreTermsRefused (e : Formula) (terms : List Term) (refusal : Refusal)
   pub told : IsTermTold (record e { terms = e.terms ++ before }) term refusal
 
 -- the constant is out of its range, or else the first term of the list that is refused
-abbrev pub IsTermsRefusal : Formula → Refusal → Type 0
+abbrev pub IsTermsRefusal : Energy → Refusal → Type 0
 IsTermsRefusal e refusal =
     ((refusal ≡ why.ConstantRange) × ¬ IsValue e.constant)
     ⊎ (IsValue e.constant × AreTermsRefused (record e { terms = [] }) e.terms refusal)
 
 -- why a call is refused: too many variables, the constant, a term, a term that is not regular, or memory
-abbrev pub IsMinimumRefusal : Formula → Refusal → Type 0
+abbrev pub IsMinimumRefusal : Energy → Refusal → Type 0
 IsMinimumRefusal e refusal =
     ((refusal ≡ why.TooManySites) × (variable_limit < e.variables))
     ⊎ IsTermsRefusal e refusal
@@ -55,7 +55,7 @@ pub record IsRefusedIn (refusal : Refusal) (status : ℕ) (told : GcoMinimum) : 
   pub fixed_is : (told.fixed, told.fixed_at) ≡ fixed_of refusal
 
 -- and its cause holds
-pub record IsMinimumTold (e : Formula) (status : ℕ) (told : GcoMinimum) : Type 0 where
+pub record IsMinimumTold (e : Energy) (status : ℕ) (told : GcoMinimum) : Type 0 where
   pub refusal : Refusal
   pub is_told : IsRefusedIn refusal status told
   pub cause : IsMinimumRefusal e refusal

@@ -1,7 +1,7 @@
 //! The terms of a call over yes-no variables.
 ghost use Rattle.std.specs.Prelude.{◌≡◌, ◌≤◌, ◌++◌, [], ◌∷◌, ◌+ℤ◌, pos, map, IfOk, IfErr, OnOk};
 ghost use Rattle.pseudo_bool.specs.Limits.{variable_limit};
-ghost use Rattle.pseudo_bool.specs.Formula.{IsEnergy, IsValue};
+ghost use Rattle.pseudo_bool.specs.Energies.{IsEnergy, IsValue};
 ghost use Rattle.gco_c.specs.Energies.{formula_given, one_of, three_numbers, three_of, two_numbers, two_of};
 ghost use Rattle.gco_c.specs.TermRefusals.{AreTermsRefused, IsTermTold, IsTermsRefusal, term_refusal};
 

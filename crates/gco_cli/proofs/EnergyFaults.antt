@@ -7,7 +7,7 @@ use Rattle.moves.specs.declared.error.SolveError.{SolveError}
 use Rattle.moves.specs.declared.error.SolveError.TheVariants.{OutOfMemory}
 use Rattle.problem_files.specs.Text.{HasFault}
 use Rattle.problem_files.specs.declared.energy_fault.EnergyFault.{EnergyFault}
-use Rattle.pseudo_bool.specs.Formula.{Formula}
+use Rattle.pseudo_bool.specs.Energies.{Energy}
 use Rattle.regular.specs.Regularity.{IsFirstFailing, IsRegular}
 use Rattle.regular.specs.declared.fixed.NotRegular.{NotRegular}
 use Rattle.gco_cli.specs.Energy.{HasEnergyFault, HasFileFault, HoldsEnergy, IsCutFault}
@@ -38,10 +38,10 @@ pub file_stands : (refuses : SolveError → Type 0) (source : Stream) (f : Fault
 file_stands refuses source f h = (h.0, h.1, inl h.2)
 
 -- so is a term that is not regular of the energy that the input names, and a refused cut
-pub irregular_stands : (refuses : SolveError → Type 0) (source : Stream) (e : Formula) (failing : NotRegular) → OfSomeInput source (λ input. HoldsEnergy input e)
+pub irregular_stands : (refuses : SolveError → Type 0) (source : Stream) (e : Energy) (failing : NotRegular) → OfSomeInput source (λ input. HoldsEnergy input e)
     → IsFirstFailing e failing.term failing.fixed → OfSomeInput source (λ input. HasEnergyFault refuses input (TermNotRegular failing))
 irregular_stands refuses source e failing h first = (h.0, h.1, inr (e, h.2, inl (failing, first, refl)))
 
-pub cut_stands : (refuses : SolveError → Type 0) (source : Stream) (e : Formula) (f : Fault) → OfSomeInput source (λ input. HoldsEnergy input e)
+pub cut_stands : (refuses : SolveError → Type 0) (source : Stream) (e : Energy) (f : Fault) → OfSomeInput source (λ input. HoldsEnergy input e)
     → IsRegular e → IsCutFault refuses f → OfSomeInput source (λ input. HasEnergyFault refuses input f)
 cut_stands refuses source e f h regular is = (h.0, h.1, inr (e, h.2, inr (regular, is)))

@@ -11,7 +11,7 @@ use Rattle.problem_files.specs.declared.label_fault.LabelFault.{LabelFault}
 use Rattle.problem_files.specs.declared.label_fault.LabelFault.TheVariants as label
 use Rattle.pgm_image.specs.declared.error.PgmError.{PgmError}
 use Rattle.pgm_image.specs.declared.error.PgmError.TheVariants as image
-use Rattle.pseudo_bool.specs.Formula.{Formula}
+use Rattle.pseudo_bool.specs.Energies.{Energy as YesNoEnergy}
 use Rattle.moves.specs.declared.error.SolveError.{SolveError}
 use Rattle.moves.specs.declared.error.SolveError.TheVariants as solve
 use Rattle.moves.specs.declared.error.MoveError.{MoveError}
@@ -205,7 +205,7 @@ cut_fault_plain refuses fault (inr h) = told IsPlain cut_fault refuses fault cut
 pub cut_unread : (refuses : SolveError → Type 0) (fault : Fault) → IsCutFault refuses fault → is_failed_read fault ≡ false
 cut_unread refuses fault h = (cut_fault_plain refuses fault h).0
 
-unsolved_own : (refuses : SolveError → Type 0) (e : Formula) (fault : Fault) → IsUnsolved refuses e fault → IsOwn fault
+unsolved_own : (refuses : SolveError → Type 0) (e : YesNoEnergy) (fault : Fault) → IsUnsolved refuses e fault → IsOwn fault
 unsolved_own refuses e fault (inl h) = same IsOwn fault _ h.2 (refl, refl)
 unsolved_own refuses e fault (inr h) = (cut_fault_plain refuses fault h.1).1
 

@@ -1,7 +1,7 @@
 -- The answer to an energy.
 use Rattle.std.specs.Prelude.{◌≡◌, ◌==◌, ℕ, Bool, true, false, ℤ, List, [], ◌++◌, codes, length, map, if◌then◌else◌}
 use Rattle.std.specs.Fmt.{signed_decimal}
-use Rattle.pseudo_bool.specs.Formula.{Formula, assignment, value_at}
+use Rattle.pseudo_bool.specs.Energies.{Energy, assignment, value_at}
 use Rattle.compile_cut.specs.Shown.{IsSmallestLeastAssignment}
 
 -- a yes-no value as a character
@@ -19,7 +19,7 @@ answer_text minimum bits =
     codes "minimum " ++ signed_decimal minimum ++ codes "\nassignment" ++ digits_text bits ++ codes "\n"
 
 -- the text tells the least value of the energy, and of the least assignments the one with the fewest ones
-pub record AnswersEnergy (e : Formula) (text : List ℕ) : Type 0 where
+pub record AnswersEnergy (e : Energy) (text : List ℕ) : Type 0 where
   pub bits : List Bool
   pub count : length bits ≡ e.variables
   pub best : IsSmallestLeastAssignment e (assignment bits)

@@ -1,7 +1,7 @@
 -- What `gco energy` is.
 use Rattle.std.specs.Prelude.{◌≡◌, ◌≤◌, ◌⊎◌, ℕ, List, length}
 use Rattle.byte_streams.specs.Input.{IsReadRefusal, input_limit}
-use Rattle.pseudo_bool.specs.Formula.{Formula}
+use Rattle.pseudo_bool.specs.Energies.{Energy}
 use Rattle.moves.specs.declared.error.SolveError.{SolveError}
 use Rattle.regular.specs.Regularity.{IsFirstFailing, IsRegular}
 use Rattle.regular.specs.declared.fixed.NotRegular.{NotRegular}
@@ -12,12 +12,12 @@ use Rattle.gco_cli.specs.Answer.{AnswersEnergy}
 use Rattle.gco_cli.specs.Faults.{Tells, cut_fault, energy_fault, read_fault}
 
 -- the input is not too long, and names this energy
-abbrev pub HoldsEnergy : List ℕ → Formula → Type 0
+abbrev pub HoldsEnergy : List ℕ → Energy → Type 0
 HoldsEnergy input e = (length input ≤ input_limit) × NamesEnergy input e
 
 -- the text is the answer to the energy that the input names
 abbrev pub AnswersInput : List ℕ → List ℕ → Type 0
-AnswersInput input text = (e : Formula) × HoldsEnergy input e × AnswersEnergy e text
+AnswersInput input text = (e : Energy) × HoldsEnergy input e × AnswersEnergy e text
 
 -- the fault that the reading of the input has: it was not read, or its text has a fault
 abbrev pub HasFileFault : List ℕ → Fault → Type 0
@@ -29,7 +29,7 @@ abbrev pub IsCutFault : (SolveError → Type 0) → Fault → Type 0
 IsCutFault refuses fault = (fault ≡ OutOfMemory) ⊎ Tells cut_fault refuses fault
 
 -- the energy has no answer: a term is not regular, the first such term; or all are regular, and the cut was refused
-abbrev pub IsUnsolved : (SolveError → Type 0) → Formula → Fault → Type 0
+abbrev pub IsUnsolved : (SolveError → Type 0) → Energy → Fault → Type 0
 IsUnsolved refuses e fault =
     ((failing : NotRegular) × IsFirstFailing e failing.term failing.fixed × (fault ≡ TermNotRegular failing))
     ⊎ (IsRegular e × IsCutFault refuses fault)
@@ -37,4 +37,4 @@ IsUnsolved refuses e fault =
 -- the fault that the input has: one of its reading, or the energy that it names has no answer
 abbrev pub HasEnergyFault : (SolveError → Type 0) → List ℕ → Fault → Type 0
 HasEnergyFault refuses input fault = HasFileFault input fault
-    ⊎ ((e : Formula) × HoldsEnergy input e × IsUnsolved refuses e fault)
+    ⊎ ((e : Energy) × HoldsEnergy input e × IsUnsolved refuses e fault)

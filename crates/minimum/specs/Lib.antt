@@ -1,2 +1,2 @@
-pub use Rattle.pseudo_bool.specs.Formula
+pub use Rattle.pseudo_bool.specs.Energies
 pub use Rattle.compile_cut.specs.Shown

@@ -3,7 +3,7 @@
 #![tactic(auto)]
 
 ghost use Rattle.std.specs.Prelude.{◌≡◌, IfOk, length};
-ghost use Rattle.pseudo_bool.specs.Formula.{assignment, value_at};
+ghost use Rattle.pseudo_bool.specs.Energies.{assignment, value_at};
 ghost use Rattle.compile_cut.specs.Shown.{IsSmallestLeastAssignment};
 
 use compile_cut::compile;

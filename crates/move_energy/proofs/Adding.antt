@@ -16,7 +16,7 @@ use Rattle.labellings.specs.declared.change.Move.{Move}
 use Rattle.labellings.specs.Energies.{Instance, labelling, pair_cost, plain_energy}
 use Rattle.labellings.specs.Moves.{label_in}
 use Rattle.compile_cut.specs.declared.quadratic.Quadratic.{Quadratic}
-use Rattle.compile_cut.specs.Form.{IsBounded, IsConstant}
+use Rattle.compile_cut.specs.Quadratics.{IsBounded, IsConstant}
 use Rattle.compile_cut.proofs.TermLemmas.{bounded-weaker, constant_value}
 use Rattle.move_energy.specs.declared.choice.Choice.{Choice}
 use Rattle.move_energy.specs.declared.choice.Choice.TheVariants.{Open, Zero as DecidedZero, One as DecidedOne}

@@ -5,7 +5,7 @@ use Rattle.std.proofs.lemmas.Nat.{mul-le}
 use Rattle.sums.specs.Sums.{counted}
 use Rattle.compile_cut.specs.declared.quadratic.Quadratic.{Quadratic}
 use Rattle.compile_cut.specs.Shown.{Shows}
-use Rattle.compile_cut.specs.Form.{quadratic_value, IsBounded, AddsLeast, IsTied}
+use Rattle.compile_cut.specs.Quadratics.{quadratic_value, IsBounded, AddsLeast, IsTied}
 use Rattle.compile_cut.proofs.TermLemmas.{bounded-weaker}
 use Rattle.move_energy.specs.declared.choice.Choice.{Choice}
 use Rattle.cost_store.specs.LabelCosts.{cost_at}

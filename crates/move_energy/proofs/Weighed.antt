@@ -18,9 +18,9 @@ use Rattle.move_energy.proofs.Meetings.{pairs_are_met_once}
 use Rattle.labellings.specs.declared.change.Move.{Move}
 use Rattle.labellings.specs.Energies.{Instance}
 use Rattle.labellings.specs.Moves.{label_in, pair_entry, IsRegularPair, IsAllowed}
-use Rattle.pseudo_bool.specs.Formula.{entry, digit}
+use Rattle.pseudo_bool.specs.Energies.{entry, digit}
 use Rattle.compile_cut.specs.declared.quadratic.Quadratic.{Quadratic}
-use Rattle.compile_cut.specs.Form.{quadratic_value, IsBounded}
+use Rattle.compile_cut.specs.Quadratics.{quadratic_value, IsBounded}
 use Rattle.compile_cut.specs.Weights.{weights_value, weights_size, arcs_value, arcs_size, IsAbove}
 use Rattle.compile_cut.proofs.WeightLemmas.{weights_value-push}
 use Rattle.move_energy.specs.declared.choice.Choice.{Choice}

@@ -6,9 +6,9 @@ use Rattle.move_energy.specs.BySite.{IsListing}
 use Rattle.labellings.specs.declared.change.Move.{Move}
 use Rattle.labellings.specs.Energies.{Instance, labelling, plain_energy}
 use Rattle.labellings.specs.Moves.{label_in, made}
-use Rattle.pseudo_bool.specs.Formula.{assignment}
+use Rattle.pseudo_bool.specs.Energies.{assignment}
 use Rattle.compile_cut.specs.declared.quadratic.Quadratic.{Quadratic}
-use Rattle.compile_cut.specs.Form.{quadratic_value}
+use Rattle.compile_cut.specs.Quadratics.{quadratic_value}
 use Rattle.move_energy.specs.declared.choice.Choice.{Choice}
 use Rattle.move_energy.specs.declared.choice.Choice.TheVariants.{Open, Zero, One}
 

@@ -6,7 +6,7 @@ use Rattle.labellings.specs.Energies.{Instance, labelling, is_used}
 use Rattle.cost_store.specs.LabelCosts.{cost_at}
 use Rattle.compile_cut.specs.declared.quadratic.Quadratic.{Quadratic}
 use Rattle.compile_cut.specs.Shown.{Shows}
-use Rattle.compile_cut.specs.Form.{quadratic_value, IsBounded}
+use Rattle.compile_cut.specs.Quadratics.{quadratic_value, IsBounded}
 use Rattle.move_energy.specs.declared.choice.Choice.{Choice}
 use Rattle.move_energy.specs.Choices.{choice_at, rank, made_by}
 

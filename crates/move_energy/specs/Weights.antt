@@ -5,7 +5,7 @@ use Rattle.label_field.specs.declared.pair.Pair.{Pair}
 use Rattle.labellings.specs.declared.change.Move.{Move}
 use Rattle.labellings.specs.Energies.{Instance, plain_energy}
 use Rattle.labellings.specs.Moves.{made, pair_entry}
-use Rattle.pseudo_bool.specs.Formula.{entry}
+use Rattle.pseudo_bool.specs.Energies.{entry}
 use Rattle.compile_cut.specs.declared.quadratic.Quadratic.{Quadratic}
 use Rattle.move_energy.specs.declared.choice.Choice.{Choice}
 use Rattle.move_energy.specs.declared.choice.Choice.TheVariants.{Open}

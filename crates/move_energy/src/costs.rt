@@ -4,7 +4,7 @@ ghost use Rattle.label_field.specs.Limits.{weight_limit};
 ghost use Rattle.label_field.specs.PairLists.{IsPair};
 ghost use Rattle.labellings.specs.Energies.{labelling};
 ghost use Rattle.labellings.specs.Moves.{label_in, IsMoveOf};
-ghost use Rattle.pseudo_bool.specs.Formula.{IsWithin};
+ghost use Rattle.pseudo_bool.specs.Energies.{IsWithin};
 ghost use Rattle.cost_store.specs.Promises.{IsCost};
 ghost use Rattle.cost_store.specs.Posed.{IsPosed, IsAsked, Meant};
 ghost use Rattle.cost_store.specs.Limits.{pair_cost_limit};

@@ -3,7 +3,7 @@ ghost use Rattle.std.specs.Prelude.{◌≡◌, ◌<◌, ◌≤◌, ◌*◌, ℕ,
 ghost use Rattle.label_field.specs.Limits.{weight_limit};
 ghost use Rattle.labellings.specs.Moves.{label_in, IsMoveOf};
 ghost use Rattle.pseudo_bool.specs.Limits.{term_limit};
-ghost use Rattle.compile_cut.specs.Form.{IsBounded};
+ghost use Rattle.compile_cut.specs.Quadratics.{IsBounded};
 ghost use Rattle.cost_store.specs.Posed.{IsPosed, Meant};
 ghost use Rattle.move_energy.specs.declared.choice.Choice.TheVariants.{Open};
 ghost use Rattle.move_energy.specs.Built.{AddsCost, AddsEnds, IsLonger};

@@ -6,7 +6,7 @@ ghost use Rattle.labellings.specs.declared.change.Move.TheVariants.{Expand};
 ghost use Rattle.labellings.specs.Energies.{labelling, is_used};
 ghost use Rattle.pseudo_bool.specs.Limits.{term_limit};
 ghost use Rattle.compile_cut.specs.Limits.{form_nodes};
-ghost use Rattle.compile_cut.specs.Form.{IsBounded};
+ghost use Rattle.compile_cut.specs.Quadratics.{IsBounded};
 ghost use Rattle.cost_store.specs.Promises.{IsCost};
 ghost use Rattle.move_energy.specs.Choices.{open_count, AreAllOpen, IsNumbering};
 ghost use Rattle.cost_store.specs.Limits.{label_cost_limit};

@@ -6,7 +6,7 @@ ghost use Rattle.label_field.specs.PairLists.{IsPair};
 ghost use Rattle.move_energy.specs.BySite.{AreBySite, is_counted, met_at};
 ghost use Rattle.labellings.specs.Energies.{labelling, pair_cost as cost_of_pair};
 ghost use Rattle.pseudo_bool.specs.Limits.{term_limit};
-ghost use Rattle.compile_cut.specs.Form.{IsBounded};
+ghost use Rattle.compile_cut.specs.Quadratics.{IsBounded};
 ghost use Rattle.cost_store.specs.Posed.{IsPosed, IsAsked, Meant};
 ghost use Rattle.move_energy.specs.Choices.{choice_at, open_at, rank, open_count, made_by, IsNumbering, AreOpenSites};
 ghost use Rattle.move_energy.specs.Built.{AddsCost, IsLonger};

@@ -6,7 +6,7 @@ ghost use Rattle.label_field.specs.PairLists.{IsPair};
 ghost use Rattle.labellings.specs.Energies.{labelling};
 ghost use Rattle.labellings.specs.Moves.{IsRegularPair, IsAllowed};
 ghost use Rattle.pseudo_bool.specs.Limits.{term_limit};
-ghost use Rattle.compile_cut.specs.Form.{IsBounded};
+ghost use Rattle.compile_cut.specs.Quadratics.{IsBounded};
 ghost use Rattle.compile_cut.specs.Weights.{weights_size};
 ghost use Rattle.cost_store.specs.Posed.{IsPosed, IsAsked, Meant};
 ghost use Rattle.move_energy.specs.BySite.{AreBySite, is_counted, met_at};

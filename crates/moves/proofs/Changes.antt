@@ -20,14 +20,14 @@ use Rattle.labellings.specs.declared.change.Move.{Move}
 use Rattle.labellings.specs.Energies.{Instance, labelling, pair_cost}
 use Rattle.labellings.specs.Moves.{made, label_in}
 use Rattle.labellings.proofs.Best.{lists_agree}
-use Rattle.pseudo_bool.specs.Formula.{assignment}
+use Rattle.pseudo_bool.specs.Energies.{assignment}
 use Rattle.move_energy.specs.declared.choice.Choice.{Choice}
 use Rattle.move_energy.specs.declared.choice.Choice.TheVariants.{Open, Zero as DecidedZero, One as DecidedOne}
 use Rattle.move_energy.specs.Choices.{bit_of, choice_at, choice_of, is_open, rank, value_of, AreSettled}
 use Rattle.deciding.specs.declared.listing.Lists.{Lists}
 use Rattle.deciding.specs.declared.sites.Deciding.{Deciding}
 use Rattle.deciding.specs.Listed.{AreListed, changes}
-use Rattle.moves.specs.declared.room.Room.{Room}
+use Rattle.moves.specs.declared.workspace.Workspace.{Workspace}
 use Rattle.moves.specs.Building.{site_values, moves_site, moved_met, HasChanges, AreChangesListed}
 
 not_false : (b : Bool) → not b ≡ false → b ≡ true
@@ -71,7 +71,7 @@ has_changes move f old new bits lists size is_listed listed settled = record {
       change_of (choice_at old p) (assignment bits (rank old p)) test (sym (ap test told) ∙ moved);
 }
 
-pub near_changes : (pairs : PairList) (move : Move) (f : List ℕ) (before : Deciding) (old : List Choice) (after : Room) (bits : List Bool) → length old ≡ length f
+pub near_changes : (pairs : PairList) (move : Move) (f : List ℕ) (before : Deciding) (old : List Choice) (after : Workspace) (bits : List Bool) → length old ≡ length f
     → AreBySite pairs before.ends → AreListed move (labelling f) old before.lists → after.deciding ≡ before
     → AreSettled old bits after.built.variables.choices.items → IsTrue after.deciding.lists.listed → AreChangesListed pairs move f after
 near_changes pairs move f before old after bits size by_site listed same settled is_listed =

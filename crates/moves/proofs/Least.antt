@@ -14,7 +14,7 @@ use Rattle.labellings.proofs.Reaching.{label_in-favoured, label_in-fixed, label_
 use Rattle.labellings.proofs.Best.{made-reached, stays-reached, expand-kept, lists_agree, reached-same}
 use Rattle.flow_network.specs.Cut.{Network, nodes, capacity_of, IsLeastCut, IsSmallestLeastCut}
 use Rattle.compile_cut.specs.declared.quadratic.Quadratic.{Quadratic}
-use Rattle.compile_cut.specs.Form.{quadratic_value}
+use Rattle.compile_cut.specs.Quadratics.{quadratic_value}
 use Rattle.compile_cut.specs.Shown.{Hides}
 use Rattle.cost_store.specs.LabelCosts.{cost_at}
 use Rattle.move_energy.specs.LabelCosts.{AreCostsOf, costs_below, AddsHidden}

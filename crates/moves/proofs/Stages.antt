@@ -13,9 +13,9 @@ use Rattle.labellings.specs.Energies.{Instance, IsInstance, IsMetric, AreLabelsF
 use Rattle.labellings.proofs.Metric.{metric_allows}
 use Rattle.labellings.specs.Moves.{IsAllowed, IsBest, made, label_in}
 use Rattle.labellings.proofs.Energy.{plain-same}
-use Rattle.pseudo_bool.specs.Formula.{assignment}
+use Rattle.pseudo_bool.specs.Energies.{assignment}
 use Rattle.compile_cut.specs.declared.quadratic.Quadratic.{Quadratic}
-use Rattle.compile_cut.specs.Form.{quadratic_value}
+use Rattle.compile_cut.specs.Quadratics.{quadratic_value}
 use Rattle.move_energy.specs.declared.choice.Choice.{Choice}
 use Rattle.move_energy.specs.declared.choice.Choice.TheVariants.{Open, Zero, One}
 use Rattle.move_energy.specs.Choices.{bit_of, choice_at, value_of, rank, made_by, StandsFor}

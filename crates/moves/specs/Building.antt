@@ -3,8 +3,8 @@ use Rattle.std.specs.Prelude.{◌≡◌, ◌<◌, ◌≤◌, ◌==◌, ℕ, Bool
 use Rattle.labellings.specs.declared.change.Move.{Move}
 use Rattle.labellings.specs.Energies.{Instance, labelling, energy}
 use Rattle.labellings.specs.Moves.{IsAllowed, made}
-use Rattle.pseudo_bool.specs.Formula.{assignment}
-use Rattle.compile_cut.specs.Form.{quadratic_value}
+use Rattle.pseudo_bool.specs.Energies.{assignment}
+use Rattle.compile_cut.specs.Quadratics.{quadratic_value}
 use Rattle.compile_cut.specs.Weights.{weights_size}
 use Rattle.move_energy.specs.declared.choice.Choice.{Choice}
 use Rattle.move_energy.specs.declared.building.MoveEnergy.{MoveEnergy}
@@ -21,32 +21,32 @@ use Rattle.move_energy.specs.BySite.{AreBySite, IsListing, met_at}
 use Rattle.deciding.specs.Listed.{AreListed}
 use Rattle.deciding.specs.Decisions.{IsSmallestLeast}
 use Rattle.deciding.specs.MoveValues.{move_value}
-use Rattle.moves.specs.declared.room.Room.{Room}
+use Rattle.moves.specs.declared.workspace.Workspace.{Workspace}
 
 -- the pairs by their sites, once they were grouped
-abbrev pub IsGroupedFor : PairList → Room → Type 0
-IsGroupedFor pairs room = IsTrue room.grouped → AreBySite pairs room.deciding.ends
+abbrev pub IsGroupedFor : PairList → Workspace → Type 0
+IsGroupedFor pairs space = IsTrue space.grouped → AreBySite pairs space.deciding.ends
 
--- the lists of the room are those of the move from f, and its pairs are by their sites
-pub record IsNear (pairs : PairList) (move : Move) (f : List ℕ) (room : Room) : Type 0 where
-  pub by_site : AreBySite pairs room.deciding.ends
-  pub lists : AreListed move (labelling f) room.built.variables.choices.items room.deciding.lists
+-- the lists of the workspace are those of the move from f, and its pairs are by their sites
+pub record IsNear (pairs : PairList) (move : Move) (f : List ℕ) (space : Workspace) : Type 0 where
+  pub by_site : AreBySite pairs space.deciding.ends
+  pub lists : AreListed move (labelling f) space.built.variables.choices.items space.deciding.lists
 
 -- they are, where a move is to look at the listed sites alone
-abbrev pub IsNearWhereListed : PairList → Move → List ℕ → Room → Type 0
-IsNearWhereListed pairs move f room = IsTrue room.deciding.lists.listed → IsNear pairs move f room
+abbrev pub IsNearWhereListed : PairList → Move → List ℕ → Workspace → Type 0
+IsNearWhereListed pairs move f space = IsTrue space.deciding.lists.listed → IsNear pairs move f space
 
--- the room has a weight for each site, and together they are in their limit
-abbrev pub AreWeightsSized : ℕ → Room → Type 0
-AreWeightsSized n room =
-    (length room.deciding.bounds.greatest.items ≡ n)
-    × (weights_size room.deciding.bounds.greatest.items ≤ weights_limit)
+-- the workspace has a weight for each site, and together they are in their limit
+abbrev pub AreWeightsSized : ℕ → Workspace → Type 0
+AreWeightsSized n space =
+    (length space.deciding.bounds.greatest.items ≡ n)
+    × (weights_size space.deciding.bounds.greatest.items ≤ weights_limit)
 
 -- the weights of the open sites are those of the partly decided move from f
-abbrev pub KnowsWeights : Instance → Move → List ℕ → Room → Type 0
-KnowsWeights m move f room =
-    AreWeights m move (labelling f) (choice_at room.built.variables.choices.items)
-    room.deciding.bounds.greatest.items
+abbrev pub KnowsWeights : Instance → Move → List ℕ → Workspace → Type 0
+KnowsWeights m move f space =
+    AreWeights m move (labelling f) (choice_at space.built.variables.choices.items)
+    space.deciding.bounds.greatest.items
 
 -- the value of each site's variable, once its choice is settled
 abbrev pub site_values : List Choice → ℕ → Bool
@@ -66,10 +66,10 @@ pub record HasChanges (move : Move) (f : List ℕ) (choices : List Choice) (site
   pub listed : IsListing chosen (length f) sites
   pub each : (p : ℕ) → p < length f → moves_site move (labelling f) choices p ≡ true → chosen p ≡ true
 
--- so it is in the room of a settled move, whose pairs are by their sites
-pub record AreChangesListed (pairs : PairList) (move : Move) (f : List ℕ) (room : Room) : Type 0 where
-  pub by_site : AreBySite pairs room.deciding.ends
-  pub changes : HasChanges move f room.built.variables.choices.items room.deciding.lists.changing.items
+-- so it is in the workspace of a settled move, whose pairs are by their sites
+pub record AreChangesListed (pairs : PairList) (move : Move) (f : List ℕ) (space : Workspace) : Type 0 where
+  pub by_site : AreBySite pairs space.deciding.ends
+  pub changes : HasChanges move f space.built.variables.choices.items space.deciding.lists.changing.items
 
 -- the energy of the labelling that a value for each site makes
 abbrev pub made_value : Instance → Move → (ℕ → ℕ) → (ℕ → Bool) → ℤ

@@ -17,7 +17,7 @@ use Rattle.stages.specs.Fixing.{fixed, fixed_value, AreLeastZeros}
 use Rattle.stages.specs.Fresh.{WasExpanded, AreFresh}
 use Rattle.stages.specs.Looking.{marked}
 use Rattle.moves.specs.declared.error.MoveError.{MoveError}
-use Rattle.moves.specs.declared.room.Room.{Room}
+use Rattle.moves.specs.declared.workspace.Workspace.{Workspace}
 use Rattle.moves.specs.Problems.{IsMoved}
 
 -- the bits of the open sites and what is fixed are the least values of a stage: of all sites, some of which are fixed, the
@@ -30,31 +30,31 @@ pub record IsStageLeast (m : Instance) (move : Move) (f : ℕ → ℕ) (choices 
 
 -- a stage can be cut: its choices are of the sites, its open sites and its fresh sites are listed, and the pairs are by
 -- their sites
-pub record IsStageReady (pairs : PairList) (room : Room) : Type 0 where
-  pub by_site : AreBySite pairs room.deciding.ends
-  pub sites : length room.built.variables.choices.items ≡ pairs.sites
-  pub opened : AreOpenSites room.built.variables.choices.items room.stage.opened.items
-  pub listed : (p : ℕ) → p < pairs.sites → marked room.stage.fresh.items p ≡ true
-      → Contains room.stage.fresh_sites.items p
-  pub inside : All (λ p. p < pairs.sites) room.stage.fresh_sites.items
+pub record IsStageReady (pairs : PairList) (space : Workspace) : Type 0 where
+  pub by_site : AreBySite pairs space.deciding.ends
+  pub sites : length space.built.variables.choices.items ≡ pairs.sites
+  pub opened : AreOpenSites space.built.variables.choices.items space.stage.opened.items
+  pub listed : (p : ℕ) → p < pairs.sites → marked space.stage.fresh.items p ≡ true
+      → Contains space.stage.fresh_sites.items p
+  pub inside : All (λ p. p < pairs.sites) space.stage.fresh_sites.items
 
 -- the stage's zeros are zeros of the least values of the expansion
-abbrev pub AreStageZeros : Instance → ℕ → List ℕ → Room → Type 0
-AreStageZeros m a f room =
-    AreLeastZeros m.sites (move_value m (Expand a) (labelling f)) (choice_at room.built.variables.choices.items)
+abbrev pub AreStageZeros : Instance → ℕ → List ℕ → Workspace → Type 0
+AreStageZeros m a f space =
+    AreLeastZeros m.sites (move_value m (Expand a) (labelling f)) (choice_at space.built.variables.choices.items)
 
 -- among the stage's fresh sites are all that changed since the label's last expansion, and those beside them
-abbrev pub AreStageFresh : Instance → ℕ → List ℕ → Changes → Room → Type 0
-AreStageFresh m a f changes room =
-    AreFresh m a (labelling f) (changed_after changes a) (marked room.stage.fresh.items)
+abbrev pub AreStageFresh : Instance → ℕ → List ℕ → Changes → Workspace → Type 0
+AreStageFresh m a f changes space =
+    AreFresh m a (labelling f) (changed_after changes a) (marked space.stage.fresh.items)
 
--- what takes the label is what is taken in the room
-abbrev pub IsTakenLeast : Instance → ℕ → List ℕ → Room → Type 0
-IsTakenLeast m a f room =
-    IsSmallestLeast m.sites (move_value m (Expand a) (labelling f)) (marked room.stage.taken.items)
+-- what takes the label is what is taken in the workspace
+abbrev pub IsTakenLeast : Instance → ℕ → List ℕ → Workspace → Type 0
+IsTakenLeast m a f space =
+    IsSmallestLeast m.sites (move_value m (Expand a) (labelling f)) (marked space.stage.taken.items)
 
 -- a closed stage ends the expansion, where its zeros and its fresh sites are what they are called
-abbrev pub EndsMove : Instance → ℕ → List ℕ → Room → Room → Type 0
+abbrev pub EndsMove : Instance → ℕ → List ℕ → Workspace → Workspace → Type 0
 EndsMove m a f old new =
     (changed : ℕ → Bool) → WasExpanded m a changed (labelling f)
     → AreFresh m a (labelling f) changed (marked old.stage.fresh.items)

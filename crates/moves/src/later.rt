@@ -12,9 +12,9 @@ ghost use Rattle.moves.specs.Building.{IsGroupedFor};
 ghost use Rattle.moves.specs.Problems.{IsMade, IsCutRefusal, IsMoveRefusal};
 ghost use Rattle.moves.specs.Stages.{IsStageReady, AreStageZeros, AreStageFresh, IsTakenLeast, HasTaken, IsLater};
 
-use crate::room::Room;
 use crate::stage::{Standing, make_stage};
 use crate::taking::relabel_site;
+use crate::workspace::Workspace;
 use crate::{How, MoveError};
 use cost_store::{Problem, costs_of, has_cost};
 use label_field::Labelling;
@@ -68,7 +68,7 @@ fn can_look<F: Fn(u32, u32) -> i64 + Sync, V: Fn(u32, u32) -> i64 + Sync>(
 fn begin_stages<F: Fn(u32, u32) -> i64 + Sync, V: Fn(u32, u32) -> i64 + Sync>(
     alloc: Global,
     problem: &Problem<F, V>,
-    room: &mut Room,
+    space: &mut Workspace,
     at: &[u8],
     alpha: u32,
     changes: &Changes,
@@ -76,26 +76,26 @@ fn begin_stages<F: Fn(u32, u32) -> i64 + Sync, V: Fn(u32, u32) -> i64 + Sync>(
     requires asked { IsAsked problem.now at.now (Expand alpha) }
     requires posed { IsPosed F.Fn V.Fn problem.now }
     requires stamps { length changes.now.stamps.items ≡ length at.now }
-    requires by_site { IsGroupedFor problem.now.pairs room.old }
-    ensures by_site { IsGroupedFor problem.now.pairs room.new }
-    ensures stage { OnOk result (IsStageReady problem.now.pairs room.new) }
+    requires by_site { IsGroupedFor problem.now.pairs space.old }
+    ensures by_site { IsGroupedFor problem.now.pairs space.new }
+    ensures stage { OnOk result (IsStageReady problem.now.pairs space.new) }
     ensures fresh { Meant F.Fn V.Fn problem.now
-        (λ m. OnOk result (AreStageFresh m alpha at.now changes.now room.new)) }
-    ensures zeros { Meant F.Fn V.Fn problem.now (λ m. OnOk result (AreStageZeros m alpha at.now room.new)) }
+        (λ m. OnOk result (AreStageFresh m alpha at.now changes.now space.new)) }
+    ensures zeros { Meant F.Fn V.Fn problem.now (λ m. OnOk result (AreStageZeros m alpha at.now space.new)) }
 {
-    room.group(alloc, &problem.pairs)?;
-    room.stage.mark_fresh(
+    space.group(alloc, &problem.pairs)?;
+    space.stage.mark_fresh(
         &problem.pairs,
-        &room.deciding.ends,
+        &space.deciding.ends,
         at,
         alpha,
         &changes.stamps,
         changes.last(alpha),
     )?;
-    room.stage.open_first(
-        &mut room.built.variables.choices,
+    space.stage.open_first(
+        &mut space.built.variables.choices,
         &problem.pairs,
-        &room.deciding.ends,
+        &space.deciding.ends,
         at,
         alpha,
     )
@@ -105,7 +105,7 @@ fn begin_stages<F: Fn(u32, u32) -> i64 + Sync, V: Fn(u32, u32) -> i64 + Sync>(
 fn look<F: Fn(u32, u32) -> i64 + Sync, V: Fn(u32, u32) -> i64 + Sync, H: How>(
     alloc: Global,
     problem: &Problem<F, V>,
-    room: &mut Room,
+    space: &mut Workspace,
     at: &[u8],
     alpha: u32,
     changes: &Changes,
@@ -116,21 +116,21 @@ fn look<F: Fn(u32, u32) -> i64 + Sync, V: Fn(u32, u32) -> i64 + Sync, H: How>(
     requires posed { IsPosed F.Fn V.Fn problem.now }
     requires metric { IsTrue problem.now.smooth_cost.by_metric }
     requires stamps { length changes.now.stamps.items ≡ length at.now }
-    requires by_site { IsGroupedFor problem.now.pairs room.old }
-    ensures by_site { IsGroupedFor problem.now.pairs room.new }
+    requires by_site { IsGroupedFor problem.now.pairs space.old }
+    ensures by_site { IsGroupedFor problem.now.pairs space.new }
     ensures least { Meant F.Fn V.Fn problem.now (λ m. IfOk result (λ closed. IsTrue closed →
         WasExpanded m alpha (changed_after changes.now alpha) (labelling_of at.now) →
-        IsTakenLeast m alpha at.now room.new)) }
+        IsTakenLeast m alpha at.now space.new)) }
     ensures taking { IfOk result (λ closed. IsTrue closed →
-        AreTaking problem.now.pairs.sites room.new.stage) }
+        AreTaking problem.now.pairs.sites space.new.stage) }
     ensures refused { IfErr result (IsCutRefusal (H.refuses how.now)) }
 {
-    match begin_stages(alloc, problem, room, at, alpha, changes) {
+    match begin_stages(alloc, problem, space, at, alpha, changes) {
         Ok(()) => {}
         Err(_) => return Err(MoveError::OutOfMemory),
     }
     for _stage in 0..STAGE_LIMIT {
-        match make_stage(alloc, problem, room, at, alpha, how)? {
+        match make_stage(alloc, problem, space, at, alpha, how)? {
             Standing::Closed => return Ok(true),
             Standing::Open => {}
             Standing::GivenUp => return Ok(false),
@@ -164,7 +164,7 @@ fn take(labelling: &mut Labelling, alpha: u32, sites: &[u32]) -> bool
 pub(crate) fn make_later<F: Fn(u32, u32) -> i64 + Sync, V: Fn(u32, u32) -> i64 + Sync, H: How>(
     alloc: Global,
     problem: &Problem<F, V>,
-    room: &mut Room,
+    space: &mut Workspace,
     labelling: &mut Labelling,
     alpha: u32,
     changes: &Changes,
@@ -173,18 +173,18 @@ pub(crate) fn make_later<F: Fn(u32, u32) -> i64 + Sync, V: Fn(u32, u32) -> i64 +
     requires ready { H.ready how.now }
     requires fits { Fits problem.now labelling.old }
     requires posed { IsPosed F.Fn V.Fn problem.now }
-    requires by_site { IsGroupedFor problem.now.pairs room.old }
+    requires by_site { IsGroupedFor problem.now.pairs space.old }
     requires stamped { Meant F.Fn V.Fn problem.now
         (λ m. AreStamped m (labelling_of labelling.old.at) changes.now) }
-    ensures by_site { IsGroupedFor problem.now.pairs room.new }
+    ensures by_site { IsGroupedFor problem.now.pairs space.new }
     ensures sizes { AreOfOneSize labelling.old labelling.new }
     ensures moved { Meant F.Fn V.Fn problem.now
         (λ m. IsLater m alpha labelling.old.at labelling.new.at result) }
     ensures made { IfOk result (λ later. IfSome later
         (IsMade (Expand alpha) labelling.old.at labelling.new.at)) }
     ensures taken { IfOk result (λ later. IfSome later (λ _.
-        AreTaking (length labelling.old.at) room.new.stage
-        × HasTaken alpha (marked room.new.stage.taken.items) labelling.old.at labelling.new.at
+        AreTaking (length labelling.old.at) space.new.stage
+        × HasTaken alpha (marked space.new.stage.taken.items) labelling.old.at labelling.new.at
         × AreFree (costs_in problem.now.label_costs))) }
     ensures unchanged { OnErr result (labelling.new ≡ labelling.old) }
     ensures kept { IfOk result (λ later. later ≡ None → labelling.new ≡ labelling.old) }
@@ -196,7 +196,7 @@ pub(crate) fn make_later<F: Fn(u32, u32) -> i64 + Sync, V: Fn(u32, u32) -> i64 +
     if !look(
         alloc,
         problem,
-        room,
+        space,
         labelling.as_slice(),
         alpha,
         changes,
@@ -204,5 +204,5 @@ pub(crate) fn make_later<F: Fn(u32, u32) -> i64 + Sync, V: Fn(u32, u32) -> i64 +
     )? {
         return Ok(None);
     }
-    Ok(Some(take(labelling, alpha, &room.stage.taking)))
+    Ok(Some(take(labelling, alpha, &space.stage.taking)))
 }

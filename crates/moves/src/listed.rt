@@ -11,7 +11,7 @@ ghost use Rattle.cost_store.specs.Posed.{IsPosed, Meant, IsAsked};
 ghost use Rattle.moves.specs.Building.{site_values, moves_site, moved_met, HasChanges, AreChangesListed};
 
 use crate::lowering::{is_negative, lowers_all, made_label, pair_rise, site_rise};
-use crate::room::Room;
+use crate::workspace::Workspace;
 use cost_store::Problem;
 use grouping::Groups;
 use label_field::Pair;
@@ -171,19 +171,21 @@ fn lowers_listed<F: Fn(u32, u32) -> i64 + Sync, V: Fn(u32, u32) -> i64 + Sync>(
     problem: &Problem<F, V>,
     at: &[u8],
     change: Move,
-    room: &Room,
+    space: &Workspace,
 ) -> bool
     requires posed { IsPosed F.Fn V.Fn problem.now }
     requires asked { IsAsked problem.now at.now change }
-    requires choices { length room.now.built.variables.choices.items ≡ length at.now }
-    requires changes { AreChangesListed problem.now.pairs change at.now room.now }
+    requires choices { length space.now.built.variables.choices.items ≡ length at.now }
+    requires changes { AreChangesListed problem.now.pairs change at.now space.now }
     ensures { Meant F.Fn V.Fn problem.now (λ m. IsTrue result ↔ plain_energy m (made change (labelling at.now)
-        (site_values room.now.built.variables.choices.items)) < plain_energy m (labelling at.now)) }
+        (site_values space.now.built.variables.choices.items)) < plain_energy m (labelling at.now)) }
 {
-    let choices = room.built.variables.choices.as_slice();
-    let sites = room.deciding.lists.changing.as_slice();
+    let choices = space.built.variables.choices.as_slice();
+    let sites = space.deciding.lists.changing.as_slice();
     let rise = data_rise_listed(problem, at, change, choices, sites);
-    is_negative(rise + smooth_rise_listed(problem, &room.deciding.ends, at, change, choices, sites))
+    is_negative(
+        rise + smooth_rise_listed(problem, &space.deciding.ends, at, change, choices, sites),
+    )
 }
 
 /// Whether the labels that the values make have a lower energy than the labels as they are.
@@ -191,19 +193,19 @@ pub(crate) fn lowers<F: Fn(u32, u32) -> i64 + Sync, V: Fn(u32, u32) -> i64 + Syn
     problem: &Problem<F, V>,
     at: &[u8],
     change: Move,
-    room: &Room,
+    space: &Workspace,
 ) -> bool
     requires posed { IsPosed F.Fn V.Fn problem.now }
     requires asked { IsAsked problem.now at.now change }
-    requires choices { length room.now.built.variables.choices.items ≡ length at.now }
-    requires changes { IsTrue room.now.deciding.lists.listed →
-        AreChangesListed problem.now.pairs change at.now room.now }
+    requires choices { length space.now.built.variables.choices.items ≡ length at.now }
+    requires changes { IsTrue space.now.deciding.lists.listed →
+        AreChangesListed problem.now.pairs change at.now space.now }
     ensures { Meant F.Fn V.Fn problem.now (λ m. IsTrue result ↔ plain_energy m (made change (labelling at.now)
-        (site_values room.now.built.variables.choices.items)) < plain_energy m (labelling at.now)) }
+        (site_values space.now.built.variables.choices.items)) < plain_energy m (labelling at.now)) }
 {
-    if room.deciding.lists.listed {
-        lowers_listed(problem, at, change, room)
+    if space.deciding.lists.listed {
+        lowers_listed(problem, at, change, space)
     } else {
-        lowers_all(problem, at, change, &room.built.variables.choices)
+        lowers_all(problem, at, change, &space.built.variables.choices)
     }
 }

@@ -13,7 +13,7 @@ ghost use Rattle.moves.specs.Stages.{HasTaken};
 
 use crate::later::make_later;
 use crate::one_move::make_move;
-use crate::room::Room;
+use crate::workspace::Workspace;
 use crate::{How, MoveError};
 use cost_store::{Problem, costs_of, has_cost};
 use label_field::Labelling;
@@ -83,7 +83,7 @@ fn note_later<F: Fn(u32, u32) -> i64 + Sync, V: Fn(u32, u32) -> i64 + Sync>(
 fn make_expansion<F: Fn(u32, u32) -> i64 + Sync, V: Fn(u32, u32) -> i64 + Sync, H: How>(
     alloc: Global,
     problem: &Problem<F, V>,
-    room: &mut Room,
+    space: &mut Workspace,
     labelling: &mut Labelling,
     changes: &mut Changes,
     alpha: u32,
@@ -92,10 +92,10 @@ fn make_expansion<F: Fn(u32, u32) -> i64 + Sync, V: Fn(u32, u32) -> i64 + Sync, 
     requires ready { H.ready how.now }
     requires fits { Fits problem.now labelling.old }
     requires posed { IsPosed F.Fn V.Fn problem.now }
-    requires by_site { IsGroupedFor problem.now.pairs room.old }
+    requires by_site { IsGroupedFor problem.now.pairs space.old }
     requires stamped { Meant F.Fn V.Fn problem.now
         (λ m. AreStamped m (labelling_of labelling.old.at) changes.old) }
-    ensures by_site { IsGroupedFor problem.now.pairs room.new }
+    ensures by_site { IsGroupedFor problem.now.pairs space.new }
     ensures sizes { AreOfOneSize labelling.old labelling.new }
     ensures moved { Meant F.Fn V.Fn problem.now
         (λ m. IsMoved m (Expand alpha) labelling.old.at labelling.new.at result) }
@@ -103,16 +103,16 @@ fn make_expansion<F: Fn(u32, u32) -> i64 + Sync, V: Fn(u32, u32) -> i64 + Sync, 
     ensures stamped { Meant F.Fn V.Fn problem.now
         (λ m. AreStamped m (labelling_of labelling.new.at) changes.new) }
 {
-    let later = make_later(alloc, problem, room, labelling, alpha, changes, how)?;
+    let later = make_later(alloc, problem, space, labelling, alpha, changes, how)?;
     match later {
         Some(changed) => {
-            note_later(problem, changes, alpha, &room.stage);
+            note_later(problem, changes, alpha, &space.stage);
             return Ok(changed);
         }
         None => {}
     }
-    let changed = make_move(alloc, problem, room, labelling, Move::Expand(alpha), how)?;
-    note_whole(problem, changes, alpha, &room.built.variables.choices);
+    let changed = make_move(alloc, problem, space, labelling, Move::Expand(alpha), how)?;
+    note_whole(problem, changes, alpha, &space.built.variables.choices);
     Ok(changed)
 }
 
@@ -120,7 +120,7 @@ fn make_expansion<F: Fn(u32, u32) -> i64 + Sync, V: Fn(u32, u32) -> i64 + Sync, 
 pub(crate) fn make_next<F: Fn(u32, u32) -> i64 + Sync, V: Fn(u32, u32) -> i64 + Sync, H: How>(
     alloc: Global,
     problem: &Problem<F, V>,
-    room: &mut Room,
+    space: &mut Workspace,
     labelling: &mut Labelling,
     changes: &mut Changes,
     change: Move,
@@ -129,10 +129,10 @@ pub(crate) fn make_next<F: Fn(u32, u32) -> i64 + Sync, V: Fn(u32, u32) -> i64 + 
     requires ready { H.ready how.now }
     requires fits { Fits problem.now labelling.old }
     requires posed { IsPosed F.Fn V.Fn problem.now }
-    requires by_site { IsGroupedFor problem.now.pairs room.old }
+    requires by_site { IsGroupedFor problem.now.pairs space.old }
     requires stamped { Meant F.Fn V.Fn problem.now
         (λ m. AreStamped m (labelling_of labelling.old.at) changes.old) }
-    ensures by_site { IsGroupedFor problem.now.pairs room.new }
+    ensures by_site { IsGroupedFor problem.now.pairs space.new }
     ensures sizes { AreOfOneSize labelling.old labelling.new }
     ensures moved { Meant F.Fn V.Fn problem.now
         (λ m. IsMoved m change labelling.old.at labelling.new.at result) }
@@ -142,11 +142,11 @@ pub(crate) fn make_next<F: Fn(u32, u32) -> i64 + Sync, V: Fn(u32, u32) -> i64 + 
 {
     match change {
         Move::Expand(alpha) => {
-            make_expansion(alloc, problem, room, labelling, changes, alpha, how)
+            make_expansion(alloc, problem, space, labelling, changes, alpha, how)
         }
         Move::Swap(_, _) => {
             changes.forget();
-            make_move(alloc, problem, room, labelling, change, how)
+            make_move(alloc, problem, space, labelling, change, how)
         }
     }
 }

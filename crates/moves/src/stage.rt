@@ -12,7 +12,7 @@ ghost use Rattle.moves.specs.Problems.{IsCutRefusal};
 ghost use Rattle.moves.specs.Stages.{IsStageLeast, IsStageReady, AreStageZeros, EndsMove};
 
 use crate::one_move::minimise;
-use crate::room::Room;
+use crate::workspace::Workspace;
 use crate::{How, MoveError};
 use compile_cut::Quadratic;
 use cost_store::Problem;
@@ -41,7 +41,7 @@ fn cut_stage<F: Fn(u32, u32) -> i64 + Sync, V: Fn(u32, u32) -> i64 + Sync, H: Ho
     at: &[u8],
     change: Move,
     how: &H,
-    cutting: &mut plain_cut::Room,
+    cutting: &mut plain_cut::Workspace,
 ) -> Result<Vec<bool>, MoveError>
     requires ready { H.ready how.now }
     requires asked { IsAsked problem.now at.now change }
@@ -64,38 +64,38 @@ fn cut_stage<F: Fn(u32, u32) -> i64 + Sync, V: Fn(u32, u32) -> i64 + Sync, H: Ho
 }
 
 /// What is done with what a cut showed: where the sites that take the label are not closed in, more sites are opened.
-fn end_stage(room: &mut Room, pairs: &Pairs, bits: &[bool]) -> Result<Standing, AllocError>
-    requires ready { IsStageReady pairs.now room.old }
-    requires numbering { IsNumbering room.old.built.variables.choices.items
-        room.old.built.variables.of_sites.items }
-    requires bits { length bits.now ≡ open_count room.old.built.variables.choices.items }
-    ensures same { (room.new.grouped ≡ room.old.grouped) × (room.new.deciding ≡ room.old.deciding) }
-    ensures fresh { room.new.stage.fresh.items ≡ room.old.stage.fresh.items }
+fn end_stage(space: &mut Workspace, pairs: &Pairs, bits: &[bool]) -> Result<Standing, AllocError>
+    requires ready { IsStageReady pairs.now space.old }
+    requires numbering { IsNumbering space.old.built.variables.choices.items
+        space.old.built.variables.of_sites.items }
+    requires bits { length bits.now ≡ open_count space.old.built.variables.choices.items }
+    ensures same { (space.new.grouped ≡ space.old.grouped) × (space.new.deciding ≡ space.old.deciding) }
+    ensures fresh { space.new.stage.fresh.items ≡ space.old.stage.fresh.items }
     ensures closed { IfOk result (λ standing. standing ≡ Standing.Closed → IsClosedIn pairs.now
-        (value_of room.old.built.variables.choices.items bits.now)
-        (choice_at room.old.built.variables.choices.items)
-        (marked room.new.stage.taken.items) (marked room.old.stage.fresh.items)) }
+        (value_of space.old.built.variables.choices.items bits.now)
+        (choice_at space.old.built.variables.choices.items)
+        (marked space.new.stage.taken.items) (marked space.old.stage.fresh.items)) }
     ensures taking { IfOk result (λ standing. standing ≡ Standing.Closed →
-        AreTaking pairs.now.sites room.new.stage) }
-    ensures open { IfOk result (λ standing. standing ≡ Standing.Open → IsStageReady pairs.now room.new) }
+        AreTaking pairs.now.sites space.new.stage) }
+    ensures open { IfOk result (λ standing. standing ≡ Standing.Open → IsStageReady pairs.now space.new) }
     ensures zeros { IfOk result (λ standing. standing ≡ Standing.Open → (p : ℕ) → p < pairs.now.sites →
-        choice_at room.new.built.variables.choices.items p ≡ Zero →
-        value_of room.old.built.variables.choices.items bits.now p ≡ false) }
+        choice_at space.new.built.variables.choices.items p ≡ Zero →
+        value_of space.old.built.variables.choices.items bits.now p ≡ false) }
 {
-    let closed = room.stage.close(
+    let closed = space.stage.close(
         pairs,
-        &room.deciding.ends,
-        &room.built.variables.choices,
-        &room.built.variables.of_sites,
+        &space.deciding.ends,
+        &space.built.variables.choices,
+        &space.built.variables.of_sites,
         bits,
     )?;
     if closed {
         return Ok(Standing::Closed);
     }
-    let more = room.stage.reopen(
-        &mut room.built.variables.choices,
+    let more = space.stage.reopen(
+        &mut space.built.variables.choices,
         pairs,
-        &room.deciding.ends,
+        &space.deciding.ends,
         bits,
     )?;
     if more {
@@ -109,7 +109,7 @@ fn end_stage(room: &mut Room, pairs: &Pairs, bits: &[bool]) -> Result<Standing, 
 pub(crate) fn make_stage<F: Fn(u32, u32) -> i64 + Sync, V: Fn(u32, u32) -> i64 + Sync, H: How>(
     alloc: Global,
     problem: &Problem<F, V>,
-    room: &mut Room,
+    space: &mut Workspace,
     at: &[u8],
     alpha: u32,
     how: &H,
@@ -117,32 +117,32 @@ pub(crate) fn make_stage<F: Fn(u32, u32) -> i64 + Sync, V: Fn(u32, u32) -> i64 +
     requires ready { H.ready how.now }
     requires asked { IsAsked problem.now at.now (Expand alpha) }
     requires posed { IsPosed F.Fn V.Fn problem.now }
-    requires stage { IsStageReady problem.now.pairs room.old }
+    requires stage { IsStageReady problem.now.pairs space.old }
     requires allowed { Meant F.Fn V.Fn problem.now (λ m. IsAllowed m (Expand alpha) (labelling at.now)) }
-    ensures same { (room.new.grouped ≡ room.old.grouped) × (room.new.deciding ≡ room.old.deciding) }
-    ensures fresh { room.new.stage.fresh.items ≡ room.old.stage.fresh.items }
+    ensures same { (space.new.grouped ≡ space.old.grouped) × (space.new.deciding ≡ space.old.deciding) }
+    ensures fresh { space.new.stage.fresh.items ≡ space.old.stage.fresh.items }
     ensures closed { Meant F.Fn V.Fn problem.now (λ m. IfOk result (λ standing.
-        standing ≡ Standing.Closed → EndsMove m alpha at.now room.old room.new)) }
+        standing ≡ Standing.Closed → EndsMove m alpha at.now space.old space.new)) }
     ensures taking { IfOk result (λ standing. standing ≡ Standing.Closed →
-        AreTaking problem.now.pairs.sites room.new.stage) }
+        AreTaking problem.now.pairs.sites space.new.stage) }
     ensures open { IfOk result (λ standing. standing ≡ Standing.Open →
-        IsStageReady problem.now.pairs room.new) }
+        IsStageReady problem.now.pairs space.new) }
     ensures zeros { Meant F.Fn V.Fn problem.now (λ m. IfOk result (λ standing. standing ≡ Standing.Open →
-        AreStageZeros m alpha at.now room.old → AreStageZeros m alpha at.now room.new)) }
+        AreStageZeros m alpha at.now space.old → AreStageZeros m alpha at.now space.new)) }
     ensures refused { IfErr result (IsCutRefusal (H.refuses how.now)) }
 {
     let bits = cut_stage(
         alloc,
         problem,
-        &mut room.built,
-        &room.deciding.ends,
-        &room.stage.opened,
+        &mut space.built,
+        &space.deciding.ends,
+        &space.stage.opened,
         at,
         Move::Expand(alpha),
         how,
-        &mut room.cutting,
+        &mut space.cutting,
     )?;
-    match end_stage(room, &problem.pairs, &bits) {
+    match end_stage(space, &problem.pairs, &bits) {
         Ok(standing) => Ok(standing),
         Err(_) => Err(MoveError::OutOfMemory),
     }

@@ -12,7 +12,7 @@ ghost use Rattle.moves.specs.Problems.{IsMade};
 ghost use Rattle.moves.specs.Stages.{HasTaken};
 
 use crate::listed::lowers;
-use crate::room::Room;
+use crate::workspace::Workspace;
 use cost_store::Problem;
 use label_field::Labelling;
 use labellings::Move;
@@ -24,52 +24,52 @@ pub(crate) fn take_best<F: Fn(u32, u32) -> i64 + Sync, V: Fn(u32, u32) -> i64 + 
     problem: &Problem<F, V>,
     field: &mut Labelling,
     change: Move,
-    room: &Room,
+    space: &Workspace,
 ) -> bool
     requires fits { Fits problem.now field.old }
     requires posed { IsPosed F.Fn V.Fn problem.now }
     requires free { IsFreeFor change (costs_of problem.now.label_costs) }
     requires below { IsMoveOf field.old.labels change }
-    requires choices { length room.now.built.variables.choices.items ≡ length field.old.at }
-    requires changes { IsTrue room.now.deciding.lists.listed →
-        AreChangesListed problem.now.pairs change field.old.at room.now }
+    requires choices { length space.now.built.variables.choices.items ≡ length field.old.at }
+    requires changes { IsTrue space.now.deciding.lists.listed →
+        AreChangesListed problem.now.pairs change field.old.at space.now }
     ensures sizes { AreOfOneSize field.old field.new }
     ensures made { IsMade change field.old.at field.new.at result }
     ensures taken { (a : ℕ) → change ≡ Expand a →
-        HasTaken a (site_values room.now.built.variables.choices.items) field.old.at field.new.at }
+        HasTaken a (site_values space.now.built.variables.choices.items) field.old.at field.new.at }
     ensures best { Meant F.Fn V.Fn problem.now (λ m. IsSmallestLeast m.sites (made_value m change (labelling
-        field.old.at)) (site_values room.now.built.variables.choices.items) → (IsBest m change field.old.at
+        field.old.at)) (site_values space.now.built.variables.choices.items) → (IsBest m change field.old.at
         field.new.at × ((IsTrue result → field.new.at ≢ field.old.at) × (IsFalse result → field.new.at ≡
         field.old.at)))) }
 {
     match change {
-        Move::Expand(_) => relabel(field, room, change),
+        Move::Expand(_) => relabel(field, space, change),
         Move::Swap(_, _) => {
-            if !lowers(problem, field.as_slice(), change, room) {
+            if !lowers(problem, field.as_slice(), change, space) {
                 return false;
             }
-            relabel(field, room, change)
+            relabel(field, space, change)
         }
     }
 }
 
 /// Gives each site the label that its value makes. It answers whether a label changed. Where the sites whose labels can
 /// change are listed, no other is looked at.
-fn relabel(labelling: &mut Labelling, room: &Room, change: Move) -> bool
+fn relabel(labelling: &mut Labelling, space: &Workspace, change: Move) -> bool
     requires below { IsMoveOf labelling.old.labels change }
-    requires choices { length room.now.built.variables.choices.items ≡ length labelling.old.at }
-    requires changes { IsTrue room.now.deciding.lists.listed → HasChanges change labelling.old.at
-        room.now.built.variables.choices.items room.now.deciding.lists.changing.items }
+    requires choices { length space.now.built.variables.choices.items ≡ length labelling.old.at }
+    requires changes { IsTrue space.now.deciding.lists.listed → HasChanges change labelling.old.at
+        space.now.built.variables.choices.items space.now.deciding.lists.changing.items }
     ensures sizes { (labelling.new.labels ≡ labelling.old.labels)
         × (length labelling.new.at ≡ length labelling.old.at) }
     ensures each { (p : ℕ) → p < length labelling.old.at → slice_index labelling.new.at p ≡ label_in change
-        (slice_index labelling.old.at p) (site_values room.now.built.variables.choices.items p) }
+        (slice_index labelling.old.at p) (site_values space.now.built.variables.choices.items p) }
     ensures changed { (IsTrue result → labelling.new.at ≢ labelling.old.at) × (IsFalse result →
         labelling.new.at ≡ labelling.old.at) }
 {
-    let choices = room.built.variables.choices.as_slice();
-    if room.deciding.lists.listed {
-        relabel_listed(labelling, choices, change, &room.deciding.lists.changing)
+    let choices = space.built.variables.choices.as_slice();
+    if space.deciding.lists.listed {
+        relabel_listed(labelling, choices, change, &space.deciding.lists.changing)
     } else {
         relabel_all(labelling, choices, change)
     }

@@ -9,7 +9,7 @@ use Rattle.flow_network.proofs.Moves.{kept-le-total}
 use Rattle.sink_distances.specs.Distances.{AreDistances}
 use Rattle.sink_distances.proofs.Laws.{distances_label, distances_rise, distances-le-top}
 use Rattle.plain_cut.specs.declared.work.Work.{Work}
-use Rattle.plain_cut.specs.State.{work_flow, IsWork, IsQueuedBut, IsFinished, IsRaised}
+use Rattle.plain_cut.specs.State.{work_flow, IsWork, IsQueuedBut, HasNoActiveNode, IsRaised}
 
 sum_times : (x y k : ℕ) → (x + y) * k ≡ x * k + y * k
 sum_times x y k = grind arith
@@ -88,6 +88,6 @@ raise_queued net but old new r h v lv off some low =
     rw r.queue (h v lv off (omega (arith, ap (λ (xs : List ℕ). slice_index xs v) r.excess, some)) (omega (arith, r.labels v lv, low)))
 
 -- what is finished stays so
-pub raise_finished : (net : Network) (old new : Work) → IsRaised net old new → IsFinished net old → IsFinished net new
+pub raise_finished : (net : Network) (old new : Work) → IsRaised net old new → HasNoActiveNode net old → HasNoActiveNode net new
 raise_finished net old new r h v lv low =
     omega (arith, h v lv (omega (arith, r.labels v lv, low)), ap (λ (xs : List ℕ). slice_index xs v) r.excess)

@@ -6,16 +6,16 @@ use Rattle.flow_network.proofs.Smallest.{capacity_of_reach, smallest_least}
 use Rattle.sink_distances.specs.Distances.{AreDistances}
 use Rattle.sink_distances.proofs.Laws.{distances-le-nodes}
 use Rattle.plain_cut.specs.declared.work.Work.{Work}
-use Rattle.plain_cut.specs.State.{work_flow, IsWork, IsFinished}
+use Rattle.plain_cut.specs.State.{work_flow, IsWork, HasNoActiveNode}
 
-no_excess : (net : Network) (w : Work) (side : ℕ → Bool) → IsWork net w → IsFinished net w
+no_excess : (net : Network) (w : Work) (side : ℕ → Bool) → IsWork net w → HasNoActiveNode net w
     → AreDistances net (work_flow net w) w.labels.items → IsReach net (work_flow net w) side
     → (v : ℕ) → v < nodes net → side v ≡ true → excess net (work_flow net w) v ≡ 0
 no_excess net w side s done exact reach v l inside =
     let near = distances-le-nodes net (work_flow net w) w.labels.items exact v l (reach.sound v l inside) in
     sym (s.sound.told v l) ∙ done v l (omega (arith, near))
 
-pub solved_certified : (net : Network) (w : Work) (side : ℕ → Bool) (value : ℕ) → IsNet net → IsWork net w → IsFinished net w
+pub solved_certified : (net : Network) (w : Work) (side : ℕ → Bool) (value : ℕ) → IsNet net → IsWork net w → HasNoActiveNode net w
     → AreDistances net (work_flow net w) w.labels.items → IsReach net (work_flow net w) side
     → value ≡ capacity_of net side → IsCertified net (work_flow net w) side value
 solved_certified net w side value h s done exact reach told = record {
@@ -24,7 +24,7 @@ solved_certified net w side value h s done exact reach told = record {
   told = told;
 }
 
-pub solved_smallest : (net : Network) (w : Work) (side : ℕ → Bool) → IsNet net → IsWork net w → IsFinished net w
+pub solved_smallest : (net : Network) (w : Work) (side : ℕ → Bool) → IsNet net → IsWork net w → HasNoActiveNode net w
     → AreDistances net (work_flow net w) w.labels.items → IsReach net (work_flow net w) side → IsSmallestLeastCut net side
 solved_smallest net w side h s done exact reach =
     smallest_least net (work_flow net w) side h s.sound.preflow reach (no_excess net w side s done exact reach)

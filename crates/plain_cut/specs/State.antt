@@ -32,8 +32,8 @@ IsQueuedBut net but w = (v : ℕ) → v < nodes net → v ≢ but → 0 < slice_
     → slice_index w.labels.items v < top net → Contains w.queue.items v
 
 -- no node whose label is below the top has excess
-abbrev pub IsFinished : Network → Work → Type 0
-IsFinished net w =
+abbrev pub HasNoActiveNode : Network → Work → Type 0
+HasNoActiveNode net w =
     (v : ℕ) → v < nodes net → slice_index w.labels.items v < top net → slice_index w.excess.items v ≡ 0
 
 -- a push or a new label at a node: less is left, also of what new labels lower and count; at most one more

@@ -7,11 +7,11 @@
 mod opening;
 mod pushes;
 mod relabels;
-mod room;
 mod rounds;
 mod solver;
 mod turns;
 mod work;
+mod workspace;
 
-pub use room::Room;
 pub use solver::{smallest_side, smallest_side_in, solve};
+pub use workspace::Workspace;

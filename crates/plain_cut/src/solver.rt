@@ -6,13 +6,13 @@ ghost use Rattle.flow_network.specs.Preflow.{IsReach};
 ghost use Rattle.flow_network.specs.Answer.{side_of, IsRightCut};
 ghost use Rattle.sink_distances.specs.Distances.{AreDistances};
 ghost use Rattle.sink_distances.specs.Rows.{carried, firsts_of, first_at, second_at, places_of, IsRows, AreEmpty};
-ghost use Rattle.plain_cut.specs.State.{work_flow, IsWork, IsFinished};
+ghost use Rattle.plain_cut.specs.State.{work_flow, IsWork, HasNoActiveNode};
 
 use crate::opening::open;
-use crate::room::Room;
 use crate::rounds::begin_round;
 use crate::turns::run;
 use crate::work::{Work, raise_all};
+use crate::workspace::Workspace;
 use flow_network::{Net, Solved, cut_capacity};
 use sink_distances::{Outline, Rows, Spare, rows_by_node, rows_of, side_below, zeros};
 use std::alloc::{AllocError, Global};
@@ -20,14 +20,14 @@ use std::collections::VecDeque;
 use std::mem::replace;
 
 /// The work at its end, whose labels are the exact distances. It takes the net's rows, sources and sinks over, and the
-/// room's labels and queue; the order goes back to the room.
+/// workspace's labels and queue; the order goes back to it.
 fn finish(
     alloc: Global,
     net: &Outline,
     rows: Rows,
     sources: Vec<u64>,
     sinks: Vec<u64>,
-    room: &mut Room,
+    space: &mut Workspace,
 ) -> Result<Work, AllocError>
     requires rows { IsRows net.now rows }
     requires empty { AreEmpty net.now rows }
@@ -35,16 +35,16 @@ fn finish(
     requires sinks { sinks.items ≡ net.now.sinks }
     ensures limits { IsNet net.now }
     ensures work { IfOk result (λ w. IsWork net.now w) }
-    ensures finished { IfOk result (λ w. IsFinished net.now w) }
+    ensures finished { IfOk result (λ w. HasNoActiveNode net.now w) }
     ensures exact { IfOk result (λ w. AreDistances net.now (work_flow net.now w) w.labels.items) }
 {
     let nodes = net.nodes();
-    let labels = replace(&mut room.labels, Vec::new(alloc));
-    let queue = replace(&mut room.queue, VecDeque::new(alloc));
-    let mut order = zeros(replace(&mut room.order, Vec::new(alloc)), nodes)?;
+    let labels = replace(&mut space.labels, Vec::new(alloc));
+    let queue = replace(&mut space.queue, VecDeque::new(alloc));
+    let mut order = zeros(replace(&mut space.order, Vec::new(alloc)), nodes)?;
     let mut work = open(net, rows, sources, sinks, labels, queue)?;
     settle(net, &mut work, order.as_mut_slice())?;
-    room.order = order;
+    space.order = order;
     Ok(work)
 }
 
@@ -54,7 +54,7 @@ fn settle(net: &Outline, work: &mut Work, order: &mut [u32]) -> Result<(), Alloc
     requires work { IsWork net.now work.old }
     requires order { length order.old ≡ nodes net.now }
     ensures work { OnOk result (IsWork net.now work.new) }
-    ensures finished { OnOk result (IsFinished net.now work.new) }
+    ensures finished { OnOk result (HasNoActiveNode net.now work.new) }
     ensures exact { OnOk result (AreDistances net.now (work_flow net.now work.new) work.new.labels.items) }
 {
     begin_round(net, work, order)?;
@@ -86,8 +86,8 @@ pub fn solve(alloc: Global, net: &Net) -> Result<Solved, AllocError>
     let sinks = Vec::from_slice(alloc, net.sinks())?;
     let shape = Outline::of(net.graph());
     let (rows, firsts) = rows_by_node(alloc, net.graph())?;
-    let mut room = Room::new(alloc);
-    let work = finish(alloc, &shape, rows, sources, sinks, &mut room)?;
+    let mut space = Workspace::new(alloc);
+    let work = finish(alloc, &shape, rows, sources, sinks, &mut space)?;
     answer_of(alloc, net, &shape, work, firsts.as_slice())
 }
 
@@ -100,23 +100,27 @@ pub fn smallest_side(alloc: Global, net: Net) -> Result<Vec<bool>, AllocError>
     ensures bits { IfOk result (λ side. length side.items ≡ nodes net) }
     ensures smallest { IfOk result (λ side. IsSmallestLeastCut net (set_of side.items)) }
 {
-    let mut room = Room::new(alloc);
-    smallest_side_in(alloc, net, &mut room)
+    let mut space = Workspace::new(alloc);
+    smallest_side_in(alloc, net, &mut space)
 }
 
-/// What `smallest_side` answers, in room that is kept from one net to the next: up to 262,144 nodes the lists of rows, labels,
-/// queue and order stand in what they stood in before.
-pub fn smallest_side_in(alloc: Global, net: Net, room: &mut Room) -> Result<Vec<bool>, AllocError>
+/// What `smallest_side` answers, in a workspace that is kept from one net to the next: up to 262,144 nodes the lists of
+/// rows, labels, queue and order stand in what they stood in before.
+pub fn smallest_side_in(
+    alloc: Global,
+    net: Net,
+    space: &mut Workspace,
+) -> Result<Vec<bool>, AllocError>
     ensures bits { IfOk result (λ side. length side.items ≡ nodes net) }
     ensures smallest { IfOk result (λ side. IsSmallestLeastCut net (set_of side.items)) }
 {
     let (graph, sources, sinks) = net.into_parts();
     let outline = Outline::of(&graph);
-    let spare = replace(&mut room.rows, Spare::new(alloc));
+    let spare = replace(&mut space.rows, Spare::new(alloc));
     let rows = rows_of(graph, spare)?;
-    let work = finish(alloc, &outline, rows, sources, sinks, room)?;
+    let work = finish(alloc, &outline, rows, sources, sinks, space)?;
     let side = least_side(alloc, &outline, &work)?;
-    room.keep(alloc, work);
+    space.keep(alloc, work);
     Ok(side)
 }
 
@@ -124,7 +128,7 @@ pub fn smallest_side_in(alloc: Global, net: Net, room: &mut Room) -> Result<Vec<
 fn least_side(alloc: Global, net: &Outline, work: &Work) -> Result<Vec<bool>, AllocError>
     requires limits { IsNet net.now }
     requires work { IsWork net.now work.now }
-    requires finished { IsFinished net.now work.now }
+    requires finished { HasNoActiveNode net.now work.now }
     requires exact { AreDistances net.now (work_flow net.now work.now) work.now.labels.items }
     ensures bits { IfOk result (λ side. length side.items ≡ nodes net.now) }
     ensures reach { IfOk result (λ side. IsReach net.now (work_flow net.now work.now) (set_of side.items)) }
@@ -171,7 +175,7 @@ fn answer_of(
     requires outline { outline.now ≡ net.now }
     requires firsts { firsts.now ≡ places_of net.now }
     requires work { IsWork net.now work }
-    requires finished { IsFinished net.now work }
+    requires finished { HasNoActiveNode net.now work }
     requires exact { AreDistances net.now (work_flow net.now work) work.labels.items }
     ensures certified { IfOk result (λ s. IsRightCut net.now s) }
     ensures smallest { IfOk result (λ s. IsSmallestLeastCut net.now (side_of s)) }

@@ -1,7 +1,7 @@
 ghost use Rattle.std.specs.Prelude.{◌≡◌, ◌<◌, ℕ, OnOk, length, slice_index};
 ghost use Rattle.flow_network.specs.Cut.{nodes};
 ghost use Rattle.flow_network.specs.Progress.{top};
-ghost use Rattle.plain_cut.specs.State.{IsWork, IsQueuedBut, IsSteps, IsFinished};
+ghost use Rattle.plain_cut.specs.State.{IsWork, IsQueuedBut, IsSteps, HasNoActiveNode};
 
 use crate::pushes::push_all;
 use crate::relabels::relabel;
@@ -34,7 +34,7 @@ pub fn run(net: &Outline, work: &mut Work, order: &mut [u32]) -> Result<(), Allo
     requires order { length order.old ≡ nodes net.now }
     requires queued { IsQueuedBut net.now (nodes net.now) work.old }
     ensures work { OnOk result (IsWork net.now work.new) }
-    ensures done { OnOk result (IsFinished net.now work.new) }
+    ensures done { OnOk result (HasNoActiveNode net.now work.new) }
 {
     let most = net.nodes() / 32;
     'turns: while let Some(v) = work.queue.pop_front() {

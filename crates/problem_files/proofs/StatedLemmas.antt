@@ -6,7 +6,7 @@ use Rattle.toml.specs.Data.{Data, integer, array, Items, no_items, item, Members
 use Rattle.pseudo_bool.specs.Limits.{variable_limit, term_limit}
 use Rattle.pseudo_bool.specs.declared.term.Term.{Term}
 use Rattle.pseudo_bool.specs.declared.term.Term.TheVariants.{One, Two, Three}
-use Rattle.pseudo_bool.specs.Formula.{Formula}
+use Rattle.pseudo_bool.specs.Energies.{Energy}
 use Rattle.problem_files.specs.declared.energy_fault.EnergyFault.{EnergyFault}
 use Rattle.problem_files.specs.declared.energy_fault.EnergyFault.TheVariants.{NoSuchVariable, SameVariable, ValueRange}
 use Rattle.problem_files.specs.Problem.{and_then, checked, constant_at, constant_in, integers_at, integers_of, is_distinct, is_value, is_variable, item_count, names, term_at, term_from, term_of, terms_at, terms_from, terms_in, variables_from, variables_in}
@@ -159,7 +159,7 @@ variables_back (Some (integer (pos m))) n e = ap (λ k. Some (integer (pos k))) 
 variables_back (Some (integer (negsuc m))) n e = absurd (let no = e in cc)
 variables_back (Some _) n e = absurd (let no = e in cc)
 
-pub stated : (ms : Members) (e : Formula) → names ms ≡ Ok e → States ms e
+pub stated : (ms : Members) (e : Energy) → names ms ≡ Ok e → States ms e
 stated ms e named =
     let first = stepped (variables_in ms) (λ variables. and_then (constant_in ms) (λ constant. and_then (terms_in variables ms) (λ terms.
     Ok (record { constant = constant; variables = variables; terms = terms })))) e named in

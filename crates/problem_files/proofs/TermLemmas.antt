@@ -11,7 +11,7 @@ use Rattle.pseudo_bool.specs.declared.error.EnergyError.TheVariants as energy
 use Rattle.pseudo_bool.specs.Limits.{value_limit}
 use Rattle.pseudo_bool.specs.declared.term.Term.{Term}
 use Rattle.pseudo_bool.specs.declared.term.Term.TheVariants.{One, Two, Three}
-use Rattle.pseudo_bool.specs.Formula.{Formula, IsTerm, IsWithin}
+use Rattle.pseudo_bool.specs.Energies.{Energy, IsTerm, IsWithin}
 use Rattle.problem_files.specs.Added.{Gains}
 use Rattle.problem_files.specs.declared.energy_fault.EnergyFault.{EnergyFault}
 use Rattle.problem_files.specs.declared.energy_fault.EnergyFault.TheVariants as fault
@@ -33,7 +33,7 @@ due_at_err i due term r e (inl h) err memory = cc (h.1, h.2)
 due_at_err i due term r e (inr h) err memory = absurd (memory (let only = rw err at h.1 in rw only))
 
 -- the term that is due is gained
-pub gained : (old new : Formula) (due : Result Term EnergyFault) (term : Term) → due ≡ Ok term → new ≡ record old { terms = old.terms ++ term ∷ [] } → Gains old new due
+pub gained : (old new : Energy) (due : Result Term EnergyFault) (term : Term) → due ≡ Ok term → new ≡ record old { terms = old.terms ++ term ∷ [] } → Gains old new due
 gained old new due term is more = rw is more
 
 in_range : (z : ℤ) → Decides (is_value z) (IsWithin value_limit z)

@@ -6,7 +6,7 @@ use Rattle.toml.specs.Data.{Data, Items, no_items, item, Members, get, get_membe
 use Rattle.pseudo_bool.specs.Limits.{variable_limit, term_limit, value_limit}
 use Rattle.pseudo_bool.specs.declared.term.Term.{Term}
 use Rattle.pseudo_bool.specs.declared.term.Term.TheVariants.{One, Two, Three}
-use Rattle.pseudo_bool.specs.Formula.{Formula}
+use Rattle.pseudo_bool.specs.Energies.{Energy}
 use Rattle.problem_files.specs.declared.energy_fault.EnergyFault.{EnergyFault}
 use Rattle.problem_files.specs.declared.energy_fault.EnergyFault.TheVariants.{BadField, BadElement, NoSuchVariable, SameVariable, ValueRange, ConstantRange, TooManyTerms}
 use Rattle.problem_files.specs.declared.energy_fault.EnergyKey.TheVariants.{Variables, Constant, Terms}
@@ -108,7 +108,7 @@ abbrev pub terms_in : ℕ → Members → Result (List Term) EnergyFault
 terms_in n ms = terms_at n (get_member (codes "terms") ms)
 
 -- the energy that a table names
-abbrev pub names : Members → Result Formula EnergyFault
+abbrev pub names : Members → Result Energy EnergyFault
 names ms =
     and_then (variables_in ms) (λ variables.
     and_then (constant_in ms) (λ constant.

@@ -3,7 +3,7 @@ use Rattle.std.specs.Prelude.{◌≡◌, ⊤, ℤ, pos, List, [], ◌∷◌, Opt
 use Rattle.toml.specs.Data.{Data, integer, array, Items, no_items, item, Members, get, get_member}
 use Rattle.pseudo_bool.specs.declared.term.Term.{Term}
 use Rattle.pseudo_bool.specs.declared.term.Term.TheVariants.{One, Two, Three}
-use Rattle.pseudo_bool.specs.Formula.{Formula}
+use Rattle.pseudo_bool.specs.Energies.{Energy}
 
 -- the items that are these integers
 abbrev pub integers : List ℤ → Items
@@ -40,7 +40,7 @@ StatesConstant None constant = constant ≡ pos 0
 StatesConstant (Some d) constant = d ≡ integer constant
 
 -- the table states the energy
-pub record States (ms : Members) (e : Formula) : Type 0 where
+pub record States (ms : Members) (e : Energy) : Type 0 where
   pub variables : get_member (codes "variables") ms ≡ Some (integer (pos e.variables))
   pub constant : StatesConstant (get_member (codes "constant") ms) e.constant
   pub terms : StatesList (get_member (codes "terms") ms) e.terms

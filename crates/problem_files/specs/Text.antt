@@ -2,21 +2,21 @@
 use Rattle.std.specs.Prelude.{◌≡◌, ℕ, List, Option, Some, None, Result, Ok, Err, IsUtf8, ⊤}
 use Rattle.toml.specs.Data.{Members}
 use Rattle.toml.specs.Parse.{parse_document}
-use Rattle.pseudo_bool.specs.Formula.{Formula}
+use Rattle.pseudo_bool.specs.Energies.{Energy}
 use Rattle.problem_files.specs.declared.energy_fault.EnergyFault.{EnergyFault}
 use Rattle.problem_files.specs.declared.energy_fault.EnergyFault.TheVariants.{BadToml, OutOfMemory}
 use Rattle.problem_files.specs.Problem.{names}
 
-abbrev pub named_by : Option Members → Result Formula EnergyFault
+abbrev pub named_by : Option Members → Result Energy EnergyFault
 named_by None = Err BadToml
 named_by (Some ms) = names ms
 
 -- the energy that the bytes of a text name, or the text's first fault
-abbrev pub energy_in : List ℕ → Result Formula EnergyFault
+abbrev pub energy_in : List ℕ → Result Energy EnergyFault
 energy_in bytes = named_by (parse_document bytes)
 
 -- the bytes are a text, and name this energy
-abbrev pub NamesEnergy : List ℕ → Formula → Type 0
+abbrev pub NamesEnergy : List ℕ → Energy → Type 0
 NamesEnergy bytes energy = IsUtf8 bytes × (energy_in bytes ≡ Ok energy)
 
 -- The bytes have this fault: they are no TOML text, or a text with this first fault. Memory may always be

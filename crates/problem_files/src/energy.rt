@@ -2,7 +2,7 @@
 ghost use Rattle.std.specs.Prelude.{◌≡◌, ◌≢◌, ◌≤◌, [], Ok, Err, IfOk, IfErr, OnOk, vec_len};
 ghost use Rattle.toml.specs.View.{array_view, table_view, view};
 ghost use Rattle.pseudo_bool.specs.Limits.{term_limit, value_limit, variable_limit};
-ghost use Rattle.pseudo_bool.specs.Formula.{IsWithin};
+ghost use Rattle.pseudo_bool.specs.Energies.{IsWithin};
 ghost use Rattle.problem_files.specs.declared.energy_fault.EnergyFault.TheVariants.{OutOfMemory};
 ghost use Rattle.problem_files.specs.Added.{GainsAll, IsFirstOf};
 ghost use Rattle.problem_files.specs.Problem.{names, terms_from, terms_in};

@@ -11,7 +11,7 @@ use Rattle.pseudo_bool.specs.declared.term.Term.{Term}
 use Rattle.pseudo_bool.specs.declared.term.Term.TheVariants.{One, Two, Three}
 use Rattle.pseudo_bool.specs.declared.row.Row.{Row}
 use Rattle.pseudo_bool.specs.declared.row.Triple.{Triple}
-use Rattle.pseudo_bool.specs.Formula.{Formula, IsTerm, IsValue, IsEnergy, term_value, value_at, entry, digit}
+use Rattle.pseudo_bool.specs.Energies.{Energy, IsTerm, IsValue, IsEnergy, term_value, value_at, entry, digit}
 use Rattle.pseudo_bool.specs.Rows.{term_of, terms_of, IsKept, AreKept, AddsRows}
 use Rattle.pseudo_bool.specs.Hidden.{with_bit, IsLeastOver, tied_terms, unless_all_terms, if_any_terms, with_terms, IsTieable}
 use Rattle.pseudo_bool.proofs.RowLemmas.{plain_row, kept_more}
@@ -72,7 +72,7 @@ beside_terms n (name ∷ names) beside below values =
 tied_count : (names : List ℕ) (y : ℕ) (alone beside : List ℤ) → length (tied_terms names y alone beside) ≡ 1 + length names
 tied_count names y alone beside = omega (arith, length-map names (λ name. Two name y beside))
 
-pub tied_energy : (e : Formula) (names : List ℕ) (cost : ℤ) (alone beside : List ℤ) → IsEnergy e → IsTieable e names cost → All IsValue alone → All IsValue beside
+pub tied_energy : (e : Energy) (names : List ℕ) (cost : ℤ) (alone beside : List ℤ) → IsEnergy e → IsTieable e names cost → All IsValue alone → All IsValue beside
     → IsEnergy (with_terms e (tied_terms names e.variables alone beside))
 tied_energy e names cost alone beside is tie one two = record {
   constant = is.constant;
@@ -120,7 +120,7 @@ beside_value x z y b beside (name ∷ names) below same is =
 adds_up : (c a b o p q s : ℤ) → a ≡ o → s ≡ a +ℤ (p +ℤ q) → (c +ℤ s) ≡ (c +ℤ o) +ℤ (p +ℤ q)
 adds_up c a b o p q s h k = omega (arith, ints, h, k)
 
-pub tied_value : (e : Formula) (names : List ℕ) (alone beside : List ℤ) (x : ℕ → Bool) (b : Bool) → IsEnergy e → All (λ name. name < e.variables) names
+pub tied_value : (e : Energy) (names : List ℕ) (alone beside : List ℤ) (x : ℕ → Bool) (b : Bool) → IsEnergy e → All (λ name. name < e.variables) names
     → value_at (with_terms e (tied_terms names e.variables alone beside)) (with_bit x e.variables b)
     ≡ value_at e x +ℤ (entry alone (digit b) +ℤ int_sum_by (λ name. entry beside (2 * digit (x name) + digit b)) names)
 tied_value e names alone beside x b is below =
@@ -181,7 +181,7 @@ any_not x [] = refl
 any_not x (v ∷ vs) = ap (λ b. not (x v) || b) (any_not x vs) ∙ not_both (x v) (list_all x vs)
 
 -- at one value of the variable the cost is paid, at the other nothing or at least the cost
-pick : (e : Formula) (y : ℕ) (x : ℕ → Bool) (old cost s : ℤ) (some : Bool) (pays saves : Bool) → ((b : Bool) → (b ≡ pays) ⊎ (b ≡ saves))
+pick : (e : Energy) (y : ℕ) (x : ℕ → Bool) (old cost s : ℤ) (some : Bool) (pays saves : Bool) → ((b : Bool) → (b ≡ pays) ⊎ (b ≡ saves))
     → value_at e (with_bit x y pays) ≡ old +ℤ cost → value_at e (with_bit x y saves) ≡ old +ℤ s
     → pos 0 ≤ℤ cost → int_counted some cost ≤ℤ s → (some ≡ false → s ≡ pos 0) → IsLeastOver e y x (old +ℤ int_counted some cost)
 pick e y x old cost s true pays saves either at_pays at_saves cost_is once never = record {
@@ -233,7 +233,7 @@ any_true : (cost : ℤ) (b : Bool) → entry (pos 0 ∷ pos 0 ∷ cost ∷ pos 0
 any_true cost true = refl
 any_true cost false = refl
 
-pub unless_least : (e : Formula) (names : List ℕ) (cost : ℤ) (x : ℕ → Bool) → IsEnergy e → IsTieable e names cost
+pub unless_least : (e : Energy) (names : List ℕ) (cost : ℤ) (x : ℕ → Bool) → IsEnergy e → IsTieable e names cost
     → IsLeastOver (with_terms e (unless_all_terms names e.variables cost)) e.variables x (value_at e x +ℤ int_counted (not (list_all x names)) cost)
 unless_least e names cost x is tie =
     let alone = cost ∷ pos 0 ∷ [] in
@@ -251,7 +251,7 @@ unless_least e names cost x is tie =
     (subst F (any_not x names) (paid_once (λ v. not (x v)) names cost tie.cost_is.0))
     (λ all. paid_never (λ v. not (x v)) names cost (any_not x names ∙ all))
 
-pub any_least : (e : Formula) (names : List ℕ) (cost : ℤ) (x : ℕ → Bool) → IsEnergy e → IsTieable e names cost
+pub any_least : (e : Energy) (names : List ℕ) (cost : ℤ) (x : ℕ → Bool) → IsEnergy e → IsTieable e names cost
     → IsLeastOver (with_terms e (if_any_terms names e.variables cost)) e.variables x (value_at e x +ℤ int_counted (list_any x names) cost)
 any_least e names cost x is tie =
     let alone = pos 0 ∷ cost ∷ [] in

@@ -11,7 +11,7 @@ use Rattle.pseudo_bool.specs.declared.term.Term.TheVariants.{One}
 use Rattle.pseudo_bool.specs.declared.row.Row.{Row}
 use Rattle.pseudo_bool.specs.declared.row.Row.TheVariants.{One as RowOne, Two as RowTwo, Three as RowThree}
 use Rattle.pseudo_bool.specs.declared.row.Triple.{Triple}
-use Rattle.pseudo_bool.specs.Formula.{Formula, IsTerm, IsEnergy, term_value, value_at}
+use Rattle.pseudo_bool.specs.Energies.{Energy, IsTerm, IsEnergy, term_value, value_at}
 use Rattle.pseudo_bool.specs.Rows.{triple_term, triple_at, term_of, terms_of, IsKept, AreKept}
 
 -- ---- rows that are read
@@ -89,7 +89,7 @@ row_kept ts rows row k h =
     }
 
 -- an energy with a term added
-pub term_added : (e : Formula) (t : Term) → IsEnergy e → IsTerm e.variables t → length e.terms < 8388608
+pub term_added : (e : Energy) (t : Term) → IsEnergy e → IsTerm e.variables t → length e.terms < 8388608
     → IsEnergy (record e { terms = e.terms ++ t ∷ [] })
 term_added e t h is l =
     record {
@@ -120,7 +120,7 @@ sum_step start total value f rows i l count sum small is within =
     }
 
 -- the sum over all rows is that over all terms
-pub whole_sum : (e : Formula) (x : ℕ → Bool) (ts : List Triple) (rows : List Row) (start total : ℤ) (i : ℕ)
+pub whole_sum : (e : Energy) (x : ℕ → Bool) (ts : List Triple) (rows : List Row) (start total : ℤ) (i : ℕ)
     → start ≡ e.constant → terms_of ts rows ≡ e.terms → length rows ≤ i
     → total ≡ start +ℤ int_sum_by (λ row. term_value x (term_of ts row)) (take i rows)
     → total ≡ value_at e x

@@ -4,7 +4,7 @@ use Rattle.std.proofs.Math.ListN.{length-set}
 use Rattle.std.proofs.lemmas.Int.{ints, to_z-of_z}
 use Rattle.std.proofs.lemmas.List.{take_all, take_more, take_more_set}
 use Rattle.sums.proofs.IntegerSumLemmas.{within_fits}
-use Rattle.pseudo_bool.specs.Formula.{entry}
+use Rattle.pseudo_bool.specs.Energies.{entry}
 
 -- a number of a table, passed on and kept in 32 bits
 pub kept_is : (z : ℤ) → unsigned_abs z ≤ 1000000000 → to_z w32 (of_z w32 (to_z w64 (of_z w64 z))) ≡ z

@@ -1,5 +1,5 @@
 pub mod Limits
-pub mod Formula
+pub mod Energies
 pub mod Refusals
 pub mod Rows
 pub mod Hidden

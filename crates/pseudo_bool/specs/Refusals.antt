@@ -4,7 +4,7 @@ use Rattle.pseudo_bool.specs.declared.error.EnergyError.{EnergyError}
 use Rattle.pseudo_bool.specs.declared.error.EnergyError.TheVariants.{NoSuchVariable, SameVariable, ValueRange, TooManyTerms, OutOfMemory}
 use Rattle.pseudo_bool.specs.declared.term.Term.{Term}
 use Rattle.pseudo_bool.specs.declared.term.Term.TheVariants.{One, Two, Three}
-use Rattle.pseudo_bool.specs.Formula.{Formula, IsTerm, IsValue}
+use Rattle.pseudo_bool.specs.Energies.{Energy, IsTerm, IsValue}
 use Rattle.pseudo_bool.specs.Limits.{term_limit}
 
 -- each variable of the term is below n
@@ -39,16 +39,16 @@ HasValues (Three first second third table) = All IsValue table
 
 -- a term that may be added: over variables of the energy, no two equal, its numbers in their range, and room
 -- in the list
-pub record IsAccepted (e : Formula) (term : Term) : Type 0 where
+pub record IsAccepted (e : Energy) (term : Term) : Type 0 where
   pub is_term : IsTerm e.variables term
   pub room : length e.terms < term_limit
 
 -- the new energy has the term at the end of its list, and is else as it was
-abbrev pub IsAdded : Formula → Formula → Term → Type 0
+abbrev pub IsAdded : Energy → Energy → Term → Type 0
 IsAdded old new term = new ≡ record old { terms = old.terms ++ term ∷ [] }
 
 -- why a term is refused: the first cause that holds, and out of memory only where none does
-abbrev pub IsRefusal : Formula → Term → EnergyError → Type 0
+abbrev pub IsRefusal : Energy → Term → EnergyError → Type 0
 IsRefusal e term NoSuchVariable = NamesUnknown e.variables term
 IsRefusal e term SameVariable = NamesKnown e.variables term × NamesTwice term
 IsRefusal e term ValueRange = NamesKnown e.variables term × NamesApart term × ¬ HasValues term

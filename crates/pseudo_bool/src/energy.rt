@@ -2,7 +2,7 @@ ghost use Rattle.std.specs.Prelude.{◌≡◌, ◌+◌, ◌<◌, ◌≤◌, ◌�
 ghost use Rattle.std.specs.List.{list_all, list_any};
 ghost use Rattle.sums.specs.IntegerSums.{int_counted};
 ghost use Rattle.pseudo_bool.specs.Limits.{variable_limit, constant_limit};
-ghost use Rattle.pseudo_bool.specs.Formula.{IsEnergy, IsTerm, IsWithin, IsValue, value_at, assignment};
+ghost use Rattle.pseudo_bool.specs.Energies.{IsEnergy, IsTerm, IsWithin, IsValue, value_at, assignment};
 ghost use Rattle.pseudo_bool.specs.Refusals.{IsAccepted, IsAdded, IsRefusal};
 ghost use Rattle.pseudo_bool.specs.Rows.{term_of, triple_term, IsKept};
 ghost use Rattle.pseudo_bool.specs.Hidden.{IsLeastOver, tied_terms, unless_all_terms, if_any_terms, with_terms, IsCost, CanTie, IsTieable, IsTieRefusal, IsTieFault};
@@ -23,10 +23,11 @@ pub struct Energy {
 }
 
 impl Model for Energy {
-    ghost use Rattle.pseudo_bool.specs.Formula.{Formula, IsEnergy};
+    ghost use Rattle.pseudo_bool.specs.Energies as meaning;
+    ghost use Rattle.pseudo_bool.specs.Energies.{IsEnergy};
     ghost use Rattle.pseudo_bool.specs.Rows.{terms_of, AreKept};
 
-    ghost Value = { Formula };
+    ghost Value = { meaning.Energy };
 
     ghost view = { λ e. record {
       constant = e.constant;

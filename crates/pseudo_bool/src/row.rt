@@ -1,5 +1,5 @@
 ghost use Rattle.std.specs.Prelude.{◌≡◌, ◌+◌, ◌<◌, ◌≤◌, ◌^◌, [], ◌∷◌, All, length, map, vec_len, vec_capacity};
-ghost use Rattle.pseudo_bool.specs.Formula.{term_value, assignment, IsTerm, IsValue};
+ghost use Rattle.pseudo_bool.specs.Energies.{term_value, assignment, IsTerm, IsValue};
 ghost use Rattle.pseudo_bool.specs.Hidden.{tied_terms};
 ghost use Rattle.pseudo_bool.specs.Rows.{number_of, term_of, triple_term, IsKept, AddsRows};
 

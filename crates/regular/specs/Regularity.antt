@@ -1,7 +1,7 @@
 use Rattle.std.specs.Prelude.{◌≡◌, ℕ, zero, suc, ◌+◌, ◌*◌, ◌<◌, List, [], ◌∷◌, All, Option, None, Some, ℤ, ◌+ℤ◌, ◌≤ℤ◌, slice_get, take}
 use Rattle.pseudo_bool.specs.declared.term.Term.{Term}
 use Rattle.pseudo_bool.specs.declared.term.Term.TheVariants.{One, Two, Three}
-use Rattle.pseudo_bool.specs.Formula.{Formula, entry, digit}
+use Rattle.pseudo_bool.specs.Energies.{Energy, entry, digit}
 use Rattle.regular.specs.declared.fixed.Fixed.{Fixed}
 
 -- a table of two variables: what it has at 00 and 11 is at most what it has at 01 and 10 (Kolmogorov and
@@ -35,7 +35,7 @@ IsRegularTerm (Three first second third table) =
     (fixed : Fixed) → fixed.position < 3 → IsRegularTable (projection table fixed)
 
 -- each term by itself
-abbrev pub IsRegular : Formula → Type 0
+abbrev pub IsRegular : Energy → Type 0
 IsRegular e = All IsRegularTerm e.terms
 
 -- this projection is not regular, and each before it is
@@ -53,7 +53,7 @@ FailsFirst (Three first second third table) None = ⊥
 FailsFirst (Three first second third table) (Some fixed) = IsFirstProjection table fixed
 
 -- the term at this place is not regular, this is where it first fails, and each term before it is regular
-pub record IsFirstFailing (e : Formula) (place : ℕ) (fixed : Option Fixed) : Type 0 where
+pub record IsFirstFailing (e : Energy) (place : ℕ) (fixed : Option Fixed) : Type 0 where
   pub failing : Term
   pub here : slice_get e.terms place ≡ Some failing
   pub fails : FailsFirst failing fixed

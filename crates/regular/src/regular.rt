@@ -11,10 +11,10 @@ pub struct Regular<'a> {
 }
 
 impl<'a> Model for Regular<'a> {
-    ghost use Rattle.pseudo_bool.specs.Formula.{Formula};
+    ghost use Rattle.pseudo_bool.specs.Energies as meaning;
     ghost use Rattle.regular.specs.Regularity.{IsRegular};
 
-    ghost Value = { Formula };
+    ghost Value = { meaning.Energy };
 
     ghost view = { λ r. r.energy.now };
 

@@ -1,5 +1,5 @@
 ghost use Rattle.std.specs.Prelude.{◌↔◌, All, IsTrue};
-ghost use Rattle.pseudo_bool.specs.Formula.{IsWithin};
+ghost use Rattle.pseudo_bool.specs.Energies.{IsWithin};
 ghost use Rattle.regular.specs.Limits.{entry_limit};
 ghost use Rattle.regular.specs.Regularity.{IsRegularTable};
 

@@ -1,5 +1,5 @@
 ghost use Rattle.std.specs.Prelude.{◌≡◌, ◌↔◌, ◌<◌, ◌≤◌, ◌+ℤ◌, ◌≤ℤ◌, ℕ, All, IsTrue, IsOk, IfErr, IsNone, IfSome, unsigned_abs};
-ghost use Rattle.pseudo_bool.specs.Formula.{IsValue};
+ghost use Rattle.pseudo_bool.specs.Energies.{IsValue};
 ghost use Rattle.pseudo_bool.specs.Refusals.{HasValues};
 ghost use Rattle.regular.specs.declared.fixed.Fixed.{Fixed};
 ghost use Rattle.regular.specs.Regularity.{IsRegularTerm, IsRegularTable, FailsFirst, IsFirstProjection, projection};

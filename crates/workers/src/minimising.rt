@@ -1,6 +1,6 @@
 //! The least value of a regular energy, by any way to cut a net.
 ghost use Rattle.std.specs.Prelude.{◌≡◌, ◌⊎◌, IfOk, IfErr, length};
-ghost use Rattle.pseudo_bool.specs.Formula.{assignment, value_at};
+ghost use Rattle.pseudo_bool.specs.Energies.{assignment, value_at};
 ghost use Rattle.compile_cut.specs.Shown.{IsSmallestLeastAssignment};
 ghost use Rattle.moves.specs.declared.error.SolveError.TheVariants.{OutOfMemory};
 

@@ -1,6 +1,6 @@
 use Rattle.std.proofs.Common.{◌≡◌, ◌∙◌, ◌≤ℤ◌, subst, sym, rules, w64, FitsSigned, to_z, of_z}
 use Rattle.std.proofs.lemmas.Int.{to_z-of_z}
-use Rattle.pseudo_bool.specs.Formula.{Formula, value_at, assignment}
+use Rattle.pseudo_bool.specs.Energies.{Energy, value_at, assignment}
 use Rattle.calling.proofs.least_value.Goals as goal
 
 pub returns-clause-least : goal.returns-clause-least
@@ -10,7 +10,7 @@ returns-clause-least c = λ x.
     let fits : FitsSigned w64 minimum.value = record { sfits = search rules } in
     let value : to_z w64 (of_z w64 minimum.value) ≡ value_at c.in-Ok.regular (assignment minimum.assignment.items) =
     to_z-of_z w64 minimum.value fits ∙ c.in_ok-minimum.ensures.value in
-    let P : Formula → Type 0 = λ e. to_z w64 (of_z w64 minimum.value) ≤ℤ value_at e x in
+    let P : Energy → Type 0 = λ e. to_z w64 (of_z w64 minimum.value) ≤ℤ value_at e x in
     subst P same (rw value (c.in_ok-minimum.ensures.best.least x))
 
 pub returns-clause-reached : goal.returns-clause-reached
@@ -20,5 +20,5 @@ returns-clause-reached c =
     let fits : FitsSigned w64 minimum.value = record { sfits = search rules } in
     let value : to_z w64 (of_z w64 minimum.value) ≡ value_at c.in-Ok.regular (assignment minimum.assignment.items) =
     to_z-of_z w64 minimum.value fits ∙ c.in_ok-minimum.ensures.value in
-    let P : Formula → Type 0 = λ e. value_at e (assignment minimum.assignment.items) ≡ to_z w64 (of_z w64 minimum.value) in
+    let P : Energy → Type 0 = λ e. value_at e (assignment minimum.assignment.items) ≡ to_z w64 (of_z w64 minimum.value) in
     (assignment minimum.assignment.items, subst P same (sym value))

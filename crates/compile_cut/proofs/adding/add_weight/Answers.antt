@@ -1,7 +1,7 @@
 use Rattle.std.proofs.lemmas.Grind.{common_steps}
 use Rattle.std.proofs.Common.{arith, ◌≡◌, ◌<◌, length, pos}
 use Rattle.std.proofs.lemmas.List.{get_or_read}
-use Rattle.pseudo_bool.specs.Formula.{entry}
+use Rattle.pseudo_bool.specs.Energies.{entry}
 use Rattle.compile_cut.proofs.PartLemmas.{constant_is}
 use Rattle.compile_cut.proofs.WeightLemmas.{weights_value-add, weight_small}
 use Rattle.compile_cut.proofs.adding.add_weight.Goals as goal

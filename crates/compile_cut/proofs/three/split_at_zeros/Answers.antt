@@ -1,5 +1,5 @@
 use Rattle.std.proofs.Common.{arith, unsigned_abs, ◌≤◌, pos, ◌∙◌}
-use Rattle.pseudo_bool.specs.Formula.{entry}
+use Rattle.pseudo_bool.specs.Energies.{entry}
 use Rattle.compile_cut.proofs.PartLemmas.{passed_is}
 use Rattle.compile_cut.proofs.three.split_at_zeros.Goals as goal
 

@@ -1,6 +1,6 @@
 use Rattle.std.proofs.Common.{arith, ◌≡◌, ◌≤◌, ◌≤ℤ◌, ◌<ℤ◌, pos, neg_ℤ, unsigned_abs, ap, sym, ◌∙◌}
 use Rattle.std.proofs.lemmas.Int.{ints}
-use Rattle.pseudo_bool.specs.Formula.{entry}
+use Rattle.pseudo_bool.specs.Energies.{entry}
 use Rattle.compile_cut.specs.Three.{cubic_weight}
 use Rattle.compile_cut.proofs.PartLemmas.{passed_is, minus_is}
 use Rattle.compile_cut.proofs.ThreeLemmas.{AtZeros, least_at_zeros, below_is, above_is, cubic-turned, regular-turned, least_turned, constant_turned}

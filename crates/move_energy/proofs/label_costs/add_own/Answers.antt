@@ -4,7 +4,7 @@ use Rattle.std.proofs.lemmas.List.Elements.{All-weaker}
 use Rattle.std.proofs.lemmas.Result.{on_ok_weaker}
 use Rattle.sums.specs.Sums.{counted}
 use Rattle.labellings.specs.Energies.{labelling, is_used as is_used_in}
-use Rattle.compile_cut.specs.Form.{AddsLeast, IsTied}
+use Rattle.compile_cut.specs.Quadratics.{AddsLeast, IsTied}
 use Rattle.move_energy.specs.declared.choice.Choice.TheVariants.{Open}
 use Rattle.move_energy.specs.Choices.{choice_at, open_count}
 use Rattle.move_energy.proofs.Adding.{on_ok_both}

@@ -6,7 +6,7 @@ use Rattle.moves.proofs.later.look.Given as goal
 
 abbrev pub invariant-loop-stage : goal.invariant-loop-stage
 invariant-loop-stage g l = record {
-  ready : IsStageReady l.problem.pairs l.room;
-  fresh : (m : Instance) → IsMeant g.F.Fn g.V.Fn l.problem m → AreStageFresh m l.alpha l.at l.changes l.room;
-  zeros : (m : Instance) → IsMeant g.F.Fn g.V.Fn l.problem m → AreStageZeros m l.alpha l.at l.room;
+  ready : IsStageReady l.problem.pairs l.space;
+  fresh : (m : Instance) → IsMeant g.F.Fn g.V.Fn l.problem m → AreStageFresh m l.alpha l.at l.changes l.space;
+  zeros : (m : Instance) → IsMeant g.F.Fn g.V.Fn l.problem m → AreStageZeros m l.alpha l.at l.space;
 }

@@ -2,9 +2,9 @@ use Rattle.std.proofs.Common.{rules, ◌+◌, ◌<◌, ◌≤◌, ◌∙◌, vec
 use Rattle.std.proofs.lemmas.Result.{err_from_is_err_and}
 use Rattle.labellings.specs.Energies.{labelling}
 use Rattle.labellings.specs.Moves.{IsMoveOf}
-use Rattle.pseudo_bool.specs.Formula.{assignment}
+use Rattle.pseudo_bool.specs.Energies.{assignment}
 use Rattle.compile_cut.specs.declared.quadratic.Quadratic.{Quadratic}
-use Rattle.compile_cut.specs.Form.{quadratic_value, IsBounded}
+use Rattle.compile_cut.specs.Quadratics.{quadratic_value, IsBounded}
 use Rattle.deciding.specs.Decisions.{IsSmallestLeast}
 use Rattle.moves.proofs.Answers.{cut_refusal, cut_may_come, pair_may_come, pair_refusal, taken_free, costs_costly}
 use Rattle.move_energy.specs.BySite.{AreBySite}

@@ -9,7 +9,7 @@ use Rattle.moves.proofs.runs.cycle.Given as goal
 
 abbrev pub invariant-loop-place : goal.invariant-loop-place
 invariant-loop-place g l = record {
-  by_site : IsGroupedFor l.problem.pairs l.room;
+  by_site : IsGroupedFor l.problem.pairs l.space;
   stamped : (m : Instance) → IsMeant g.F.Fn g.V.Fn l.problem m → AreStamped m (labelling l.labelling.at) l.changes;
   labels : l.labelling.labels ≡ l.fn.labelling.labels;
   sites : length l.labelling.at ≡ length l.fn.labelling.at;

@@ -10,7 +10,7 @@ use Rattle.moves.proofs.runs.make_cycles.Given as goal
 
 abbrev pub invariant-loop-done : goal.invariant-loop-done
 invariant-loop-done g l = record {
-  by_site : IsGroupedFor l.problem.pairs l.room;
+  by_site : IsGroupedFor l.problem.pairs l.space;
   stamped : (m : Instance) → IsMeant g.F.Fn g.V.Fn l.problem m → AreStamped m (labelling l.labelling.at) l.changes;
   labels : l.labelling.labels ≡ l.fn.labelling.labels;
   sites : length l.labelling.at ≡ length l.fn.labelling.at;

@@ -1,8 +1,8 @@
 use Rattle.std.proofs.Common.{sym, subst, vec_len}
 use Rattle.labellings.specs.Energies.{labelling}
-use Rattle.pseudo_bool.specs.Formula.{assignment}
+use Rattle.pseudo_bool.specs.Energies.{assignment}
 use Rattle.compile_cut.specs.declared.quadratic.Quadratic.{Quadratic}
-use Rattle.compile_cut.specs.Form.{quadratic_value}
+use Rattle.compile_cut.specs.Quadratics.{quadratic_value}
 use Rattle.move_energy.specs.Choices.{choice_at, rank, StandsFor}
 use Rattle.cost_store.proofs.Meaning.{pairs_meant}
 use Rattle.deciding.specs.Decisions.{IsSmallestLeast}

@@ -16,8 +16,8 @@ returns-in-Ok-clause-closed g c = λ m meant is changed was fresh zeros.
     let at = c.args.at.now in
     let pairs = c.args.problem.now.pairs in
     let choices = c.cut_stage.new.built.variables.choices.items in
-    let taken = marked c.end_stage.new.room.stage.taken.items in
-    let marks = marked c.args.room.now.stage.fresh.items in
+    let taken = marked c.end_stage.new.space.stage.taken.items in
+    let marks = marked c.args.space.now.stage.fresh.items in
     let C : List Bool → Type 0 = λ bits. IsClosedIn pairs (value_of choices bits) (choice_at choices) taken marks in
     let Z : List Choice → Type 0 = λ cs. AreLeastZeros m.sites (move_value m (Expand a) (labelling at)) (choice_at cs) in
     closed_ends m a at pairs choices c.in_ok-bits.bits.items taken marks changed (pairs_meant _ _ _ m c.requires.posed meant) meant.sites_are meant.pairs_are
@@ -30,7 +30,7 @@ returns-in-Ok-clause-zeros g c = λ m meant is zeros.
     let at = c.args.at.now in
     let choices = c.cut_stage.new.built.variables.choices.items in
     let Z : List Choice → Type 0 = λ cs. AreLeastZeros m.sites (move_value m (Expand a) (labelling at)) (choice_at cs) in
-    next_zeros m a at choices c.end_stage.new.room.built.variables.choices.items c.in_ok-bits.bits.items (pairs_meant _ _ _ m c.requires.posed meant)
+    next_zeros m a at choices c.end_stage.new.space.built.variables.choices.items c.in_ok-bits.bits.items (pairs_meant _ _ _ m c.requires.posed meant)
     (c.requires.allowed m meant) (c.in_ok-bits.ensures.least m meant)
     (λ p l zero. subst (λ (bits : List Bool). value_of choices bits p ≡ false) c.deref-2.ensures.value (c.in-Ok.ensures.zeros is p (omega (arith, l, meant.sites_are)) zero))
     (subst Z (sym c.in_ok-bits.ensures.kept) zeros)

@@ -19,7 +19,7 @@ returns-in-Expand-clause-best g c = λ m meant least.
     let a = c.args in
     let pairs = pairs_meant _ _ _ m c.requires.posed meant in
     let size = c.requires.fits.sites ∙ sym meant.sites_are in (
-      expanded_best m a.change _ a.field.now.at c.relabel.new.labelling.at (site_values a.room.now.built.variables.choices.items) c.in-Expand.is pairs least size
+      expanded_best m a.change _ a.field.now.at c.relabel.new.labelling.at (site_values a.space.now.built.variables.choices.items) c.in-Expand.is pairs least size
           c.relabel.ensures.sizes.1 (λ p l. c.relabel.ensures.each p (omega (arith, l, size))),
       c.relabel.ensures.changed,
     )
@@ -31,7 +31,7 @@ returns-then-not-lowers-clause-best g c = λ m meant least.
     let F : Move → Type 0 = λ mv. IsFreeFor mv (costs_of a.problem.now.label_costs) in
     let free = costs_free m a.problem.now.label_costs meant.costs_are (subst F c.in-Swap.is c.requires.free) in
     let told = rw (c.as_slice.ensures.value) at (c.lowers.ensures m meant) in (
-      kept_best m a.change a.field.now.at (site_values a.room.now.built.variables.choices.items) pairs least (free_le m _ _ free (not_lower _ _ c.lowers.result told.1 c.if-not-lowers.true)),
+      kept_best m a.change a.field.now.at (site_values a.space.now.built.variables.choices.items) pairs least (free_le m _ _ free (not_lower _ _ c.lowers.result told.1 c.if-not-lowers.true)),
       ((λ yes. absurd (cc yes)), λ still. refl),
     )
 
@@ -43,14 +43,14 @@ returns-else-not-lowers-clause-best g c = λ m meant least.
     let F : Move → Type 0 = λ mv. IsFreeFor mv (costs_of a.problem.now.label_costs) in
     let free = costs_free m a.problem.now.label_costs meant.costs_are (subst F c.in-Swap.is c.requires.free) in
     let told = rw (c.as_slice.ensures.value) at (c.lowers.ensures m meant) in (
-      lower_best m a.change a.field.now.at c.relabel-in-Swap.new.labelling.at (site_values a.room.now.built.variables.choices.items) pairs least
+      lower_best m a.change a.field.now.at c.relabel-in-Swap.new.labelling.at (site_values a.space.now.built.variables.choices.items) pairs least
           c.relabel-in-Swap.ensures.sizes.1 (λ p l. c.relabel-in-Swap.ensures.each p (omega (arith, l, size))) (free_lt m _ _ free (told.0 c.if-not-lowers.false)),
       c.relabel-in-Swap.ensures.changed,
     )
 
 pub returns-in-Expand-clause-made : goal.returns-in-Expand-clause-made
 returns-in-Expand-clause-made g c = (
-  values_reach c.args.change c.args.field.now.at c.relabel.new.labelling.at (site_values c.args.room.now.built.variables.choices.items) c.relabel.ensures.each,
+  values_reach c.args.change c.args.field.now.at c.relabel.new.labelling.at (site_values c.args.space.now.built.variables.choices.items) c.relabel.ensures.each,
   c.relabel.ensures.changed,
 )
 
@@ -60,7 +60,7 @@ returns-then-not-lowers-clause-made g c =
 
 pub returns-else-not-lowers-clause-made : goal.returns-else-not-lowers-clause-made
 returns-else-not-lowers-clause-made g c = (
-  values_reach c.args.change c.args.field.now.at c.relabel-in-Swap.new.labelling.at (site_values c.args.room.now.built.variables.choices.items) c.relabel-in-Swap.ensures.each,
+  values_reach c.args.change c.args.field.now.at c.relabel-in-Swap.new.labelling.at (site_values c.args.space.now.built.variables.choices.items) c.relabel-in-Swap.ensures.each,
   c.relabel-in-Swap.ensures.changed,
 )
 
@@ -90,7 +90,7 @@ returns-else-not-lowers-clause-sizes g c = record { labels = c.relabel-in-Swap.e
 
 pub returns-in-Expand-clause-taken : goal.returns-in-Expand-clause-taken
 returns-in-Expand-clause-taken g c = λ a is p l.
-    subst (λ (move : Move). slice_index c.relabel.new.labelling.at p ≡ label_in move (slice_index c.args.field.now.at p) (site_values c.args.room.now.built.variables.choices.items p)) is
+    subst (λ (move : Move). slice_index c.relabel.new.labelling.at p ≡ label_in move (slice_index c.args.field.now.at p) (site_values c.args.space.now.built.variables.choices.items p)) is
     (c.relabel.ensures.each p l)
 
 pub returns-then-not-lowers-clause-taken : goal.returns-then-not-lowers-clause-taken

@@ -1,6 +1,6 @@
 use Rattle.std.proofs.Common.{arith, rules, w32, w64, FitsSigned, ◌∙◌}
 use Rattle.std.proofs.lemmas.Int.{to_z-of_z}
-use Rattle.pseudo_bool.specs.Formula.{entry}
+use Rattle.pseudo_bool.specs.Energies.{entry}
 use Rattle.pseudo_bool.proofs.TableLemmas.{copied, all_copied}
 use Rattle.pseudo_bool.proofs.row.widen.Goals as goal
 

@@ -1,7 +1,7 @@
 use Rattle.std.proofs.Common.{arith, ◌≤◌, pos, ℤ, ◌≤ℤ◌, ◌+ℤ◌, unsigned_abs, w64, FitsSigned, to_z, of_z, IsTrue, ◌↔◌, rules}
 use Rattle.std.proofs.lemmas.Int.{to_z-of_z}
 use Rattle.sums.proofs.IntegerSumLemmas.{within_fits, abs-add}
-use Rattle.pseudo_bool.specs.Formula.{entry}
+use Rattle.pseudo_bool.specs.Energies.{entry}
 use Rattle.regular.proofs.table.is_regular_table.Goals as goal
 use lib.Signed.{le_z}
 

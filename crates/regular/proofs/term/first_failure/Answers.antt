@@ -1,6 +1,6 @@
 use Rattle.std.proofs.Common.{arith, ◌≡◌, ℕ, ◌+◌, ◌*◌, ◌/◌, ◌%◌, ◌<◌, Bool, true, false, nat_eq, List, ℤ, ap, ◌∙◌, subst, inl, inr}
 use Rattle.std.proofs.lemmas.Bool.{cases_lt}
-use Rattle.pseudo_bool.specs.Formula.{digit}
+use Rattle.pseudo_bool.specs.Energies.{digit}
 use Rattle.regular.specs.declared.fixed.Fixed.{Fixed}
 use Rattle.regular.specs.Regularity.{IsRegularTable, order_of, projection}
 use Rattle.regular.proofs.term.first_failure.Goals as goal

@@ -4,7 +4,7 @@ use Rattle.std.proofs.lemmas.Int.{ints}
 use Rattle.sums.specs.Sums.{counted}
 use Rattle.compile_cut.specs.declared.quadratic.Quadratic.{Quadratic}
 use Rattle.compile_cut.specs.Weights.{weights_value, arcs_value}
-use Rattle.compile_cut.specs.Form.{quadratic_value}
+use Rattle.compile_cut.specs.Quadratics.{quadratic_value}
 use Rattle.compile_cut.proofs.WeightLemmas.{weights_value-push, weights_value-same, arcs_value-same}
 use Rattle.compile_cut.proofs.TiedLemmas.{paid, paid_once, paid_never, any-same, IsTiedAt, tied_lower, tied_reached, true_or_false, out_none, out_some, any_pays, any_saves, cast_is}
 use Rattle.compile_cut.proofs.quadratic.Quadratic.add_if_any.Goals as goal

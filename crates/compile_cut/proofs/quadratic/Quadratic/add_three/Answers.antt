@@ -8,7 +8,7 @@ use Rattle.flow_network.specs.Cut.{IsArc}
 use Rattle.compile_cut.specs.declared.quadratic.Quadratic.{Quadratic}
 use Rattle.compile_cut.specs.Shown.{Shows}
 use Rattle.compile_cut.specs.Weights.{weights_value, weights_size, arcs_value}
-use Rattle.compile_cut.specs.Form.{quadratic_value}
+use Rattle.compile_cut.specs.Quadratics.{quadratic_value}
 use Rattle.compile_cut.specs.Three.{part_value}
 use Rattle.compile_cut.proofs.PartLemmas.{constant_is, passed_is}
 use Rattle.compile_cut.proofs.WeightLemmas.{weights_value-push, weights_value-same, arcs_value-same, three_more, reaches}

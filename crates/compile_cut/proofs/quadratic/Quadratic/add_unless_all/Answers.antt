@@ -7,7 +7,7 @@ use Rattle.sums.specs.Sums.{counted}
 use Rattle.flow_network.specs.Cut.{IsArc}
 use Rattle.compile_cut.specs.declared.quadratic.Quadratic.{Quadratic}
 use Rattle.compile_cut.specs.Weights.{weights_value, weights_size, arcs_value, arcs_size}
-use Rattle.compile_cut.specs.Form.{quadratic_value}
+use Rattle.compile_cut.specs.Quadratics.{quadratic_value}
 use Rattle.compile_cut.proofs.WeightLemmas.{weights_value-push, weights_value-same, arcs_value-same}
 use Rattle.compile_cut.proofs.TiedLemmas.{paid, paid_once, paid_never, any_not, all-same, IsTiedAt, tied_lower, tied_reached, false_or_true, into_none, into_some, unless_pays, unless_saves, minus_cast, plus_cast, tied_constant, tied_size}
 use Rattle.compile_cut.proofs.quadratic.Quadratic.add_unless_all.Goals as goal

@@ -1,6 +1,6 @@
 use Rattle.std.proofs.Common.{◌∙◌, ◌≤◌, ◌+◌, ℕ, pos, List, length, ap, sym, subst, arith}
 use Rattle.std.proofs.lemmas.Result.{on_ok_weaker}
-use Rattle.compile_cut.specs.Form.{IsConstant}
+use Rattle.compile_cut.specs.Quadratics.{IsConstant}
 use Rattle.compile_cut.proofs.TermLemmas.{bounded-weaker, constant_bounded, constant_nodes}
 use Rattle.move_energy.specs.declared.choice.Choice.{Choice}
 use Rattle.move_energy.proofs.Numbers.{rank_most}

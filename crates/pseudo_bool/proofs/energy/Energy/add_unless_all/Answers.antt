@@ -3,7 +3,7 @@ use Rattle.std.specs.List.{list_all}
 use Rattle.std.proofs.lemmas.Int.{to_z-of_z}
 use Rattle.std.proofs.lemmas.Result.{on_ok_weaker}
 use Rattle.sums.specs.IntegerSums.{int_counted}
-use Rattle.pseudo_bool.specs.Formula.{Formula, value_at}
+use Rattle.pseudo_bool.specs.Energies.{Energy, value_at}
 use Rattle.pseudo_bool.specs.Hidden.{IsLeastOver, IsTieable, unless_all_terms, with_terms}
 use Rattle.pseudo_bool.proofs.HiddenLemmas.{unless_least}
 use Rattle.pseudo_bool.proofs.energy.Energy.add_unless_all.Goals as goal
@@ -14,6 +14,6 @@ returns-clause-least c =
     let fits : FitsSigned w64 c.args.cost = c.ranges.cost in
     let tie : IsTieable old c.args.names.now c.args.cost = simp to_z-of_z at c.in_ok-test_tie.ensures.accepted in
     on_ok_weaker c.add_tied.result (λ added x.
-    let P : Formula → Type 0 = λ e. IsLeastOver e old.variables x (value_at old x +ℤ int_counted (not (list_all x c.args.names.now)) c.args.cost) in
+    let P : Energy → Type 0 = λ e. IsLeastOver e old.variables x (value_at old x +ℤ int_counted (not (list_all x c.args.names.now)) c.args.cost) in
     let is : c.add_tied.new.self ≡ with_terms old (unless_all_terms c.args.names.now old.variables c.args.cost) = simp to_z-of_z at added in
     subst P (sym is) (unless_least old c.args.names.now c.args.cost x c.add_tied.ensures.limits tie)) c.add_tied.ensures.added

@@ -1,7 +1,7 @@
 use Rattle.std.proofs.Common.{arith, ap, refl, ◌≤◌, ◌+ℤ◌, w64, FitsSigned, to_z, length}
 use Rattle.std.proofs.lemmas.Int.{to_z-of_z}
 use Rattle.std.proofs.lemmas.List.{length-map}
-use Rattle.pseudo_bool.specs.Formula.{Formula, term_value, assignment}
+use Rattle.pseudo_bool.specs.Energies.{Energy, term_value, assignment}
 use Rattle.pseudo_bool.specs.Rows.{term_of}
 use Rattle.pseudo_bool.proofs.RowLemmas.{row_is_term, sum_step, whole_sum}
 use Rattle.pseudo_bool.proofs.energy.Energy.value.Goals as goal
@@ -9,7 +9,7 @@ use Rattle.pseudo_bool.proofs.energy.Energy.value.Goals as goal
 pub value-total-requires-clause-term : goal.value-total-requires-clause-term
 value-total-requires-clause-term c =
     let terms = rw (← c.as_slice-triples.ensures.value, ← c.deref-row-items.ensures.value) at c.self.invariant.0.terms in
-    let variables = ap (λ (e : Formula). e.variables) c.self.view_is in
+    let variables = ap (λ (e : Energy). e.variables) c.self.view_is in
     rw (c.requires, ← variables)
     (row_is_term c.self.inside.variables c.as_slice-triples.result.now c.deref-row-items.result.now c.loop-row.row-index c.loop-row-test.true terms)
 
@@ -27,6 +27,6 @@ loop-row-preserved c =
 
 pub returns : goal.returns
 returns c =
-    let rows = rw (← c.as_slice-triples.ensures.value, ← c.deref-row-items.ensures.value) at (ap (λ (e : Formula). e.terms) c.self.view_is) in
+    let rows = rw (← c.as_slice-triples.ensures.value, ← c.deref-row-items.ensures.value) at (ap (λ (e : Energy). e.terms) c.self.view_is) in
     whole_sum c.args.self.now (assignment c.args.bits.now) c.as_slice-triples.result.now c.deref-row-items.result.now c.args.self.now.constant (to_z w64 c.loop-row.total-bits)
     c.loop-row.row-index refl rows c.loop-row-test.false c.loop-row.invariant.0

@@ -1,7 +1,7 @@
 use Rattle.std.proofs.Common.{◌≡◌, ◌+◌, ◌*◌, ◌≤◌, take, ◌+ℤ◌, unsigned_abs}
 use Rattle.sums.specs.IntegerSums.{int_sum_by}
 use Rattle.pseudo_bool.specs.declared.limits.TheConstants.{VALUE_LIMIT, CONSTANT_LIMIT}
-use Rattle.pseudo_bool.specs.Formula.{term_value, assignment}
+use Rattle.pseudo_bool.specs.Energies.{term_value, assignment}
 use Rattle.pseudo_bool.specs.Rows.{term_of}
 use Rattle.pseudo_bool.proofs.energy.Energy.value.Given as goal
 

@@ -1,7 +1,7 @@
 use Rattle.std.proofs.Common.{◌∙◌, sym}
 use Rattle.cost_store.proofs.Meaning.{pairs_meant}
 use Rattle.moves.proofs.Answers.{built_whole}
-use Rattle.moves.proofs.room.build_whole.Goals as goal
+use Rattle.moves.proofs.workspace.build_whole.Goals as goal
 
 pub returns-clause-built : goal.returns-clause-built
 returns-clause-built g c = λ m meant.

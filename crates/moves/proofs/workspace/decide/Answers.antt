@@ -5,7 +5,7 @@ use Rattle.move_energy.specs.declared.choice.Choice.{Choice}
 use Rattle.move_energy.specs.Choices.{choice_at}
 use Rattle.move_energy.specs.Weights.{AreWeights}
 use Rattle.deciding.specs.Decided.{AreDecided}
-use Rattle.moves.proofs.room.decide.Goals as goal
+use Rattle.moves.proofs.workspace.decide.Goals as goal
 
 pub returns-in_err-decide-clause-decided : goal.returns-in_err-decide-clause-decided
 returns-in_err-decide-clause-decided g c = λ m meant.

@@ -6,7 +6,7 @@ use Rattle.cost_store.specs.LabelCosts.{costs_of, AreCosts, AreCostly, AreFree}
 use Rattle.moves.specs.LabelCosts.{IsFreeFor}
 use Rattle.moves.specs.Building.{IsBuiltMove}
 use Rattle.moves.proofs.Answers.{built_free, costs_free, costs_listed, costs_set}
-use Rattle.moves.proofs.room.build_move.Goals as goal
+use Rattle.moves.proofs.workspace.build_move.Goals as goal
 
 pub build_costed-requires-clause-few : goal.build_costed-requires-clause-few
 build_costed-requires-clause-few g c = λ κs lives. c.requires.few
@@ -27,14 +27,14 @@ returns-then-costly-clause-built g c = λ m meant.
     let L : ℕ → Type 0 = λ k. AreCosts k (costs_of costs) in
     let are = costs_listed m costs (subst L (sym meant.labels_are) (costs_set c.args.problem.now.data_cost.labels costs c.requires.posed.label_costs some)) meant.costs_are in
     let O : List ℤ → Type 0 = λ list. AreCostsOf m list in
-    let M : Move → Type 0 = λ move. IsBuiltMove m move c.args.at.now c.build_costed.new.room.built c.build_costed.result in
+    let M : Move → Type 0 = λ move. IsBuiltMove m move c.args.at.now c.build_costed.new.space.built c.build_costed.result in
     subst M (sym c.in-Expand.is) (c.build_costed.ensures.built m meant (subst O (sym c.costs_of-costs.ensures) are))
 
 pub returns-in-Swap-clause-built : goal.returns-in-Swap-clause-built
 returns-in-Swap-clause-built g c = λ m meant.
     let costs = c.args.problem.now.label_costs in
     let F : Move → Type 0 = λ move. IsFreeFor move (costs_of costs) in
-    built_free m c.args.change c.args.at.now c.build_plain.new.room.built c.build_plain.result (costs_free m costs meant.costs_are (subst F c.in-Swap.is c.requires.free))
+    built_free m c.args.change c.args.at.now c.build_plain.new.space.built c.build_plain.result (costs_free m costs meant.costs_are (subst F c.in-Swap.is c.requires.free))
     (c.build_plain.ensures.built m meant)
 
 pub returns-else-costly-clause-built : goal.returns-else-costly-clause-built
@@ -42,6 +42,6 @@ returns-else-costly-clause-built g c = λ m meant.
     let costs = c.args.problem.now.label_costs in
     let S : List ℤ → Type 0 = λ list. AreFree list in
     let none = subst S c.costs_of-costs.ensures (c.has_cost-costly.ensures.none c.if-costly.false) in
-    let M : Move → Type 0 = λ move. IsBuiltMove m move c.args.at.now c.build_plain-in-Expand.new.room.built c.build_plain-in-Expand.result in
-    subst M (sym c.in-Expand.is) (built_free m (Expand c.in-Expand.alpha) c.args.at.now c.build_plain-in-Expand.new.room.built c.build_plain-in-Expand.result (costs_free m costs meant.costs_are none)
+    let M : Move → Type 0 = λ move. IsBuiltMove m move c.args.at.now c.build_plain-in-Expand.new.space.built c.build_plain-in-Expand.result in
+    subst M (sym c.in-Expand.is) (built_free m (Expand c.in-Expand.alpha) c.args.at.now c.build_plain-in-Expand.new.space.built c.build_plain-in-Expand.result (costs_free m costs meant.costs_are none)
     (c.build_plain-in-Expand.ensures.built m meant))

@@ -1,9 +1,9 @@
 use Rattle.std.proofs.Common.{◌∙◌, sym}
 use Rattle.std.proofs.lemmas.Result.{err_from_is_err_and}
-use Rattle.pseudo_bool.specs.Formula.{assignment}
+use Rattle.pseudo_bool.specs.Energies.{assignment}
 use Rattle.cost_store.proofs.Meaning.{pairs_meant}
 use Rattle.moves.proofs.Least.{costed_least}
-use Rattle.moves.proofs.room.build_costed.Goals as goal
+use Rattle.moves.proofs.workspace.build_costed.Goals as goal
 
 pub returns-in_err-prepare-clause-built : goal.returns-in_err-prepare-clause-built
 returns-in_err-prepare-clause-built g c = λ m meant are.

@@ -1,6 +1,6 @@
 use Rattle.std.specs.Prelude.{◌≡◌, ℕ, ◌+◌, ◌*◌, ◌≤◌, Bool, [], All, replicate, ℤ, pos, ◌+ℤ◌, ◌≤ℤ◌, unsigned_abs, vec_len}
 use Rattle.pseudo_bool.specs.declared.term.Term.{Term}
-use Rattle.pseudo_bool.specs.Formula.{Formula, term_value, value_at}
+use Rattle.pseudo_bool.specs.Energies.{Energy, term_value, value_at}
 use Rattle.pseudo_bool.specs.Limits.{value_limit, constant_limit}
 use Rattle.flow_network.specs.Cut.{IsArc}
 use Rattle.compile_cut.specs.declared.quadratic.Quadratic.{Quadratic}
@@ -45,6 +45,6 @@ pub record IsTied (times cost : ℕ) (old new : Quadratic) : Type 0 where
   pub bounded : (k terms : ℕ) → cost * times ≤ value_limit * terms → IsBounded k old → IsBounded (k + terms) new
 
 -- of the sets that show an assignment, the least value is the energy's
-pub record SaysValues (e : Formula) (q : Quadratic) : Type 0 where
+pub record SaysValues (e : Energy) (q : Quadratic) : Type 0 where
   pub lower : (x : ℕ → Bool) → value_at e x ≤ℤ quadratic_value q x
   pub reached : (x : ℕ → Bool) → (y : ℕ → Bool) × Shows e.variables x y × (quadratic_value q y ≡ value_at e x)

@@ -20,13 +20,13 @@ term_value x (Three first second third table) =
     entry table (4 * digit (x first) + 2 * digit (x second) + digit (x third))
 
 -- an energy: a constant, how many variables there are, and the terms
-pub record Formula : Type 0 where
+pub record Energy : Type 0 where
   pub constant : ℤ
   pub variables : ℕ
   pub terms : List Term
 
 -- the value of an energy at an assignment (Kolmogorov and Zabih 2004, section 2)
-abbrev pub value_at : Formula → (ℕ → Bool) → ℤ
+abbrev pub value_at : Energy → (ℕ → Bool) → ℤ
 value_at e x = e.constant +ℤ int_sum_by (term_value x) e.terms
 
 -- the assignment that a list of bits is
@@ -50,7 +50,7 @@ IsTerm n (Three first second third table) =
     × All IsValue table
 
 -- what is true of every energy
-pub record IsEnergy (e : Formula) : Type 0 where
+pub record IsEnergy (e : Energy) : Type 0 where
   pub constant : IsWithin constant_limit e.constant
   pub variables : e.variables ≤ variable_limit
   pub count : length e.terms ≤ term_limit

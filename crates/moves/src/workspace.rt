@@ -5,7 +5,7 @@ ghost use Rattle.labellings.specs.Energies.{labelling};
 ghost use Rattle.labellings.specs.Moves.{IsAllowed};
 ghost use Rattle.label_field.specs.Limits.{site_limit, label_limit};
 ghost use Rattle.pseudo_bool.specs.Limits.{term_limit};
-ghost use Rattle.compile_cut.specs.Form.{IsBounded};
+ghost use Rattle.compile_cut.specs.Quadratics.{IsBounded};
 ghost use Rattle.cost_store.specs.Posed.{IsPosed, Meant, IsAsked};
 ghost use Rattle.move_energy.specs.Choices.{AreOpenSites, AreSettled};
 ghost use Rattle.move_energy.specs.Problems.{Stands};
@@ -67,28 +67,28 @@ pub fn give_numbers_back(alloc: Global, listed: bool, of_sites: &mut Vec<u32>) {
     }
 }
 
-/// The room of a run: what decides the sites of its moves, once the pairs were grouped by their sites, the energy of its
+/// The workspace of a run: what decides the sites of its moves, once the pairs were grouped by their sites, the energy of its
 /// moves, where its later expansions look, and the lists of its cuts.
 #[derive(Drop)]
-pub struct Room {
+pub struct Workspace {
     pub grouped: bool,
     pub deciding: Deciding,
     pub built: MoveEnergy,
     pub stage: Stage,
-    pub cutting: plain_cut::Room,
+    pub cutting: plain_cut::Workspace,
 }
 
-impl Room {
-    /// Room of which nothing is taken yet. It takes no memory.
-    pub fn new(alloc: Global) -> Room
+impl Workspace {
+    /// A workspace of which nothing is taken yet. It takes no memory.
+    pub fn new(alloc: Global) -> Workspace
         ensures { result.grouped ≡ false }
     {
-        Room {
+        Workspace {
             grouped: false,
             deciding: Deciding::empty(alloc),
             built: MoveEnergy::new(alloc),
             stage: Stage::empty(alloc),
-            cutting: plain_cut::Room::new(alloc),
+            cutting: plain_cut::Workspace::new(alloc),
         }
     }
 
@@ -124,30 +124,30 @@ impl Room {
     }
 }
 
-/// Decides the sites of a move, which the room then knows.
+/// Decides the sites of a move, which the workspace then knows.
 fn decide<F: Fn(u32, u32) -> i64 + Sync, V: Fn(u32, u32) -> i64 + Sync>(
     alloc: Global,
     problem: &Problem<F, V>,
-    room: &mut Room,
+    space: &mut Workspace,
     at: &[u8],
     change: Move,
 ) -> Result<(), BuildError>
     requires asked { IsAsked problem.now at.now change }
     requires posed { IsPosed F.Fn V.Fn problem.now }
-    requires by_site { IsGroupedFor problem.now.pairs room.old }
-    ensures by_site { IsGroupedFor problem.now.pairs room.new }
-    ensures near { OnOk result (IsNear problem.now.pairs change at.now room.new) }
-    ensures choices { OnOk result (length room.new.built.variables.choices.items ≡ length at.now) }
-    ensures sized { OnOk result (AreWeightsSized (length at.now) room.new) }
-    ensures weights { Meant F.Fn V.Fn problem.now (λ m. OnOk result (KnowsWeights m change at.now room.new)) }
+    requires by_site { IsGroupedFor problem.now.pairs space.old }
+    ensures by_site { IsGroupedFor problem.now.pairs space.new }
+    ensures near { OnOk result (IsNear problem.now.pairs change at.now space.new) }
+    ensures choices { OnOk result (length space.new.built.variables.choices.items ≡ length at.now) }
+    ensures sized { OnOk result (AreWeightsSized (length at.now) space.new) }
+    ensures weights { Meant F.Fn V.Fn problem.now (λ m. OnOk result (KnowsWeights m change at.now space.new)) }
     ensures decided { Meant F.Fn V.Fn problem.now (λ m. IsDecidedMove m change at.now
-        room.new.built.variables.choices.items result) }
+        space.new.built.variables.choices.items result) }
 {
-    room.group(alloc, &problem.pairs)?;
-    room.deciding.decide(problem, at, change)?;
+    space.group(alloc, &problem.pairs)?;
+    space.deciding.decide(problem, at, change)?;
     swap(
-        &mut room.deciding.bounds.choices,
-        &mut room.built.variables.choices,
+        &mut space.deciding.bounds.choices,
+        &mut space.built.variables.choices,
     );
     Ok(())
 }
@@ -156,30 +156,30 @@ fn decide<F: Fn(u32, u32) -> i64 + Sync, V: Fn(u32, u32) -> i64 + Sync>(
 fn build_near<F: Fn(u32, u32) -> i64 + Sync, V: Fn(u32, u32) -> i64 + Sync>(
     alloc: Global,
     problem: &Problem<F, V>,
-    room: &mut Room,
+    space: &mut Workspace,
     at: &[u8],
     change: Move,
 ) -> Result<(), AllocError>
     requires asked { IsAsked problem.now at.now change }
     requires posed { IsPosed F.Fn V.Fn problem.now }
-    requires choices { length room.old.built.variables.choices.items ≡ length at.now }
-    requires near { IsNear problem.now.pairs change at.now room.old }
-    requires listed { IsTrue room.old.deciding.lists.listed }
-    requires sized { AreWeightsSized (length at.now) room.old }
-    requires weights { Meant F.Fn V.Fn problem.now (λ m. KnowsWeights m change at.now room.old) }
+    requires choices { length space.old.built.variables.choices.items ≡ length at.now }
+    requires near { IsNear problem.now.pairs change at.now space.old }
+    requires listed { IsTrue space.old.deciding.lists.listed }
+    requires sized { AreWeightsSized (length at.now) space.old }
+    requires weights { Meant F.Fn V.Fn problem.now (λ m. KnowsWeights m change at.now space.old) }
     requires allowed { Meant F.Fn V.Fn problem.now (λ m. IsAllowed m change (labelling at.now)) }
-    ensures same { (room.new.grouped ≡ room.old.grouped) × (room.new.deciding ≡ room.old.deciding) }
-    ensures kept { room.new.built.variables.choices.items ≡ room.old.built.variables.choices.items }
-    ensures bounded { OnOk result (IsBounded term_limit room.new.built.form) }
-    ensures few { OnOk result (vec_len room.new.built.form.weights ≤ site_limit) }
-    ensures stands { Meant F.Fn V.Fn problem.now (λ m. OnOk result (Stands m change at.now room.new.built)) }
+    ensures same { (space.new.grouped ≡ space.old.grouped) × (space.new.deciding ≡ space.old.deciding) }
+    ensures kept { space.new.built.variables.choices.items ≡ space.old.built.variables.choices.items }
+    ensures bounded { OnOk result (IsBounded term_limit space.new.built.form) }
+    ensures few { OnOk result (vec_len space.new.built.form.weights ≤ site_limit) }
+    ensures stands { Meant F.Fn V.Fn problem.now (λ m. OnOk result (Stands m change at.now space.new.built)) }
 {
-    room.built.build_weighted_listed(
+    space.built.build_weighted_listed(
         alloc,
         problem,
-        &room.deciding.ends,
-        &room.deciding.lists.opened,
-        &room.deciding.bounds.greatest,
+        &space.deciding.ends,
+        &space.deciding.lists.opened,
+        &space.deciding.bounds.greatest,
         at,
         change,
     )
@@ -189,30 +189,31 @@ fn build_near<F: Fn(u32, u32) -> i64 + Sync, V: Fn(u32, u32) -> i64 + Sync>(
 fn build_all<F: Fn(u32, u32) -> i64 + Sync, V: Fn(u32, u32) -> i64 + Sync>(
     alloc: Global,
     problem: &Problem<F, V>,
-    room: &mut Room,
+    space: &mut Workspace,
     at: &[u8],
     change: Move,
 ) -> Result<(), AllocError>
     requires asked { IsAsked problem.now at.now change }
     requires posed { IsPosed F.Fn V.Fn problem.now }
-    requires choices { length room.old.built.variables.choices.items ≡ length at.now }
-    requires by_site { IsGroupedFor problem.now.pairs room.old }
-    requires far { room.old.deciding.lists.listed ≡ false }
-    requires sized { AreWeightsSized (length at.now) room.old }
-    requires weights { Meant F.Fn V.Fn problem.now (λ m. KnowsWeights m change at.now room.old) }
+    requires choices { length space.old.built.variables.choices.items ≡ length at.now }
+    requires by_site { IsGroupedFor problem.now.pairs space.old }
+    requires far { space.old.deciding.lists.listed ≡ false }
+    requires sized { AreWeightsSized (length at.now) space.old }
+    requires weights { Meant F.Fn V.Fn problem.now (λ m. KnowsWeights m change at.now space.old) }
     requires allowed { Meant F.Fn V.Fn problem.now (λ m. IsAllowed m change (labelling at.now)) }
-    ensures by_site { IsGroupedFor problem.now.pairs room.new }
-    ensures far { room.new.deciding.lists.listed ≡ false }
-    ensures kept { room.new.built.variables.choices.items ≡ room.old.built.variables.choices.items }
-    ensures bounded { OnOk result (IsBounded term_limit room.new.built.form) }
-    ensures few { OnOk result (vec_len room.new.built.form.weights ≤ site_limit) }
-    ensures stands { Meant F.Fn V.Fn problem.now (λ m. OnOk result (Stands m change at.now room.new.built)) }
+    ensures by_site { IsGroupedFor problem.now.pairs space.new }
+    ensures far { space.new.deciding.lists.listed ≡ false }
+    ensures kept { space.new.built.variables.choices.items ≡ space.old.built.variables.choices.items }
+    ensures bounded { OnOk result (IsBounded term_limit space.new.built.form) }
+    ensures few { OnOk result (vec_len space.new.built.form.weights ≤ site_limit) }
+    ensures stands { Meant F.Fn V.Fn problem.now (λ m. OnOk result (Stands m change at.now space.new.built)) }
 {
-    give_groups_back(alloc, &mut room.grouped, &mut room.deciding);
-    let weights = &room.deciding.bounds.greatest;
-    room.built
+    give_groups_back(alloc, &mut space.grouped, &mut space.deciding);
+    let weights = &space.deciding.bounds.greatest;
+    space
+        .built
         .build_weighted(alloc, problem, weights, at, change)?;
-    give_bounds_back(alloc, &mut room.deciding.bounds);
+    give_bounds_back(alloc, &mut space.deciding.bounds);
     Ok(())
 }
 
@@ -220,29 +221,29 @@ fn build_all<F: Fn(u32, u32) -> i64 + Sync, V: Fn(u32, u32) -> i64 + Sync>(
 fn build_open<F: Fn(u32, u32) -> i64 + Sync, V: Fn(u32, u32) -> i64 + Sync>(
     alloc: Global,
     problem: &Problem<F, V>,
-    room: &mut Room,
+    space: &mut Workspace,
     at: &[u8],
     change: Move,
 ) -> Result<(), AllocError>
     requires asked { IsAsked problem.now at.now change }
     requires posed { IsPosed F.Fn V.Fn problem.now }
-    requires choices { length room.old.built.variables.choices.items ≡ length at.now }
-    requires by_site { IsGroupedFor problem.now.pairs room.old }
-    requires near { IsNear problem.now.pairs change at.now room.old }
-    requires sized { AreWeightsSized (length at.now) room.old }
-    requires weights { Meant F.Fn V.Fn problem.now (λ m. KnowsWeights m change at.now room.old) }
+    requires choices { length space.old.built.variables.choices.items ≡ length at.now }
+    requires by_site { IsGroupedFor problem.now.pairs space.old }
+    requires near { IsNear problem.now.pairs change at.now space.old }
+    requires sized { AreWeightsSized (length at.now) space.old }
+    requires weights { Meant F.Fn V.Fn problem.now (λ m. KnowsWeights m change at.now space.old) }
     requires allowed { Meant F.Fn V.Fn problem.now (λ m. IsAllowed m change (labelling at.now)) }
-    ensures by_site { IsGroupedFor problem.now.pairs room.new }
-    ensures near { IsNearWhereListed problem.now.pairs change at.now room.new }
-    ensures kept { room.new.built.variables.choices.items ≡ room.old.built.variables.choices.items }
-    ensures bounded { OnOk result (IsBounded term_limit room.new.built.form) }
-    ensures few { OnOk result (vec_len room.new.built.form.weights ≤ site_limit) }
-    ensures stands { Meant F.Fn V.Fn problem.now (λ m. OnOk result (Stands m change at.now room.new.built)) }
+    ensures by_site { IsGroupedFor problem.now.pairs space.new }
+    ensures near { IsNearWhereListed problem.now.pairs change at.now space.new }
+    ensures kept { space.new.built.variables.choices.items ≡ space.old.built.variables.choices.items }
+    ensures bounded { OnOk result (IsBounded term_limit space.new.built.form) }
+    ensures few { OnOk result (vec_len space.new.built.form.weights ≤ site_limit) }
+    ensures stands { Meant F.Fn V.Fn problem.now (λ m. OnOk result (Stands m change at.now space.new.built)) }
 {
-    if room.deciding.lists.listed {
-        build_near(alloc, problem, room, at, change)
+    if space.deciding.lists.listed {
+        build_near(alloc, problem, space, at, change)
     } else {
-        build_all(alloc, problem, room, at, change)
+        build_all(alloc, problem, space, at, change)
     }
 }
 
@@ -250,22 +251,22 @@ fn build_open<F: Fn(u32, u32) -> i64 + Sync, V: Fn(u32, u32) -> i64 + Sync>(
 fn build_decided<F: Fn(u32, u32) -> i64 + Sync, V: Fn(u32, u32) -> i64 + Sync>(
     alloc: Global,
     problem: &Problem<F, V>,
-    room: &mut Room,
+    space: &mut Workspace,
     at: &[u8],
     change: Move,
 ) -> Result<(), BuildError>
     requires asked { IsAsked problem.now at.now change }
     requires posed { IsPosed F.Fn V.Fn problem.now }
-    requires by_site { IsGroupedFor problem.now.pairs room.old }
-    ensures by_site { IsGroupedFor problem.now.pairs room.new }
-    ensures near { OnOk result (IsNearWhereListed problem.now.pairs change at.now room.new) }
-    ensures choices { OnOk result (length room.new.built.variables.choices.items ≡ length at.now) }
-    ensures bounded { OnOk result (IsBounded term_limit room.new.built.form) }
-    ensures few { OnOk result (vec_len room.new.built.form.weights ≤ site_limit) }
-    ensures built { Meant F.Fn V.Fn problem.now (λ m. IsBuiltPlain m change at.now room.new.built result) }
+    requires by_site { IsGroupedFor problem.now.pairs space.old }
+    ensures by_site { IsGroupedFor problem.now.pairs space.new }
+    ensures near { OnOk result (IsNearWhereListed problem.now.pairs change at.now space.new) }
+    ensures choices { OnOk result (length space.new.built.variables.choices.items ≡ length at.now) }
+    ensures bounded { OnOk result (IsBounded term_limit space.new.built.form) }
+    ensures few { OnOk result (vec_len space.new.built.form.weights ≤ site_limit) }
+    ensures built { Meant F.Fn V.Fn problem.now (λ m. IsBuiltPlain m change at.now space.new.built result) }
 {
-    decide(alloc, problem, room, at, change)?;
-    build_open(alloc, problem, room, at, change)?;
+    decide(alloc, problem, space, at, change)?;
+    build_open(alloc, problem, space, at, change)?;
     Ok(())
 }
 
@@ -273,47 +274,47 @@ fn build_decided<F: Fn(u32, u32) -> i64 + Sync, V: Fn(u32, u32) -> i64 + Sync>(
 fn build_whole<F: Fn(u32, u32) -> i64 + Sync, V: Fn(u32, u32) -> i64 + Sync>(
     alloc: Global,
     problem: &Problem<F, V>,
-    room: &mut Room,
+    space: &mut Workspace,
     at: &[u8],
     change: Move,
 ) -> Result<(), BuildError>
     requires asked { IsAsked problem.now at.now change }
     requires posed { IsPosed F.Fn V.Fn problem.now }
-    requires by_site { IsGroupedFor problem.now.pairs room.old }
-    ensures by_site { IsGroupedFor problem.now.pairs room.new }
-    ensures near { OnOk result (IsNearWhereListed problem.now.pairs change at.now room.new) }
-    ensures choices { OnOk result (length room.new.built.variables.choices.items ≡ length at.now) }
-    ensures bounded { OnOk result (IsBounded term_limit room.new.built.form) }
-    ensures few { OnOk result (vec_len room.new.built.form.weights ≤ site_limit) }
-    ensures built { Meant F.Fn V.Fn problem.now (λ m. IsBuiltPlain m change at.now room.new.built result) }
+    requires by_site { IsGroupedFor problem.now.pairs space.old }
+    ensures by_site { IsGroupedFor problem.now.pairs space.new }
+    ensures near { OnOk result (IsNearWhereListed problem.now.pairs change at.now space.new) }
+    ensures choices { OnOk result (length space.new.built.variables.choices.items ≡ length at.now) }
+    ensures bounded { OnOk result (IsBounded term_limit space.new.built.form) }
+    ensures few { OnOk result (vec_len space.new.built.form.weights ≤ site_limit) }
+    ensures built { Meant F.Fn V.Fn problem.now (λ m. IsBuiltPlain m change at.now space.new.built result) }
 {
-    room.deciding.lists.listed = false;
-    room.built.prepare(alloc, problem, at, change)
+    space.deciding.lists.listed = false;
+    space.built.prepare(alloc, problem, at, change)
 }
 
 /// The energy of a move where no label costs anything by itself, its sites decided first or not.
 fn build_plain<F: Fn(u32, u32) -> i64 + Sync, V: Fn(u32, u32) -> i64 + Sync>(
     alloc: Global,
     problem: &Problem<F, V>,
-    room: &mut Room,
+    space: &mut Workspace,
     at: &[u8],
     change: Move,
     decides: bool,
 ) -> Result<(), BuildError>
     requires asked { IsAsked problem.now at.now change }
     requires posed { IsPosed F.Fn V.Fn problem.now }
-    requires by_site { IsGroupedFor problem.now.pairs room.old }
-    ensures by_site { IsGroupedFor problem.now.pairs room.new }
-    ensures near { OnOk result (IsNearWhereListed problem.now.pairs change at.now room.new) }
-    ensures choices { OnOk result (length room.new.built.variables.choices.items ≡ length at.now) }
-    ensures bounded { OnOk result (IsBounded term_limit room.new.built.form) }
-    ensures few { OnOk result (vec_len room.new.built.form.weights ≤ site_limit) }
-    ensures built { Meant F.Fn V.Fn problem.now (λ m. IsBuiltPlain m change at.now room.new.built result) }
+    requires by_site { IsGroupedFor problem.now.pairs space.old }
+    ensures by_site { IsGroupedFor problem.now.pairs space.new }
+    ensures near { OnOk result (IsNearWhereListed problem.now.pairs change at.now space.new) }
+    ensures choices { OnOk result (length space.new.built.variables.choices.items ≡ length at.now) }
+    ensures bounded { OnOk result (IsBounded term_limit space.new.built.form) }
+    ensures few { OnOk result (vec_len space.new.built.form.weights ≤ site_limit) }
+    ensures built { Meant F.Fn V.Fn problem.now (λ m. IsBuiltPlain m change at.now space.new.built result) }
 {
     if decides {
-        build_decided(alloc, problem, room, at, change)
+        build_decided(alloc, problem, space, at, change)
     } else {
-        build_whole(alloc, problem, room, at, change)
+        build_whole(alloc, problem, space, at, change)
     }
 }
 
@@ -322,7 +323,7 @@ fn build_plain<F: Fn(u32, u32) -> i64 + Sync, V: Fn(u32, u32) -> i64 + Sync>(
 fn build_costed<F: Fn(u32, u32) -> i64 + Sync, V: Fn(u32, u32) -> i64 + Sync>(
     alloc: Global,
     problem: &Problem<F, V>,
-    room: &mut Room,
+    space: &mut Workspace,
     at: &[u8],
     alpha: u32,
     costs: &[i64],
@@ -331,21 +332,23 @@ fn build_costed<F: Fn(u32, u32) -> i64 + Sync, V: Fn(u32, u32) -> i64 + Sync>(
     requires posed { IsPosed F.Fn V.Fn problem.now }
     requires label_costs { AreCosts problem.now.data_cost.labels costs.now }
     requires few { problem.now.data_cost.labels ≤ label_limit }
-    requires by_site { IsGroupedFor problem.now.pairs room.old }
-    ensures by_site { IsGroupedFor problem.now.pairs room.new }
-    ensures near { OnOk result (IsNearWhereListed problem.now.pairs (Expand alpha) at.now room.new) }
-    ensures choices { OnOk result (length room.new.built.variables.choices.items ≡ length at.now) }
-    ensures bounded { OnOk result (IsBounded term_limit room.new.built.form) }
-    ensures few { OnOk result (vec_len room.new.built.form.weights ≤ site_limit + label_limit) }
+    requires by_site { IsGroupedFor problem.now.pairs space.old }
+    ensures by_site { IsGroupedFor problem.now.pairs space.new }
+    ensures near { OnOk result (IsNearWhereListed problem.now.pairs (Expand alpha) at.now space.new) }
+    ensures choices { OnOk result (length space.new.built.variables.choices.items ≡ length at.now) }
+    ensures bounded { OnOk result (IsBounded term_limit space.new.built.form) }
+    ensures few { OnOk result (vec_len space.new.built.form.weights ≤ site_limit + label_limit) }
     ensures built { Meant F.Fn V.Fn problem.now (λ m. AreCostsOf m costs.now →
-        IsBuiltMove m (Expand alpha) at.now room.new.built result) }
+        IsBuiltMove m (Expand alpha) at.now space.new.built result) }
 {
-    room.deciding.lists.listed = false;
-    room.built.prepare(alloc, problem, at, Move::Expand(alpha))?;
+    space.deciding.lists.listed = false;
+    space
+        .built
+        .prepare(alloc, problem, at, Move::Expand(alpha))?;
     add_label_costs(
         alloc,
-        &mut room.built.form,
-        &room.built.variables,
+        &mut space.built.form,
+        &space.built.variables,
         at,
         alpha,
         costs,
@@ -357,7 +360,7 @@ fn build_costed<F: Fn(u32, u32) -> i64 + Sync, V: Fn(u32, u32) -> i64 + Sync>(
 pub(crate) fn build_move<F: Fn(u32, u32) -> i64 + Sync, V: Fn(u32, u32) -> i64 + Sync>(
     alloc: Global,
     problem: &Problem<F, V>,
-    room: &mut Room,
+    space: &mut Workspace,
     at: &[u8],
     change: Move,
     decides: bool,
@@ -366,23 +369,23 @@ pub(crate) fn build_move<F: Fn(u32, u32) -> i64 + Sync, V: Fn(u32, u32) -> i64 +
     requires posed { IsPosed F.Fn V.Fn problem.now }
     requires few { problem.now.data_cost.labels ≤ label_limit }
     requires free { IsFreeFor change (costs_of problem.now.label_costs) }
-    requires by_site { IsGroupedFor problem.now.pairs room.old }
-    ensures by_site { IsGroupedFor problem.now.pairs room.new }
-    ensures near { OnOk result (IsNearWhereListed problem.now.pairs change at.now room.new) }
-    ensures choices { OnOk result (length room.new.built.variables.choices.items ≡ length at.now) }
-    ensures bounded { OnOk result (IsBounded term_limit room.new.built.form) }
-    ensures few { OnOk result (vec_len room.new.built.form.weights ≤ site_limit + label_limit) }
-    ensures built { Meant F.Fn V.Fn problem.now (λ m. IsBuiltMove m change at.now room.new.built result) }
+    requires by_site { IsGroupedFor problem.now.pairs space.old }
+    ensures by_site { IsGroupedFor problem.now.pairs space.new }
+    ensures near { OnOk result (IsNearWhereListed problem.now.pairs change at.now space.new) }
+    ensures choices { OnOk result (length space.new.built.variables.choices.items ≡ length at.now) }
+    ensures bounded { OnOk result (IsBounded term_limit space.new.built.form) }
+    ensures few { OnOk result (vec_len space.new.built.form.weights ≤ site_limit + label_limit) }
+    ensures built { Meant F.Fn V.Fn problem.now (λ m. IsBuiltMove m change at.now space.new.built result) }
 {
     let costs = costs_of(&problem.label_costs);
     let costly = has_cost(costs);
     match change {
-        Move::Swap(_, _) => build_plain(alloc, problem, room, at, change, decides),
+        Move::Swap(_, _) => build_plain(alloc, problem, space, at, change, decides),
         Move::Expand(alpha) => {
             if costly {
-                return build_costed(alloc, problem, room, at, alpha, costs);
+                return build_costed(alloc, problem, space, at, alpha, costs);
             }
-            build_plain(alloc, problem, room, at, change, decides)
+            build_plain(alloc, problem, space, at, change, decides)
         }
     }
 }

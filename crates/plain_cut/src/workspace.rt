@@ -5,7 +5,7 @@ use std::collections::VecDeque;
 
 /// The lists of a solver between two nets: what they stood in serves the next. What they hold does not matter.
 #[derive(Drop)]
-pub struct Room {
+pub struct Workspace {
     pub(crate) rows: Spare,
     pub(crate) labels: Vec<u32>,
     pub(crate) queue: VecDeque<u32>,
@@ -20,10 +20,10 @@ const KEPT_NODES: usize = 262_144;
 /// neighbours.
 const KEPT_CELLS: usize = 8 * KEPT_NODES;
 
-impl Room {
-    /// Room that has no lists yet. It takes no memory.
-    pub fn new(alloc: Global) -> Room {
-        Room {
+impl Workspace {
+    /// A workspace that has no lists yet. It takes no memory.
+    pub fn new(alloc: Global) -> Workspace {
+        Workspace {
             rows: Spare::new(alloc),
             labels: Vec::new(alloc),
             queue: VecDeque::new(alloc),
@@ -34,7 +34,7 @@ impl Room {
     /// Takes the lists of work that is done, where they are kept.
     pub(crate) fn keep(&mut self, alloc: Global, work: Work) {
         if work.labels.len() > KEPT_NODES || work.rows.cells.len() > KEPT_CELLS {
-            *self = Room::new(alloc);
+            *self = Workspace::new(alloc);
             return;
         }
         let rows = work.rows;
