@@ -5,7 +5,7 @@ use Rattle.std.proofs.lemmas.Bool.{eqb-true, cases_lt}
 use Rattle.sums.specs.Sums.{sum_below, counted}
 use Rattle.sums.proofs.SumLemmas.{sum_below-add, sum_below-same, sum_below-le, sum_below-le-longer, sum_below-swap, sum_below-none, sum_below-pick, sum_by-sum_below, term-le-sum_below, counted-same, counted-zero}
 use Rattle.flow_network.specs.Cut.{nodes}
-use Rattle.block_net.specs.Views.{BlockView, count, room_in}
+use Rattle.block_net.specs.Views.{CellsView, count, room_in}
 use Rattle.block_net.specs.Whole.{Whole, block_at, home, place}
 use Rattle.laid_blocks.specs.Views.{blocks_in, IsLaid, IsSpot}
 use Rattle.block_core.specs.Pieces.{given_at, given_by}
@@ -27,17 +27,17 @@ node_in w b p laid lb lp =
     rw is record { node = at.node; home = at.home; place = at.place; block = lb }
 
 -- what the code reads of a node at its place in a block
-pub record IsReadNode (w : Whole) (b f p : ℕ) (B : BlockView) : Type 0 where
+pub record IsReadNode (w : Whole) (b f p : ℕ) (B : CellsView) : Type 0 where
   pub many : count B ≡ count (block_at w b)
   pub node : f + p < nodes w.net
   pub given : slice_index w.net.sinks (f + p) - room_in B p ≡ given_at w (slice_index w.firsts b + p)
   pub fits : room_in B p ≤ slice_index w.net.sinks (f + p)
 
-pub read_node : (w : Whole) (b : ℕ) (B : BlockView) (f p : ℕ) → IsLaid w → b < length w.blocks → B ≡ get_or w.blocks b B → f ≡ get_or w.firsts b f → p < count B
+pub read_node : (w : Whole) (b : ℕ) (B : CellsView) (f p : ℕ) → IsLaid w → b < length w.blocks → B ≡ get_or w.blocks b B → f ≡ get_or w.firsts b f → p < count B
     → ((v : ℕ) → v < nodes w.net → slice_index (blocks_in w).rooms v ≤ slice_index w.net.sinks v) → IsReadNode w b f p B
 read_node w b B f p laid lb read first lp rooms =
     let at = at_read w (blocks_in w) b B laid refl lb read in
-    let many : count B ≡ count (block_at w b) = sym (ap (λ (q : BlockView). count q) at.is) in
+    let many : count B ≡ count (block_at w b) = sym (ap (λ (q : CellsView). count q) at.is) in
     let first' : f ≡ slice_index w.firsts b = get_or_read w.firsts b f (omega (arith, lb, laid.placed.firsts_len)) first 0 in
     let spot = node_in w b p laid lb (omega (arith, lp, many)) in
     let room : room_in B p ≡ slice_index (blocks_in w).rooms (slice_index w.firsts b + p) = room_read w (blocks_in w) b B _ p at spot in

@@ -2,7 +2,7 @@
 use Rattle.std.proofs.Common.{◌≡◌, ℕ, zero, suc, List, inl, inr, refl, sym, ap, subst}
 use Rattle.parcel.specs.declared.message.Message.{Message}
 use Rattle.parcel.specs.declared.event.Event.TheVariants.{RaiseAll}
-use Rattle.parcel.specs.Reach.{LeadsIn, IsExact, AreExact}
+use Rattle.parcel.specs.Reach.{ReachesIn, IsExact, AreExact}
 use Rattle.parcel.specs.States as core
 use Rattle.parcel.specs.Events.{IsQuiet, Happens, raised}
 use Rattle.parcel.proofs.Kept.{kept}
@@ -12,12 +12,12 @@ use Rattle.parcel.specs.Effects.{told}
 use Rattle.laid_blocks.specs.Raising.{bare}
 
 module _ (b : BlocksView) (ways : List (List (List Message))) (got : ℕ) where
-  to_state : (d v : ℕ) → LeadsIn (bare b) d v → LeadsIn (state_of b ways got) d v
+  to_state : (d v : ℕ) → ReachesIn (bare b) d v → ReachesIn (state_of b ways got) d v
   to_state zero v path = absurd path
   to_state (suc zero) v path = path
   to_state (suc (suc d)) v path = (path.0, path.1, path.2, path.3, to_state (suc d) _ path.4)
 
-  from_state : (d v : ℕ) → LeadsIn (state_of b ways got) d v → LeadsIn (bare b) d v
+  from_state : (d v : ℕ) → ReachesIn (state_of b ways got) d v → ReachesIn (bare b) d v
   from_state zero v path = absurd path
   from_state (suc zero) v path = path
   from_state (suc (suc d)) v path = (path.0, path.1, path.2, path.3, from_state (suc d) _ path.4)

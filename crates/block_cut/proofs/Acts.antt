@@ -10,11 +10,11 @@ use Rattle.parcel.specs.Directions.{near, far}
 use Rattle.parcel.specs.States as core
 use Rattle.parcel.specs.Events as events
 use Rattle.parcel.proofs.Ends.{far_in}
-use Rattle.block_net.specs.declared.rows.Border.{Border}
+use Rattle.block_net.specs.declared.lanes.Border.{Border}
 use Rattle.block_net.specs.Views as block
-use Rattle.block_net.specs.Views.{BlockView, count, excess_in, label_in, room_in, lane_in, border_in, highest}
+use Rattle.block_net.specs.Views.{CellsView, count, excess_in, label_in, room_in, lane_in, border_in, highest}
 use Rattle.block_net.specs.Whole.{Whole, block_at, home, slot, put_block, border_of}
-use Rattle.parcel.specs.Effects.{BlocksView, state_of, gave, labelled}
+use Rattle.parcel.specs.Effects.{BlocksView, state_of, given, labelled}
 use Rattle.laid_blocks.specs.Views.{IsRow}
 use Rattle.laid_blocks.proofs.Allowing.{highest_is}
 use Rattle.block_core.proofs.Effects.{pushed_is, sent_is}
@@ -57,9 +57,9 @@ give_goes w b h p got seat on =
       does = (
         found.1.home,
         (active_is w1 v b B at ways got u p found.1 on.0, some, level),
-        ap (λ (q : BlocksView). state_of q ways (got + a)) (view_after w b B new (gave v u a) then') ∙ ap (events.given s u) amount,
+        ap (λ (q : BlocksView). state_of q ways (got + a)) (view_after w b B new (given v u a) then') ∙ ap (events.given s u) amount,
       );
-      seated = seat_after w b B new (gave v u a) seat then' (length-set B.excess p _) refl refl;
+      seated = seat_after w b B new (given v u a) seat then' (length-set B.excess p _) refl refl;
     }
 
 pub rise_goes : (w : Whole) (b : ℕ) (h : Held) (p got : ℕ) → IsSeated w b h.block → steps.Enabled h.block (steps.Rise p) → Goes w b h (after h (steps.Rise p)) got
@@ -84,7 +84,7 @@ rise_goes w b h p got seat on =
       does = (
         found.1.home,
         (active_is w1 v b B at ways got u p found.1 on.0, higher),
-        ap (λ (q : BlocksView). state_of q ways got) (view_after w b B new (labelled v u d) then') ∙ ap (events.relabelled s u) is,
+        ap (λ (q : BlocksView). state_of q ways got) (view_after w b B new (labelled v u d) then') ∙ ap (events.labelled s u) is,
       );
       seated = seat_after w b B new (labelled v u d) seat then' refl (length-set B.labels p d) refl;
     }
@@ -123,9 +123,9 @@ push_goes w b h p j got seat on =
     }
 
 -- the row of a direction to another block, as its block holds it
-pub border_row : (w : Whole) (v : BlocksView) (b : ℕ) (B : BlockView) (x : Direction) (j : ℕ) → IsAt w v b B → IsRow w x true b j → border_in B j ≡ border_of w x
+pub border_row : (w : Whole) (v : BlocksView) (b : ℕ) (B : CellsView) (x : Direction) (j : ℕ) → IsAt w v b B → IsRow w x true b j → border_in B j ≡ border_of w x
 border_row w v b B x j at row =
-    sym (ap (λ (q : BlockView). border_in q (slot w x)) (ap (block_at w) row.home ∙ at.is) ∙ ap (border_in B) row.slot)
+    sym (ap (λ (q : CellsView). border_in q (slot w x)) (ap (block_at w) row.home ∙ at.is) ∙ ap (border_in B) row.slot)
 
 pub send_goes : (w : Whole) (b : ℕ) (h : Held) (p j got : ℕ) → IsSeated w b h.block → steps.Enabled h.block (steps.Send p j) → Goes w b h (after h (steps.Send p j)) got
 send_goes w b h p j got seat on =

@@ -5,13 +5,13 @@ use Rattle.flow_network.specs.Cut.{nodes}
 use Rattle.parcel.specs.declared.direction.Direction.{Direction}
 use Rattle.parcel.specs.Directions.{near}
 use Rattle.parcel.specs.States as core
-use Rattle.block_net.specs.declared.rows.InnerLane.{InnerLane}
-use Rattle.block_net.specs.declared.rows.Border.{Border}
-use Rattle.block_net.specs.Views.{BlockView, lane_in, border_in}
+use Rattle.block_net.specs.declared.lanes.InnerLane.{InnerLane}
+use Rattle.block_net.specs.declared.lanes.Border.{Border}
+use Rattle.block_net.specs.Views.{CellsView, lane_in, border_in}
 use Rattle.block_net.specs.Whole.{Whole, block_at, block_with, home, place, near_home, slot, is_outer, lane_of, border_of, shown_lane, shown_border, shown_of, put_block, with_blocks}
 use Rattle.laid_blocks.proofs.Writing.{home_put, outer_put, block_same}
 
-module _ (w : Whole) (blocks : List BlockView) (many : length blocks ≡ length w.blocks) where
+module _ (w : Whole) (blocks : List CellsView) (many : length blocks ≡ length w.blocks) where
   -- the blocks of old with block b alone as it came back
   abbrev pub one : ℕ → Whole
   one b = put_block w b (block_at (with_blocks w blocks) b)
@@ -42,18 +42,18 @@ module _ (w : Whole) (blocks : List BlockView) (many : length blocks ≡ length 
       ∙ sym (ap (block_at (one b)) (home_put w b B v ∙ here) ∙ block_same w b B lb)
 
   -- a number at a node's place, or at the next
-  pub read_one : (f : BlockView → List ℕ) (g : ℕ → ℕ) (b v : ℕ) → b < length w.blocks → home w v ≡ b
+  pub read_one : (f : CellsView → List ℕ) (g : ℕ → ℕ) (b v : ℕ) → b < length w.blocks → home w v ≡ b
       → slice_index (f (block_with (with_blocks w blocks) v)) (g (place (with_blocks w blocks) v)) ≡ slice_index (f (block_with (one b) v)) (g (place (one b) v))
   read_one f g b v lb here =
-      ap (λ (q : BlockView). slice_index (f q) (g (place (with_blocks w blocks) v))) (with_one b v lb here)
+      ap (λ (q : CellsView). slice_index (f q) (g (place (with_blocks w blocks) v))) (with_one b v lb here)
       ∙ ap (λ p. slice_index (f (block_with (one b) v)) (g p)) (place_one b v)
 
   -- a direction, in the block of its near end
   pub lane_one : (b : ℕ) (x : Direction) → b < length w.blocks → near_home w x ≡ b → lane_of (with_blocks w blocks) x ≡ lane_of (one b) x
-  lane_one b x lb here = ap (λ (q : BlockView). lane_in q (slot w x)) (with_one b (near w.net x) lb here)
+  lane_one b x lb here = ap (λ (q : CellsView). lane_in q (slot w x)) (with_one b (near w.net x) lb here)
 
   pub border_one : (b : ℕ) (x : Direction) → b < length w.blocks → near_home w x ≡ b → border_of (with_blocks w blocks) x ≡ border_of (one b) x
-  border_one b x lb here = ap (λ (q : BlockView). border_in q (slot w x)) (with_one b (near w.net x) lb here)
+  border_one b x lb here = ap (λ (q : CellsView). border_in q (slot w x)) (with_one b (near w.net x) lb here)
 
   pub shown_one : (b : ℕ) (x : Direction) → b < length w.blocks → near_home w x ≡ b → shown_of (with_blocks w blocks) x ≡ shown_of (one b) x
   shown_one b x lb here =

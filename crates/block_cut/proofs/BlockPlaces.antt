@@ -6,7 +6,7 @@ use Rattle.sums.specs.Sums.{sum_below, counted}
 use Rattle.sums.proofs.SumLemmas.{sum_below-same, sum_below-swap, sum_below-pick, sum_below-counted, sum_by-sum_below, counted-other, counted-true, counted-zero}
 use Rattle.flow_network.specs.Cut.{nodes}
 use Rattle.parcel.specs.Soundness.{IsSound}
-use Rattle.block_net.specs.Views.{BlockView, count}
+use Rattle.block_net.specs.Views.{CellsView, count}
 use Rattle.block_net.specs.Whole.{Whole, no_block, block_at, block_with, home, place}
 use Rattle.block_net.proofs.Tables.{length_table, table_at}
 use Rattle.parcel.specs.Effects.{state_of}
@@ -84,15 +84,15 @@ rooms_tell_got w got ways laid long sound =
     let m = nodes w.net in
     let n = length w.blocks in
     let room = λ (v : ℕ). slice_index (block_with w v).rooms (place w v) in
-    let rooms = λ (q : BlockView). q.rooms in
+    let rooms = λ (q : CellsView). q.rooms in
     let shown : sum (numbers rooms w) ≡ sum_below m room =
     sum_by-sum_below (λ (x : ℕ). x) (numbers rooms w) 0
     ∙ (ap (λ k. sum_below k (slice_index (numbers rooms w))) (length_table m room)
     ∙ sum_below-same m (slice_index (numbers rooms w)) room (λ v lv. table_at m room v 0 lv)) in
     let turn = over_places w laid (λ b p. slice_index (block_at w b).rooms p) in
-    let each : sum_by (λ (q : BlockView). sum q.rooms) w.blocks ≡ sum_below n (λ b. sum_below (count (block_at w b)) (slice_index (block_at w b).rooms)) =
-    sum_by-sum_below (λ (q : BlockView). sum q.rooms) w.blocks no_block
+    let each : sum_by (λ (q : CellsView). sum q.rooms) w.blocks ≡ sum_below n (λ b. sum_below (count (block_at w b)) (slice_index (block_at w b).rooms)) =
+    sum_by-sum_below (λ (q : CellsView). sum q.rooms) w.blocks no_block
     ∙ sum_below-same n (λ b. sum (block_at w b).rooms) (λ b. sum_below (count (block_at w b)) (slice_index (block_at w b).rooms)) (λ b lb.
     sum_by-sum_below (λ (x : ℕ). x) (block_at w b).rooms 0
-    ∙ ap (λ k. sum_below k (slice_index (block_at w b).rooms)) (All-get_or (λ (q : BlockView). length q.rooms ≡ count q) w.blocks b no_block lb long)) in
+    ∙ ap (λ k. sum_below k (slice_index (block_at w b).rooms)) (All-get_or (λ (q : CellsView). length q.rooms ≡ count q) w.blocks b no_block lb long)) in
     omega (arith, shown, turn, each, sound.got)

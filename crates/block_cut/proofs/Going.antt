@@ -5,7 +5,7 @@ use Rattle.flow_network.specs.Cut.{Network}
 use Rattle.parcel.specs.States.{State}
 use Rattle.parcel.specs.Events.{IsQuiet}
 use Rattle.parcel.specs.Soundness.{IsSound, IsFinished, count}
-use Rattle.block_net.specs.Views.{BlockView}
+use Rattle.block_net.specs.Views.{CellsView}
 use Rattle.block_net.specs.Whole.{Whole, no_block, block_at, whole_of, with_blocks}
 use Rattle.parcel.specs.Effects.{state_of}
 use Rattle.laid_blocks.specs.Views.{IsLaid, blocks_in}
@@ -17,7 +17,7 @@ use Rattle.block_cut.specs.Turns.{ReachesFrom}
 use Rattle.block_cut.specs.Passes.{state_at, IsGoing, IsReady, IsStill}
 use Rattle.block_cut.proofs.Lowering.{none_starts}
 
-pub goes_on : (p : Pieces) (blocks : List BlockView) (before after : MailView) (b n m : ℕ) (new : BlockView)
+pub goes_on : (p : Pieces) (blocks : List CellsView) (before after : MailView) (b n m : ℕ) (new : CellsView)
     → IsGoing p blocks before m → b < length blocks → after.rooms ≡ before.rooms
     → ReachesFrom (length blocks) b n (block_at (with_blocks (whole_of p.net p.parts) blocks) b) new before.messages after.messages
     → IsGoing p (slice_set blocks b new) after (m + n)
@@ -37,7 +37,7 @@ goes_on p blocks before after b n m new going l rooms reaches =
     }
 
 -- less is known of the count
-pub goes_less : (p : Pieces) (blocks : List BlockView) (ways : MailView) (n m : ℕ) → IsGoing p blocks ways n → m ≤ n → IsGoing p blocks ways m
+pub goes_less : (p : Pieces) (blocks : List CellsView) (ways : MailView) (n m : ℕ) → IsGoing p blocks ways n → m ≤ n → IsGoing p blocks ways m
 goes_less p blocks ways n m going l = record {
   got = going.got;
   size = going.size;
@@ -48,13 +48,13 @@ goes_less p blocks ways n m going l = record {
 }
 
 -- the block as the code has it
-pub reaches_at : (p : Pieces) (blocks : List BlockView) (before after : MailView) (k b n : ℕ) (old new : BlockView)
+pub reaches_at : (p : Pieces) (blocks : List CellsView) (before after : MailView) (k b n : ℕ) (old new : CellsView)
     → k ≡ length blocks → b < k → old ≡ slice_index_or blocks b old
     → ReachesFrom k b n old new before.messages after.messages
     → ReachesFrom (length blocks) b n (block_at (with_blocks (whole_of p.net p.parts) blocks) b) new before.messages after.messages
 reaches_at p blocks before after k b n old new size l is reaches =
     subst (λ m. ReachesFrom m b n (block_at (with_blocks (whole_of p.net p.parts) blocks) b) new before.messages after.messages) size
-    (subst (λ (q : BlockView). ReachesFrom k b n q new before.messages after.messages) (get_or_read_under blocks b k old no_block is l size) reaches)
+    (subst (λ (q : CellsView). ReachesFrom k b n q new before.messages after.messages) (get_or_read_under blocks b k old no_block is l size) reaches)
 
 pub goes_from : (p : Pieces) → IsLaid (whole_of p.net p.parts) → IsHeld p.ways.rooms (state_in p) → IsGoing p p.parts.blocks.items p.ways 0
 goes_from p laid held = record { got = p.got; size = refl; rooms = refl; laid = laid; sound = held.sound; lower = omega arith }
@@ -102,7 +102,7 @@ module _ (p q : Pieces) (net : q.net ≡ p.net) (firsts : q.parts.firsts.items �
           omega (arith, whole, got, going.lower)
 
 -- where nothing was done, the state was finished
-pub still_finished : (p : Pieces) (blocks : List BlockView) (ways : MailView) → IsReady p → length blocks ≡ length p.parts.blocks.items
+pub still_finished : (p : Pieces) (blocks : List CellsView) (ways : MailView) → IsReady p → length blocks ≡ length p.parts.blocks.items
     → IsStill p blocks ways (length blocks) → IsFinished (state_in p)
 still_finished p blocks ways ready size still =
     none_starts (state_in p) ready.held.sound ready.quiet (λ b l. still.none b (omega (arith, l, size)))

@@ -8,7 +8,7 @@ use Rattle.parcel.specs.Directions.{IsDirection, forward, backward, near}
 use Rattle.parcel.specs.States as core
 use Rattle.parcel.proofs.Ends.{near_in}
 use Rattle.parcel.specs.Rounds.{IsJoined}
-use Rattle.block_net.specs.Views.{BlockView}
+use Rattle.block_net.specs.Views.{CellsView}
 use Rattle.block_net.specs.Whole.{Whole, block_with, home, place, shown_of, with_blocks}
 use Rattle.block_net.proofs.Tables.{length_table, table_at}
 use Rattle.parcel.specs.Effects.{state_of}
@@ -17,9 +17,9 @@ use Rattle.laid_blocks.proofs.Writing.{numbers, lane_read}
 use Rattle.block_cut.specs.Rounds.{quiet_state}
 use Rattle.block_cut.proofs.Beside.{one, read_one, shown_one}
 
-module _ (w : Whole) (blocks : List BlockView) (many : length blocks ≡ length w.blocks) (laid : IsLaid w) where
+module _ (w : Whole) (blocks : List CellsView) (many : length blocks ≡ length w.blocks) (laid : IsLaid w) where
   -- a number of a node
-  number_all : (f : BlockView → List ℕ) (v : ℕ) → v < nodes w.net
+  number_all : (f : CellsView → List ℕ) (v : ℕ) → v < nodes w.net
       → slice_index (numbers f (with_blocks w blocks)) v ≡ slice_index (numbers f (one w blocks many (home w v))) v
   number_all f v lv =
       let b = home w v in
@@ -28,7 +28,7 @@ module _ (w : Whole) (blocks : List BlockView) (many : length blocks ≡ length 
       ∙ (read_one w blocks many f (λ q. q) b v (laid.placed.homes v lv) refl
       ∙ sym (table_at (nodes w.net) (at (one w blocks many b)) v 0 lv))
 
-  numbers_len : (f : BlockView → List ℕ) → length (numbers f (with_blocks w blocks)) ≡ nodes w.net
+  numbers_len : (f : CellsView → List ℕ) → length (numbers f (with_blocks w blocks)) ≡ nodes w.net
   numbers_len f = length_table (nodes w.net) (λ v. slice_index (f (block_with (with_blocks w blocks) v)) (place (with_blocks w blocks) v))
 
   lane_all : (x : Direction) → IsDirection w.net x

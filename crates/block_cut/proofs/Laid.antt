@@ -4,7 +4,7 @@ use Rattle.std.proofs.lemmas.List.{set-get_or, length-set}
 use Rattle.flow_network.specs.Cut.{nodes}
 use Rattle.parcel.specs.Directions.{near}
 use Rattle.parcel.specs.States as core
-use Rattle.block_net.specs.Views.{BlockView, count}
+use Rattle.block_net.specs.Views.{CellsView, count}
 use Rattle.block_net.specs.Whole.{Whole, no_block, block_at, put_block, home, IsFilled}
 use Rattle.laid_blocks.specs.Views.{IsLaid}
 use Rattle.laid_blocks.proofs.Writing.{block_same}
@@ -12,7 +12,7 @@ use Rattle.block_cut.specs.Seats.{IsSeated}
 
 -- a block in its own stead changes nothing
 pub put_own : (w : Whole) (b : ℕ) → put_block w b (block_at w b) ≡ w
-put_own w b = ap (λ (q : List BlockView). record w { blocks = q }) (set-get_or w.blocks b no_block)
+put_own w b = ap (λ (q : List CellsView). record w { blocks = q }) (set-get_or w.blocks b no_block)
 
 pub seated : (w : Whole) (b : ℕ) → IsLaid w → b < length w.blocks → IsSeated w b (block_at w b)
 seated w b laid l = record {
@@ -25,7 +25,7 @@ seated w b laid l = record {
 
 -- ---- other blocks, each filled where it stands alone among the old ones
 
-module _ (w : Whole) (blocks : List BlockView) (len : length blocks ≡ length w.blocks) where
+module _ (w : Whole) (blocks : List CellsView) (len : length blocks ≡ length w.blocks) where
   abbrev with_blocks : Whole
   with_blocks = record w { blocks = blocks }
 
@@ -43,9 +43,9 @@ module _ (w : Whole) (blocks : List BlockView) (len : length blocks ≡ length w
 
   pub filled_together : ((b : ℕ) → b < length blocks → IsFilled (alone b)) → IsFilled with_blocks
   filled_together each = record {
-    labels = λ b l. subst (λ (q : BlockView). length q.labels ≡ count q) (block_is b l) ((each b l).labels b (omega (arith, l, long b)));
+    labels = λ b l. subst (λ (q : CellsView). length q.labels ≡ count q) (block_is b l) ((each b l).labels b (omega (arith, l, long b)));
     nodes = λ b p l lp.
-        let found = (each b l).nodes b p (omega (arith, l, long b)) (subst (λ (q : BlockView). p < count q) (sym (block_is b l)) lp) in (
+        let found = (each b l).nodes b p (omega (arith, l, long b)) (subst (λ (q : CellsView). p < count q) (sym (block_is b l)) lp) in (
           found.0,
           record {
             node = found.1.node;
@@ -54,7 +54,7 @@ module _ (w : Whole) (blocks : List BlockView) (len : length blocks ≡ length w
           },
         );
     borders = λ b j l lj.
-        let found = (each b l).borders b j (omega (arith, l, long b)) (subst (λ (q : BlockView). j < length q.borders) (sym (block_is b l)) lj) in (
+        let found = (each b l).borders b j (omega (arith, l, long b)) (subst (λ (q : CellsView). j < length q.borders) (sym (block_is b l)) lj) in (
           found.0,
           home_same b (near w.net found.0) ∙ found.1,
           record {

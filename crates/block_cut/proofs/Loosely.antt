@@ -8,15 +8,15 @@ use Rattle.parcel.specs.States as core
 use Rattle.parcel.specs.Soundness.{IsSound}
 use Rattle.parcel.proofs.Inside.{pushed_kept, given_kept}
 use Rattle.block_net.specs.Views as block
-use Rattle.block_net.specs.Views.{BlockView, count, excess_in, label_in, room_in, lane_in}
+use Rattle.block_net.specs.Views.{CellsView, count, excess_in, label_in, room_in, lane_in}
 use Rattle.block_net.specs.Whole.{Whole, put_block}
-use Rattle.parcel.specs.Effects.{BlocksView, state_of, gave}
+use Rattle.parcel.specs.Effects.{BlocksView, state_of, given}
 use Rattle.laid_blocks.proofs.Steps.{excess_read, label_read, room_read, inner_read, far_spot, back_row, gave_at, pushed_at}
 use Rattle.discharge.specs.Steps.{IsOfNode}
 use Rattle.block_cut.specs.Loose.{IsStanding}
 use Rattle.block_cut.proofs.Seated.{view_with, at_seat, node_seat, view_after, seat_after, lane_found}
 
-pub loose_push_keeps : (w : Whole) (b : ℕ) (B : BlockView) (ways : List (List (List Message))) (got p j a : ℕ) → IsStanding w b B ways got → p < count B → IsOfNode B p j
+pub loose_push_keeps : (w : Whole) (b : ℕ) (B : CellsView) (ways : List (List (List Message))) (got p j a : ℕ) → IsStanding w b B ways got → p < count B → IsOfNode B p j
     → a ≤ excess_in B p → a ≤ (lane_in B j).residual → label_in B (lane_in B j).far ≤ label_in B p + 1 → IsStanding w b (block.pushed B p j a) ways got
 loose_push_keeps w b B ways got p j a stands lp of enough fits level =
     let w1 = put_block w b B in
@@ -39,7 +39,7 @@ loose_push_keeps w b B ways got p j a stands lp of enough fits level =
       sound = subst (λ (q : BlocksView). IsSound (state_of q ways got)) (sym (view_after w b B new _ then')) kept;
     }
 
-pub loose_give_keeps : (w : Whole) (b : ℕ) (B : BlockView) (ways : List (List (List Message))) (got p a : ℕ) → IsStanding w b B ways got → p < count B → p < length B.rooms
+pub loose_give_keeps : (w : Whole) (b : ℕ) (B : CellsView) (ways : List (List (List Message))) (got p a : ℕ) → IsStanding w b B ways got → p < count B → p < length B.rooms
     → a ≤ excess_in B p → a ≤ room_in B p → IsStanding w b (block.given B p a) ways (got + a)
 loose_give_keeps w b B ways got p a stands lp lr enough fits =
     let w1 = put_block w b B in
@@ -54,6 +54,6 @@ loose_give_keeps w b B ways got p a stands lp lr enough fits =
     let room = room_read w1 v b B u p at found.1 in
     let kept = given_kept s u a stands.sound found.1.node (omega (arith, enough, excess)) (omega (arith, fits, room)) in
     record {
-      seated = seat_after w b B new (gave v u a) stands.seated then' (length-set B.excess p _) refl refl;
-      sound = subst (λ (q : BlocksView). IsSound (state_of q ways (got + a))) (sym (view_after w b B new (gave v u a) then')) kept;
+      seated = seat_after w b B new (given v u a) stands.seated then' (length-set B.excess p _) refl refl;
+      sound = subst (λ (q : BlocksView). IsSound (state_of q ways (got + a))) (sym (view_after w b B new (given v u a) then')) kept;
     }

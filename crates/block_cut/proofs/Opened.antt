@@ -7,7 +7,7 @@ use Rattle.parcel.specs.declared.message.Message.{Message}
 use Rattle.parcel.specs.States.{State, label_of}
 use Rattle.parcel.specs.Soundness.{IsSound, opened}
 use Rattle.block_net.specs.declared.parts.Parts.{Parts}
-use Rattle.block_net.specs.Views.{BlockView, count, excess_in, label_in, room_in, lane_in, pushed, given}
+use Rattle.block_net.specs.Views.{CellsView, count, excess_in, label_in, room_in, lane_in, pushed, given}
 use Rattle.block_net.specs.Whole.{Whole, no_block, block_at, home, place, whole_of, with_blocks}
 use Rattle.parcel.specs.Effects.{state_of}
 use Rattle.laid_blocks.specs.Views.{IsLaid, IsSpot, blocks_in}
@@ -26,13 +26,13 @@ use Rattle.block_cut.specs.Opening.{IsFlat, AreLabelsZero, Opens, AreOpening}
 
 -- ---- one block
 
-pub opens_none : (B : BlockView) → Opens B B
+pub opens_none : (B : CellsView) → Opens B B
 opens_none B = record { nodes = refl; starts = refl; lanes = refl; labels = refl; stands = λ w b ways got flat stands. (got, stands) }
 
-flat_again : (A B : BlockView) → count B ≡ count A → B.labels ≡ A.labels → IsFlat A → IsFlat B
+flat_again : (A B : CellsView) → count B ≡ count A → B.labels ≡ A.labels → IsFlat A → IsFlat B
 flat_again A B size labels flat v l = ap (λ (q : List ℕ). slice_index q v) labels ∙ flat v (omega (arith, l, size))
 
-pub opens_more : (A B C : BlockView) → Opens A B → Opens B C → Opens A C
+pub opens_more : (A B C : CellsView) → Opens A B → Opens B C → Opens A C
 opens_more A B C p q = record {
   nodes = q.nodes ∙ p.nodes;
   starts = q.starts ∙ p.starts;
@@ -43,7 +43,7 @@ opens_more A B C p q = record {
       q.stands w b ways first.0 (flat_again A B p.nodes p.labels flat) first.1;
 }
 
-pub given_opens : (B : BlockView) (p a : ℕ) → p < count B → p < length B.rooms → a ≤ excess_in B p → a ≤ room_in B p → Opens B (given B p a)
+pub given_opens : (B : CellsView) (p a : ℕ) → p < count B → p < length B.rooms → a ≤ excess_in B p → a ≤ room_in B p → Opens B (given B p a)
 given_opens B p a lp lr enough fits = record {
   nodes = length-set B.excess p _;
   starts = refl;
@@ -52,7 +52,7 @@ given_opens B p a lp lr enough fits = record {
   stands = λ w b ways got flat stands. (got + a, loose_give_keeps w b B ways got p a stands lp lr enough fits);
 }
 
-pub pushed_opens : (B : BlockView) (p j a : ℕ) → p < count B → IsOfNode B p j → a ≤ excess_in B p → a ≤ (lane_in B j).residual → (lane_in B j).far < count B → Opens B (pushed B p j a)
+pub pushed_opens : (B : CellsView) (p j a : ℕ) → p < count B → IsOfNode B p j → a ≤ excess_in B p → a ≤ (lane_in B j).residual → (lane_in B j).far < count B → Opens B (pushed B p j a)
 pushed_opens B p j a lp of enough fits lf = record {
   nodes = length-set (set B.excess p (excess_in B p - a)) (lane_in B j).far _ ∙ length-set B.excess p _;
   starts = refl;
@@ -63,14 +63,14 @@ pushed_opens B p j a lp of enough fits lf = record {
 
 -- ---- the blocks of a net
 
-module _ (p : Pieces) (blocks : List BlockView) (opening : AreOpening p blocks) where
+module _ (p : Pieces) (blocks : List CellsView) (opening : AreOpening p blocks) where
   standing : (b : ℕ) → b < length blocks → IsStanding (with_blocks (whole_of p.net p.parts) blocks) b (block_at (with_blocks (whole_of p.net p.parts) blocks) b) p.ways.messages opening.got
   standing b l = record {
     seated = seated (with_blocks (whole_of p.net p.parts) blocks) b opening.laid l;
     sound = subst (λ (q : Whole). IsSound (state_of (blocks_in q) p.ways.messages opening.got)) (sym (put_own (with_blocks (whole_of p.net p.parts) blocks) b)) opening.sound;
   }
 
-  flat_put : (b : ℕ) (new : BlockView) → b < length blocks → Opens (block_at (with_blocks (whole_of p.net p.parts) blocks) b) new → (c : ℕ) → c < length (set blocks b new) → IsFlat (block_at (with_blocks (whole_of p.net p.parts) (set blocks b new)) c)
+  flat_put : (b : ℕ) (new : CellsView) → b < length blocks → Opens (block_at (with_blocks (whole_of p.net p.parts) blocks) b) new → (c : ℕ) → c < length (set blocks b new) → IsFlat (block_at (with_blocks (whole_of p.net p.parts) (set blocks b new)) c)
   flat_put b new l opens c lc = elim (cases_eq c b) [
     | inl e ↦
         let w = with_blocks (whole_of p.net p.parts) blocks in
@@ -79,7 +79,7 @@ module _ (p : Pieces) (blocks : List BlockView) (opening : AreOpening p blocks) 
     | inr off ↦ subst IsFlat (sym (get_or-set_other blocks b c new no_block off)) (opening.flat c (omega (arith, lc, length-set blocks b new)))
   ]
 
-  pub block_opened : (b : ℕ) (new : BlockView) → b < length blocks → Opens (block_at (with_blocks (whole_of p.net p.parts) blocks) b) new → AreOpening p (slice_set blocks b new)
+  pub block_opened : (b : ℕ) (new : CellsView) → b < length blocks → Opens (block_at (with_blocks (whole_of p.net p.parts) blocks) b) new → AreOpening p (slice_set blocks b new)
   block_opened b new l opens =
       let then' = opens.stands (with_blocks (whole_of p.net p.parts) blocks) b p.ways.messages opening.got (opening.flat b l) (standing b l) in
       record {
@@ -91,11 +91,11 @@ module _ (p : Pieces) (blocks : List BlockView) (opening : AreOpening p blocks) 
       }
 
 -- the same by the number of blocks and the block as the code has them
-pub turn_opened : (p : Pieces) (blocks : List BlockView) (k b : ℕ) (old new : BlockView) → AreOpening p blocks → k ≡ length blocks → b < k → old ≡ slice_index_or blocks b old
+pub turn_opened : (p : Pieces) (blocks : List CellsView) (k b : ℕ) (old new : CellsView) → AreOpening p blocks → k ≡ length blocks → b < k → old ≡ slice_index_or blocks b old
     → Opens old new → AreOpening p (slice_set blocks b new)
 turn_opened p blocks k b old new opening size l is opens =
     block_opened p blocks opening b new (omega (arith, size, l))
-    (subst (λ (q : BlockView). Opens q new) (get_or_read_under blocks b k old no_block is l size) opens)
+    (subst (λ (q : CellsView). Opens q new) (get_or_read_under blocks b k old no_block is l size) opens)
 
 -- ---- at first
 
@@ -132,7 +132,7 @@ zeros_at_first net blocks v l = get_or-replicate (nodes net) v 0 0 l
 
 -- ---- in the end
 
-held_by : (p : Pieces) (blocks : List BlockView) (got : ℕ) → AreOpening p blocks → IsHeld p.ways.rooms (state_in p) → got + sum (state_at p blocks p.ways.messages got).rooms ≡ sum p.net.sinks
+held_by : (p : Pieces) (blocks : List CellsView) (got : ℕ) → AreOpening p blocks → IsHeld p.ways.rooms (state_in p) → got + sum (state_at p blocks p.ways.messages got).rooms ≡ sum p.net.sinks
     → IsHeld p.ways.rooms (state_at p blocks p.ways.messages got)
 held_by p blocks got opening held given' =
     let same : opening.got ≡ got = omega (arith, opening.sound.got, given') in

@@ -6,7 +6,7 @@ use Rattle.sums.specs.Sums.{counted}
 use Rattle.sums.proofs.SumLemmas.{counted-le}
 use Rattle.parcel.specs.States.{State}
 use Rattle.parcel.specs.Soundness.{IsFinished, count}
-use Rattle.block_net.specs.Views.{BlockView}
+use Rattle.block_net.specs.Views.{CellsView}
 use Rattle.block_net.specs.Whole.{no_block, block_at, whole_of, with_blocks}
 use Rattle.block_core.specs.Mails.{MailView}
 use Rattle.block_core.specs.declared.pieces.Pieces.{Pieces}
@@ -34,7 +34,7 @@ neither false n is = elim (cases_lt 0 n) [
   | inr h ↦ (refl, omega (arith, h))
 ]
 
-module _ (p : Pieces) (blocks0 blocks : List BlockView) (ways0 before after : MailView) (k b events : ℕ) (old new : BlockView) (some : Bool) (size : k ≡ length blocks) (lb : b < k) (is : old ≡ slice_index_or blocks b old) (reaches : ReachesFrom k b events old new before.messages after.messages) where
+module _ (p : Pieces) (blocks0 blocks : List CellsView) (ways0 before after : MailView) (k b events : ℕ) (old new : CellsView) (some : Bool) (size : k ≡ length blocks) (lb : b < k) (is : old ≡ slice_index_or blocks b old) (reaches : ReachesFrom k b events old new before.messages after.messages) where
   reached : ReachesFrom (length blocks) b events (block_at (with_blocks (whole_of p.net p.parts) blocks) b) new before.messages after.messages
   reached = reaches_at p blocks before after k b events old new size lb is reaches
 
@@ -43,7 +43,7 @@ module _ (p : Pieces) (blocks0 blocks : List BlockView) (ways0 before after : Ma
       → (e : Step) → ¬ IsSure (block_at (with_blocks (whole_of p.net p.parts) blocks) b) (seen_by (ends_view b (length blocks) before before slots arcs)) e
   none_sure slots arcs sure none e = λ on.
       let at : old ≡ block_at (with_blocks (whole_of p.net p.parts) blocks) b = get_or_read_under blocks b k old no_block is lb size in
-      let on' = subst (λ (q : BlockView). IsSure q (seen_by (ends_view b (length blocks) before before slots arcs)) e) (sym at) on in
+      let on' = subst (λ (q : CellsView). IsSure q (seen_by (ends_view b (length blocks) before before slots arcs)) e) (sym at) on in
       let some = sure e (subst (λ n. IsSure old (seen_by (ends_view b n before before slots arcs)) e) (sym size) on') in
       absurd (omega (arith, some, none))
 
@@ -65,7 +65,7 @@ module _ (p : Pieces) (blocks0 blocks : List BlockView) (ways0 before after : Ma
 -- ---- the whole work
 
 -- the count fell, where the state was not finished
-pub work_done : (p : Pieces) (blocks : List BlockView) (ways : MailView) (s t : State) (r : Bool) → s ≡ state_in p → IsGoing p blocks ways (counted r 1)
+pub work_done : (p : Pieces) (blocks : List CellsView) (ways : MailView) (s t : State) (r : Bool) → s ≡ state_in p → IsGoing p blocks ways (counted r 1)
     → ((n : ℕ) → IsGoing p blocks ways n → count t + n ≤ count (state_in p)) → (IsFalse r → IsFinished (state_in p)) → ¬ IsFinished s
     → count t < count s
 work_done p blocks ways s t true is going lower still unfinished = omega (arith, lower 1 going, ap count is)

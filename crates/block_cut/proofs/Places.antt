@@ -7,8 +7,8 @@ use Rattle.parcel.specs.Directions.{IsDirection, near, far, opposite}
 use Rattle.parcel.specs.States as core
 use Rattle.parcel.proofs.Ends.{far_in}
 use Rattle.parcel.proofs.Lanes.{near_opposite, border_opposite}
-use Rattle.block_net.specs.declared.rows.Border.{Border}
-use Rattle.block_net.specs.Views.{BlockView, lane_in, border_in, first_lane, first_border}
+use Rattle.block_net.specs.declared.lanes.Border.{Border}
+use Rattle.block_net.specs.Views.{CellsView, lane_in, border_in, first_lane, first_border}
 use Rattle.block_net.specs.Whole.{Whole, block_at, block_with, home, place, slot, is_outer, border_of, shown, StandsAt}
 use Rattle.laid_blocks.specs.Views.{blocks_in, IsLaid, IsSpot, IsRow}
 use Rattle.laid_blocks.proofs.Steps.{IsAt, lane_below, border_below, inner_read, border_read, far_spot, back_row, back_spot}
@@ -19,13 +19,13 @@ node_of w u b p laid spot =
     omega (arith, ap (slice_index w.firsts) spot.home, spot.place, laid.placed.firsts u spot.node)
 
 -- the block that a node lies in, and what is read there
-with_is : (w : Whole) (b : ℕ) (B : BlockView) (u p : ℕ) → block_at w b ≡ B → IsSpot w u b p → block_with w u ≡ B
+with_is : (w : Whole) (b : ℕ) (B : CellsView) (u p : ℕ) → block_at w b ≡ B → IsSpot w u b p → block_with w u ≡ B
 with_is w b B u p is spot = ap (block_at w) spot.home ∙ is
 
-read_at : (w : Whole) (b : ℕ) (B : BlockView) (u p : ℕ) (f : BlockView → List ℕ) (g : ℕ → ℕ) → block_at w b ≡ B → IsSpot w u b p
+read_at : (w : Whole) (b : ℕ) (B : CellsView) (u p : ℕ) (f : CellsView → List ℕ) (g : ℕ → ℕ) → block_at w b ≡ B → IsSpot w u b p
     → slice_index (f (block_with w u)) (g (place w u)) ≡ slice_index (f B) (g p)
 read_at w b B u p f g is spot =
-    ap (λ q. slice_index (f (block_with w u)) (g q)) spot.place ∙ ap (λ (q : BlockView). slice_index (f q) (g p)) (with_is w b B u p is spot)
+    ap (λ q. slice_index (f (block_with w u)) (g q)) spot.place ∙ ap (λ (q : CellsView). slice_index (f q) (g p)) (with_is w b B u p is spot)
 
 row_of : (w : Whole) (b : ℕ) (leaves : Bool) (u p j : ℕ) (x : Direction) → IsSpot w u b p → StandsAt w leaves u j x → IsRow w x leaves b j
 row_of w b leaves u p j x spot stands = record {
@@ -39,13 +39,13 @@ row_of w b leaves u p j x spot stands = record {
 -- ---- a direction within the block
 
 -- the node at place j of node u, a direction x, leads on to the far node, whose opposite direction is in the block
-pub record IsLaneEnd (w : Whole) (B : BlockView) (first j : ℕ) (x : Direction) : Type 0 where
+pub record IsLaneEnd (w : Whole) (B : CellsView) (first j : ℕ) (x : Direction) : Type 0 where
   pub stands : first + (lane_in B j).far ≡ far w.net x
   pub node : far w.net x < nodes w.net
   pub back : (lane_in B j).opposite < length B.lanes
   pub residual : (lane_in B (lane_in B j).opposite).residual ≡ (core.lane_at (shown w).lanes (opposite x)).residual
 
-lane_end : (w : Whole) (b : ℕ) (B : BlockView) (u p j : ℕ) (x : Direction) → IsAt w (blocks_in w) b B → IsSpot w u b p → StandsAt w false u j x
+lane_end : (w : Whole) (b : ℕ) (B : CellsView) (u p j : ℕ) (x : Direction) → IsAt w (blocks_in w) b B → IsSpot w u b p → StandsAt w false u j x
     → IsLaneEnd w B (slice_index w.firsts b) j x
 lane_end w b B u p j x at spot stands =
     let row = row_of w b false u p j x spot stands in
@@ -67,11 +67,11 @@ pub record IsBorderEnd (w : Whole) (border : Border) (x : Direction) : Type 0 wh
   pub node : far w.net x < nodes w.net
   pub residual : (border_in (block_at w border.to) border.opposite).residual ≡ (core.lane_at (shown w).lanes (opposite x)).residual
 
-border_is : (w : Whole) (b : ℕ) (B : BlockView) (x : Direction) (j : ℕ) → block_at w b ≡ B → IsRow w x true b j → border_of w x ≡ border_in B j
+border_is : (w : Whole) (b : ℕ) (B : CellsView) (x : Direction) (j : ℕ) → block_at w b ≡ B → IsRow w x true b j → border_of w x ≡ border_in B j
 border_is w b B x j is row =
-    ap (λ (q : BlockView). border_in q (slot w x)) (ap (block_at w) row.home ∙ is) ∙ ap (border_in B) row.slot
+    ap (λ (q : CellsView). border_in q (slot w x)) (ap (block_at w) row.home ∙ is) ∙ ap (border_in B) row.slot
 
-border_end : (w : Whole) (b : ℕ) (B : BlockView) (u p j : ℕ) (x : Direction) → IsAt w (blocks_in w) b B → IsSpot w u b p → StandsAt w true u j x
+border_end : (w : Whole) (b : ℕ) (B : CellsView) (u p j : ℕ) (x : Direction) → IsAt w (blocks_in w) b B → IsSpot w u b p → StandsAt w true u j x
     → IsBorderEnd w (border_in B j) x
 border_end w b B u p j x at spot stands =
     let row = row_of w b true u p j x spot stands in
@@ -100,19 +100,19 @@ border_end w b B u p j x at spot stands =
 
 -- ---- the places of a node
 
-module _ (w : Whole) (b : ℕ) (B : BlockView) (u p : ℕ) (at : IsAt w (blocks_in w) b B) (spot : IsSpot w u b p) where
+module _ (w : Whole) (b : ℕ) (B : CellsView) (u p : ℕ) (at : IsAt w (blocks_in w) b B) (spot : IsSpot w u b p) where
   pub lane_at_place : (j : ℕ) → first_lane B p ≤ j → j < first_lane B (p + 1)
       → (x : Direction) × StandsAt w false u j x × IsLaneEnd w B (slice_index w.firsts b) j x
   lane_at_place j low high =
-      let found = at.laid.placed.lanes u j spot.node (omega (arith, low, read_at w b B u p (λ (q : BlockView). q.starts) (λ q. q) at.is spot))
-      (omega (arith, high, read_at w b B u p (λ (q : BlockView). q.starts) (λ q. q + 1) at.is spot)) in
+      let found = at.laid.placed.lanes u j spot.node (omega (arith, low, read_at w b B u p (λ (q : CellsView). q.starts) (λ q. q) at.is spot))
+      (omega (arith, high, read_at w b B u p (λ (q : CellsView). q.starts) (λ q. q + 1) at.is spot)) in
       (found.0, found.1, lane_end w b B u p j found.0 at spot found.1)
 
   pub border_at_place : (j : ℕ) → first_border B p ≤ j → j < first_border B (p + 1)
       → (x : Direction) × StandsAt w true u j x × IsBorderEnd w (border_in B j) x
   border_at_place j low high =
-      let found = at.laid.placed.outers u j spot.node (omega (arith, low, read_at w b B u p (λ (q : BlockView). q.border_starts) (λ q. q) at.is spot))
-      (omega (arith, high, read_at w b B u p (λ (q : BlockView). q.border_starts) (λ q. q + 1) at.is spot)) in
+      let found = at.laid.placed.outers u j spot.node (omega (arith, low, read_at w b B u p (λ (q : CellsView). q.border_starts) (λ q. q) at.is spot))
+      (omega (arith, high, read_at w b B u p (λ (q : CellsView). q.border_starts) (λ q. q + 1) at.is spot)) in
       (found.0, found.1, border_end w b B u p j found.0 at spot found.1)
 
   pub lane_place : (x : Direction) → IsDirection w.net x → near w.net x ≡ u → is_outer w x ≡ false
@@ -120,8 +120,8 @@ module _ (w : Whole) (b : ℕ) (B : BlockView) (u p : ℕ) (at : IsAt w (blocks_
   lane_place x l leaves out =
       let here : IsSpot w (near w.net x) b p = subst (λ n. IsSpot w n b p) (sym leaves) spot in
       let is = at.laid.placed.inner x l out in (
-        omega (arith, is.from, read_at w b B (near w.net x) p (λ (q : BlockView). q.starts) (λ q. q) at.is here),
-        omega (arith, is.below, read_at w b B (near w.net x) p (λ (q : BlockView). q.starts) (λ q. q + 1) at.is here),
+        omega (arith, is.from, read_at w b B (near w.net x) p (λ (q : CellsView). q.starts) (λ q. q) at.is here),
+        omega (arith, is.below, read_at w b B (near w.net x) p (λ (q : CellsView). q.starts) (λ q. q + 1) at.is here),
       )
 
   pub border_place : (x : Direction) → IsDirection w.net x → near w.net x ≡ u → is_outer w x ≡ true
@@ -129,6 +129,6 @@ module _ (w : Whole) (b : ℕ) (B : BlockView) (u p : ℕ) (at : IsAt w (blocks_
   border_place x l leaves out =
       let here : IsSpot w (near w.net x) b p = subst (λ n. IsSpot w n b p) (sym leaves) spot in
       let is = at.laid.placed.borders x l out in (
-        omega (arith, is.from, read_at w b B (near w.net x) p (λ (q : BlockView). q.border_starts) (λ q. q) at.is here),
-        omega (arith, is.below, read_at w b B (near w.net x) p (λ (q : BlockView). q.border_starts) (λ q. q + 1) at.is here),
+        omega (arith, is.from, read_at w b B (near w.net x) p (λ (q : CellsView). q.border_starts) (λ q. q) at.is here),
+        omega (arith, is.below, read_at w b B (near w.net x) p (λ (q : CellsView). q.border_starts) (λ q. q + 1) at.is here),
       )

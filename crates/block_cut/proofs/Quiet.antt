@@ -5,7 +5,7 @@ use Rattle.parcel.specs.States.{way_at}
 use Rattle.parcel.specs.Soundness.{IsSound, room_between}
 use Rattle.parcel.proofs.Fitting.{way_fits}
 use Rattle.parcel.proofs.Quiet.{quiet_empty}
-use Rattle.block_net.specs.Views.{BlockView}
+use Rattle.block_net.specs.Views.{CellsView}
 use Rattle.block_net.specs.Whole.{Whole}
 use Rattle.block_core.specs.Mails.{HasRooms, IsHeld, room_at}
 use Rattle.parcel.specs.Effects.{state_of}
@@ -17,7 +17,7 @@ pub quiet_is_start : (w : Whole) (got : ℕ) (ways : Ways) → IsSound (state_of
 quiet_is_start w got ways sound quiet =
     ap (λ (x : Ways). state_of (blocks_in w) x got) (quiet_empty (state_of (blocks_in w) ways got) sound quiet)
 
-pub round_is_held : (w : Whole) (got : ℕ) (blocks : List BlockView) (left : Ways) (steps : ℕ → ℕ) (rooms : List (List ℕ)) → HasRooms w.net (length w.blocks) rooms
+pub round_is_held : (w : Whole) (got : ℕ) (blocks : List CellsView) (left : Ways) (steps : ℕ → ℕ) (rooms : List (List ℕ)) → HasRooms w.net (length w.blocks) rooms
     → IsRound w got blocks left steps
     → IsHeld rooms (state_after w blocks left) × ((b c : ℕ) → b < length w.blocks → c < length w.blocks → b ≢ c → length (way_at left b c) ≤ room_at rooms b c)
 round_is_held w got blocks left steps rooms has round =

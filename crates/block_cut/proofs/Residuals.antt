@@ -12,14 +12,14 @@ use Rattle.parcel.specs.States as core
 use Rattle.parcel.proofs.Ends.{near_in, far_in}
 use Rattle.parcel.specs.States.{residual_of, is_border, block_of}
 use Rattle.block_net.specs.declared.parts.Parts.{Parts}
-use Rattle.block_net.specs.Views.{BlockView, lane_in, border_in}
+use Rattle.block_net.specs.Views.{CellsView, lane_in, border_in}
 use Rattle.block_net.specs.Whole.{Whole, no_block, block_at, home, slot, is_outer, whole_of}
 use Rattle.laid_blocks.specs.Views.{blocks_in, IsRow}
 use Rattle.block_core.specs.Parts.{IsIn}
 use Rattle.block_cut.specs.Homes.{AreHomes}
 use Rattle.laid_blocks.proofs.Steps.{IsAt, lane_below, border_below, inner_read, border_read}
 
-module _ (s : core.State) (p : Parts) (is : IsIn s p) (x : Direction) (l : IsDirection s.net x) (b j : ℕ) (B : BlockView) (here : home (whole_of s.net p) (near s.net x) ≡ b) (at : slot (whole_of s.net p) x ≡ j) (read : B ≡ block_at (whole_of s.net p) b) where
+module _ (s : core.State) (p : Parts) (is : IsIn s p) (x : Direction) (l : IsDirection s.net x) (b j : ℕ) (B : CellsView) (here : home (whole_of s.net p) (near s.net x) ≡ b) (at : slot (whole_of s.net p) x ≡ j) (read : B ≡ block_at (whole_of s.net p) b) where
   abbrev w : Whole
   w = whole_of s.net p
 
@@ -64,11 +64,11 @@ home_told s p homes v is are l =
     ap (λ k. block_of s.net k v) (ap (λ (t : core.State). t.blocks) is.shown) ∙ sym (are.home v l)
 
 -- what the block holds of the direction back of an arc, by the table
-pub record IsBack (s : core.State) (k from to j : ℕ) (B : BlockView) : Type 0 where
+pub record IsBack (s : core.State) (k from to j : ℕ) (B : CellsView) : Type 0 where
   pub inner : from ≡ to → (j < length B.lanes) × ((lane_in B j).residual ≡ residual_of s (backward k))
   pub outer : from ≢ to → (j < length B.borders) × ((border_in B j).residual ≡ residual_of s (backward k))
 
-pub back_is : (s : core.State) (p : Parts) (homes : List ℕ) (k from to j : ℕ) (net net' : Network) (B : BlockView) → IsIn s p → AreHomes s.net s.blocks homes
+pub back_is : (s : core.State) (p : Parts) (homes : List ℕ) (k from to j : ℕ) (net net' : Network) (B : CellsView) → IsIn s p → AreHomes s.net s.blocks homes
     → k < length s.net.arcs → net ≡ s.net → net' ≡ s.net → from ≡ slice_index homes (arc_at net k).from → to ≡ slice_index homes (arc_at net k).to
     → j ≡ slice_index p.slots.items (length net'.arcs + k) → B ≡ get_or p.blocks.items to B → IsBack s k from to j B
 back_is s p homes k from to j net net' B is are l same same' from_is to_is slot_is read =
@@ -87,7 +87,7 @@ back_is s p homes k from to j net net' B is are l same same' from_is to_is slot_
     }
 
 -- where there is one block, it holds the direction back of each arc
-pub back_within : (s : core.State) (p : Parts) (k j : ℕ) (net : Network) (B : BlockView) → IsIn s p → s.blocks ≡ 1 → k < length s.net.arcs → net ≡ s.net
+pub back_within : (s : core.State) (p : Parts) (k j : ℕ) (net : Network) (B : CellsView) → IsIn s p → s.blocks ≡ 1 → k < length s.net.arcs → net ≡ s.net
     → j ≡ slice_index p.slots.items (length net.arcs + k) → B ≡ get_or p.blocks.items 0 B
     → (0 < length p.blocks.items) × (j < length B.lanes) × ((lane_in B j).residual ≡ residual_of s (backward k))
 back_within s p k j net B is one l same slot_is read =

@@ -7,7 +7,7 @@ use Rattle.parcel.specs.declared.event.Event.TheVariants.{RaiseAll}
 use Rattle.parcel.specs.declared.lane.Lane.{Lane}
 use Rattle.parcel.specs.States.{State, excess_of}
 use Rattle.parcel.specs.Directions.{far}
-use Rattle.parcel.specs.Reach.{LeadsIn, Leads, AreExact}
+use Rattle.parcel.specs.Reach.{ReachesIn, Reaches, AreExact}
 use Rattle.parcel.specs.Events.{IsQuiet, Happens, raised}
 use Rattle.parcel.specs.Soundness.{IsFinished}
 use Rattle.parcel.proofs.Raising.{told_is}
@@ -20,7 +20,7 @@ use Rattle.laid_blocks.proofs.Steps.{excess_read}
 use Rattle.block_cut.specs.Rest.{IsAtRest}
 
 -- a path is one after the labels have changed, too
-path_raised : (s : State) (labels : List ℕ) (d v : ℕ) → LeadsIn s d v → LeadsIn (raised s labels) d v
+path_raised : (s : State) (labels : List ℕ) (d v : ℕ) → ReachesIn s d v → ReachesIn (raised s labels) d v
 path_raised s labels zero v path = absurd path
 path_raised s labels (suc zero) v path = path
 path_raised s labels (suc (suc d)) v (x, is, near, some, rest) =
@@ -46,13 +46,13 @@ module _ (s : State) (p : Parts) (labels : List ℕ) (is : IsIn s p) (exact : Ar
   first b = slice_index p.firsts.items b
 
   -- a node with a label below the top one reaches the sink, and no other does
-  low_leads : (v : ℕ) → v < nodes s.net → slice_index labels v < top s.net → Leads s v
+  low_leads : (v : ℕ) → v < nodes s.net → slice_index labels v < top s.net → Reaches s v
   low_leads v l low = elim (exact.exact v l) [
     | inl near ↦ (slice_index labels v, near.1)
     | inr far ↦ absurd (omega (arith, far.0, low))
   ]
 
-  high_ends : (v : ℕ) → v < nodes s.net → top s.net ≤ slice_index labels v → ¬ Leads s v
+  high_ends : (v : ℕ) → v < nodes s.net → top s.net ≤ slice_index labels v → ¬ Reaches s v
   high_ends v l high = elim (exact.exact v l) [
     | inl near ↦ absurd (omega (arith, near.0, high))
     | inr far ↦ far.1

@@ -6,7 +6,7 @@ use Rattle.sink_distances.specs.Search.{Found, label_of, Grows, AreStarts}
 use Rattle.sink_distances.proofs.Order.{grows_falls}
 use Rattle.parcel.specs.States.{State, room_of}
 use Rattle.block_net.specs.declared.parts.Parts.{Parts}
-use Rattle.block_net.specs.Views.{BlockView, count, room_in}
+use Rattle.block_net.specs.Views.{CellsView, count, room_in}
 use Rattle.block_net.specs.Whole.{Whole, LiesAt, block_at, home, place, whole_of}
 use Rattle.laid_blocks.specs.Views.{blocks_in}
 use Rattle.block_core.specs.Parts.{IsIn}
@@ -36,12 +36,12 @@ module _ (s : State) (p : Parts) (is : IsIn s p) where
       omega (arith, number_of b q there.0 there.1, there.1.node)
 
   -- one more block is seen
-  pub starts_more : (b f : ℕ) (B : BlockView) (old new : Found) → b < length p.blocks.items → f ≡ first b → block_at w b ≡ B → AreStarts s.net s.rooms 0 old
+  pub starts_more : (b f : ℕ) (B : CellsView) (old new : Found) → b < length p.blocks.items → f ≡ first b → block_at w b ≡ B → AreStarts s.net s.rooms 0 old
       → ((v : ℕ) → v < nodes s.net → home w v < b → 0 < room_of s v → label_of old v ≤ 1)
       → Grows 1 (GivesIn B f) old new → ((v : ℕ) → GivesIn B f v → label_of new v ≤ 1)
       → AreStarts s.net s.rooms 0 new × ((v : ℕ) → v < nodes s.net → home w v < b + 1 → 0 < room_of s v → label_of new v ≤ 1)
   starts_more b f B old new lb from at starts before g marked =
-      let size = ap (λ (q : BlockView). count q) at in (
+      let size = ap (λ (q : CellsView). count q) at in (
         record {
           len = g.len ∙ starts.len;
           order = g.order;
@@ -55,7 +55,7 @@ module _ (s : State) (p : Parts) (is : IsIn s p) where
                 let why = now.2 in
                 let there = is.laid.filled.nodes b why.0 lb (omega (arith, why.1, size)) in
                 let number : there.0 ≡ u = omega (arith, number_of b why.0 there.0 there.1, why.2, from) in
-                let room = ap (λ (q : BlockView). room_in q why.0) at in
+                let room = ap (λ (q : CellsView). room_in q why.0) at in
                 inr (now.1, omega (arith, why.3, room, room_there b why.0 there.0 lb there.1, ap (room_of s) number))
           ];
           sinks = λ u l. absurd (omega (arith, l));
@@ -67,7 +67,7 @@ module _ (s : State) (p : Parts) (is : IsIn s p) where
               let q = place w v in
               let lies : LiesAt w b q v = record { node = l; home = here; place = refl } in
               let lq : q < count B = omega (arith, is.laid.placed.places v l, ap (λ c. count (block_at w c)) here, size) in
-              let room = ap (λ (r : BlockView). room_in r q) at in
+              let room = ap (λ (r : CellsView). room_in r q) at in
               marked v (q, lq, omega (arith, number_of b q v lies, from), omega (arith, some, room, room_there b q v lb lies))
         ],
       )

@@ -11,7 +11,7 @@ use Rattle.parcel.specs.Workers.{IsHistory}
 use Rattle.parcel.specs.Rounds.{RoundOf}
 use Rattle.parcel.proofs.Gathering.{gathered}
 use Rattle.parcel.proofs.Keeping.{round_kept}
-use Rattle.block_net.specs.Views.{BlockView}
+use Rattle.block_net.specs.Views.{CellsView}
 use Rattle.block_net.specs.Whole.{Whole, table, block_at, with_blocks}
 use Rattle.block_net.proofs.Tables.{table_at}
 use Rattle.parcel.specs.Effects.{state_of}
@@ -55,7 +55,7 @@ unfolding picked
 picked_is n P each b (inl l) lb = (each b l).1
 picked_is n P each b (inr past) lb = absurd (omega (arith, past, lb))
 
-module _ (w : Whole) (got : ℕ) (blocks : List BlockView) (left : List (List (List Message))) (laid : IsLaid w) (sound : IsSound (quiet_state w got)) (back : AreBack w got blocks left) where
+module _ (w : Whole) (got : ℕ) (blocks : List CellsView) (left : List (List (List Message))) (laid : IsLaid w) (sound : IsSound (quiet_state w got)) (back : AreBack w got blocks left) where
   -- the block, with what it put and took
   abbrev came_to : ℕ → Held
   came_to b = record { block = block_at (with_blocks w blocks) b; sent = back.sent b; taken = back.taken b }
@@ -149,6 +149,6 @@ module _ (w : Whole) (got : ℕ) (blocks : List BlockView) (left : List (List (L
         laid = laid_all w blocks back.many laid (λ b lb. (led b lb).seated.laid);
       }
 
-pub seats_make_round : (w : Whole) (got : ℕ) (blocks : List BlockView) (left : List (List (List Message))) → IsLaid w → IsSound (quiet_state w got) → (back : AreBack w got blocks left)
+pub seats_make_round : (w : Whole) (got : ℕ) (blocks : List CellsView) (left : List (List (List Message))) → IsLaid w → IsSound (quiet_state w got) → (back : AreBack w got blocks left)
     → IsRound w got blocks left back.steps
 seats_make_round w got blocks left laid sound back = seats_are_round w got blocks left laid sound back

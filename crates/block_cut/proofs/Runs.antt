@@ -10,7 +10,7 @@ use Rattle.parcel.specs.Events.{steps}
 use Rattle.parcel.specs.Soundness.{IsSound, IsSquare}
 use Rattle.parcel.proofs.Kept.{run_kept}
 use Rattle.parcel.proofs.Lists.{run_lowers}
-use Rattle.parcel.specs.Workers.{Does, IsHistory}
+use Rattle.parcel.specs.Workers.{DoesOwn, IsHistory}
 use Rattle.parcel.specs.RoundLaws.{no_messages}
 use Rattle.parcel.proofs.Running.{history_runs}
 use Rattle.block_net.specs.Whole.{Whole, table}
@@ -57,7 +57,7 @@ no_logs n b sent taken none =
 -- ---- the count
 
 -- no event of a history raises all labels
-one_step : (b : ℕ) (s t : State) (e : Event) (es : List Event) → Does b s e t → steps (e ∷ es) ≡ 1 + steps es
+one_step : (b : ℕ) (s t : State) (e : Event) (es : List Event) → DoesOwn b s e t → steps (e ∷ es) ≡ 1 + steps es
 one_step b s t (PushInner x) es does = refl
 one_step b s t (PushSink v) es does = refl
 one_step b s t (Relabel v) es does = refl

@@ -8,8 +8,8 @@ use Rattle.parcel.specs.declared.event.Event.{Event}
 use Rattle.parcel.specs.Directions.{near}
 use Rattle.parcel.specs.States as core
 use Rattle.parcel.specs.Events as events
-use Rattle.parcel.specs.Workers.{Does}
-use Rattle.block_net.specs.Views.{BlockView, count}
+use Rattle.parcel.specs.Workers.{DoesOwn}
+use Rattle.block_net.specs.Views.{CellsView, count}
 use Rattle.block_net.specs.Whole.{Whole, block_at, block_with, home, place, StandsAt, put_block}
 use Rattle.parcel.specs.Effects.{BlocksView, state_of}
 use Rattle.laid_blocks.specs.Views.{blocks_in, IsSpot, IsRow}
@@ -21,10 +21,10 @@ use Rattle.discharge.specs.Steps.{Held}
 use Rattle.block_cut.specs.Seats.{IsSeated, shown_by}
 
 -- what the whole shows with the block in its place
-abbrev pub view_with : Whole → ℕ → BlockView → BlocksView
+abbrev pub view_with : Whole → ℕ → CellsView → BlocksView
 view_with w b B = blocks_in (put_block w b B)
 
-pub at_seat : (w : Whole) (b : ℕ) (B : BlockView) → IsSeated w b B → IsAt (put_block w b B) (view_with w b B) b B
+pub at_seat : (w : Whole) (b : ℕ) (B : CellsView) → IsSeated w b B → IsAt (put_block w b B) (view_with w b B) b B
 at_seat w b B seat = record {
   laid = seat.laid;
   view = refl;
@@ -32,10 +32,10 @@ at_seat w b B seat = record {
   is = block_same w b B seat.block;
 }
 
-pub node_seat : (w : Whole) (b : ℕ) (B : BlockView) (p : ℕ) → IsSeated w b B → p < count B → (u : ℕ) × IsSpot (put_block w b B) u b p
+pub node_seat : (w : Whole) (b : ℕ) (B : CellsView) (p : ℕ) → IsSeated w b B → p < count B → (u : ℕ) × IsSpot (put_block w b B) u b p
 node_seat w b B p seat l = let found = seat.nodes p l in (found.0, spot_put w found.0 b p b B found.1)
 
-pub border_seat : (w : Whole) (b : ℕ) (B : BlockView) (j : ℕ) → IsSeated w b B → j < length B.borders → (x : Direction) × IsRow (put_block w b B) x true b j
+pub border_seat : (w : Whole) (b : ℕ) (B : CellsView) (j : ℕ) → IsSeated w b B → j < length B.borders → (x : Direction) × IsRow (put_block w b B) x true b j
 border_seat w b B j seat l = let found = seat.borders j l in (found.0, row_put w found.0 true b j b B found.1)
 
 -- ---- what a step leaves
@@ -44,17 +44,17 @@ border_seat w b B j seat l = let found = seat.borders j l in (found.0, row_put w
 pub record Goes (w : Whole) (b : ℕ) (h h' : Held) (got : ℕ) : Type 0 where
   pub event : Event
   pub got' : ℕ
-  pub does : Does b (shown_by w b h got) event (shown_by w b h' got')
+  pub does : DoesOwn b (shown_by w b h got) event (shown_by w b h' got')
   pub seated : IsSeated w b h'.block
 
-pub put_again : (w : Whole) (b : ℕ) (B B' : BlockView) → put_block (put_block w b B) b B' ≡ put_block w b B'
-put_again w b B B' = ap (λ (q : List BlockView). record w { blocks = q }) (set-set w.blocks b B B')
+pub put_again : (w : Whole) (b : ℕ) (B B' : CellsView) → put_block (put_block w b B) b B' ≡ put_block w b B'
+put_again w b B B' = ap (λ (q : List CellsView). record w { blocks = q }) (set-set w.blocks b B B')
 
 -- the block that was written shows what was written
-pub view_after : (w : Whole) (b : ℕ) (B B' : BlockView) (v : BlocksView) → IsAt (put_block (put_block w b B) b B') v b B' → view_with w b B' ≡ v
+pub view_after : (w : Whole) (b : ℕ) (B B' : CellsView) (v : BlocksView) → IsAt (put_block (put_block w b B) b B') v b B' → view_with w b B' ≡ v
 view_after w b B B' v at = ap blocks_in (sym (put_again w b B B')) ∙ at.view
 
-pub seat_after : (w : Whole) (b : ℕ) (B B' : BlockView) (v : BlocksView) → IsSeated w b B → IsAt (put_block (put_block w b B) b B') v b B' → count B' ≡ count B
+pub seat_after : (w : Whole) (b : ℕ) (B B' : CellsView) (v : BlocksView) → IsSeated w b B → IsAt (put_block (put_block w b B) b B') v b B' → count B' ≡ count B
     → length B'.labels ≡ length B.labels → length B'.borders ≡ length B.borders → IsSeated w b B'
 seat_after w b B B' v seat at nodes labels borders =
     let at' : IsAt (put_block w b B') v b B' = subst (λ (q : Whole). IsAt q v b B') (put_again w b B B') at in
@@ -75,7 +75,7 @@ pub record IsFound (w : Whole) (v : BlocksView) (b : ℕ) (leaves : Bool) (u p j
   pub leaves_it : near v.net x ≡ u
   pub spot : IsSpot w (near v.net x) b p
 
-module _ (w : Whole) (v : BlocksView) (b : ℕ) (B : BlockView) (at : IsAt w v b B) (ways : List (List (List Message))) (got : ℕ) where
+module _ (w : Whole) (v : BlocksView) (b : ℕ) (B : CellsView) (at : IsAt w v b B) (ways : List (List (List Message))) (got : ℕ) where
   -- the node's block
   pub home_is : (u p : ℕ) → IsSpot w u b p → core.block_of v.net v.blocks u ≡ b
   home_is u p spot = ap (λ (q : BlocksView). core.block_of q.net q.blocks u) (sym at.view) ∙ spot.home
@@ -91,8 +91,8 @@ module _ (w : Whole) (v : BlocksView) (b : ℕ) (B : BlockView) (at : IsAt w v b
   pub with_is : (u p : ℕ) → IsSpot w u b p → block_with w u ≡ B
   with_is u p spot = ap (block_at w) spot.home ∙ at.is
 
-  pub read_at : (u p : ℕ) (f : BlockView → List ℕ) (g : ℕ → ℕ) → IsSpot w u b p → slice_index (f (block_with w u)) (g (place w u)) ≡ slice_index (f B) (g p)
-  read_at u p f g spot = ap (λ q. slice_index (f (block_with w u)) (g q)) spot.place ∙ ap (λ (q : BlockView). slice_index (f q) (g p)) (with_is u p spot)
+  pub read_at : (u p : ℕ) (f : CellsView → List ℕ) (g : ℕ → ℕ) → IsSpot w u b p → slice_index (f (block_with w u)) (g (place w u)) ≡ slice_index (f B) (g p)
+  read_at u p f g spot = ap (λ q. slice_index (f (block_with w u)) (g q)) spot.place ∙ ap (λ (q : CellsView). slice_index (f q) (g p)) (with_is u p spot)
 
   row_of : (leaves : Bool) (u p j : ℕ) (x : Direction) → IsSpot w u b p → StandsAt w leaves u j x → IsRow w x leaves b j
   row_of leaves u p j x spot stands = record {
@@ -115,12 +115,12 @@ module _ (w : Whole) (v : BlocksView) (b : ℕ) (B : BlockView) (at : IsAt w v b
 
   pub lane_found : (u p j : ℕ) → IsSpot w u b p → steps.IsOfNode B p j → IsFound w v b false u p j
   lane_found u p j spot of =
-      let found = at.laid.placed.lanes u j spot.node (omega (arith, of.low, read_at u p (λ (q : BlockView). q.starts) (λ q. q) spot))
-      (omega (arith, of.high, read_at u p (λ (q : BlockView). q.starts) (λ q. q + 1) spot)) in
+      let found = at.laid.placed.lanes u j spot.node (omega (arith, of.low, read_at u p (λ (q : CellsView). q.starts) (λ q. q) spot))
+      (omega (arith, of.high, read_at u p (λ (q : CellsView). q.starts) (λ q. q + 1) spot)) in
       found_at false u p j found.0 spot found.1
 
   pub border_found : (u p j : ℕ) → IsSpot w u b p → steps.IsBorderOfNode B p j → IsFound w v b true u p j
   border_found u p j spot of =
-      let found = at.laid.placed.outers u j spot.node (omega (arith, of.low, read_at u p (λ (q : BlockView). q.border_starts) (λ q. q) spot))
-      (omega (arith, of.high, read_at u p (λ (q : BlockView). q.border_starts) (λ q. q + 1) spot)) in
+      let found = at.laid.placed.outers u j spot.node (omega (arith, of.low, read_at u p (λ (q : CellsView). q.border_starts) (λ q. q) spot))
+      (omega (arith, of.high, read_at u p (λ (q : CellsView). q.border_starts) (λ q. q + 1) spot)) in
       found_at true u p j found.0 spot found.1

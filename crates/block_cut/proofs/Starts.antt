@@ -10,7 +10,7 @@ use Rattle.parcel.specs.Directions.{near, far}
 use Rattle.parcel.specs.States as core
 use Rattle.parcel.specs.Events as events
 use Rattle.parcel.specs.Workers.{MayStart}
-use Rattle.block_net.specs.Views.{BlockView, label_in, room_in, lane_in, MayPush, MaySend, highest}
+use Rattle.block_net.specs.Views.{CellsView, label_in, room_in, lane_in, MayPush, MaySend, highest}
 use Rattle.block_net.specs.Whole.{Whole, place, slot, put_block}
 use Rattle.parcel.specs.Effects.{BlocksView, state_of}
 use Rattle.laid_blocks.specs.Views.{IsSpot, IsRow}
@@ -25,7 +25,7 @@ use Rattle.block_cut.specs.Seats.{IsSeated, logs_of, shown_by}
 use Rattle.block_cut.proofs.Seated.{view_with, at_seat, with_is, read_at}
 
 -- the place of a node of the block
-node_spot : (w : Whole) (b : ℕ) (B : BlockView) (ways : List (List (List Message))) (got u : ℕ) → IsSeated w b B → core.block_of (view_with w b B).net (view_with w b B).blocks u ≡ b
+node_spot : (w : Whole) (b : ℕ) (B : CellsView) (ways : List (List (List Message))) (got u : ℕ) → IsSeated w b B → core.block_of (view_with w b B).net (view_with w b B).blocks u ≡ b
     → events.IsActive (state_of (view_with w b B) ways got) u → IsSpot (put_block w b B) u b (place (put_block w b B) u)
 node_spot w b B ways got u seat here active = record {
   node = active.node;
@@ -35,7 +35,7 @@ node_spot w b B ways got u seat here active = record {
 }
 
 -- a node that is active is active in its block
-still_active : (w : Whole) (v : BlocksView) (b : ℕ) (B : BlockView) (ways : List (List (List Message))) (got u p : ℕ) → IsAt w v b B → IsSpot w u b p
+still_active : (w : Whole) (v : BlocksView) (b : ℕ) (B : CellsView) (ways : List (List (List Message))) (got u p : ℕ) → IsAt w v b B → IsSpot w u b p
     → events.IsActive (state_of v ways got) u → standing.IsActive B p
 still_active w v b B ways got u p at spot active = record {
   node = node_below w v b B u p at spot;
@@ -65,8 +65,8 @@ start_push w b got h x seat may =
       level = omega (arith, on.4, label, label');
     } in
     let of : steps.IsOfNode B p j = record {
-      low = omega (arith, stands.from, read_at w1 v b B at ways got u p (λ (q : BlockView). q.starts) (λ q. q) spot);
-      high = omega (arith, stands.below, read_at w1 v b B at ways got u p (λ (q : BlockView). q.starts) (λ q. q + 1) spot);
+      low = omega (arith, stands.from, read_at w1 v b B at ways got u p (λ (q : CellsView). q.starts) (λ q. q) spot);
+      high = omega (arith, stands.below, read_at w1 v b B at ways got u p (λ (q : CellsView). q.starts) (λ q. q + 1) spot);
     } in
     let enabled : steps.Enabled B (steps.Push p j) = (still_active w1 v b B ways got u p at spot on.2, of, may_push) in
     (steps.Push p j, enabled, (λ s. enabled))
@@ -126,10 +126,10 @@ start_send w b got h x s seat room may =
       idle = flight ∙ on.5;
     } in
     let of : steps.IsBorderOfNode B p j = record {
-      low = omega (arith, stands.from, read_at w1 v b B at ways got u p (λ (q : BlockView). q.border_starts) (λ q. q) spot);
-      high = omega (arith, stands.below, read_at w1 v b B at ways got u p (λ (q : BlockView). q.border_starts) (λ q. q + 1) spot);
+      low = omega (arith, stands.from, read_at w1 v b B at ways got u p (λ (q : CellsView). q.border_starts) (λ q. q) spot);
+      high = omega (arith, stands.below, read_at w1 v b B at ways got u p (λ (q : CellsView). q.border_starts) (λ q. q + 1) spot);
     } in
-    let within : j < length B.borders = omega (arith, stands.within, ap (λ (q : BlockView). length q.borders) (with_is w1 v b B at ways got u p spot)) in
+    let within : j < length B.borders = omega (arith, stands.within, ap (λ (q : CellsView). length q.borders) (with_is w1 v b B at ways got u p spot)) in
     let enabled : steps.Enabled B (steps.Send p j) = (still_active w1 v b B ways got u p at spot on.2, of, may_send) in
     (steps.Send p j, (enabled, room j within))
 

@@ -15,7 +15,7 @@ use Rattle.parcel.specs.Soundness.{IsSound, joins, room_between}
 use Rattle.parcel.specs.Events.{IsActive, Run}
 use Rattle.parcel.proofs.Ends.{far_in, block_in}
 use Rattle.parcel.specs.Workers.{MayStart}
-use Rattle.block_net.specs.Views.{BlockView, border_in}
+use Rattle.block_net.specs.Views.{CellsView, border_in}
 use Rattle.block_net.specs.Whole.{Whole, block_at, home, whole_of, with_blocks}
 use Rattle.parcel.specs.Effects.{BlocksView, state_of}
 use Rattle.laid_blocks.specs.Views.{IsLaid, blocks_in}
@@ -99,12 +99,12 @@ no_events s t (e ∷ es) none run = absurd (omega (arith, none))
 
 -- ---- a turn that does nothing
 
-module _ (p : Pieces) (blocks : List BlockView) (before : MailView) (b m : ℕ) (ready : IsReady p) (going : IsGoing p blocks before m) (lb : b < length blocks) (still : IsStill p blocks before b) where
+module _ (p : Pieces) (blocks : List CellsView) (before : MailView) (b m : ℕ) (ready : IsReady p) (going : IsGoing p blocks before m) (lb : b < length blocks) (still : IsStill p blocks before b) where
   abbrev w : Whole
   w = with_blocks (whole_of p.net p.parts) blocks
 
   -- the state is as it was
-  same_after : (after : MailView) (new : BlockView) → ReachesFrom (length blocks) b 0 (block_at w b) new before.messages after.messages → state_at p (slice_set blocks b new) after.messages p.got ≡ state_in p
+  same_after : (after : MailView) (new : CellsView) → ReachesFrom (length blocks) b 0 (block_at w b) new before.messages after.messages → state_at p (slice_set blocks b new) after.messages p.got ≡ state_in p
   same_after after new reaches =
       let own = put_own w b in
       let sound = subst (λ (q : Whole). IsSound (state_of (blocks_in q) before.messages p.got)) (sym own) (subst IsSound (sym still.same) ready.held.sound) in
@@ -134,7 +134,7 @@ module _ (p : Pieces) (blocks : List BlockView) (before : MailView) (b m : ℕ) 
       let found = start_is_step w b p.got h seen e (seated w b going.laid lb) (has_room w b before slots arcs going.laid lb quiet_to rooms_are) shown in
       none found.0 found.1
 
-  pub still_on : (after : MailView) (slots : List ℕ) (arcs : ℕ) (new : BlockView) → ReachesFrom (length blocks) b 0 (block_at w b) new before.messages after.messages
+  pub still_on : (after : MailView) (slots : List ℕ) (arcs : ℕ) (new : CellsView) → ReachesFrom (length blocks) b 0 (block_at w b) new before.messages after.messages
       → ((e : Step) → ¬ IsSure (block_at w b) (seen_by (ends_view b (length blocks) before before slots arcs)) e)
       → IsStill p (slice_set blocks b new) after (b + 1)
   still_on after slots arcs new reaches none = record {

@@ -14,9 +14,9 @@ use Rattle.parcel.specs.Soundness.{amount_out}
 use Rattle.parcel.proofs.Ends.{far_in}
 use Rattle.parcel.proofs.Lanes.{opposite_twice, near_opposite, far_opposite, border_opposite}
 use Rattle.parcel.specs.Workers.{IsBetween}
-use Rattle.block_net.specs.declared.rows.Border.{Border}
+use Rattle.block_net.specs.declared.lanes.Border.{Border}
 use Rattle.block_net.specs.Views as block
-use Rattle.block_net.specs.Views.{BlockView, label_in, border_in}
+use Rattle.block_net.specs.Views.{CellsView, label_in, border_in}
 use Rattle.block_net.specs.Whole.{Whole, home, put_block}
 use Rattle.parcel.specs.Effects.{BlocksView, state_of, accepted, settled, returned}
 use Rattle.laid_blocks.specs.Views.{IsRow}
@@ -31,13 +31,13 @@ use Rattle.block_cut.proofs.Seated.{view_with, at_seat, border_seat, Goes, view_
 use Rattle.block_cut.proofs.Acts.{border_row}
 
 -- the direction of a block that leads to block c, where a message from there names it
-record IsMet (w : Whole) (b c : ℕ) (B : BlockView) (j : ℕ) (y : Direction) : Type 0 where
+record IsMet (w : Whole) (b c : ℕ) (B : CellsView) (j : ℕ) (y : Direction) : Type 0 where
   pub row : IsRow (put_block w b B) y true b j
   pub between : IsBetween w.net (view_with w b B).blocks y b c
   pub other : c < length w.blocks
   pub apart : c ≡ b → ⊥
 
-met : (w : Whole) (b c : ℕ) (B : BlockView) (j : ℕ) (y : Direction) → IsSeated w b B → steps.IsFrom B c j → (border_in B j).direction ≡ y → IsMet w b c B j y
+met : (w : Whole) (b c : ℕ) (B : CellsView) (j : ℕ) (y : Direction) → IsSeated w b B → steps.IsFrom B c j → (border_in B j).direction ≡ y → IsMet w b c B j y
 met w b c B j y seat from is =
     let w1 = put_block w b B in
     let v = view_with w b B in

@@ -4,16 +4,16 @@ use Rattle.std.proofs.lemmas.List.{length-set}
 use Rattle.parcel.specs.declared.direction.Direction.{Direction}
 use Rattle.parcel.specs.Directions.{IsDirection, near, far}
 use Rattle.parcel.proofs.Ends.{near_in}
-use Rattle.block_net.specs.declared.rows.InnerLane.{InnerLane}
-use Rattle.block_net.specs.declared.rows.Border.{Border}
-use Rattle.block_net.specs.Views.{BlockView, count}
+use Rattle.block_net.specs.declared.lanes.InnerLane.{InnerLane}
+use Rattle.block_net.specs.declared.lanes.Border.{Border}
+use Rattle.block_net.specs.Views.{CellsView, count}
 use Rattle.block_net.specs.Whole.{Whole, block_at, home, is_outer, IsInnerAt, IsBorderAt, StandsAt, IsPlaced, with_blocks}
 use Rattle.laid_blocks.specs.Views.{IsLaid}
 use Rattle.laid_blocks.proofs.Writing.{block_same}
 use Rattle.block_cut.proofs.Laid.{filled_together}
 use Rattle.block_cut.proofs.Beside.{one, home_all, outer_all, home_one, outer_one, place_one, with_one, read_one, lane_one, border_one}
 
-module _ (w : Whole) (blocks : List BlockView) (many : length blocks ≡ length w.blocks) (laid : IsLaid w) (each : (b : ℕ) → b < length w.blocks → IsLaid (one w blocks many b)) where
+module _ (w : Whole) (blocks : List CellsView) (many : length blocks ≡ length w.blocks) (laid : IsLaid w) (each : (b : ℕ) → b < length w.blocks → IsLaid (one w blocks many b)) where
   inner_all : (x : Direction) → IsDirection w.net x → is_outer (with_blocks w blocks) x ≡ false → IsInnerAt (with_blocks w blocks) x
   inner_all x d e =
       let v = near w.net x in
@@ -22,9 +22,9 @@ module _ (w : Whole) (blocks : List BlockView) (many : length blocks ≡ length 
       let at = (each b lb).placed.inner x d (sym (outer_one w blocks many b x) ∙ e) in
       let lane = lane_one w blocks many b x lb refl in
       record {
-        from = omega (arith, at.from, read_one w blocks many (λ (q : BlockView). q.starts) (λ q. q) b v lb refl);
-        below = omega (arith, at.below, read_one w blocks many (λ (q : BlockView). q.starts) (λ q. q + 1) b v lb refl);
-        within = omega (arith, at.within, ap (λ (q : BlockView). length q.lanes) (with_one w blocks many b v lb refl));
+        from = omega (arith, at.from, read_one w blocks many (λ (q : CellsView). q.starts) (λ q. q) b v lb refl);
+        below = omega (arith, at.below, read_one w blocks many (λ (q : CellsView). q.starts) (λ q. q + 1) b v lb refl);
+        within = omega (arith, at.within, ap (λ (q : CellsView). length q.lanes) (with_one w blocks many b v lb refl));
         far = ap (λ (q : InnerLane). q.far) lane ∙ (at.far ∙ sym (place_one w blocks many b (far w.net x)));
         opposite = ap (λ (q : InnerLane). q.opposite) lane ∙ at.opposite;
       }
@@ -37,9 +37,9 @@ module _ (w : Whole) (blocks : List BlockView) (many : length blocks ≡ length 
       let at = (each b lb).placed.borders x d (sym (outer_one w blocks many b x) ∙ e) in
       let border = border_one w blocks many b x lb refl in
       record {
-        from = omega (arith, at.from, read_one w blocks many (λ (q : BlockView). q.border_starts) (λ q. q) b v lb refl);
-        below = omega (arith, at.below, read_one w blocks many (λ (q : BlockView). q.border_starts) (λ q. q + 1) b v lb refl);
-        within = omega (arith, at.within, ap (λ (q : BlockView). length q.borders) (with_one w blocks many b v lb refl));
+        from = omega (arith, at.from, read_one w blocks many (λ (q : CellsView). q.border_starts) (λ q. q) b v lb refl);
+        below = omega (arith, at.below, read_one w blocks many (λ (q : CellsView). q.border_starts) (λ q. q + 1) b v lb refl);
+        within = omega (arith, at.within, ap (λ (q : CellsView). length q.borders) (with_one w blocks many b v lb refl));
         direction = ap (λ (q : Border). q.direction) border ∙ at.direction;
         near = ap (λ (q : Border). q.near) border ∙ (at.near ∙ sym (place_one w blocks many b v));
         to = ap (λ (q : Border). q.to) border ∙ (at.to ∙ sym (home_one w blocks many b (far w.net x)));
@@ -68,7 +68,7 @@ module _ (w : Whole) (blocks : List BlockView) (many : length blocks ≡ length 
     tops = λ b l.
         let lb : b < length w.blocks = omega (arith, l, many) in
         let B = block_at (with_blocks w blocks) b in
-        sym (ap (λ (q : BlockView). q.top) (block_same w b B lb)) ∙ (each b lb).placed.tops b (omega (arith, lb, length-set w.blocks b B));
+        sym (ap (λ (q : CellsView). q.top) (block_same w b B lb)) ∙ (each b lb).placed.tops b (omega (arith, lb, length-set w.blocks b B));
     inner = inner_all;
     borders = border_all;
     apart = λ x y dx dy same here slot. laid.placed.apart x y dx dy
@@ -78,15 +78,15 @@ module _ (w : Whole) (blocks : List BlockView) (many : length blocks ≡ length 
         let b = home w v in
         let lb = laid.placed.homes v lv in
         let found = (each b lb).placed.lanes v j lv
-        (omega (arith, from, read_one w blocks many (λ (q : BlockView). q.starts) (λ q. q) b v lb refl))
-        (omega (arith, below, read_one w blocks many (λ (q : BlockView). q.starts) (λ q. q + 1) b v lb refl)) in
+        (omega (arith, from, read_one w blocks many (λ (q : CellsView). q.starts) (λ q. q) b v lb refl))
+        (omega (arith, below, read_one w blocks many (λ (q : CellsView). q.starts) (λ q. q + 1) b v lb refl)) in
         (found.0, stands_all false b v j found.0 found.1);
     outers = λ v j lv from below.
         let b = home w v in
         let lb = laid.placed.homes v lv in
         let found = (each b lb).placed.outers v j lv
-        (omega (arith, from, read_one w blocks many (λ (q : BlockView). q.border_starts) (λ q. q) b v lb refl))
-        (omega (arith, below, read_one w blocks many (λ (q : BlockView). q.border_starts) (λ q. q + 1) b v lb refl)) in
+        (omega (arith, from, read_one w blocks many (λ (q : CellsView). q.border_starts) (λ q. q) b v lb refl))
+        (omega (arith, below, read_one w blocks many (λ (q : CellsView). q.border_starts) (λ q. q + 1) b v lb refl)) in
         (found.0, stands_all true b v j found.0 found.1);
   }
 

@@ -2,13 +2,13 @@
 use Rattle.std.proofs.Common.{◌≡◌, ℕ, List, [], length, refl, sym, ap, subst, arith}
 use Rattle.std.proofs.lemmas.List.{append-nil}
 use Rattle.parcel.specs.declared.message.Message.{Message}
-use Rattle.block_net.specs.Views.{BlockView}
+use Rattle.block_net.specs.Views.{CellsView}
 use Rattle.block_core.specs.Mails.{MailView}
 use Rattle.discharge.specs.Steps.{held, DoesMany}
 use Rattle.block_cut.specs.TurnEvents.{IsTurned}
 use Rattle.block_cut.proofs.Runs.{turn_is_run, turned_ways}
 use Rattle.block_cut.specs.Ends.{EndsView, first_to, first_from, now_from, seen_by, IsEnds}
-use Rattle.block_cut.specs.Turns.{IsReached, ReachesFrom}
+use Rattle.block_cut.specs.Turns.{IsTurnFrom, ReachesFrom}
 use Rattle.block_cut.proofs.Ending.{with_now, beyond, before}
 
 -- ends that were just made
@@ -18,7 +18,7 @@ fresh e = with_now e e.first
 none_yet : (e : EndsView) (c : ℕ) → ((seen_by (fresh e)).sent c ≡ []) × ((seen_by (fresh e)).taken c ≡ [])
 none_yet e c = (beyond (first_to e c) [] (first_to e c) (sym (append-nil (first_to e c))), before (first_from e c) [] (first_from e c) refl)
 
-reached : (e : EndsView) (now : MailView) (n : ℕ) (old new : BlockView) → IsEnds (with_now e now)
+reached : (e : EndsView) (now : MailView) (n : ℕ) (old new : CellsView) → IsEnds (with_now e now)
     → DoesMany (held old (seen_by (fresh e))) n (held new (seen_by (with_now e now)))
     → ReachesFrom e.blocks e.block n old new e.first.messages now.messages
 reached e now n old new kept many w got size seat sound =
@@ -28,7 +28,7 @@ reached e now n old new kept many w got size seat sound =
     let turned : IsTurned (length w.blocks) e.block (seen_by e').sent (now_from e') e.first.messages now.messages =
     subst (λ k. IsTurned k e.block (seen_by e').sent (now_from e') e.first.messages now.messages) (sym size) kept.turned in
     let same : runs.ways' ≡ now.messages = turned_ways (length w.blocks) e.block (seen_by e').sent (now_from e') e.first.messages runs.ways' now.messages runs.turned turned in
-    subst (λ (q : List (List (List Message))). IsReached w e.block got n old new e.first.messages q) same (record {
+    subst (λ (q : List (List (List Message))). IsTurnFrom w e.block got n old new e.first.messages q) same (record {
       events = runs.events;
       number = runs.number;
       got' = runs.got';
@@ -42,7 +42,7 @@ reached e now n old new kept many w got size seat sound =
 pub same_ends : (e e' : EndsView) → fresh e' ≡ fresh e → e' ≡ with_now e e'.now
 same_ends e e' same = ap (λ (q : EndsView). with_now q e'.now) same
 
-pub turned_over : (e e' : EndsView) (n : ℕ) (old new : BlockView) → e.now ≡ e.first → fresh e' ≡ fresh e → IsEnds e'
+pub turned_over : (e e' : EndsView) (n : ℕ) (old new : CellsView) → e.now ≡ e.first → fresh e' ≡ fresh e → IsEnds e'
     → DoesMany (held old (seen_by e)) n (held new (seen_by e'))
     → ReachesFrom e.blocks e.block n old new e.now.messages e'.now.messages
 turned_over e e' n old new just same kept many =

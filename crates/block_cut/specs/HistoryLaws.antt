@@ -5,7 +5,7 @@ use Rattle.parcel.specs.States.{way_at}
 use Rattle.parcel.specs.Events.{IsQuiet}
 use Rattle.parcel.specs.Soundness.{IsSound}
 use Rattle.parcel.specs.Workers.{MayStart}
-use Rattle.block_net.specs.Views.{BlockView, count}
+use Rattle.block_net.specs.Views.{CellsView, count}
 use Rattle.block_net.specs.Whole.{Whole, block_at}
 use Rattle.parcel.specs.Effects.{state_of}
 use Rattle.laid_blocks.specs.Views.{IsLaid, blocks_in}
@@ -18,7 +18,7 @@ use Rattle.block_cut.specs.Rounds.{Ways, AreBack, IsRound, quiet_state, state_af
 -- blocks that came back are a round
 abbrev pub SeatsMakeRound : Type 0
 SeatsMakeRound =
-    (w : Whole) (got : ℕ) (blocks : List BlockView) (left : Ways)
+    (w : Whole) (got : ℕ) (blocks : List CellsView) (left : Ways)
     → IsLaid w → IsSound (quiet_state w got) → (back : AreBack w got blocks left)
     → IsRound w got blocks left back.steps
 
@@ -46,7 +46,7 @@ QuietIsStart =
 -- after a round what is left on the ways has room there, and the state is held
 abbrev pub RoundIsHeld : Type 0
 RoundIsHeld =
-    (w : Whole) (got : ℕ) (blocks : List BlockView) (left : Ways) (steps : ℕ → ℕ) (rooms : List (List ℕ))
+    (w : Whole) (got : ℕ) (blocks : List CellsView) (left : Ways) (steps : ℕ → ℕ) (rooms : List (List ℕ))
     → HasRooms w.net (length w.blocks) rooms → IsRound w got blocks left steps
     → IsHeld rooms (state_after w blocks left)
     × ((b c : ℕ) → b < length w.blocks → c < length w.blocks → b ≢ c

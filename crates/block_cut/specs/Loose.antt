@@ -2,13 +2,13 @@
 use Rattle.std.specs.Prelude.{ℕ, ◌+◌, ◌<◌, ◌≤◌, List, length}
 use Rattle.parcel.specs.declared.message.Message.{Message}
 use Rattle.parcel.specs.Soundness.{IsSound}
-use Rattle.block_net.specs.Views.{BlockView, count, excess_in, label_in, room_in, lane_in, pushed, given}
+use Rattle.block_net.specs.Views.{CellsView, count, excess_in, label_in, room_in, lane_in, pushed, given}
 use Rattle.block_net.specs.Whole.{Whole}
 use Rattle.discharge.specs.Steps.{IsOfNode}
 use Rattle.block_cut.specs.Seats.{IsSeated, state_with}
 
 -- the block stands in its place among the others, in a sound state
-pub record IsStanding (w : Whole) (b : ℕ) (B : BlockView) (ways : List (List (List Message))) (got : ℕ)
+pub record IsStanding (w : Whole) (b : ℕ) (B : CellsView) (ways : List (List (List Message))) (got : ℕ)
     : Type 0 where
   pub seated : IsSeated w b B
   pub sound : IsSound (state_with w b B ways got)
@@ -16,7 +16,7 @@ pub record IsStanding (w : Whole) (b : ℕ) (B : BlockView) (ways : List (List (
 -- an amount of a node's excess that a direction can carry goes on to a node that is at most one label higher
 abbrev pub LoosePushKeeps : Type 0
 LoosePushKeeps =
-    (w : Whole) (b : ℕ) (B : BlockView) (ways : List (List (List Message))) (got p j a : ℕ)
+    (w : Whole) (b : ℕ) (B : CellsView) (ways : List (List (List Message))) (got p j a : ℕ)
     → IsStanding w b B ways got
     → p < count B → IsOfNode B p j → a ≤ excess_in B p → a ≤ (lane_in B j).residual
     → label_in B (lane_in B j).far ≤ label_in B p + 1
@@ -25,7 +25,7 @@ LoosePushKeeps =
 -- an amount of a node's excess that it can give the sink goes there
 abbrev pub LooseGiveKeeps : Type 0
 LooseGiveKeeps =
-    (w : Whole) (b : ℕ) (B : BlockView) (ways : List (List (List Message))) (got p a : ℕ)
+    (w : Whole) (b : ℕ) (B : CellsView) (ways : List (List (List Message))) (got p a : ℕ)
     → IsStanding w b B ways got
     → p < count B → p < length B.rooms → a ≤ excess_in B p → a ≤ room_in B p
     → IsStanding w b (given B p a) ways (got + a)

@@ -4,7 +4,7 @@ use Rattle.parcel.specs.declared.message.Message.{Message}
 use Rattle.parcel.specs.States.{State, label_of}
 use Rattle.parcel.specs.Soundness.{IsSound}
 use Rattle.flow_network.specs.Cut.{nodes}
-use Rattle.block_net.specs.Views.{BlockView, count, label_in}
+use Rattle.block_net.specs.Views.{CellsView, count, label_in}
 use Rattle.block_net.specs.Whole.{Whole, block_at, whole_of, with_blocks}
 use Rattle.laid_blocks.specs.Views.{IsLaid}
 use Rattle.block_core.specs.declared.pieces.Pieces.{Pieces}
@@ -12,7 +12,7 @@ use Rattle.block_cut.specs.Loose.{IsStanding}
 use Rattle.block_cut.specs.Passes.{state_at}
 
 -- all labels of a block are 0
-abbrev pub IsFlat : BlockView → Type 0
+abbrev pub IsFlat : CellsView → Type 0
 IsFlat B = (v : ℕ) → v < count B → label_in B v ≡ 0
 
 -- all labels of a state are 0
@@ -21,7 +21,7 @@ AreLabelsZero s = (v : ℕ) → v < nodes s.net → label_of s v ≡ 0
 
 -- the same nodes with the same labels and as many directions; where all labels are 0 and the one block stands
 -- in its place in a sound state, so does the other, by another amount that the sink got
-pub record Opens (old new : BlockView) : Type 0 where
+pub record Opens (old new : CellsView) : Type 0 where
   pub nodes : count new ≡ count old
   pub starts : new.starts ≡ old.starts
   pub lanes : length new.lanes ≡ length old.lanes
@@ -30,7 +30,7 @@ pub record Opens (old new : BlockView) : Type 0 where
       → IsFlat old → IsStanding w b old ways got → (got' : ℕ) × IsStanding w b new ways got'
 
 -- as many blocks make a sound state of the pieces' net with the pieces' ways, and all their labels are 0
-pub record AreOpening (p : Pieces) (blocks : List BlockView) : Type 0 where
+pub record AreOpening (p : Pieces) (blocks : List CellsView) : Type 0 where
   pub got : ℕ
   pub size : length blocks ≡ length p.parts.blocks.items
   pub laid : IsLaid (with_blocks (whole_of p.net p.parts) blocks)

@@ -6,7 +6,7 @@ use Rattle.parcel.specs.States.{State}
 use Rattle.parcel.specs.Events.{IsQuiet}
 use Rattle.parcel.specs.Workers.{MayStart}
 use Rattle.parcel.specs.Soundness.{IsSound, count}
-use Rattle.block_net.specs.Views.{BlockView}
+use Rattle.block_net.specs.Views.{CellsView}
 use Rattle.block_net.specs.Whole.{whole_of, with_blocks}
 use Rattle.parcel.specs.Effects.{state_of}
 use Rattle.laid_blocks.specs.Views.{IsLaid, blocks_in}
@@ -15,12 +15,12 @@ use Rattle.block_core.specs.declared.pieces.Pieces.{Pieces}
 use Rattle.block_core.specs.Pieces.{state_in}
 
 -- the state that other blocks of the pieces' net make with these ways
-abbrev pub state_at : Pieces → List BlockView → List (List (List Message)) → ℕ → State
+abbrev pub state_at : Pieces → List CellsView → List (List (List Message)) → ℕ → State
 state_at p blocks messages got = state_of (blocks_in (with_blocks (whole_of p.net p.parts) blocks)) messages got
 
 -- as many blocks and ways with the same rooms make a sound state of the pieces' net, whose count lies at
 -- least n below that of the state in the pieces
-pub record IsGoing (p : Pieces) (blocks : List BlockView) (ways : MailView) (n : ℕ) : Type 0 where
+pub record IsGoing (p : Pieces) (blocks : List CellsView) (ways : MailView) (n : ℕ) : Type 0 where
   pub got : ℕ
   pub size : length blocks ≡ length p.parts.blocks.items
   pub rooms : ways.rooms ≡ p.ways.rooms
@@ -34,6 +34,6 @@ pub record IsReady (p : Pieces) : Type 0 where
   pub held : IsHeld p.ways.rooms (state_in p)
 
 -- the state is as it was, and none of the first so many blocks may do an event that takes no message
-pub record IsStill (p : Pieces) (blocks : List BlockView) (ways : MailView) (first : ℕ) : Type 0 where
+pub record IsStill (p : Pieces) (blocks : List CellsView) (ways : MailView) (first : ℕ) : Type 0 where
   pub same : state_at p blocks ways.messages p.got ≡ state_in p
   pub none : (b : ℕ) → b < first → (e : Event) → ¬ MayStart b (state_in p) e

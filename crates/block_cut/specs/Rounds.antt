@@ -7,7 +7,7 @@ use Rattle.parcel.specs.Soundness.{IsSound, IsSquare}
 use Rattle.parcel.specs.Workers.{MayStart}
 use Rattle.parcel.specs.Rounds.{RoundOf}
 use Rattle.parcel.specs.RoundLaws.{no_messages}
-use Rattle.block_net.specs.Views.{BlockView}
+use Rattle.block_net.specs.Views.{CellsView}
 use Rattle.block_net.specs.Whole.{Whole, block_at, with_blocks}
 use Rattle.parcel.specs.Effects.{state_of}
 use Rattle.laid_blocks.specs.Views.{IsLaid, blocks_in}
@@ -20,7 +20,7 @@ Ways = List (List (List Message))
 -- ---- before a round
 
 -- a block that has put and taken nothing yet
-abbrev pub fresh : BlockView → Held
+abbrev pub fresh : CellsView → Held
 fresh B = record { block = B; sent = λ c. []; taken = λ c. [] }
 
 -- the state that the blocks show where no message is on the way
@@ -30,7 +30,7 @@ quiet_state w got = state_of (blocks_in w) (no_messages (length w.blocks)) got
 -- ---- after it
 
 -- the blocks came back from a round, and these messages are left on the way
-pub record AreBack (w : Whole) (got : ℕ) (blocks : List BlockView) (left : Ways) : Type 0 where
+pub record AreBack (w : Whole) (got : ℕ) (blocks : List CellsView) (left : Ways) : Type 0 where
   -- what block b put for c, what it took from c, and how many steps it did
   pub sent : ℕ → ℕ → List Message
   pub taken : ℕ → ℕ → List Message
@@ -52,12 +52,12 @@ abbrev pub lacking : Whole → ℕ
 lacking w = sum w.net.sinks - sum (blocks_in w).rooms
 
 -- the state that they show then: the sink got what the rooms lack
-abbrev pub state_after : Whole → List BlockView → Ways → State
+abbrev pub state_after : Whole → List CellsView → Ways → State
 state_after w blocks left =
     state_of (blocks_in (with_blocks w blocks)) left (lacking (with_blocks w blocks))
 
 -- a round of so many events of each block led there, the state is sound, and everything has its place again
-pub record IsRound (w : Whole) (got : ℕ) (blocks : List BlockView) (left : Ways) (steps : ℕ → ℕ)
+pub record IsRound (w : Whole) (got : ℕ) (blocks : List CellsView) (left : Ways) (steps : ℕ → ℕ)
     : Type 0 where
   pub round : RoundOf (quiet_state w got) (state_after w blocks left)
   pub numbers : (b : ℕ) → b < length w.blocks → length (slice_index_or round.histories b []) ≡ steps b

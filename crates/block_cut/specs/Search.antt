@@ -4,15 +4,15 @@ use Rattle.flow_network.specs.Cut.{Network}
 use Rattle.parcel.specs.declared.direction.Direction.{Direction}
 use Rattle.parcel.specs.Directions.{IsDirection, near, far}
 use Rattle.parcel.specs.States.{Lanes, lane_at}
-use Rattle.block_net.specs.Views.{BlockView, count, room_in}
+use Rattle.block_net.specs.Views.{CellsView, count, room_in}
 use Rattle.block_net.specs.Whole.{Whole, is_outer, shown}
 
 -- the nodes of a block, which begin at the first, are among so many
-abbrev pub AreWithin : BlockView → ℕ → ℕ → Type 0
+abbrev pub AreWithin : CellsView → ℕ → ℕ → Type 0
 AreWithin B first n = (p : ℕ) → p < count B → first + p < n
 
 -- node v lies in a block, whose nodes begin at the first, and can give the sink more
-abbrev pub GivesIn : BlockView → ℕ → ℕ → Type 0
+abbrev pub GivesIn : CellsView → ℕ → ℕ → Type 0
 GivesIn B first v = (p : ℕ) × (p < count B) × (first + p ≡ v) × (0 < room_in B p)
 
 -- a residual direction leads from v to w

@@ -3,7 +3,7 @@ use Rattle.std.specs.Prelude.{◌≡◌, ℕ, ◌<◌, true, cond, ◌==◌, Lis
 use Rattle.parcel.specs.declared.direction.Direction.{Direction}
 use Rattle.parcel.specs.declared.message.Message.{Message}
 use Rattle.parcel.specs.States.{State}
-use Rattle.block_net.specs.Views.{BlockView, count}
+use Rattle.block_net.specs.Views.{CellsView, count}
 use Rattle.block_net.specs.Whole.{Whole, table, put_block}
 use Rattle.parcel.specs.Effects.{state_of}
 use Rattle.laid_blocks.specs.Views.{IsLaid, IsSpot, IsRow, blocks_in}
@@ -19,7 +19,7 @@ logs_of n b sent taken = table n (λ i. table n (log_at b sent taken i))
 
 -- a block stands in the stead of block b, each of its nodes is one of the net, and each of its places among
 -- the directions to other blocks is that of one
-pub record IsSeated (w : Whole) (b : ℕ) (B : BlockView) : Type 0 where
+pub record IsSeated (w : Whole) (b : ℕ) (B : CellsView) : Type 0 where
   pub laid : IsLaid (put_block w b B)
   pub block : b < length w.blocks
   pub labels : length B.labels ≡ count B
@@ -27,7 +27,7 @@ pub record IsSeated (w : Whole) (b : ℕ) (B : BlockView) : Type 0 where
   pub borders : (j : ℕ) → j < length B.borders → (x : Direction) × IsRow w x true b j
 
 -- the state of the blocks with this one in the stead of block b
-abbrev pub state_with : Whole → ℕ → BlockView → List (List (List Message)) → ℕ → State
+abbrev pub state_with : Whole → ℕ → CellsView → List (List (List Message)) → ℕ → State
 state_with w b B ways got = state_of (blocks_in (put_block w b B)) ways got
 
 -- the state that block b shows among the others, with what it put and took as its ways

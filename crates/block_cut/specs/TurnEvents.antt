@@ -6,7 +6,7 @@ use Rattle.parcel.specs.States.{way_at}
 use Rattle.parcel.specs.Events.{Run}
 use Rattle.parcel.specs.Soundness.{IsSound, IsSquare, count}
 use Rattle.parcel.specs.Workers.{IsHistory, MayStart}
-use Rattle.block_net.specs.Views.{BlockView, border_in}
+use Rattle.block_net.specs.Views.{CellsView, border_in}
 use Rattle.block_net.specs.Whole.{Whole}
 use Rattle.discharge.specs.Seen.{Seen}
 use Rattle.discharge.specs.Steps.{Step, Held, DoesMany, IsSure}
@@ -67,7 +67,7 @@ TurnIsRun =
 -- ---- what is sure
 
 -- room is seen for a message to each block that a direction leads to
-abbrev pub HasRoom : BlockView → Seen → Type 0
+abbrev pub HasRoom : CellsView → Seen → Type 0
 HasRoom B s = (j : ℕ) → j < length B.borders → s.room (border_in B j).to ≡ true
 
 -- where an event of the block that takes no message is enabled, a step is sure

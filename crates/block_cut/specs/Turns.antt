@@ -4,14 +4,14 @@ use Rattle.parcel.specs.declared.event.Event.{Event}
 use Rattle.parcel.specs.declared.message.Message.{Message}
 use Rattle.parcel.specs.Events.{Run}
 use Rattle.parcel.specs.Soundness.{IsSound, count}
-use Rattle.block_net.specs.Views.{BlockView}
+use Rattle.block_net.specs.Views.{CellsView}
 use Rattle.block_net.specs.Whole.{Whole}
 use Rattle.block_cut.specs.Seats.{IsSeated, state_with}
 
 -- n events of the core lead from the state with the one block and ways to that with the other, which is
 -- sound, and the count falls by at least as much
-pub record IsReached
-    (w : Whole) (b got n : ℕ) (old new : BlockView) (before after : List (List (List Message)))
+pub record IsTurnFrom
+    (w : Whole) (b got n : ℕ) (old new : CellsView) (before after : List (List (List Message)))
     : Type 0 where
   pub events : List Event
   pub number : length events ≡ n
@@ -24,8 +24,8 @@ pub record IsReached
 -- this holds of each whole of so many blocks in which the block stands, and of what the sink got, where the
 -- state is sound
 abbrev pub ReachesFrom
-    : ℕ → ℕ → ℕ → BlockView → BlockView → List (List (List Message)) → List (List (List Message)) → Type 0
+    : ℕ → ℕ → ℕ → CellsView → CellsView → List (List (List Message)) → List (List (List Message)) → Type 0
 ReachesFrom blocks b n old new before after =
     (w : Whole) (got : ℕ)
     → length w.blocks ≡ blocks → IsSeated w b old → IsSound (state_with w b old before got)
-    → IsReached w b got n old new before after
+    → IsTurnFrom w b got n old new before after

@@ -11,9 +11,9 @@ use Rattle.parcel.specs.declared.direction.Direction.{Direction}
 use Rattle.parcel.specs.Directions.{IsDirection, forward, backward, near, far}
 use Rattle.parcel.specs.States.{block_of, is_border}
 use Rattle.parcel.proofs.Ends.{near_in, far_in}
-use Rattle.block_net.specs.declared.rows.InnerLane.{InnerLane}
-use Rattle.block_net.specs.declared.rows.Border.{Border}
-use Rattle.block_net.specs.Views.{BlockView, IsBlock, no_row, no_border}
+use Rattle.block_net.specs.declared.lanes.InnerLane.{InnerLane}
+use Rattle.block_net.specs.declared.lanes.Border.{Border}
+use Rattle.block_net.specs.Views.{CellsView, IsBlock, no_row, no_border}
 use Rattle.block_net.specs.Whole.{table, index_of}
 use Rattle.block_net.specs.Split.{ByNode, BlockRows, no_rows, starts_from, block_made, inner_rows, outer_rows, CanSplit, directions, direction_in, first_of, base_of, span, lane_by, border_by, lane_made, border_made, lanes_made, borders_made, firsts_made, starts_made, ranks_made, rows_made, block_rows, all_rows, blank_rows, rows_at, AreHeld}
 use Rattle.block_net.proofs.Tables.{length_table, table_at}
@@ -420,7 +420,7 @@ blank_is net blocks b first next starts outer e eo ef en =
     (ap (λ k. replicate k no_row) (less_both _ _ _ _ (inner_base net blocks (b + 1) next starts e en) (inner_base net blocks b first starts e ef)))
     (ap (λ k. replicate k no_border) (less_both _ _ _ _ (outer_start net blocks (b + 1) next starts outer e eo en) (outer_start net blocks b first starts outer e eo ef)))
 
-abbrev view : ℕ → List ℕ → List ℕ → List ℕ → List ℕ → List InnerLane → List ℕ → List Border → BlockView
+abbrev view : ℕ → List ℕ → List ℕ → List ℕ → List ℕ → List InnerLane → List ℕ → List Border → CellsView
 view t e l r s lanes bs borders =
     record { top = t; excess = e; labels = l; rooms = r; starts = s; lanes = lanes; border_starts = bs; borders = borders }
 

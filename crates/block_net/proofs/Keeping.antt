@@ -4,9 +4,9 @@ use Rattle.std.proofs.lemmas.List.{length-set}
 use Rattle.std.proofs.lemmas.List.Sums.{sum_by-set}
 use Rattle.std.proofs.lemmas.List.Elements.{All-set, All-get_or}
 use Rattle.std.specs.Option.{is_some}
-use Rattle.block_net.specs.declared.rows.InnerLane.{InnerLane}
-use Rattle.block_net.specs.declared.rows.Border.{Border}
-use Rattle.block_net.specs.Views.{BlockView, IsBlock, IsLane, IsBorder, count, excess_in, lane_in, border_in, no_row, no_border, out_of, spare, pushed, accepted}
+use Rattle.block_net.specs.declared.lanes.InnerLane.{InnerLane}
+use Rattle.block_net.specs.declared.lanes.Border.{Border}
+use Rattle.block_net.specs.Views.{CellsView, IsBlock, IsLane, IsBorder, count, excess_in, lane_in, border_in, no_row, no_border, out_of, spare, pushed, accepted}
 
 -- an amount that goes from one number to another leaves the sum
 sum_moved : (xs : List ℕ) (v w a : ℕ) → v < length xs → w < length xs → a ≤ slice_index xs v
@@ -21,7 +21,7 @@ known_fits : (out : Bool) (known d top : ℕ) → known ≤ top → d ≤ top �
 known_fits true known d top h l = h
 known_fits false known d top h l = omega arith
 
-pub push_keeps : (b : BlockView) (v j a : ℕ) → IsBlock b → v < count b → j < length b.lanes → a ≤ excess_in b v → a ≤ (lane_in b j).residual
+pub push_keeps : (b : CellsView) (v j a : ℕ) → IsBlock b → v < count b → j < length b.lanes → a ≤ excess_in b v → a ≤ (lane_in b j).residual
     → IsBlock (pushed b v j a)
 push_keeps b v j a k lv lj le lr =
     let lane = lane_in b j in
@@ -60,7 +60,7 @@ push_keeps b v j a k lv lj le lr =
       total = omega (arith, sum_moved b.excess v w a lv is.far le, k.total);
     }
 
-pub accept_keeps : (b : BlockView) (j a d : ℕ) → IsBlock b → j < length b.borders → (border_in b j).residual + out_of (border_in b j).flight + a ≤ (border_in b j).capacity → d ≤ b.top
+pub accept_keeps : (b : CellsView) (j a d : ℕ) → IsBlock b → j < length b.borders → (border_in b j).residual + out_of (border_in b j).flight + a ≤ (border_in b j).capacity → d ≤ b.top
     → IsBlock (accepted b j a d)
 accept_keeps b j a d k lj fits ld =
     let x = border_in b j in

@@ -15,7 +15,7 @@ use Rattle.parcel.specs.States.{block_of, is_border}
 use Rattle.parcel.specs.Soundness.{first_residual}
 use Rattle.parcel.proofs.Ends.{far_in}
 use Rattle.parcel.proofs.Lanes.{near_opposite, border_opposite}
-use Rattle.block_net.specs.declared.rows.InnerLane.{InnerLane}
+use Rattle.block_net.specs.declared.lanes.InnerLane.{InnerLane}
 use Rattle.block_net.specs.Views.{IsBlock, IsLane, IsBorder, spare}
 use Rattle.block_net.specs.Split.{ByNode, Rows, inner_rows, outer_rows, CanSplit, directions, direction_in, AreRows, AreGrouped, first_of, span, lane_made, border_made, lanes_made, borders_made, block_from, base_of}
 use Rattle.block_net.proofs.Tables.{length_table, table_at}

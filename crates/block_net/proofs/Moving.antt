@@ -4,7 +4,7 @@ use Rattle.std.proofs.Math.ListN.{drop_of_length-le}
 use Rattle.std.proofs.lemmas.Bool.{cases_eq, cases_lt, eq-eqb, ne_eqb}
 use Rattle.std.proofs.lemmas.List.{append-nil, length-set, length-replicate, get_or_default, get_or_past, get_or-replicate}
 use Rattle.block_net.specs.Circles.{AreCircles, AreAlone, unlinked, linked, after_left}
-use Rattle.block_net.specs.Rows.{AreRows, row_at}
+use Rattle.block_net.specs.Standing.{AreRows, row_at}
 use Rattle.block_net.proofs.Linking.{at_last, at_first, at_others, two_length, unlinked_circles, linked_circles, alone_circles}
 
 -- ---- rows of places

@@ -11,9 +11,9 @@ use Rattle.parcel.specs.States as core
 use Rattle.parcel.specs.Soundness.{first_residual, opened}
 use Rattle.parcel.proofs.Ends.{near_in, far_in}
 use Rattle.parcel.proofs.Opening.{opened_is}
-use Rattle.block_net.specs.declared.rows.InnerLane.{InnerLane}
-use Rattle.block_net.specs.declared.rows.Border.{Border}
-use Rattle.block_net.specs.Views.{BlockView, count, excess_in, label_in, room_in, lane_in, border_in, no_row, no_border, first_lane, first_border}
+use Rattle.block_net.specs.declared.lanes.InnerLane.{InnerLane}
+use Rattle.block_net.specs.declared.lanes.Border.{Border}
+use Rattle.block_net.specs.Views.{CellsView, count, excess_in, label_in, room_in, lane_in, border_in, no_row, no_border, first_lane, first_border}
 use Rattle.block_net.specs.Whole.{Whole, table, index_of, block_at, block_with, home, place, near_home, is_outer, lane_of, border_of, shown_lane, shown_border, shown_of, shown, no_block, IsInnerAt, IsBorderAt, StandsAt, IsPlaced, LiesAt, IsFilled}
 use Rattle.block_net.specs.Split.{ByNode, Rows, inner_rows, outer_rows, CanSplit, direction_in, AreRows, AreGrouped, HasSlots, first_of, base_of, span, starts_from, lane_made, border_made, lanes_made, borders_made, block_made, blocks_made, firsts_made, whole_at_opening, IsSplit}
 use Rattle.block_net.proofs.Tables.{length_table, table_at}
@@ -162,7 +162,7 @@ lane_is : (net : Network) (blocks : ℕ) (rows : ByNode) (x : Direction) → IsR
 lane_is net blocks rows x ready d e =
     let at = at_home net blocks rows (near net x) ready (near_in net x ready.net_is d) in
     let row = row_of net blocks rows false x ready d e in
-    ap (λ (b : BlockView). lane_in b (slice_index rows.slots (index_of net x))) at.block_is
+    ap (λ (b : CellsView). lane_in b (slice_index rows.slots (index_of net x))) at.block_is
     ∙ read_row (lane_made net rows.slots (first_of (nodes net) blocks (core.block_of net blocks (near net x)))) net blocks rows false x _ _ row.0 no_row ready.rows_are at.within d row.1
 
 border_is : (net : Network) (blocks : ℕ) (rows : ByNode) (x : Direction) → IsReady net blocks rows → IsDirection net x → core.is_border net blocks x ≡ true
@@ -170,7 +170,7 @@ border_is : (net : Network) (blocks : ℕ) (rows : ByNode) (x : Direction) → I
 border_is net blocks rows x ready d e =
     let at = at_home net blocks rows (near net x) ready (near_in net x ready.net_is d) in
     let row = row_of net blocks rows true x ready d e in
-    ap (λ (b : BlockView). border_in b (slice_index rows.slots (index_of net x))) at.block_is
+    ap (λ (b : CellsView). border_in b (slice_index rows.slots (index_of net x))) at.block_is
     ∙ read_row (border_made net blocks rows.slots (first_of (nodes net) blocks (core.block_of net blocks (near net x)))) net blocks rows true x _ _ row.0 no_border ready.rows_are at.within d row.1
 
 pub length_lanes : (net : Network) (slots : List ℕ) (first : ℕ) (indices : List ℕ) → length (lanes_made net slots first indices) ≡ length indices
@@ -193,9 +193,9 @@ inner_at net blocks rows x ready d e =
     let lane = lane_is net blocks rows x ready d e in
     let same : core.block_of net blocks (far net x) ≡ b = sym (inner_blocks net blocks x e) in
     record {
-      from = omega (arith, row.from, ap (λ (q : BlockView). first_lane q (place w v)) at.block_is, ap (first_lane B) at.place_is);
-      below = omega (arith, row.below, ap (λ (q : BlockView). first_lane q (place w v + 1)) at.block_is, ap (λ k. first_lane B (k + 1)) at.place_is);
-      within = omega (arith, row.within, ap (λ (q : BlockView). length q.lanes) at.block_is, length_lanes net rows.slots first (span (inner_rows rows) first (first_of (nodes net) blocks (b + 1))));
+      from = omega (arith, row.from, ap (λ (q : CellsView). first_lane q (place w v)) at.block_is, ap (first_lane B) at.place_is);
+      below = omega (arith, row.below, ap (λ (q : CellsView). first_lane q (place w v + 1)) at.block_is, ap (λ k. first_lane B (k + 1)) at.place_is);
+      within = omega (arith, row.within, ap (λ (q : CellsView). length q.lanes) at.block_is, length_lanes net rows.slots first (span (inner_rows rows) first (first_of (nodes net) blocks (b + 1))));
       far = ap (λ (q : InnerLane). q.far) lane ∙ sym (away.place_is ∙ ap (λ k. far net x - first_of (nodes net) blocks k) same);
       opposite = ap (λ (q : InnerLane). q.opposite) lane;
     }
@@ -213,9 +213,9 @@ border_at net blocks rows x ready d e =
     let row = (row_of net blocks rows true x ready d e).1 in
     let border = border_is net blocks rows x ready d e in
     record {
-      from = omega (arith, row.from, ap (λ (q : BlockView). first_border q (place w v)) at.block_is, ap (first_border B) at.place_is);
-      below = omega (arith, row.below, ap (λ (q : BlockView). first_border q (place w v + 1)) at.block_is, ap (λ k. first_border B (k + 1)) at.place_is);
-      within = omega (arith, row.within, ap (λ (q : BlockView). length q.borders) at.block_is, length_borders net blocks rows.slots first (span (outer_rows (nodes net) rows) first (first_of (nodes net) blocks (b + 1))));
+      from = omega (arith, row.from, ap (λ (q : CellsView). first_border q (place w v)) at.block_is, ap (first_border B) at.place_is);
+      below = omega (arith, row.below, ap (λ (q : CellsView). first_border q (place w v + 1)) at.block_is, ap (λ k. first_border B (k + 1)) at.place_is);
+      within = omega (arith, row.within, ap (λ (q : CellsView). length q.borders) at.block_is, length_borders net blocks rows.slots first (span (outer_rows (nodes net) rows) first (first_of (nodes net) blocks (b + 1))));
       direction = ap (λ (q : Border). q.direction) border;
       near = ap (λ (q : Border). q.near) border ∙ sym at.place_is;
       to = ap (λ (q : Border). q.to) border ∙ sym away.home_is;
@@ -281,10 +281,10 @@ placed net blocks rows ready =
     let home_of = λ (v : ℕ) (l : v < n). at_home net blocks rows v ready l in
     let first = λ (v : ℕ). first_of n blocks (core.block_of net blocks v) in
     let next = λ (v : ℕ). first_of n blocks (core.block_of net blocks v + 1) in
-    let lane_starts = λ (v : ℕ) (l : v < n). ap (λ (q : BlockView). first_lane q (place w v)) (home_of v l).block_is ∙ ap (λ k. slice_index (starts_from (inner_rows rows).starts (first v) (next v)) k) (home_of v l).place_is in
-    let lane_ends = λ (v : ℕ) (l : v < n). ap (λ (q : BlockView). first_lane q (place w v + 1)) (home_of v l).block_is ∙ ap (λ k. slice_index (starts_from (inner_rows rows).starts (first v) (next v)) (k + 1)) (home_of v l).place_is in
-    let border_starts = λ (v : ℕ) (l : v < n). ap (λ (q : BlockView). first_border q (place w v)) (home_of v l).block_is ∙ ap (λ k. slice_index (starts_from (outer_rows (nodes net) rows).starts (first v) (next v)) k) (home_of v l).place_is in
-    let border_ends = λ (v : ℕ) (l : v < n). ap (λ (q : BlockView). first_border q (place w v + 1)) (home_of v l).block_is ∙ ap (λ k. slice_index (starts_from (outer_rows (nodes net) rows).starts (first v) (next v)) (k + 1)) (home_of v l).place_is in
+    let lane_starts = λ (v : ℕ) (l : v < n). ap (λ (q : CellsView). first_lane q (place w v)) (home_of v l).block_is ∙ ap (λ k. slice_index (starts_from (inner_rows rows).starts (first v) (next v)) k) (home_of v l).place_is in
+    let lane_ends = λ (v : ℕ) (l : v < n). ap (λ (q : CellsView). first_lane q (place w v + 1)) (home_of v l).block_is ∙ ap (λ k. slice_index (starts_from (inner_rows rows).starts (first v) (next v)) (k + 1)) (home_of v l).place_is in
+    let border_starts = λ (v : ℕ) (l : v < n). ap (λ (q : CellsView). first_border q (place w v)) (home_of v l).block_is ∙ ap (λ k. slice_index (starts_from (outer_rows (nodes net) rows).starts (first v) (next v)) k) (home_of v l).place_is in
+    let border_ends = λ (v : ℕ) (l : v < n). ap (λ (q : CellsView). first_border q (place w v + 1)) (home_of v l).block_is ∙ ap (λ k. slice_index (starts_from (outer_rows (nodes net) rows).starts (first v) (next v)) (k + 1)) (home_of v l).place_is in
     record {
       firsts_len = length_table blocks (first_of n blocks) ∙ sym len;
       slots_len = ready.rows_are.slots_len;
@@ -293,7 +293,7 @@ placed net blocks rows ready =
       places = λ v l.
           let at = home_of v l in
           omega (arith, at.place_is, at.low, at.high, ap count at.block_is, length_range net.sources (first v) (next v) at.within);
-      tops = λ b l. ap (λ (q : BlockView). q.top) (table_at blocks (block_made net blocks rows) b no_block (omega (arith, l, len)));
+      tops = λ b l. ap (λ (q : CellsView). q.top) (table_at blocks (block_made net blocks rows) b no_block (omega (arith, l, len)));
       inner = λ x d e. inner_at net blocks rows x ready d (sym (outer_is net blocks rows x) ∙ e);
       borders = λ x d e. border_at net blocks rows x ready d (sym (outer_is net blocks rows x) ∙ e);
       apart = λ x y dx dy kind home same.
@@ -380,10 +380,10 @@ filled net blocks rows ready =
           let first = first_of n blocks b in
           let next = first_of n blocks (b + 1) in
           let is = block_is net blocks rows b (below b l) in
-          ap (λ (q : BlockView). length q.labels) is ∙ (length-replicate (next - first) 0
+          ap (λ (q : CellsView). length q.labels) is ∙ (length-replicate (next - first) 0
           ∙ (sym (length_range net.sources first next (within b (below b l))) ∙ sym (ap count is)));
-      nodes = λ b p l lp. node_of net blocks rows b p ready (below b l) (subst (λ (q : BlockView). p < count q) (block_is net blocks rows b (below b l)) lp);
-      borders = λ b j l lj. border_in_block net blocks rows b j ready (below b l) (subst (λ (q : BlockView). j < length q.borders) (block_is net blocks rows b (below b l)) lj);
+      nodes = λ b p l lp. node_of net blocks rows b p ready (below b l) (subst (λ (q : CellsView). p < count q) (block_is net blocks rows b (below b l)) lp);
+      borders = λ b j l lj. border_in_block net blocks rows b j ready (below b l) (subst (λ (q : CellsView). j < length q.borders) (block_is net blocks rows b (below b l)) lj);
     }
 
 -- ---- the opening
@@ -425,11 +425,11 @@ opening net blocks rows ready =
     let at = λ (v : ℕ) (l : v < n). at_home net blocks rows v ready l in
     let part = λ (xs : List ℕ) (v : ℕ) (l : v < n). range_at xs (first v) (next v) (v - first v) 0 (omega (arith, (at v l).low, (at v l).high)) ∙ ap (slice_index xs) (back_to (first v) v (at v l).low) in
     let excess = table_of n (λ v. excess_in (block_with w v) (place w v)) net.sources refl (λ v l.
-    sym (ap (λ (q : BlockView). excess_in q (place w v)) (at v l).block_is ∙ (ap (slice_index (slice_range net.sources (first v) (next v))) (at v l).place_is ∙ part net.sources v l))) in
+    sym (ap (λ (q : CellsView). excess_in q (place w v)) (at v l).block_is ∙ (ap (slice_index (slice_range net.sources (first v) (next v))) (at v l).place_is ∙ part net.sources v l))) in
     let rooms = table_of n (λ v. room_in (block_with w v) (place w v)) net.sinks ready.net_is.same (λ v l.
-    sym (ap (λ (q : BlockView). room_in q (place w v)) (at v l).block_is ∙ (ap (slice_index (slice_range net.sinks (first v) (next v))) (at v l).place_is ∙ part net.sinks v l))) in
+    sym (ap (λ (q : CellsView). room_in q (place w v)) (at v l).block_is ∙ (ap (slice_index (slice_range net.sinks (first v) (next v))) (at v l).place_is ∙ part net.sinks v l))) in
     let labels = table_of n (λ v. label_in (block_with w v) (place w v)) (replicate n 0) (length-replicate n 0) (λ v l.
-    get_or-replicate n v 0 0 l ∙ sym (ap (λ (q : BlockView). label_in q (place w v)) (at v l).block_is ∙ (ap (slice_index (replicate (next v - first v) 0)) (at v l).place_is
+    get_or-replicate n v 0 0 l ∙ sym (ap (λ (q : CellsView). label_in q (place w v)) (at v l).block_is ∙ (ap (slice_index (replicate (next v - first v) 0)) (at v l).place_is
     ∙ get_or-replicate (next v - first v) (v - first v) 0 0 (omega (arith, (at v l).low, (at v l).high))))) in
     let forth = table_of_lanes m (λ k. shown_of w (forward k)) (map (λ arc. record { residual = arc.capacity; known = 0; flight = None }) net.arcs) (length-map _ _) (λ k l.
     opened_is net blocks (forward k) l ∙ sym (shown_is net blocks rows (forward k) ready l)) in
@@ -438,11 +438,11 @@ opening net blocks rows ready =
     same_build net _ _ _ _ _ _ _ _ _ _ _ _ (replicate blocks (replicate blocks [])) (count_made net blocks rows) excess labels rooms forth back
 
 -- the parts that are made are the net in blocks
-pub split_is : (net : Network) (blocks : ℕ) (rows : ByNode) (firsts : List ℕ) (parts : List BlockView) → IsNet net → CanSplit net blocks → AreGrouped net blocks rows
+pub split_is : (net : Network) (blocks : ℕ) (rows : ByNode) (firsts : List ℕ) (parts : List CellsView) → IsNet net → CanSplit net blocks → AreGrouped net blocks rows
     → firsts ≡ firsts_made net blocks → parts ≡ blocks_made net blocks rows → IsSplit net blocks firsts rows.slots parts
 split_is net blocks rows firsts parts h split is ef ep =
     let ready : IsReady net blocks rows = record { net_is = h; split = split; rows_are = is } in
     let whole : IsSplit net blocks (firsts_made net blocks) rows.slots (blocks_made net blocks rows) =
     record { number = count_made net blocks rows; placed = placed net blocks rows ready; filled = filled net blocks rows ready; opening = opening net blocks rows ready } in
     let one = subst (λ (fs : List ℕ). IsSplit net blocks fs rows.slots (blocks_made net blocks rows)) (sym ef) whole in
-    subst (λ (bs : List BlockView). IsSplit net blocks firsts rows.slots bs) (sym ep) one
+    subst (λ (bs : List CellsView). IsSplit net blocks firsts rows.slots bs) (sym ep) one

@@ -3,4 +3,4 @@ pub mod Views
 pub mod Whole
 pub mod Split
 pub mod Circles
-pub mod Rows
+pub mod Standing

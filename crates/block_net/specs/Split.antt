@@ -9,10 +9,10 @@ use Rattle.parcel.specs.declared.direction.Direction.{Direction}
 use Rattle.parcel.specs.Directions.{IsDirection, near, far, opposite}
 use Rattle.parcel.specs.States.{block_of, is_border}
 use Rattle.parcel.specs.Soundness.{first_residual, opened}
-use Rattle.block_net.specs.declared.rows.InnerLane.{InnerLane}
-use Rattle.block_net.specs.declared.rows.Border.{Border}
+use Rattle.block_net.specs.declared.lanes.InnerLane.{InnerLane}
+use Rattle.block_net.specs.declared.lanes.Border.{Border}
 use Rattle.block_net.specs.Limits.{arc_limit, block_limit}
-use Rattle.block_net.specs.Views.{BlockView, no_row, no_border}
+use Rattle.block_net.specs.Views.{CellsView, no_row, no_border}
 use Rattle.block_net.specs.Whole.{Whole, table, index_of, shown, IsPlaced, IsFilled}
 
 -- the net can be split into so many blocks
@@ -206,7 +206,7 @@ rows_from net blocks rows first next = record {
 }
 
 -- the nodes from one on to another as a block
-abbrev pub block_from : Network → ℕ → ByNode → ℕ → ℕ → BlockView
+abbrev pub block_from : Network → ℕ → ByNode → ℕ → ℕ → CellsView
 block_from net blocks rows first next = record {
   top = top net;
   excess = slice_range net.sources first next;
@@ -218,11 +218,11 @@ block_from net blocks rows first next = record {
   borders = (rows_from net blocks rows first next).borders;
 }
 
-abbrev pub block_made : Network → ℕ → ByNode → ℕ → BlockView
+abbrev pub block_made : Network → ℕ → ByNode → ℕ → CellsView
 block_made net blocks rows b =
     block_from net blocks rows (first_of (nodes net) blocks b) (first_of (nodes net) blocks (b + 1))
 
-abbrev pub blocks_made : Network → ℕ → ByNode → List BlockView
+abbrev pub blocks_made : Network → ℕ → ByNode → List CellsView
 blocks_made net blocks rows = table blocks (block_made net blocks rows)
 
 -- the directions of one block, and of each
@@ -273,7 +273,7 @@ pub record AreWritten (net : Network) (after before : List ℕ) (many : ℕ) (ta
 -- ---- the whole
 
 -- the parts with no message on the way
-abbrev pub whole_at_opening : Network → ℕ → List ℕ → List ℕ → List BlockView → Whole
+abbrev pub whole_at_opening : Network → ℕ → List ℕ → List ℕ → List CellsView → Whole
 whole_at_opening net blocks firsts slots parts =
     record {
       net = net;
@@ -286,7 +286,7 @@ whole_at_opening net blocks firsts slots parts =
 
 -- the parts are a net in so many blocks, as it is at the opening
 pub record IsSplit (net : Network) (blocks : ℕ) (firsts slots : List ℕ)
-    (parts : List BlockView) : Type 0 where
+    (parts : List CellsView) : Type 0 where
   pub number : length parts ≡ blocks
   pub placed : IsPlaced (whole_at_opening net blocks firsts slots parts)
   pub filled : IsFilled (whole_at_opening net blocks firsts slots parts)

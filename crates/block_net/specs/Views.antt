@@ -4,12 +4,12 @@ use Rattle.std.specs.Option.{is_some}
 use Rattle.flow_network.specs.Limits.{node_limit}
 use Rattle.flow_network.specs.Progress.{top_label}
 use Rattle.parcel.specs.declared.flight.Flight.{Flight}
-use Rattle.block_net.specs.declared.rows.InnerLane.{InnerLane}
-use Rattle.block_net.specs.declared.rows.Border.{Border}
+use Rattle.block_net.specs.declared.lanes.InnerLane.{InnerLane}
+use Rattle.block_net.specs.declared.lanes.Border.{Border}
 
 -- of each node the excess, the label and what it can still give the sink; the directions of node v within
 -- the block at the places starts v to starts (v + 1), and those to other blocks likewise
-pub record BlockView : Type 0 where
+pub record CellsView : Type 0 where
   pub top : ℕ
   pub excess : List ℕ
   pub labels : List ℕ
@@ -35,28 +35,28 @@ no_border =
       flight = None;
     }
 
-abbrev pub count : BlockView → ℕ
+abbrev pub count : CellsView → ℕ
 count b = length b.excess
 
-abbrev pub excess_in : BlockView → ℕ → ℕ
+abbrev pub excess_in : CellsView → ℕ → ℕ
 excess_in b v = slice_index b.excess v
 
-abbrev pub label_in : BlockView → ℕ → ℕ
+abbrev pub label_in : CellsView → ℕ → ℕ
 label_in b v = slice_index b.labels v
 
-abbrev pub room_in : BlockView → ℕ → ℕ
+abbrev pub room_in : CellsView → ℕ → ℕ
 room_in b v = slice_index b.rooms v
 
-abbrev pub lane_in : BlockView → ℕ → InnerLane
+abbrev pub lane_in : CellsView → ℕ → InnerLane
 lane_in b j = slice_index_or b.lanes j no_row
 
-abbrev pub border_in : BlockView → ℕ → Border
+abbrev pub border_in : CellsView → ℕ → Border
 border_in b j = slice_index_or b.borders j no_border
 
-abbrev pub first_lane : BlockView → ℕ → ℕ
+abbrev pub first_lane : CellsView → ℕ → ℕ
 first_lane b v = slice_index b.starts v
 
-abbrev pub first_border : BlockView → ℕ → ℕ
+abbrev pub first_border : CellsView → ℕ → ℕ
 first_border b v = slice_index b.border_starts v
 
 -- the amount that is out
@@ -79,7 +79,7 @@ pub record IsBorder (nodes top : ℕ) (x : Border) : Type 0 where
   pub small : x.capacity < 2 ^ 62
 
 -- what the lists keep
-pub record IsBlock (b : BlockView) : Type 0 where
+pub record IsBlock (b : CellsView) : Type 0 where
   pub top : b.top ≤ top_label node_limit
   pub above : 1 ≤ b.top
   pub small : length b.excess ≤ node_limit
@@ -98,12 +98,12 @@ pub record IsBlock (b : BlockView) : Type 0 where
 -- ---- when excess of an active node can go on
 
 -- along a direction within the block
-pub record MayPush (b : BlockView) (v j : ℕ) : Type 0 where
+pub record MayPush (b : CellsView) (v j : ℕ) : Type 0 where
   pub residual : 0 < (lane_in b j).residual
   pub level : label_in b v ≡ label_in b (lane_in b j).far + 1
 
 -- along a direction to another block
-pub record MaySend (b : BlockView) (v j : ℕ) : Type 0 where
+pub record MaySend (b : CellsView) (v j : ℕ) : Type 0 where
   pub residual : 0 < (border_in b j).residual
   pub level : label_in b v ≡ (border_in b j).known + 1
   pub idle : (border_in b j).flight ≡ None
@@ -111,7 +111,7 @@ pub record MaySend (b : BlockView) (v j : ℕ) : Type 0 where
 -- ---- what each event does to the block
 
 -- an amount goes along a direction within the block
-abbrev pub pushed : BlockView → ℕ → ℕ → ℕ → BlockView
+abbrev pub pushed : CellsView → ℕ → ℕ → ℕ → CellsView
 pushed b v j a =
     let w = (lane_in b j).far in
     let o = (lane_in b j).opposite in
@@ -127,7 +127,7 @@ pushed b v j a =
     }
 
 -- an amount goes to the sink
-abbrev pub given : BlockView → ℕ → ℕ → BlockView
+abbrev pub given : CellsView → ℕ → ℕ → CellsView
 given b v a =
     record b {
       excess = slice_set b.excess v (excess_in b v - a);
@@ -135,11 +135,11 @@ given b v a =
     }
 
 -- a label rises
-abbrev pub labelled : BlockView → ℕ → ℕ → BlockView
+abbrev pub labelled : CellsView → ℕ → ℕ → CellsView
 labelled b v d = record b { labels = slice_set b.labels v d }
 
 -- an amount leaves for another block
-abbrev pub sent : BlockView → ℕ → ℕ → ℕ → BlockView
+abbrev pub sent : CellsView → ℕ → ℕ → ℕ → CellsView
 sent b v j a = record b {
   excess = slice_set b.excess v (excess_in b v - a);
   borders =
@@ -152,7 +152,7 @@ sent b v j a = record b {
 
 -- an amount comes from another block: the direction learns the label, but not while a parcel of its own is
 -- out
-abbrev pub accepted : BlockView → ℕ → ℕ → ℕ → BlockView
+abbrev pub accepted : CellsView → ℕ → ℕ → ℕ → CellsView
 accepted b j a d =
     let x = border_in b j in
     record b {
@@ -163,15 +163,15 @@ accepted b j a d =
     }
 
 -- a direction to another block knows a label of its far end
-abbrev pub informed : BlockView → ℕ → ℕ → BlockView
+abbrev pub informed : CellsView → ℕ → ℕ → CellsView
 informed b j d = record b { borders = slice_set b.borders j (record (border_in b j) { known = d }) }
 
 -- the parcel that was out was taken
-abbrev pub settled : BlockView → ℕ → BlockView
+abbrev pub settled : CellsView → ℕ → CellsView
 settled b j = record b { borders = slice_set b.borders j (record (border_in b j) { flight = None }) }
 
 -- the parcel that was out comes back
-abbrev pub returned : BlockView → ℕ → ℕ → ℕ → BlockView
+abbrev pub returned : CellsView → ℕ → ℕ → ℕ → CellsView
 returned b j a told =
     let x = border_in b j in
     record b {
@@ -186,16 +186,16 @@ abbrev pub least_span : (ℕ → ℕ) → ℕ → ℕ → ℕ → ℕ
 least_span f from zero z = z
 least_span f from (suc n) z = min (least_span f from n z) (f (from + n))
 
-abbrev pub lane_allows : BlockView → ℕ → ℕ
+abbrev pub lane_allows : CellsView → ℕ → ℕ
 lane_allows b j = cond (nat_lt 0 (lane_in b j).residual) (label_in b (lane_in b j).far + 1) b.top
 
-abbrev pub border_allows : BlockView → ℕ → ℕ
+abbrev pub border_allows : CellsView → ℕ → ℕ
 border_allows b j =
     cond (nat_lt 0 (border_in b j).residual || is_some (border_in b j).flight)
     ((border_in b j).known + 1) b.top
 
 -- the highest label that the node may have
-abbrev pub highest : BlockView → ℕ → ℕ
+abbrev pub highest : CellsView → ℕ → ℕ
 highest b v =
     least_span (border_allows b) (first_border b v) (first_border b (v + 1) - first_border b v)
     (least_span (lane_allows b) (first_lane b v) (first_lane b (v + 1) - first_lane b v)

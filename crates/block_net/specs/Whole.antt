@@ -10,9 +10,9 @@ use Rattle.parcel.specs.declared.message.Message.{Message}
 use Rattle.parcel.specs.Directions.{IsDirection, forward, backward, near, far, opposite}
 use Rattle.parcel.specs.States as core
 use Rattle.block_net.specs.declared.parts.Parts.{Parts}
-use Rattle.block_net.specs.declared.rows.InnerLane.{InnerLane}
-use Rattle.block_net.specs.declared.rows.Border.{Border}
-use Rattle.block_net.specs.Views.{BlockView, count, excess_in, label_in, room_in, lane_in, border_in, first_lane, first_border}
+use Rattle.block_net.specs.declared.lanes.InnerLane.{InnerLane}
+use Rattle.block_net.specs.declared.lanes.Border.{Border}
+use Rattle.block_net.specs.Views.{CellsView, count, excess_in, label_in, room_in, lane_in, border_in, first_lane, first_border}
 
 -- a net in blocks: the net, the first node of each block, the place of each direction in its block
 -- ("slot"), the blocks, the messages on the way, and what the sink got
@@ -20,7 +20,7 @@ pub record Whole : Type 0 where
   pub net : Network
   pub firsts : List ℕ
   pub slots : List ℕ
-  pub blocks : List BlockView
+  pub blocks : List CellsView
   pub ways : List (List (List Message))
   pub got : ℕ
 
@@ -37,14 +37,14 @@ whole_of net parts =
     }
 
 -- the same net in other blocks
-abbrev pub with_blocks : Whole → List BlockView → Whole
+abbrev pub with_blocks : Whole → List CellsView → Whole
 with_blocks w blocks = record w { blocks = blocks }
 
 -- f 0, f 1, .., f (n - 1)
 abbrev pub table : {A : Type 0} → ℕ → (ℕ → A) → List A
 table n f = map f (range_with_len 0 n)
 
-abbrev pub no_block : BlockView
+abbrev pub no_block : CellsView
 no_block =
     record {
       top = 0;
@@ -57,7 +57,7 @@ no_block =
       borders = [];
     }
 
-abbrev pub block_at : Whole → ℕ → BlockView
+abbrev pub block_at : Whole → ℕ → CellsView
 block_at w b = slice_index_or w.blocks b no_block
 
 -- the block of a node
@@ -65,7 +65,7 @@ abbrev pub home : Whole → ℕ → ℕ
 home w v = core.block_of w.net (length w.blocks) v
 
 -- the block that a node lies in
-abbrev pub block_with : Whole → ℕ → BlockView
+abbrev pub block_with : Whole → ℕ → CellsView
 block_with w v = block_at w (home w v)
 
 -- the place of a node in its block
@@ -185,5 +185,5 @@ pub record IsFilled (w : Whole) : Type 0 where
       → (x : Direction) × (near_home w x ≡ b) × StandsAt w true (near w.net x) j x
 
 -- another block in a block's stead
-abbrev pub put_block : Whole → ℕ → BlockView → Whole
+abbrev pub put_block : Whole → ℕ → CellsView → Whole
 put_block w b block = record w { blocks = slice_set w.blocks b block }

@@ -1,5 +1,5 @@
 ghost use Rattle.std.specs.Prelude.{◌≡◌, ◌↔◌, IsTrue, IsFalse, ◌+◌, ◌-◌, ◌^◌, ◌<◌, ◌≤◌, IfOk, MatchOption, length, replicate};
-ghost use Rattle.block_net.specs.Rows.{Standing, nodes, row_in, aside, nowhere, bucket_of, moved, emptied, IsEmpty, IsHighest, AreEmpty, IsRestored};
+ghost use Rattle.block_net.specs.Standing.{Standing, nodes, row_in, aside, nowhere, bucket_of, moved, emptied, IsEmpty, IsHighest, AreEmpty, IsRestored};
 
 use crate::circles::{alone, part, relink, unlink};
 use std::alloc::{AllocError, Global};
@@ -18,7 +18,7 @@ pub struct Buckets {
 }
 
 impl Model for Buckets {
-    ghost use Rattle.block_net.specs.Rows.{Standing, AreRows};
+    ghost use Rattle.block_net.specs.Standing.{Standing, AreRows};
 
     ghost Value = { Standing };
 

@@ -2,7 +2,7 @@ ghost use Rattle.std.specs.Prelude.{◌≡◌, ◌≢◌, ◌↔◌, IsTrue, ◌
 ghost use Rattle.flow_network.specs.Limits.{node_limit};
 ghost use Rattle.flow_network.specs.Progress.{top_label};
 ghost use Rattle.block_net.specs.Split.{CanSplit, starts_made, rows_made, block_rows, block_made};
-ghost use Rattle.block_net.specs.Views.{BlockView, count, excess_in, label_in, room_in, lane_in, border_in, first_lane, first_border, out_of, MayPush, MaySend, pushed, given, labelled, sent, accepted, settled, returned, informed, lane_allows, border_allows, highest};
+ghost use Rattle.block_net.specs.Views.{CellsView, count, excess_in, label_in, room_in, lane_in, border_in, first_lane, first_border, out_of, MayPush, MaySend, pushed, given, labelled, sent, accepted, settled, returned, informed, lane_allows, border_allows, highest};
 
 use crate::buckets::Buckets;
 use crate::by_node::outer_starts;
@@ -33,9 +33,9 @@ pub struct Cells {
 }
 
 impl Model for Cells {
-    ghost use Rattle.block_net.specs.Views.{BlockView, IsBlock};
+    ghost use Rattle.block_net.specs.Views.{CellsView, IsBlock};
 
-    ghost Value = { BlockView };
+    ghost Value = { CellsView };
 
     ghost view = { λ c. record {
       top = c.top;

@@ -27,7 +27,7 @@ const _: () = prove!(size_of::<CompactBorder>() == 48);
 
 impl Model for CompactBorder {
     ghost use Rattle.std.specs.Prelude.{Some, None, cond};
-    ghost use Rattle.block_net.specs.declared.rows.Border.{Border};
+    ghost use Rattle.block_net.specs.declared.lanes.Border.{Border};
 
     ghost Value = { Border };
 

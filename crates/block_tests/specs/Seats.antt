@@ -6,14 +6,14 @@ use Rattle.parcel.specs.declared.message.Message.TheVariants.{Parcel}
 use Rattle.parcel.specs.Directions.{forward, backward}
 use Rattle.parcel.specs.Soundness.{IsSound}
 use Rattle.block_tests.specs.Runs.{two_source_net}
-use Rattle.block_net.specs.declared.rows.Border.{Border}
-use Rattle.block_net.specs.Views.{BlockView}
+use Rattle.block_net.specs.declared.lanes.Border.{Border}
+use Rattle.block_net.specs.Views.{CellsView}
 use Rattle.block_net.specs.Whole.{Whole}
 use Rattle.laid_blocks.specs.Views.{IsLaid}
 use Rattle.block_cut.specs.Rounds.{Ways, AreBack, quiet_state}
 
 -- a block of one node with one direction to the other block
-abbrev pub part : ℕ → ℕ → ℕ → Border → BlockView
+abbrev pub part : ℕ → ℕ → ℕ → Border → CellsView
 part excess label room border = record {
   top = 4;
   excess = excess ∷ [];
@@ -61,7 +61,7 @@ whole_before =
     }
 
 -- the first node is relabelled and sends all it has, the other is relabelled
-abbrev pub blocks_after : List BlockView
+abbrev pub blocks_after : List CellsView
 blocks_after =
     part 0 1 0 (border_there 0 (Some (record { amount = 4; label = 1 }))) ∷ part 1 1 3 border_back ∷ []
 

@@ -1,6 +1,6 @@
 ghost use Rattle.std.specs.Prelude.{◌≡◌, IfOk};
 ghost use Rattle.block_net.specs.Views.{count};
-ghost use Rattle.block_net.specs.Rows.{nodes};
+ghost use Rattle.block_net.specs.Standing.{nodes};
 
 use crate::building::net_of;
 use block_net::{ARC_LIMIT, Buckets, Cells, Parts};

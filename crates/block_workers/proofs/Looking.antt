@@ -9,7 +9,7 @@ use Rattle.parcel.specs.declared.message.Message.{Message}
 use Rattle.discharge.specs.declared.letter.Letter.{Letter}
 use Rattle.discharge.specs.Seen.{IsLook, IsPut, IsTake, add_to}
 use Rattle.block_workers.specs.declared.port.Port.{Port}
-use Rattle.block_workers.specs.Ports.{other, put, taken, free, first, IsSamePort, Looks, Puts, Takes}
+use Rattle.block_workers.specs.Ports.{other, put, taken, free, first, IsSamePort, Looks, PutsLetter, TakesLetter}
 use Rattle.block_workers.specs.Seeing.{messages, others, read_at, seen, AreSame, AreFound, IsPlace}
 use Rattle.block_workers.proofs.Reading.{other_at, read_more, read_set, read_here}
 
@@ -93,7 +93,7 @@ logs_set read ports c k q d m at leads more n =
     let here : read q ≡ read_at [] read ports c ++ m ∷ [] = more ∙ ap (λ (l : List Message). l ++ m ∷ []) (sym (read_here [] read ports c k d at)) in
     read_set [] read ports c k q at leads' n ∙ logs_case n c (read_at [] read ports) (read q) m here
 
-pub put_set : (ports : List Port) (c k : ℕ) (q d : Port) (l : Letter) → IsPlace ports c k → Puts l (get_or ports k d) q → IsPut c l.message (seen ports) (seen (set ports k q))
+pub put_set : (ports : List Port) (c k : ℕ) (q d : Port) (l : Letter) → IsPlace ports c k → PutsLetter l (get_or ports k d) q → IsPut c l.message (seen ports) (seen (set ports k q))
 put_set ports c k q d l at puts = record {
   sent = logs_set (λ (p : Port). messages (put p)) ports c k q d l.message at puts.same.other (ap messages puts.put ∙ map-append (λ (x : Letter). x.message) (put (get_or ports k d)) (l ∷ []));
   taken = read_more [] (λ (p : Port). messages (taken p)) (λ x y. y ≡ x) (λ x. refl) ports k q d at.place puts.same.other (ap messages puts.taken);
@@ -101,7 +101,7 @@ put_set ports c k q d l at puts = record {
       (λ m h. ap (λ (w : List Letter). slice_get w 0) puts.waiting ∙ h);
 }
 
-pub take_set : (ports : List Port) (c k : ℕ) (q d : Port) (l : Letter) → IsPlace ports c k → Takes l (get_or ports k d) q → IsTake c l.message (seen ports) (seen (set ports k q))
+pub take_set : (ports : List Port) (c k : ℕ) (q d : Port) (l : Letter) → IsPlace ports c k → TakesLetter l (get_or ports k d) q → IsTake c l.message (seen ports) (seen (set ports k q))
 take_set ports c k q d l at takes = record {
   sent = read_more [] (λ (p : Port). messages (put p)) (λ x y. y ≡ x) (λ x. refl) ports k q d at.place takes.same.other (ap messages takes.put);
   taken = logs_set (λ (p : Port). messages (taken p)) ports c k q d l.message at takes.same.other (ap messages takes.taken ∙ map-append (λ (x : Letter). x.message) (taken (get_or ports k d)) (l ∷ []));
@@ -146,16 +146,16 @@ room_there ports c k p at is room =
 pub front_there : (ports : List Port) (c k : ℕ) (p : Port) → IsPlace ports c k → p ≡ get_or ports k p → (seen ports).front c ≡ first p
 front_there ports c k p at is = read_here None (λ (x : Port). first x) ports c k p at ∙ ap (λ (x : Port). first x) (sym is)
 
-pub put_there : (ports : List Port) (c k : ℕ) (p q : Port) (l : Letter) → IsPlace ports c k → p ≡ get_or ports k p → Puts l p q → IsPut c l.message (seen ports) (seen (set ports k q))
-put_there ports c k p q l at is puts = put_set ports c k q p l at (subst (λ (x : Port). Puts l x q) is puts)
+pub put_there : (ports : List Port) (c k : ℕ) (p q : Port) (l : Letter) → IsPlace ports c k → p ≡ get_or ports k p → PutsLetter l p q → IsPut c l.message (seen ports) (seen (set ports k q))
+put_there ports c k p q l at is puts = put_set ports c k q p l at (subst (λ (x : Port). PutsLetter l x q) is puts)
 
 some_is : (l r : Letter) → Some r ≡ Some l → r ≡ l
 some_is l r e = cc
 
-pub take_there : (ports : List Port) (c k : ℕ) (p q : Port) (r : Letter) → IsPlace ports c k → p ≡ get_or ports k p → Takes r p q
+pub take_there : (ports : List Port) (c k : ℕ) (p q : Port) (r : Letter) → IsPlace ports c k → p ≡ get_or ports k p → TakesLetter r p q
     → (l : Letter) → (seen ports).front c ≡ Some l → IsTake c l.message (seen ports) (seen (set ports k q))
 take_there ports c k p q r at is takes l front =
     let one : first p ≡ Some r = ap (λ (w : List Letter). slice_get w 0) takes.waiting in
     let same : r ≡ l = some_is l r (sym one ∙ (sym (front_there ports c k p at is) ∙ front)) in
     subst (λ (x : Letter). IsTake c x.message (seen ports) (seen (set ports k q))) same
-    (take_set ports c k q p r at (subst (λ (x : Port). Takes r x q) is takes))
+    (take_set ports c k q p r at (subst (λ (x : Port). TakesLetter r x q) is takes))

@@ -61,7 +61,7 @@ pub record Looks (old new : Port) : Type 0 where
   pub waiting : IsPrefix (waiting old) (waiting new)
 
 -- one letter was put
-pub record Puts (letter : Letter) (old new : Port) : Type 0 where
+pub record PutsLetter (letter : Letter) (old new : Port) : Type 0 where
   pub same : IsSamePort old new
   pub put : put new ≡ put old ++ letter ∷ []
   pub taken : taken new ≡ taken old
@@ -69,7 +69,7 @@ pub record Puts (letter : Letter) (old new : Port) : Type 0 where
   pub waiting : waiting new ≡ waiting old
 
 -- one letter was taken
-pub record Takes (letter : Letter) (old new : Port) : Type 0 where
+pub record TakesLetter (letter : Letter) (old new : Port) : Type 0 where
   pub same : IsSamePort old new
   pub put : put new ≡ put old
   pub taken : taken new ≡ taken old ++ letter ∷ []

@@ -1,6 +1,6 @@
 -- What turns do to a block at its worker's.
 use Rattle.std.specs.Prelude.{◌≡◌, ℕ, ◌+◌, ◌*◌, ◌<◌, ◌≤◌, false}
-use Rattle.block_net.specs.Views.{BlockView, count}
+use Rattle.block_net.specs.Views.{CellsView, count}
 use Rattle.discharge.specs.Steps.{DoesMany, IsSure, Step, held}
 use Rattle.block_workers.specs.declared.ends.Ends.{Ends}
 use Rattle.block_workers.specs.declared.seat.Seat.{Seat}
@@ -12,7 +12,7 @@ abbrev pub most : Seat → ℕ
 most seat = seat.nodes + 16
 
 -- the block with these ends, before its first turn
-pub record IsNewSeat (b : ℕ) (cells : BlockView) (ends_of : Ends) (seat : Seat) : Type 0 where
+pub record IsNewSeat (b : ℕ) (cells : CellsView) (ends_of : Ends) (seat : Seat) : Type 0 where
   pub number : seat.number ≡ b
   pub block : seat.block ≡ cells
   pub ends : seat.ends ≡ ends_of

@@ -15,7 +15,7 @@ pub struct Port {
 }
 
 impl Port {
-    ghost use Rattle.block_workers.specs.Ports.{Looks, Puts, Takes, first, free, other};
+    ghost use Rattle.block_workers.specs.Ports.{Looks, PutsLetter, TakesLetter, first, free, other};
 
     /// The number of the block at the other ends.
     pub fn other(&self) -> u32
@@ -37,7 +37,7 @@ impl Port {
     pub fn put(&mut self, letter: Letter)
         requires room { 0 < free self.old }
         requires fair { IsFair letter.message }
-        ensures { Puts letter self.old self.new }
+        ensures { PutsLetter letter self.old self.new }
     {
         self.to_ring.push_reserved(letter);
     }
@@ -57,7 +57,7 @@ impl Port {
     /// Takes the letter in front, which was seen there. Takes no memory.
     pub fn take(&mut self) -> Letter
         requires { IsSome (first self.old) }
-        ensures taken { Takes result self.old self.new }
+        ensures taken { TakesLetter result self.old self.new }
         ensures fair { IsFair result.message }
     {
         self.from_ring.pop_known()

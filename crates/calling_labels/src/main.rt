@@ -6,7 +6,7 @@ ghost use Rattle.std.specs.Prelude.{◌≡◌, ◌<◌, ◌*◌, ◌≤ℤ◌, �
 ghost use Rattle.label_field.specs.Grids.{distance};
 ghost use Rattle.labellings.specs.Energies.{IsLabelled, energy as energy_of, labelling as labels_of};
 ghost use Rattle.labellings.specs.Chains.{expansions};
-ghost use Rattle.moves.specs.Problems.{IsRun};
+ghost use Rattle.moves.specs.Problems.{IsRunOfCycles};
 ghost use Rattle.calling_labels.specs.Problems.{potts, problem_of};
 
 use cost_store::{DataCost, Problem, SmoothCost};
@@ -35,7 +35,7 @@ struct Restored {
 /// runs out, and for nothing else.
 fn restore(alloc: Global, samples: &[u8], cycles: u32) -> Result<Restored, MoveError>
     requires { length samples.now ≡ 6 }
-    ensures run { IfOk result (λ end. IsRun (problem_of samples.now) (expansions 3) cycles
+    ensures run { IfOk result (λ end. IsRunOfCycles (problem_of samples.now) (expansions 3) cycles
         (replicate 6 0) end.labelling.at (Ok end.ended)) }
     ensures energy { IfOk result (λ end. end.energy
         ≡ pos (energy_of (problem_of samples.now) (labels_of end.labelling.at))) }

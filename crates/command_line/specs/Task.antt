@@ -67,8 +67,8 @@ FitsTask (Label bound) = ⊤
 FitsTask (Picture o) = FitsPicture o
 
 -- and those of the workers
-abbrev pub Fits : Request → Type 0
-Fits request = FitsTask request.task × IfSome request.workers AreInRange
+abbrev pub FitsRequest : Request → Type 0
+FitsRequest request = FitsTask request.task × IfSome request.workers AreInRange
 
 -- what clap tells is help that was asked for
 abbrev pub IsHelp : ErrorKind → Type 0

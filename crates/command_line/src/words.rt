@@ -2,7 +2,7 @@
 ghost use Rattle.std.specs.Prelude.{◌≡◌, ◌<◌, Some, None, OnOk, IfOk, IfErr, IsSomeAnd, MatchOption, length, map, string_bytes};
 ghost use Rattle.clap.specs.Words.{found_of, rows_of, subcommand_of, subcommand_rows_of};
 ghost use Rattle.command_line.specs.App.{gco_app};
-ghost use Rattle.command_line.specs.Task.{Asks, Fits, HasNo, HasText, IsAccepted, IsBadOptionOf, IsNoTaskFor, IsNoTaskOf, IsPictureOf, IsRequestOf, IsTaskOf};
+ghost use Rattle.command_line.specs.Task.{Asks, FitsRequest, HasNo, HasText, IsAccepted, IsBadOptionOf, IsNoTaskFor, IsNoTaskOf, IsPictureOf, IsRequestOf, IsTaskOf};
 
 use crate::app::gco_command;
 use crate::values::{Unmet, flag_in, restore_in, segment_in, stereo_in, workers_in};
@@ -22,7 +22,7 @@ use std::string::ToString;
 /// word after it is not said. What is told is not empty.
 pub fn parse<S: AsStr>(alloc: Global, words: &[S]) -> Result<Request, NoTask>
     ensures asked { IfOk result (Asks (map S.text words.now)) }
-    ensures fits { IfOk result Fits }
+    ensures fits { IfOk result FitsRequest }
     ensures refused { IfErr result (IsNoTaskFor (map S.text words.now)) }
     ensures told { IfErr result HasText }
 {

@@ -4,19 +4,19 @@ use Rattle.label_field.specs.declared.pair.Pair.{Pair}
 use Rattle.label_field.specs.LabelFields.{LabelField}
 use Rattle.label_field.specs.PairLists.{IsPair}
 use Rattle.labellings.specs.Energies.{Instance, IsInstance, IsMetric}
-use Rattle.cost_store.specs.Promises.{Answers}
-use Rattle.cost_store.specs.Posed.{Closure, gives, IsPosed, IsMeant, Fits, AreOfOneSize}
+use Rattle.cost_store.specs.Promises.{AnswersTable}
+use Rattle.cost_store.specs.Posed.{Closure, gives, IsPosed, IsMeant, FitsProblem, AreOfOneSize}
 use Rattle.cost_store.specs.declared.problem.Problem.{Problem}
 
 pub data_meant : {F V : Type 0} (f : Closure F) (v : Closure V) (p : Problem F V) (m : Instance) → IsPosed f v p → IsMeant f v p m
-    → Answers (gives f p.data_cost.f) m.data_cost p.data_cost.sites p.data_cost.labels
+    → AnswersTable (gives f p.data_cost.f) m.data_cost p.data_cost.sites p.data_cost.labels
 data_meant f v p m posed meant =
-    let A : ℕ → Type 0 = λ n. Answers (gives f p.data_cost.f) m.data_cost n p.data_cost.labels in subst A (sym posed.data_sites) meant.data_are
+    let A : ℕ → Type 0 = λ n. AnswersTable (gives f p.data_cost.f) m.data_cost n p.data_cost.labels in subst A (sym posed.data_sites) meant.data_are
 
 pub smooth_meant : {F V : Type 0} (f : Closure F) (v : Closure V) (p : Problem F V) (m : Instance) → IsPosed f v p → IsMeant f v p m
-    → Answers (gives v p.smooth_cost.v) m.smooth_cost p.smooth_cost.labels p.smooth_cost.labels
+    → AnswersTable (gives v p.smooth_cost.v) m.smooth_cost p.smooth_cost.labels p.smooth_cost.labels
 smooth_meant f v p m posed meant =
-    let A : ℕ → Type 0 = λ k. Answers (gives v p.smooth_cost.v) m.smooth_cost k k in subst A (sym posed.smooth_labels) meant.smooth_are
+    let A : ℕ → Type 0 = λ k. AnswersTable (gives v p.smooth_cost.v) m.smooth_cost k k in subst A (sym posed.smooth_labels) meant.smooth_are
 
 -- the instance's pairs are pairs of its sites
 pub pairs_meant : {F V : Type 0} (f : Closure F) (v : Closure V) (p : Problem F V) (m : Instance) → IsPosed f v p → IsMeant f v p m → IsInstance m
@@ -34,7 +34,7 @@ metric_meant f v p m posed meant stored =
     subst M (posed.smooth_labels ∙ sym meant.labels_are) (posed.smooth.metric stored m.smooth_cost (smooth_meant f v p m posed meant))
 
 -- a labelling of one size fits still
-pub fits_still : {F V : Type 0} (p : Problem F V) (old new : LabelField) → Fits p old → AreOfOneSize old new → Fits p new
+pub fits_still : {F V : Type 0} (p : Problem F V) (old new : LabelField) → FitsProblem p old → AreOfOneSize old new → FitsProblem p new
 fits_still p old new fits same = record { sites = same.sites ∙ fits.sites; labels = same.labels ∙ fits.labels }
 
 -- the same over the number of the problem's labels

@@ -3,7 +3,7 @@ use Rattle.std.proofs.Common.{◌≡◌, ◌≢◌, ◌⊎◌, ℕ, ◌+◌, ◌
 use Rattle.std.proofs.lemmas.Bool.{cases_lt}
 use Rattle.labellings.specs.Energies.{IsRatio}
 use Rattle.cost_store.specs.declared.ratio.Ratio.{Ratio}
-use Rattle.cost_store.specs.Ratios.{IsRatioSoFar, IsWider}
+use Rattle.cost_store.specs.Ratios.{IsRatioSoFar, IsWithCost}
 
 abbrev Met : ℕ → (ℕ → ℕ → ℕ) → ℕ → Type 0
 Met k cost value = (a : ℕ) × (b : ℕ) × (a < k) × (b < k) × (a ≢ b) × (cost a b ≡ value)
@@ -14,7 +14,7 @@ met_by k cost old new value row column lr lc apart is (inl same) met = (met.0, m
 met_by k cost old new value row column lr lc apart is (inr own) met = (row, column, lr, lc, apart, is ∙ sym own)
 
 -- a cost of two unequal labels more
-pub ratio_more : (k : ℕ) (cost : ℕ → ℕ → ℕ) (row column value : ℕ) (old new : Ratio) → row < k → column < k → row ≢ column → cost row column ≡ value → IsWider old new value
+pub ratio_more : (k : ℕ) (cost : ℕ → ℕ → ℕ) (row column value : ℕ) (old new : Ratio) → row < k → column < k → row ≢ column → cost row column ≡ value → IsWithCost old new value
     → new.least ≤ new.greatest → IsRatioSoFar k cost row column old → IsRatioSoFar k cost row (column + 1) new
 ratio_more k cost row column value old new lr lc apart is wider ordered so_far = record {
   ordered = ordered;

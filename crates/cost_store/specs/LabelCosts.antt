@@ -5,7 +5,7 @@ use Rattle.std.specs.Global.{Vec}
 use Rattle.label_field.specs.Limits.{label_limit}
 use Rattle.labellings.specs.Energies.{Instance, is_used}
 use Rattle.cost_store.specs.Limits.{label_cost_limit}
-use Rattle.cost_store.specs.Promises.{IsCost, IsFirstAbove}
+use Rattle.cost_store.specs.Promises.{IsCost, IsFirstOutside}
 use Rattle.cost_store.specs.declared.error.CostError.TheVariants.{CostRange as AtPlace}
 use Rattle.cost_store.specs.declared.error.LabelCostError.{LabelCostError}
 use Rattle.cost_store.specs.declared.error.LabelCostError.TheVariants.{CostRange, OutOfMemory}
@@ -47,5 +47,5 @@ pub record AreMarks (n : ℕ) (f : ℕ → ℕ) (marks : List Bool) : Type 0 whe
 
 -- why costs were not set: the first label whose cost is out of range, or memory was refused
 abbrev pub IsSetRefusal : List ℤ → LabelCostError → Type 0
-IsSetRefusal costs (CostRange label) = IsFirstAbove (pos label_cost_limit) costs (AtPlace label)
+IsSetRefusal costs (CostRange label) = IsFirstOutside (pos label_cost_limit) costs (AtPlace label)
 IsSetRefusal costs OutOfMemory = All (IsCost (pos label_cost_limit)) costs

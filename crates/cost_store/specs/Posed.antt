@@ -8,7 +8,7 @@ use Rattle.labellings.specs.declared.change.Move.{Move}
 use Rattle.labellings.specs.Energies.{Instance}
 use Rattle.labellings.specs.Moves.{IsMoveOf}
 use Rattle.cost_store.specs.Limits.{data_limit}
-use Rattle.cost_store.specs.Promises.{Answers, Keeps, KeepsSmooth}
+use Rattle.cost_store.specs.Promises.{AnswersTable, Keeps, KeepsSmooth}
 use Rattle.cost_store.specs.LabelCosts.{AreLabelCosts, HasCosts}
 use Rattle.cost_store.specs.declared.problem.Problem.{Problem}
 
@@ -39,8 +39,8 @@ pub record IsMeant {F V : Type 0} (f : Closure F) (v : Closure V) (p : Problem F
   pub sites_are : m.sites ≡ p.pairs.sites
   pub labels_are : m.labels ≡ p.data_cost.labels
   pub pairs_are : m.pairs ≡ p.pairs.list
-  pub data_are : Answers (gives f p.data_cost.f) m.data_cost p.pairs.sites p.data_cost.labels
-  pub smooth_are : Answers (gives v p.smooth_cost.v) m.smooth_cost p.data_cost.labels p.data_cost.labels
+  pub data_are : AnswersTable (gives f p.data_cost.f) m.data_cost p.pairs.sites p.data_cost.labels
+  pub smooth_are : AnswersTable (gives v p.smooth_cost.v) m.smooth_cost p.data_cost.labels p.data_cost.labels
   pub costs_are : HasCosts m p.label_costs
 
 -- this holds of each instance that the problem means
@@ -48,7 +48,7 @@ abbrev pub Meant : {F V : Type 0} → Closure F → Closure V → Problem F V �
 Meant {F} {V} f v p P = (m : Instance) → IsMeant f v p m → P m
 
 -- a labelling of the problem's sites by its labels
-pub record Fits {F V : Type 0} (p : Problem F V) (field : LabelField) : Type 0 where
+pub record FitsProblem {F V : Type 0} (p : Problem F V) (field : LabelField) : Type 0 where
   pub sites : length field.at ≡ p.pairs.sites
   pub labels : field.labels ≡ p.data_cost.labels
 

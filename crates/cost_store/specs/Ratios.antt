@@ -12,7 +12,7 @@ pub record IsRatioSoFar (k : ℕ) (cost : ℕ → ℕ → ℕ) (row column : ℕ
   pub greatest_met : (a : ℕ) × (b : ℕ) × (a < k) × (b < k) × (a ≢ b) × (cost a b ≡ ratio.greatest)
 
 -- the two numbers with one cost more
-pub record IsWider (old new : Ratio) (cost : ℕ) : Type 0 where
+pub record IsWithCost (old new : Ratio) (cost : ℕ) : Type 0 where
   pub least_is : (new.least ≡ old.least) ⊎ (new.least ≡ cost)
   pub least_old : new.least ≤ old.least
   pub least_new : new.least ≤ cost

@@ -1,6 +1,6 @@
 ghost use Rattle.std.specs.Prelude.{◌≡◌, ℕ, pos, ◌*◌, ◌/◌, ◌%◌, ◌^◌, ◌<◌, IfOk};
 ghost use Rattle.cost_store.specs.Limits.{data_limit};
-ghost use Rattle.cost_store.specs.Promises.{Keeps, Answers, IsTable, IsColumn};
+ghost use Rattle.cost_store.specs.Promises.{Keeps, AnswersTable, IsTable, IsColumn};
 
 use crate::DataCost;
 use rayon::prelude::*;
@@ -13,7 +13,7 @@ impl<F: Fn(u32, u32) -> i64> DataCost<F> {
         requires keeps { Keeps (F.pre self.now.f) (F.post self.now.f) self.now.sites self.now.labels data_limit }
         requires inside { place < self.now.sites * self.now.labels }
         requires small { self.now.sites < 2 ^ 32 }
-        ensures { (cost : ℕ → ℕ → ℕ) → Answers (F.post self.now.f) cost self.now.sites self.now.labels →
+        ensures { (cost : ℕ → ℕ → ℕ) → AnswersTable (F.post self.now.f) cost self.now.sites self.now.labels →
             result ≡ pos (cost (place / self.now.labels) (place % self.now.labels)) }
     {
         let labels = self.labels as usize;
@@ -30,7 +30,7 @@ impl<F: Fn(u32, u32) -> i64> DataCost<F> {
         F: Sync,
         requires keeps { Keeps (F.pre self.now.f) (F.post self.now.f) self.now.sites self.now.labels data_limit }
         ensures { IfOk result (λ table. (cost : ℕ → ℕ → ℕ) →
-            Answers (F.post self.now.f) cost self.now.sites self.now.labels →
+            AnswersTable (F.post self.now.f) cost self.now.sites self.now.labels →
             IsTable self.now.sites self.now.labels cost table.items) }
     {
         let count = self.sites as usize * self.labels as usize;
@@ -41,7 +41,7 @@ impl<F: Fn(u32, u32) -> i64> DataCost<F> {
                     requires { Keeps (F.pre self.now.f) (F.post self.now.f) self.now.sites self.now.labels data_limit
                         × (place < self.now.sites * self.now.labels) × (self.now.sites < 2 ^ 32) }
                     ensures { (cost : ℕ → ℕ → ℕ) →
-                        Answers (F.post self.entry.now.f) cost self.entry.now.sites self.entry.now.labels →
+                        AnswersTable (F.post self.entry.now.f) cost self.entry.now.sites self.entry.now.labels →
                         result ≡ pos (cost (place / self.entry.now.labels) (place % self.entry.now.labels)) }
                 { self.cost_at(place) },
             )
@@ -55,7 +55,7 @@ impl<F: Fn(u32, u32) -> i64> DataCost<F> {
         F: Sync,
         requires keeps { Keeps (F.pre self.now.f) (F.post self.now.f) self.now.sites self.now.labels data_limit }
         ensures { IfOk result (λ table. (cost : ℕ → ℕ → ℕ) →
-            Answers (F.post self.now.f) cost self.now.sites self.now.labels →
+            AnswersTable (F.post self.now.f) cost self.now.sites self.now.labels →
             IsTable self.now.sites self.now.labels cost table.items) }
     {
         match self.fill_by_threads(rt, alloc) {
@@ -69,7 +69,7 @@ impl<F: Fn(u32, u32) -> i64> DataCost<F> {
         requires keeps { Keeps (F.pre self.now.f) (F.post self.now.f) self.now.sites self.now.labels data_limit }
         requires inside { label < self.now.labels }
         ensures { IfOk result (λ column. (cost : ℕ → ℕ → ℕ) →
-            Answers (F.post self.now.f) cost self.now.sites self.now.labels →
+            AnswersTable (F.post self.now.f) cost self.now.sites self.now.labels →
             IsColumn self.now.sites label cost column.items) }
     {
         let mut column = Vec::with_capacity(alloc, self.sites as usize)?;
@@ -91,7 +91,7 @@ impl<F: Fn(u32, u32) -> i64> DataCost<F> {
         requires keeps { Keeps (F.pre self.now.f) (F.post self.now.f) self.now.sites self.now.labels data_limit }
         requires inside { label < self.now.labels }
         ensures { IfOk result (λ column. (cost : ℕ → ℕ → ℕ) →
-            Answers (F.post self.now.f) cost self.now.sites self.now.labels →
+            AnswersTable (F.post self.now.f) cost self.now.sites self.now.labels →
             IsColumn self.now.sites label cost column.items) }
     {
         (0..self.sites)
@@ -101,7 +101,7 @@ impl<F: Fn(u32, u32) -> i64> DataCost<F> {
                     requires { Keeps (F.pre self.now.f) (F.post self.now.f) self.now.sites self.now.labels data_limit
                         × (site < self.now.sites) × (label < self.now.labels) }
                     ensures { (cost : ℕ → ℕ → ℕ) →
-                        Answers (F.post self.entry.now.f) cost self.entry.now.sites self.entry.now.labels →
+                        AnswersTable (F.post self.entry.now.f) cost self.entry.now.sites self.entry.now.labels →
                         result ≡ pos (cost site label) }
                 { self.cost(site, label) },
             )
@@ -121,7 +121,7 @@ impl<F: Fn(u32, u32) -> i64> DataCost<F> {
         requires keeps { Keeps (F.pre self.now.f) (F.post self.now.f) self.now.sites self.now.labels data_limit }
         requires inside { label < self.now.labels }
         ensures { IfOk result (λ column. (cost : ℕ → ℕ → ℕ) →
-            Answers (F.post self.now.f) cost self.now.sites self.now.labels →
+            AnswersTable (F.post self.now.f) cost self.now.sites self.now.labels →
             IsColumn self.now.sites label cost column.items) }
     {
         match self.fill_column_by_threads(rt, alloc, label) {

@@ -5,7 +5,7 @@ ghost use Rattle.label_field.specs.PairLists.{IsPair};
 ghost use Rattle.labellings.specs.Energies.{IsInstance, IsMetric, labelling as labels_of, energy as energy_of, data_energy as data_of, smooth_energy as smooth_of, label_energy as label_of, pair_cost as cost_of_pair};
 ghost use Rattle.cost_store.specs.Limits.{data_energy_limit, smooth_energy_limit, label_energy_limit, site_cost_limit, pair_cost_limit};
 ghost use Rattle.cost_store.specs.LabelCosts.{costs_of as costs_in, AreLabelCosts, IsSetRefusal};
-ghost use Rattle.cost_store.specs.Posed.{IsPosed, Meant, Fits};
+ghost use Rattle.cost_store.specs.Posed.{IsPosed, Meant, FitsProblem};
 
 use crate::by_label::total_paid;
 use crate::{
@@ -61,7 +61,7 @@ impl<F: Fn(u32, u32) -> i64 + Sync, V: Fn(u32, u32) -> i64 + Sync> Problem<F, V>
     /// What the labels cost the sites. It takes no memory.
     pub fn data_energy(&self, labelling: &Labelling) -> i64
         requires posed { IsPosed F.Fn V.Fn self.now }
-        requires fits { Fits self.now labelling.now }
+        requires fits { FitsProblem self.now labelling.now }
         ensures energy { Meant F.Fn V.Fn self.now
             (λ m. result ≡ pos (data_of m (labels_of labelling.now.at))) }
         ensures range { (pos 0 ≤ℤ result) × (result ≤ℤ pos data_energy_limit) }
@@ -90,7 +90,7 @@ impl<F: Fn(u32, u32) -> i64 + Sync, V: Fn(u32, u32) -> i64 + Sync> Problem<F, V>
     /// What the labels cost the pairs. It takes no memory.
     pub fn smooth_energy(&self, labelling: &Labelling) -> i64
         requires posed { IsPosed F.Fn V.Fn self.now }
-        requires fits { Fits self.now labelling.now }
+        requires fits { FitsProblem self.now labelling.now }
         ensures energy { Meant F.Fn V.Fn self.now
             (λ m. result ≡ pos (smooth_of m (labels_of labelling.now.at))) }
         ensures range { (pos 0 ≤ℤ result) × (result ≤ℤ pos smooth_energy_limit) }
@@ -120,7 +120,7 @@ impl<F: Fn(u32, u32) -> i64 + Sync, V: Fn(u32, u32) -> i64 + Sync> Problem<F, V>
     /// What the labels that some site has cost by themselves. It takes no memory.
     pub fn label_energy(&self, labelling: &Labelling) -> i64
         requires posed { IsPosed F.Fn V.Fn self.now }
-        requires fits { Fits self.now labelling.now }
+        requires fits { FitsProblem self.now labelling.now }
         ensures energy { Meant F.Fn V.Fn self.now
             (λ m. result ≡ pos (label_of m (labels_of labelling.now.at))) }
         ensures range { (pos 0 ≤ℤ result) × (result ≤ℤ pos label_energy_limit) }
@@ -132,7 +132,7 @@ impl<F: Fn(u32, u32) -> i64 + Sync, V: Fn(u32, u32) -> i64 + Sync> Problem<F, V>
     /// The energy of a labelling. It takes no memory.
     pub fn energy(&self, labelling: &Labelling) -> i64
         requires posed { IsPosed F.Fn V.Fn self.now }
-        requires fits { Fits self.now labelling.now }
+        requires fits { FitsProblem self.now labelling.now }
         ensures { Meant F.Fn V.Fn self.now
             (λ m. result ≡ pos (energy_of m (labels_of labelling.now.at))) }
     {

@@ -1,8 +1,8 @@
 //! The least and the greatest cost of two unequal labels.
 ghost use Rattle.std.specs.Prelude.{◌≡◌, ◌+◌, ◌<◌, ◌≤◌, ℕ};
 ghost use Rattle.labellings.specs.Energies.{IsRatio};
-ghost use Rattle.cost_store.specs.Promises.{Answers, KeepsSmooth};
-ghost use Rattle.cost_store.specs.Ratios.{IsRatioSoFar, IsWider};
+ghost use Rattle.cost_store.specs.Promises.{AnswersTable, KeepsSmooth};
+ghost use Rattle.cost_store.specs.Ratios.{IsRatioSoFar, IsWithCost};
 
 use crate::SmoothCost;
 
@@ -17,7 +17,7 @@ impl Ratio {
     /// With one cost more.
     fn with(self, cost: u64) -> Ratio
         requires { self.least ≤ self.greatest }
-        ensures wider { IsWider self result cost }
+        ensures wider { IsWithCost self result cost }
         ensures ordered { result.least ≤ result.greatest }
     {
         if cost < self.least {
@@ -44,7 +44,7 @@ impl<V: Fn(u32, u32) -> i64> SmoothCost<V> {
         requires inside { (first < self.now.labels) × (second < self.now.labels) }
         requires ordered { seen.least ≤ seen.greatest }
         ensures ratio { (cost : ℕ → ℕ → ℕ) →
-            Answers (V.post self.now.v) cost self.now.labels self.now.labels →
+            AnswersTable (V.post self.now.v) cost self.now.labels self.now.labels →
             IsRatioSoFar self.now.labels cost first second seen →
             IsRatioSoFar self.now.labels cost first (second + 1) result }
         ensures ordered { result.least ≤ result.greatest }
@@ -62,7 +62,7 @@ impl<V: Fn(u32, u32) -> i64> SmoothCost<V> {
         requires inside { first < self.now.labels }
         requires ordered { seen.least ≤ seen.greatest }
         ensures ratio { (cost : ℕ → ℕ → ℕ) →
-            Answers (V.post self.now.v) cost self.now.labels self.now.labels →
+            AnswersTable (V.post self.now.v) cost self.now.labels self.now.labels →
             IsRatioSoFar self.now.labels cost first 0 seen →
             IsRatioSoFar self.now.labels cost first self.now.labels result }
         ensures ordered { result.least ≤ result.greatest }
@@ -79,7 +79,7 @@ impl<V: Fn(u32, u32) -> i64> SmoothCost<V> {
     pub fn ratio(&self) -> Ratio
         requires keeps { KeepsSmooth (V.pre self.now.v) (V.post self.now.v) self.now.labels
             self.now.by_metric }
-        ensures { (cost : ℕ → ℕ → ℕ) → Answers (V.post self.now.v) cost self.now.labels self.now.labels →
+        ensures { (cost : ℕ → ℕ → ℕ) → AnswersTable (V.post self.now.v) cost self.now.labels self.now.labels →
             IsRatio self.now.labels cost result.least result.greatest }
     {
         if self.labels < 2 {

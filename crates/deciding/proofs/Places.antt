@@ -16,7 +16,7 @@ use Rattle.move_energy.specs.Choices.{bit_of, choice_at}
 use Rattle.move_energy.proofs.Joins.{read_at}
 use Rattle.deciding.specs.declared.bounds.Bounds.{Bounds}
 use Rattle.deciding.specs.Decisions.{put}
-use Rattle.deciding.specs.Working.{bound_at, room_of, IsWithinRange, IsLooking, IsMarked, AreWaiting, AreWaitingBut, ArePartlyDecided, CanDecide}
+use Rattle.deciding.specs.Working.{bound_at, budget_of, IsWithinRange, IsLooking, IsMarked, AreWaiting, AreWaitingBut, ArePartlyDecided, CanDecide}
 use Rattle.move_energy.proofs.PairEnds.{Touches, end_touches}
 use Rattle.deciding.proofs.Ranges.{range_wider, below_not, tells_same}
 use Rattle.deciding.proofs.Left.{degree_most}
@@ -96,9 +96,9 @@ on_ok_two (Ok v) P Q R f p q = f p q
 on_ok_two (Err e) P Q R f p q = tt
 
 pub room_grows : (old new d most : ℕ) (was b : Bounds) → new + d ≡ old → old ≤ 2 * most → most ≤ 4194304 → ((n : ℕ) → IsWithinRange n was → IsWithinRange (n + 20000000 * d) b)
-    → IsWithinRange (room_of old) was → IsWithinRange (room_of new) b
+    → IsWithinRange (budget_of old) was → IsWithinRange (budget_of new) b
 room_grows old new d most was b less few limit range within =
-    range_wider (room_of old + 20000000 * d) (room_of new) b (omega (arith, less, few, limit)) (range (room_of old) within)
+    range_wider (budget_of old + 20000000 * d) (budget_of new) b (omega (arith, less, few, limit)) (range (budget_of old) within)
 
 -- the waiting sites are not part of what was decided
 pub partly_same : (m : Instance) (move : Move) (f : ℕ → ℕ) (n : ℕ) (old new : Bounds) → new.choices ≡ old.choices → new.least ≡ old.least → new.greatest ≡ old.greatest

@@ -15,7 +15,7 @@ use Rattle.labellings.specs.Energies.{Instance, IsInstance}
 use Rattle.labellings.specs.Moves.{label_in}
 use Rattle.deciding.specs.Decisions.{rise}
 use Rattle.deciding.specs.MoveValues.{move_value, data_rise, pair_rise}
-use Rattle.deciding.specs.Working.{AreEnds, AreTurned, end_rise, room_of}
+use Rattle.deciding.specs.Working.{AreEnds, AreTurned, end_rise, budget_of}
 use Rattle.deciding.proofs.Rises.{rise_parts, pair_rise-first, pair_rise-second, pair_rise-none}
 
 -- ---- one pair
@@ -132,5 +132,5 @@ pub sum_passed : (z : ℤ) (k : ℕ) → unsigned_abs z ≤ 10000000 + 10000000 
 sum_passed z k within few = to_z-of_z w64 z (within_fits 100000000000000 z (omega (arith, within, few)) (lit< tt))
 
 -- there is room for it
-pub sum_room : (z : ℤ) (k n : ℕ) → unsigned_abs z ≤ 10000000 + 10000000 * k → k ≤ 8388608 → n ≤ 8388608 → unsigned_abs (to_z w64 (of_z w64 z)) ≤ room_of n
+pub sum_room : (z : ℤ) (k n : ℕ) → unsigned_abs z ≤ 10000000 + 10000000 * k → k ≤ 8388608 → n ≤ 8388608 → unsigned_abs (to_z w64 (of_z w64 z)) ≤ budget_of n
 sum_room z k n within few left = (let e = ap unsigned_abs (sum_passed z k within few) in omega (arith, e, within, few, left))

@@ -19,7 +19,7 @@ use Rattle.move_energy.specs.Choices.{bit_of, choice_at}
 use Rattle.deciding.specs.declared.bounds.Bounds.{Bounds}
 use Rattle.deciding.specs.Decisions.{Decision, set_bit, put, rise, Passes}
 use Rattle.deciding.specs.MoveValues.{move_value, data_rise, pair_rise}
-use Rattle.deciding.specs.Working.{bound_at, Tells, IsMarked, ArePartlyDecided, SeesPair}
+use Rattle.deciding.specs.Working.{bound_at, TellsValue, IsMarked, ArePartlyDecided, SeesPair}
 use Rattle.deciding.proofs.Putting.{set_at, set_other}
 use Rattle.deciding.proofs.Rises.{rise_parts}
 use Rattle.deciding.proofs.Seeing.{pair_rise-same}
@@ -154,13 +154,13 @@ all_seen m move f site value u x seen are none =
     ])
 
 passes_of : (m : Instance) (move : Move) (f : ℕ → ℕ) (n site : ℕ) (value : Bool) (old : Bounds) → (decided : ArePartlyDecided m move f n old) → site < n
-    → choice_at old.choices.items site ≡ Open → Tells old site value → Passes (move_value m move f) decided.decisions site value
+    → choice_at old.choices.items site ≡ Open → TellsValue old site value → Passes (move_value m move f) decided.decisions site value
 passes_of m move f n site false old decided l opened tells = (let e = decided.least site l opened in let P : ℤ → Type 0 = λ z. pos 0 ≤ℤ z in subst P e tells)
 passes_of m move f n site true old decided l opened tells = (let e = decided.greatest site l opened in let P : ℤ → Type 0 = λ z. z <ℤ pos 0 in subst P e tells)
 
 -- after the last
 pub spread_end : (m : Instance) (move : Move) (f : ℕ → ℕ) (n site : ℕ) (value : Bool) (ends : Groups) (place : ℕ) (old mid new : Bounds)
-    → IsInstance m → n ≤ m.sites → site < n → (decided : ArePartlyDecided m move f n old) → choice_at old.choices.items site ≡ Open → Tells old site value
+    → IsInstance m → n ≤ m.sites → site < n → (decided : ArePartlyDecided m move f n old) → choice_at old.choices.items site ≡ Open → TellsValue old site value
     → IsMarked site value old mid → new.choices ≡ mid.choices
     → start_of ends (site + 1) ≤ place → IsSpread m move f n decided.decisions site value ends place new → ArePartlyDecided m move f n new
 spread_end m move f n site value ends place old mid new are most inside decided was tells marked same past spread =

@@ -4,3 +4,4 @@ pub mod MoveValues
 pub mod Working
 pub mod Decided
 pub mod Listed
+pub mod Laws

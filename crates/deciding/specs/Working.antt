@@ -34,17 +34,17 @@ left ends n choices = sum_below n (λ u. counted (is_open (choice_at choices u))
 
 -- how large a bound may be while so many ends are left: each end that is looked at changes one by at most a
 -- surplus
-abbrev pub room_of : ℕ → ℕ
-room_of n = bound_limit - surplus_limit * n
+abbrev pub budget_of : ℕ → ℕ
+budget_of n = bound_limit - surplus_limit * n
 
 -- the bounds of a site tell that it has this value
-abbrev pub Tells : Bounds → ℕ → Bool → Type 0
-Tells b u false = pos 0 ≤ℤ bound_at b.least.items u
-Tells b u true = bound_at b.greatest.items u <ℤ pos 0
+abbrev pub TellsValue : Bounds → ℕ → Bool → Type 0
+TellsValue b u false = pos 0 ≤ℤ bound_at b.least.items u
+TellsValue b u true = bound_at b.greatest.items u <ℤ pos 0
 
 -- the bounds of a site tell its value
 abbrev pub CanDecide : Bounds → ℕ → Type 0
-CanDecide b u = Tells b u false ⊎ Tells b u true
+CanDecide b u = TellsValue b u false ⊎ TellsValue b u true
 
 -- how many sites were summed: those that have bounds
 abbrev pub summed : Bounds → ℕ
@@ -57,14 +57,14 @@ pub record IsSummed (n : ℕ) (b : Bounds) : Type 0 where
   pub within : length b.least.items ≤ n
 
 -- a choice and two bounds of each of n sites
-pub record IsSized (n : ℕ) (b : Bounds) : Type 0 where
+pub record AreOfSites (n : ℕ) (b : Bounds) : Type 0 where
   pub choices : length b.choices.items ≡ n
   pub least : length b.least.items ≡ n
   pub greatest : length b.greatest.items ≡ n
 
 -- there are no sites, and none waits
 pub record AreOfNoSites (b : Bounds) : Type 0 where
-  pub sized : IsSized 0 b
+  pub sized : AreOfSites 0 b
   pub none : length b.waiting.items ≡ 0
 
 -- exactly the sites that the move can change are open, the others are at 0, none was summed, and none waits

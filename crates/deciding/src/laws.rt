@@ -2,12 +2,13 @@
 //! is of submodular functions of an assignment, the next three of any function, the last of the labellings that a
 //! move makes.
 
-ghost use Rattle.std.specs.Prelude.{◌≡◌, ℕ, ◌<◌, ◌≤◌, Bool, List, ℤ};
+ghost use Rattle.std.specs.Prelude.{ℕ, ◌≤◌, Bool, List, ℤ};
 ghost use Rattle.compile_cut.specs.Shown.{Hides};
 ghost use Rattle.labellings.specs.declared.change.Move.{Move};
 ghost use Rattle.labellings.specs.Energies.{Instance, IsInstance};
 ghost use Rattle.labellings.specs.Moves.{IsAllowed};
-ghost use Rattle.deciding.specs.Decisions.{Decision, put, Passes, HavePassed, IsForced, AreForced, IsSubmodular, IsOver, IsSmallestLeast, IsRest};
+ghost use Rattle.deciding.specs.Decisions.{Decision, Passes, HavePassed, IsForced, AreForced, IsSubmodular, IsOver, IsSmallestLeast};
+ghost use Rattle.deciding.specs.Laws.{ForcedIsLeast, RestAndForcedIsLeast, PassedSitesAreForced};
 ghost use Rattle.deciding.specs.MoveValues.{move_value};
 
 /// What passes the test is forced, in a function whose rises fall.
@@ -20,15 +21,12 @@ pub fn passed_is_forced()
 
 /// Each forced variable has its value in the least assignment with the fewest ones.
 pub fn forced_is_least()
-    ensures { (n : ℕ) (E : (ℕ → Bool) → ℤ) (ds : List Decision) (x : ℕ → Bool) (i : ℕ) → AreForced E ds →
-        IsSmallestLeast n E x → i < n → put ds x i ≡ x i }
+    ensures { ForcedIsLeast }
 {}
 
 /// The least assignment with the fewest ones of what is left, put together with the forced values, is that of the whole.
 pub fn rest_and_forced_is_least()
-    ensures { (n : ℕ) (E : (ℕ → Bool) → ℤ) (ds : List Decision) (r : ℕ) (R : (ℕ → Bool) → ℤ) (number
-        variable : ℕ → ℕ) (z : ℕ → Bool) → IsOver n E → AreForced E ds → IsRest n E ds r R number variable →
-        IsSmallestLeast r R z → IsSmallestLeast n E (put ds (λ i. z (number i))) }
+    ensures { RestAndForcedIsLeast }
 {}
 
 /// The least assignment with the fewest ones of a function that hides variables is, on the variables that are not hidden,
@@ -45,6 +43,5 @@ pub fn move_is_submodular()
         IsSubmodular (move_value m move f) }
     ensures sites { (m : Instance) (move : Move) (f : ℕ → ℕ) → IsInstance m →
         IsOver m.sites (move_value m move f) }
-    ensures passed { (m : Instance) (move : Move) (f : ℕ → ℕ) (ds : List Decision) → IsInstance m →
-        IsAllowed m move f → HavePassed (move_value m move f) ds → AreForced (move_value m move f) ds }
+    ensures passed { PassedSitesAreForced }
 {}

@@ -11,7 +11,7 @@ ghost use Rattle.move_energy.specs.declared.choice.Choice.TheVariants.{Open};
 ghost use Rattle.move_energy.specs.Choices.{choice_at, bit_of};
 ghost use Rattle.cost_store.specs.Limits.{site_cost_limit};
 ghost use Rattle.move_energy.specs.Limits.{surplus_limit};
-ghost use Rattle.deciding.specs.Working.{bound_at, summed, CanDecide, Tells, IsMarked, IsSummed, IsWithinRange, AreWaiting, AreWaitingBut, ArePartlyDecided, SeesPair, IsLooking, Shifts, least_shift as least_shift_of, greatest_shift as greatest_shift_of, left, room_of, greatest_total};
+ghost use Rattle.deciding.specs.Working.{bound_at, summed, CanDecide, TellsValue, IsMarked, IsSummed, IsWithinRange, AreWaiting, AreWaitingBut, ArePartlyDecided, SeesPair, IsLooking, Shifts, least_shift as least_shift_of, greatest_shift as greatest_shift_of, left, budget_of, greatest_total};
 
 use crate::Bounds;
 use crate::rising::other_end;
@@ -162,7 +162,7 @@ impl Bounds {
             length self.old.waiting.items + degree ends.now site) }
         ensures left { OnOk result (left ends.now (length at.now) self.new.choices.items
             + degree ends.now site ≡ left ends.now (length at.now) self.old.choices.items) }
-        ensures decided { OnOk result (Meant F.Fn V.Fn problem.now (λ m. Tells self.old site value →
+        ensures decided { OnOk result (Meant F.Fn V.Fn problem.now (λ m. TellsValue self.old site value →
             ArePartlyDecided m change (labelling at.now) (summed self.old) self.old →
             ArePartlyDecided m change (labelling at.now) (summed self.old) self.new)) }
     {
@@ -178,7 +178,7 @@ impl Bounds {
     fn told_value(&self, site: usize) -> bool
         requires site { (site < length self.now.least.items) × (site < length self.now.greatest.items) }
         requires told { CanDecide self.now site }
-        ensures { Tells self.now site result }
+        ensures { TellsValue self.now site result }
     {
         self.least[site] < 0
     }
@@ -200,7 +200,7 @@ impl Bounds {
         requires left { left ends.now (length at.now) self.old.choices.items ≤ 2 * length
             problem.now.pairs.list }
         requires range { IsWithinRange
-            (room_of (left ends.now (length at.now) self.old.choices.items)) self.old }
+            (budget_of (left ends.now (length at.now) self.old.choices.items)) self.old }
         requires waiting { AreWaitingBut (summed self.old) site self.old }
         ensures sized { OnOk result (IsSummed (length at.now) self.new) }
         ensures same { OnOk result (summed self.new ≡ summed self.old) }
@@ -208,7 +208,7 @@ impl Bounds {
         ensures left { OnOk result (left ends.now (length at.now) self.new.choices.items ≤
             2 * length problem.now.pairs.list) }
         ensures range { OnOk result (IsWithinRange
-            (room_of (left ends.now (length at.now) self.new.choices.items)) self.new) }
+            (budget_of (left ends.now (length at.now) self.new.choices.items)) self.new) }
         ensures total { OnOk result (greatest_total self.new
             + surplus_limit * left ends.now (length at.now) self.new.choices.items ≤ greatest_total self.old
             + surplus_limit * left ends.now (length at.now) self.old.choices.items) }
@@ -242,7 +242,7 @@ impl Bounds {
         requires left { left ends.now (length at.now) self.old.choices.items ≤ 2 * length
             problem.now.pairs.list }
         requires range { IsWithinRange
-            (room_of (left ends.now (length at.now) self.old.choices.items)) self.old }
+            (budget_of (left ends.now (length at.now) self.old.choices.items)) self.old }
         requires waiting { AreWaiting (summed self.old) self.old }
         ensures sized { OnOk result (IsSummed (length at.now) self.new) }
         ensures same { OnOk result (summed self.new ≡ summed self.old) }
@@ -251,7 +251,7 @@ impl Bounds {
         ensures left { OnOk result (left ends.now (length at.now) self.new.choices.items ≤
             2 * length problem.now.pairs.list) }
         ensures range { OnOk result (IsWithinRange
-            (room_of (left ends.now (length at.now) self.new.choices.items)) self.new) }
+            (budget_of (left ends.now (length at.now) self.new.choices.items)) self.new) }
         ensures total { OnOk result (greatest_total self.new
             + surplus_limit * left ends.now (length at.now) self.new.choices.items ≤ greatest_total self.old
             + surplus_limit * left ends.now (length at.now) self.old.choices.items) }

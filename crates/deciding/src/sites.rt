@@ -9,7 +9,7 @@ ghost use Rattle.labellings.specs.Energies.{labelling};
 ghost use Rattle.cost_store.specs.Posed.{IsPosed, IsAsked, Meant};
 ghost use Rattle.deciding.specs.Decided.{IsDecidedMove};
 ghost use Rattle.deciding.specs.Listed.{AreListed, AreEmpty};
-ghost use Rattle.deciding.specs.Working.{IsSized, AreOfNoSites};
+ghost use Rattle.deciding.specs.Working.{AreOfSites, AreOfNoSites};
 
 use crate::testing::test_terms;
 use crate::{Bounds, Lists};
@@ -80,7 +80,7 @@ impl Deciding {
         requires by_site { AreBySite problem.now.pairs self.old.ends }
         ensures kept { self.new.ends ≡ self.old.ends }
         ensures count { OnOk result (length self.new.bounds.choices.items ≡ length at.now) }
-        ensures sized { OnOk result (IsSized (length at.now) self.new.bounds) }
+        ensures sized { OnOk result (AreOfSites (length at.now) self.new.bounds) }
         ensures weights { Meant F.Fn V.Fn problem.now (λ m. OnOk result (AreWeights m change
             (labelling at.now) (choice_at self.new.bounds.choices.items) self.new.bounds.greatest.items)) }
         ensures small { OnOk result (weights_size self.new.bounds.greatest.items ≤ weights_limit) }

@@ -8,7 +8,7 @@ ghost use Rattle.labellings.specs.Energies.{labelling};
 ghost use Rattle.cost_store.specs.Posed.{IsPosed, IsAsked, Meant};
 ghost use Rattle.move_energy.specs.declared.choice.Choice.TheVariants.{Open, One};
 ghost use Rattle.move_energy.specs.Choices.{choice_at, Changes};
-ghost use Rattle.deciding.specs.Working.{summed, CanDecide, IsSized, IsSummed, IsWithinRange, AddsBounds, AreUndecided, AreWaiting, ArePartlyDecided, left, room_of, greatest_total};
+ghost use Rattle.deciding.specs.Working.{summed, CanDecide, AreOfSites, IsSummed, IsWithinRange, AddsBounds, AreUndecided, AreWaiting, ArePartlyDecided, left, budget_of, greatest_total};
 
 use crate::Bounds;
 use crate::rising::site_rises;
@@ -96,13 +96,13 @@ impl Bounds {
         requires left { left ends.now (length at.now) self.old.choices.items ≤ 2 * length
             problem.now.pairs.list }
         requires range { IsWithinRange
-            (room_of (left ends.now (length at.now) self.old.choices.items)) self.old }
+            (budget_of (left ends.now (length at.now) self.old.choices.items)) self.old }
         requires waiting { AreWaiting site self.old }
         ensures same { self.new.choices ≡ self.old.choices }
         ensures summed { OnOk result (summed self.new ≡ site + 1) }
         ensures sized { OnOk result (IsSummed (length at.now) self.new) }
         ensures range { OnOk result (IsWithinRange
-            (room_of (left ends.now (length at.now) self.old.choices.items)) self.new) }
+            (budget_of (left ends.now (length at.now) self.old.choices.items)) self.new) }
         ensures total { OnOk result (greatest_total self.new ≤ greatest_total self.old + site_cost_limit
             + pair_cost_limit * degree ends.now site) }
         ensures waiting { OnOk result (AreWaiting (site + 1) self.new) }
@@ -130,7 +130,7 @@ impl Bounds {
         requires asked { IsAsked problem.now at.now change }
         requires by_site { AreBySite problem.now.pairs ends.now }
         requires undecided { AreUndecided change at.now self.old }
-        ensures sized { OnOk result (IsSized (length at.now) self.new) }
+        ensures sized { OnOk result (AreOfSites (length at.now) self.new) }
         ensures total { OnOk result (greatest_total self.new ≤ weights_limit) }
         ensures none { OnOk result ((u : ℕ) → u < length at.now → choice_at self.new.choices.items u ≡ Open →
             ¬ CanDecide self.new u) }

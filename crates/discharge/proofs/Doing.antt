@@ -4,12 +4,12 @@ use mathlib.Core.Path.{fun_ext}
 use Rattle.std.proofs.lemmas.Bool.{cases_eq, cases_lt}
 use Rattle.std.proofs.lemmas.List.{length-set, set_past}
 use Rattle.parcel.specs.declared.message.Message.TheVariants.{Parcel}
-use Rattle.block_net.specs.declared.rows.Border.{Border}
-use Rattle.block_net.specs.Views.{MayPush, MaySend, BlockView, excess_in, label_in, room_in, lane_in, border_in, no_border, pushed, given, labelled, sent, highest}
+use Rattle.block_net.specs.declared.lanes.Border.{Border}
+use Rattle.block_net.specs.Views.{MayPush, MaySend, CellsView, excess_in, label_in, room_in, lane_in, border_in, no_border, pushed, given, labelled, sent, highest}
 use Rattle.discharge.specs.Seen.{Seen, IsLook, IsPut, add_to}
 use Rattle.discharge.specs.Steps.{Push, Give, Rise, Send, IsOfNode, IsBorderOfNode, parcel_of}
 use Rattle.discharge.specs.Active.{IsActive}
-use Rattle.discharge.specs.Works.{IsAlike, Does}
+use Rattle.discharge.specs.Works.{IsAlike, DoesEvents}
 use Rattle.discharge.proofs.Runs.{does_one, look_sent, look_taken}
 
 -- a row that leads to the same block in a row's stead
@@ -24,8 +24,8 @@ to_kept xs j row e i = elim (cases_eq i j) [
 
 -- ---- the sink
 
-pub does_give : (b b' : BlockView) (s : Seen) (v a : ℕ) → IsActive b v → 0 < room_in b v → label_in b v ≡ 1 → a ≡ min (excess_in b v) (room_in b v) → b' ≡ given b v a
-    → Does b s 1 b' s
+pub does_give : (b b' : CellsView) (s : Seen) (v a : ℕ) → IsActive b v → 0 < room_in b v → label_in b v ≡ 1 → a ≡ min (excess_in b v) (room_in b v) → b' ≡ given b v a
+    → DoesEvents b s 1 b' s
 does_give b b' s v a active room label is made =
     let at : b' ≡ given b v (min (excess_in b v) (room_in b v)) = made ∙ ap (given b v) is in
     let alike : IsAlike b (given b v (min (excess_in b v) (room_in b v))) = record {
@@ -37,12 +37,12 @@ does_give b b' s v a active room label is made =
       borders = refl;
       tos = λ i. refl;
     } in
-    subst (λ (x : BlockView). Does b s 1 x s) (sym at) (does_one b _ s s (Give v) (active, room, label) refl alike)
+    subst (λ (x : CellsView). DoesEvents b s 1 x s) (sym at) (does_one b _ s s (Give v) (active, room, label) refl alike)
 
 -- ---- a direction within the block
 
-pub does_push : (b b' : BlockView) (s : Seen) (v j a : ℕ) → IsActive b v → IsOfNode b v j → MayPush b v j → a ≡ min (excess_in b v) (lane_in b j).residual → b' ≡ pushed b v j a
-    → Does b s 1 b' s
+pub does_push : (b b' : CellsView) (s : Seen) (v j a : ℕ) → IsActive b v → IsOfNode b v j → MayPush b v j → a ≡ min (excess_in b v) (lane_in b j).residual → b' ≡ pushed b v j a
+    → DoesEvents b s 1 b' s
 does_push b b' s v j a active lane may is made =
     let z = min (excess_in b v) (lane_in b j).residual in
     let at : b' ≡ pushed b v j z = made ∙ ap (pushed b v j) is in
@@ -57,13 +57,13 @@ does_push b b' s v j a active lane may is made =
       borders = refl;
       tos = λ i. refl;
     } in
-    subst (λ (x : BlockView). Does b s 1 x s) (sym at) (does_one b _ s s (Push v j) (active, lane, may) refl alike)
+    subst (λ (x : CellsView). DoesEvents b s 1 x s) (sym at) (does_one b _ s s (Push v j) (active, lane, may) refl alike)
 
 -- ---- another block
 
-pub does_send : (b b' : BlockView) (s t u : Seen) (v j a d : ℕ) (x : Border) → IsActive b v → IsBorderOfNode b v j → MaySend b v j → x ≡ border_in b j → d ≡ label_in b v
+pub does_send : (b b' : CellsView) (s t u : Seen) (v j a d : ℕ) (x : Border) → IsActive b v → IsBorderOfNode b v j → MaySend b v j → x ≡ border_in b j → d ≡ label_in b v
     → a ≡ min (excess_in b v) x.residual → b' ≡ sent b v j a → IsLook s t → IsPut x.to (Parcel x.direction a d) t u
-    → Does b s 1 b' u
+    → DoesEvents b s 1 b' u
 does_send b b' s t u v j a d x active border may is_x is_d is made look put =
     let z = min (excess_in b v) (border_in b j).residual in
     let is_a : a ≡ z = is ∙ ap (λ (y : Border). min (excess_in b v) y.residual) is_x in
@@ -79,13 +79,13 @@ does_send b b' s t u v j a d x active border may is_x is_d is made look put =
     } in
     let sent_is : u.sent ≡ add_to s.sent (border_in b j).to (parcel_of b v j) = fun_ext put.sent ∙ rw (look_sent s t look, is_a, is_d, is_x) refl in
     let taken_is : u.taken ≡ s.taken = fun_ext put.taken ∙ look_taken s t look in
-    subst (λ (y : BlockView). Does b s 1 y u) (sym at) (does_one b _ s u (Send v j) (active, border, may) (rw (sent_is, taken_is) refl) alike)
+    subst (λ (y : CellsView). DoesEvents b s 1 y u) (sym at) (does_one b _ s u (Send v j) (active, border, may) (rw (sent_is, taken_is) refl) alike)
 
 -- ---- a label
 
-pub does_rise : (b b' : BlockView) (s : Seen) (v d : ℕ) → IsActive b v → label_in b v < d → d ≡ highest b v → b' ≡ labelled b v d → Does b s 1 b' s
+pub does_rise : (b b' : CellsView) (s : Seen) (v d : ℕ) → IsActive b v → label_in b v < d → d ≡ highest b v → b' ≡ labelled b v d → DoesEvents b s 1 b' s
 does_rise b b' s v d active high is made =
     let at : b' ≡ labelled b v (highest b v) = made ∙ ap (labelled b v) is in
     let alike : IsAlike b (labelled b v (highest b v)) = record { top = refl; count = refl; starts = refl; lanes = refl; border_starts = refl; borders = refl; tos = λ i. refl } in
     let high' : label_in b v < highest b v = omega (arith, high, is) in
-    subst (λ (x : BlockView). Does b s 1 x s) (sym at) (does_one b _ s s (Rise v) (active, high') refl alike)
+    subst (λ (x : CellsView). DoesEvents b s 1 x s) (sym at) (does_one b _ s s (Rise v) (active, high') refl alike)

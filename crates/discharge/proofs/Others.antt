@@ -7,11 +7,11 @@ use Rattle.std.proofs.lemmas.List.Elements.{Contains-append_left, Contains-appen
 use Rattle.std.proofs.lemmas.List.Filters.{dedup_is}
 use Rattle.std.proofs.lemmas.List.Kept.{Contains-dedup_nat}
 use Rattle.std.proofs.lemmas.List.Sorted.{Contains-permutation}
-use Rattle.block_net.specs.Views.{BlockView, border_in}
+use Rattle.block_net.specs.Views.{CellsView, border_in}
 use Rattle.discharge.specs.Turns.{IsKnown}
 
 -- one more direction
-pub known_more : (b : BlockView) (all all' : List ℕ) (j to : ℕ) → ((k : ℕ) → k < j → Contains all (border_in b k).to) → to ≡ (border_in b j).to → all' ≡ all ++ to ∷ []
+pub known_more : (b : CellsView) (all all' : List ℕ) (j to : ℕ) → ((k : ℕ) → k < j → Contains all (border_in b k).to) → to ≡ (border_in b j).to → all' ≡ all ++ to ∷ []
     → (k : ℕ) → k < j + 1 → Contains all' (border_in b k).to
 known_more b all all' j to known here more k l = elim (cases_lt k j) [
   | inl before ↦ rw more (Contains-append_left all (to ∷ []) (border_in b k).to (known k before))
@@ -22,7 +22,7 @@ known_more b all all' j to known here more k l = elim (cases_lt k j) [
 ]
 
 -- a list keeps its elements where it is sorted and each is left once
-pub known_once : (b : BlockView) (all sorted once : List ℕ) → IsKnown b all → IsPermutation all sorted → IsFiltered (DiffersFromLast eqb) [] sorted once → IsKnown b once
+pub known_once : (b : CellsView) (all sorted once : List ℕ) → IsKnown b all → IsPermutation all sorted → IsFiltered (DiffersFromLast eqb) [] sorted once → IsKnown b once
 known_once b all sorted once known moved left j l =
     let to = (border_in b j).to in
     subst (λ (xs : List ℕ). Contains xs to) (sym (dedup_is eqb sorted once left)) (Contains-dedup_nat sorted to (Contains-permutation all sorted to moved (known j l)))

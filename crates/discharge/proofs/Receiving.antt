@@ -5,17 +5,17 @@ use mathlib.Core.Path.{fun_ext}
 use Rattle.std.proofs.lemmas.List.{length-set}
 use Rattle.parcel.specs.declared.direction.Direction.{Direction}
 use Rattle.parcel.specs.declared.message.Message.TheVariants.{Parcel, Accepted, Refused}
-use Rattle.block_net.specs.declared.rows.Border.{Border}
-use Rattle.block_net.specs.Views.{BlockView, label_in, border_in, accepted, settled, returned}
+use Rattle.block_net.specs.declared.lanes.Border.{Border}
+use Rattle.block_net.specs.Views.{CellsView, label_in, border_in, accepted, settled, returned}
 use Rattle.discharge.specs.declared.letter.Letter.{Letter}
 use Rattle.discharge.specs.Seen.{Seen, IsLook, IsPut, IsTake, add_to}
 use Rattle.discharge.specs.Steps.{Accept, Refuse, Settle, MayAccept, MayRefuse, MaySettle}
-use Rattle.discharge.specs.Works.{IsAlike, Does}
+use Rattle.discharge.specs.Works.{IsAlike, DoesEvents}
 use Rattle.discharge.proofs.Runs.{does_one, alike_same, look_sent, look_taken}
 use Rattle.discharge.proofs.Doing.{to_kept}
 
-pub does_accept : (b b' : BlockView) (s t u w : Seen) (c : ℕ) (x : Direction) (a d j : ℕ) → MayAccept b c j (Parcel x a d) → b' ≡ accepted b j a d
-    → IsLook s t → IsPut c (Accepted x a) t u → IsTake c (Parcel x a d) u w → Does b s 1 b' w
+pub does_accept : (b b' : CellsView) (s t u w : Seen) (c : ℕ) (x : Direction) (a d j : ℕ) → MayAccept b c j (Parcel x a d) → b' ≡ accepted b j a d
+    → IsLook s t → IsPut c (Accepted x a) t u → IsTake c (Parcel x a d) u w → DoesEvents b s 1 b' w
 does_accept b b' s t u w c x a d j may made look put take =
     let y = border_in b j in
     let row : Border = record y { residual = y.residual + a; known = cond (is_some y.flight) y.known (max y.known d) } in
@@ -31,17 +31,17 @@ does_accept b b' s t u w c x a d j may made look put take =
     let sent_is : w.sent ≡ add_to s.sent c (Accepted x a) = fun_ext take.sent ∙ (fun_ext put.sent ∙ rw (look_sent s t look) refl) in
     let taken_is : w.taken ≡ add_to s.taken c (Parcel x a d) = fun_ext take.taken ∙ rw (fun_ext put.taken, look_taken s t look) refl in
     let letter : Letter = record { message = Parcel x a d; place = j } in
-    subst (λ (z : BlockView). Does b s 1 z w) (sym made) (does_one b _ s w (Accept c letter) may (rw (sent_is, taken_is) refl) alike)
+    subst (λ (z : CellsView). DoesEvents b s 1 z w) (sym made) (does_one b _ s w (Accept c letter) may (rw (sent_is, taken_is) refl) alike)
 
-pub does_refuse : (b : BlockView) (s t u w : Seen) (c : ℕ) (x : Direction) (a d j told : ℕ) → MayRefuse b c j (Parcel x a d) → told ≡ label_in b (border_in b j).near
-    → IsLook s t → IsPut c (Refused x a d told) t u → IsTake c (Parcel x a d) u w → Does b s 1 b w
+pub does_refuse : (b : CellsView) (s t u w : Seen) (c : ℕ) (x : Direction) (a d j told : ℕ) → MayRefuse b c j (Parcel x a d) → told ≡ label_in b (border_in b j).near
+    → IsLook s t → IsPut c (Refused x a d told) t u → IsTake c (Parcel x a d) u w → DoesEvents b s 1 b w
 does_refuse b s t u w c x a d j told may is look put take =
     let sent_is : w.sent ≡ add_to s.sent c (Refused x a d (label_in b (border_in b j).near)) = fun_ext take.sent ∙ (fun_ext put.sent ∙ rw (look_sent s t look, is) refl) in
     let taken_is : w.taken ≡ add_to s.taken c (Parcel x a d) = fun_ext take.taken ∙ rw (fun_ext put.taken, look_taken s t look) refl in
     let letter : Letter = record { message = Parcel x a d; place = j } in
     does_one b b s w (Refuse c letter) may (rw (sent_is, taken_is) refl) (alike_same b)
 
-pub does_settle : (b b' : BlockView) (s w : Seen) (c : ℕ) (x : Direction) (a j : ℕ) → MaySettle b c j (Accepted x a) → b' ≡ settled b j → IsTake c (Accepted x a) s w → Does b s 1 b' w
+pub does_settle : (b b' : CellsView) (s w : Seen) (c : ℕ) (x : Direction) (a j : ℕ) → MaySettle b c j (Accepted x a) → b' ≡ settled b j → IsTake c (Accepted x a) s w → DoesEvents b s 1 b' w
 does_settle b b' s w c x a j may made take =
     let row : Border = record (border_in b j) { flight = None } in
     let alike : IsAlike b (settled b j) = record {
@@ -54,10 +54,10 @@ does_settle b b' s w c x a j may made take =
       tos = to_kept b.borders j row refl;
     } in
     let letter : Letter = record { message = Accepted x a; place = j } in
-    subst (λ (z : BlockView). Does b s 1 z w) (sym made) (does_one b _ s w (Settle c letter) may (rw (fun_ext take.sent, fun_ext take.taken) refl) alike)
+    subst (λ (z : CellsView). DoesEvents b s 1 z w) (sym made) (does_one b _ s w (Settle c letter) may (rw (fun_ext take.sent, fun_ext take.taken) refl) alike)
 
-pub does_return : (b b' : BlockView) (s w : Seen) (c : ℕ) (x : Direction) (a d told j : ℕ) → MaySettle b c j (Refused x a d told) → b' ≡ returned b j a told → IsTake c (Refused x a d told) s w
-    → Does b s 1 b' w
+pub does_return : (b b' : CellsView) (s w : Seen) (c : ℕ) (x : Direction) (a d told j : ℕ) → MaySettle b c j (Refused x a d told) → b' ≡ returned b j a told → IsTake c (Refused x a d told) s w
+    → DoesEvents b s 1 b' w
 does_return b b' s w c x a d told j may made take =
     let y = border_in b j in
     let row : Border = record y { residual = y.residual + a; known = told; flight = None } in
@@ -71,4 +71,4 @@ does_return b b' s w c x a d told j may made take =
       tos = to_kept b.borders j row refl;
     } in
     let letter : Letter = record { message = Refused x a d told; place = j } in
-    subst (λ (z : BlockView). Does b s 1 z w) (sym made) (does_one b _ s w (Settle c letter) may (rw (fun_ext take.sent, fun_ext take.taken) refl) alike)
+    subst (λ (z : CellsView). DoesEvents b s 1 z w) (sym made) (does_one b _ s w (Settle c letter) may (rw (fun_ext take.sent, fun_ext take.taken) refl) alike)

@@ -4,11 +4,11 @@ use mathlib.Core.Path.{fun_ext}
 use Rattle.std.proofs.lemmas.List.{length-append}
 use Rattle.parcel.specs.declared.message.Message.{Message}
 use Rattle.discharge.specs.declared.letter.Letter.{Letter}
-use Rattle.block_net.specs.Views.{BlockView}
+use Rattle.block_net.specs.Views.{CellsView}
 use Rattle.discharge.specs.Seen.{Seen, IsLook}
 use Rattle.discharge.specs.Steps.{Step, Push, Give, Rise, Send, Held, held, Enabled, after, Run, DoesMany, IsSure}
 use Rattle.discharge.specs.Active.{IsActive}
-use Rattle.discharge.specs.Works.{IsAlike, Does, IsIdle, IsStuck, IsIdleFrom}
+use Rattle.discharge.specs.Works.{IsAlike, DoesEvents, IsIdle, IsStuck, IsIdleFrom}
 
 pub run_append : (es fs : List Step) (h g k : Held) → Run h es g → Run g fs k → Run h (es ++ fs) k
 run_append [] fs h g k first second = subst (λ (x : Held). Run x fs k) first second
@@ -29,10 +29,10 @@ look_more a b c h k = record {
   front = λ x m e. k.front x m (h.front x m e);
 }
 
-pub alike_same : (b : BlockView) → IsAlike b b
+pub alike_same : (b : CellsView) → IsAlike b b
 alike_same b = record { top = refl; count = refl; starts = refl; lanes = refl; border_starts = refl; borders = refl; tos = λ j. refl }
 
-pub alike_more : (a b c : BlockView) → IsAlike a b → IsAlike b c → IsAlike a c
+pub alike_more : (a b c : CellsView) → IsAlike a b → IsAlike b c → IsAlike a c
 alike_more a b c h k = record {
   top = k.top ∙ h.top;
   count = k.count ∙ h.count;
@@ -49,31 +49,31 @@ look_sent s t look = fun_ext look.sent
 pub look_taken : (s t : Seen) → IsLook s t → t.taken ≡ s.taken
 look_taken s t look = fun_ext look.taken
 
-held_look : (b : BlockView) (s t : Seen) → IsLook s t → held b t ≡ held b s
+held_look : (b : CellsView) (s t : Seen) → IsLook s t → held b t ≡ held b s
 held_look b s t look =
     ap (λ (f : ℕ → List Message). record { block = b; sent = f; taken = t.taken }) (look_sent s t look)
     ∙ ap (λ (f : ℕ → List Message). record { block = b; sent = s.sent; taken = f }) (look_taken s t look)
 
 -- looks alone
-pub does_look : (b : BlockView) (s t : Seen) → IsLook s t → Does b s 0 b t
+pub does_look : (b : CellsView) (s t : Seen) → IsLook s t → DoesEvents b s 0 b t
 does_look b s t look = record {
   run = ([], held_look b s t look, refl);
   alike = alike_same b;
   still = λ e. (refl, look);
 }
 
-pub does_none : (b : BlockView) (s : Seen) → Does b s 0 b s
+pub does_none : (b : CellsView) (s : Seen) → DoesEvents b s 0 b s
 does_none b s = does_look b s s (look_same s)
 
 -- one event
-pub does_one : (b b' : BlockView) (s s' : Seen) (e : Step) → Enabled b e → held b' s' ≡ after (held b s) e → IsAlike b b' → Does b s 1 b' s'
+pub does_one : (b b' : CellsView) (s s' : Seen) (e : Step) → Enabled b e → held b' s' ≡ after (held b s) e → IsAlike b b' → DoesEvents b s 1 b' s'
 does_one b b' s s' e on is alike = record {
   run = (e ∷ [], (on, is), refl);
   alike = alike;
   still = λ h. absurd (omega arith);
 }
 
-pub does_more : (a b c : BlockView) (s t u : Seen) (m n : ℕ) → Does a s m b t → Does b t n c u → Does a s (m + n) c u
+pub does_more : (a b c : CellsView) (s t u : Seen) (m n : ℕ) → DoesEvents a s m b t → DoesEvents b t n c u → DoesEvents a s (m + n) c u
 does_more a b c s t u m n h k = record {
   run = many_more (held a s) (held b t) (held c u) m n h.run k.run;
   alike = alike_more a b c h.alike k.alike;
@@ -83,15 +83,15 @@ does_more a b c s t u m n h k = record {
       (second.0 ∙ first.0, look_more s t u first.1 second.1);
 }
 
-pub does_as : (a b : BlockView) (s t : Seen) (m n : ℕ) → m ≡ n → Does a s m b t → Does a s n b t
-does_as a b s t m n e h = subst (λ (k : ℕ). Does a s k b t) e h
+pub does_as : (a b : CellsView) (s t : Seen) (m n : ℕ) → m ≡ n → DoesEvents a s m b t → DoesEvents a s n b t
+does_as a b s t m n e h = subst (λ (k : ℕ). DoesEvents a s k b t) e h
 
 -- nothing seen
 abbrev pub no_seen : Seen
 no_seen = record { sent = λ c. []; taken = λ c. []; room = λ c. false; front = λ c. None }
 
 -- a node that is not active has no sure event
-pub idle_inactive : (b : BlockView) (s : Seen) (v : ℕ) → ¬ IsActive b v → IsIdle b s v
+pub idle_inactive : (b : CellsView) (s : Seen) (v : ℕ) → ¬ IsActive b v → IsIdle b s v
 idle_inactive b s v off = record {
   pushes = λ j on. off on.0;
   gift = λ on. off on.0;
@@ -100,7 +100,7 @@ idle_inactive b s v off = record {
 }
 
 -- what is idle after a look was idle before it
-pub idle_look : (b : BlockView) (s t : Seen) (v : ℕ) → IsLook s t → IsIdle b t v → IsIdle b s v
+pub idle_look : (b : CellsView) (s t : Seen) (v : ℕ) → IsLook s t → IsIdle b t v → IsIdle b s v
 idle_look b s t v look idle = record {
   pushes = idle.pushes;
   gift = idle.gift;
@@ -109,10 +109,10 @@ idle_look b s t v look idle = record {
 }
 
 -- the three ways in which a node passes on what it has
-pub push_does : (a b c d : BlockView) (s t : Seen) (k l m : ℕ) → ((u : Seen) → Does a u k b u) → ((u : Seen) → Does b u l c u) → Does c s m d t → Does a s (k + l + m) d t
+pub push_does : (a b c d : CellsView) (s t : Seen) (k l m : ℕ) → ((u : Seen) → DoesEvents a u k b u) → ((u : Seen) → DoesEvents b u l c u) → DoesEvents c s m d t → DoesEvents a s (k + l + m) d t
 push_does a b c d s t k l m first second third = does_more a c d s s t (k + l) m (does_more a b c s s s k l (first s) (second s)) third
 
-pub push_stuck : (a b c d : BlockView) (s t : Seen) (k l m v limit : ℕ) → ((u : Seen) → Does a u k b u) → ((u : Seen) → Does b u l c u) → Does c s m d t
+pub push_stuck : (a b c d : CellsView) (s t : Seen) (k l m v limit : ℕ) → ((u : Seen) → DoesEvents a u k b u) → ((u : Seen) → DoesEvents b u l c u) → DoesEvents c s m d t
     → (k ≡ 0 → 0 < limit → ¬ Enabled a (Give v))
     → (l ≡ 0 → 0 < limit - k → (j : ℕ) → ¬ Enabled b (Push v j))
     → (m ≡ 0 → 0 < limit - k - l → (j : ℕ) → ¬ IsSure c s (Send v j))
@@ -124,13 +124,13 @@ push_stuck a b c d s t k l m v limit first second third gift pushes sends none s
     let b_is = ((first s).still k0).0 in
     let c_is = ((second s).still l0).0 ∙ b_is in
     record {
-      pushes = λ j. subst (λ (x : BlockView). ¬ Enabled x (Push v j)) b_is (pushes l0 (omega arith) j);
+      pushes = λ j. subst (λ (x : CellsView). ¬ Enabled x (Push v j)) b_is (pushes l0 (omega arith) j);
       gift = gift k0 some;
-      sends = λ j. subst (λ (x : BlockView). ¬ IsSure x s (Send v j)) c_is (sends m0 (omega arith) j);
+      sends = λ j. subst (λ (x : CellsView). ¬ IsSure x s (Send v j)) c_is (sends m0 (omega arith) j);
     }
 
 -- the two parts of a visit
-pub visit_idle : (a b c : BlockView) (s t : Seen) (m n v limit : ℕ) → Does a s m b t → (m ≡ 0 → 0 < limit → IsStuck a s v)
+pub visit_idle : (a b c : CellsView) (s t : Seen) (m n v limit : ℕ) → DoesEvents a s m b t → (m ≡ 0 → 0 < limit → IsStuck a s v)
     → (n ≡ 0 → 0 < limit - m → ¬ Enabled b (Rise v)) → m + n ≡ 0 → 0 < limit → IsIdle a s v
 visit_idle a b c s t m n v limit first stuck rise none some =
     let m0 : m ≡ 0 = omega arith in
@@ -139,11 +139,11 @@ visit_idle a b c s t m n v limit first stuck rise none some =
     record {
       pushes = held.pushes;
       gift = held.gift;
-      rise = subst (λ (x : BlockView). ¬ Enabled x (Rise v)) (first.still m0).0 (rise n0 (omega arith));
+      rise = subst (λ (x : CellsView). ¬ Enabled x (Rise v)) (first.still m0).0 (rise n0 (omega arith));
       sends = held.sends;
     }
 
-pub idle_from_look : (b : BlockView) (s t : Seen) (c : ℕ) → IsLook s t → IsIdleFrom b t c → IsIdleFrom b s c
+pub idle_from_look : (b : CellsView) (s t : Seen) (c : ℕ) → IsLook s t → IsIdleFrom b t c → IsIdleFrom b s c
 idle_from_look b s t c look idle = record {
   accepts = λ m on. idle.accepts m (on.0, look.front _ _ on.1, look.room _ on.2);
   refuses = λ m on. idle.refuses m (on.0, look.front _ _ on.1, look.room _ on.2);
@@ -153,7 +153,7 @@ idle_from_look b s t c look idle = record {
 some_none : (m : Letter) → ¬ (◌≡◌ {A = Option Letter} None (Some m))
 some_none m e = cc
 
-pub idle_from_none : (b : BlockView) (s t : Seen) (c : ℕ) → IsLook s t → t.front c ≡ None → IsIdleFrom b s c
+pub idle_from_none : (b : CellsView) (s t : Seen) (c : ℕ) → IsLook s t → t.front c ≡ None → IsIdleFrom b s c
 idle_from_none b s t c look none = record {
   accepts = λ m on. some_none m (sym none ∙ look.front _ _ on.1);
   refuses = λ m on. some_none m (sym none ∙ look.front _ _ on.1);

@@ -4,7 +4,7 @@ use Rattle.parcel.specs.declared.message.Message.{Message}
 use Rattle.parcel.specs.declared.message.Message.TheVariants.{Parcel, Accepted, Refused}
 use Rattle.parcel.specs.Directions.{opposite}
 use Rattle.parcel.specs.Workers.{IsFair}
-use Rattle.block_net.specs.Views.{BlockView, excess_in, label_in, room_in, lane_in, border_in, first_lane, first_border, out_of, MayPush, MaySend, pushed, given, labelled, sent, accepted, settled, returned, highest}
+use Rattle.block_net.specs.Views.{CellsView, excess_in, label_in, room_in, lane_in, border_in, first_lane, first_border, out_of, MayPush, MaySend, pushed, given, labelled, sent, accepted, settled, returned, highest}
 use Rattle.discharge.specs.Active.{IsActive}
 use Rattle.discharge.specs.declared.letter.Letter.{Letter}
 use Rattle.discharge.specs.Seen.{Seen, add_to}
@@ -23,22 +23,22 @@ pub data Step : Type 0 where
 -- ---- when each is enabled
 
 -- a place of the directions of node v within the block
-pub record IsOfNode (b : BlockView) (v j : ℕ) : Type 0 where
+pub record IsOfNode (b : CellsView) (v j : ℕ) : Type 0 where
   pub low : first_lane b v ≤ j
   pub high : j < first_lane b (v + 1)
 
 -- a place of its directions to other blocks
-pub record IsBorderOfNode (b : BlockView) (v j : ℕ) : Type 0 where
+pub record IsBorderOfNode (b : CellsView) (v j : ℕ) : Type 0 where
   pub low : first_border b v ≤ j
   pub high : j < first_border b (v + 1)
 
 -- a direction to block c stands at the place
-pub record IsFrom (b : BlockView) (c j : ℕ) : Type 0 where
+pub record IsFrom (b : CellsView) (c j : ℕ) : Type 0 where
   pub place : j < length b.borders
   pub to : (border_in b j).to ≡ c
 
 -- a parcel from block c comes against the direction at the place, from one label above its node, and fits
-abbrev pub MayAccept : BlockView → ℕ → ℕ → Message → Type 0
+abbrev pub MayAccept : CellsView → ℕ → ℕ → Message → Type 0
 MayAccept b c j (Parcel x a d) =
     IsFrom b c j × (opposite (border_in b j).direction ≡ x) × IsFair (Parcel x a d)
     × (label_in b (border_in b j).near + 1 ≡ d) × (d ≤ b.top)
@@ -46,14 +46,14 @@ MayAccept b c j (Parcel x a d) =
 MayAccept b c j m = ⊥
 
 -- a parcel from block c comes against the direction at the place, from a label no higher than its node's
-abbrev pub MayRefuse : BlockView → ℕ → ℕ → Message → Type 0
+abbrev pub MayRefuse : CellsView → ℕ → ℕ → Message → Type 0
 MayRefuse b c j (Parcel x a d) =
     IsFrom b c j × (opposite (border_in b j).direction ≡ x) × IsFair (Parcel x a d)
     × (d ≤ label_in b (border_in b j).near)
 MayRefuse b c j m = ⊥
 
 -- an answer from block c is to the parcel that is out on the direction at the place
-abbrev pub MaySettle : BlockView → ℕ → ℕ → Message → Type 0
+abbrev pub MaySettle : CellsView → ℕ → ℕ → Message → Type 0
 MaySettle b c j (Parcel x a d) = ⊥
 MaySettle b c j (Accepted x a) =
     IsFrom b c j × ((border_in b j).direction ≡ x) × IsFair (Accepted x a)
@@ -63,7 +63,7 @@ MaySettle b c j (Refused x a d told) =
     × ((border_in b j).flight ≡ Some (record { amount = a; label = d })) × (told ≤ b.top)
 
 -- the event is enabled, by what the block holds
-abbrev pub Enabled : BlockView → Step → Type 0
+abbrev pub Enabled : CellsView → Step → Type 0
 Enabled b (Push v j) = IsActive b v × IsOfNode b v j × MayPush b v j
 Enabled b (Give v) = IsActive b v × (0 < room_in b v) × (label_in b v ≡ 1)
 Enabled b (Rise v) = IsActive b v × (label_in b v < highest b v)
@@ -76,15 +76,15 @@ Enabled b (Settle c l) = MaySettle b c l.place l.message
 
 -- the block, and all that it has put and taken
 pub record Held : Type 0 where
-  pub block : BlockView
+  pub block : CellsView
   pub sent : ℕ → List Message
   pub taken : ℕ → List Message
 
-abbrev pub held : BlockView → Seen → Held
+abbrev pub held : CellsView → Seen → Held
 held b s = record { block = b; sent = s.sent; taken = s.taken }
 
 -- the parcel of a node's excess on the direction at a place
-abbrev pub parcel_of : BlockView → ℕ → ℕ → Message
+abbrev pub parcel_of : CellsView → ℕ → ℕ → Message
 parcel_of b v j =
     Parcel (border_in b j).direction (min (excess_in b v) (border_in b j).residual) (label_in b v)
 
@@ -136,7 +136,7 @@ DoesMany h n g = (es : List Step) × Run h es g × (length es ≡ n)
 -- ---- what is sure to be enabled
 
 -- the event is enabled, room is seen for what it puts, and what it takes is seen in front
-abbrev pub IsSure : BlockView → Seen → Step → Type 0
+abbrev pub IsSure : CellsView → Seen → Step → Type 0
 IsSure b s (Push v j) = Enabled b (Push v j)
 IsSure b s (Give v) = Enabled b (Give v)
 IsSure b s (Rise v) = Enabled b (Rise v)

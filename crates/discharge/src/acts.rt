@@ -3,7 +3,7 @@ ghost use Rattle.block_net.specs.Views.{label_in, room_in, MayPush, highest};
 ghost use Rattle.discharge.specs.Seen.{Seen};
 ghost use Rattle.discharge.specs.Active.{IsActive};
 ghost use Rattle.discharge.specs.Steps.{IsOfNode, IsBorderOfNode, IsSure, Send};
-ghost use Rattle.discharge.specs.Works.{Does};
+ghost use Rattle.discharge.specs.Works.{DoesEvents};
 
 use crate::{Bucketed, Letter, Ways};
 use parcel::Message;
@@ -13,7 +13,7 @@ pub(crate) fn try_give(cells: &mut Bucketed, v: usize) -> u32
     requires { IsActive cells.old.block v }
     ensures few { result ≤ 1 }
     ensures still { result ≡ 0 → cells.new ≡ cells.old }
-    ensures does { (s : Seen) → Does cells.old.block s result cells.new.block s }
+    ensures does { (s : Seen) → DoesEvents cells.old.block s result cells.new.block s }
     ensures idle { result ≡ 0 → ¬ ((0 < room_in cells.old.block v) × (label_in cells.old.block v ≡ 1)) }
 {
     if !cells.cells().may_give(v) {
@@ -31,7 +31,7 @@ pub(crate) fn try_push(cells: &mut Bucketed, v: usize, j: usize) -> u32
     requires place { j < length cells.old.block.lanes }
     ensures few { result ≤ 1 }
     ensures still { result ≡ 0 → cells.new ≡ cells.old }
-    ensures does { (s : Seen) → Does cells.old.block s result cells.new.block s }
+    ensures does { (s : Seen) → DoesEvents cells.old.block s result cells.new.block s }
     ensures idle { result ≡ 0 → ¬ MayPush cells.old.block v j }
 {
     if !cells.cells().may_push(v, j) {
@@ -50,7 +50,7 @@ pub(crate) fn try_send<W: Ways>(cells: &mut Bucketed, ways: &mut W, v: usize, j:
     ensures fixed { W.fixed ways.new ≡ W.fixed ways.old }
     ensures few { result ≤ 1 }
     ensures still { result ≡ 0 → cells.new ≡ cells.old }
-    ensures does { Does cells.old.block (W.seen ways.old) result cells.new.block (W.seen ways.new) }
+    ensures does { DoesEvents cells.old.block (W.seen ways.old) result cells.new.block (W.seen ways.new) }
     ensures idle { result ≡ 0 → ¬ IsSure cells.old.block (W.seen ways.old) (Send v j) }
 {
     if !cells.cells().may_send(v, j) {
@@ -83,7 +83,7 @@ pub(crate) fn try_rise(cells: &mut Bucketed, v: usize) -> u32
     requires { IsActive cells.old.block v }
     ensures few { result ≤ 1 }
     ensures still { result ≡ 0 → cells.new ≡ cells.old }
-    ensures does { (s : Seen) → Does cells.old.block s result cells.new.block s }
+    ensures does { (s : Seen) → DoesEvents cells.old.block s result cells.new.block s }
     ensures idle { result ≡ 0 → ¬ (label_in cells.old.block v < highest cells.old.block v) }
 {
     let label = cells.highest_label(v);

@@ -23,10 +23,10 @@ pub struct Block {
 }
 
 impl Model for Block {
-    ghost use Rattle.block_net.specs.Views.{BlockView};
+    ghost use Rattle.block_net.specs.Views.{CellsView};
     ghost use Rattle.discharge.specs.Turns.{IsKnown};
 
-    ghost Value = { BlockView };
+    ghost Value = { CellsView };
 
     ghost view = { λ b. b.cells.block };
 

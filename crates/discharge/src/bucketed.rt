@@ -2,7 +2,7 @@ ghost use Rattle.std.specs.Prelude.{◌≡◌, ◌≢◌, ◌↔◌, ◌⊎◌, 
 ghost use Rattle.flow_network.specs.Limits.{node_limit};
 ghost use Rattle.flow_network.specs.Progress.{top_label};
 ghost use Rattle.block_net.specs.Views.{count, excess_in, label_in, room_in, lane_in, border_in, first_lane, first_border, out_of, highest, pushed, given, labelled, sent, accepted, settled, returned};
-ghost use Rattle.block_net.specs.Rows.{nodes};
+ghost use Rattle.block_net.specs.Standing.{nodes};
 ghost use Rattle.discharge.specs.Active.{IsActive};
 ghost use Rattle.discharge.specs.Standing.{IsAside, HasHighestBucket, KeepsAside, StaysAside, waiting};
 

@@ -1,7 +1,7 @@
 ghost use Rattle.std.specs.Prelude.{◌≡◌, ◌<◌, ◌≤◌, ℕ};
 ghost use Rattle.block_net.specs.Views.{count};
 ghost use Rattle.discharge.specs.Standing.{IsAside};
-ghost use Rattle.discharge.specs.Works.{Does, IsIdle};
+ghost use Rattle.discharge.specs.Works.{DoesEvents, IsIdle};
 
 use crate::visits::{push_on, visit};
 use crate::{Bucketed, Ways};
@@ -11,7 +11,7 @@ fn push_if_active<W: Ways>(cells: &mut Bucketed, ways: &mut W, v: usize, limit: 
     ensures fixed { W.fixed ways.new ≡ W.fixed ways.old }
     ensures few { result ≤ limit }
     ensures still { result ≡ 0 → cells.new ≡ cells.old }
-    ensures does { Does cells.old.block (W.seen ways.old) result cells.new.block (W.seen ways.new) }
+    ensures does { DoesEvents cells.old.block (W.seen ways.old) result cells.new.block (W.seen ways.new) }
 {
     if v >= cells.len() {
         return 0;
@@ -33,7 +33,7 @@ pub(crate) fn push_wave<W: Ways>(
     ensures fixed { W.fixed ways.new ≡ W.fixed ways.old }
     ensures few { result ≤ limit }
     ensures still { result ≡ 0 → cells.new ≡ cells.old }
-    ensures does { Does cells.old.block (W.seen ways.old) result cells.new.block (W.seen ways.new) }
+    ensures does { DoesEvents cells.old.block (W.seen ways.old) result cells.new.block (W.seen ways.new) }
 {
     let mut count = 0;
     'wave: for place in (0..order.len()).rev() {
@@ -59,7 +59,7 @@ fn pass<W: Ways>(cells: &mut Bucketed, ways: &mut W, limit: u32) -> (u32, u32)
     ensures fixed { W.fixed ways.new ≡ W.fixed ways.old }
     ensures few { result.0 ≤ limit }
     ensures rises { result.1 ≤ result.0 }
-    ensures does { Does cells.old.block (W.seen ways.old) result.0 cells.new.block (W.seen ways.new) }
+    ensures does { DoesEvents cells.old.block (W.seen ways.old) result.0 cells.new.block (W.seen ways.new) }
     ensures idle { result.0 ≡ 0 → 0 < limit
         → ((v : ℕ) → v < count cells.old.block → ¬ IsAside cells.old v)
         → (v : ℕ) → IsIdle cells.old.block (W.seen ways.old) v }
@@ -84,7 +84,7 @@ fn sweep<W: Ways>(cells: &mut Bucketed, ways: &mut W, limit: u32, most: usize) -
     ensures fixed { W.fixed ways.new ≡ W.fixed ways.old }
     ensures few { result.0 ≤ limit }
     ensures rises { result.1 ≤ result.0 }
-    ensures does { Does cells.old.block (W.seen ways.old) result.0 cells.new.block (W.seen ways.new) }
+    ensures does { DoesEvents cells.old.block (W.seen ways.old) result.0 cells.new.block (W.seen ways.new) }
     ensures idle { result.0 ≡ 0 → 0 < limit
         → ((v : ℕ) → v < count cells.old.block → ¬ IsAside cells.old v)
         → (v : ℕ) → IsIdle cells.old.block (W.seen ways.old) v }
@@ -122,7 +122,7 @@ pub(crate) fn work<W: Ways>(
     ensures fixed { W.fixed ways.new ≡ W.fixed ways.old }
     ensures few { result.0 ≤ limit }
     ensures rises { result.1 ≤ result.0 }
-    ensures does { Does cells.old.block (W.seen ways.old) result.0 cells.new.block (W.seen ways.new) }
+    ensures does { DoesEvents cells.old.block (W.seen ways.old) result.0 cells.new.block (W.seen ways.new) }
     ensures idle { result.0 ≡ 0 → 0 < limit
         → ((v : ℕ) → v < count cells.old.block → ¬ IsAside cells.old v)
         → (v : ℕ) → IsIdle cells.old.block (W.seen ways.old) v }

@@ -2,7 +2,7 @@ ghost use Rattle.std.specs.Prelude.{◌≡◌, ◌↔◌, ◌<◌, ◌≤◌, �
 ghost use Rattle.parcel.specs.declared.message.Message.TheVariants.{Parcel, Accepted, Refused};
 ghost use Rattle.parcel.specs.Directions.{opposite};
 ghost use Rattle.discharge.specs.Steps.{IsFrom, MayAccept, MayRefuse, MaySettle};
-ghost use Rattle.discharge.specs.Works.{Does, IsIdleFrom};
+ghost use Rattle.discharge.specs.Works.{DoesEvents, IsIdleFrom};
 
 use crate::{Bucketed, Letter, Ways};
 use block_net::Cells;
@@ -83,7 +83,7 @@ fn receive_parcel<W: Ways>(
     ensures fixed { W.fixed ways.new ≡ W.fixed ways.old }
     ensures few { result ≤ 1 }
     ensures still { result ≡ 0 → cells.new ≡ cells.old }
-    ensures does { Does cells.old.block (W.seen ways.old) result cells.new.block (W.seen ways.new) }
+    ensures does { DoesEvents cells.old.block (W.seen ways.old) result cells.new.block (W.seen ways.new) }
     ensures idle { result ≡ 0 → IsIdleFrom cells.old.block (W.seen ways.old) from }
 {
     let accepts = may_accept(cells.cells(), from, place, direction, amount, label);
@@ -190,7 +190,7 @@ fn receive_accepted<W: Ways>(
     ensures fixed { W.fixed ways.new ≡ W.fixed ways.old }
     ensures few { result ≤ 1 }
     ensures still { result ≡ 0 → cells.new ≡ cells.old }
-    ensures does { Does cells.old.block (W.seen ways.old) result cells.new.block (W.seen ways.new) }
+    ensures does { DoesEvents cells.old.block (W.seen ways.old) result cells.new.block (W.seen ways.new) }
     ensures idle { result ≡ 0 → IsIdleFrom cells.old.block (W.seen ways.old) from }
 {
     if !may_settle(cells.cells(), from, place, direction, amount) {
@@ -216,7 +216,7 @@ fn receive_refused<W: Ways>(
     ensures fixed { W.fixed ways.new ≡ W.fixed ways.old }
     ensures few { result ≤ 1 }
     ensures still { result ≡ 0 → cells.new ≡ cells.old }
-    ensures does { Does cells.old.block (W.seen ways.old) result cells.new.block (W.seen ways.new) }
+    ensures does { DoesEvents cells.old.block (W.seen ways.old) result cells.new.block (W.seen ways.new) }
     ensures idle { result ≡ 0 → IsIdleFrom cells.old.block (W.seen ways.old) from }
 {
     if !may_return(cells.cells(), from, place, direction, flight, told) {
@@ -233,7 +233,7 @@ fn receive<W: Ways>(cells: &mut Bucketed, ways: &mut W, from: u32) -> u32
     ensures fixed { W.fixed ways.new ≡ W.fixed ways.old }
     ensures few { result ≤ 1 }
     ensures still { result ≡ 0 → cells.new ≡ cells.old }
-    ensures does { Does cells.old.block (W.seen ways.old) result cells.new.block (W.seen ways.new) }
+    ensures does { DoesEvents cells.old.block (W.seen ways.old) result cells.new.block (W.seen ways.new) }
     ensures idle { result ≡ 0 → IsIdleFrom cells.old.block (W.seen ways.old) from }
 {
     match ways.front(from) {
@@ -281,7 +281,7 @@ fn receive_from<W: Ways>(cells: &mut Bucketed, ways: &mut W, from: u32, limit: u
     ensures fixed { W.fixed ways.new ≡ W.fixed ways.old }
     ensures few { result ≤ limit }
     ensures still { result ≡ 0 → cells.new ≡ cells.old }
-    ensures does { Does cells.old.block (W.seen ways.old) result cells.new.block (W.seen ways.new) }
+    ensures does { DoesEvents cells.old.block (W.seen ways.old) result cells.new.block (W.seen ways.new) }
     ensures idle { result ≡ 0 → 0 < limit → IsIdleFrom cells.old.block (W.seen ways.old) from }
 {
     'messages: for count in 0..limit {
@@ -302,7 +302,7 @@ pub(crate) fn receive_all<W: Ways>(
     ensures fixed { W.fixed ways.new ≡ W.fixed ways.old }
     ensures few { result ≤ limit }
     ensures still { result ≡ 0 → cells.new ≡ cells.old }
-    ensures does { Does cells.old.block (W.seen ways.old) result cells.new.block (W.seen ways.new) }
+    ensures does { DoesEvents cells.old.block (W.seen ways.old) result cells.new.block (W.seen ways.new) }
     ensures idle { result ≡ 0 → 0 < limit → (k : ℕ) → k < length others.now
         → IsIdleFrom cells.old.block (W.seen ways.old) (slice_index others.now k) }
 {

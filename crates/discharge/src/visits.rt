@@ -2,7 +2,7 @@ ghost use Rattle.std.specs.Prelude.{◌≡◌, ◌<◌, ◌≤◌, ℕ};
 ghost use Rattle.block_net.specs.Views.{count};
 ghost use Rattle.discharge.specs.Seen.{Seen};
 ghost use Rattle.discharge.specs.Steps.{Enabled, IsSure, Push, Give, Rise, Send};
-ghost use Rattle.discharge.specs.Works.{Does, IsIdle, IsStuck};
+ghost use Rattle.discharge.specs.Works.{DoesEvents, IsIdle, IsStuck};
 
 use crate::acts::{try_give, try_push, try_rise, try_send};
 use crate::{Bucketed, Ways};
@@ -12,7 +12,7 @@ fn give_once(cells: &mut Bucketed, v: usize, limit: u32) -> u32
     requires { v < count cells.old.block }
     ensures few { result ≤ limit }
     ensures still { result ≡ 0 → cells.new ≡ cells.old }
-    ensures does { (s : Seen) → Does cells.old.block s result cells.new.block s }
+    ensures does { (s : Seen) → DoesEvents cells.old.block s result cells.new.block s }
     ensures idle { result ≡ 0 → 0 < limit → ¬ Enabled cells.old.block (Give v) }
 {
     if limit == 0 || !cells.is_active(v) {
@@ -26,7 +26,7 @@ fn rise_once(cells: &mut Bucketed, v: usize, limit: u32) -> u32
     requires { v < count cells.old.block }
     ensures few { result ≤ limit }
     ensures still { result ≡ 0 → cells.new ≡ cells.old }
-    ensures does { (s : Seen) → Does cells.old.block s result cells.new.block s }
+    ensures does { (s : Seen) → DoesEvents cells.old.block s result cells.new.block s }
     ensures idle { result ≡ 0 → 0 < limit → ¬ Enabled cells.old.block (Rise v) }
 {
     if limit == 0 || !cells.is_active(v) {
@@ -40,7 +40,7 @@ fn push_all(cells: &mut Bucketed, v: usize, limit: u32) -> u32
     requires node { v < count cells.old.block }
     ensures few { result ≤ limit }
     ensures still { result ≡ 0 → cells.new ≡ cells.old }
-    ensures does { (s : Seen) → Does cells.old.block s result cells.new.block s }
+    ensures does { (s : Seen) → DoesEvents cells.old.block s result cells.new.block s }
     ensures idle { result ≡ 0 → 0 < limit → (j : ℕ) → ¬ Enabled cells.old.block (Push v j) }
 {
     let mut count = 0;
@@ -64,7 +64,7 @@ fn send_all<W: Ways>(cells: &mut Bucketed, ways: &mut W, v: usize, limit: u32) -
     ensures fixed { W.fixed ways.new ≡ W.fixed ways.old }
     ensures few { result ≤ limit }
     ensures still { result ≡ 0 → cells.new ≡ cells.old }
-    ensures does { Does cells.old.block (W.seen ways.old) result cells.new.block (W.seen ways.new) }
+    ensures does { DoesEvents cells.old.block (W.seen ways.old) result cells.new.block (W.seen ways.new) }
     ensures idle { result ≡ 0 → 0 < limit → (j : ℕ) → ¬ IsSure cells.old.block (W.seen ways.old) (Send v j) }
 {
     let mut count = 0;
@@ -88,7 +88,7 @@ pub(crate) fn push_on<W: Ways>(cells: &mut Bucketed, ways: &mut W, v: usize, lim
     ensures fixed { W.fixed ways.new ≡ W.fixed ways.old }
     ensures few { result ≤ limit }
     ensures still { result ≡ 0 → cells.new ≡ cells.old }
-    ensures does { Does cells.old.block (W.seen ways.old) result cells.new.block (W.seen ways.new) }
+    ensures does { DoesEvents cells.old.block (W.seen ways.old) result cells.new.block (W.seen ways.new) }
     ensures stuck { result ≡ 0 → 0 < limit → IsStuck cells.old.block (W.seen ways.old) v }
 {
     let gifts = give_once(cells, v, limit);
@@ -105,7 +105,7 @@ pub(crate) fn visit<W: Ways>(cells: &mut Bucketed, ways: &mut W, v: usize, limit
     ensures few { result.0 ≤ limit }
     ensures still { result.0 ≡ 0 → cells.new ≡ cells.old }
     ensures rises { result.1 ≤ result.0 }
-    ensures does { Does cells.old.block (W.seen ways.old) result.0 cells.new.block (W.seen ways.new) }
+    ensures does { DoesEvents cells.old.block (W.seen ways.old) result.0 cells.new.block (W.seen ways.new) }
     ensures idle { result.0 ≡ 0 → 0 < limit → IsIdle cells.old.block (W.seen ways.old) v }
 {
     let pushes = push_on(cells, ways, v, limit);

@@ -8,7 +8,7 @@ use Rattle.cost_store.specs.Promises.{IsCost, cost_in}
 use Rattle.labellings.specs.declared.change.Move.{Move}
 use Rattle.moves.specs.declared.tables.Run.{Run}
 use Rattle.moves.specs.Instances.{instance_of}
-use Rattle.moves.specs.Runs.{Answers}
+use Rattle.moves.specs.Runs.{AnswersRun}
 use Rattle.moves.specs.declared.error.MoveError.{MoveError}
 use Rattle.cost_store.specs.LabelCosts.{AreLabelCosts, costs_of}
 use Rattle.labellings.specs.declared.cycles.Moves.{Moves}
@@ -40,14 +40,14 @@ pub ready_costs : (a : Asked) (ready : Ready) → IsReady a ready → AreLabelCo
 ready_costs a ready is = (let P : ℕ → Type 0 = λ k. AreLabelCosts k ready.label_costs in subst P (labels_of a ready is) is.costs_kept)
 
 pub run_given : (a : Asked) (ready : Ready) → IsReady a ready → (moves : Moves) (cycles : ℕ) (r : Result Run MoveError)
-    → Answers (instance_of ready.pairs ready.start.labels (cost_in ready.start.labels a.data_costs) a.smooth_costs (costs_of ready.label_costs)) moves cycles ready.start.at r
-    → Answers (instance_given a) moves cycles a.start r
+    → AnswersRun (instance_of ready.pairs ready.start.labels (cost_in ready.start.labels a.data_costs) a.smooth_costs (costs_of ready.label_costs)) moves cycles ready.start.at r
+    → AnswersRun (instance_given a) moves cycles a.start r
 run_given a ready is moves cycles r h =
     let pairs = list_given (length a.start) a.pairs in
-    let P : PairList → Type 0 = λ p. Answers (instance_of p ready.start.labels (cost_in ready.start.labels a.data_costs) a.smooth_costs (costs_of ready.label_costs))
+    let P : PairList → Type 0 = λ p. AnswersRun (instance_of p ready.start.labels (cost_in ready.start.labels a.data_costs) a.smooth_costs (costs_of ready.label_costs))
     moves cycles ready.start.at r in
-    let S : LabelField → Type 0 = λ s. Answers (instance_of pairs s.labels (cost_in s.labels a.data_costs) a.smooth_costs (costs_of ready.label_costs)) moves cycles s.at r in
-    let C : List ℤ → Type 0 = λ costs. Answers (instance_of pairs a.label_count (cost_in a.label_count a.data_costs) a.smooth_costs costs) moves cycles a.start r in
+    let S : LabelField → Type 0 = λ s. AnswersRun (instance_of pairs s.labels (cost_in s.labels a.data_costs) a.smooth_costs (costs_of ready.label_costs)) moves cycles s.at r in
+    let C : List ℤ → Type 0 = λ costs. AnswersRun (instance_of pairs a.label_count (cost_in a.label_count a.data_costs) a.smooth_costs costs) moves cycles a.start r in
     subst C is.costs_are (subst S is.start_is (subst P is.pairs_are h))
 
 pub move_given : (a : Asked) (ready : Ready) → IsReady a ready → (move : Move) (r : Result Moved MoveError)

@@ -8,10 +8,10 @@ use Rattle.label_field.specs.PairLists.{IsRefusal as IsPairRefusal}
 use Rattle.label_field.specs.declared.error.LabelFieldError.{LabelFieldError}
 use Rattle.label_field.specs.declared.error.LabelFieldError.TheVariants as pair_why
 use Rattle.cost_store.specs.Limits.{data_limit, smooth_limit, label_cost_limit}
-use Rattle.cost_store.specs.Promises.{IsCost, IsFirstAbove}
+use Rattle.cost_store.specs.Promises.{IsCost, IsFirstOutside}
 use Rattle.cost_store.specs.declared.error.CostError.TheVariants.{CostRange}
 use Rattle.labellings.specs.declared.change.Move.{Move}
-use Rattle.moves.specs.Runs.{Answers}
+use Rattle.moves.specs.Runs.{AnswersRun}
 use Rattle.moves.specs.Problems.{IsRefusal, IsRunRefusal}
 use Rattle.moves.specs.declared.error.SolveError.TheVariants.{OutOfMemory as NoMemory}
 use Rattle.moves.specs.declared.error.MoveError.{MoveError}
@@ -40,12 +40,12 @@ IsCountRefusal sites labels data_count smooth_count cost_count _ = ⊥
 
 -- the first cost out of range, of the first table that has one
 abbrev pub IsRangeRefusal : List ℤ → List ℤ → List ℤ → Refusal → Type 0
-IsRangeRefusal data_costs smooth_costs label_costs (why.DataRange place) = IsFirstAbove data_limit data_costs (CostRange place)
+IsRangeRefusal data_costs smooth_costs label_costs (why.DataRange place) = IsFirstOutside data_limit data_costs (CostRange place)
 IsRangeRefusal data_costs smooth_costs label_costs (why.SmoothRange place) =
-    All (IsCost data_limit) data_costs × IsFirstAbove smooth_limit smooth_costs (CostRange place)
+    All (IsCost data_limit) data_costs × IsFirstOutside smooth_limit smooth_costs (CostRange place)
 IsRangeRefusal data_costs smooth_costs label_costs (why.LabelCostRange place) =
     All (IsCost data_limit) data_costs × All (IsCost smooth_limit) smooth_costs
-    × IsFirstAbove (pos label_cost_limit) label_costs (CostRange place)
+    × IsFirstOutside (pos label_cost_limit) label_costs (CostRange place)
 IsRangeRefusal data_costs smooth_costs label_costs _ = ⊥
 
 -- the refusal of a call whose pair at a place was refused
@@ -97,7 +97,7 @@ abbrev pub IsLabelRefusal : Asked → Moves → ℕ → Refusal → Type 0
 IsLabelRefusal a moves cycles refusal =
     IsGivenRefusal a refusal
     ⊎ (IsGiven a × ((error : MoveError) × IsRunRefusal (λ e. e ≡ NoMemory) error
-    × Answers (instance_given a) moves cycles a.start (Err error) × (refusal ≡ move_refusal error)))
+    × AnswersRun (instance_given a) moves cycles a.start (Err error) × (refusal ≡ move_refusal error)))
 
 -- the status and the outcome tell a refusal, and its cause holds: the number names no moves, or what a run of the
 -- moves that it names refuses

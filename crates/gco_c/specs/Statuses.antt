@@ -28,17 +28,17 @@ status_of (why.NotRegular _ _ _) = 24
 status_of why.LabelCostInSwap = 27
 
 -- the place that a refusal tells, or 0
-abbrev pub place_of : Refusal → ℕ
-place_of (why.NoSuchSite place) = place
-place_of (why.NoSuchLabel place) = place
-place_of (why.SameSite place) = place
-place_of (why.WeightRange place) = place
-place_of (why.DataRange place) = place
-place_of (why.SmoothRange place) = place
-place_of (why.LabelCostRange place) = place
-place_of (why.TermNotRegular place fixed) = place
-place_of (why.NotRegular place alpha beta) = place
-place_of _ = 0
+abbrev pub told_place : Refusal → ℕ
+told_place (why.NoSuchSite place) = place
+told_place (why.NoSuchLabel place) = place
+told_place (why.SameSite place) = place
+told_place (why.WeightRange place) = place
+told_place (why.DataRange place) = place
+told_place (why.SmoothRange place) = place
+told_place (why.LabelCostRange place) = place
+told_place (why.TermNotRegular place fixed) = place
+told_place (why.NotRegular place alpha beta) = place
+told_place _ = 0
 
 -- the labels of the move that a refusal tells, twice the one of an expansion
 abbrev pub second_of : ℕ → Option ℕ → ℕ
@@ -62,5 +62,5 @@ fixed_of _ = (3, 0)
 -- the status and the outcome tell a refusal
 pub record IsTold (refusal : Refusal) (status : ℕ) (told : GcoOutcome) : Type 0 where
   pub status_is : status ≡ status_of refusal
-  pub place_is : told.place ≡ place_of refusal
+  pub place_is : told.place ≡ told_place refusal
   pub labels_are : (told.alpha, told.beta) ≡ labels_of refusal

@@ -8,7 +8,7 @@ use Rattle.pseudo_bool.specs.declared.error.EnergyError.TheVariants as term_why
 use Rattle.pseudo_bool.specs.declared.term.Term.{Term}
 use Rattle.regular.specs.Regularity.{IsFirstFailing}
 use Rattle.regular.specs.declared.fixed.Fixed.{Fixed}
-use Rattle.gco_c.specs.Statuses.{fixed_of, place_of, status_of}
+use Rattle.gco_c.specs.Statuses.{fixed_of, told_place, status_of}
 use Rattle.gco_c.specs.declared.minimise.GcoMinimum.{GcoMinimum}
 use Rattle.gco_c.specs.declared.refusal.Refusal.{Refusal}
 use Rattle.gco_c.specs.declared.refusal.Refusal.TheVariants as why
@@ -51,7 +51,7 @@ IsMinimumRefusal e refusal =
 -- the status and the outcome tell a refusal
 pub record IsRefusedIn (refusal : Refusal) (status : ℕ) (told : GcoMinimum) : Type 0 where
   pub status_is : status ≡ status_of refusal
-  pub place_is : told.place ≡ place_of refusal
+  pub place_is : told.place ≡ told_place refusal
   pub fixed_is : (told.fixed, told.fixed_at) ≡ fixed_of refusal
 
 -- and its cause holds

@@ -1,9 +1,9 @@
 //! Runs of moves for C over costs of 32 bits.
 ghost use Rattle.std.specs.Prelude.{◌≡◌, ◌≢◌, ◌↔◌, ◌+◌, ◌*◌, ◌<◌, ◌≤◌, All, length, IsOk, IfOk, IfErr, IsTrue, None, Ok};
 ghost use Rattle.cost_store.specs.Limits.{data_limit, smooth_limit};
-ghost use Rattle.cost_store.specs.Promises.{IsCost, IsFirstAbove, cost_in, entry_at};
+ghost use Rattle.cost_store.specs.Promises.{IsCost, IsFirstOutside, cost_in, entry_at};
 ghost use Rattle.moves.specs.Instances.{instance_of};
-ghost use Rattle.moves.specs.Runs.{Answers, IsSized};
+ghost use Rattle.moves.specs.Runs.{AnswersRun, IsRunInRange};
 ghost use Rattle.cost_store.specs.LabelCosts.{AreLabelCosts, costs_of};
 ghost use Rattle.moves.specs.Problems.{IsRunRefusal};
 ghost use Rattle.moves.specs.declared.error.SolveError.TheVariants.{OutOfMemory};
@@ -86,7 +86,7 @@ fn run_call(
     ensures given { IfOk result (λ _.
         IsGiven (asked labels data.now smooth.now label_costs.now given.now at.now)) }
     ensures run { IfOk result (λ run.
-        Answers (instance_given (asked labels data.now smooth.now label_costs.now given.now at.now))
+        AnswersRun (instance_given (asked labels data.now smooth.now label_costs.now given.now at.now))
         moves cycles at.now (Ok run)) }
     ensures sized { IfOk result (λ run. length run.labelling.at ≡ length at.now) }
     ensures refused { IfErr result
@@ -156,7 +156,7 @@ fn check_ranges(data: &[i32], smooth: &[i32], label_costs: &[i32]) -> Result<(),
 /// Whether each entry of a table is from 0 to `most`: if not, the first that is not.
 fn check_table(table: &[i32], most: i64) -> Result<(), CostError>
     ensures fits { IsOk result ↔ All (IsCost most) table.now }
-    ensures first { IfErr result (IsFirstAbove most table.now) }
+    ensures first { IfErr result (IsFirstOutside most table.now) }
 {
     for index in 0..table.len() {
         if !is_cost(table[index], most) {
@@ -215,11 +215,11 @@ fn run_over(
     requires smooth { (length smooth.now ≡ ready.start.labels * ready.start.labels)
         × All (IsCost smooth_limit) smooth.now }
     requires label_costs { AreLabelCosts ready.start.labels ready.label_costs }
-    ensures run { Answers (instance_of ready.pairs ready.start.labels
+    ensures run { AnswersRun (instance_of ready.pairs ready.start.labels
         (cost_in ready.start.labels data.now) smooth.now (costs_of ready.label_costs))
         moves cycles ready.start.at result }
     ensures refused { IfErr result (IsRunRefusal (λ e. e ≡ OutOfMemory)) }
-    ensures sized { IfOk result (IsSized ready.start) }
+    ensures sized { IfOk result (IsRunInRange ready.start) }
 {
     let labels = ready.start.labels();
     let sites = ready.start.sites();

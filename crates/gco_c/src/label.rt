@@ -1,6 +1,6 @@
 //! Runs of moves for C.
 ghost use Rattle.std.specs.Prelude.{◌≡◌, ◌≢◌, length, IfSome, IfOk, IfErr, None, Ok};
-ghost use Rattle.moves.specs.Runs.{Answers};
+ghost use Rattle.moves.specs.Runs.{AnswersRun};
 ghost use Rattle.gco_c.specs.Calls.{IsGiven, IsRunTold, asked, instance_given, number_of};
 ghost use Rattle.gco_c.specs.Refusals.{IsRefusalTold, IsLabelRefusal};
 
@@ -77,7 +77,7 @@ fn run_call(
     ensures given { IfOk result (λ _.
         IsGiven (asked labels data.now smooth.now label_costs.now given.now at.now)) }
     ensures run { IfOk result (λ run.
-        Answers (instance_given (asked labels data.now smooth.now label_costs.now given.now at.now))
+        AnswersRun (instance_given (asked labels data.now smooth.now label_costs.now given.now at.now))
         moves cycles at.now (Ok run)) }
     ensures sized { IfOk result (λ run. length run.labelling.at ≡ length at.now) }
     ensures refused { IfErr result

@@ -4,7 +4,7 @@ ghost use Rattle.pseudo_bool.specs.Limits.{variable_limit};
 ghost use Rattle.pseudo_bool.specs.Energies.{IsEnergy, assignment, value_at};
 ghost use Rattle.compile_cut.specs.Shown.{IsSmallestLeastAssignment};
 ghost use Rattle.gco_c.specs.Energies.{bits, digit_of, formula_given};
-ghost use Rattle.gco_c.specs.Statuses.{place_of, status_of};
+ghost use Rattle.gco_c.specs.Statuses.{told_place, status_of};
 ghost use Rattle.gco_c.specs.TermRefusals.{IsMinimumTold, IsMinimumRefusal, IsRefusedIn};
 
 use crate::refusal::Refusal;

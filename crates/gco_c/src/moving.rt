@@ -4,7 +4,7 @@ ghost use Rattle.cost_store.specs.Limits.{data_limit, smooth_limit};
 ghost use Rattle.cost_store.specs.Promises.{IsCost, cost_in, entry_at};
 ghost use Rattle.labellings.specs.declared.change.Move.TheVariants.{Expand, Swap};
 ghost use Rattle.moves.specs.Instances.{instance_of};
-ghost use Rattle.cost_store.specs.Posed.{IsPosed, Meant, Fits, AreOfOneSize};
+ghost use Rattle.cost_store.specs.Posed.{IsPosed, Meant, FitsProblem, AreOfOneSize};
 ghost use Rattle.cost_store.specs.LabelCosts.{AreLabelCosts, costs_of};
 ghost use Rattle.moves.specs.Problems.{IsMoved};
 ghost use Rattle.gco_c.specs.Calls.{IsGiven, IsMoveTold, asked, instance_given};
@@ -232,7 +232,7 @@ fn move_problem<F: Fn(u32, u32) -> i64 + Sync, V: Fn(u32, u32) -> i64 + Sync>(
     change: Move,
 ) -> Result<Moved, MoveError>
     requires posed { IsPosed F.Fn V.Fn problem.now }
-    requires fits { Fits problem.now start }
+    requires fits { FitsProblem problem.now start }
     ensures moved { Meant F.Fn V.Fn problem.now (λ m. IsMovedTo m change start.at result) }
     ensures sized { IfOk result (λ moved. length moved.labelling.at ≡ length start.at) }
 {
@@ -262,7 +262,7 @@ fn make_move<F: Fn(u32, u32) -> i64 + Sync, V: Fn(u32, u32) -> i64 + Sync>(
     change: Move,
 ) -> Result<bool, MoveError>
     requires posed { IsPosed F.Fn V.Fn problem.now }
-    requires fits { Fits problem.now labelling.old }
+    requires fits { FitsProblem problem.now labelling.old }
     ensures sizes { AreOfOneSize labelling.old labelling.new }
     ensures moved { Meant F.Fn V.Fn problem.now
         (λ m. IsMoved m change labelling.old.at labelling.new.at result) }

@@ -1,6 +1,6 @@
 //! Why a call was refused, and the numbers that tell it.
 ghost use Rattle.std.specs.Prelude.{◌≡◌, ◌≢◌};
-ghost use Rattle.gco_c.specs.Statuses.{fixed_numbers, fixed_of, labels_of, place_of, status_of};
+ghost use Rattle.gco_c.specs.Statuses.{fixed_numbers, fixed_of, labels_of, told_place, status_of};
 
 use regular::Fixed;
 
@@ -88,7 +88,7 @@ impl Refusal {
 
     /// The place that it tells, or 0.
     pub(crate) fn place(self) -> usize
-        ensures { result ≡ place_of self }
+        ensures { result ≡ told_place self }
     {
         match self {
             Refusal::NoSuchSite(place)

@@ -3,7 +3,7 @@ ghost use Rattle.std.specs.Prelude.{◌≡◌, pos, ◌+◌, ◌*◌, ◌<◌, �
 ghost use Rattle.cost_store.specs.Limits.{data_limit, smooth_limit};
 ghost use Rattle.cost_store.specs.Promises.{IsCost, cost_in, entry_at};
 ghost use Rattle.moves.specs.Instances.{instance_of};
-ghost use Rattle.moves.specs.Runs.{Answers, IsSized};
+ghost use Rattle.moves.specs.Runs.{AnswersRun, IsRunInRange};
 ghost use Rattle.cost_store.specs.LabelCosts.{AreLabelCosts, costs_of};
 ghost use Rattle.moves.specs.Problems.{IsRunRefusal};
 ghost use Rattle.moves.specs.declared.error.SolveError.TheVariants.{OutOfMemory};
@@ -31,11 +31,11 @@ pub(crate) fn run_over(
     requires smooth { (length smooth.now ≡ ready.start.labels * ready.start.labels)
         × All (IsCost smooth_limit) smooth.now }
     requires label_costs { AreLabelCosts ready.start.labels ready.label_costs }
-    ensures run { Answers (instance_of ready.pairs ready.start.labels
+    ensures run { AnswersRun (instance_of ready.pairs ready.start.labels
         (cost_in ready.start.labels data.now) smooth.now (costs_of ready.label_costs))
         moves cycles ready.start.at result }
     ensures refused { IfErr result (IsRunRefusal (λ e. e ≡ OutOfMemory)) }
-    ensures sized { IfOk result (IsSized ready.start) }
+    ensures sized { IfOk result (IsRunInRange ready.start) }
 {
     let labels = ready.start.labels();
     let sites = ready.start.sites();

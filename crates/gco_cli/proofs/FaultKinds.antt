@@ -19,7 +19,7 @@ use Rattle.moves.specs.declared.error.MoveError.TheVariants as move
 use Rattle.run_options.specs.declared.options.RestoreOptions.{RestoreOptions}
 use Rattle.run_options.specs.declared.options.StereoOptions.{StereoOptions}
 use Rattle.run_options.specs.declared.options.SegmentOptions.{SegmentOptions}
-use Rattle.pgm_image.specs.Front.{Refuses}
+use Rattle.pgm_image.specs.Front.{RefusesFront}
 use Rattle.vision.specs.Faults.{HasJobError, HasNoImage, HasPairError, HasRestoreError, HasRunError, HasSegmentError, HasStereoError, IsWrite, TellsRun, image_error}
 use Rattle.vision.specs.Inputs.{IsRestoreJob, IsSegmentJob, IsStereoJob, RefusesSecond}
 use Rattle.vision.specs.Jobs.{Job}
@@ -31,7 +31,7 @@ use Rattle.command_line.specs.declared.task.Task.{Task}
 use Rattle.command_line.specs.declared.task.Task.TheVariants.{Energy, Label, Picture}
 use Rattle.gco_cli.specs.Commands.{HasFaultFor}
 use Rattle.gco_cli.specs.Energy.{HasEnergyFault, HasFileFault, IsCutFault, IsUnsolved}
-use Rattle.gco_cli.specs.Faults.{Tells, TellsMove, cut_fault, energy_fault, label_fault, picture_fault, read_fault}
+use Rattle.gco_cli.specs.Faults.{TellsError, TellsMove, cut_fault, energy_fault, label_fault, picture_fault, read_fault}
 use Rattle.gco_cli.specs.Label.{HasLabelFault, HasProblemFault, HasReadingFault, IsRunFault}
 use Rattle.gco_cli.specs.Pictures.{HasPictureError, HasPictureFault}
 use Rattle.gco_cli.specs.Run.{is_bad_option, is_failed_read, is_write}
@@ -164,7 +164,7 @@ image_not_write : (Refused : PgmError → Type 0) (e : VisionError) → HasNoIma
 image_not_write Refused e has = as_told e (image_error has.0) has.2 (reason_not_write has.0)
 
 pair_not_write : (input : List ℕ) (e : VisionError) → HasPairError input e → ¬ IsWrite e
-pair_not_write input e (inl has) = image_not_write (λ reason. Refuses input reason ⊎ RefusesSecond input reason) e has
+pair_not_write input e (inl has) = image_not_write (λ reason. RefusesFront input reason ⊎ RefusesSecond input reason) e has
 pair_not_write input e (inr has) = as_told e vision.SizesDiffer has.1 (λ w. w)
 
 job_error : (refuses : SolveError → Type 0) (job : Job) (e : VisionError) → HasRunError refuses job e → ¬ IsWrite e
@@ -175,7 +175,7 @@ job_not_write : (refuses : SolveError → Type 0) (IsJob : Job → Type 0) (e : 
 job_not_write refuses IsJob e has = job_error refuses has.0 e has.2
 
 restore_not_write : (refuses : SolveError → Type 0) (o : RestoreOptions) (input : List ℕ) (e : VisionError) → HasRestoreError refuses o input e → ¬ IsWrite e
-restore_not_write refuses o input e (inl has) = image_not_write (Refuses input) e has
+restore_not_write refuses o input e (inl has) = image_not_write (RefusesFront input) e has
 restore_not_write refuses o input e (inr (inl has)) = as_told e vision.TooManyLevels has.1 (λ w. w)
 restore_not_write refuses o input e (inr (inr has)) = job_not_write refuses (IsRestoreJob o input) e has
 
@@ -195,7 +195,7 @@ error_not_write refuses (Segment o) input e has = segment_not_write refuses o in
 
 -- what a fault tells of is of its kind
 told : {E : Type 0} (P : Fault → Type 0) (tell : E → Fault) (Holds : E → Type 0) (fault : Fault) → ((e : E) → P (tell e))
-    → Tells tell Holds fault → P fault
+    → TellsError tell Holds fault → P fault
 told P tell Holds fault each h = same P fault (tell h.0) h.2 (each h.0)
 
 pub cut_fault_plain : (refuses : SolveError → Type 0) (fault : Fault) → IsCutFault refuses fault → IsPlain fault

@@ -8,7 +8,7 @@ use Rattle.gco_cli.specs.declared.fault.Fault.{Fault}
 use Rattle.problem_files.specs.Names.{Problem, problem_in}
 use Rattle.problem_files.specs.declared.label_fault.LabelFault.{LabelFault}
 use Rattle.problem_files.specs.declared.label_fault.LabelFault.TheVariants.{OutOfMemory, BadToml, BadField, BadElement, CostRange, NoSuchSite, SamePair, TooManyPairs, WeightRange, NoSuchLabel}
-use Rattle.moves.specs.Runs.{Answers}
+use Rattle.moves.specs.Runs.{AnswersRun}
 use Rattle.moves.specs.Problems.{IsRunRefusal}
 use Rattle.moves.specs.declared.error.MoveError.{MoveError}
 use Rattle.moves.specs.declared.error.SolveError.{SolveError}
@@ -49,7 +49,7 @@ pub unread_label : (source : Stream) (error : ReadError) → IfSome source.bytes
 unread_label source error is = let h = of_refusal source error is in (h.0, h.1, inl (error, h.2, refl))
 
 -- a refused run is a fault of the problem
-pub run_fault : (cut : SolveError → Type 0) (p : Problem) (error : MoveError) (fault : Fault) → Answers (instance_named p) p.moves p.cycles p.start.at (Err error)
+pub run_fault : (cut : SolveError → Type 0) (p : Problem) (error : MoveError) (fault : Fault) → AnswersRun (instance_named p) p.moves p.cycles p.start.at (Err error)
     → IsRunRefusal cut error → TellsMove error fault → IsRunFault cut p fault
 run_fault cut p error fault answers refused tells = inr (error, refused, answers, tells)
 

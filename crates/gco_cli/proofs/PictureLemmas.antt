@@ -10,7 +10,7 @@ use Rattle.command_line.specs.declared.task.PictureOptions.TheVariants.{Restore,
 use Rattle.pgm_image.specs.Written.{written}
 use Rattle.moves.specs.declared.error.SolveError.{SolveError}
 use Rattle.vision.specs.Faults.{IsWrite, Leaves}
-use Rattle.vision.specs.Jobs.{Does, Job, StopsAfter, Tells, picture_of}
+use Rattle.vision.specs.Jobs.{WritesPicture, Job, StopsAfter, Reports, picture_of}
 use Rattle.vision.specs.declared.error.VisionError.{VisionError}
 use Rattle.vision.specs.declared.report.Report.{Report}
 use Rattle.gco_cli.specs.declared.fault.Fault.{Fault}
@@ -38,7 +38,7 @@ due : (o : PictureOptions) (bytes text said : List ℕ) (source : Stream) (job :
 due o bytes text said source job is of answers =
     of_read source bytes (λ input. AnswersPicture o input text said) is.0 (is.1, (job, of, answers))
 
-parts_same : (job : Job) (labels : List ℕ) (settled : Bool) (report : Report) → Tells job labels settled report
+parts_same : (job : Job) (labels : List ℕ) (settled : Bool) (report : Report) → Reports job labels settled report
     → parts_told report ≡ parts_at job labels
 parts_same job labels settled report told = rw (told.energy_is, told.data_is, told.smooth_is, told.label_is) refl
 
@@ -52,7 +52,7 @@ same_bound (Segment o) bytes job is = sym (ap (λ (j : Job). j.bound) is.5)
 pub wrote : (o : PictureOptions) (tells asked : Bool) (bytes said : List ℕ) (source old new : Stream) (report : Report)
     → tells ≡ tells_labels o → asked ≡ asks_bound o
     → IsInput bytes source
-    → (job : Job) × IsPictureJob o bytes job × Does job old new report
+    → (job : Job) × IsPictureJob o bytes job × WritesPicture job old new report
     → said ≡ picture_lines tells asked (parts_told report) report.bound
     → Writes (Due o source) old new said
 wrote o tells asked bytes said source old new report labels_are bound_is is (job, of, does) line =

@@ -10,7 +10,7 @@ use Rattle.gco_cli.specs.declared.fault.Fault.{Fault}
 use Rattle.gco_cli.specs.declared.fault.Fault.TheVariants as fault
 use Rattle.command_line.specs.declared.task.Task.{Task}
 use Rattle.gco_cli.proofs.FaultKinds.{task_own}
-use Rattle.gco_cli.specs.Commands.{IsDueFor, StandsFor, StandsForAsked, cuts_refuse}
+use Rattle.gco_cli.specs.Commands.{IsDueFor, IsFaultFor, StandsForAsked, cuts_refuse}
 use Rattle.gco_cli.specs.Refusals.{IsHelp, IsRefusalFor, IsRefusalOf, SaysRefusal, ShowsHelp, status_of}
 use Rattle.gco_cli.specs.Run.{IsCut, IsCutIn, IsDue, IsRun, Leaves, Refuses, Streams, Writes, is_failed_read, is_bad_option}
 use Rattle.byte_streams.specs.Streams.{Stream, Took}
@@ -123,8 +123,8 @@ cut_in Due Is old new text items said (Err fault) same due cut =
 
 -- a command was refused before anything was written
 pub task_refused : {T : Type 0} (cut : SolveError → Type 0) (task : Task) (source sink : Stream) (fault : Fault) (r : Result T Fault)
-    → IsErrAnd r (λ e. e ≡ fault) → StandsFor cut task source fault → IfErr r (Refuses (IsDueFor task source) (StandsFor cut task source) sink sink)
+    → IsErrAnd r (λ e. e ≡ fault) → IsFaultFor cut task source fault → IfErr r (Refuses (IsDueFor task source) (IsFaultFor cut task source) sink sink)
 task_refused cut task source sink fault (Ok x) is stands = tt
 task_refused cut task source sink fault (Err e) is stands =
-    let P : Fault → Type 0 = λ f. Refuses (IsDueFor task source) (StandsFor cut task source) sink sink f in
+    let P : Fault → Type 0 = λ f. Refuses (IsDueFor task source) (IsFaultFor cut task source) sink sink f in
     subst P (sym is) (inl (stands, (task_own cut task stands.0 fault stands.2).0, refl))

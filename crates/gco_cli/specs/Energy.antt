@@ -9,7 +9,7 @@ use Rattle.problem_files.specs.Text.{HasFault, NamesEnergy}
 use Rattle.gco_cli.specs.declared.fault.Fault.{Fault}
 use Rattle.gco_cli.specs.declared.fault.Fault.TheVariants.{OutOfMemory, TermNotRegular}
 use Rattle.gco_cli.specs.Answer.{AnswersEnergy}
-use Rattle.gco_cli.specs.Faults.{Tells, cut_fault, energy_fault, read_fault}
+use Rattle.gco_cli.specs.Faults.{TellsError, cut_fault, energy_fault, read_fault}
 
 -- the input is not too long, and names this energy
 abbrev pub HoldsEnergy : List ℕ → Energy → Type 0
@@ -21,12 +21,12 @@ AnswersInput input text = (e : Energy) × HoldsEnergy input e × AnswersEnergy e
 
 -- the fault that the reading of the input has: it was not read, or its text has a fault
 abbrev pub HasFileFault : List ℕ → Fault → Type 0
-HasFileFault input fault = Tells read_fault (IsReadRefusal input) fault
-    ⊎ ((length input ≤ input_limit) × Tells energy_fault (HasFault input) fault)
+HasFileFault input fault = TellsError read_fault (IsReadRefusal input) fault
+    ⊎ ((length input ≤ input_limit) × TellsError energy_fault (HasFault input) fault)
 
 -- the cut was refused so: memory may always be
 abbrev pub IsCutFault : (SolveError → Type 0) → Fault → Type 0
-IsCutFault refuses fault = (fault ≡ OutOfMemory) ⊎ Tells cut_fault refuses fault
+IsCutFault refuses fault = (fault ≡ OutOfMemory) ⊎ TellsError cut_fault refuses fault
 
 -- the energy has no answer: a term is not regular, the first such term; or all are regular, and the cut was refused
 abbrev pub IsUnsolved : (SolveError → Type 0) → Energy → Fault → Type 0

@@ -83,5 +83,5 @@ picture_fault vision.BadOptions = BadOptions
 picture_fault (vision.Write failed) = Write failed
 
 -- the fault tells an error of which this holds
-abbrev pub Tells : {E : Type 0} → (E → Fault) → (E → Type 0) → Fault → Type 0
-Tells {E} told Holds fault = (error : E) × Holds error × (fault ≡ told error)
+abbrev pub TellsError : {E : Type 0} → (E → Fault) → (E → Type 0) → Fault → Type 0
+TellsError {E} told Holds fault = (error : E) × Holds error × (fault ≡ told error)

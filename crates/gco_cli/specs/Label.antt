@@ -9,11 +9,11 @@ use Rattle.moves.specs.Problems.{IsRunRefusal}
 use Rattle.moves.specs.declared.error.MoveError.{MoveError}
 use Rattle.moves.specs.declared.error.SolveError.{SolveError}
 use Rattle.gco_cli.specs.Instances.{instance_named}
-use Rattle.moves.specs.Runs.{Answers}
+use Rattle.moves.specs.Runs.{AnswersRun}
 use Rattle.moves.specs.declared.tables.Run.{Run}
 use Rattle.gco_cli.specs.declared.fault.Fault.{Fault}
 use Rattle.gco_cli.specs.declared.fault.Fault.TheVariants.{OutOfMemory}
-use Rattle.gco_cli.specs.Faults.{Tells, TellsMove, label_fault, read_fault}
+use Rattle.gco_cli.specs.Faults.{TellsError, TellsMove, label_fault, read_fault}
 use Rattle.gco_cli.specs.Lines.{bound_line, energy_words}
 use Rattle.gco_cli.specs.declared.lines.Parts.{Parts}
 
@@ -44,7 +44,7 @@ HoldsProblem input p = (length input ≤ input_limit) × IsUtf8 input × (proble
 -- costs of labels, and the bound where it is asked for
 pub record AnswersProblem (p : Problem) (asked : Bool) (text : List ℕ) : Type 0 where
   pub run : Run
-  pub ended : Answers (instance_named p) p.moves p.cycles p.start.at (Ok run)
+  pub ended : AnswersRun (instance_named p) p.moves p.cycles p.start.at (Ok run)
   pub is : text ≡ run_text (is_some p.label_costs) asked run
 
 -- the text is the answer to the problem that the input names
@@ -62,12 +62,12 @@ HasProblemFault input fault = IsUtf8 input × (problem_in input ≡ Err fault)
 abbrev pub IsRunFault : (SolveError → Type 0) → Problem → Fault → Type 0
 IsRunFault refuses p fault = (fault ≡ OutOfMemory)
     ⊎ ((error : MoveError) × IsRunRefusal refuses error
-    × Answers (instance_named p) p.moves p.cycles p.start.at (Err error) × TellsMove error fault)
+    × AnswersRun (instance_named p) p.moves p.cycles p.start.at (Err error) × TellsMove error fault)
 
 -- the fault that the reading of the input has: it was not read, or its text has a fault
 abbrev pub HasReadingFault : List ℕ → Fault → Type 0
-HasReadingFault input fault = Tells read_fault (IsReadRefusal input) fault
-    ⊎ ((length input ≤ input_limit) × Tells label_fault (HasProblemFault input) fault)
+HasReadingFault input fault = TellsError read_fault (IsReadRefusal input) fault
+    ⊎ ((length input ≤ input_limit) × TellsError label_fault (HasProblemFault input) fault)
 
 -- the fault that the input has: one of its reading, or the run of the problem that it names has it
 abbrev pub HasLabelFault : (SolveError → Type 0) → List ℕ → Fault → Type 0

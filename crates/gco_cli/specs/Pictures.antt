@@ -16,7 +16,7 @@ use Rattle.vision.specs.declared.report.Report.{Report}
 use Rattle.gco_cli.specs.Lines.{bound_line, energy_words}
 use Rattle.gco_cli.specs.declared.lines.Parts.{Parts}
 use Rattle.gco_cli.specs.declared.fault.Fault.{Fault}
-use Rattle.gco_cli.specs.Faults.{Tells, picture_fault, read_fault}
+use Rattle.gco_cli.specs.Faults.{TellsError, picture_fault, read_fault}
 
 -- the energy of labels, and its parts
 abbrev pub parts_at : Job → List ℕ → Parts
@@ -82,5 +82,5 @@ AnswersPicture o input text said =
 
 -- the fault that the input has: it was not read, or its pictures have it
 abbrev pub HasPictureFault : (SolveError → Type 0) → PictureOptions → List ℕ → Fault → Type 0
-HasPictureFault refuses o input fault = Tells read_fault (IsReadRefusal input) fault
-    ⊎ ((length input ≤ input_limit) × Tells picture_fault (HasPictureError refuses o input) fault)
+HasPictureFault refuses o input fault = TellsError read_fault (IsReadRefusal input) fault
+    ⊎ ((length input ≤ input_limit) × TellsError picture_fault (HasPictureError refuses o input) fault)

@@ -5,7 +5,7 @@ use Rattle.command_line.specs.declared.task.NoTask.{NoTask}
 use Rattle.command_line.specs.declared.task.NoTask.TheVariants.{OutOfMemory, Help, Refused, BadOption}
 use Rattle.gco_cli.specs.FaultLine.{fault_line}
 use Rattle.gco_cli.specs.declared.fault.Fault.TheVariants as fault
-use Rattle.gco_cli.specs.Run.{IsCut, IsDue, Leaves, Refuses, Stands, Writes}
+use Rattle.gco_cli.specs.Run.{IsCut, IsDue, Leaves, Refuses, IsFaultOf, Writes}
 use Rattle.byte_streams.specs.Streams.{Stream, Took}
 use Rattle.gco_cli.specs.declared.refusal.Refusal.{Refusal}
 use Rattle.gco_cli.specs.declared.refusal.Refusal.TheVariants.{Fault, Words}
@@ -13,7 +13,7 @@ use Rattle.gco_cli.specs.declared.refusal.Refusal.TheVariants.{Fault, Words}
 -- the run of these words is refused for this, with this done to the source and the sink
 abbrev pub IsRefusalFor : List (List ℕ) → Stream → Stream → Stream → Stream → Refusal → Type 0
 IsRefusalFor words source source_new sink sink_new (Fault fault) =
-    Refuses (IsDue words source) (Stands words source) sink sink_new fault
+    Refuses (IsDue words source) (IsFaultOf words source) sink sink_new fault
     × Leaves source source_new fault
 IsRefusalFor words source source_new sink sink_new (Words text) =
     IsNoTaskFor words (Refused text) × (source_new ≡ source) × (sink_new ≡ sink) × (0 < length (string_bytes text))

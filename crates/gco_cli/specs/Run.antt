@@ -22,8 +22,8 @@ IsDue words source text said = (AsksForHelp words × (0 < length text) × (said 
 
 -- the fault is one of a run of these words: memory may always be refused, the words may name a bad option,
 -- and a command has its faults
-abbrev pub Stands : List (List ℕ) → Stream → Fault → Type 0
-Stands words source fault = (fault ≡ OutOfMemory)
+abbrev pub IsFaultOf : List (List ℕ) → Stream → Fault → Type 0
+IsFaultOf words source fault = (fault ≡ OutOfMemory)
     ⊎ (((option : OptionName) × NamesBadOption words option × (fault ≡ BadOption option))
     ⊎ ((request : Request) × Asks words request × StandsForAsked request source fault))
 
@@ -88,7 +88,7 @@ pub record IsDone (words : List (List ℕ)) (old new : Streams) : Type 0 where
 -- status 1: the run was refused, and the line of its fault said
 pub record IsRefused (words : List (List ℕ)) (old new : Streams) : Type 0 where
   pub fault : Fault
-  pub stands : Refuses (IsDue words old.source) (Stands words old.source) old.sink new.sink fault
+  pub stands : Refuses (IsDue words old.source) (IsFaultOf words old.source) old.sink new.sink fault
   pub told : Took old.faults new.faults (fault_line fault)
   pub read : Leaves old.source new.source fault
 

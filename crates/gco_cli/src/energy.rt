@@ -1,7 +1,7 @@
 //! `gco energy`.
 ghost use Rattle.std.specs.Prelude.{IfOk, IfErr};
 ghost use Rattle.command_line.specs.declared.task.Task.TheVariants.{Energy as EnergyTask};
-ghost use Rattle.gco_cli.specs.Commands.{IsDueFor, StandsFor};
+ghost use Rattle.gco_cli.specs.Commands.{IsDueFor, IsFaultFor};
 ghost use Rattle.gco_cli.specs.Energy.{HasFileFault, HoldsEnergy};
 ghost use Rattle.gco_cli.specs.Run.{TellsRead};
 ghost use Rattle.gco_cli.specs.Inputs.{OfSomeInput};
@@ -25,7 +25,7 @@ pub fn answer_energy<H: How, R: Source>(
 ) -> Result<Answer, Fault>
     requires { H.ready how.now }
     ensures due { IfOk result (λ a. IsDueFor EnergyTask (R.stream source.old) a.text.items a.said.bytes) }
-    ensures stands { IfErr result (StandsFor (H.refuses how.now) EnergyTask (R.stream source.old)) }
+    ensures stands { IfErr result (IsFaultFor (H.refuses how.now) EnergyTask (R.stream source.old)) }
     ensures read { TellsRead (R.stream source.old) (R.stream source.new) result }
 {
     let energy = read_problem(alloc, source)?;

@@ -5,10 +5,10 @@ ghost use Rattle.problem_files.specs.Limits.{IsInLimits};
 ghost use Rattle.problem_files.specs.Names.{told};
 ghost use Rattle.label_field.specs.LabelFields.{LabelField};
 ghost use Rattle.moves.specs.Problems.{IsRunRefusal};
-ghost use Rattle.moves.specs.Runs.{Answers, IsSized};
+ghost use Rattle.moves.specs.Runs.{AnswersRun, IsRunInRange};
 ghost use Rattle.gco_cli.specs.Instances.{instance_named};
 ghost use Rattle.run_options.specs.Limits.{smooth_limit};
-ghost use Rattle.gco_cli.specs.Commands.{IsDueFor, StandsFor};
+ghost use Rattle.gco_cli.specs.Commands.{IsDueFor, IsFaultFor};
 ghost use Rattle.gco_cli.specs.Label.{AnswersProblem, HasReadingFault, HoldsProblem, IsRunFault, numbers_text, parts_of, run_text};
 ghost use Rattle.gco_cli.specs.Run.{TellsRead};
 ghost use Rattle.gco_cli.specs.Inputs.{OfSomeInput};
@@ -35,7 +35,7 @@ pub fn answer_label<H: How, R: Source>(
     requires { H.ready how.now }
     ensures due { IfOk result (λ a.
         IsDueFor (LabelTask bound) (R.stream source.old) a.text.items a.said.bytes) }
-    ensures stands { IfErr result (StandsFor (H.refuses how.now) (LabelTask bound) (R.stream source.old)) }
+    ensures stands { IfErr result (IsFaultFor (H.refuses how.now) (LabelTask bound) (R.stream source.old)) }
     ensures read { TellsRead (R.stream source.old) (R.stream source.new) result }
 {
     let problem = read_problem(alloc, source)?;
@@ -85,10 +85,10 @@ fn answer_problem<H: How>(
 fn run_named<H: How>(alloc: Global, problem: LabelProblem, how: &H) -> Result<Run, MoveError>
     requires limits { IsInLimits (told problem) }
     requires ready { H.ready how.now }
-    ensures run { Answers (instance_named (told problem)) problem.moves problem.cycles problem.start.at
+    ensures run { AnswersRun (instance_named (told problem)) problem.moves problem.cycles problem.start.at
         result }
     ensures refused { IfErr result (IsRunRefusal (H.refuses how.now)) }
-    ensures sized { IfOk result (IsSized problem.start) }
+    ensures sized { IfOk result (IsRunInRange problem.start) }
     ensures bounded { IfOk result (λ run. IfSome run.bound (λ bound. bound.vmax ≤ smooth_limit)) }
 {
     let pairs = problem.pairs;
@@ -112,7 +112,7 @@ fn run_named<H: How>(alloc: Global, problem: LabelProblem, how: &H) -> Result<Ru
 
 // What is printed of a run: the cost of the labels by themselves where it is to be told, the bound where it is asked for.
 fn run_text(alloc: Global, run: &Run, tells: bool, bound: bool) -> Result<Vec<u8>, AllocError>
-    requires sized { (start : LabelField) × IsSized start run.now }
+    requires sized { (start : LabelField) × IsRunInRange start run.now }
     requires bounded { IfSome run.now.bound (λ bound. bound.vmax ≤ smooth_limit) }
     ensures { IfOk result (λ text. text.items ≡ run_text tells bound run.now) }
 {
@@ -127,7 +127,7 @@ fn run_text(alloc: Global, run: &Run, tells: bool, bound: bool) -> Result<Vec<u8
 
 // The energy of a run, and its parts.
 fn parts_of(run: &Run) -> Parts
-    requires { (start : LabelField) × IsSized start run.now }
+    requires { (start : LabelField) × IsRunInRange start run.now }
     ensures { result ≡ parts_of run.now }
 {
     let sites = run.data.unsigned_abs();

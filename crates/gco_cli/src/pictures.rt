@@ -3,8 +3,8 @@ ghost use Rattle.std.specs.Prelude.{◌≡◌, IfOk, IfErr};
 ghost use Rattle.command_line.specs.Task.{FitsPicture};
 ghost use Rattle.command_line.specs.declared.task.Task.TheVariants.{Picture};
 ghost use Rattle.vision.specs.Faults.{IsWrite, Leaves};
-ghost use Rattle.vision.specs.Jobs.{Does, Job};
-ghost use Rattle.gco_cli.specs.Commands.{IsDueFor, StandsFor};
+ghost use Rattle.vision.specs.Jobs.{WritesPicture, Job};
+ghost use Rattle.gco_cli.specs.Commands.{IsDueFor, IsFaultFor};
 ghost use Rattle.gco_cli.specs.Pictures.{HasPictureError, IsPictureJob, asks_bound, tells_labels};
 ghost use Rattle.gco_cli.specs.Run.{Refuses, TellsRead, Writes};
 
@@ -31,7 +31,7 @@ pub fn picture<H: How, R: Source, W: Sink>(
     ensures done { IfOk result (λ said. Writes (IsDueFor (Picture options) (R.stream source.old))
         (W.stream sink.old) (W.stream sink.new) said.bytes) }
     ensures refused { IfErr result (Refuses (IsDueFor (Picture options) (R.stream source.old))
-        (StandsFor (H.refuses how.now) (Picture options) (R.stream source.old))
+        (IsFaultFor (H.refuses how.now) (Picture options) (R.stream source.old))
         (W.stream sink.old) (W.stream sink.new)) }
     ensures read { TellsRead (R.stream source.old) (R.stream source.new) result }
     ensures kept { W.loan sink.new ≡ W.loan sink.old }
@@ -54,7 +54,7 @@ fn run_picture<H: How, W: Sink>(
     requires options { FitsPicture options.now }
     requires ready { H.ready how.now }
     ensures done { IfOk result (λ report. (job : Job) × IsPictureJob options.now input.now job
-        × Does job (W.stream sink.old) (W.stream sink.new) report) }
+        × WritesPicture job (W.stream sink.old) (W.stream sink.new) report) }
     ensures refused { IfErr result (Leaves (IsPictureJob options.now input.now)
         (HasPictureError (H.refuses how.now) options.now input.now) (W.stream sink.old) (W.stream sink.new)) }
     ensures unchanged { IfErr result (λ e. (¬ IsWrite e) → sink.new ≡ sink.old) }

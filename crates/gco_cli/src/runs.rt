@@ -1,9 +1,9 @@
 //! One whole run.
 ghost use Rattle.std.specs.Prelude.{◌≡◌, IfOk, IfErr, MatchResult, map};
 ghost use Rattle.std.specs.IoError.{error_kind};
-ghost use Rattle.command_line.specs.Task.{Fits, FitsTask};
+ghost use Rattle.command_line.specs.Task.{FitsRequest, FitsTask};
 ghost use Rattle.workers.specs.Refusals.{MayRefuse};
-ghost use Rattle.gco_cli.specs.Commands.{IsDueFor, StandsFor, StandsForAsked};
+ghost use Rattle.gco_cli.specs.Commands.{IsDueFor, IsFaultFor, StandsForAsked};
 ghost use Rattle.gco_cli.specs.Refusals.{IsRefusalFor};
 ghost use Rattle.gco_cli.specs.Run.{IsDue, IsRun, IsUnread, Refuses, TellsRead, Writes, streams};
 
@@ -97,7 +97,7 @@ fn answer_request<A: Threads + Wait + Sync, R: Source, W: Sink>(
     source: &mut R,
     sink: &mut W,
 ) -> Result<Line, Fault>
-    requires { Fits request }
+    requires { FitsRequest request }
     ensures done { IfOk result (λ said. Writes (IsDueFor request.task (R.stream source.old))
         (W.stream sink.old) (W.stream sink.new) said.bytes) }
     ensures refused { IfErr result (Refuses (IsDueFor request.task (R.stream source.old))
@@ -124,7 +124,7 @@ fn run_by_workers<A: Threads + Wait + Sync, R: Source, W: Sink>(
     ensures done { IfOk result (λ said. Writes (IsDueFor task (R.stream source.old))
         (W.stream sink.old) (W.stream sink.new) said.bytes) }
     ensures refused { IfErr result (Refuses (IsDueFor task (R.stream source.old))
-        (StandsFor (MayRefuse options) task (R.stream source.old)) (W.stream sink.old) (W.stream sink.new)) }
+        (IsFaultFor (MayRefuse options) task (R.stream source.old)) (W.stream sink.old) (W.stream sink.new)) }
     ensures read { TellsRead (R.stream source.old) (R.stream source.new) result }
     ensures kept { W.loan sink.new ≡ W.loan sink.old }
 {

@@ -1,7 +1,7 @@
 //! What the words ask for, done.
 ghost use Rattle.std.specs.Prelude.{◌≡◌, ◌<◌, length, IfOk, IfErr};
 ghost use Rattle.command_line.specs.Task.{FitsTask, HasText};
-ghost use Rattle.gco_cli.specs.Commands.{IsDueFor, StandsFor};
+ghost use Rattle.gco_cli.specs.Commands.{IsDueFor, IsFaultFor};
 ghost use Rattle.gco_cli.specs.Refusals.{IsCutHelp, IsHelp, IsRefusalOf, ShowsHelp};
 ghost use Rattle.gco_cli.specs.Run.{Refuses, TellsRead, Writes};
 
@@ -30,7 +30,7 @@ pub fn run_task<H: How, R: Source, W: Sink>(
     ensures done { IfOk result (λ said. Writes (IsDueFor task (R.stream source.old))
         (W.stream sink.old) (W.stream sink.new) said.bytes) }
     ensures refused { IfErr result (Refuses (IsDueFor task (R.stream source.old))
-        (StandsFor (H.refuses how.now) task (R.stream source.old)) (W.stream sink.old) (W.stream sink.new)) }
+        (IsFaultFor (H.refuses how.now) task (R.stream source.old)) (W.stream sink.old) (W.stream sink.new)) }
     ensures read { TellsRead (R.stream source.old) (R.stream source.new) result }
     ensures kept { W.loan sink.new ≡ W.loan sink.old }
 {

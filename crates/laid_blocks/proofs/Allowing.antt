@@ -9,7 +9,7 @@ use Rattle.parcel.specs.Directions.{IsDirection, forward, backward, near, far}
 use Rattle.parcel.specs.States as core
 use Rattle.parcel.specs.Events.{least_below, is_open, allowed, highest_label}
 use Rattle.parcel.proofs.Inside.{least-le-start, least-le}
-use Rattle.block_net.specs.Views.{BlockView, lane_in, label_in, room_in, first_lane, first_border, least_span, lane_allows, border_allows, highest}
+use Rattle.block_net.specs.Views.{CellsView, lane_in, label_in, room_in, first_lane, first_border, least_span, lane_allows, border_allows, highest}
 use Rattle.block_net.specs.Whole.{Whole, block_at, block_with, home, place, slot, is_outer, StandsAt}
 use Rattle.parcel.specs.Effects.{BlocksView, state_of}
 use Rattle.laid_blocks.specs.Views.{IsSpot, IsRow}
@@ -61,7 +61,7 @@ sense_le : (k : ℕ) (t : Bool) (f : Direction → ℕ) (y : ℕ) → y ≤ min 
 sense_le k true f y le = omega (arith, le)
 sense_le k false f y le = omega (arith, le)
 
-module _ (w : Whole) (v : BlocksView) (b : ℕ) (B : BlockView) (u p : ℕ) (at : IsAt w v b B) (spot : IsSpot w u b p) where
+module _ (w : Whole) (v : BlocksView) (b : ℕ) (B : CellsView) (u p : ℕ) (at : IsAt w v b B) (spot : IsSpot w u b p) where
   row_at : (leaves : Bool) (j : ℕ) (x : Direction) → StandsAt w leaves u j x → IsRow w x leaves b j
   row_at leaves j x stands = record {
     direction = stands.direction;
@@ -137,8 +137,8 @@ module _ (w : Whole) (v : BlocksView) (b : ℕ) (B : BlockView) (u p : ℕ) (at 
   block_is : block_with w u ≡ B
   block_is = ap (block_at w) spot.home ∙ at.is
 
-  starts_are : (f : BlockView → List ℕ) (g : ℕ → ℕ) → slice_index (f (block_with w u)) (g (place w u)) ≡ slice_index (f B) (g p)
-  starts_are f g = ap (λ q. slice_index (f (block_with w u)) (g q)) spot.place ∙ ap (λ (q : BlockView). slice_index (f q) (g p)) block_is
+  starts_are : (f : CellsView → List ℕ) (g : ℕ → ℕ) → slice_index (f (block_with w u)) (g (place w u)) ≡ slice_index (f B) (g p)
+  starts_are f g = ap (λ q. slice_index (f (block_with w u)) (g q)) spot.place ∙ ap (λ (q : CellsView). slice_index (f q) (g p)) block_is
 
   le_own : (x : Direction) → IsDirection w.net x → near w.net x ≡ u → highest B p ≤ allowed (still v) u x
   le_own x l here = elim (cases_Bool (is_outer w x)) [
@@ -147,14 +147,14 @@ module _ (w : Whole) (v : BlocksView) (b : ℕ) (B : BlockView) (u p : ℕ) (at 
         let place_is = at.laid.placed.borders x l outer in
         let low = subst (λ n. slice_index (block_with w n).border_starts (place w n) ≤ slot w x) here place_is.from in
         let high = subst (λ n. slot w x < slice_index (block_with w n).border_starts (place w n + 1)) here place_is.below in
-        let le = border_within (slot w x) (omega (arith, low, starts_are (λ (q : BlockView). q.border_starts) (λ q. q))) (omega (arith, high, starts_are (λ (q : BlockView). q.border_starts) (λ q. q + 1))) in
+        let le = border_within (slot w x) (omega (arith, low, starts_are (λ (q : CellsView). q.border_starts) (λ q. q))) (omega (arith, high, starts_are (λ (q : CellsView). q.border_starts) (λ q. q + 1))) in
         omega (arith, le, outer_allows (slot w x) x stands)
     | inr inner ↦
         let stands : StandsAt w false u (slot w x) x = record { direction = l; near = here; outer = inner; slot = refl } in
         let place_is = at.laid.placed.inner x l inner in
         let low = subst (λ n. slice_index (block_with w n).starts (place w n) ≤ slot w x) here place_is.from in
         let high = subst (λ n. slot w x < slice_index (block_with w n).starts (place w n + 1)) here place_is.below in
-        let le = lane_within (slot w x) (omega (arith, low, starts_are (λ (q : BlockView). q.starts) (λ q. q))) (omega (arith, high, starts_are (λ (q : BlockView). q.starts) (λ q. q + 1))) in
+        let le = lane_within (slot w x) (omega (arith, low, starts_are (λ (q : CellsView). q.starts) (λ q. q))) (omega (arith, high, starts_are (λ (q : CellsView). q.starts) (λ q. q + 1))) in
         omega (arith, le, inner_allows (slot w x) x stands)
   ]
 
@@ -189,10 +189,10 @@ module _ (w : Whole) (v : BlocksView) (b : ℕ) (B : BlockView) (u p : ℕ) (at 
       (le-span (lane_allows B) (first_lane B p) (first_lane B (p + 1) - first_lane B p) start (highest_label (still v) u) (omega (arith, all, start_is))
       (λ k l.
       let j = first_lane B p + k in
-      let found = at.laid.placed.lanes u j spot.node (omega (arith, starts_are (λ (q : BlockView). q.starts) (λ q. q))) (omega (arith, l, starts_are (λ (q : BlockView). q.starts) (λ q. q + 1))) in
+      let found = at.laid.placed.lanes u j spot.node (omega (arith, starts_are (λ (q : CellsView). q.starts) (λ q. q))) (omega (arith, l, starts_are (λ (q : CellsView). q.starts) (λ q. q + 1))) in
       omega (arith, inner_allows j found.0 found.1, all_within found.0 found.1.direction)))
       (λ k l.
       let j = first_border B p + k in
-      let found = at.laid.placed.outers u j spot.node (omega (arith, starts_are (λ (q : BlockView). q.border_starts) (λ q. q))) (omega (arith, l, starts_are (λ (q : BlockView). q.border_starts) (λ q. q + 1))) in
+      let found = at.laid.placed.outers u j spot.node (omega (arith, starts_are (λ (q : CellsView). q.border_starts) (λ q. q))) (omega (arith, l, starts_are (λ (q : CellsView). q.border_starts) (λ q. q + 1))) in
       omega (arith, outer_allows j found.0 found.1, all_within found.0 found.1.direction)) in
       omega (arith, up, down)

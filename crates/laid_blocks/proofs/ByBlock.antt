@@ -11,9 +11,9 @@ use Rattle.parcel.specs.Directions.{IsDirection, near, far, forward, backward}
 use Rattle.parcel.specs.States as core
 use Rattle.parcel.proofs.Ends.{near_in, far_in, block_in}
 use Rattle.parcel.proofs.Lanes.{cases_direction, lane_same, lane_other, IsLong as IsLongOf}
-use Rattle.block_net.specs.declared.rows.Border.{Border}
+use Rattle.block_net.specs.declared.lanes.Border.{Border}
 use Rattle.block_net.specs.Views as block
-use Rattle.block_net.specs.Views.{BlockView, border_in, count}
+use Rattle.block_net.specs.Views.{CellsView, border_in, count}
 use Rattle.block_net.specs.Whole.{Whole, block_at, block_with, home, place, near_home, slot, is_outer, border_of, put_block, no_block}
 use Rattle.block_net.proofs.Tables.{table_at}
 use Rattle.block_net.proofs.Spans.{length_range, range_at}
@@ -59,11 +59,11 @@ far_at w b j laid lb lj =
     }
 
 -- what the code reads there
-pub far_read : (w : Whole) (b j : ℕ) (B : BlockView) (r : Border) → IsLaid w → b < length w.blocks → B ≡ get_or w.blocks b B → j < length (block_at w b).borders → r ≡ border_in B j
+pub far_read : (w : Whole) (b j : ℕ) (B : CellsView) (r : Border) → IsLaid w → b < length w.blocks → B ≡ get_or w.blocks b B → j < length (block_at w b).borders → r ≡ border_in B j
     → IsFarOf w b j r
 far_read w b j B r laid lb read lj e =
     let is : block_at w b ≡ B = sym (get_or_read w.blocks b B lb read no_block) in
-    subst (IsFarOf w b j) (ap (λ (q : BlockView). border_in q j) is ∙ sym e) (far_at w b j laid lb lj)
+    subst (IsFarOf w b j) (ap (λ (q : CellsView). border_in q j) is ∙ sym e) (far_at w b j laid lb lj)
 
 -- ---- a direction is told
 
@@ -141,7 +141,7 @@ telling_more w u t b j telling lb lj is laid =
       laid = laid;
       slots = ap (λ (q : Whole). q.slots) is ∙ telling.slots;
       number = ap (λ (q : Whole). length q.blocks) is ∙ (length-set u.blocks b new ∙ telling.number);
-      borders = ap (λ (q : BlockView). length q.borders) made ∙ (length-set (block_at u b).borders j _ ∙ telling.borders);
+      borders = ap (λ (q : CellsView). length q.borders) made ∙ (length-set (block_at u b).borders j _ ∙ telling.borders);
       rest = view ∙ ap (λ (q : core.Lanes). record a { lanes = q }) (sym lanes);
       told = λ y ly outer here below. ap (λ (q : core.Lanes). core.lane_at q y) lanes ∙ elim (cases_direction y x) [
         | inl e ↦ rw e (lane_same (length w.net.arcs) v.lanes x lane (subst (λ (n : Network). IsLongOf (length n.arcs) v.lanes) net (long_of u telling.laid)) x_in)
@@ -184,7 +184,7 @@ module _ (w : Whole) (b : ℕ) (labels : List ℕ) (laid : IsLaid w) (lb : b < l
     others = λ v lv off. refl;
   }
 
-  abbrev new_block : BlockView
+  abbrev new_block : CellsView
   new_block =
       record (block_at w b) { labels = slice_range labels (slice_index w.firsts b) (slice_index w.firsts b + count (block_at w b)) }
 
@@ -221,8 +221,8 @@ module _ (w : Whole) (b : ℕ) (labels : List ℕ) (laid : IsLaid w) (lb : b < l
       record {
         laid = laid_put w b new_block laid lb (like le);
         rest = same_view w.net _ _ _ _ _ _ _ _ _ (length-set w.blocks b new_block)
-            (numbers_same (λ (q : BlockView). q.excess) w b new_block lb refl)
-            (numbers_same (λ (q : BlockView). q.rooms) w b new_block lb refl)
+            (numbers_same (λ (q : CellsView). q.excess) w b new_block lb refl)
+            (numbers_same (λ (q : CellsView). q.rooms) w b new_block lb refl)
             (lanes_keep w b new_block lb refl refl);
         here = λ v lv home.
             let low = laid.placed.firsts v lv in
@@ -231,23 +231,23 @@ module _ (w : Whole) (b : ℕ) (labels : List ℕ) (laid : IsLaid w) (lb : b < l
             let inside : place w v < count (block_at w b) = omega (arith, laid.placed.places v lv, ap (λ h. count (block_at w h)) home) in
             label_now v lv
             ∙ (ap (λ h. slice_index (block_at u h).labels (place w v)) home
-            ∙ (ap (λ (q : BlockView). slice_index q.labels (place w v)) (block_same w b new_block lb)
+            ∙ (ap (λ (q : CellsView). slice_index q.labels (place w v)) (block_same w b new_block lb)
             ∙ (range_at labels first (first + count (block_at w b)) (place w v) 0 (omega (arith, inside))
             ∙ ap (slice_index labels) (omega (arith, at, low, low')))));
         others = λ v lv off.
             label_now v lv
-            ∙ (ap (λ (q : BlockView). slice_index q.labels (place w v)) (block_other w b new_block (home w v) off)
+            ∙ (ap (λ (q : CellsView). slice_index q.labels (place w v)) (block_other w b new_block (home w v) off)
             ∙ sym (table_at (nodes w.net) (λ i. slice_index (block_with w i).labels (place w i)) v 0 lv));
       }
 
 -- what the code reads of a block that has nodes
-pub record IsReadBlock (w : Whole) (b : ℕ) (B : BlockView) (n f : ℕ) : Type 0 where
+pub record IsReadBlock (w : Whole) (b : ℕ) (B : CellsView) (n f : ℕ) : Type 0 where
   pub is : block_at w b ≡ B
   pub many : n ≡ count (block_at w b)
   pub first : f ≡ slice_index w.firsts b
   pub within : f + n ≤ nodes w.net
 
-pub read_block : (w : Whole) (b : ℕ) (B : BlockView) (n f : ℕ) → IsLaid w → b < length w.blocks → B ≡ get_or w.blocks b B → n ≡ count B → (n ≡ 0 → ⊥)
+pub read_block : (w : Whole) (b : ℕ) (B : CellsView) (n f : ℕ) → IsLaid w → b < length w.blocks → B ≡ get_or w.blocks b B → n ≡ count B → (n ≡ 0 → ⊥)
     → f ≡ get_or w.firsts b f → IsReadBlock w b B n f
 read_block w b B n f laid lb read is_n some is_f =
     let is : block_at w b ≡ B = sym (get_or_read w.blocks b B lb read no_block) in

@@ -9,11 +9,11 @@ use Rattle.flow_network.specs.Cut.{nodes, IsNet}
 use Rattle.flow_network.specs.Progress.{top}
 use Rattle.parcel.specs.declared.direction.Direction.{Direction}
 use Rattle.parcel.specs.Directions.{IsDirection, near, far}
-use Rattle.parcel.specs.Reach.{LeadsIn, IsExact, AreExact}
+use Rattle.parcel.specs.Reach.{ReachesIn, IsExact, AreExact}
 use Rattle.parcel.specs.States as core
 use Rattle.parcel.proofs.Ends.{near_in, far_in}
 use Rattle.parcel.specs.Effects.{BlocksView, labelled}
-use Rattle.laid_blocks.specs.Raising.{bare, IsReached, IsLowered, IsStableAlong, IsStable}
+use Rattle.laid_blocks.specs.Raising.{bare, AreLengths, IsLowered, IsStableAlong, IsStable}
 
 -- ---- as many levels as nodes
 
@@ -43,13 +43,13 @@ levels n m f at =
 module _ (s : core.State) (labels : List ℕ) (net : IsNet s.net)
     (rooms : (v : ℕ) → v < nodes s.net → 0 < core.room_of s v → slice_index labels v ≤ 1)
     (steps : (x : Direction) → IsDirection s.net x → 0 < core.residual_of s x → slice_index labels (near s.net x) ≤ slice_index labels (far s.net x) + 1)
-    (reached : (v : ℕ) → v < nodes s.net → (slice_index labels v ≡ top s.net) ⊎ ((slice_index labels v < top s.net) × LeadsIn s (slice_index labels v) v)) where
-  starts_in : (d v : ℕ) → LeadsIn s d v → v < nodes s.net
+    (reached : (v : ℕ) → v < nodes s.net → (slice_index labels v ≡ top s.net) ⊎ ((slice_index labels v < top s.net) × ReachesIn s (slice_index labels v) v)) where
+  starts_in : (d v : ℕ) → ReachesIn s d v → v < nodes s.net
   starts_in zero v path = absurd path
   starts_in (suc zero) v path = path.0
   starts_in (suc (suc d)) v path = rw (sym path.2) (near_in s.net path.0 net path.1)
 
-  le_path : (d v : ℕ) → LeadsIn s d v → slice_index labels v ≤ d
+  le_path : (d v : ℕ) → ReachesIn s d v → slice_index labels v ≤ d
   le_path zero v path = absurd path
   le_path (suc zero) v path = rooms v path.0 path.1
   le_path (suc (suc d)) v path =
@@ -57,7 +57,7 @@ module _ (s : core.State) (labels : List ℕ) (net : IsNet s.net)
       omega (arith, step, le_path (suc d) (far s.net path.0) path.4)
 
   -- below a node that is as high as a path is long there is a node of each label
-  each_level : (d v : ℕ) → slice_index labels v ≡ d → LeadsIn s d v → (i : ℕ) → i < d → (u : ℕ) × (u < nodes s.net) × (slice_index labels u - 1 ≡ i)
+  each_level : (d v : ℕ) → slice_index labels v ≡ d → ReachesIn s d v → (i : ℕ) → i < d → (u : ℕ) × (u < nodes s.net) × (slice_index labels u - 1 ≡ i)
   each_level zero v is path i l = absurd path
   each_level (suc zero) v is path i l = (v, path.0, omega (arith, is, l))
   each_level (suc (suc d)) v is path i l = elim (cases_lt i (suc d)) [
@@ -68,7 +68,7 @@ module _ (s : core.State) (labels : List ℕ) (net : IsNet s.net)
     | inr not_below ↦ (v, starts_in (suc (suc d)) v path, omega (arith, is, l, not_below))
   ]
 
-  low : (v : ℕ) → LeadsIn s (slice_index labels v) v → slice_index labels v ≤ nodes s.net
+  low : (v : ℕ) → ReachesIn s (slice_index labels v) v → slice_index labels v ≤ nodes s.net
   low v path = levels (nodes s.net) (slice_index labels v) (λ u. slice_index labels u - 1) (each_level (slice_index labels v) v refl path)
 
   below_top : (v : ℕ) → v < nodes s.net → slice_index labels v < top s.net → slice_index labels v ≤ nodes s.net
@@ -77,7 +77,7 @@ module _ (s : core.State) (labels : List ℕ) (net : IsNet s.net)
     | inr found ↦ low v found.1
   ]
 
-  le_nodes : (d v : ℕ) → LeadsIn s d v → slice_index labels v ≤ nodes s.net
+  le_nodes : (d v : ℕ) → ReachesIn s d v → slice_index labels v ≤ nodes s.net
   le_nodes zero v path = absurd path
   le_nodes (suc zero) v path = below_top v path.0 (omega (arith, rooms v path.0 path.1))
   le_nodes (suc (suc d)) v path =
@@ -95,7 +95,7 @@ module _ (s : core.State) (labels : List ℕ) (net : IsNet s.net)
 
 -- ---- one label comes down
 
-one_more : (s : core.State) (x : Direction) (d : ℕ) → IsDirection s.net x → 0 < core.residual_of s x → LeadsIn s d (far s.net x) → LeadsIn s (d + 1) (near s.net x)
+one_more : (s : core.State) (x : Direction) (d : ℕ) → IsDirection s.net x → 0 < core.residual_of s x → ReachesIn s d (far s.net x) → ReachesIn s (d + 1) (near s.net x)
 one_more s x zero l residual path = absurd path
 one_more s x (suc d) l residual path = rw add-one (x, l, refl, residual, path)
 
@@ -106,7 +106,7 @@ pub not_lowered : (b : BlocksView) → IsLowered b b false
 not_lowered b = record { rest = refl; len = refl; reached = λ r. r; less = λ e. true_false e; still = λ e. refl }
 
 pub lowered_label : (b : BlocksView) (v d : ℕ) → v < nodes b.net → length b.labels ≡ nodes b.net → d < slice_index b.labels v
-    → (IsReached b → (d < top b.net) × LeadsIn (bare b) d v) → IsLowered b (labelled b v d) true
+    → (AreLengths b → (d < top b.net) × ReachesIn (bare b) d v) → IsLowered b (labelled b v d) true
 lowered_label b v d l long below reached = record {
   rest = refl;
   len = length-set b.labels v d;
@@ -156,13 +156,13 @@ pub record IsFilled (old now : BlocksView) (f : ℕ → ℕ) (count : ℕ) : Typ
 pub record IsSearch (old now : BlocksView) : Type 0 where
   pub rest : now ≡ record old { labels = now.labels }
   pub len : length now.labels ≡ nodes old.net
-  pub reached : IsReached now
+  pub reached : AreLengths now
 
 -- ---- the steps of a pass
 
 pub step_down : (b : BlocksView) (x : Direction) → IsNet b.net → IsDirection b.net x → 0 < (core.lane_at b.lanes x).residual
-    → slice_index b.labels (far b.net x) + 1 < slice_index b.labels (near b.net x) → IsReached b
-    → (slice_index b.labels (far b.net x) + 1 < top b.net) × LeadsIn (bare b) (slice_index b.labels (far b.net x) + 1) (near b.net x)
+    → slice_index b.labels (far b.net x) + 1 < slice_index b.labels (near b.net x) → AreLengths b
+    → (slice_index b.labels (far b.net x) + 1 < top b.net) × ReachesIn (bare b) (slice_index b.labels (far b.net x) + 1) (near b.net x)
 step_down b x net l residual above r =
     let at_near : slice_index b.labels (near b.net x) ≤ top b.net = elim (r.each (near b.net x) (near_in b.net x net l)) [
       | inl at_top ↦ omega (arith, at_top)
@@ -187,16 +187,16 @@ filled_more a b c f v d made is l at_v = rw is record {
 pub search_starts : (a b : BlocksView) → b ≡ record a { labels = b.labels } → length b.labels ≡ nodes a.net → ((v : ℕ) → v < nodes a.net → slice_index b.labels v ≡ top a.net) → IsSearch a b
 search_starts a b rest len tops =
     let a' : BlocksView = record a { labels = b.labels } in
-    let at_top : IsReached a' = record { each = λ v l. inl (tops v l) } in
-    record { rest = rest; len = len; reached = subst IsReached (sym rest) at_top }
+    let at_top : AreLengths a' = record { each = λ v l. inl (tops v l) } in
+    record { rest = rest; len = len; reached = subst AreLengths (sym rest) at_top }
 
 along : (b : BlocksView) → IsStable b → (k : ℕ) (back : Bool) → k < length b.net.arcs → IsStableAlong b (record { arc = k; back = back })
 along b stable k true l = stable.back k l
 along b stable k false l = stable.forth k l
 
-pub search_exact : (a b : BlocksView) → IsNet a.net → b ≡ record a { labels = b.labels } → length b.labels ≡ nodes a.net → IsReached b → IsStable b → AreExact (bare a) b.labels
+pub search_exact : (a b : BlocksView) → IsNet a.net → b ≡ record a { labels = b.labels } → length b.labels ≡ nodes a.net → AreLengths b → IsStable b → AreExact (bare a) b.labels
 search_exact a b net rest len reached stable =
     let b' : BlocksView = record a { labels = b.labels } in
-    let reached' = subst IsReached rest reached in
+    let reached' = subst AreLengths rest reached in
     let stable' = subst IsStable rest stable in
     are_exact (bare a) b.labels net (λ v l room. stable'.rooms v l room) (λ x l residual. along b' stable' x.arc x.back l residual) (λ v l. reached'.each v l) len

@@ -14,91 +14,91 @@ use Rattle.parcel.specs.States as core
 use Rattle.parcel.specs.Soundness.{amount_out}
 use Rattle.parcel.proofs.Ends.{near_in, far_in}
 use Rattle.parcel.proofs.Lanes.{near_opposite, border_opposite}
-use Rattle.block_net.specs.declared.rows.InnerLane.{InnerLane}
-use Rattle.block_net.specs.declared.rows.Border.{Border}
+use Rattle.block_net.specs.declared.lanes.InnerLane.{InnerLane}
+use Rattle.block_net.specs.declared.lanes.Border.{Border}
 use Rattle.block_net.specs.Views as block
-use Rattle.block_net.specs.Views.{BlockView, no_row, no_border, count, excess_in, label_in, room_in, lane_in, border_in, out_of}
+use Rattle.block_net.specs.Views.{CellsView, no_row, no_border, count, excess_in, label_in, room_in, lane_in, border_in, out_of}
 use Rattle.block_net.specs.Whole.{Whole, no_block, block_at, block_with, home, place, slot, is_outer, lane_of, border_of, shown_lane, shown_border, put_block}
 use Rattle.block_net.proofs.Tables.{table_at}
-use Rattle.parcel.specs.Effects.{BlocksView, gave, labelled, pushed, sent, accepted, settled, returned}
+use Rattle.parcel.specs.Effects.{BlocksView, given, labelled, pushed, sent, accepted, settled, returned}
 use Rattle.laid_blocks.specs.Views.{blocks_in, IsLaid, IsSpot, IsRow}
 use Rattle.laid_blocks.proofs.Writing.{IsLike, spot_put, row_put, numbers_same, numbers_set, numbers, lanes_keep, lane_shown, border_shown, lane_read, inner_shown, outer_shown, same_spot, laid_put, set_other, block_same}
 
 -- the blocks show v, and the block at b is B
-pub record IsAt (w : Whole) (v : BlocksView) (b : ℕ) (B : BlockView) : Type 0 where
+pub record IsAt (w : Whole) (v : BlocksView) (b : ℕ) (B : CellsView) : Type 0 where
   pub laid : IsLaid w
   pub view : blocks_in w ≡ v
   pub block : b < length w.blocks
   pub is : block_at w b ≡ B
 
 -- the block that the code read
-pub at_read : (w : Whole) (v : BlocksView) (b : ℕ) (B : BlockView) → IsLaid w → blocks_in w ≡ v → b < length w.blocks → B ≡ get_or w.blocks b B → IsAt w v b B
+pub at_read : (w : Whole) (v : BlocksView) (b : ℕ) (B : CellsView) → IsLaid w → blocks_in w ≡ v → b < length w.blocks → B ≡ get_or w.blocks b B → IsAt w v b B
 at_read w v b B laid view l read = record { laid = laid; view = view; block = l; is = sym (get_or_read w.blocks b B l read no_block) }
 
 -- ---- what is read
 
-pub node_below : (w : Whole) (v : BlocksView) (b : ℕ) (B : BlockView) (u p : ℕ) → IsAt w v b B → IsSpot w u b p → p < count B
+pub node_below : (w : Whole) (v : BlocksView) (b : ℕ) (B : CellsView) (u p : ℕ) → IsAt w v b B → IsSpot w u b p → p < count B
 node_below w v b B u p at spot =
-    let is = ap (λ (q : BlockView). count q) (ap (block_at w) spot.home ∙ at.is) in
+    let is = ap (λ (q : CellsView). count q) (ap (block_at w) spot.home ∙ at.is) in
     omega (arith, is, spot.place, at.laid.placed.places u spot.node)
 
-number_read : (f : BlockView → List ℕ) (w : Whole) (b : ℕ) (B : BlockView) (u p : ℕ) → block_at w b ≡ B → IsSpot w u b p → slice_index (f B) p ≡ slice_index (numbers f w) u
+number_read : (f : CellsView → List ℕ) (w : Whole) (b : ℕ) (B : CellsView) (u p : ℕ) → block_at w b ≡ B → IsSpot w u b p → slice_index (f B) p ≡ slice_index (numbers f w) u
 number_read f w b B u p is spot =
     sym (table_at (nodes w.net) (λ v. slice_index (f (block_with w v)) (place w v)) u 0 spot.node
     ∙ (ap (slice_index (f (block_with w u))) spot.place
-    ∙ ap (λ (q : BlockView). slice_index (f q) p) (ap (block_at w) spot.home ∙ is)))
+    ∙ ap (λ (q : CellsView). slice_index (f q) p) (ap (block_at w) spot.home ∙ is)))
 
-pub excess_read : (w : Whole) (v : BlocksView) (b : ℕ) (B : BlockView) (u p : ℕ) → IsAt w v b B → IsSpot w u b p → excess_in B p ≡ slice_index v.excess u
-excess_read w v b B u p at spot = number_read (λ (q : BlockView). q.excess) w b B u p at.is spot ∙ ap (λ (q : BlocksView). slice_index q.excess u) at.view
+pub excess_read : (w : Whole) (v : BlocksView) (b : ℕ) (B : CellsView) (u p : ℕ) → IsAt w v b B → IsSpot w u b p → excess_in B p ≡ slice_index v.excess u
+excess_read w v b B u p at spot = number_read (λ (q : CellsView). q.excess) w b B u p at.is spot ∙ ap (λ (q : BlocksView). slice_index q.excess u) at.view
 
-pub label_read : (w : Whole) (v : BlocksView) (b : ℕ) (B : BlockView) (u p : ℕ) → IsAt w v b B → IsSpot w u b p → label_in B p ≡ slice_index v.labels u
-label_read w v b B u p at spot = number_read (λ (q : BlockView). q.labels) w b B u p at.is spot ∙ ap (λ (q : BlocksView). slice_index q.labels u) at.view
+pub label_read : (w : Whole) (v : BlocksView) (b : ℕ) (B : CellsView) (u p : ℕ) → IsAt w v b B → IsSpot w u b p → label_in B p ≡ slice_index v.labels u
+label_read w v b B u p at spot = number_read (λ (q : CellsView). q.labels) w b B u p at.is spot ∙ ap (λ (q : BlocksView). slice_index q.labels u) at.view
 
-pub room_read : (w : Whole) (v : BlocksView) (b : ℕ) (B : BlockView) (u p : ℕ) → IsAt w v b B → IsSpot w u b p → room_in B p ≡ slice_index v.rooms u
-room_read w v b B u p at spot = number_read (λ (q : BlockView). q.rooms) w b B u p at.is spot ∙ ap (λ (q : BlocksView). slice_index q.rooms u) at.view
+pub room_read : (w : Whole) (v : BlocksView) (b : ℕ) (B : CellsView) (u p : ℕ) → IsAt w v b B → IsSpot w u b p → room_in B p ≡ slice_index v.rooms u
+room_read w v b B u p at spot = number_read (λ (q : CellsView). q.rooms) w b B u p at.is spot ∙ ap (λ (q : BlocksView). slice_index q.rooms u) at.view
 
-pub top_read : (w : Whole) (v : BlocksView) (b : ℕ) (B : BlockView) → IsAt w v b B → B.top ≡ top v.net
-top_read w v b B at = ap (λ (q : BlockView). q.top) (sym at.is) ∙ (at.laid.placed.tops b at.block ∙ ap (λ (q : BlocksView). top q.net) at.view)
+pub top_read : (w : Whole) (v : BlocksView) (b : ℕ) (B : CellsView) → IsAt w v b B → B.top ≡ top v.net
+top_read w v b B at = ap (λ (q : CellsView). q.top) (sym at.is) ∙ (at.laid.placed.tops b at.block ∙ ap (λ (q : BlocksView). top q.net) at.view)
 
-pub lane_below : (w : Whole) (v : BlocksView) (b : ℕ) (B : BlockView) (x : Direction) (j : ℕ) → IsAt w v b B → IsRow w x false b j → j < length B.lanes
+pub lane_below : (w : Whole) (v : BlocksView) (b : ℕ) (B : CellsView) (x : Direction) (j : ℕ) → IsAt w v b B → IsRow w x false b j → j < length B.lanes
 lane_below w v b B x j at row =
-    let is = ap (λ (q : BlockView). length q.lanes) (ap (block_at w) row.home ∙ at.is) in
+    let is = ap (λ (q : CellsView). length q.lanes) (ap (block_at w) row.home ∙ at.is) in
     omega (arith, is, row.slot, (at.laid.placed.inner x row.direction row.outer).within)
 
-pub border_below : (w : Whole) (v : BlocksView) (b : ℕ) (B : BlockView) (x : Direction) (j : ℕ) → IsAt w v b B → IsRow w x true b j → j < length B.borders
+pub border_below : (w : Whole) (v : BlocksView) (b : ℕ) (B : CellsView) (x : Direction) (j : ℕ) → IsAt w v b B → IsRow w x true b j → j < length B.borders
 border_below w v b B x j at row =
-    let is = ap (λ (q : BlockView). length q.borders) (ap (block_at w) row.home ∙ at.is) in
+    let is = ap (λ (q : CellsView). length q.borders) (ap (block_at w) row.home ∙ at.is) in
     omega (arith, is, row.slot, (at.laid.placed.borders x row.direction row.outer).within)
 
-lane_is : (w : Whole) (v : BlocksView) (b : ℕ) (B : BlockView) (x : Direction) (j : ℕ) → IsAt w v b B → IsRow w x false b j → lane_in B j ≡ lane_of w x
+lane_is : (w : Whole) (v : BlocksView) (b : ℕ) (B : CellsView) (x : Direction) (j : ℕ) → IsAt w v b B → IsRow w x false b j → lane_in B j ≡ lane_of w x
 lane_is w v b B x j at row =
-    sym (ap (λ (q : BlockView). lane_in q (slot w x)) (ap (block_at w) row.home ∙ at.is) ∙ ap (lane_in B) row.slot)
+    sym (ap (λ (q : CellsView). lane_in q (slot w x)) (ap (block_at w) row.home ∙ at.is) ∙ ap (lane_in B) row.slot)
 
-border_is : (w : Whole) (v : BlocksView) (b : ℕ) (B : BlockView) (x : Direction) (j : ℕ) → IsAt w v b B → IsRow w x true b j → border_in B j ≡ border_of w x
+border_is : (w : Whole) (v : BlocksView) (b : ℕ) (B : CellsView) (x : Direction) (j : ℕ) → IsAt w v b B → IsRow w x true b j → border_in B j ≡ border_of w x
 border_is w v b B x j at row =
-    sym (ap (λ (q : BlockView). border_in q (slot w x)) (ap (block_at w) row.home ∙ at.is) ∙ ap (border_in B) row.slot)
+    sym (ap (λ (q : CellsView). border_in q (slot w x)) (ap (block_at w) row.home ∙ at.is) ∙ ap (border_in B) row.slot)
 
-pub inner_read : (w : Whole) (v : BlocksView) (b : ℕ) (B : BlockView) (x : Direction) (j : ℕ) → IsAt w v b B → IsRow w x false b j → shown_lane (lane_in B j) ≡ core.lane_at v.lanes x
+pub inner_read : (w : Whole) (v : BlocksView) (b : ℕ) (B : CellsView) (x : Direction) (j : ℕ) → IsAt w v b B → IsRow w x false b j → shown_lane (lane_in B j) ≡ core.lane_at v.lanes x
 inner_read w v b B x j at row =
     ap shown_lane (lane_is w v b B x j at row)
     ∙ (sym (inner_shown w x row.outer) ∙ (sym (lane_read w x row.direction) ∙ ap (λ (q : BlocksView). core.lane_at q.lanes x) at.view))
 
-pub border_read : (w : Whole) (v : BlocksView) (b : ℕ) (B : BlockView) (x : Direction) (j : ℕ) → IsAt w v b B → IsRow w x true b j → shown_border (border_in B j) ≡ core.lane_at v.lanes x
+pub border_read : (w : Whole) (v : BlocksView) (b : ℕ) (B : CellsView) (x : Direction) (j : ℕ) → IsAt w v b B → IsRow w x true b j → shown_border (border_in B j) ≡ core.lane_at v.lanes x
 border_read w v b B x j at row =
     ap shown_border (border_is w v b B x j at row)
     ∙ (sym (outer_shown w x row.outer) ∙ (sym (lane_read w x row.direction) ∙ ap (λ (q : BlocksView). core.lane_at q.lanes x) at.view))
 
 -- the capacity of the arc of a border direction
-pub border_capacity : (w : Whole) (v : BlocksView) (b : ℕ) (B : BlockView) (x : Direction) (j : ℕ) → IsAt w v b B → IsRow w x true b j → (border_in B j).capacity ≡ (arc_at v.net x.arc).capacity
+pub border_capacity : (w : Whole) (v : BlocksView) (b : ℕ) (B : CellsView) (x : Direction) (j : ℕ) → IsAt w v b B → IsRow w x true b j → (border_in B j).capacity ≡ (arc_at v.net x.arc).capacity
 border_capacity w v b B x j at row =
     ap (λ (q : Border). q.capacity) (border_is w v b B x j at row)
     ∙ ((at.laid.placed.borders x row.direction row.outer).capacity ∙ ap (λ (q : BlocksView). (arc_at q.net x.arc).capacity) at.view)
 
 -- the place of the far node, and the slot of the opposite direction
-pub lane_far : (w : Whole) (v : BlocksView) (b : ℕ) (B : BlockView) (x : Direction) (j : ℕ) → IsAt w v b B → IsRow w x false b j → (lane_in B j).far ≡ place w (far w.net x)
+pub lane_far : (w : Whole) (v : BlocksView) (b : ℕ) (B : CellsView) (x : Direction) (j : ℕ) → IsAt w v b B → IsRow w x false b j → (lane_in B j).far ≡ place w (far w.net x)
 lane_far w v b B x j at row = ap (λ (q : InnerLane). q.far) (lane_is w v b B x j at row) ∙ (at.laid.placed.inner x row.direction row.outer).far
 
-pub lane_opposite : (w : Whole) (v : BlocksView) (b : ℕ) (B : BlockView) (x : Direction) (j : ℕ) → IsAt w v b B → IsRow w x false b j → (lane_in B j).opposite ≡ slot w (opposite x)
+pub lane_opposite : (w : Whole) (v : BlocksView) (b : ℕ) (B : CellsView) (x : Direction) (j : ℕ) → IsAt w v b B → IsRow w x false b j → (lane_in B j).opposite ≡ slot w (opposite x)
 lane_opposite w v b B x j at row = ap (λ (q : InnerLane). q.opposite) (lane_is w v b B x j at row) ∙ (at.laid.placed.inner x row.direction row.outer).opposite
 
 -- ---- the spots and rows that a row leads to
@@ -111,13 +111,13 @@ same_blocks : (a b : ℕ) → not (eqb a b) ≡ false → a ≡ b
 same_blocks a b h = eqb-true a b (not_false (eqb a b) h)
 
 -- the row of a direction, where it is known whether it leads to another block
-pub row_as : (w : Whole) (v : BlocksView) (b : ℕ) (B : BlockView) (x : Direction) (leaves : Bool) (j : ℕ) → IsAt w v b B → IsRow w x (is_outer w x) b j → core.is_border v.net v.blocks x ≡ leaves
+pub row_as : (w : Whole) (v : BlocksView) (b : ℕ) (B : CellsView) (x : Direction) (leaves : Bool) (j : ℕ) → IsAt w v b B → IsRow w x (is_outer w x) b j → core.is_border v.net v.blocks x ≡ leaves
     → IsRow w x leaves b j
 row_as w v b B x leaves j at row e =
     subst (λ (o : Bool). IsRow w x o b j) (ap (λ (q : BlocksView). core.is_border q.net q.blocks x) at.view ∙ e) row
 
 -- the spot of the near end of a direction, whose block and place were found apart
-pub spot_as : (w : Whole) (v : BlocksView) (b : ℕ) (B : BlockView) (x : Direction) (leaves : Bool) (j n c p : ℕ) → IsAt w v b B → IsRow w x leaves b j → n ≡ near w.net x → IsSpot w n c p
+pub spot_as : (w : Whole) (v : BlocksView) (b : ℕ) (B : CellsView) (x : Direction) (leaves : Bool) (j n c p : ℕ) → IsAt w v b B → IsRow w x leaves b j → n ≡ near w.net x → IsSpot w n c p
     → IsSpot w (near v.net x) b p
 spot_as w v b B x leaves j n c p at row e spot =
     let here : IsSpot w (near w.net x) b p = record {
@@ -128,7 +128,7 @@ spot_as w v b B x leaves j n c p at row e spot =
     } in
     subst (λ (q : BlocksView). IsSpot w (near q.net x) b p) at.view here
 
-pub border_spot : (w : Whole) (v : BlocksView) (b : ℕ) (B : BlockView) (x : Direction) (j : ℕ) → IsAt w v b B → IsRow w x true b j → IsSpot w (near v.net x) b (border_in B j).near
+pub border_spot : (w : Whole) (v : BlocksView) (b : ℕ) (B : CellsView) (x : Direction) (j : ℕ) → IsAt w v b B → IsRow w x true b j → IsSpot w (near v.net x) b (border_in B j).near
 border_spot w v b B x j at row =
     let here : IsSpot w (near w.net x) b (border_in B j).near = record {
       node = near_in w.net x at.laid.net row.direction;
@@ -139,11 +139,11 @@ border_spot w v b B x j at row =
     subst (λ (q : BlocksView). IsSpot w (near q.net x) b (border_in B j).near) at.view here
 
 -- the spot of the far end, seen from the opposite direction
-pub back_spot : (w : Whole) (v : BlocksView) (b : ℕ) (B : BlockView) (x : Direction) (j : ℕ) → IsAt w v b B → IsRow w (opposite x) true b j → IsSpot w (far v.net x) b (border_in B j).near
+pub back_spot : (w : Whole) (v : BlocksView) (b : ℕ) (B : CellsView) (x : Direction) (j : ℕ) → IsAt w v b B → IsRow w (opposite x) true b j → IsSpot w (far v.net x) b (border_in B j).near
 back_spot w v b B x j at row =
     subst (λ n. IsSpot w n b (border_in B j).near) (near_opposite v.net x) (border_spot w v b B (opposite x) j at row)
 
-pub far_spot : (w : Whole) (v : BlocksView) (b : ℕ) (B : BlockView) (x : Direction) (j : ℕ) → IsAt w v b B → IsRow w x false b j → IsSpot w (far v.net x) b (lane_in B j).far
+pub far_spot : (w : Whole) (v : BlocksView) (b : ℕ) (B : CellsView) (x : Direction) (j : ℕ) → IsAt w v b B → IsRow w x false b j → IsSpot w (far v.net x) b (lane_in B j).far
 far_spot w v b B x j at row =
     let here : IsSpot w (far w.net x) b (lane_in B j).far = record {
       node = far_in w.net x at.laid.net row.direction;
@@ -153,7 +153,7 @@ far_spot w v b B x j at row =
     } in
     subst (λ (q : BlocksView). IsSpot w (far q.net x) b (lane_in B j).far) at.view here
 
-pub back_row : (w : Whole) (v : BlocksView) (b : ℕ) (B : BlockView) (x : Direction) (j : ℕ) → IsAt w v b B → IsRow w x false b j → IsRow w (opposite x) false b (lane_in B j).opposite
+pub back_row : (w : Whole) (v : BlocksView) (b : ℕ) (B : CellsView) (x : Direction) (j : ℕ) → IsAt w v b B → IsRow w x false b j → IsRow w (opposite x) false b (lane_in B j).opposite
 back_row w v b B x j at row = record {
   direction = row.direction;
   outer = border_opposite w.net (length w.blocks) x ∙ row.outer;
@@ -163,7 +163,7 @@ back_row w v b B x j at row = record {
 }
 
 -- a direction within a block does not lead to the node's own place, where its ends are two nodes
-pub far_other : (w : Whole) (v : BlocksView) (b : ℕ) (B : BlockView) (x : Direction) (j p : ℕ) → IsAt w v b B → IsRow w x false b j → IsSpot w (near v.net x) b p
+pub far_other : (w : Whole) (v : BlocksView) (b : ℕ) (B : CellsView) (x : Direction) (j p : ℕ) → IsAt w v b B → IsRow w x false b j → IsSpot w (near v.net x) b p
     → (near v.net x ≡ far v.net x → ⊥) → (lane_in B j).far ≡ p → ⊥
 far_other w v b B x j p at row spot off same =
     let away = far_spot w v b B x j at row in
@@ -182,34 +182,34 @@ same_view : (n n' : Network) (k k' : ℕ) (e e' l l' r r' : List ℕ) (q q' : co
     → view_of n k e l r q ≡ view_of n' k' e' l' r' q'
 same_view n n' k k' e e' l l' r r' q q' e1 e2 e3 e4 e5 e6 = rw (e1, e2, e3, e4, e5, e6) refl
 
-module _ (w : Whole) (v : BlocksView) (b : ℕ) (B : BlockView) (at : IsAt w v b B) (new : BlockView) where
-  keep_numbers : (f : BlockView → List ℕ) → f new ≡ f B → numbers f (put_block w b new) ≡ numbers f w
+module _ (w : Whole) (v : BlocksView) (b : ℕ) (B : CellsView) (at : IsAt w v b B) (new : CellsView) where
+  keep_numbers : (f : CellsView → List ℕ) → f new ≡ f B → numbers f (put_block w b new) ≡ numbers f w
   keep_numbers f e = numbers_same f w b new at.block (e ∙ ap f (sym at.is))
 
   keep_excess : new.excess ≡ B.excess → (blocks_in (put_block w b new)).excess ≡ v.excess
-  keep_excess e = keep_numbers (λ (q : BlockView). q.excess) e ∙ ap (λ (q : BlocksView). q.excess) at.view
+  keep_excess e = keep_numbers (λ (q : CellsView). q.excess) e ∙ ap (λ (q : BlocksView). q.excess) at.view
 
   keep_labels : new.labels ≡ B.labels → (blocks_in (put_block w b new)).labels ≡ v.labels
-  keep_labels e = keep_numbers (λ (q : BlockView). q.labels) e ∙ ap (λ (q : BlocksView). q.labels) at.view
+  keep_labels e = keep_numbers (λ (q : CellsView). q.labels) e ∙ ap (λ (q : BlocksView). q.labels) at.view
 
   keep_rooms : new.rooms ≡ B.rooms → (blocks_in (put_block w b new)).rooms ≡ v.rooms
-  keep_rooms e = keep_numbers (λ (q : BlockView). q.rooms) e ∙ ap (λ (q : BlocksView). q.rooms) at.view
+  keep_rooms e = keep_numbers (λ (q : CellsView). q.rooms) e ∙ ap (λ (q : BlocksView). q.rooms) at.view
 
   keep_lanes : new.lanes ≡ B.lanes → new.borders ≡ B.borders → (blocks_in (put_block w b new)).lanes ≡ v.lanes
   keep_lanes lanes borders =
-      lanes_keep w b new at.block (lanes ∙ ap (λ (q : BlockView). q.lanes) (sym at.is)) (borders ∙ ap (λ (q : BlockView). q.borders) (sym at.is))
+      lanes_keep w b new at.block (lanes ∙ ap (λ (q : CellsView). q.lanes) (sym at.is)) (borders ∙ ap (λ (q : CellsView). q.borders) (sym at.is))
       ∙ ap (λ (q : BlocksView). q.lanes) at.view
 
-  put_numbers : (f : BlockView → List ℕ) (u p y : ℕ) → IsSpot w u b p → p < length (f B) → f new ≡ set (f B) p y → numbers f (put_block w b new) ≡ set (numbers f w) u y
+  put_numbers : (f : CellsView → List ℕ) (u p y : ℕ) → IsSpot w u b p → p < length (f B) → f new ≡ set (f B) p y → numbers f (put_block w b new) ≡ set (numbers f w) u y
   put_numbers f u p y spot lp e =
-      numbers_set f w u b p y new at.laid.placed spot (subst (λ (q : BlockView). p < length (f q)) (sym at.is) lp)
-      (e ∙ ap (λ (q : BlockView). set (f q) p y) (sym at.is))
+      numbers_set f w u b p y new at.laid.placed spot (subst (λ (q : CellsView). p < length (f q)) (sym at.is) lp)
+      (e ∙ ap (λ (q : CellsView). set (f q) p y) (sym at.is))
 
   stepped : IsLike B new → (e l r : List ℕ) (q : core.Lanes) → (blocks_in (put_block w b new)).excess ≡ e → (blocks_in (put_block w b new)).labels ≡ l
       → (blocks_in (put_block w b new)).rooms ≡ r → (blocks_in (put_block w b new)).lanes ≡ q
       → IsAt (put_block w b new) (record v { excess = e; labels = l; rooms = r; lanes = q }) b new
   stepped like e l r q e1 e2 e3 e4 = record {
-    laid = laid_put w b new at.laid at.block (subst (λ (o : BlockView). IsLike o new) (sym at.is) like);
+    laid = laid_put w b new at.laid at.block (subst (λ (o : CellsView). IsLike o new) (sym at.is) like);
     view = same_view _ _ _ _ _ _ _ _ _ _ _ _ (ap (λ (o : BlocksView). o.net) at.view) (length-set w.blocks b new ∙ ap (λ (o : BlocksView). o.blocks) at.view) e1 e2 e3 e4;
     block = omega (arith, at.block, length-set w.blocks b new);
     is = block_same w b new at.block;
@@ -217,7 +217,7 @@ module _ (w : Whole) (v : BlocksView) (b : ℕ) (B : BlockView) (at : IsAt w v b
 
 -- ---- blocks that are alike
 
-like_excess : (B : BlockView) (p e : ℕ) → IsLike B (record B { excess = set B.excess p e })
+like_excess : (B : CellsView) (p e : ℕ) → IsLike B (record B { excess = set B.excess p e })
 like_excess B p e = record {
   top = refl;
   count = length-set B.excess p e;
@@ -235,7 +235,7 @@ like_excess B p e = record {
   capacity = λ j. refl;
 }
 
-like_numbers : (B : BlockView) (l r : List ℕ) → length l ≡ length B.labels → IsLike B (record B { labels = l; rooms = r })
+like_numbers : (B : CellsView) (l r : List ℕ) → length l ≡ length B.labels → IsLike B (record B { labels = l; rooms = r })
 like_numbers B l r len = record {
   top = refl;
   count = refl;
@@ -253,7 +253,7 @@ like_numbers B l r len = record {
   capacity = λ j. refl;
 }
 
-like_lane : (B : BlockView) (j : ℕ) (lane : InnerLane) → j < length B.lanes → lane.far ≡ (lane_in B j).far → lane.opposite ≡ (lane_in B j).opposite → IsLike B (record B { lanes = set B.lanes j lane })
+like_lane : (B : CellsView) (j : ℕ) (lane : InnerLane) → j < length B.lanes → lane.far ≡ (lane_in B j).far → lane.opposite ≡ (lane_in B j).opposite → IsLike B (record B { lanes = set B.lanes j lane })
 like_lane B j lane l far' opposite' = record {
   top = refl;
   count = refl;
@@ -279,7 +279,7 @@ record IsSameBorder (x y : Border) : Type 0 where
   pub opposite : y.opposite ≡ x.opposite
   pub capacity : y.capacity ≡ x.capacity
 
-like_border : (B : BlockView) (j : ℕ) (border : Border) → j < length B.borders → IsSameBorder (border_in B j) border → IsLike B (record B { borders = set B.borders j border })
+like_border : (B : CellsView) (j : ℕ) (border : Border) → j < length B.borders → IsSameBorder (border_in B j) border → IsLike B (record B { borders = set B.borders j border })
 like_border B j border l same = record {
   top = refl;
   count = refl;
@@ -299,109 +299,109 @@ like_border B j border l same = record {
 
 -- ---- one write
 
-module _ (w : Whole) (v : BlocksView) (b : ℕ) (B : BlockView) (at : IsAt w v b B) where
+module _ (w : Whole) (v : BlocksView) (b : ℕ) (B : CellsView) (at : IsAt w v b B) where
   excess_step : (u p e : ℕ) → IsSpot w u b p → IsAt (put_block w b (record B { excess = set B.excess p e })) (record v { excess = set v.excess u e }) b (record B { excess = set B.excess p e })
   excess_step u p e spot =
-      let new : BlockView = record B { excess = set B.excess p e } in
+      let new : CellsView = record B { excess = set B.excess p e } in
       stepped w v b B at new (like_excess B p e) (set v.excess u e) v.labels v.rooms v.lanes
-      (put_numbers w v b B at new (λ (q : BlockView). q.excess) u p e spot (node_below w v b B u p at spot) refl ∙ ap (λ (q : BlocksView). set q.excess u e) at.view)
+      (put_numbers w v b B at new (λ (q : CellsView). q.excess) u p e spot (node_below w v b B u p at spot) refl ∙ ap (λ (q : BlocksView). set q.excess u e) at.view)
       (keep_labels w v b B at new refl) (keep_rooms w v b B at new refl) (keep_lanes w v b B at new refl refl)
 
   labels_step : (u p d : ℕ) → IsSpot w u b p → p < length B.labels → IsAt (put_block w b (record B { labels = set B.labels p d })) (record v { labels = set v.labels u d }) b (record B { labels = set B.labels p d })
   labels_step u p d spot l =
-      let new : BlockView = record B { labels = set B.labels p d } in
+      let new : CellsView = record B { labels = set B.labels p d } in
       stepped w v b B at new (like_numbers B (set B.labels p d) B.rooms (length-set B.labels p d)) v.excess (set v.labels u d) v.rooms v.lanes (keep_excess w v b B at new refl)
-      (put_numbers w v b B at new (λ (q : BlockView). q.labels) u p d spot l refl ∙ ap (λ (q : BlocksView). set q.labels u d) at.view)
+      (put_numbers w v b B at new (λ (q : CellsView). q.labels) u p d spot l refl ∙ ap (λ (q : BlocksView). set q.labels u d) at.view)
       (keep_rooms w v b B at new refl) (keep_lanes w v b B at new refl refl)
 
   rooms_step : (u p r : ℕ) → IsSpot w u b p → p < length B.rooms → IsAt (put_block w b (record B { rooms = set B.rooms p r })) (record v { rooms = set v.rooms u r }) b (record B { rooms = set B.rooms p r })
   rooms_step u p r spot l =
-      let new : BlockView = record B { rooms = set B.rooms p r } in
+      let new : CellsView = record B { rooms = set B.rooms p r } in
       stepped w v b B at new (like_numbers B B.labels (set B.rooms p r) refl) v.excess v.labels (set v.rooms u r) v.lanes (keep_excess w v b B at new refl)
       (keep_labels w v b B at new refl)
-      (put_numbers w v b B at new (λ (q : BlockView). q.rooms) u p r spot l refl ∙ ap (λ (q : BlocksView). set q.rooms u r) at.view)
+      (put_numbers w v b B at new (λ (q : CellsView). q.rooms) u p r spot l refl ∙ ap (λ (q : BlocksView). set q.rooms u r) at.view)
       (keep_lanes w v b B at new refl refl)
 
   lane_step : (x : Direction) (j : ℕ) (lane : InnerLane) → IsRow w x false b j → lane.far ≡ (lane_in B j).far → lane.opposite ≡ (lane_in B j).opposite
       → IsAt (put_block w b (record B { lanes = set B.lanes j lane })) (record v { lanes = core.put_lane v.lanes x (shown_lane lane) }) b (record B { lanes = set B.lanes j lane })
   lane_step x j lane row far' opposite' =
-      let new : BlockView = record B { lanes = set B.lanes j lane } in
+      let new : CellsView = record B { lanes = set B.lanes j lane } in
       let l = lane_below w v b B x j at row in
       stepped w v b B at new (like_lane B j lane l far' opposite') v.excess v.labels v.rooms (core.put_lane v.lanes x (shown_lane lane))
       (keep_excess w v b B at new refl) (keep_labels w v b B at new refl) (keep_rooms w v b B at new refl)
-      (lane_shown w x b j new lane at.laid.placed row (subst (λ (q : BlockView). j < length q.lanes) (sym at.is) l) (ap (λ (q : BlockView). set q.lanes j lane) (sym at.is)) (ap (λ (q : BlockView). q.borders) (sym at.is))
+      (lane_shown w x b j new lane at.laid.placed row (subst (λ (q : CellsView). j < length q.lanes) (sym at.is) l) (ap (λ (q : CellsView). set q.lanes j lane) (sym at.is)) (ap (λ (q : CellsView). q.borders) (sym at.is))
       ∙ ap (λ (q : BlocksView). core.put_lane q.lanes x (shown_lane lane)) at.view)
 
   border_step : (x : Direction) (j : ℕ) (border : Border) → IsRow w x true b j → IsSameBorder (border_in B j) border
       → IsAt (put_block w b (record B { borders = set B.borders j border })) (record v { lanes = core.put_lane v.lanes x (shown_border border) }) b (record B { borders = set B.borders j border })
   border_step x j border row same =
-      let new : BlockView = record B { borders = set B.borders j border } in
+      let new : CellsView = record B { borders = set B.borders j border } in
       let l = border_below w v b B x j at row in
       stepped w v b B at new (like_border B j border l same) v.excess v.labels v.rooms (core.put_lane v.lanes x (shown_border border))
       (keep_excess w v b B at new refl) (keep_labels w v b B at new refl) (keep_rooms w v b B at new refl)
-      (border_shown w x b j new border at.laid.placed row (subst (λ (q : BlockView). j < length q.borders) (sym at.is) l) (ap (λ (q : BlockView). set q.borders j border) (sym at.is)) (ap (λ (q : BlockView). q.lanes) (sym at.is))
+      (border_shown w x b j new border at.laid.placed row (subst (λ (q : CellsView). j < length q.borders) (sym at.is) l) (ap (λ (q : CellsView). set q.borders j border) (sym at.is)) (ap (λ (q : CellsView). q.lanes) (sym at.is))
       ∙ ap (λ (q : BlocksView). core.put_lane q.lanes x (shown_border border)) at.view)
 
 -- ---- several writes to one block
 
-put_twice : (w : Whole) (b : ℕ) (one two : BlockView) → put_block (put_block w b one) b two ≡ put_block w b two
-put_twice w b one two = ap (λ (q : List BlockView). record w { blocks = q }) (set-set w.blocks b one two)
+put_twice : (w : Whole) (b : ℕ) (one two : CellsView) → put_block (put_block w b one) b two ≡ put_block w b two
+put_twice w b one two = ap (λ (q : List CellsView). record w { blocks = q }) (set-set w.blocks b one two)
 
-joined : (w : Whole) (b : ℕ) (one two : BlockView) (v : BlocksView) → IsAt (put_block (put_block w b one) b two) v b two → IsAt (put_block w b two) v b two
+joined : (w : Whole) (b : ℕ) (one two : CellsView) (v : BlocksView) → IsAt (put_block (put_block w b one) b two) v b two → IsAt (put_block w b two) v b two
 joined w b one two v at = subst (λ (q : Whole). IsAt q v b two) (put_twice w b one two) at
 
-seen_as : (w : Whole) (v v' : BlocksView) (b : ℕ) (B : BlockView) → v ≡ v' → IsAt w v b B → IsAt w v' b B
+seen_as : (w : Whole) (v v' : BlocksView) (b : ℕ) (B : CellsView) → v ≡ v' → IsAt w v b B → IsAt w v' b B
 seen_as w v v' b B e at = subst (λ (q : BlocksView). IsAt w q b B) e at
 
 -- ---- the calls of a block
 
-pub gave_at : (w : Whole) (v : BlocksView) (b : ℕ) (B : BlockView) (u p a : ℕ) → IsAt w v b B → IsSpot w u b p → p < length B.rooms
-    → IsAt (put_block w b (block.given B p a)) (gave v u a) b (block.given B p a)
+pub gave_at : (w : Whole) (v : BlocksView) (b : ℕ) (B : CellsView) (u p a : ℕ) → IsAt w v b B → IsSpot w u b p → p < length B.rooms
+    → IsAt (put_block w b (block.given B p a)) (given v u a) b (block.given B p a)
 gave_at w v b B u p a at spot l =
     let e = excess_in B p - a in
     let r = room_in B p - a in
-    let one : BlockView = record B { excess = set B.excess p e } in
+    let one : CellsView = record B { excess = set B.excess p e } in
     let first = excess_step w v b B at u p e spot in
     let second = rooms_step (put_block w b one) _ b one first u p r (spot_put w u b p b one spot) l in
-    seen_as _ _ (gave v u a) b _ (rw (excess_read w v b B u p at spot, room_read w v b B u p at spot) refl) (joined w b one (block.given B p a) _ second)
+    seen_as _ _ (given v u a) b _ (rw (excess_read w v b B u p at spot, room_read w v b B u p at spot) refl) (joined w b one (block.given B p a) _ second)
 
-pub labelled_at : (w : Whole) (v : BlocksView) (b : ℕ) (B : BlockView) (u p d : ℕ) → IsAt w v b B → IsSpot w u b p → p < length B.labels
+pub labelled_at : (w : Whole) (v : BlocksView) (b : ℕ) (B : CellsView) (u p d : ℕ) → IsAt w v b B → IsSpot w u b p → p < length B.labels
     → IsAt (put_block w b (block.labelled B p d)) (labelled v u d) b (block.labelled B p d)
 labelled_at w v b B u p d at spot l = labels_step w v b B at u p d spot l
 
-pub sent_at : (w : Whole) (v : BlocksView) (b : ℕ) (B : BlockView) (x : Direction) (j p a : ℕ) → IsAt w v b B → IsRow w x true b j → IsSpot w (near v.net x) b p
+pub sent_at : (w : Whole) (v : BlocksView) (b : ℕ) (B : CellsView) (x : Direction) (j p a : ℕ) → IsAt w v b B → IsRow w x true b j → IsSpot w (near v.net x) b p
     → IsAt (put_block w b (block.sent B p j a)) (sent v x a) b (block.sent B p j a)
 sent_at w v b B x j p a at row spot =
     let u = near v.net x in
     let e = excess_in B p - a in
-    let one : BlockView = record B { excess = set B.excess p e } in
+    let one : CellsView = record B { excess = set B.excess p e } in
     let first = excess_step w v b B at u p e spot in
     let new : Border = record (border_in B j) { residual = (border_in B j).residual - a; flight = Some (record { amount = a; label = label_in B p }) } in
     let second = border_step (put_block w b one) _ b one first x j new (row_put w x true b j b one row) (record { direction = refl; near = refl; to = refl; opposite = refl; capacity = refl }) in
     let lane = border_read w v b B x j at row in
     seen_as _ _ (sent v x a) b _ (rw (excess_read w v b B u p at spot, label_read w v b B u p at spot, ← lane) refl) (joined w b one (block.sent B p j a) _ second)
 
-pub settled_at : (w : Whole) (v : BlocksView) (b : ℕ) (B : BlockView) (x : Direction) (j : ℕ) → IsAt w v b B → IsRow w x true b j
+pub settled_at : (w : Whole) (v : BlocksView) (b : ℕ) (B : CellsView) (x : Direction) (j : ℕ) → IsAt w v b B → IsRow w x true b j
     → IsAt (put_block w b (block.settled B j)) (settled v x) b (block.settled B j)
 settled_at w v b B x j at row =
     let new : Border = record (border_in B j) { flight = None } in
     let first = border_step w v b B at x j new row (record { direction = refl; near = refl; to = refl; opposite = refl; capacity = refl }) in
     seen_as _ _ (settled v x) b _ (rw (← border_read w v b B x j at row) refl) first
 
-pub informed_at : (w : Whole) (v : BlocksView) (b : ℕ) (B : BlockView) (x : Direction) (j d : ℕ) → IsAt w v b B → IsRow w x true b j
+pub informed_at : (w : Whole) (v : BlocksView) (b : ℕ) (B : CellsView) (x : Direction) (j d : ℕ) → IsAt w v b B → IsRow w x true b j
     → IsAt (put_block w b (block.informed B j d)) (record v { lanes = core.put_lane v.lanes x (record (core.lane_at v.lanes x) { known = d }) }) b (block.informed B j d)
 informed_at w v b B x j d at row =
     let new : Border = record (border_in B j) { known = d } in
     let first = border_step w v b B at x j new row (record { direction = refl; near = refl; to = refl; opposite = refl; capacity = refl }) in
     seen_as _ _ _ b _ (rw (← border_read w v b B x j at row) refl) first
 
-pub returned_at : (w : Whole) (v : BlocksView) (b : ℕ) (B : BlockView) (x : Direction) (j a told : ℕ) → IsAt w v b B → IsRow w x true b j → IsSpot w (near v.net x) b (border_in B j).near
+pub returned_at : (w : Whole) (v : BlocksView) (b : ℕ) (B : CellsView) (x : Direction) (j a told : ℕ) → IsAt w v b B → IsRow w x true b j → IsSpot w (near v.net x) b (border_in B j).near
     → IsAt (put_block w b (block.returned B j a told)) (returned v x a told) b (block.returned B j a told)
 returned_at w v b B x j a told at row spot =
     let u = near v.net x in
     let p = (border_in B j).near in
     let e = excess_in B p + a in
-    let one : BlockView = record B { excess = set B.excess p e } in
+    let one : CellsView = record B { excess = set B.excess p e } in
     let first = excess_step w v b B at u p e spot in
     let new : Border = record (border_in B j) { residual = (border_in B j).residual + a; known = told; flight = None } in
     let second = border_step (put_block w b one) _ b one first x j new (row_put w x true b j b one row) (record { direction = refl; near = refl; to = refl; opposite = refl; capacity = refl }) in
@@ -409,13 +409,13 @@ returned_at w v b B x j a told at row spot =
     seen_as _ _ (returned v x a told) b _ (rw (excess_read w v b B u p at spot, ← lane) refl) (joined w b one (block.returned B j a told) _ second)
 
 -- the parcel of x is taken at the slot of its opposite
-pub accepted_at : (w : Whole) (v : BlocksView) (b : ℕ) (B : BlockView) (x : Direction) (j a d : ℕ) → IsAt w v b B → IsRow w (opposite x) true b j → IsSpot w (far v.net x) b (border_in B j).near
+pub accepted_at : (w : Whole) (v : BlocksView) (b : ℕ) (B : CellsView) (x : Direction) (j a d : ℕ) → IsAt w v b B → IsRow w (opposite x) true b j → IsSpot w (far v.net x) b (border_in B j).near
     → IsAt (put_block w b (block.accepted B j a d)) (accepted v x a d) b (block.accepted B j a d)
 accepted_at w v b B x j a d at row spot =
     let u = far v.net x in
     let p = (border_in B j).near in
     let e = excess_in B p + a in
-    let one : BlockView = record B { excess = set B.excess p e } in
+    let one : CellsView = record B { excess = set B.excess p e } in
     let first = excess_step w v b B at u p e spot in
     let old = border_in B j in
     let new : Border = record old { residual = old.residual + a; known = cond (is_some old.flight) old.known (max old.known d) } in
@@ -424,7 +424,7 @@ accepted_at w v b B x j a d at row spot =
     seen_as _ _ (accepted v x a d) b _ (rw (excess_read w v b B u p at spot, ← lane) refl) (joined w b one (block.accepted B j a d) _ second)
 
 -- a push within a block: the far end's place and the opposite's slot stand in the lane
-pub pushed_at : (w : Whole) (v : BlocksView) (b : ℕ) (B : BlockView) (x : Direction) (j p a : ℕ) → IsAt w v b B → IsRow w x false b j → IsSpot w (near v.net x) b p
+pub pushed_at : (w : Whole) (v : BlocksView) (b : ℕ) (B : CellsView) (x : Direction) (j p a : ℕ) → IsAt w v b B → IsRow w x false b j → IsSpot w (near v.net x) b p
     → IsRow w (opposite x) false b (lane_in B j).opposite → IsSpot w (far v.net x) b (lane_in B j).far
     → IsAt (put_block w b (block.pushed B p j a)) (pushed v x a) b (block.pushed B p j a)
 pushed_at w v b B x j p a at row spot back away =
@@ -433,17 +433,17 @@ pushed_at w v b B x j p a at row spot back away =
     let q = (lane_in B j).far in
     let o = (lane_in B j).opposite in
     let e = excess_in B p - a in
-    let one : BlockView = record B { excess = set B.excess p e } in
+    let one : CellsView = record B { excess = set B.excess p e } in
     let w1 = put_block w b one in
     let at1 = excess_step w v b B at u p e spot in
     let away1 = spot_put w t b q b one away in
     let e2 = excess_in one q + a in
-    let two : BlockView = record one { excess = set one.excess q e2 } in
+    let two : CellsView = record one { excess = set one.excess q e2 } in
     let w2 = put_block w1 b two in
     let at2 = excess_step w1 _ b one at1 t q e2 away1 in
     let row2 = row_put w1 x false b j b two (row_put w x false b j b one row) in
     let lane : InnerLane = record (lane_in B j) { residual = (lane_in B j).residual - a } in
-    let three : BlockView = record two { lanes = set two.lanes j lane } in
+    let three : CellsView = record two { lanes = set two.lanes j lane } in
     let w3 = put_block w2 b three in
     let at3 = lane_step w2 _ b two at2 x j lane row2 refl refl in
     let back3 = row_put w2 (opposite x) false b o b three (row_put w1 (opposite x) false b o b two (row_put w (opposite x) false b o b one back)) in

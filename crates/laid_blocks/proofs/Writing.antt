@@ -7,9 +7,9 @@ use Rattle.parcel.specs.declared.lane.Lane.{Lane}
 use Rattle.parcel.specs.declared.direction.Direction.{Direction}
 use Rattle.parcel.specs.Directions.{IsDirection, forward, backward, near, far}
 use Rattle.parcel.specs.States as core
-use Rattle.block_net.specs.declared.rows.InnerLane.{InnerLane}
-use Rattle.block_net.specs.declared.rows.Border.{Border}
-use Rattle.block_net.specs.Views.{BlockView, no_row, no_border, count, lane_in, border_in}
+use Rattle.block_net.specs.declared.lanes.InnerLane.{InnerLane}
+use Rattle.block_net.specs.declared.lanes.Border.{Border}
+use Rattle.block_net.specs.Views.{CellsView, no_row, no_border, count, lane_in, border_in}
 use Rattle.block_net.specs.Whole.{Whole, table, no_block, block_at, block_with, home, place, near_home, slot, is_outer, lane_of, border_of, shown_lane, shown_border, shown_of, IsInnerAt, IsBorderAt, StandsAt, IsPlaced, IsFilled, put_block}
 use Rattle.block_net.proofs.Tables.{length_table, table_at, table_is}
 use Rattle.laid_blocks.specs.Views.{blocks_in, IsLaid, IsSpot, IsRow}
@@ -31,36 +31,36 @@ table_set n f g v y lv here others =
 
 -- ---- one block
 
-pub home_put : (w : Whole) (b : ℕ) (block : BlockView) (u : ℕ) → home (put_block w b block) u ≡ home w u
+pub home_put : (w : Whole) (b : ℕ) (block : CellsView) (u : ℕ) → home (put_block w b block) u ≡ home w u
 home_put w b block u = ap (λ q. (u * q) / nodes w.net) (length-set w.blocks b block)
 
-pub outer_put : (w : Whole) (b : ℕ) (block : BlockView) (x : Direction) → is_outer (put_block w b block) x ≡ is_outer w x
+pub outer_put : (w : Whole) (b : ℕ) (block : CellsView) (x : Direction) → is_outer (put_block w b block) x ≡ is_outer w x
 outer_put w b block x = ap (λ q. core.is_border w.net q x) (length-set w.blocks b block)
 
-pub block_same : (w : Whole) (b : ℕ) (block : BlockView) → b < length w.blocks → block_at (put_block w b block) b ≡ block
+pub block_same : (w : Whole) (b : ℕ) (block : CellsView) → b < length w.blocks → block_at (put_block w b block) b ≡ block
 block_same w b block l = get_or-set_same w.blocks b block no_block l
 
-pub block_other : (w : Whole) (b : ℕ) (block : BlockView) (c : ℕ) → (c ≡ b → ⊥) → block_at (put_block w b block) c ≡ block_at w c
+pub block_other : (w : Whole) (b : ℕ) (block : CellsView) (c : ℕ) → (c ≡ b → ⊥) → block_at (put_block w b block) c ≡ block_at w c
 block_other w b block c off = get_or-set_other w.blocks b c block no_block off
 
 -- what the block in a block's stead keeps, each block keeps
-block_keeps : {A : Type 0} (w : Whole) (b : ℕ) (block : BlockView) (c : ℕ) (f : BlockView → A) → b < length w.blocks → f block ≡ f (block_at w b)
+block_keeps : {A : Type 0} (w : Whole) (b : ℕ) (block : CellsView) (c : ℕ) (f : CellsView → A) → b < length w.blocks → f block ≡ f (block_at w b)
     → f (block_at (put_block w b block) c) ≡ f (block_at w c)
 block_keeps w b block c f l same = elim (cases_eq c b) [
   | inl e ↦ rw e (ap f (block_same w b block l) ∙ same)
   | inr off ↦ ap f (block_other w b block c off)
 ]
 
-with_keeps : {A : Type 0} (w : Whole) (b : ℕ) (block : BlockView) (v : ℕ) (f : BlockView → A) → b < length w.blocks → f block ≡ f (block_at w b)
+with_keeps : {A : Type 0} (w : Whole) (b : ℕ) (block : CellsView) (v : ℕ) (f : CellsView → A) → b < length w.blocks → f block ≡ f (block_at w b)
     → f (block_with (put_block w b block) v) ≡ f (block_with w v)
 with_keeps w b block v f l same =
     ap (λ h. f (block_at (put_block w b block) h)) (home_put w b block v) ∙ block_keeps w b block (home w v) f l same
 
-pub place_put : (w : Whole) (b : ℕ) (block : BlockView) (v : ℕ) → place (put_block w b block) v ≡ place w v
+pub place_put : (w : Whole) (b : ℕ) (block : CellsView) (v : ℕ) → place (put_block w b block) v ≡ place w v
 place_put w b block v = ap (λ h. v - slice_index w.firsts h) (home_put w b block v)
 
 -- what is read at a node's place, or at the next, in a list that the block keeps
-read_keeps : (w : Whole) (b : ℕ) (block : BlockView) (v : ℕ) (g : ℕ → ℕ) (f : BlockView → List ℕ) → b < length w.blocks → f block ≡ f (block_at w b)
+read_keeps : (w : Whole) (b : ℕ) (block : CellsView) (v : ℕ) (g : ℕ → ℕ) (f : CellsView → List ℕ) → b < length w.blocks → f block ≡ f (block_at w b)
     → slice_index (f (block_with (put_block w b block) v)) (g (place (put_block w b block) v)) ≡ slice_index (f (block_with w v)) (g (place w v))
 read_keeps w b block v g f l same =
     ap (λ q. slice_index (f (block_with (put_block w b block) v)) (g q)) (place_put w b block v)
@@ -69,17 +69,17 @@ read_keeps w b block v g f l same =
 -- ---- numbers of nodes
 
 -- of each node the number at its place in a list of its block
-abbrev pub numbers : (BlockView → List ℕ) → Whole → List ℕ
+abbrev pub numbers : (CellsView → List ℕ) → Whole → List ℕ
 numbers f w = table (nodes w.net) (λ v. slice_index (f (block_with w v)) (place w v))
 
-pub numbers_same : (f : BlockView → List ℕ) (w : Whole) (b : ℕ) (block : BlockView) → b < length w.blocks → f block ≡ f (block_at w b)
+pub numbers_same : (f : CellsView → List ℕ) (w : Whole) (b : ℕ) (block : CellsView) → b < length w.blocks → f block ≡ f (block_at w b)
     → numbers f (put_block w b block) ≡ numbers f w
 numbers_same f w b block l same =
     table_same (nodes w.net) (λ v. slice_index (f (block_with w v)) (place w v)) (λ v. slice_index (f (block_with (put_block w b block) v)) (place (put_block w b block) v)) (λ v lv.
     ap (slice_index (f (block_with (put_block w b block) v))) (place_put w b block v)
     ∙ ap (λ xs. slice_index xs (place w v)) (with_keeps w b block v f l same))
 
-pub spot_put : (w : Whole) (v b p c : ℕ) (block : BlockView) → IsSpot w v b p → IsSpot (put_block w c block) v b p
+pub spot_put : (w : Whole) (v b p c : ℕ) (block : CellsView) → IsSpot w v b p → IsSpot (put_block w c block) v b p
 spot_put w v b p c block at = record {
   node = at.node;
   home = home_put w c block v ∙ at.home;
@@ -98,7 +98,7 @@ same_spot w u v b p placed at_u at_v =
     let fv = ap (slice_index w.firsts) at_v.home in
     omega (arith, first_u, first_v, eu, ev, fu, fv, at_u.place, at_v.place)
 
-pub numbers_set : (f : BlockView → List ℕ) (w : Whole) (v b p y : ℕ) (block : BlockView) → IsPlaced w → IsSpot w v b p → p < length (f (block_at w b))
+pub numbers_set : (f : CellsView → List ℕ) (w : Whole) (v b p y : ℕ) (block : CellsView) → IsPlaced w → IsSpot w v b p → p < length (f (block_at w b))
     → f block ≡ set (f (block_at w b)) p y → numbers f (put_block w b block) ≡ set (numbers f w) v y
 numbers_set f w v b p y block placed at lp made =
     let w' = put_block w b block in
@@ -123,7 +123,7 @@ numbers_set f w v b p y block placed at lp made =
 
 -- ---- directions
 
-pub row_put : (w : Whole) (x : Direction) (leaves : Bool) (b j c : ℕ) (block : BlockView) → IsRow w x leaves b j → IsRow (put_block w c block) x leaves b j
+pub row_put : (w : Whole) (x : Direction) (leaves : Bool) (b j c : ℕ) (block : CellsView) → IsRow w x leaves b j → IsRow (put_block w c block) x leaves b j
 row_put w x leaves b j c block at = record {
   direction = at.direction;
   outer = outer_put w c block x ∙ at.outer;
@@ -139,12 +139,12 @@ shown_by w w' x e1 e2 e3 =
     ∙ (ap (λ q. cond (is_outer w x) (shown_border q) (shown_lane (lane_of w' x))) e3
     ∙ ap (λ q. cond (is_outer w x) (shown_border (border_of w x)) (shown_lane q)) e2)
 
-shown_keeps : (w : Whole) (b : ℕ) (block : BlockView) (x : Direction) → b < length w.blocks → block.lanes ≡ (block_at w b).lanes → block.borders ≡ (block_at w b).borders
+shown_keeps : (w : Whole) (b : ℕ) (block : CellsView) (x : Direction) → b < length w.blocks → block.lanes ≡ (block_at w b).lanes → block.borders ≡ (block_at w b).borders
     → shown_of (put_block w b block) x ≡ shown_of w x
 shown_keeps w b block x l lanes borders =
     shown_by w (put_block w b block) x (outer_put w b block x)
-    (with_keeps w b block (near w.net x) (λ (q : BlockView). lane_in q (slot w x)) l (ap (λ ls. get_or ls (slot w x) no_row) lanes))
-    (with_keeps w b block (near w.net x) (λ (q : BlockView). border_in q (slot w x)) l (ap (λ ls. get_or ls (slot w x) no_border) borders))
+    (with_keeps w b block (near w.net x) (λ (q : CellsView). lane_in q (slot w x)) l (ap (λ ls. get_or ls (slot w x) no_row) lanes))
+    (with_keeps w b block (near w.net x) (λ (q : CellsView). border_in q (slot w x)) l (ap (λ ls. get_or ls (slot w x) no_border) borders))
 
 pub inner_shown : (w : Whole) (x : Direction) → is_outer w x ≡ false → shown_of w x ≡ shown_lane (lane_of w x)
 inner_shown w x e = ap (λ o. cond o (shown_border (border_of w x)) (shown_lane (lane_of w x))) e
@@ -162,7 +162,7 @@ lanes_same m f g each =
     let back = table_same m (λ k. f (backward k)) (λ k. g (backward k)) (λ k l. each (backward k)) in
     rw (forth, back) refl
 
-pub lanes_keep : (w : Whole) (b : ℕ) (block : BlockView) → b < length w.blocks → block.lanes ≡ (block_at w b).lanes → block.borders ≡ (block_at w b).borders
+pub lanes_keep : (w : Whole) (b : ℕ) (block : CellsView) → b < length w.blocks → block.lanes ≡ (block_at w b).lanes → block.borders ≡ (block_at w b).borders
     → (blocks_in (put_block w b block)).lanes ≡ (blocks_in w).lanes
 lanes_keep w b block l lanes borders = lanes_same (length w.net.arcs) (shown_of w) (shown_of (put_block w b block)) (λ y. shown_keeps w b block y l lanes borders)
 
@@ -195,20 +195,20 @@ set_other g xs i y j d l same = elim (cases_eq j i) [
   | inr off ↦ ap g (get_or-set_other xs i j y d off)
 ]
 
-lane_here : (w : Whole) (x : Direction) (b j : ℕ) (block : BlockView) (lane : InnerLane) → IsRow w x false b j → j < length (block_at w b).lanes → block.lanes ≡ set (block_at w b).lanes j lane
+lane_here : (w : Whole) (x : Direction) (b j : ℕ) (block : CellsView) (lane : InnerLane) → IsRow w x false b j → j < length (block_at w b).lanes → block.lanes ≡ set (block_at w b).lanes j lane
     → lane_of (put_block w b block) x ≡ lane
 lane_here w x b j block lane at lj made =
     let w' = put_block w b block in
     ap (λ h. lane_in (block_at w' h) (slot w x)) (home_put w b block (near w.net x) ∙ at.home)
-    ∙ (ap (λ (q : BlockView). lane_in q (slot w x)) (block_same w b block at.block)
+    ∙ (ap (λ (q : CellsView). lane_in q (slot w x)) (block_same w b block at.block)
     ∙ (ap (lane_in block) at.slot ∙ (ap (λ ls. get_or ls j no_row) made ∙ get_or-set_same (block_at w b).lanes j lane no_row lj)))
 
-border_here : (w : Whole) (x : Direction) (b j : ℕ) (block : BlockView) (border : Border) → IsRow w x true b j → j < length (block_at w b).borders → block.borders ≡ set (block_at w b).borders j border
+border_here : (w : Whole) (x : Direction) (b j : ℕ) (block : CellsView) (border : Border) → IsRow w x true b j → j < length (block_at w b).borders → block.borders ≡ set (block_at w b).borders j border
     → border_of (put_block w b block) x ≡ border
 border_here w x b j block border at lj made =
     let w' = put_block w b block in
     ap (λ h. border_in (block_at w' h) (slot w x)) (home_put w b block (near w.net x) ∙ at.home)
-    ∙ (ap (λ (q : BlockView). border_in q (slot w x)) (block_same w b block at.block)
+    ∙ (ap (λ (q : CellsView). border_in q (slot w x)) (block_same w b block at.block)
     ∙ (ap (border_in block) at.slot ∙ (ap (λ ls. get_or ls j no_border) made ∙ get_or-set_same (block_at w b).borders j border no_border lj)))
 
 -- two directions of one kind are apart where their blocks or slots are
@@ -217,7 +217,7 @@ slots_apart : (w : Whole) (x y : Direction) (leaves : Bool) (b j : ℕ) → IsPl
 slots_apart w x y leaves b j placed at ly outer home off same =
     off (placed.apart y x ly at.direction (outer ∙ sym at.outer) (home ∙ sym at.home) (same ∙ sym at.slot))
 
-lane_there : (w : Whole) (x y : Direction) (b j : ℕ) (block : BlockView) (lane : InnerLane) → IsPlaced w → IsRow w x false b j → block.lanes ≡ set (block_at w b).lanes j lane
+lane_there : (w : Whole) (x y : Direction) (b j : ℕ) (block : CellsView) (lane : InnerLane) → IsPlaced w → IsRow w x false b j → block.lanes ≡ set (block_at w b).lanes j lane
     → IsDirection w.net y → is_outer w y ≡ false → (y ≡ x → ⊥) → lane_of (put_block w b block) y ≡ lane_of w y
 lane_there w x y b j block lane placed at made ly outer off =
     let w' = put_block w b block in
@@ -225,14 +225,14 @@ lane_there w x y b j block lane placed at made ly outer off =
     ∙ elim (cases_eq (near_home w y) b) [
       | inl e ↦
           ap (λ h. lane_in (block_at w' h) (slot w y)) e
-          ∙ (ap (λ (q : BlockView). lane_in q (slot w y)) (block_same w b block at.block)
+          ∙ (ap (λ (q : CellsView). lane_in q (slot w y)) (block_same w b block at.block)
           ∙ (ap (λ ls. get_or ls (slot w y) no_row) made
           ∙ (get_or-set_other (block_at w b).lanes j (slot w y) lane no_row (slots_apart w x y false b j placed at ly outer e off)
           ∙ ap (λ h. lane_in (block_at w h) (slot w y)) (sym e))))
-      | inr away ↦ ap (λ (q : BlockView). lane_in q (slot w y)) (block_other w b block (near_home w y) away)
+      | inr away ↦ ap (λ (q : CellsView). lane_in q (slot w y)) (block_other w b block (near_home w y) away)
     ]
 
-border_there : (w : Whole) (x y : Direction) (b j : ℕ) (block : BlockView) (border : Border) → IsPlaced w → IsRow w x true b j → block.borders ≡ set (block_at w b).borders j border
+border_there : (w : Whole) (x y : Direction) (b j : ℕ) (block : CellsView) (border : Border) → IsPlaced w → IsRow w x true b j → block.borders ≡ set (block_at w b).borders j border
     → IsDirection w.net y → is_outer w y ≡ true → (y ≡ x → ⊥) → border_of (put_block w b block) y ≡ border_of w y
 border_there w x y b j block border placed at made ly outer off =
     let w' = put_block w b block in
@@ -240,14 +240,14 @@ border_there w x y b j block border placed at made ly outer off =
     ∙ elim (cases_eq (near_home w y) b) [
       | inl e ↦
           ap (λ h. border_in (block_at w' h) (slot w y)) e
-          ∙ (ap (λ (q : BlockView). border_in q (slot w y)) (block_same w b block at.block)
+          ∙ (ap (λ (q : CellsView). border_in q (slot w y)) (block_same w b block at.block)
           ∙ (ap (λ ls. get_or ls (slot w y) no_border) made
           ∙ (get_or-set_other (block_at w b).borders j (slot w y) border no_border (slots_apart w x y true b j placed at ly outer e off)
           ∙ ap (λ h. border_in (block_at w h) (slot w y)) (sym e))))
-      | inr away ↦ ap (λ (q : BlockView). border_in q (slot w y)) (block_other w b block (near_home w y) away)
+      | inr away ↦ ap (λ (q : CellsView). border_in q (slot w y)) (block_other w b block (near_home w y) away)
     ]
 
-pub lane_shown : (w : Whole) (x : Direction) (b j : ℕ) (block : BlockView) (lane : InnerLane) → IsPlaced w → IsRow w x false b j → j < length (block_at w b).lanes
+pub lane_shown : (w : Whole) (x : Direction) (b j : ℕ) (block : CellsView) (lane : InnerLane) → IsPlaced w → IsRow w x false b j → j < length (block_at w b).lanes
     → block.lanes ≡ set (block_at w b).lanes j lane → block.borders ≡ (block_at w b).borders
     → (blocks_in (put_block w b block)).lanes ≡ core.put_lane (blocks_in w).lanes x (shown_lane lane)
 lane_shown w x b j block lane placed at lj made borders =
@@ -257,14 +257,14 @@ lane_shown w x b j block lane placed at lj made borders =
     (λ y ly off. elim (cases_Bool (is_outer w y)) [
       | inl outer ↦
           outer_shown w' y (outer_put w b block y ∙ outer)
-          ∙ (ap shown_border (with_keeps w b block (near w.net y) (λ (q : BlockView). border_in q (slot w y)) at.block (ap (λ ls. get_or ls (slot w y) no_border) borders))
+          ∙ (ap shown_border (with_keeps w b block (near w.net y) (λ (q : CellsView). border_in q (slot w y)) at.block (ap (λ ls. get_or ls (slot w y) no_border) borders))
           ∙ sym (outer_shown w y outer))
       | inr inner ↦
           inner_shown w' y (outer_put w b block y ∙ inner)
           ∙ (ap shown_lane (lane_there w x y b j block lane placed at made ly inner off) ∙ sym (inner_shown w y inner))
     ])
 
-pub border_shown : (w : Whole) (x : Direction) (b j : ℕ) (block : BlockView) (border : Border) → IsPlaced w → IsRow w x true b j → j < length (block_at w b).borders
+pub border_shown : (w : Whole) (x : Direction) (b j : ℕ) (block : CellsView) (border : Border) → IsPlaced w → IsRow w x true b j → j < length (block_at w b).borders
     → block.borders ≡ set (block_at w b).borders j border → block.lanes ≡ (block_at w b).lanes
     → (blocks_in (put_block w b block)).lanes ≡ core.put_lane (blocks_in w).lanes x (shown_border border)
 border_shown w x b j block border placed at lj made lanes =
@@ -277,14 +277,14 @@ border_shown w x b j block border placed at lj made lanes =
           ∙ (ap shown_border (border_there w x y b j block border placed at made ly outer off) ∙ sym (outer_shown w y outer))
       | inr inner ↦
           inner_shown w' y (outer_put w b block y ∙ inner)
-          ∙ (ap shown_lane (with_keeps w b block (near w.net y) (λ (q : BlockView). lane_in q (slot w y)) at.block (ap (λ ls. get_or ls (slot w y) no_row) lanes))
+          ∙ (ap shown_lane (with_keeps w b block (near w.net y) (λ (q : CellsView). lane_in q (slot w y)) at.block (ap (λ ls. get_or ls (slot w y) no_row) lanes))
           ∙ sym (inner_shown w y inner))
     ])
 
 -- ---- places stay
 
 -- another block with the same nodes and directions at the same places
-pub record IsLike (old new : BlockView) : Type 0 where
+pub record IsLike (old new : CellsView) : Type 0 where
   pub top : new.top ≡ old.top
   pub count : length new.excess ≡ length old.excess
   pub labels_len : length new.labels ≡ length old.labels
@@ -300,35 +300,35 @@ pub record IsLike (old new : BlockView) : Type 0 where
   pub opposite : (j : ℕ) → (border_in new j).opposite ≡ (border_in old j).opposite
   pub capacity : (j : ℕ) → (border_in new j).capacity ≡ (border_in old j).capacity
 
-module _ (w : Whole) (b : ℕ) (block : BlockView) (placed : IsPlaced w) (l : b < length w.blocks) (like : IsLike (block_at w b) block) where
+module _ (w : Whole) (b : ℕ) (block : CellsView) (placed : IsPlaced w) (l : b < length w.blocks) (like : IsLike (block_at w b) block) where
   inner_put : (x : Direction) → IsInnerAt w x → IsInnerAt (put_block w b block) x
   inner_put x at =
       let v = near w.net x in
-      let first = read_keeps w b block v (λ q. q) (λ (q : BlockView). q.starts) l like.starts in
-      let next = read_keeps w b block v (λ q. q + 1) (λ (q : BlockView). q.starts) l like.starts in
+      let first = read_keeps w b block v (λ q. q) (λ (q : CellsView). q.starts) l like.starts in
+      let next = read_keeps w b block v (λ q. q + 1) (λ (q : CellsView). q.starts) l like.starts in
       record {
         from = omega (arith, first, at.from);
         below = omega (arith, next, at.below);
-        within = omega (arith, with_keeps w b block v (λ (q : BlockView). length q.lanes) l like.lanes_len, at.within);
-        far = with_keeps w b block v (λ (q : BlockView). (lane_in q (slot w x)).far) l (like.far (slot w x)) ∙ (at.far ∙ sym (place_put w b block (far w.net x)));
-        opposite = with_keeps w b block v (λ (q : BlockView). (lane_in q (slot w x)).opposite) l (like.lane_opposite (slot w x)) ∙ at.opposite;
+        within = omega (arith, with_keeps w b block v (λ (q : CellsView). length q.lanes) l like.lanes_len, at.within);
+        far = with_keeps w b block v (λ (q : CellsView). (lane_in q (slot w x)).far) l (like.far (slot w x)) ∙ (at.far ∙ sym (place_put w b block (far w.net x)));
+        opposite = with_keeps w b block v (λ (q : CellsView). (lane_in q (slot w x)).opposite) l (like.lane_opposite (slot w x)) ∙ at.opposite;
       }
 
   outer_at : (x : Direction) → IsBorderAt w x → IsBorderAt (put_block w b block) x
   outer_at x at =
       let v = near w.net x in
       let j = slot w x in
-      let first = read_keeps w b block v (λ q. q) (λ (q : BlockView). q.border_starts) l like.border_starts in
-      let next = read_keeps w b block v (λ q. q + 1) (λ (q : BlockView). q.border_starts) l like.border_starts in
+      let first = read_keeps w b block v (λ q. q) (λ (q : CellsView). q.border_starts) l like.border_starts in
+      let next = read_keeps w b block v (λ q. q + 1) (λ (q : CellsView). q.border_starts) l like.border_starts in
       record {
         from = omega (arith, first, at.from);
         below = omega (arith, next, at.below);
-        within = omega (arith, with_keeps w b block v (λ (q : BlockView). length q.borders) l like.borders_len, at.within);
-        direction = with_keeps w b block v (λ (q : BlockView). (border_in q j).direction) l (like.direction j) ∙ at.direction;
-        near = with_keeps w b block v (λ (q : BlockView). (border_in q j).near) l (like.near j) ∙ (at.near ∙ sym (place_put w b block v));
-        to = with_keeps w b block v (λ (q : BlockView). (border_in q j).to) l (like.to j) ∙ (at.to ∙ sym (home_put w b block (far w.net x)));
-        opposite = with_keeps w b block v (λ (q : BlockView). (border_in q j).opposite) l (like.opposite j) ∙ at.opposite;
-        capacity = with_keeps w b block v (λ (q : BlockView). (border_in q j).capacity) l (like.capacity j) ∙ at.capacity;
+        within = omega (arith, with_keeps w b block v (λ (q : CellsView). length q.borders) l like.borders_len, at.within);
+        direction = with_keeps w b block v (λ (q : CellsView). (border_in q j).direction) l (like.direction j) ∙ at.direction;
+        near = with_keeps w b block v (λ (q : CellsView). (border_in q j).near) l (like.near j) ∙ (at.near ∙ sym (place_put w b block v));
+        to = with_keeps w b block v (λ (q : CellsView). (border_in q j).to) l (like.to j) ∙ (at.to ∙ sym (home_put w b block (far w.net x)));
+        opposite = with_keeps w b block v (λ (q : CellsView). (border_in q j).opposite) l (like.opposite j) ∙ at.opposite;
+        capacity = with_keeps w b block v (λ (q : CellsView). (border_in q j).capacity) l (like.capacity j) ∙ at.capacity;
       }
 
   stands_put : (leaves : Bool) (v j : ℕ) (x : Direction) → StandsAt w leaves v j x → StandsAt (put_block w b block) leaves v j x
@@ -341,17 +341,17 @@ module _ (w : Whole) (b : ℕ) (block : BlockView) (placed : IsPlaced w) (l : b 
     homes = λ v lv. omega (arith, home_put w b block v, length-set w.blocks b block, placed.homes v lv);
     firsts = λ v lv. omega (arith, ap (slice_index w.firsts) (home_put w b block v), placed.firsts v lv);
     places = λ v lv. omega (arith, place_put w b block v, with_keeps w b block v count l like.count, placed.places v lv);
-    tops = λ c lc. block_keeps w b block c (λ (q : BlockView). q.top) l like.top ∙ placed.tops c (omega (arith, lc, length-set w.blocks b block));
+    tops = λ c lc. block_keeps w b block c (λ (q : CellsView). q.top) l like.top ∙ placed.tops c (omega (arith, lc, length-set w.blocks b block));
     inner = λ x d e. inner_put x (placed.inner x d (sym (outer_put w b block x) ∙ e));
     borders = λ x d e. outer_at x (placed.borders x d (sym (outer_put w b block x) ∙ e));
     apart = λ x y dx dy same home slot. placed.apart x y dx dy
         (sym (outer_put w b block x) ∙ (same ∙ outer_put w b block y))
         (sym (home_put w b block (near w.net x)) ∙ (home ∙ home_put w b block (near w.net y))) slot;
     lanes = λ v j lv from below.
-        let found = placed.lanes v j lv (omega (arith, from, read_keeps w b block v (λ q. q) (λ (q : BlockView). q.starts) l like.starts)) (omega (arith, below, read_keeps w b block v (λ q. q + 1) (λ (q : BlockView). q.starts) l like.starts)) in
+        let found = placed.lanes v j lv (omega (arith, from, read_keeps w b block v (λ q. q) (λ (q : CellsView). q.starts) l like.starts)) (omega (arith, below, read_keeps w b block v (λ q. q + 1) (λ (q : CellsView). q.starts) l like.starts)) in
         (found.0, stands_put false v j found.0 found.1);
     outers = λ v j lv from below.
-        let found = placed.outers v j lv (omega (arith, from, read_keeps w b block v (λ q. q) (λ (q : BlockView). q.border_starts) l like.border_starts)) (omega (arith, below, read_keeps w b block v (λ q. q + 1) (λ (q : BlockView). q.border_starts) l like.border_starts)) in
+        let found = placed.outers v j lv (omega (arith, from, read_keeps w b block v (λ q. q) (λ (q : CellsView). q.border_starts) l like.border_starts)) (omega (arith, below, read_keeps w b block v (λ q. q + 1) (λ (q : CellsView). q.border_starts) l like.border_starts)) in
         (found.0, stands_put true v j found.0 found.1);
   }
 
@@ -361,9 +361,9 @@ module _ (w : Whole) (b : ℕ) (block : BlockView) (placed : IsPlaced w) (l : b 
       let w' = put_block w b block in
       let len = length-set w.blocks b block in
       let nodes_len = λ (c : ℕ). block_keeps w b block c count l like.count in
-      let borders_len = λ (c : ℕ). block_keeps w b block c (λ (q : BlockView). length q.borders) l like.borders_len in
+      let borders_len = λ (c : ℕ). block_keeps w b block c (λ (q : CellsView). length q.borders) l like.borders_len in
       record {
-        labels = λ c lc. block_keeps w b block c (λ (q : BlockView). length q.labels) l like.labels_len ∙ (filled.labels c (omega (arith, lc, len)) ∙ sym (nodes_len c));
+        labels = λ c lc. block_keeps w b block c (λ (q : CellsView). length q.labels) l like.labels_len ∙ (filled.labels c (omega (arith, lc, len)) ∙ sym (nodes_len c));
         nodes = λ c p lc lp.
             let found = filled.nodes c p (omega (arith, lc, len)) (omega (arith, lp, nodes_len c)) in (
               found.0,
@@ -374,7 +374,7 @@ module _ (w : Whole) (b : ℕ) (block : BlockView) (placed : IsPlaced w) (l : b 
             (found.0, home_put w b block (near w.net found.0) ∙ found.1, stands_put true (near w.net found.0) j found.0 found.2);
       }
 
-pub laid_put : (w : Whole) (b : ℕ) (block : BlockView) → IsLaid w → b < length w.blocks → IsLike (block_at w b) block → IsLaid (put_block w b block)
+pub laid_put : (w : Whole) (b : ℕ) (block : CellsView) → IsLaid w → b < length w.blocks → IsLike (block_at w b) block → IsLaid (put_block w b block)
 laid_put w b block laid l like =
     let len = length-set w.blocks b block in
     record {

@@ -4,7 +4,7 @@ use Rattle.flow_network.specs.Cut.{nodes}
 use Rattle.flow_network.specs.Progress.{top}
 use Rattle.parcel.specs.declared.direction.Direction.{Direction}
 use Rattle.parcel.specs.Directions.{near, far, forward, backward}
-use Rattle.parcel.specs.Reach.{LeadsIn}
+use Rattle.parcel.specs.Reach.{ReachesIn}
 use Rattle.parcel.specs.States as core
 use Rattle.parcel.specs.Effects.{BlocksView, state_of, told_lane}
 
@@ -13,16 +13,16 @@ abbrev pub bare : BlocksView → core.State
 bare b = state_of (record b { labels = [] }) [] 0
 
 -- each label is the top one, or below it and the length of a path to the sink
-pub record IsReached (b : BlocksView) : Type 0 where
+pub record AreLengths (b : BlocksView) : Type 0 where
   pub each : (v : ℕ) → v < nodes b.net
       → (slice_index b.labels v ≡ top b.net)
-      ⊎ ((slice_index b.labels v < top b.net) × LeadsIn (bare b) (slice_index b.labels v) v)
+      ⊎ ((slice_index b.labels v < top b.net) × ReachesIn (bare b) (slice_index b.labels v) v)
 
 -- labels came down, where any did, and the rest is as it was
 pub record IsLowered (old new : BlocksView) (changed : Bool) : Type 0 where
   pub rest : new ≡ record old { labels = new.labels }
   pub len : length new.labels ≡ length old.labels
-  pub reached : IsReached old → IsReached new
+  pub reached : AreLengths old → AreLengths new
   pub less : changed ≡ true → sum new.labels < sum old.labels
   pub still : changed ≡ false → new ≡ old
 

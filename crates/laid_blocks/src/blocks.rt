@@ -10,7 +10,7 @@ ghost use Rattle.parcel.specs.Events.{highest_label};
 ghost use Rattle.block_net.specs.Limits.{arc_limit, block_limit};
 ghost use Rattle.block_net.specs.Split.{CanSplit, homes_made};
 ghost use Rattle.block_net.specs.Whole.{index_of, is_outer, whole_of};
-ghost use Rattle.parcel.specs.Effects.{state_of, gave, labelled, pushed, sent, accepted, settled, returned};
+ghost use Rattle.parcel.specs.Effects.{state_of, given, labelled, pushed, sent, accepted, settled, returned};
 ghost use Rattle.laid_blocks.specs.Views.{blocks_in, IsLaid, IsLong, IsSpot, IsRow, first_of};
 ghost use Rattle.laid_blocks.specs.ByBlock.{IsToldFrom, IsRelabelled};
 
@@ -359,7 +359,7 @@ impl Blocks {
         requires node { v < nodes self.old.net }
         requires excess { amount ≤ slice_index self.old.excess v }
         requires room { amount ≤ slice_index self.old.rooms v }
-        ensures { self.new ≡ gave self.old v amount }
+        ensures { self.new ≡ given self.old v amount }
     {
         let (block, place) = spot(&self.net, &self.parts, v);
         self.parts.blocks[block].give(place, amount);

@@ -5,7 +5,7 @@ ghost use Rattle.parcel.specs.Reach.{AreExact};
 ghost use Rattle.parcel.specs.Directions.{IsDirection, forward, backward};
 ghost use Rattle.parcel.specs.States.{lane_at};
 ghost use Rattle.parcel.specs.Effects.{told};
-ghost use Rattle.laid_blocks.specs.Raising.{bare, IsReached, IsLowered, IsStableAt, IsStableAlong, IsStable};
+ghost use Rattle.laid_blocks.specs.Raising.{bare, AreLengths, IsLowered, IsStableAt, IsStableAlong, IsStable};
 ghost use Rattle.parcel.specs.Effects.{BlocksView};
 ghost use Rattle.laid_blocks.specs.Views.{IsLong};
 

@@ -9,7 +9,7 @@ use Rattle.compile_cut.specs.Quadratics.{quadratic_value, IsBounded, AddsLeast, 
 use Rattle.compile_cut.proofs.TermLemmas.{bounded-weaker}
 use Rattle.move_energy.specs.declared.choice.Choice.{Choice}
 use Rattle.cost_store.specs.LabelCosts.{cost_at}
-use Rattle.move_energy.specs.LabelCosts.{uses, costs_below, AddsHidden, IsWider}
+use Rattle.move_energy.specs.LabelCosts.{uses, costs_below, AddsHidden, GrowsBy}
 
 -- nothing is added, and the cost is fixed
 fixed_lower : (v : ℤ) (c fixed : ℕ) → c ≡ fixed → (v +ℤ pos c) ≤ℤ (v +ℤ pos fixed)
@@ -26,7 +26,7 @@ adds_fixed q cost fixed is = record {
   reached = λ x. (x, (λ i l. refl), fixed_reached (quadratic_value q x) (cost x) fixed (is x));
 }
 
-pub wider_none : (more terms : ℕ) (q : Quadratic) → IsWider more terms q q
+pub wider_none : (more terms : ℕ) (q : Quadratic) → GrowsBy more terms q q
 wider_none more terms q = record { nodes = omega arith; bounded = λ k b. bounded-weaker k (k + terms) q (omega arith) b }
 
 -- a cost that was added by one hidden node
@@ -50,7 +50,7 @@ adds_tied old new times cost own told tied adds same = record {
       (there.0, there.1, same_plus (quadratic_value new there.0) (quadratic_value old x) (own x) (told x) there.2 (same x));
 }
 
-pub wider_tied : (old new : Quadratic) (len n cost : ℕ) → len ≤ n → n ≤ 1048576 → cost ≤ 10000000 → IsTied (len + 1) cost old new → IsWider 1 10486 old new
+pub wider_tied : (old new : Quadratic) (len n cost : ℕ) → len ≤ n → n ≤ 1048576 → cost ≤ 10000000 → IsTied (len + 1) cost old new → GrowsBy 1 10486 old new
 wider_tied old new len n cost l k c tied =
     let few : cost * (len + 1) ≤ 10000000 * 1048577 = mul-le cost (len + 1) 10000000 1048577 c (omega (arith, l, k)) in
     record { nodes = omega (arith, tied.nodes); bounded = λ b h. tied.bounded b 10486 (omega (arith, few)) h }
@@ -85,7 +85,7 @@ adds_along old new cost other same adds = record {
       (there.0, there.1, there.2 ∙ ap (λ c. quadratic_value old x +ℤ pos c) (same x));
 }
 
-pub wider_more : (i : ℕ) (a b c : Quadratic) → IsWider i (10486 * i) a b → IsWider 1 10486 b c → IsWider (i + 1) (10486 * (i + 1)) a c
+pub wider_more : (i : ℕ) (a b c : Quadratic) → GrowsBy i (10486 * i) a b → GrowsBy 1 10486 b c → GrowsBy (i + 1) (10486 * (i + 1)) a c
 wider_more i a b c one two = record {
   nodes = omega (arith, one.nodes, two.nodes);
   bounded = λ k h.

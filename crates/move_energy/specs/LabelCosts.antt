@@ -40,6 +40,6 @@ pub record AddsHidden (old new : Quadratic) (cost : (ℕ → Bool) → ℕ) : Ty
       × (quadratic_value new y +ℤ rest ≡ quadratic_value old x +ℤ pos (cost x))
 
 -- at most so many nodes and terms more
-pub record IsWider (more terms : ℕ) (old new : Quadratic) : Type 0 where
+pub record GrowsBy (more terms : ℕ) (old new : Quadratic) : Type 0 where
   pub nodes : vec_len new.weights ≤ vec_len old.weights + more
   pub bounded : (k : ℕ) → IsBounded k old → IsBounded (k + terms) new

@@ -11,7 +11,7 @@ ghost use Rattle.cost_store.specs.Promises.{IsCost};
 ghost use Rattle.move_energy.specs.Choices.{open_count, AreAllOpen, IsNumbering};
 ghost use Rattle.cost_store.specs.Limits.{label_cost_limit};
 ghost use Rattle.move_energy.specs.Limits.{label_terms};
-ghost use Rattle.move_energy.specs.LabelCosts.{uses, costs_below, AddsHidden, IsWider};
+ghost use Rattle.move_energy.specs.LabelCosts.{uses, costs_below, AddsHidden, GrowsBy};
 
 use crate::Variables;
 use crate::nodes::{list_each, list_having};
@@ -37,7 +37,7 @@ fn add_own(
     requires nodes { open_count variables.now.choices.items ≤ vec_len form.old.weights }
     requires room { vec_len form.old.weights < form_nodes }
     requires bounded { IsBounded term_limit form.old }
-    ensures wider { OnOk result (IsWider 1 label_terms form.old form.new) }
+    ensures wider { OnOk result (GrowsBy 1 label_terms form.old form.new) }
     ensures adds { OnOk result (AddsHidden form.old form.new
         (λ x. counted (uses alpha at.now variables.now.choices.items alpha x) cost)) }
 {
@@ -69,7 +69,7 @@ fn add_other(
     requires nodes { open_count variables.now.choices.items ≤ vec_len form.old.weights }
     requires room { vec_len form.old.weights < form_nodes }
     requires bounded { IsBounded term_limit form.old }
-    ensures wider { OnOk result (IsWider 1 label_terms form.old form.new) }
+    ensures wider { OnOk result (GrowsBy 1 label_terms form.old form.new) }
     ensures adds { OnOk result (AddsHidden form.old form.new
         (λ x. counted (uses alpha at.now variables.now.choices.items label x) cost)) }
 {
@@ -99,7 +99,7 @@ fn add_label(
     requires nodes { open_count variables.now.choices.items ≤ vec_len form.old.weights }
     requires room { vec_len form.old.weights < form_nodes }
     requires bounded { IsBounded term_limit form.old }
-    ensures wider { OnOk result (IsWider 1 label_terms form.old form.new) }
+    ensures wider { OnOk result (GrowsBy 1 label_terms form.old form.new) }
     ensures adds { OnOk result (AddsHidden form.old form.new
         (λ x. counted (uses alpha at.now variables.now.choices.items label x) cost)) }
 {

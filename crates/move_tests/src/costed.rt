@@ -2,7 +2,7 @@
 //! worked out over all labellings.
 ghost use Rattle.std.specs.Prelude.{◌≡◌, ◌≤◌, ◌<◌, ◌+◌, ◌*◌, ◌≤ℤ◌, pos, length, IfOk, All};
 ghost use Rattle.cost_store.specs.Limits.{smooth_limit};
-ghost use Rattle.cost_store.specs.Posed.{IsPosed, Fits};
+ghost use Rattle.cost_store.specs.Posed.{IsPosed, FitsProblem};
 ghost use Rattle.cost_store.specs.Promises.{IsCost, entry_at};
 
 use crate::costs::COSTED;
@@ -75,7 +75,7 @@ fn is_bounded<F: Fn(u32, u32) -> i64 + Sync, V: Fn(u32, u32) -> i64 + Sync>(
     is_settled: bool,
 ) -> bool
     requires posed { IsPosed F.Fn V.Fn problem.now }
-    requires fits { Fits problem.now labelling.now }
+    requires fits { FitsProblem problem.now labelling.now }
 {
     let told = (decimal(row, 110, 5), decimal(row, 115, 5));
     match expansion_bound(problem) {
@@ -103,7 +103,7 @@ fn is_told<F: Fn(u32, u32) -> i64 + Sync, V: Fn(u32, u32) -> i64 + Sync, H: How>
 ) -> bool
     requires ready { H.ready how.now }
     requires posed { IsPosed F.Fn V.Fn problem.now }
-    requires fits { Fits problem.now labelling.old }
+    requires fits { FitsProblem problem.now labelling.old }
 {
     let label_energy = i64::from(decimal(row, 102, 8));
     let is_answered = is_answered(problem, alloc, labelling, moved, label_energy, &[], how);

@@ -1,7 +1,7 @@
 //! Listed moves of which few sites are left for a cut, or none, or all.
 ghost use Rattle.std.specs.Prelude.{◌≡◌, ◌≤◌, ◌<◌, ◌≤ℤ◌, pos, length};
 ghost use Rattle.labellings.specs.Moves.{IsMoveOf};
-ghost use Rattle.cost_store.specs.Posed.{IsPosed, Fits};
+ghost use Rattle.cost_store.specs.Posed.{IsPosed, FitsProblem};
 
 use crate::listed::LISTED;
 use crate::opened::open_in;
@@ -93,7 +93,7 @@ fn ends_right<F: Fn(u32, u32) -> i64 + Sync, V: Fn(u32, u32) -> i64 + Sync, H: H
 ) -> bool
     requires ready { H.ready how.now }
     requires posed { IsPosed F.Fn V.Fn problem.now }
-    requires fits { Fits problem.now labelling.old }
+    requires fits { FitsProblem problem.now labelling.old }
 {
     let told = match change {
         Move::Expand(alpha) => expand(alloc, problem, labelling, alpha, how),
@@ -113,8 +113,8 @@ fn is_told<F: Fn(u32, u32) -> i64 + Sync, V: Fn(u32, u32) -> i64 + Sync>(
     row: &[u8; BYTES],
 ) -> Result<bool, Fail>
     requires posed { IsPosed F.Fn V.Fn problem.now }
-    requires fits { Fits problem.now labelling.old }
-    requires again { Fits problem.now again.old }
+    requires fits { FitsProblem problem.now labelling.old }
+    requires again { FitsProblem problem.now again.old }
     requires labels { 1 ≤ problem.now.data_cost.labels }
 {
     let change = change_of(row, problem.data_cost.labels);

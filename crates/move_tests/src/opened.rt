@@ -1,7 +1,7 @@
 //! How many sites of the moves of a first cycle are left for a cut, on a picture that a formula gives.
 ghost use Rattle.std.specs.Prelude.{◌<◌, ◌≤ℤ◌, pos};
 ghost use Rattle.labellings.specs.Moves.{IsMoveOf};
-ghost use Rattle.cost_store.specs.Posed.{IsPosed, Fits};
+ghost use Rattle.cost_store.specs.Posed.{IsPosed, FitsProblem};
 
 use cost_store::{DataCost, Problem, SmoothCost};
 use deciding::Deciding;
@@ -57,7 +57,7 @@ pub fn open_in<F: Fn(u32, u32) -> i64 + Sync, V: Fn(u32, u32) -> i64 + Sync>(
     change: Move,
 ) -> Result<Option<usize>, Fail>
     requires posed { IsPosed F.Fn V.Fn problem.now }
-    requires fits { Fits problem.now labelling.now }
+    requires fits { FitsProblem problem.now labelling.now }
     requires change { IsMoveOf problem.now.data_cost.labels change }
 {
     let mut deciding = Deciding::new(alloc, &problem.pairs)?;
@@ -76,7 +76,7 @@ fn expanded<F: Fn(u32, u32) -> i64 + Sync, V: Fn(u32, u32) -> i64 + Sync>(
     alpha: u32,
 ) -> Result<Option<(usize, usize)>, Fail>
     requires posed { IsPosed F.Fn V.Fn problem.now }
-    requires fits { Fits problem.now labelling.old }
+    requires fits { FitsProblem problem.now labelling.old }
     requires label { alpha < problem.now.data_cost.labels }
 {
     let opened = open_in(alloc, problem, labelling, Move::Expand(alpha))?;

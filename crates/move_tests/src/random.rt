@@ -1,7 +1,7 @@
 //! Small random moves and runs, with sites decided first and without, against answers worked out over all
 //! labellings.
 ghost use Rattle.std.specs.Prelude.{◌≡◌, ◌≤◌, ◌<◌, ◌+◌, ◌*◌, ◌≤ℤ◌, pos, length};
-ghost use Rattle.cost_store.specs.Posed.{IsPosed, Fits, AreOfOneSize};
+ghost use Rattle.cost_store.specs.Posed.{IsPosed, FitsProblem, AreOfOneSize};
 ghost use Rattle.moves.specs.declared.error.SolveError.TheVariants.{OutOfMemory};
 
 use crate::cases::MOVES;
@@ -165,7 +165,7 @@ fn answer_of<F: Fn(u32, u32) -> i64 + Sync, V: Fn(u32, u32) -> i64 + Sync, H: Ho
 ) -> Result<(bool, u32), MoveError>
     requires ready { H.ready how.now }
     requires posed { IsPosed F.Fn V.Fn problem.now }
-    requires fits { Fits problem.now labelling.old }
+    requires fits { FitsProblem problem.now labelling.old }
     ensures sizes { AreOfOneSize labelling.old labelling.new }
 {
     let (cycles, alpha, beta) = (digit(row, 4), digit(row, 7), digit(row, 8));
@@ -191,7 +191,7 @@ fn is_after<F: Fn(u32, u32) -> i64 + Sync, V: Fn(u32, u32) -> i64 + Sync>(
     label_energy: i64,
 ) -> bool
     requires posed { IsPosed F.Fn V.Fn problem.now }
-    requires fits { Fits problem.now labelling.now }
+    requires fits { FitsProblem problem.now labelling.now }
 {
     let data_energy = energy_at(row, 82);
     let smooth_energy = energy_at(row, 90);
@@ -219,7 +219,7 @@ pub fn is_answered<F: Fn(u32, u32) -> i64 + Sync, V: Fn(u32, u32) -> i64 + Sync,
 ) -> bool
     requires ready { H.ready how.now }
     requires posed { IsPosed F.Fn V.Fn problem.now }
-    requires fits { Fits problem.now labelling.old }
+    requires fits { FitsProblem problem.now labelling.old }
     ensures sizes { AreOfOneSize labelling.old labelling.new }
 {
     let first = answer_of(problem, alloc, labelling, row, how);

@@ -8,7 +8,7 @@ use Rattle.label_field.specs.LabelFields.{LabelField}
 use Rattle.labellings.specs.declared.change.Move.{Move}
 use Rattle.labellings.specs.Energies.{Instance, IsInstance, IsMetric}
 use Rattle.moves.specs.Instances.{data_entry}
-use Rattle.moves.specs.Problems.{IsRun, TellsPairNotRegular}
+use Rattle.moves.specs.Problems.{IsRunOfCycles, TellsPairNotRegular}
 use Rattle.moves.specs.declared.error.MoveError.{MoveError}
 use Rattle.moves.proofs.Answers.{metric_refusal}
 
@@ -82,7 +82,7 @@ table_metric m k l table some size labels same entries metric =
 -- over a metric no run is refused for a pair whose term is not regular
 pub metric_run : (m : Instance) (moves : List Move) (allowed : ℕ) (f : List ℕ) (field : LabelField) (e : MoveError)
     → All (λ label. label < field.labels) field.at → IsInstance m → length field.at ≡ m.sites → field.labels ≡ m.labels
-    → IsMetric m.labels m.smooth_cost → IsRun m moves allowed f field.at (Err e) → ¬ TellsPairNotRegular e
+    → IsMetric m.labels m.smooth_cost → IsRunOfCycles m moves allowed f field.at (Err e) → ¬ TellsPairNotRegular e
 metric_run m moves allowed f field e below pairs sites labels metric (inl run) =
     metric_refusal m run.0 field e below pairs sites labels metric run.2
 metric_run m moves allowed f field e below pairs sites labels metric (inr never) = (let P : MoveError → Type 0 = λ told. ¬ TellsPairNotRegular told in subst P (sym never.1) (λ told. told))

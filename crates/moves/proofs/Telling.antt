@@ -11,7 +11,7 @@ use Rattle.labellings.specs.declared.change.Move.{Move}
 use Rattle.labellings.proofs.Chains.{settled_is_local}
 use Rattle.labellings.proofs.Ratio.{expansion_bound}
 use Rattle.moves.specs.Bounds.{IsBoundOf}
-use Rattle.moves.specs.Problems.{IsRefusal, IsRun}
+use Rattle.moves.specs.Problems.{IsRefusal, IsRunOfCycles}
 use Rattle.moves.specs.declared.bound.Bound.{Bound}
 use Rattle.moves.specs.declared.error.MoveError.{MoveError}
 use Rattle.moves.specs.declared.error.MoveError.TheVariants.{LabelCostInSwap}
@@ -19,7 +19,7 @@ use Rattle.moves.specs.declared.runs.Ended.{Ended}
 use Rattle.moves.proofs.Answers.{costs_costly, costs_free}
 use Rattle.labellings.specs.declared.cycles.Moves.{Moves}
 use Rattle.labellings.specs.declared.cycles.Moves.TheVariants.{Expansion, Swap}
-use Rattle.moves.specs.Runs.{Answers, HasBound, IsNear, MayMake, TellsBound}
+use Rattle.moves.specs.Runs.{AnswersRun, HasBound, IsNear, MayMake, TellsBound}
 use Rattle.moves.specs.declared.tables.Run.{Run}
 use Rattle.moves.proofs.Entries.{place_in}
 
@@ -47,7 +47,7 @@ is_near m start cycles field ended bound pairs below sites labels of chain = rec
 -- a bound that is told, and one that is not
 pub tells_bound : (m : Instance) (moves : Moves) (start : List ℕ) (cycles : ℕ) (field : LabelField) (ended : Ended) (bound : Option Bound)
     → IsInstance m → All (λ label. label < field.labels) field.at → length field.at ≡ m.sites → field.labels ≡ m.labels
-    → IsRun m (moves_of moves m.labels) cycles start field.at (Ok ended)
+    → IsRunOfCycles m (moves_of moves m.labels) cycles start field.at (Ok ended)
     → ((b : Bound) → bound ≡ Some b → (moves ≡ Expansion) × IsTrue ended.settled × IsBoundOf m b)
     → (bound ≡ None → ¬ HasBound m moves ended.settled)
     → TellsBound m moves field.at ended.settled bound
@@ -84,7 +84,7 @@ told_small m most k table moves labels settled (Some b) same costs is some tells
 
 -- the numbers of a bound are costs of the table, or 1
 pub bound_small : (m : Instance) (most : ℤ) (k : ℕ) (table : List ℤ) (moves : Moves) (cycles : ℕ) (start : List ℕ) (r : Result Run MoveError) → m.labels ≡ k
-    → All (IsCost most) table → IsTable k k m.smooth_cost table → pos 1 ≤ℤ most → Answers m moves cycles start r
+    → All (IsCost most) table → IsTable k k m.smooth_cost table → pos 1 ≤ℤ most → AnswersRun m moves cycles start r
     → IfOk r (λ (run : Run). IfSome run.bound (λ (b : Bound). pos b.vmax ≤ℤ most))
 bound_small m most k table moves cycles start (Err e) same costs is some answers = tt
 bound_small m most k table moves cycles start (Ok run) same costs is some answers =
@@ -100,7 +100,7 @@ expansion_apart is = cc
 
 -- a run is refused for what a label costs only where it is one of swaps
 pub refused_own : (m : Instance) (moves : Moves) (cycles : ℕ) (start reached : List ℕ) (e : MoveError) → (e ≡ LabelCostInSwap → moves ≡ Swap)
-    → IsRun m (moves_of moves m.labels) cycles start reached (Err e) → e ≡ LabelCostInSwap → ¬ MayMake m moves
+    → IsRunOfCycles m (moves_of moves m.labels) cycles start reached (Err e) → e ≡ LabelCostInSwap → ¬ MayMake m moves
 refused_own m Expansion cycles start reached e own run is may = expansion_apart (own is)
 refused_own m Swap cycles start reached e own (inl run) is may = of_label m run.0 reached e is run.2 may
 refused_own m Swap cycles start reached e own (inr never) is may = never.2 may

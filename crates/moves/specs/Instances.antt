@@ -1,7 +1,7 @@
 -- The instances of data costs and a table of smooth costs.
 use Rattle.std.specs.Prelude.{◌≡◌, ℕ, ℤ, List, ◌+◌, ◌*◌, slice_index}
 use Rattle.label_field.specs.PairLists.{PairList}
-use Rattle.cost_store.specs.Promises.{Answers, IsTable, cost_in}
+use Rattle.cost_store.specs.Promises.{AnswersTable, IsTable, cost_in}
 use Rattle.labellings.specs.Energies.{Instance}
 use Rattle.cost_store.specs.LabelCosts.{cost_at}
 
@@ -12,7 +12,7 @@ pub record IsInstanceOf (data_post : ℕ → ℕ → ℤ → Type 0) (pairs : Pa
   pub sites_are : m.sites ≡ pairs.sites
   pub labels_are : m.labels ≡ labels
   pub pairs_are : m.pairs ≡ pairs.list
-  pub data_are : Answers data_post m.data_cost pairs.sites labels
+  pub data_are : AnswersTable data_post m.data_cost pairs.sites labels
   pub smooth_are : IsTable labels labels m.smooth_cost smooth
 
 -- the one whose smooth costs are the entries of the table, and whose label costs those of the list

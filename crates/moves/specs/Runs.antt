@@ -6,7 +6,7 @@ use Rattle.labellings.specs.declared.cycles.Moves.{Moves}
 use Rattle.labellings.specs.declared.cycles.Moves.TheVariants.{Expansion, Swap}
 use Rattle.labellings.specs.Chains.{moves_of}
 use Rattle.labellings.specs.Energies.{Instance, AreLabelsFree, IsLabelled, IsMetric, IsRatio, labelling, energy, data_energy, smooth_energy, label_energy}
-use Rattle.moves.specs.Problems.{IsRun}
+use Rattle.moves.specs.Problems.{IsRunOfCycles}
 use Rattle.moves.specs.declared.bound.Bound.{Bound}
 use Rattle.moves.specs.declared.error.MoveError.{MoveError}
 use Rattle.moves.specs.declared.error.MoveError.TheVariants.{LabelCostInSwap}
@@ -39,20 +39,20 @@ TellsBound m moves labels settled (Some bound) = HasBound m moves settled × IsN
 
 -- the run of so many cycles from a labelling: where it ended, and the three parts of the energy there; or the
 -- refusal of the next move of the chain, from the labelling that the run had come to
-abbrev pub Answers : Instance → Moves → ℕ → List ℕ → Result Run MoveError → Type 0
-Answers m moves cycles start (Ok run) =
-    IsRun m (moves_of moves m.labels) cycles start run.labelling.at (Ok run.ended)
+abbrev pub AnswersRun : Instance → Moves → ℕ → List ℕ → Result Run MoveError → Type 0
+AnswersRun m moves cycles start (Ok run) =
+    IsRunOfCycles m (moves_of moves m.labels) cycles start run.labelling.at (Ok run.ended)
     × (run.«data» ≡ pos (data_energy m (labelling run.labelling.at)))
     × (run.smooth ≡ pos (smooth_energy m (labelling run.labelling.at)))
     × (run.label ≡ pos (label_energy m (labelling run.labelling.at)))
     × TellsBound m moves run.labelling.at run.ended.settled run.bound
     × MayMake m moves
-Answers m moves cycles start (Err e) =
-    (reached : List ℕ) × IsRun m (moves_of moves m.labels) cycles start reached (Err e)
+AnswersRun m moves cycles start (Err e) =
+    (reached : List ℕ) × IsRunOfCycles m (moves_of moves m.labels) cycles start reached (Err e)
     × (e ≡ LabelCostInSwap → ¬ MayMake m moves)
 
 -- the last labelling has the sizes of the first, and the parts of its energy are in their ranges
-pub record IsSized (start : LabelField) (run : Run) : Type 0 where
+pub record IsRunInRange (start : LabelField) (run : Run) : Type 0 where
   pub labels_are : run.labelling.labels ≡ start.labels
   pub sites_are : length run.labelling.at ≡ length start.at
   pub data_least : pos 0 ≤ℤ run.«data»

@@ -1,13 +1,9 @@
 //! How far a settled run of expansions is from the least energy at most.
-ghost use Rattle.std.specs.Prelude.{◌≡◌, ◌*◌, ◌≤◌, ◌↔◌, ℕ, List, IsTrue, IsOk, IfOk, IfErr, Ok};
-ghost use Rattle.labellings.specs.Energies.{Instance, IsInstance, IsLabelled, energy, labelling};
-ghost use Rattle.labellings.specs.Chains.{expansions};
+ghost use Rattle.std.specs.Prelude.{◌≡◌, ◌↔◌, IsTrue, IsOk, IfOk, IfErr};
 ghost use Rattle.cost_store.specs.Posed.{IsPosed, Meant};
-ghost use Rattle.moves.specs.declared.bound.Bound.{Bound};
-ghost use Rattle.moves.specs.declared.runs.Ended.{Ended};
 ghost use Rattle.moves.specs.Bounds.{IsBoundOf};
 ghost use Rattle.cost_store.specs.LabelCosts.{costs_of as costs_in, AreFree};
-ghost use Rattle.moves.specs.Problems.{IsRun};
+ghost use Rattle.moves.specs.Laws.{SettledRunIsNear};
 
 use crate::MoveError;
 use cost_store::{Problem, costs_of, has_cost};
@@ -46,8 +42,5 @@ pub fn expansion_bound<F: Fn(u32, u32) -> i64 + Sync, V: Fn(u32, u32) -> i64 + S
 
 /// A settled run of expansions is within its bound of every labelling.
 pub fn settled_run_is_near()
-    ensures { (m : Instance) (allowed : ℕ) (f g : List ℕ) (ended : Ended) (bound : Bound) (h : ℕ → ℕ) →
-        IsInstance m → IsBoundOf m bound → IsRun m (expansions m.labels) allowed f g (Ok ended) →
-        IsTrue ended.settled → IsLabelled m (labelling g) → IsLabelled m h →
-        bound.vmin * energy m (labelling g) ≤ (2 * bound.vmax) * energy m h }
+    ensures { SettledRunIsNear }
 {}

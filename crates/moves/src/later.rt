@@ -4,7 +4,7 @@ ghost use Rattle.std.specs.List.{All, Contains};
 ghost use Rattle.labellings.specs.declared.change.Move.TheVariants.{Expand};
 ghost use Rattle.labellings.specs.Energies.{labelling as labelling_of};
 ghost use Rattle.cost_store.specs.LabelCosts.{costs_of as costs_in, AreFree};
-ghost use Rattle.cost_store.specs.Posed.{IsPosed, Meant, IsAsked, Fits, AreOfOneSize};
+ghost use Rattle.cost_store.specs.Posed.{IsPosed, Meant, IsAsked, FitsProblem, AreOfOneSize};
 ghost use Rattle.stages.specs.Changes.{made_of, changed_after, AreStamped};
 ghost use Rattle.stages.specs.Fresh.{WasExpanded};
 ghost use Rattle.stages.specs.Looking.{marked, AreTaking};
@@ -171,7 +171,7 @@ pub(crate) fn make_later<F: Fn(u32, u32) -> i64 + Sync, V: Fn(u32, u32) -> i64 +
     how: &H,
 ) -> Result<Option<bool>, MoveError>
     requires ready { H.ready how.now }
-    requires fits { Fits problem.now labelling.old }
+    requires fits { FitsProblem problem.now labelling.old }
     requires posed { IsPosed F.Fn V.Fn problem.now }
     requires by_site { IsGroupedFor problem.now.pairs space.old }
     requires stamped { Meant F.Fn V.Fn problem.now

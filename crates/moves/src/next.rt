@@ -4,7 +4,7 @@ ghost use Rattle.labellings.specs.declared.change.Move.TheVariants.{Expand};
 ghost use Rattle.labellings.specs.Energies.{labelling as labelling_of};
 ghost use Rattle.labellings.specs.Moves.{IsBest};
 ghost use Rattle.cost_store.specs.LabelCosts.{costs_of as costs_in, AreFree};
-ghost use Rattle.cost_store.specs.Posed.{IsPosed, Meant, Fits, AreOfOneSize};
+ghost use Rattle.cost_store.specs.Posed.{IsPosed, Meant, FitsProblem, AreOfOneSize};
 ghost use Rattle.stages.specs.Changes.{AreStamped};
 ghost use Rattle.stages.specs.Looking.{marked, AreTaking};
 ghost use Rattle.moves.specs.Building.{IsGroupedFor, site_values};
@@ -31,7 +31,7 @@ pub(crate) fn begin_run<F: Fn(u32, u32) -> i64 + Sync, V: Fn(u32, u32) -> i64 + 
     moves: Moves,
     cycles: u32,
 ) -> Changes
-    requires fits { Fits problem.now labelling.now }
+    requires fits { FitsProblem problem.now labelling.now }
     ensures { Meant F.Fn V.Fn problem.now (λ m. AreStamped m (labelling_of labelling.now.at) result) }
 {
     let comes_again = moves == Moves::Expansion && cycles > 1;
@@ -90,7 +90,7 @@ fn make_expansion<F: Fn(u32, u32) -> i64 + Sync, V: Fn(u32, u32) -> i64 + Sync, 
     how: &H,
 ) -> Result<bool, MoveError>
     requires ready { H.ready how.now }
-    requires fits { Fits problem.now labelling.old }
+    requires fits { FitsProblem problem.now labelling.old }
     requires posed { IsPosed F.Fn V.Fn problem.now }
     requires by_site { IsGroupedFor problem.now.pairs space.old }
     requires stamped { Meant F.Fn V.Fn problem.now
@@ -127,7 +127,7 @@ pub(crate) fn make_next<F: Fn(u32, u32) -> i64 + Sync, V: Fn(u32, u32) -> i64 + 
     how: &H,
 ) -> Result<bool, MoveError>
     requires ready { H.ready how.now }
-    requires fits { Fits problem.now labelling.old }
+    requires fits { FitsProblem problem.now labelling.old }
     requires posed { IsPosed F.Fn V.Fn problem.now }
     requires by_site { IsGroupedFor problem.now.pairs space.old }
     requires stamped { Meant F.Fn V.Fn problem.now

@@ -4,12 +4,12 @@ ghost use Rattle.labellings.specs.declared.cycles.Moves.TheVariants.{Expansion};
 ghost use Rattle.labellings.specs.Energies.{Instance, IsMetric};
 ghost use Rattle.cost_store.specs.Limits.{data_limit, site_cost_limit, smooth_limit};
 ghost use Rattle.cost_store.specs.LabelCosts.{costs_of, AreFree, AreLabelCosts, HasCosts};
-ghost use Rattle.cost_store.specs.Posed.{IsPosed, Meant, Fits};
+ghost use Rattle.cost_store.specs.Posed.{IsPosed, Meant, FitsProblem};
 ghost use Rattle.cost_store.specs.Promises.{IsCost, IsMetricTable, Keeps, entry_at};
 ghost use Rattle.moves.specs.Bounds.{IsBoundOf};
 ghost use Rattle.moves.specs.Instances.{IsInstanceOf, data_entry, instance_of};
 ghost use Rattle.moves.specs.Problems.{IsRunRefusal, TellsPairNotRegular};
-ghost use Rattle.moves.specs.Runs.{Answers, IsSized};
+ghost use Rattle.moves.specs.Runs.{AnswersRun, IsRunInRange};
 
 use crate::{Bound, Ended, How, MoveError, expansion_bound, run};
 use cost_store::{DataCost, Problem, SmoothCost, is_metric};
@@ -73,7 +73,7 @@ pub fn run_with_table<F: Fn(u32, u32) -> i64 + Sync, H: How>(
     requires known { IsTrue by_metric ↔ IsMetricTable request.start.labels smooth.now }
     requires label_costs { AreLabelCosts request.start.labels label_costs }
     ensures run { (m : Instance) → IsInstanceOf (F.post data_cost.f) pairs request.start.labels smooth.now m →
-        HasCosts m label_costs → Answers m request.moves request.cycles request.start.at result }
+        HasCosts m label_costs → AnswersRun m request.moves request.cycles request.start.at result }
     ensures refused { IfErr result (IsRunRefusal (H.refuses how.now)) }
     ensures metric { IsMetricTable request.start.labels smooth.now → (m : Instance) → IsInstanceOf (F.post
         data_cost.f) pairs request.start.labels smooth.now m → HasCosts m label_costs → IfErr result (λ e. ¬
@@ -81,7 +81,7 @@ pub fn run_with_table<F: Fn(u32, u32) -> i64 + Sync, H: How>(
     ensures bounded { (m : Instance) → IsInstanceOf (F.post data_cost.f) pairs request.start.labels smooth.now
         m → HasCosts m label_costs → IfOk result (λ run. IfSome run.bound (λ bound. pos bound.vmax ≤ℤ
         smooth_limit)) }
-    ensures sized { IfOk result (IsSized request.start) }
+    ensures sized { IfOk result (IsRunInRange request.start) }
 {
     let labels = request.start.labels();
     pairs.keeps();
@@ -116,10 +116,10 @@ pub fn run_tables<H: How>(
     requires smooth { (length smooth.now ≡ request.start.labels * request.start.labels)
         × All (IsCost smooth_limit) smooth.now }
     requires label_costs { AreLabelCosts request.start.labels label_costs }
-    ensures run { Answers (instance_of pairs request.start.labels (data_entry request.start.labels data.now)
+    ensures run { AnswersRun (instance_of pairs request.start.labels (data_entry request.start.labels data.now)
         smooth.now (costs_of label_costs)) request.moves request.cycles request.start.at result }
     ensures refused { IfErr result (IsRunRefusal (H.refuses how.now)) }
-    ensures sized { IfOk result (IsSized request.start) }
+    ensures sized { IfOk result (IsRunInRange request.start) }
     ensures bounded { IfOk result (λ run. IfSome run.bound (λ bound. pos bound.vmax ≤ℤ smooth_limit)) }
 {
     let labels = request.start.labels();
@@ -154,15 +154,15 @@ fn run_problem<F: Fn(u32, u32) -> i64 + Sync, V: Fn(u32, u32) -> i64 + Sync, H: 
 ) -> Result<Run, MoveError>
     requires ready { H.ready how.now }
     requires posed { IsPosed F.Fn V.Fn problem.now }
-    requires fits { Fits problem.now request.start }
+    requires fits { FitsProblem problem.now request.start }
     requires known { Meant F.Fn V.Fn problem.now
         (λ m. IsMetric m.labels m.smooth_cost → IsTrue problem.now.smooth_cost.by_metric) }
     ensures run { Meant F.Fn V.Fn problem.now
-        (λ m. Answers m request.moves request.cycles request.start.at result) }
+        (λ m. AnswersRun m request.moves request.cycles request.start.at result) }
     ensures refused { IfErr result (IsRunRefusal (H.refuses how.now)) }
     ensures metric { IsTrue problem.now.smooth_cost.by_metric →
         Meant F.Fn V.Fn problem.now (λ m. IfErr result (λ e. ¬ TellsPairNotRegular e)) }
-    ensures sized { IfOk result (IsSized request.start) }
+    ensures sized { IfOk result (IsRunInRange request.start) }
 {
     let mut labelling = request.start;
     match run(

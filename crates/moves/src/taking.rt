@@ -3,7 +3,7 @@ ghost use Rattle.std.specs.Prelude.{◌≡◌, ◌≢◌, ◌≤◌, ◌<◌, �
 ghost use Rattle.labellings.specs.declared.change.Move.TheVariants.{Expand};
 ghost use Rattle.labellings.specs.Energies.{labelling};
 ghost use Rattle.labellings.specs.Moves.{IsBest, IsMoveOf, label_in};
-ghost use Rattle.cost_store.specs.Posed.{IsPosed, Meant, Fits, AreOfOneSize};
+ghost use Rattle.cost_store.specs.Posed.{IsPosed, Meant, FitsProblem, AreOfOneSize};
 ghost use Rattle.deciding.specs.Decisions.{IsSmallestLeast};
 ghost use Rattle.moves.specs.Building.{site_values, made_value, HasChanges, AreChangesListed};
 ghost use Rattle.cost_store.specs.LabelCosts.{costs_of};
@@ -26,7 +26,7 @@ pub(crate) fn take_best<F: Fn(u32, u32) -> i64 + Sync, V: Fn(u32, u32) -> i64 + 
     change: Move,
     space: &Workspace,
 ) -> bool
-    requires fits { Fits problem.now field.old }
+    requires fits { FitsProblem problem.now field.old }
     requires posed { IsPosed F.Fn V.Fn problem.now }
     requires free { IsFreeFor change (costs_of problem.now.label_costs) }
     requires below { IsMoveOf field.old.labels change }

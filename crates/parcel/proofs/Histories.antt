@@ -8,7 +8,7 @@ use Rattle.parcel.specs.States.{State, far_block}
 use Rattle.parcel.specs.Events.{MayAccept, MayRefuse, accepted, refused, settled, IsQuiet}
 use Rattle.parcel.specs.Soundness.{IsSound}
 use Rattle.parcel.proofs.Raising.{quiet_ways}
-use Rattle.parcel.specs.Workers.{MayTake, FitsFlight, noted, Does, IsHistory}
+use Rattle.parcel.specs.Workers.{MayTake, FitsFlight, noted, DoesOwn, IsHistory}
 use Rattle.parcel.proofs.Fit.{IsFit, sound_fit, pushed_fit, given_fit, relabelled_fit, fit_allowed, sent_fit, accepted_fit, refused_fit, taken_fit, returned_fit}
 use Rattle.parcel.proofs.Logs.{IsLogged, begun, pushed_logged, given_logged, relabelled_logged, sent_logged, accepted_logged, refused_logged, taken_logged, returned_logged}
 
@@ -54,7 +54,7 @@ settle_own b c old s (Refused x a d told) own me fits = record {
   log = returned_logged b c old s x a d told own.fit own.log me.addressed me.fair.0 me.fair.1 me.fair.2 fits.0;
 }
 
-effect_own : (b : ℕ) (old s : State) (e : Event) (t : State) → IsOwn b old s → Does b s e t → IsOwn b old t
+effect_own : (b : ℕ) (old s : State) (e : Event) (t : State) → IsOwn b old s → DoesOwn b s e t → IsOwn b old t
 effect_own b old s (PushInner x) t own does =
     let on = does.1 in
     subst (λ (u : State). IsOwn b old u) (sym does.2) (record {

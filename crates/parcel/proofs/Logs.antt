@@ -11,7 +11,7 @@ use Rattle.parcel.specs.declared.message.Message.TheVariants.{Parcel, Accepted, 
 use Rattle.parcel.specs.Directions.{forward, backward, opposite, is_same, IsDirection, near, far}
 use Rattle.parcel.specs.States.{State, Lane, Lanes, lane_at, put_lane, way_at, put_message, over_messages, label_of, room_of, flight_of, residual_of, known_of, near_block, far_block, block_of, is_border}
 use Rattle.parcel.specs.Effects.{learned}
-use Rattle.parcel.specs.Events.{IsQuiet, pushed, given, relabelled, sent, accepted, refused, settled}
+use Rattle.parcel.specs.Events.{IsQuiet, pushed, given, labelled, sent, accepted, refused, settled}
 use Rattle.parcel.specs.Soundness.{IsSound, IsSquare}
 use Rattle.parcel.proofs.Lanes.{same_itself as same_is, not_same as not_same_is, long_put, lane_other, cases_direction, near_opposite, far_opposite, border_opposite, opposite_twice}
 use Rattle.parcel.proofs.Ways.{EachWay, each_put, square_put, messages_more, all_more}
@@ -179,7 +179,7 @@ told_kept net labels labels' (Parcel x a d) up h = omega (arith, h, up (near net
 told_kept net labels labels' (Accepted x a) up h = tt
 told_kept net labels labels' (Refused x a d told) up h = omega (arith, h, up (far net x))
 
-pub relabelled_logged : (b : ℕ) (old s : State) (v d : ℕ) → IsFit s → IsLogged b old s → v < nodes s.net → label_of s v < d → IsLogged b old (relabelled s v d)
+pub relabelled_logged : (b : ℕ) (old s : State) (v d : ℕ) → IsFit s → IsLogged b old s → v < nodes s.net → label_of s v < d → IsLogged b old (labelled s v d)
 relabelled_logged b old s v d fit log lv higher =
     let l : v < length s.labels = omega (arith, lv, fit.sized.labels) in
     let up = λ (u : ℕ). set_rises s.labels v d u l (omega (arith, higher)) in

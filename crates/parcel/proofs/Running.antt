@@ -13,7 +13,7 @@ use Rattle.parcel.specs.Soundness.{IsSound, IsSquare}
 use Rattle.parcel.proofs.Ways.{square_put, way_same, way_other}
 use Rattle.parcel.proofs.Kept.{kept}
 use Rattle.parcel.proofs.Opening.{opened_square}
-use Rattle.parcel.specs.Workers.{IsBetween, MayTake, FitsFlight, noted, Does, IsHistory}
+use Rattle.parcel.specs.Workers.{IsBetween, MayTake, FitsFlight, noted, DoesOwn, IsHistory}
 use Rattle.parcel.specs.RoundLaws.{with_ways, no_messages, IsPassed}
 use Rattle.parcel.proofs.Words.{apart, in_range, put_here, put_other}
 
@@ -182,7 +182,7 @@ pub active_same : (l : State) (ways : List (List (List Message))) (v : ℕ) → 
 active_same l ways v on = record { node = on.node; excess = on.excess; below = on.below }
 
 does_goes : (b : ℕ) (first : List (List (List Message))) (l : State) (ways : List (List (List Message))) (e : Event) (l' : State) → IsSound (with_ways l ways) → IsSquare l.blocks l.ways
-    → IsPassed b first l.ways ways → Does b l e l' → Begins b first l'.ways → Goes b first l ways e l'
+    → IsPassed b first l.ways ways → DoesOwn b l e l' → Begins b first l'.ways → Goes b first l ways e l'
 does_goes b first l ways (PushInner x) l' sound sl by does begins =
     named_goes b b (λ q. PushInner x) first l ways (effect l (PushInner x)) l' refl does.2 begins
     (λ h. record { ways' = ways; happens = record { enabled = (does.1.0, does.1.1, active_same l ways _ does.1.2, does.1.3, does.1.4); effect = refl }; log = sl; beside = by })
@@ -270,7 +270,7 @@ settle_grows b c l (Parcel x a d) fits = absurd fits
 settle_grows b c l (Accepted x a) fits = grows_any l.ways c b (Accepted x a)
 settle_grows b c l (Refused x a d told) fits = grows_any l.ways c b (Refused x a d told)
 
-does_grows : (b : ℕ) (l : State) (e : Event) (l' : State) → Does b l e l' → Grown l.ways l'.ways
+does_grows : (b : ℕ) (l : State) (e : Event) (l' : State) → DoesOwn b l e l' → Grown l.ways l'.ways
 does_grows b l (PushInner x) l' does = subst (λ (q : State). Grown l.ways q.ways) (sym does.2) (grown_same l.ways)
 does_grows b l (PushSink v) l' does = subst (λ (q : State). Grown l.ways q.ways) (sym does.2) (grown_same l.ways)
 does_grows b l (Relabel v) l' does = subst (λ (q : State). Grown l.ways q.ways) (sym does.2) (grown_same l.ways)

@@ -15,7 +15,7 @@ use Rattle.parcel.proofs.Ways.{square_put}
 use Rattle.parcel.proofs.Opening.{opened_square}
 use Rattle.parcel.proofs.Replies.{front_out}
 use Rattle.parcel.proofs.Owning as owning
-use Rattle.parcel.specs.Workers.{MayTake, FitsArc, FitsFlight, noted, Does}
+use Rattle.parcel.specs.Workers.{MayTake, FitsArc, FitsFlight, noted, DoesOwn}
 use Rattle.parcel.specs.RoundLaws.{unmoved, no_messages, IsOf, TookFronts}
 use Rattle.parcel.proofs.Running.{active_same, no_way}
 use Rattle.parcel.proofs.Words.{put_here, put_other}
@@ -104,7 +104,7 @@ settle_terms b c s (Refused x a d told ∷ rest) sound l e may =
 
 -- what the event does in its own terms
 abbrev Own : ℕ → State → Event → Type 0
-Own b s e = (t : State) × Does b (unmoved s) e t × TookFronts b s t
+Own b s e = (t : State) × DoesOwn b (unmoved s) e t × TookFronts b s t
 
 send_own : (s : State) (x : Direction) → IsSound s → Enabled s (Send x) → Own (near_block s.net s.blocks x) s (Send x)
 send_own s x sound on =

@@ -44,8 +44,8 @@ view_of s = record {
 -- ---- what each event does
 
 -- an amount goes to the sink
-abbrev pub gave : BlocksView → ℕ → ℕ → BlocksView
-gave b v a = record b {
+abbrev pub given : BlocksView → ℕ → ℕ → BlocksView
+given b v a = record b {
   excess = slice_set b.excess v (slice_index b.excess v - a);
   rooms = slice_set b.rooms v (slice_index b.rooms v - a);
 }

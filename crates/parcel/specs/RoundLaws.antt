@@ -6,7 +6,7 @@ use Rattle.parcel.specs.declared.message.Message.{Message}
 use Rattle.parcel.specs.States.{State, way_at, block_of, near_block}
 use Rattle.parcel.specs.Events.{IsQuiet, Enabled, Run}
 use Rattle.parcel.specs.Soundness.{IsSound, IsSquare}
-use Rattle.parcel.specs.Workers.{Does, IsHistory, MayStart}
+use Rattle.parcel.specs.Workers.{DoesOwn, IsHistory, MayStart}
 use Rattle.parcel.specs.Rounds.{RoundOf}
 
 -- whatever the schedule, a round from a sound and quiet state gives back a sound state
@@ -71,7 +71,7 @@ TookFronts b s t =
 abbrev pub OwnTermsHold : Type 0
 OwnTermsHold =
     (b : ℕ) (s : State) (e : Event)
-    → IsSound s → IsOf b s e → Enabled s e → (t : State) × Does b (unmoved s) e t × TookFronts b s t
+    → IsSound s → IsOf b s e → Enabled s e → (t : State) × DoesOwn b (unmoved s) e t × TookFronts b s t
 
 -- where no message is on the way, the ways are empty lists
 abbrev pub QuietIsEmpty : Type 0

@@ -66,26 +66,26 @@ abbrev pub noted : State → ℕ → ℕ → Message → List Message
 noted s b c m = m ∷ (way_at s.ways c b ++ m ∷ [])
 
 -- block b does an event of its own, enabled in its own terms, and that leads from s to t
-abbrev pub Does : ℕ → State → Event → State → Type 0
-Does b s (PushInner x) t =
+abbrev pub DoesOwn : ℕ → State → Event → State → Type 0
+DoesOwn b s (PushInner x) t =
     (near_block s.net s.blocks x ≡ b) × Enabled s (PushInner x) × (t ≡ effect s (PushInner x))
-Does b s (PushSink v) t =
+DoesOwn b s (PushSink v) t =
     (block_of s.net s.blocks v ≡ b) × Enabled s (PushSink v) × (t ≡ effect s (PushSink v))
-Does b s (Relabel v) t = (block_of s.net s.blocks v ≡ b) × Enabled s (Relabel v) × (t ≡ effect s (Relabel v))
-Does b s (Send x) t = (near_block s.net s.blocks x ≡ b) × Enabled s (Send x) × (t ≡ effect s (Send x))
-Does b s (Accept c to) t =
+DoesOwn b s (Relabel v) t = (block_of s.net s.blocks v ≡ b) × Enabled s (Relabel v) × (t ≡ effect s (Relabel v))
+DoesOwn b s (Send x) t = (near_block s.net s.blocks x ≡ b) × Enabled s (Send x) × (t ≡ effect s (Send x))
+DoesOwn b s (Accept c to) t =
     (to ≡ b) × (m : Message) × MayTake s b c m × MayAccept s (m ∷ []) × FitsArc s m
     × (t ≡ accepted s c b (noted s b c m))
-Does b s (Refuse c to) t =
+DoesOwn b s (Refuse c to) t =
     (to ≡ b) × (m : Message) × MayTake s b c m × MayRefuse s (m ∷ []) × (t ≡ refused s c b (noted s b c m))
-Does b s (Settle c to) t =
+DoesOwn b s (Settle c to) t =
     (to ≡ b) × (m : Message) × MayTake s b c m × FitsFlight s m × (t ≡ settled s c b (noted s b c m))
-Does b s RaiseAll t = ⊥
+DoesOwn b s RaiseAll t = ⊥
 
 -- events of block b, one after another, lead from s to t
 abbrev pub IsHistory : ℕ → State → List Event → State → Type 0
 IsHistory b s [] t = t ≡ s
-IsHistory b s (e ∷ es) t = (mid : State) × Does b s e mid × IsHistory b mid es t
+IsHistory b s (e ∷ es) t = (mid : State) × DoesOwn b s e mid × IsHistory b mid es t
 
 -- an event of block b that takes no message is enabled
 abbrev pub MayStart : ℕ → State → Event → Type 0

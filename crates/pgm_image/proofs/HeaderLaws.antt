@@ -7,7 +7,7 @@ use Rattle.pgm_image.specs.Signs.{cap}
 use Rattle.pgm_image.specs.Picture.{SizeFits}
 use Rattle.pgm_image.specs.Words.{numbers_at}
 use Rattle.pgm_image.specs.Grammar.{magic, AreNumbers, IsHeader, IsAnyHeader, StopsAt}
-use Rattle.pgm_image.specs.Front.{Fits, IsTooLarge, Refuses}
+use Rattle.pgm_image.specs.Front.{FitNumbers, IsTooLarge, RefusesFront}
 use Rattle.pgm_image.specs.Reading.{form_at, check_limits, within, after_numbers, after_form, header_at}
 use Rattle.pgm_image.specs.declared.header.Header.{Header}
 use Rattle.pgm_image.specs.declared.header.Form.{Form}
@@ -73,20 +73,20 @@ limits_maxval w h m s bad =
     ∙ ap (λ y. check_limits (record { width = w; height = y; maxval = cap m })) (cap_same h (omega arith))
     ∙ maxval_by w h (cap m) s (cap_maxval m bad)
 
-pub exact_header : (w h m : ℕ) → Fits w h m → capped_header w h m ≡ record { width = w; height = h; maxval = m }
+pub exact_header : (w h m : ℕ) → FitNumbers w h m → capped_header w h m ≡ record { width = w; height = h; maxval = m }
 exact_header w h m f =
     let a = cap_same w (omega arith) in
     let b = cap_same h (omega arith) in
     let c = cap_same m (omega arith) in cc
 
-fit_by : (w h m : ℕ) → Fits w h m → check_limits (record { width = w; height = h; maxval = m }) ≡ Ok tt
+fit_by : (w h m : ℕ) → FitNumbers w h m → check_limits (record { width = w; height = h; maxval = m }) ≡ Ok tt
 fit_by w h m f = grind (arith, nat_tests)
 
-pub limits_fit : (w h m : ℕ) → Fits w h m → check_limits (capped_header w h m) ≡ Ok tt
+pub limits_fit : (w h m : ℕ) → FitNumbers w h m → check_limits (capped_header w h m) ≡ Ok tt
 limits_fit w h m f = ap check_limits (exact_header w h m f) ∙ fit_by w h m f
 
 -- one of the four stands
-pub limits_cases : (w h m : ℕ) → Fits w h m ⊎ (((w ≡ 0) ⊎ (h ≡ 0)) ⊎ (IsTooLarge w h ⊎ (SizeFits w h × ((m ≡ 0) ⊎ (65535 < m)))))
+pub limits_cases : (w h m : ℕ) → FitNumbers w h m ⊎ (((w ≡ 0) ⊎ (h ≡ 0)) ⊎ (IsTooLarge w h ⊎ (SizeFits w h × ((m ≡ 0) ⊎ (65535 < m)))))
 limits_cases zero h m = inr (inl (inl refl))
 limits_cases (suc w) zero m = inr (inl (inr refl))
 limits_cases (suc w) (suc h) m = elim (cases_lt 4096 (suc w)) [
@@ -237,10 +237,10 @@ pub record Found (bytes : List ℕ) : Type 0 where
   pub whole : bytes ≡ header ++ rest
 
 abbrev pub NoHeader : List ℕ → Type 0
-NoHeader bytes = (at : ℕ) × (header_at bytes ≡ Err (BadHeader at)) × Refuses bytes (BadHeader at)
+NoHeader bytes = (at : ℕ) × (header_at bytes ≡ Err (BadHeader at)) × RefusesFront bytes (BadHeader at)
 
 abbrev pub HeaderSays : List ℕ → Type 0
-HeaderSays bytes = ((header_at bytes ≡ Err NotPgm) × Refuses bytes NotPgm) ⊎ (NoHeader bytes ⊎ Found bytes)
+HeaderSays bytes = ((header_at bytes ≡ Err NotPgm) × RefusesFront bytes NotPgm) ⊎ (NoHeader bytes ⊎ Found bytes)
 
 no_header : (bytes text : List ℕ) (form : Form) (left : ℕ) → form_at bytes ≡ Some (form, text) → bytes ≡ magic form ++ text → numbers_at 3 text ≡ Err left → NoHeader bytes
 unfolding header_at

@@ -39,8 +39,8 @@ pub record AfterHeader (Says : Form → ℕ → ℕ → ℕ → ℕ → List ℕ
   pub says : Says form width height maxval is_header.last rest
 
 -- the three numbers are within their limits
-abbrev pub Fits : ℕ → ℕ → ℕ → Type 0
-Fits w h m = SizeFits w h × (1 ≤ m) × (m ≤ maxval_limit)
+abbrev pub FitNumbers : ℕ → ℕ → ℕ → Type 0
+FitNumbers w h m = SizeFits w h × (1 ≤ m) × (m ≤ maxval_limit)
 
 -- a width and a height, one of which or whose product is above its limit
 abbrev pub IsTooLarge : ℕ → ℕ → Type 0
@@ -56,9 +56,9 @@ pub record FewerSamples (count m : ℕ) (bytes xs tail : List ℕ) : Type 0 wher
   pub whole : bytes ≡ front ++ tail
 
 -- The input ends before the last sample: a raster's last byte, or a plain sample's first digit.
-abbrev pub IsCut : Form → ℕ → ℕ → ℕ → List ℕ → Type 0
-IsCut Raw count m last rest = length rest < raster_size count m
-IsCut Plain count m last rest = (xs : List ℕ) × (tail : List ℕ) × (more : List ℕ)
+abbrev pub EndsEarly : Form → ℕ → ℕ → ℕ → List ℕ → Type 0
+EndsEarly Raw count m last rest = length rest < raster_size count m
+EndsEarly Plain count m last rest = (xs : List ℕ) × (tail : List ℕ) × (more : List ℕ)
     × FewerSamples count m (last ∷ rest) xs tail × (is_gap (tail ++ more) ≡ true)
 
 -- The sample with this index is the first above m.
@@ -79,24 +79,24 @@ HasBad Plain count m last rest end at = (xs : List ℕ) × (tail : List ℕ) × 
     × (at ≡ (end - length tail) + k)
 
 -- Why no image is at the front. Out of memory comes only behind a header within the limits.
-abbrev pub Refuses : List ℕ → PgmError → Type 0
-Refuses bytes OutOfMemory = AfterHeader (λ form w h m last rest. Fits w h m) bytes
-Refuses bytes NotPgm = (form : Form) (rest : List ℕ) → bytes ≡ magic form ++ rest → ⊥
-Refuses bytes (BadHeader at) =
+abbrev pub RefusesFront : List ℕ → PgmError → Type 0
+RefusesFront bytes OutOfMemory = AfterHeader (λ form w h m last rest. FitNumbers w h m) bytes
+RefusesFront bytes NotPgm = (form : Form) (rest : List ℕ) → bytes ≡ magic form ++ rest → ⊥
+RefusesFront bytes (BadHeader at) =
     ((form : Form) × (rest : List ℕ) × (bytes ≡ magic form ++ rest)) × StopsAt IsAnyHeader bytes at
-Refuses bytes ZeroSize = AfterHeader (λ form w h m last rest. (w ≡ 0) ⊎ (h ≡ 0)) bytes
-Refuses bytes TooLarge = AfterHeader (λ form w h m last rest. IsTooLarge w h) bytes
-Refuses bytes BadMaxval =
+RefusesFront bytes ZeroSize = AfterHeader (λ form w h m last rest. (w ≡ 0) ⊎ (h ≡ 0)) bytes
+RefusesFront bytes TooLarge = AfterHeader (λ form w h m last rest. IsTooLarge w h) bytes
+RefusesFront bytes BadMaxval =
     AfterHeader (λ form w h m last rest. SizeFits w h × ((m ≡ 0) ⊎ (maxval_limit < m))) bytes
-Refuses bytes Truncated =
-    AfterHeader (λ form w h m last rest. Fits w h m × IsCut form (w * h) m last rest) bytes
-Refuses bytes (SampleAboveMax i) =
-    AfterHeader (λ form w h m last rest. Fits w h m × HasAbove form (w * h) m last rest i) bytes
-Refuses bytes (BadSample at) =
-    AfterHeader (λ form w h m last rest. Fits w h m × HasBad form (w * h) m last rest (length bytes) at) bytes
+RefusesFront bytes Truncated =
+    AfterHeader (λ form w h m last rest. FitNumbers w h m × EndsEarly form (w * h) m last rest) bytes
+RefusesFront bytes (SampleAboveMax i) =
+    AfterHeader (λ form w h m last rest. FitNumbers w h m × HasAbove form (w * h) m last rest i) bytes
+RefusesFront bytes (BadSample at) =
+    AfterHeader (λ form w h m last rest. FitNumbers w h m × HasBad form (w * h) m last rest (length bytes) at) bytes
 
 -- what the format says of some bytes: their image, or its refusal
-abbrev pub Answers : List ℕ → Result (Picture × ℕ) PgmError → Type 0
-Answers bytes (Ok x) = Front bytes x.0 x.1
-Answers bytes (Err OutOfMemory) = ⊥
-Answers bytes (Err e) = Refuses bytes e
+abbrev pub IsReadingOf : List ℕ → Result (Picture × ℕ) PgmError → Type 0
+IsReadingOf bytes (Ok x) = Front bytes x.0 x.1
+IsReadingOf bytes (Err OutOfMemory) = ⊥
+IsReadingOf bytes (Err e) = RefusesFront bytes e

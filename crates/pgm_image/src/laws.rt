@@ -2,18 +2,18 @@
 ghost use Rattle.std.specs.Prelude.{◌≡◌, ◌<◌, ◌++◌, ℕ, List, Result, slice_index, length};
 ghost use Rattle.pgm_image.specs.Picture.{Picture, IsPicture};
 ghost use Rattle.pgm_image.specs.Written.{written};
-ghost use Rattle.pgm_image.specs.Front.{Front, Answers};
+ghost use Rattle.pgm_image.specs.Front.{Front, IsReadingOf};
 ghost use Rattle.pgm_image.specs.declared.error.PgmError.{PgmError};
 
 /// The format says one thing at least of any bytes: their image, or a refusal.
 pub fn some_answer()
     ensures { (bytes : List ℕ) → ((i : ℕ) → slice_index bytes i < 256)
-        → (answer : Result (Picture × ℕ) PgmError) × Answers bytes answer }
+        → (answer : Result (Picture × ℕ) PgmError) × IsReadingOf bytes answer }
 {}
 
 /// The format says one thing at most of any bytes.
 pub fn one_answer()
-    ensures { (bytes : List ℕ) (a b : Result (Picture × ℕ) PgmError) → Answers bytes a → Answers bytes b
+    ensures { (bytes : List ℕ) (a b : Result (Picture × ℕ) PgmError) → IsReadingOf bytes a → IsReadingOf bytes b
         → a ≡ b }
 {}
 

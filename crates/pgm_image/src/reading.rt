@@ -1,7 +1,7 @@
 //! An image from bytes.
 ghost use Rattle.std.specs.Prelude.{◌≡◌, ◌≤◌, ◌<◌, ◌*◌, ◌⊎◌, ℕ, All, Result, Ok, Err, MatchResult, IfOk, IfErr, length, drop};
 ghost use Rattle.pgm_image.specs.Picture.{Picture};
-ghost use Rattle.pgm_image.specs.Front.{Front, Refuses, Answers};
+ghost use Rattle.pgm_image.specs.Front.{Front, RefusesFront, IsReadingOf};
 ghost use Rattle.pgm_image.specs.Reading.{check_limits, samples_at, image_at, RefusesAs, RefusesImage};
 
 use crate::error::PgmError;
@@ -70,8 +70,8 @@ fn image_at(alloc: Global, bytes: &[u8]) -> Result<(Image, usize), PgmError>
 /// `OutOfMemory` comes in place of either, and only behind a header within the limits.
 pub fn read_image(alloc: Global, bytes: &[u8]) -> Result<(Image, usize), PgmError>
     ensures image { IfOk result (λ x. Front bytes.now x.0 x.1) }
-    ensures refused { IfErr result (λ e. Refuses bytes.now e) }
-    ensures exact { (answer : Result (Picture × ℕ) PgmError) → Answers bytes.now answer
+    ensures refused { IfErr result (λ e. RefusesFront bytes.now e) }
+    ensures exact { (answer : Result (Picture × ℕ) PgmError) → IsReadingOf bytes.now answer
         → (result ≡ answer) ⊎ (result ≡ Err PgmError.OutOfMemory) }
     ensures used { IfOk result (λ x. x.1 ≤ length bytes.now) }
 {

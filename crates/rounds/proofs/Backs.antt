@@ -8,7 +8,7 @@ use Rattle.parcel.specs.declared.message.Message.{Message}
 use Rattle.parcel.specs.States.{way_at}
 use Rattle.parcel.specs.Soundness.{IsSquare}
 use Rattle.parcel.specs.Workers.{MayStart}
-use Rattle.block_net.specs.Views.{BlockView, border_in, count}
+use Rattle.block_net.specs.Views.{CellsView, border_in, count}
 use Rattle.block_net.specs.Whole.{Whole, no_block, block_at}
 use Rattle.laid_blocks.specs.Views.{IsLaid}
 use Rattle.discharge.specs.Seen.{Seen}
@@ -40,15 +40,15 @@ ports_at seats b d low =
 pub long_lists : (seats : List Seat) → length (ports_of (ends_of seats)) ≡ length seats
 long_lists seats = length-map (ends_of seats) (λ (e : Ends). ports e) ∙ length-map seats (λ (s : Seat). s.ends)
 
-pub block_of_seat : (seats : List Seat) (b : ℕ) (d : Seat) (e : BlockView) → b < length seats → get_or (blocks_of seats) b e ≡ (get_or seats b d).block
+pub block_of_seat : (seats : List Seat) (b : ℕ) (d : Seat) (e : CellsView) → b < length seats → get_or (blocks_of seats) b e ≡ (get_or seats b d).block
 block_of_seat seats b d e low = get_or-map (λ (s : Seat). s.block) seats b d e low
 
 pub first_of : (seats : List Seat) → 1 ≤ length seats → Seat
 first_of [] some = absurd (omega (arith, some))
 first_of (s ∷ seats) some = s
 
-pub long_old : (blocks : List BlockView) (ends : List Ends) (old : List Seat) → AreSeated blocks ends old → length old ≡ length blocks
-long_old blocks ends old seated = sym (length-map old (λ (s : Seat). s.block)) ∙ ap (λ (l : List BlockView). length l) seated.hold
+pub long_old : (blocks : List CellsView) (ends : List Ends) (old : List Seat) → AreSeated blocks ends old → length old ≡ length blocks
+long_old blocks ends old seated = sym (length-map old (λ (s : Seat). s.block)) ∙ ap (λ (l : List CellsView). length l) seated.hold
 
 -- a number for each
 picked : (n : ℕ) → ((b : ℕ) → b < n → ℕ) → (b : ℕ) → (b < n) ⊎ (n ≤ b) → ℕ
@@ -73,7 +73,7 @@ module _ (ring : ℕ) (lists : List (List Port)) (new : (b c : ℕ) (p : Port) �
       read_through [] (λ (p : Port). messages (taken p)) (get_or lists b []) c
       ∙ through_none [] (λ (p : Port). messages (taken p)) (port_to lists b c) (λ p is. ap messages (new b c p is).taken)
 
-  pub held_fresh : (B : BlockView) (b : ℕ) → held B (seen (get_or lists b [])) ≡ fresh B
+  pub held_fresh : (B : CellsView) (b : ℕ) → held B (seen (get_or lists b [])) ≡ fresh B
   held_fresh B b =
       ap (λ (f : ℕ → List Message). record { block = B; sent = f; taken = (seen (get_or lists b [])).taken }) (fun_ext (none_sent b))
       ∙ ap (λ (f : ℕ → List Message). record { block = B; sent = λ c. []; taken = f }) (fun_ext (none_taken b))
@@ -86,11 +86,11 @@ module _ (ring : ℕ) (lists : List (List Port)) (new : (b c : ℕ) (p : Port) �
 
 -- ---- all seats
 
-module _ (blocks : List BlockView) (ring : ℕ) (ends : List Ends) (old new : List Seat) (d : Seat) (seated : AreSeated blocks ends old) (joined : AreJoined ring blocks (ports_of ends)) (worked : AllWorked old new) where
+module _ (blocks : List CellsView) (ring : ℕ) (ends : List Ends) (old new : List Seat) (d : Seat) (seated : AreSeated blocks ends old) (joined : AreJoined ring blocks (ports_of ends)) (worked : AllWorked old new) where
   abbrev n : ℕ
   n = length blocks
 
-  abbrev block : ℕ → BlockView
+  abbrev block : ℕ → CellsView
   block b = get_or blocks b no_block
 
   -- the ports before the work, and after it
@@ -116,14 +116,14 @@ module _ (blocks : List BlockView) (ring : ℕ) (ends : List Ends) (old new : Li
   fresh_ports b c p is = joined.fresh b c p (ap (λ (e : List Ends). port_to (ports_of e) b c) (sym seated.have) ∙ is)
 
   block_old : (b : ℕ) → b < n → (get_or old b d).block ≡ block b
-  block_old b low = sym (block_of_seat old b d no_block (low_old b low)) ∙ ap (λ (l : List BlockView). get_or l b no_block) seated.hold
+  block_old b low = sym (block_of_seat old b d no_block (low_old b low)) ∙ ap (λ (l : List CellsView). get_or l b no_block) seated.hold
 
   ports_old : (b : ℕ) → b < n → ports (get_or old b d).ends ≡ get_or lists b []
   ports_old b low = sym (ports_at old b d (low_old b low))
 
   start : (b : ℕ) → b < n → held (get_or old b d).block (seen (ports (get_or old b d).ends)) ≡ fresh (block b)
   start b low =
-      ap (λ (B : BlockView). held B (seen (ports (get_or old b d).ends))) (block_old b low)
+      ap (λ (B : CellsView). held B (seen (ports (get_or old b d).ends))) (block_old b low)
       ∙ (ap (λ (l : List Port). held (block b) (seen l)) (ports_old b low) ∙ held_fresh ring lists fresh_ports (block b) b)
 
   abbrev came : ℕ → Held
@@ -131,7 +131,7 @@ module _ (blocks : List BlockView) (ring : ℕ) (ends : List Ends) (old new : Li
 
   end : (b : ℕ) → b < n → held (get_or new b d).block (seen (ports (get_or new b d).ends)) ≡ came b
   end b low =
-      ap (λ (B : BlockView). held B (seen (ports (get_or new b d).ends))) (sym (block_of_seat new b d no_block (low_new b low)))
+      ap (λ (B : CellsView). held B (seen (ports (get_or new b d).ends))) (sym (block_of_seat new b d no_block (low_new b low)))
       ∙ ap (λ (l : List Port). held (get_or (blocks_of new) b no_block) (seen l)) (sym (ports_at new b d (low_new b low)))
 
   work : (b : ℕ) → b < n → Worked (get_or old b d) (get_or new b d)
@@ -228,7 +228,7 @@ module _ (w : Whole) (got ring : ℕ) (ends : List Ends) (old new : List Seat) (
       let room = subst (λ (l : List Port). HasRoom (block_at w b) (seen l)) (sym (ports_old w.blocks ring ends old new d seated joined worked b low)) (has_room b low) in
       let sure = start_is_sure w b got s e laid low room may in
       (work w.blocks ring ends old new d seated joined worked b low).some sure.0
-      (subst (λ (B : BlockView). IsSure B s sure.0) (sym (block_old w.blocks ring ends old new d seated joined worked b low)) sure.1)
+      (subst (λ (B : CellsView). IsSure B s sure.0) (sym (block_old w.blocks ring ends old new d seated joined worked b low)) sure.1)
 
   went : (b : ℕ) (low : b < total) → DoesMany (fresh (block_at w b)) (did b low) (came w.blocks ring ends old new d seated joined worked b)
   unfolding did
@@ -240,7 +240,7 @@ module _ (w : Whole) (got ring : ℕ) (ends : List Ends) (old new : List Seat) (
       let each = (work w.blocks ring ends old new d seated joined worked b low).few in
       let same : (get_or old b d).nodes ≡ count (block_at w b) =
       seated.nodes b d (low_old w.blocks ring ends old new d seated joined worked b low)
-      ∙ ap (λ (B : BlockView). count B) (block_old w.blocks ring ends old new d seated joined worked b low) in
+      ∙ ap (λ (B : CellsView). count B) (block_old w.blocks ring ends old new d seated joined worked b low) in
       subst (λ k. (work w.blocks ring ends old new d seated joined worked b low).count ≤ ((get_or new b d).turn + 1) * (k + 16)) same each
 
   pub seats_back : (left : Ways) → IsSquare total left → ((b : ℕ) → b < total → way_at left b b ≡ [])

@@ -5,7 +5,7 @@ use Rattle.flow_network.specs.Cut.{nodes}
 use Rattle.std.proofs.lemmas.List.{get_or_default}
 use Rattle.parcel.specs.Directions.{far}
 use Rattle.parcel.proofs.Ends.{far_in}
-use Rattle.block_net.specs.Views.{BlockView, count, border_in}
+use Rattle.block_net.specs.Views.{CellsView, count, border_in}
 use Rattle.block_net.specs.Whole.{Whole, no_block, block_at, home, slot, shown}
 use Rattle.laid_blocks.specs.Views.{IsLaid}
 use Rattle.block_core.proofs.Effects.{border_apart}
@@ -42,5 +42,5 @@ few_nodes w b laid lb = elim (cases_lt (nodes w.net) (count (block_at w b))) [
 pub small_blocks : (w : Whole) → IsLaid w → AreSmall w.blocks
 small_blocks w laid b d low =
     let few = few_nodes w b laid low in
-    let is = ap (λ (B : BlockView). count B) (get_or_default w.blocks b d no_block low) in
+    let is = ap (λ (B : CellsView). count B) (get_or_default w.blocks b d no_block low) in
     omega (arith, is, few, laid.net.count)

@@ -3,11 +3,11 @@ use Rattle.std.proofs.Common.{◌⊎◌, ◌≢◌, ◌≡◌, ℕ, zero, suc, �
 use Rattle.std.proofs.Math.Seq.{get_or-append_seam}
 use Rattle.std.proofs.lemmas.Bool.{or_cases, cases_eq, cases_lt, eq-eqb, ne_eqb}
 use Rattle.std.proofs.lemmas.List.{length-set, length-replicate, get_or-map}
-use Rattle.block_net.specs.Views.{BlockView, border_in}
+use Rattle.block_net.specs.Views.{CellsView, border_in}
 use Rattle.block_workers.specs.declared.port.Port.{Port}
 use Rattle.block_workers.specs.Ports.{other, IsNewPort}
 use Rattle.block_workers.specs.Seeing.{others, read_at, AreRising}
-use Rattle.rounds.specs.Joined.{port_to, IsPaired, Leads, AreJoined}
+use Rattle.rounds.specs.Joined.{port_to, IsPaired, BordersOn, AreJoined}
 use Rattle.rounds.specs.Joining.{HasPair, AreBegun, AreScanned, flag}
 use Rattle.rounds.proofs.Pushing.{each_more, rising_more, read_push}
 
@@ -115,14 +115,14 @@ begun_pass ring n b c rows lists off was = record {
   ];
 }
 
-flag_leads : (cells : List BlockView) (rows : List (List Bool)) → AreScanned cells rows → (x y : ℕ) (d e : BlockView) → x < length cells → y < length cells
-    → flag rows x y || flag rows y x ≡ true → Leads (get_or cells x d) y ⊎ Leads (get_or cells y e) x
+flag_leads : (cells : List CellsView) (rows : List (List Bool)) → AreScanned cells rows → (x y : ℕ) (d e : CellsView) → x < length cells → y < length cells
+    → flag rows x y || flag rows y x ≡ true → BordersOn (get_or cells x d) y ⊎ BordersOn (get_or cells y e) x
 flag_leads cells rows scan x y d e low_x low_y on = elim (or_cases (flag rows x y) (flag rows y x) on) [
   | inl there ↦ inl ((scan.each x d low_x).only y there)
   | inr back ↦ inr ((scan.each y e low_y).only x back)
 ]
 
-pub all_joined : (ring n b c : ℕ) (cells : List BlockView) (rows : List (List Bool)) (lists : List (List Port)) → length cells ≡ n → n ≤ b
+pub all_joined : (ring n b c : ℕ) (cells : List CellsView) (rows : List (List Bool)) (lists : List (List Port)) → length cells ≡ n → n ≤ b
     → AreScanned cells rows → AreBegun ring n b c rows lists → AreJoined ring cells lists
 all_joined ring n b c cells rows lists is all scan was = record {
   len = was.len ∙ sym is;

@@ -3,7 +3,7 @@ use Rattle.std.proofs.Common.{◌≡◌, ℕ, ◌<◌, ◌≤◌, List, [], leng
 use Rattle.parcel.specs.States.{State, way_at}
 use Rattle.parcel.specs.Events.{IsQuiet}
 use Rattle.parcel.specs.Soundness.{IsSound, IsSquare}
-use Rattle.block_net.specs.Views.{BlockView}
+use Rattle.block_net.specs.Views.{CellsView}
 use Rattle.block_net.specs.Whole.{Whole, with_blocks}
 use Rattle.parcel.specs.Effects.{state_of}
 use Rattle.laid_blocks.specs.Views.{IsLaid, blocks_in}
@@ -18,7 +18,7 @@ use Rattle.rounds.specs.Short.{IsShortRound, HasFewOnTheWay}
 use Rattle.rounds.proofs.Counts.{few_events}
 use Rattle.rounds.proofs.Fits.{round_fits}
 
-module _ (turns : ℕ) (w : Whole) (got : ℕ) (ways : Ways) (rooms : List (List ℕ)) (new : List BlockView) (rings : RingsView) (laid : IsLaid w) (held : IsHeld rooms (state_of (blocks_in w) ways got)) (quiet : IsQuiet (state_of (blocks_in w) ways got)) (run : HaveRun turns w.blocks new rings) where
+module _ (turns : ℕ) (w : Whole) (got : ℕ) (ways : Ways) (rooms : List (List ℕ)) (new : List CellsView) (rings : RingsView) (laid : IsLaid w) (held : IsHeld rooms (state_of (blocks_in w) ways got)) (quiet : IsQuiet (state_of (blocks_in w) ways got)) (run : HaveRun turns w.blocks new rings) where
   abbrev old : State
   old = state_of (blocks_in w) ways got
 

@@ -4,7 +4,7 @@ use Rattle.sums.specs.Sums.{sum_below}
 use Rattle.sums.proofs.SumLemmas.{sum_by-sum_below}
 use Rattle.parcel.specs.States.{way_at}
 use Rattle.parcel.specs.Soundness.{IsSquare}
-use Rattle.block_net.specs.Views.{BlockView}
+use Rattle.block_net.specs.Views.{CellsView}
 use Rattle.block_workers.specs.declared.port.Port.{Port}
 use Rattle.block_workers.specs.declared.seat.Seat.{Seat}
 use Rattle.block_workers.specs.Seeing.{AreRising}
@@ -16,7 +16,7 @@ use Rattle.rounds.specs.Seated.{blocks_of, ends_of, ports_of, AreSeated}
 use Rattle.rounds.specs.Together.{AreBackAfter, HaveRun}
 use Rattle.rounds.proofs.Backs.{first_of, long_old, long_lists, many_new, few_room, still_rising, still_paired, still_none, seats_back}
 
-module _ (blocks : List BlockView) (ring : ℕ) (old new : List Seat) (some : 0 < length blocks) (seated : AreSeated blocks (ends_of old) old) (joined : AreJoined ring blocks (ports_of (ends_of old))) (worked : AllWorked old new) where
+module _ (blocks : List CellsView) (ring : ℕ) (old new : List Seat) (some : 0 < length blocks) (seated : AreSeated blocks (ends_of old) old) (joined : AreJoined ring blocks (ports_of (ends_of old))) (worked : AllWorked old new) where
   abbrev d : Seat
   d = first_of old (omega (arith, some, long_old blocks (ends_of old) old seated))
 
@@ -44,15 +44,15 @@ module _ (blocks : List BlockView) (ring : ℕ) (old new : List Seat) (some : 0 
       sum_by-sum_below (λ (s : Seat). s.turn) new d ∙ ap (λ n. sum_below n drawn) many in
       omega (arith, all, few)
 
-  pub have_run : (turns : ℕ) (new_blocks : List BlockView) (rings : RingsView) → 1 ≤ ring → new_blocks ≡ blocks_of new → rings.blocks ≡ length new
+  pub have_run : (turns : ℕ) (new_blocks : List CellsView) (rings : RingsView) → 1 ≤ ring → new_blocks ≡ blocks_of new → rings.blocks ≡ length new
       → ((b c : ℕ) → sent_in rings b c ≡ sent after b c) → ((b c : ℕ) → taken_in rings b c ≡ taken after b c) → turns_of new ≤ turns → HaveRun turns blocks new_blocks rings
   have_run turns new_blocks rings room blocks_is count sent_is taken_is few = record {
     blocks = count ∙ many;
     drawn = drawn;
     few = few_drawn turns few;
     back = λ w got left is laid has.
-        let total : rings.blocks ≡ length w.blocks = count ∙ (many ∙ ap (λ (l : List BlockView). length l) (sym is)) in
-        subst (λ (l : List BlockView). AreBackAfter drawn w got l left) (sym blocks_is)
+        let total : rings.blocks ≡ length w.blocks = count ∙ (many ∙ ap (λ (l : List CellsView). length l) (sym is)) in
+        subst (λ (l : List CellsView). AreBackAfter drawn w got l left) (sym blocks_is)
         (seats_back w got ring (ends_of old) old new d laid room (subst (λ l. AreSeated l (ends_of old) old) (sym is) seated)
         (subst (λ l. AreJoined ring l (ports_of (ends_of old))) (sym is) joined) worked left (subst (λ n. IsSquare n left) total has.square)
         (λ b low. has.none b (omega (arith, low, total)))

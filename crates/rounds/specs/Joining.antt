@@ -1,11 +1,11 @@
 -- Pairs of blocks joined one after another.
 use Rattle.std.specs.Prelude.{◌≡◌, ◌≢◌, ℕ, ◌<◌, ◌≤◌, Bool, true, false, ◌||◌, List, [], ◌∷◌, ◌++◌, length}
 use Rattle.std.specs.Prelude.{Some, is_some, slice_set, slice_index, slice_index_or}
-use Rattle.block_net.specs.Views.{BlockView, border_in}
+use Rattle.block_net.specs.Views.{CellsView, border_in}
 use Rattle.block_workers.specs.declared.port.Port.{Port}
 use Rattle.block_workers.specs.Ports.{IsNewPort, LeadsTo}
 use Rattle.block_workers.specs.Seeing.{others, AreRising}
-use Rattle.rounds.specs.Joined.{port_to, IsPaired, Leads}
+use Rattle.rounds.specs.Joined.{port_to, IsPaired, BordersOn}
 
 -- blocks b and c have a port to one another more, the ends of new rings
 pub record HasPair (ring b c : ℕ) (old new : List (List Port)) : Type 0 where
@@ -24,11 +24,11 @@ abbrev pub flag : List (List Bool) → ℕ → ℕ → Bool
 flag rows b c = slice_index_or (slice_index_or rows b []) c false
 
 -- a flag for each block below `blocks`, set just where a direction of the block leads to it
-pub record IsScanned (blocks : ℕ) (block : BlockView) (flags : List Bool) : Type 0 where
+pub record IsScanned (blocks : ℕ) (block : CellsView) (flags : List Bool) : Type 0 where
   pub len : length flags ≡ blocks
   pub set : (j : ℕ) → j < length block.borders → (border_in block j).to < blocks
       → slice_index_or flags (border_in block j).to false ≡ true
-  pub only : (c : ℕ) → slice_index_or flags c false ≡ true → Leads block c
+  pub only : (c : ℕ) → slice_index_or flags c false ≡ true → BordersOn block c
 
 -- as many rows as blocks, of as many flags
 pub record AreSquare (blocks : ℕ) (rows : List (List Bool)) : Type 0 where
@@ -36,9 +36,9 @@ pub record AreSquare (blocks : ℕ) (rows : List (List Bool)) : Type 0 where
   pub each : (b : ℕ) → b < blocks → length (slice_index_or rows b []) ≡ blocks
 
 -- the flags of each block
-pub record AreScanned (cells : List BlockView) (rows : List (List Bool)) : Type 0 where
+pub record AreScanned (cells : List CellsView) (rows : List (List Bool)) : Type 0 where
   pub square : AreSquare (length cells) rows
-  pub each : (b : ℕ) (d : BlockView) → b < length cells
+  pub each : (b : ℕ) (d : CellsView) → b < length cells
       → IsScanned (length cells) (slice_index_or cells b d) (slice_index_or rows b [])
 
 -- of the pairs of blocks, by rising first and then second number, those before (b, c) have ports to one

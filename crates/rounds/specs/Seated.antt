@@ -1,7 +1,7 @@
 -- Blocks in their seats, before a round and after it.
 use Rattle.std.specs.Prelude.{◌≡◌, ℕ, ◌<◌, ◌≤◌, List, All, length, map, slice_index_or}
 use Rattle.flow_network.specs.Limits.{node_limit}
-use Rattle.block_net.specs.Views.{BlockView, count}
+use Rattle.block_net.specs.Views.{CellsView, count}
 use Rattle.block_workers.specs.declared.port.Port.{Port}
 use Rattle.block_workers.specs.declared.ends.Ends.{Ends}
 use Rattle.block_workers.specs.declared.seat.Seat.{Seat}
@@ -9,7 +9,7 @@ use Rattle.block_workers.specs.Ends.{ports}
 use Rattle.block_workers.specs.Workers.{AreNew}
 
 -- the blocks of seats
-abbrev pub blocks_of : List Seat → List BlockView
+abbrev pub blocks_of : List Seat → List CellsView
 blocks_of seats = map (λ seat. seat.block) seats
 
 -- their ends of the rings to one another
@@ -21,11 +21,11 @@ abbrev pub ports_of : List Ends → List (List Port)
 ports_of ends = map (λ end. ports end) ends
 
 -- no block has more nodes than a net
-abbrev pub AreSmall : List BlockView → Type 0
+abbrev pub AreSmall : List CellsView → Type 0
 AreSmall blocks = All (λ B. count B ≤ node_limit) blocks
 
 -- blocks before their first turn, with these ends, numbered in their order
-pub record AreSeated (blocks : List BlockView) (ends : List Ends) (seats : List Seat) : Type 0 where
+pub record AreSeated (blocks : List CellsView) (ends : List Ends) (seats : List Seat) : Type 0 where
   pub hold : blocks_of seats ≡ blocks
   pub have : ends_of seats ≡ ends
   pub numbers : (b : ℕ) (d : Seat) → b < length seats → (slice_index_or seats b d).number ≡ b

@@ -3,7 +3,7 @@ use Rattle.std.specs.Prelude.{◌≡◌, ℕ, ◌+◌, ◌*◌, ◌<◌, ◌≤�
 use Rattle.sums.specs.Sums.{sum_below}
 use Rattle.flow_network.specs.Cut.{Network}
 use Rattle.parcel.specs.States.{State}
-use Rattle.block_net.specs.Views.{BlockView, count}
+use Rattle.block_net.specs.Views.{CellsView, count}
 use Rattle.block_net.specs.Whole.{Whole, block_at, whole_of}
 use Rattle.block_net.specs.declared.parts.Parts.{Parts}
 use Rattle.parcel.specs.Effects.{state_of}
@@ -18,14 +18,14 @@ gathered_state net parts ways = state_of (blocks_in (whole_of net parts)) ways (
 
 -- the blocks are back, each after turn 0 and so many turns that it drew: a turn has at most 16 events more
 -- than the block has nodes
-pub record AreBackAfter (drawn : ℕ → ℕ) (w : Whole) (got : ℕ) (new : List BlockView) (left : Ways)
+pub record AreBackAfter (drawn : ℕ → ℕ) (w : Whole) (got : ℕ) (new : List CellsView) (left : Ways)
     : Type 0 where
   pub back : AreBack w got new left
   pub few : (b : ℕ) → b < length w.blocks → back.steps b ≤ (drawn b + 1) * (count (block_at w b) + 16)
 
 -- the blocks worked and drew at most so many turns, and what they left is in the rings: with it on the way
 -- they are back
-pub record HaveRun (turns : ℕ) (old new : List BlockView) (rings : RingsView) : Type 0 where
+pub record HaveRun (turns : ℕ) (old new : List CellsView) (rings : RingsView) : Type 0 where
   pub blocks : rings.blocks ≡ length old
   pub drawn : ℕ → ℕ
   pub few : sum_below (length old) drawn ≤ turns

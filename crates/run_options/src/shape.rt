@@ -34,11 +34,11 @@ impl Shape {
         requires second { second < label_limit }
         ensures { result ≡ shape_cost self most first second }
     {
-        let gap = first.abs_diff(second);
+        let distance = first.abs_diff(second);
         match self {
             Shape::Potts => u32::from(first != second),
-            Shape::Linear => gap.min(most),
-            Shape::Quadratic => (gap * gap).min(most),
+            Shape::Linear => distance.min(most),
+            Shape::Quadratic => (distance * distance).min(most),
         }
     }
 }

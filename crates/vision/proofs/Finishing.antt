@@ -2,7 +2,7 @@
 use Rattle.std.proofs.Common.{◌≡◌, ◌∙◌, ℕ, ◌+◌, ◌≤◌, ℤ, pos, ◌+ℤ◌, ◌≤ℤ◌, Bool, true, false, List, Option, Some, None, IfSome, IsTrue, IsFalse, replicate, Ok, Err, if◌then◌else◌, inr, refl, sym, ap, subst, arith}
 use Rattle.std.proofs.lemmas.Int.{ints}
 use Rattle.labellings.specs.Energies.{Instance, labelling, data_energy, smooth_energy, label_energy}
-use Rattle.moves.specs.Runs.{Answers, TellsBound}
+use Rattle.moves.specs.Runs.{AnswersRun, TellsBound}
 use Rattle.moves.specs.declared.tables.Run.{Run}
 use Rattle.moves.specs.declared.bound.Bound.{Bound}
 use Rattle.moves.specs.declared.error.MoveError.{MoveError}
@@ -12,7 +12,7 @@ use Rattle.pgm_image.specs.Picture.{Picture, picture, IsPicture}
 use Rattle.labellings.specs.declared.cycles.Moves.{Moves}
 use Rattle.vision.specs.Faults.{HasRunError, TellsRun}
 use Rattle.vision.specs.declared.error.VisionError.{VisionError}
-use Rattle.vision.specs.Jobs.{Job, job_of, EndsAt, Tells, IsFinished}
+use Rattle.vision.specs.Jobs.{Job, job_of, EndsAt, Reports, IsReadyToWrite}
 use Rattle.vision.specs.declared.job.Finished.{Finished}
 use Rattle.vision.specs.declared.report.Report.{Report}
 
@@ -49,11 +49,11 @@ report_of asked run = record {
 }
 
 abbrev EndsAndTells : Job → Report → List ℕ → Type 0
-EndsAndTells job report labels = (ends : EndsAt job labels) × Tells job labels ends.settled report
+EndsAndTells job report labels = (ends : EndsAt job labels) × Reports job labels ends.settled report
 
 report_tells : (m : Instance) (moves : Moves) (cycles : ℕ) (asked : Bool) (p : Picture) (maxval : ℕ) (start : List ℕ) (run : Run)
-    → Answers m moves cycles start (Ok run) → IfSome run.bound (λ (b : Bound). pos b.vmax ≤ℤ pos 10000)
-    → Tells (job_of m moves cycles asked p maxval) run.labelling.at run.ended.settled (report_of asked run)
+    → AnswersRun m moves cycles start (Ok run) → IfSome run.bound (λ (b : Bound). pos b.vmax ≤ℤ pos 10000)
+    → Reports (job_of m moves cycles asked p maxval) run.labelling.at run.ended.settled (report_of asked run)
 report_tells m moves cycles asked p maxval start run ran small =
     let f = labelling run.labelling.at in
     record {
@@ -68,16 +68,16 @@ report_tells m moves cycles asked p maxval start run ran small =
 
 -- where a run ended is what the job makes
 pub finished : (m : Instance) (moves : Moves) (cycles : ℕ) (asked : Bool) (p : Picture) (maxval : ℕ) (start : List ℕ) (run : Run) (f : Finished)
-    → start ≡ replicate m.sites 0 → Answers m moves cycles start (Ok run) → IfSome run.bound (λ (b : Bound). pos b.vmax ≤ℤ pos 10000) → IsPicture f.image
+    → start ≡ replicate m.sites 0 → AnswersRun m moves cycles start (Ok run) → IfSome run.bound (λ (b : Bound). pos b.vmax ≤ℤ pos 10000) → IsPicture f.image
     → f.image ≡ picture p.width p.height maxval run.labelling.at → f.report ≡ report_of asked run
-    → IsFinished (job_of m moves cycles asked p maxval) f
+    → IsReadyToWrite (job_of m moves cycles asked p maxval) f
 finished m moves cycles asked p maxval start run f zeros ran small valid image_is report_is =
     let job = job_of m moves cycles asked p maxval in
     let samples : f.image.samples ≡ run.labelling.at = ap (λ (q : Picture). q.samples) image_is in
-    let A : List ℕ → Type 0 = λ s. Answers m moves cycles s (Ok run) in
+    let A : List ℕ → Type 0 = λ s. AnswersRun m moves cycles s (Ok run) in
     let at_zero = subst A zeros ran in
     let P : Picture → Type 0 = λ q. IsPicture q in
-    let R : Report → Type 0 = λ r. Tells job run.labelling.at run.ended.settled r in
+    let R : Report → Type 0 = λ r. Reports job run.labelling.at run.ended.settled r in
     let ends : EndsAt job run.labelling.at = record {
       cycles = run.ended.cycles;
       settled = run.ended.settled;
@@ -96,7 +96,7 @@ finished m moves cycles asked p maxval start run f zeros ran small valid image_i
 
 -- a refused run is an error of the job
 pub refused : (refuses : SolveError → Type 0) (m : Instance) (moves : Moves) (cycles : ℕ) (asked : Bool) (p : Picture) (maxval : ℕ) (start : List ℕ)
-    (error : MoveError) (e : VisionError) → start ≡ replicate m.sites 0 → IsRunRefusal refuses error → Answers m moves cycles start (Err error)
+    (error : MoveError) (e : VisionError) → start ≡ replicate m.sites 0 → IsRunRefusal refuses error → AnswersRun m moves cycles start (Err error)
     → TellsRun error e → HasRunError refuses (job_of m moves cycles asked p maxval) e
 refused refuses m moves cycles asked p maxval start error e zeros may ran told =
-    let A : List ℕ → Type 0 = λ s. Answers m moves cycles s (Err error) in inr (error, may, subst A zeros ran, told)
+    let A : List ℕ → Type 0 = λ s. AnswersRun m moves cycles s (Err error) in inr (error, may, subst A zeros ran, told)

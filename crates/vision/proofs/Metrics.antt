@@ -9,10 +9,10 @@ use Rattle.moves.specs.declared.error.MoveError.TheVariants as move
 use Rattle.run_options.specs.Shapes.{shape_cost}
 use Rattle.run_options.specs.declared.shape.Shape.{Shape}
 use Rattle.run_options.specs.declared.shape.Shape.TheVariants.{Potts, Linear, Quadratic}
-use Rattle.pgm_image.specs.Front.{Refuses}
+use Rattle.pgm_image.specs.Front.{RefusesFront}
 use Rattle.pgm_image.specs.declared.error.PgmError.{PgmError}
 use Rattle.pgm_image.specs.declared.error.PgmError.TheVariants as image
-use Rattle.vision.specs.Faults.{HasNoImage, HasPairError, IsStop, TellsPair, TellsRun, image_error}
+use Rattle.vision.specs.Faults.{HasNoImage, HasPairError, IsStop, IsOfPair, TellsRun, image_error}
 use Rattle.vision.specs.Inputs.{RefusesSecond}
 use Rattle.vision.specs.declared.error.VisionError.{VisionError}
 use Rattle.vision.specs.declared.error.VisionError.TheVariants.{OutOfMemory, SizesDiffer, LabelCostInSwap, Workers, BadOptions, Write}
@@ -57,11 +57,11 @@ pub potts_metric_table : (k most : ℕ) (table : List ℤ) → 0 < k → 1 ≤ m
 potts_metric_table k most table some cut is = shape_metric_table Potts k most table some cut (λ same. cc) is
 
 -- what is one of these tells what that one tells
-as_told : (e told : VisionError) → e ≡ told → (¬ TellsPair told) → ¬ TellsPair e
-as_told e told is none = λ tells. none (subst TellsPair is tells)
+as_told : (e told : VisionError) → e ≡ told → (¬ IsOfPair told) → ¬ IsOfPair e
+as_told e told is none = λ tells. none (subst IsOfPair is tells)
 
 -- a move tells what its own refusal tells
-pub move_tells : (error : MoveError) (e : VisionError) → TellsRun error e → (¬ TellsPairNotRegular error) → ¬ TellsPair e
+pub move_tells : (error : MoveError) (e : VisionError) → TellsRun error e → (¬ TellsPairNotRegular error) → ¬ IsOfPair e
 move_tells move.NoSuchLabel e is none = absurd is
 move_tells move.LabelCostInSwap e is none = as_told e LabelCostInSwap is none
 move_tells (move.PairNotRegular pair alpha beta) e is none = λ tells. none tt
@@ -70,7 +70,7 @@ move_tells move.BadOptions e is none = as_told e BadOptions is none
 move_tells move.NoBound e is none = absurd is
 move_tells move.OutOfMemory e is none = as_told e OutOfMemory is none
 
-reason_tells_none : (reason : PgmError) → ¬ TellsPair (image_error reason)
+reason_tells_none : (reason : PgmError) → ¬ IsOfPair (image_error reason)
 reason_tells_none image.OutOfMemory tells = tells
 reason_tells_none image.NotPgm tells = tells
 reason_tells_none (image.BadHeader at) tells = tells
@@ -81,12 +81,12 @@ reason_tells_none image.Truncated tells = tells
 reason_tells_none (image.SampleAboveMax index) tells = tells
 reason_tells_none (image.BadSample at) tells = tells
 
-pub image_tells_none : (Refused : PgmError → Type 0) (e : VisionError) → HasNoImage Refused e → ¬ TellsPair e
+pub image_tells_none : (Refused : PgmError → Type 0) (e : VisionError) → HasNoImage Refused e → ¬ IsOfPair e
 image_tells_none Refused e has = as_told e (image_error has.0) has.2 (reason_tells_none has.0)
 
-pub pair_tells_none : (input : List ℕ) (e : VisionError) → HasPairError input e → ¬ TellsPair e
-pair_tells_none input e (inl has) = image_tells_none (λ reason. Refuses input reason ⊎ RefusesSecond input reason) e has
+pub pair_tells_none : (input : List ℕ) (e : VisionError) → HasPairError input e → ¬ IsOfPair e
+pair_tells_none input e (inl has) = image_tells_none (λ reason. RefusesFront input reason ⊎ RefusesSecond input reason) e has
 pair_tells_none input e (inr has) = as_told e SizesDiffer has.1 (λ tells. tells)
 
-pub stop_tells_none : (After : ℕ → Type 0) (e : VisionError) → IsStop After e → ¬ TellsPair e
+pub stop_tells_none : (After : ℕ → Type 0) (e : VisionError) → IsStop After e → ¬ IsOfPair e
 stop_tells_none After e is = as_told e (Write is.0) is.2 (λ tells. tells)

@@ -1,12 +1,12 @@
 -- The position that a refusal tells is within the bytes.
 use Rattle.std.proofs.Common.{◌≡◌, ℕ, ◌+◌, ◌*◌, ◌≤◌, List, [], ◌∷◌, ◌++◌, length, ap, ◌∙◌, arith, length-append}
-use Rattle.pgm_image.specs.Front.{Refuses, HasBad}
+use Rattle.pgm_image.specs.Front.{RefusesFront, HasBad}
 use Rattle.pgm_image.specs.Grammar.{magic, IsHeader}
 use Rattle.pgm_image.specs.declared.header.Form.{Form}
 use Rattle.pgm_image.specs.declared.header.Form.TheVariants.{Raw, Plain}
 use Rattle.pgm_image.specs.declared.error.PgmError.{PgmError}
 use Rattle.pgm_image.specs.declared.error.PgmError.TheVariants.{OutOfMemory, NotPgm, BadHeader, ZeroSize, TooLarge, BadMaxval, Truncated, SampleAboveMax, BadSample}
-use Rattle.vision.specs.Inputs.{place_of}
+use Rattle.vision.specs.Inputs.{position_of}
 
 bad_within : (form : Form) (count m last : ℕ) (rest : List ℕ) (end at : ℕ) → 1 + length rest ≤ end → HasBad form count m last rest end at → at ≤ end
 bad_within Raw count m last rest end at long h = absurd h
@@ -21,7 +21,7 @@ header_some form header w h m is =
     let end : length (is.numbers ++ is.last ∷ []) ≡ length is.numbers + 1 = length-append is.numbers (is.last ∷ []) in
     omega (arith, whole, end)
 
-pub place_within : (bytes : List ℕ) (e : PgmError) → Refuses bytes e → place_of e ≤ length bytes
+pub place_within : (bytes : List ℕ) (e : PgmError) → RefusesFront bytes e → position_of e ≤ length bytes
 place_within bytes OutOfMemory r = omega arith
 place_within bytes NotPgm r = omega arith
 place_within bytes (BadHeader at) r = omega (arith, ap length r.1.split, length-append r.1.longest r.1.rest, r.1.at_is)

@@ -6,15 +6,15 @@ use Rattle.pgm_image.specs.Written.{StopsAsTold, written}
 use Rattle.pgm_image.specs.declared.error.WriteError.{WriteError}
 use Rattle.pgm_image.specs.declared.error.WriteError.TheVariants as write
 use Rattle.vision.specs.Faults.{IsStop, IsWrite, Leaves, write_error}
-use Rattle.vision.specs.Jobs.{Job, Does, IsFinished, Tells}
+use Rattle.vision.specs.Jobs.{Job, WritesPicture, IsReadyToWrite, Reports}
 use Rattle.vision.specs.declared.error.VisionError.{VisionError}
 use Rattle.vision.specs.declared.job.Finished.{Finished}
 use Rattle.vision.specs.declared.report.Report.{Report}
 
 -- a picture that was written whole
 pub does : (IsJob : Job → Type 0) (f : Finished) (old new : Stream) (r : Result Report VisionError)
-    → ((job : Job) × IsJob job × IsFinished job f) → IfOk r (λ (report : Report). report ≡ f.report)
-    → OnOk r (Takes old new (written f.image)) → IfOk r (λ (report : Report). (job : Job) × IsJob job × Does job old new report)
+    → ((job : Job) × IsJob job × IsReadyToWrite job f) → IfOk r (λ (report : Report). report ≡ f.report)
+    → OnOk r (Takes old new (written f.image)) → IfOk r (λ (report : Report). (job : Job) × IsJob job × WritesPicture job old new report)
 does IsJob f old new (Ok report) is told took = (
   is.0,
   is.1,
@@ -22,14 +22,14 @@ does IsJob f old new (Ok report) is told took = (
     labels = f.image.samples;
     ends = is.2.ends;
     took = subst (λ (p : Picture). Takes old new (written p)) is.2.image_is took;
-    tells = subst (λ (q : Report). Tells is.0 f.image.samples is.2.ends.settled q) (sym told) is.2.tells;
+    tells = subst (λ (q : Report). Reports is.0 f.image.samples is.2.ends.settled q) (sym told) is.2.tells;
   },
 )
 does IsJob f old new (Err e) is told took = tt
 
 -- a picture whose writing stopped
 pub leaves : (IsJob : Job → Type 0) (HasError : VisionError → Type 0) (f : Finished) (old new : Stream) (r : Result Report VisionError)
-    → ((job : Job) × IsJob job × IsFinished job f) → IfErr r (IsStop (λ (count : ℕ). Stops old new (written f.image) count))
+    → ((job : Job) × IsJob job × IsReadyToWrite job f) → IfErr r (IsStop (λ (count : ℕ). Stops old new (written f.image) count))
     → IfErr r (Leaves IsJob HasError old new)
 leaves IsJob HasError f old new (Ok report) is stops = tt
 leaves IsJob HasError f old new (Err e) is stops =

@@ -7,7 +7,7 @@ use Rattle.moves.specs.declared.error.MoveError.{MoveError}
 use Rattle.moves.specs.declared.error.MoveError.TheVariants as move
 use Rattle.moves.specs.declared.error.SolveError.{SolveError}
 use Rattle.moves.specs.Problems.{IsRunRefusal}
-use Rattle.pgm_image.specs.Front.{Refuses}
+use Rattle.pgm_image.specs.Front.{RefusesFront}
 use Rattle.pgm_image.specs.Picture.{Picture}
 use Rattle.pgm_image.specs.Raster.{IsFirstAbove}
 use Rattle.pgm_image.specs.declared.error.PgmError.{PgmError}
@@ -58,11 +58,11 @@ HasNoImage Refused e = (reason : PgmError) × Refused reason × (e ≡ image_err
 
 -- no image is at the front of the input
 abbrev pub HasImageError : List ℕ → VisionError → Type 0
-HasImageError input e = HasNoImage (Refuses input) e
+HasImageError input e = HasNoImage (RefusesFront input) e
 
 -- no image is at the front of the input or none behind it, or the two differ in size
 abbrev pub HasPairError : List ℕ → VisionError → Type 0
-HasPairError input e = HasNoImage (λ reason. Refuses input reason ⊎ RefusesSecond input reason) e
+HasPairError input e = HasNoImage (λ reason. RefusesFront input reason ⊎ RefusesSecond input reason) e
     ⊎ (((a : Picture) × (b : Picture) × HoldsTwo input a b × (¬ SameSizes a b)) × (e ≡ SizesDiffer))
 
 -- the run of a job was refused: memory may always be, and a move for a pair, for a label's cost, or for its cut
@@ -109,6 +109,6 @@ IsWrite (Write failed) = ⊤
 IsWrite e = ⊥
 
 -- the refusal is that of a pair whose term is not regular
-abbrev pub TellsPair : VisionError → Type 0
-TellsPair (PairNotRegular pair alpha beta) = ⊤
-TellsPair e = ⊥
+abbrev pub IsOfPair : VisionError → Type 0
+IsOfPair (PairNotRegular pair alpha beta) = ⊤
+IsOfPair e = ⊥

@@ -1,7 +1,7 @@
 -- What an input of images is.
 use Rattle.std.specs.Prelude.{◌≡◌, ℕ, ◌+◌, ◌<◌, ◌≤◌, true, false, List, length, drop, slice_index}
 use Rattle.std.specs.List.{All}
-use Rattle.pgm_image.specs.Front.{Front, Refuses}
+use Rattle.pgm_image.specs.Front.{Front, RefusesFront}
 use Rattle.pgm_image.specs.Picture.{Picture}
 use Rattle.pgm_image.specs.Signs.{is_space}
 use Rattle.pgm_image.specs.declared.error.PgmError.{PgmError}
@@ -43,10 +43,10 @@ moved at (BadSample k) = BadSample (at + k)
 moved at e = e
 
 -- that position, where there is one
-abbrev pub place_of : PgmError → ℕ
-place_of (BadHeader k) = k
-place_of (BadSample k) = k
-place_of e = 0
+abbrev pub position_of : PgmError → ℕ
+position_of (BadHeader k) = k
+position_of (BadSample k) = k
+position_of e = 0
 
 -- an image is at the front, and none where the second is to begin
 pub record RefusesSecond (input : List ℕ) (e : PgmError) : Type 0 where
@@ -54,7 +54,7 @@ pub record RefusesSecond (input : List ℕ) (e : PgmError) : Type 0 where
   pub at : ℕ
   pub own : PgmError
   pub begins : BeginsSecond input first at
-  pub refuses : Refuses (drop at input) own
+  pub refuses : RefusesFront (drop at input) own
   pub e_is : e ≡ moved at own
 
 -- the job that options and an input name

@@ -5,7 +5,7 @@ use Rattle.labellings.specs.declared.change.Move.{Move}
 use Rattle.labellings.specs.Energies.{Instance, labelling, data_energy, smooth_energy, label_energy, energy}
 use Rattle.labellings.specs.Chains.{IsChain, moves_of as cycle_of}
 use Rattle.moves.specs.Runs.{MayMake, TellsBound}
-use Rattle.moves.specs.Problems.{IsRun}
+use Rattle.moves.specs.Problems.{IsRunOfCycles}
 use Rattle.moves.specs.declared.error.MoveError.{MoveError}
 use Rattle.moves.specs.declared.error.MoveError.TheVariants.{LabelCostInSwap}
 use Rattle.pgm_image.specs.Picture.{Picture, picture, IsPicture}
@@ -79,7 +79,7 @@ pub record EndsAt (job : Job) (labels : List ℕ) : Type 0 where
 
 -- the report tells the energy of these labels and its three parts, and, where it is asked for, how near they are to
 -- the least energy: a bound exactly where a run that ended so has one, of numbers in the range of smooth costs
-pub record Tells (job : Job) (labels : List ℕ) (settled : Bool) (report : Report) : Type 0 where
+pub record Reports (job : Job) (labels : List ℕ) (settled : Bool) (report : Report) : Type 0 where
   pub energy_is : report.energy ≡ pos (energy job.problem (labelling labels))
   pub data_is : report.data_part ≡ pos (data_energy job.problem (labelling labels))
   pub smooth_is : report.smooth_part ≡ pos (smooth_energy job.problem (labelling labels))
@@ -90,11 +90,11 @@ pub record Tells (job : Job) (labels : List ℕ) (settled : Bool) (report : Repo
 
 -- the writer took exactly the written form of the picture of the chain's last labels, of which the report
 -- tells
-pub record Does (job : Job) (old new : Stream) (report : Report) : Type 0 where
+pub record WritesPicture (job : Job) (old new : Stream) (report : Report) : Type 0 where
   pub labels : List ℕ
   pub ends : EndsAt job labels
   pub took : Takes old new (written (picture_of job labels))
-  pub tells : Tells job labels ends.settled report
+  pub tells : Reports job labels ends.settled report
 
 -- the writer took exactly the first so many bytes of that written form, and not all; this is what would have been told
 pub record StopsAfter (job : Job) (old new : Stream) (count : ℕ) : Type 0 where
@@ -102,17 +102,17 @@ pub record StopsAfter (job : Job) (old new : Stream) (count : ℕ) : Type 0 wher
   pub ends : EndsAt job labels
   pub took : Stops old new (written (picture_of job labels)) count
   pub report : Report
-  pub tells : Tells job labels ends.settled report
+  pub tells : Reports job labels ends.settled report
 
 -- the next move of the chain, from the labels that the run had come to, is refused so, and swaps for what a label costs
 -- by itself
 abbrev pub RefusesMove : Job → MoveError → Type 0
 RefusesMove job e =
-    (reached : List ℕ) × IsRun job.problem (moves_of job) job.cycles (all_zero job) reached (Err e)
+    (reached : List ℕ) × IsRunOfCycles job.problem (moves_of job) job.cycles (all_zero job) reached (Err e)
     × (e ≡ LabelCostInSwap → ¬ MayMake job.problem job.moves)
 
 -- what is ready to be written: the picture of the chain's last labels, and their report
-pub record IsFinished (job : Job) (f : Finished) : Type 0 where
+pub record IsReadyToWrite (job : Job) (f : Finished) : Type 0 where
   pub ends : EndsAt job f.image.samples
   pub image_is : f.image ≡ picture_of job f.image.samples
-  pub tells : Tells job f.image.samples ends.settled f.report
+  pub tells : Reports job f.image.samples ends.settled f.report

@@ -2,7 +2,7 @@
 ghost use Rattle.std.specs.Prelude.{◌≡◌, ◌+◌, ◌<◌, ◌≤◌, ◌^◌, IfOk, IfErr, length};
 ghost use Rattle.pgm_image.specs.Signs.{is_space};
 ghost use Rattle.vision.specs.Faults.{HasImageError, HasPairError};
-ghost use Rattle.vision.specs.Inputs.{HoldsPicture, HoldsTwo, IsPastSpaces, SameSizes, moved, place_of};
+ghost use Rattle.vision.specs.Inputs.{HoldsPicture, HoldsTwo, IsPastSpaces, SameSizes, moved, position_of};
 
 use crate::VisionError;
 use pgm_image::{Image, PgmError, read_image};
@@ -37,7 +37,7 @@ pub(crate) fn read_two(alloc: Global, input: &[u8]) -> Result<(Image, Image), Vi
 
 /// A refusal of an image that begins at this place, with its position counted from the first byte of the input.
 fn moved(error: PgmError, at: usize) -> PgmError
-    requires { at + place_of error < 2 ^ 64 }
+    requires { at + position_of error < 2 ^ 64 }
     ensures { result ≡ moved at error }
 {
     match error {

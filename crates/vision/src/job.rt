@@ -7,13 +7,13 @@ ghost use Rattle.cost_store.specs.Limits.{data_limit, smooth_limit};
 ghost use Rattle.cost_store.specs.LabelCosts.{cost_at, AreLabelCosts, HasCosts, costs_of};
 ghost use Rattle.cost_store.specs.Promises.{IsCost, IsMetricTable, IsTable, Keeps};
 ghost use Rattle.moves.specs.Instances.{IsInstanceOf};
-ghost use Rattle.moves.specs.Runs.{IsSized};
+ghost use Rattle.moves.specs.Runs.{IsRunInRange};
 ghost use Rattle.pgm_image.specs.Picture.{IsPicture, picture};
 ghost use Rattle.pgm_image.specs.Written.{written};
 ghost use Rattle.run_options.specs.Limits.{label_cost_limit, trunc_limit};
 ghost use Rattle.run_options.specs.Shapes.{shape_cost};
-ghost use Rattle.vision.specs.Faults.{HasRunError, IsStop, TellsPair};
-ghost use Rattle.vision.specs.Jobs.{IsFinished, job_of};
+ghost use Rattle.vision.specs.Faults.{HasRunError, IsStop, IsOfPair};
+ghost use Rattle.vision.specs.Jobs.{IsReadyToWrite, job_of};
 
 use crate::error::run_error;
 use crate::{Report, VisionError};
@@ -69,13 +69,13 @@ pub(crate) fn run_job<F: Fn(u32, u32) -> i64 + Sync, H: How>(
     ensures run { (m : Instance) →
         IsInstanceOf (F.post data_cost.f) pairs data_cost.labels smooth.now m →
         HasCosts m label_costs →
-        MatchResult result (IsFinished (job_of m plan.moves plan.cycles plan.bound picture.now plan.maxval))
+        MatchResult result (IsReadyToWrite (job_of m plan.moves plan.cycles plan.bound picture.now plan.maxval))
         (HasRunError (H.refuses how.now)
         (job_of m plan.moves plan.cycles plan.bound picture.now plan.maxval)) }
     ensures metric { IsMetricTable data_cost.labels smooth.now → (m : Instance) →
         IsInstanceOf (F.post data_cost.f) pairs data_cost.labels smooth.now m →
         HasCosts m label_costs →
-        IfErr result (λ e. ¬ TellsPair e) }
+        IfErr result (λ e. ¬ IsOfPair e) }
 {
     let _valid = picture.samples();
     let start = Labelling::new(alloc, data_cost.sites, data_cost.labels)?;

@@ -3,9 +3,9 @@ ghost use Rattle.std.specs.Prelude.{◌≡◌, ◌≢◌, ◌+◌, ◌<◌, ◌�
 ghost use Rattle.label_field.specs.Grids.{distance};
 ghost use Rattle.run_options.specs.Ranges.{AreRestoreOptions};
 ghost use Rattle.run_options.specs.declared.shape.Shape.TheVariants.{Quadratic};
-ghost use Rattle.vision.specs.Faults.{HasRestoreError, HasRunError, IsWrite, Leaves, TellsPair};
+ghost use Rattle.vision.specs.Faults.{HasRestoreError, HasRunError, IsWrite, Leaves, IsOfPair};
 ghost use Rattle.vision.specs.Inputs.{IsRestoreJob};
-ghost use Rattle.vision.specs.Jobs.{Does, IsFinished, Job, restore_job};
+ghost use Rattle.vision.specs.Jobs.{WritesPicture, IsReadyToWrite, Job, restore_job};
 
 use crate::inputs::read_one;
 use crate::job::{
@@ -47,10 +47,10 @@ pub fn run_restore<H: How, S: Sink>(
     requires options { AreRestoreOptions options.now }
     requires ready { H.ready how.now }
     ensures done { IfOk result (λ report. (job : Job) × IsRestoreJob options.now input.now job
-        × Does job (S.stream sink.old) (S.stream sink.new) report) }
+        × WritesPicture job (S.stream sink.old) (S.stream sink.new) report) }
     ensures refused { IfErr result (Leaves (IsRestoreJob options.now input.now)
         (HasRestoreError (H.refuses how.now) options.now input.now) (S.stream sink.old) (S.stream sink.new)) }
-    ensures metric { options.now.smooth ≢ Quadratic → IfErr result (λ e. ¬ TellsPair e) }
+    ensures metric { options.now.smooth ≢ Quadratic → IfErr result (λ e. ¬ IsOfPair e) }
     ensures unchanged { IfErr result (λ e. (¬ IsWrite e) → sink.new ≡ sink.old) }
     ensures kept { S.loan sink.new ≡ S.loan sink.old }
 {
@@ -68,9 +68,9 @@ fn restore_input<H: How>(
     requires options { AreRestoreOptions options.now }
     requires ready { H.ready how.now }
     ensures finished { IfOk result (λ f. (job : Job) × IsRestoreJob options.now input.now job
-        × IsFinished job f) }
+        × IsReadyToWrite job f) }
     ensures refused { IfErr result (HasRestoreError (H.refuses how.now) options.now input.now) }
-    ensures metric { options.now.smooth ≢ Quadratic → IfErr result (λ e. ¬ TellsPair e) }
+    ensures metric { options.now.smooth ≢ Quadratic → IfErr result (λ e. ¬ IsOfPair e) }
 {
     let picture = read_one(alloc, input)?;
     if picture.maxval() > LEVEL_LIMIT {
@@ -89,9 +89,9 @@ fn restore<H: How>(
     requires options { AreRestoreOptions options.now }
     requires levels { picture.now.maxval ≤ 255 }
     requires ready { H.ready how.now }
-    ensures run { MatchResult result (IsFinished (restore_job options.now picture.now))
+    ensures run { MatchResult result (IsReadyToWrite (restore_job options.now picture.now))
         (HasRunError (H.refuses how.now) (restore_job options.now picture.now)) }
-    ensures metric { options.now.smooth ≢ Quadratic → IfErr result (λ e. ¬ TellsPair e) }
+    ensures metric { options.now.smooth ≢ Quadratic → IfErr result (λ e. ¬ IsOfPair e) }
 {
     let samples = picture.samples();
     let maxval = picture.maxval();

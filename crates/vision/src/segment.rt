@@ -2,9 +2,9 @@
 ghost use Rattle.std.specs.Prelude.{◌≡◌, ◌*◌, ◌<◌, ◌≤◌, pos, All, IfOk, IfErr, MatchOption, MatchResult, length, slice_index};
 ghost use Rattle.run_options.specs.Ranges.{AreSegmentOptions};
 ghost use Rattle.pgm_image.specs.Raster.{IsFirstAbove};
-ghost use Rattle.vision.specs.Faults.{HasRunError, HasSegmentError, IsWrite, Leaves, TellsPair};
+ghost use Rattle.vision.specs.Faults.{HasRunError, HasSegmentError, IsWrite, Leaves, IsOfPair};
 ghost use Rattle.vision.specs.Inputs.{AreSeeds, IsSegmentJob, SameSizes};
-ghost use Rattle.vision.specs.Jobs.{Does, IsFinished, Job, segment_job};
+ghost use Rattle.vision.specs.Jobs.{WritesPicture, IsReadyToWrite, Job, segment_job};
 ghost use Rattle.vision.specs.Problems.{part_cost};
 
 use crate::inputs::read_two;
@@ -49,10 +49,10 @@ pub fn run_segment<H: How, S: Sink>(
     requires options { AreSegmentOptions options.now }
     requires ready { H.ready how.now }
     ensures done { IfOk result (λ report. (job : Job) × IsSegmentJob options.now input.now job
-        × Does job (S.stream sink.old) (S.stream sink.new) report) }
+        × WritesPicture job (S.stream sink.old) (S.stream sink.new) report) }
     ensures refused { IfErr result (Leaves (IsSegmentJob options.now input.now)
         (HasSegmentError (H.refuses how.now) options.now input.now) (S.stream sink.old) (S.stream sink.new)) }
-    ensures metric { IfErr result (λ e. ¬ TellsPair e) }
+    ensures metric { IfErr result (λ e. ¬ IsOfPair e) }
     ensures unchanged { IfErr result (λ e. (¬ IsWrite e) → sink.new ≡ sink.old) }
     ensures kept { S.loan sink.new ≡ S.loan sink.old }
 {
@@ -70,9 +70,9 @@ fn part_input<H: How>(
     requires options { AreSegmentOptions options.now }
     requires ready { H.ready how.now }
     ensures finished { IfOk result (λ f. (job : Job) × IsSegmentJob options.now input.now job
-        × IsFinished job f) }
+        × IsReadyToWrite job f) }
     ensures refused { IfErr result (HasSegmentError (H.refuses how.now) options.now input.now) }
-    ensures metric { IfErr result (λ e. ¬ TellsPair e) }
+    ensures metric { IfErr result (λ e. ¬ IsOfPair e) }
 {
     let (picture, seeds) = read_two(alloc, input)?;
     if let Some(index) = bad_seed(seeds.samples()) {
@@ -104,9 +104,9 @@ fn part<H: How>(
     requires options { AreSegmentOptions options.now }
     requires sizes { SameSizes picture.now seeds.now }
     requires ready { H.ready how.now }
-    ensures run { MatchResult result (IsFinished (segment_job options.now picture.now seeds.now))
+    ensures run { MatchResult result (IsReadyToWrite (segment_job options.now picture.now seeds.now))
         (HasRunError (H.refuses how.now) (segment_job options.now picture.now seeds.now)) }
-    ensures metric { IfErr result (λ e. ¬ TellsPair e) }
+    ensures metric { IfErr result (λ e. ¬ IsOfPair e) }
 {
     let smooth = smooth_costs(alloc, Shape::Potts, 1, 2)?;
     let table = smooth.as_slice();

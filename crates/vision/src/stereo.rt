@@ -4,9 +4,9 @@ ghost use Rattle.run_options.specs.Limits.{cap_limit};
 ghost use Rattle.run_options.specs.Ranges.{AreStereoOptions};
 ghost use Rattle.pgm_image.specs.Picture.{IsPicture};
 ghost use Rattle.run_options.specs.declared.shape.Shape.TheVariants.{Quadratic};
-ghost use Rattle.vision.specs.Faults.{HasRunError, HasStereoError, IsWrite, Leaves, TellsPair};
+ghost use Rattle.vision.specs.Faults.{HasRunError, HasStereoError, IsWrite, Leaves, IsOfPair};
 ghost use Rattle.vision.specs.Inputs.{IsStereoJob, SameSizes};
-ghost use Rattle.vision.specs.Jobs.{Does, IsFinished, Job, stereo_job};
+ghost use Rattle.vision.specs.Jobs.{WritesPicture, IsReadyToWrite, Job, stereo_job};
 ghost use Rattle.vision.specs.Problems.{shift_cost};
 
 use crate::inputs::read_two;
@@ -45,10 +45,10 @@ pub fn run_stereo<H: How, S: Sink>(
     requires options { AreStereoOptions options.now }
     requires ready { H.ready how.now }
     ensures done { IfOk result (λ report. (job : Job) × IsStereoJob options.now input.now job
-        × Does job (S.stream sink.old) (S.stream sink.new) report) }
+        × WritesPicture job (S.stream sink.old) (S.stream sink.new) report) }
     ensures refused { IfErr result (Leaves (IsStereoJob options.now input.now)
         (HasStereoError (H.refuses how.now) options.now input.now) (S.stream sink.old) (S.stream sink.new)) }
-    ensures metric { options.now.smooth ≢ Quadratic → IfErr result (λ e. ¬ TellsPair e) }
+    ensures metric { options.now.smooth ≢ Quadratic → IfErr result (λ e. ¬ IsOfPair e) }
     ensures unchanged { IfErr result (λ e. (¬ IsWrite e) → sink.new ≡ sink.old) }
     ensures kept { S.loan sink.new ≡ S.loan sink.old }
 {
@@ -66,9 +66,9 @@ fn match_input<H: How>(
     requires options { AreStereoOptions options.now }
     requires ready { H.ready how.now }
     ensures finished { IfOk result (λ f. (job : Job) × IsStereoJob options.now input.now job
-        × IsFinished job f) }
+        × IsReadyToWrite job f) }
     ensures refused { IfErr result (HasStereoError (H.refuses how.now) options.now input.now) }
-    ensures metric { options.now.smooth ≢ Quadratic → IfErr result (λ e. ¬ TellsPair e) }
+    ensures metric { options.now.smooth ≢ Quadratic → IfErr result (λ e. ¬ IsOfPair e) }
 {
     let (left, right) = read_two(alloc, input)?;
     match_pictures(alloc, &left, &right, options, how)
@@ -85,9 +85,9 @@ fn match_pictures<H: How>(
     requires options { AreStereoOptions options.now }
     requires sizes { SameSizes left.now right.now }
     requires ready { H.ready how.now }
-    ensures run { MatchResult result (IsFinished (stereo_job options.now left.now right.now))
+    ensures run { MatchResult result (IsReadyToWrite (stereo_job options.now left.now right.now))
         (HasRunError (H.refuses how.now) (stereo_job options.now left.now right.now)) }
-    ensures metric { options.now.smooth ≢ Quadratic → IfErr result (λ e. ¬ TellsPair e) }
+    ensures metric { options.now.smooth ≢ Quadratic → IfErr result (λ e. ¬ IsOfPair e) }
 {
     let labels = options.labels;
     let cap = options.cap;

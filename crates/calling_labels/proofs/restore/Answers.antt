@@ -6,7 +6,7 @@ use Rattle.label_field.specs.PairLists.{IsPair, PairList}
 use Rattle.labellings.specs.Chains.{expansions}
 use Rattle.labellings.specs.Energies.{IsLabelled, energy, labelling}
 use Rattle.moves.specs.Bounds.{IsBoundOf}
-use Rattle.moves.specs.Problems.{IsRun, IsRunRefusal, TellsPairNotRegular}
+use Rattle.moves.specs.Problems.{IsRunOfCycles, IsRunRefusal, TellsPairNotRegular}
 use Rattle.moves.specs.declared.error.SolveError.TheVariants as cut
 use Rattle.moves.specs.declared.error.MoveError.{MoveError}
 use Rattle.moves.specs.declared.error.MoveError.TheVariants.{NoSuchLabel, LabelCostInSwap, PairNotRegular, Workers, BadOptions, NoBound, OutOfMemory}
@@ -92,8 +92,8 @@ returns-in_err-ended-clause-refused c =
 pub returns-clause-run : goal.returns-clause-run
 returns-clause-run c =
     let m = problem_of c.args.samples.now in
-    let L : ℕ → Type 0 = λ k. IsRun m (expansions k) c.args.cycles c.in_ok-labelling.labelling.at c.run_expansion.new.labelling.at (Ok c.in_ok-ended.ended) in
-    let F : List ℕ → Type 0 = λ f. IsRun m (expansions 3) c.args.cycles f c.run_expansion.new.labelling.at (Ok c.in_ok-ended.ended) in
+    let L : ℕ → Type 0 = λ k. IsRunOfCycles m (expansions k) c.args.cycles c.in_ok-labelling.labelling.at c.run_expansion.new.labelling.at (Ok c.in_ok-ended.ended) in
+    let F : List ℕ → Type 0 = λ f. IsRunOfCycles m (expansions 3) c.args.cycles f c.run_expansion.new.labelling.at (Ok c.in_ok-ended.ended) in
     let labels : c.new.result.labels ≡ 3 = rw c.new.ensures.stored refl in
     subst F (ap (λ (l : LabelField). l.at) c.in_ok-labelling.ensures) (subst L labels (c.in_ok-ended.ensures.run m
     (rw c.new.ensures.stored (record {
@@ -132,7 +132,7 @@ returns-clause-near c = λ settled h labelled.
     let size = c.in_ok-ended.ensures.sizes.sites ∙ ap (λ (l : LabelField). length l.at) c.in_ok-labelling.ensures in
     let labels = c.in_ok-ended.ensures.sizes.labels ∙ ap (λ (l : LabelField). l.labels) c.in_ok-labelling.ensures in
     let below = subst B labels (subst Q c.labelling.view_is c.labelling.invariant.below) in
-    let near = c.settled_run_is_near.ensures m c.args.cycles (replicate 6 0) g c.in_ok-ended.ended (record { vmin = 1; vmax = 1 }) h
+    let near = c.settled_run_is_near.ensures m c.args.cycles (replicate 6 0) g c.in_ok-ended.ended (record { vmin = 1; vmax = 1 })
     pairs (potts_bound c.args.samples.now) (returns-clause-run c) settled
-    (labelled_by c.args.samples.now g size below) labelled in
+    (labelled_by c.args.samples.now g size below) h labelled in
     rw (returns-clause-energy c) (twice (energy m (labelling g)) (energy m h) near)

@@ -1,6 +1,6 @@
 use Rattle.std.proofs.Common.{◌≡◌, ◌∙◌, ◌+◌, ◌-◌, ◌<◌, ◌≤◌, ℕ, List, length, slice_index, sum, refl, ap, add-one, arith}
 use Rattle.sums.specs.Sums.{sum_below}
-use Rattle.block_net.specs.Views.{BlockView, count}
+use Rattle.block_net.specs.Views.{CellsView, count}
 use Rattle.block_net.specs.Whole.{Whole, block_at, whole_of}
 use Rattle.laid_blocks.specs.Views.{blocks_in}
 use Rattle.block_core.specs.Pieces.{given_at}
@@ -63,5 +63,5 @@ returns c =
     let w : Whole = whole_of c.args.net.now c.args.parts.now in
     let at = at_read w (blocks_in w) c.args.block c.index-cells.result.now c.requires.laid refl c.requires.block c.index-cells.ensures in
     let f = λ (i : ℕ). given_at w (slice_index w.firsts c.args.block + i) in
-    let all : c.places.place ≡ count (block_at w c.args.block) = omega (arith, c.places-test.false, c.places.auto.place-end, c.len-place-end.ensures.value, ap (λ (q : BlockView). count q) at.is) in
+    let all : c.places.place ≡ count (block_at w c.args.block) = omega (arith, c.places-test.false, c.places.auto.place-end, c.len-place-end.ensures.value, ap (λ (q : CellsView). count q) at.is) in
     c.places.invariant ∙ (ap (λ k. sum_below k f) all ∙ in_a_row w c.args.block c.requires.laid c.requires.block)

@@ -1,6 +1,6 @@
 use Rattle.std.proofs.Common.{ap, ◌∙◌}
-use Rattle.block_net.specs.declared.rows.InnerLane.{InnerLane}
-use Rattle.block_net.specs.declared.rows.Border.{Border}
+use Rattle.block_net.specs.declared.lanes.InnerLane.{InnerLane}
+use Rattle.block_net.specs.declared.lanes.Border.{Border}
 use Rattle.block_cut.proofs.Residuals.{back_is}
 use Rattle.block_cut.proofs.flow.taken_back.Goals as goal
 

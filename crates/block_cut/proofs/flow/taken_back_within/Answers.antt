@@ -1,5 +1,5 @@
 use Rattle.std.proofs.Common.{◌∙◌, ap}
-use Rattle.block_net.specs.declared.rows.InnerLane.{InnerLane}
+use Rattle.block_net.specs.declared.lanes.InnerLane.{InnerLane}
 use Rattle.block_cut.proofs.Residuals.{back_within}
 use Rattle.block_cut.proofs.flow.taken_back_within.Goals as goal
 

@@ -2,7 +2,7 @@ use Rattle.std.proofs.Common.{◌≡◌, ℕ, ◌+◌, ◌<◌, length, slice_in
 use Rattle.std.proofs.lemmas.List.{get_or_read}
 use Rattle.flow_network.specs.Cut.{nodes}
 use Rattle.parcel.specs.States.{State, block_of}
-use Rattle.block_net.specs.Views.{BlockView, count}
+use Rattle.block_net.specs.Views.{CellsView, count}
 use Rattle.block_net.specs.Whole.{block_at, whole_of}
 use Rattle.laid_blocks.specs.Views.{blocks_in}
 use Rattle.laid_blocks.proofs.Steps.{at_read}
@@ -19,7 +19,7 @@ write_block-requires c =
     let at = at_read w (blocks_in w) c.each.b c.index-in-each.result.now laid refl lb c.index-in-each.ensures in
     let first : c.index.result.now ≡ slice_index p.firsts.items c.each.b =
     get_or_read p.firsts.items c.each.b c.index.result.now (omega (arith, lb, laid.placed.firsts_len)) c.index.ensures 0 in
-    let size : c.len.result ≡ count (block_at w c.each.b) = omega (arith, c.len.ensures.value, ap (λ (B : BlockView). count B) at.is) in
+    let size : c.len.result ≡ count (block_at w c.each.b) = omega (arith, c.len.ensures.value, ap (λ (B : CellsView). count B) at.is) in
     λ q lq. omega (arith, number_below w laid c.each.b lb q (omega (arith, lq, size)), first, c.each.invariant.0)
 
 pub each-preserved : goal.each-preserved
@@ -32,7 +32,7 @@ each-preserved c =
     let at = at_read w (blocks_in w) c.each.b c.index-in-each.result.now laid refl lb c.index-in-each.ensures in
     let first : c.index.result.now ≡ slice_index p.firsts.items c.each.b =
     get_or_read p.firsts.items c.each.b c.index.result.now (omega (arith, lb, laid.placed.firsts_len)) c.index.ensures 0 in
-    let size : c.len.result ≡ count (block_at w c.each.b) = omega (arith, c.len.ensures.value, ap (λ (B : BlockView). count B) at.is) in
+    let size : c.len.result ≡ count (block_at w c.each.b) = omega (arith, c.len.ensures.value, ap (λ (B : CellsView). count B) at.is) in
     let blocks : length p.blocks.items ≡ s.blocks = ap (λ (t : State). t.blocks) c.parts-parts.ensures.shown in
     let is = c.write_block.ensures in
     let was = subst (λ k. (v : ℕ) → v < nodes s.net → block_of s.net k v < c.each.b → slice_index c.each.homes v ≡ block_of s.net k v) (sym blocks) c.each.invariant.1 in (

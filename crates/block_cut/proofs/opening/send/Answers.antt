@@ -1,5 +1,5 @@
 use Rattle.std.proofs.Common.{ap, arith}
-use Rattle.block_net.specs.declared.rows.InnerLane.{InnerLane}
+use Rattle.block_net.specs.declared.lanes.InnerLane.{InnerLane}
 use Rattle.block_cut.proofs.Opened.{pushed_opens}
 use Rattle.block_cut.proofs.opening.send.Goals as goal
 

@@ -1,6 +1,6 @@
 use Rattle.std.proofs.Common.{List, length, sym, ◌∙◌, ap, subst}
 use Rattle.sums.specs.Sums.{counted}
-use Rattle.block_net.specs.Views.{BlockView}
+use Rattle.block_net.specs.Views.{CellsView}
 use Rattle.block_core.specs.declared.pieces.Pieces.{Pieces}
 use Rattle.block_core.specs.Pieces.{state_in}
 use Rattle.block_cut.specs.Passes.{IsGoing, IsReady, IsStill}
@@ -26,9 +26,9 @@ returns-clause-less c =
     let blocks = c.in_ok-blocks-2.blocks.items in
     let cells = c.in_ok-blocks-2.ensures in
     let ready = subst IsReady (sym c.of-old.ensures) (ready_from first c.args.state (sym c.into_pieces-pieces.ensures.state) c.requires.quiet c.into_pieces-pieces.ensures.held) in
-    let going = subst (λ (bs : List BlockView). IsGoing p bs ways (counted c.passes-ways.result.2 1)) (sym cells) c.passes-ways.ensures.going in
+    let going = subst (λ (bs : List CellsView). IsGoing p bs ways (counted c.passes-ways.result.2 1)) (sym cells) c.passes-ways.ensures.going in
     work_done p blocks ways c.args.state c.state_of.result c.passes-ways.result.2 (sym c.into_pieces-pieces.ensures.state ∙ ap state_in (sym c.of-old.ensures))
     going c.state_of.ensures.lower
-    (λ off. still_finished p blocks ways ready going.size (subst (λ (bs : List BlockView). IsStill p bs ways (length bs)) (sym cells) (c.passes-ways.ensures.still off
-    (subst (λ (bs : List BlockView). IsStill p bs first.ways 0) (sym c.in_ok-blocks.ensures) (subst (λ (q : Pieces). IsStill p q.parts.blocks.items q.ways 0) c.of-old.ensures (still_from p))))))
+    (λ off. still_finished p blocks ways ready going.size (subst (λ (bs : List CellsView). IsStill p bs ways (length bs)) (sym cells) (c.passes-ways.ensures.still off
+    (subst (λ (bs : List CellsView). IsStill p bs first.ways 0) (sym c.in_ok-blocks.ensures) (subst (λ (q : Pieces). IsStill p q.parts.blocks.items q.ways 0) c.of-old.ensures (still_from p))))))
     c.requires.unfinished

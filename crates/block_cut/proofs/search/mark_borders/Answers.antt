@@ -3,7 +3,7 @@ use Rattle.std.proofs.lemmas.List.{get_or_read}
 use Rattle.flow_network.specs.Progress.{top_label}
 use Rattle.sink_distances.specs.Search.{found_of}
 use Rattle.sink_distances.proofs.Order.{count-le-length}
-use Rattle.block_net.specs.Views.{BlockView, border_in}
+use Rattle.block_net.specs.Views.{CellsView, border_in}
 use Rattle.block_net.specs.Whole.{Whole, no_block, block_at, whole_of}
 use Rattle.laid_blocks.specs.Views.{blocks_in}
 use Rattle.laid_blocks.proofs.Steps.{at_read}
@@ -58,9 +58,9 @@ mark_border-count-requires-clause-place c =
     let to = c.border-border.result.to in
     let o = c.border-border.result.opposite in
     let there : block_at w to ≡ c.index.result.now = sym (get_or_read w.blocks to c.index.result.now end.block c.index.ensures no_block) in
-    let count = ap (λ (q : BlockView). length q.borders) there in
-    let near = ap (λ (q : BlockView). (border_in q o).near) there in
-    let can = ap (λ (q : BlockView). (border_in q o).residual) there in
+    let count = ap (λ (q : CellsView). length q.borders) there in
+    let near = ap (λ (q : CellsView). (border_in q o).near) there in
+    let can = ap (λ (q : CellsView). (border_in q o).residual) there in
     omega (arith, end.back, count)
 
 pub mark_border-count-requires-clause-node : goal.mark_border-count-requires-clause-node
@@ -80,9 +80,9 @@ mark_border-count-requires-clause-node c =
     let first : c.index-first.result.now ≡ slice_index w.firsts to =
     get_or_read w.firsts to c.index-first.result.now (omega (arith, end.block, c.requires.laid.placed.firsts_len)) c.index-first.ensures 0 in
     let there : block_at w to ≡ c.index.result.now = sym (get_or_read w.blocks to c.index.result.now end.block c.index.ensures no_block) in
-    let count = ap (λ (q : BlockView). length q.borders) there in
-    let near = ap (λ (q : BlockView). (border_in q o).near) there in
-    let can = ap (λ (q : BlockView). (border_in q o).residual) there in
+    let count = ap (λ (q : CellsView). length q.borders) there in
+    let near = ap (λ (q : CellsView). (border_in q o).near) there in
+    let can = ap (λ (q : CellsView). (border_in q o).residual) there in
     omega (arith, first, near, end.stands, end.node, c.requires.len, c.loop-j.invariant.grows.len)
 
 pub loop-j-init : goal.loop-j-init
@@ -113,9 +113,9 @@ loop-j-preserved c =
     let first : c.index-first.result.now ≡ slice_index w.firsts to =
     get_or_read w.firsts to c.index-first.result.now (omega (arith, end.block, c.requires.laid.placed.firsts_len)) c.index-first.ensures 0 in
     let there : block_at w to ≡ c.index.result.now = sym (get_or_read w.blocks to c.index.result.now end.block c.index.ensures no_block) in
-    let count = ap (λ (q : BlockView). length q.borders) there in
-    let near = ap (λ (q : BlockView). (border_in q o).near) there in
-    let can = ap (λ (q : BlockView). (border_in q o).residual) there in
+    let count = ap (λ (q : CellsView). length q.borders) there in
+    let near = ap (λ (q : CellsView). (border_in q o).near) there in
+    let can = ap (λ (q : CellsView). (border_in q o).residual) there in
     let fits : c.args.label ≤ top_label (length c.loop-j.labels) =
     omega (arith, c.requires.ready.next, count-le-length (found_of c.args.labels.now c.args.order.now c.args.count) c.requires.ready.order, c.loop-j.invariant.grows.len) in
     let row = border_in c.index.result.now o in

@@ -1,7 +1,7 @@
 use Rattle.std.proofs.Common.{◌≡◌, ◌<◌, length, slice_index, refl, ap, arith}
 use Rattle.std.proofs.lemmas.List.{get_or_read}
 use Rattle.sink_distances.specs.Search.{found_of}
-use Rattle.block_net.specs.Views.{BlockView, count}
+use Rattle.block_net.specs.Views.{CellsView, count}
 use Rattle.laid_blocks.specs.Views.{blocks_in}
 use Rattle.block_net.specs.Whole.{whole_of}
 use Rattle.laid_blocks.proofs.Steps.{at_read}
@@ -18,7 +18,7 @@ mark_block-count-requires-clause-inside c =
     let at = at_read w (blocks_in w) c.each.b c.index.result.now laid refl lb c.index.ensures in
     let first : c.index-in-each.result.now ≡ slice_index p.firsts.items c.each.b =
     get_or_read p.firsts.items c.each.b c.index-in-each.result.now (omega (arith, lb, laid.placed.firsts_len)) c.index-in-each.ensures 0 in
-    λ q lq. omega (arith, place_below s p c.parts-parts.ensures c.each.b q lb (omega (arith, lq, ap (λ (B : BlockView). count B) at.is)), first, c.each.invariant.0.len)
+    λ q lq. omega (arith, place_below s p c.parts-parts.ensures c.each.b q lb (omega (arith, lq, ap (λ (B : CellsView). count B) at.is)), first, c.each.invariant.0.len)
 
 pub each-preserved : goal.each-preserved
 each-preserved c =

@@ -1,5 +1,5 @@
 use Rattle.std.proofs.Common.{◌∙◌, ap, arith}
-use Rattle.block_net.specs.declared.rows.Border.{Border}
+use Rattle.block_net.specs.declared.lanes.Border.{Border}
 use Rattle.discharge.proofs.Others.{known_more, known_once}
 use Rattle.discharge.proofs.block.others_of.Goals as goal
 

@@ -1,5 +1,5 @@
 use Rattle.std.proofs.Common.{◌≡◌, ◌≤◌}
-use Rattle.discharge.specs.Works.{Does}
+use Rattle.discharge.specs.Works.{DoesEvents}
 use Rattle.discharge.proofs.passes.push_wave.Given as goal
 
 abbrev pub invariant-wave : goal.invariant-wave
@@ -7,5 +7,5 @@ invariant-wave g l = record {
   fixed : g.W.Ways.fixed l.ways ≡ g.W.Ways.fixed l.fn.ways;
   few : l.count ≤ l.limit;
   same : l.count ≡ 0 → l.cells ≡ l.fn.cells;
-  does : Does l.fn.cells.block (g.W.Ways.seen l.fn.ways) l.count l.cells.block (g.W.Ways.seen l.ways);
+  does : DoesEvents l.fn.cells.block (g.W.Ways.seen l.fn.ways) l.count l.cells.block (g.W.Ways.seen l.ways);
 }

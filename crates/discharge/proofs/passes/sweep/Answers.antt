@@ -1,5 +1,5 @@
 use Rattle.std.proofs.Common.{◌<◌, ℕ, ◌∙◌, subst, sym, arith}
-use Rattle.block_net.specs.Views.{BlockView, count}
+use Rattle.block_net.specs.Views.{CellsView, count}
 use Rattle.discharge.specs.Standing.{BucketedView, IsAside}
 use Rattle.discharge.specs.Works.{IsIdle}
 use Rattle.discharge.proofs.Runs.{does_more, idle_look}
@@ -31,4 +31,4 @@ returns-then-did-eq0-clause-idle g c = λ none some fresh v.
     let was = g.W.Ways.seen c.args.ways.now in
     let fresh' = subst (λ (x : BucketedView). (u : ℕ) → u < count x.block → ¬ IsAside x u) (sym same) fresh in
     let idle = idle_look c.passes.cells.block was (g.W.Ways.seen c.passes.ways) v still.1 (c.pass-did.ensures.idle (omega arith) (omega arith) fresh' v) in
-    subst (λ (x : BlockView). IsIdle x was v) still.0 idle
+    subst (λ (x : CellsView). IsIdle x was v) still.0 idle

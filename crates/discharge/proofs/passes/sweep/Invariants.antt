@@ -1,5 +1,5 @@
 use Rattle.std.proofs.Common.{◌≡◌, ◌≤◌}
-use Rattle.discharge.specs.Works.{Does}
+use Rattle.discharge.specs.Works.{DoesEvents}
 use Rattle.discharge.proofs.passes.sweep.Given as goal
 
 abbrev pub invariant-passes : goal.invariant-passes
@@ -9,5 +9,5 @@ invariant-passes g l = record {
   more : l.i ≤ l.count;
   rises : l.all_rises ≤ l.count;
   same : l.count ≡ 0 → l.cells ≡ l.fn.cells;
-  does : Does l.fn.cells.block (g.W.Ways.seen l.fn.ways) l.count l.cells.block (g.W.Ways.seen l.ways);
+  does : DoesEvents l.fn.cells.block (g.W.Ways.seen l.fn.ways) l.count l.cells.block (g.W.Ways.seen l.ways);
 }

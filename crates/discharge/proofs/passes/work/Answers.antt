@@ -1,7 +1,7 @@
 use Rattle.std.proofs.Common.{◌<◌, ◌+◌, ◌≡◌, ℕ, ◌∙◌, subst, sym, arith}
-use Rattle.block_net.specs.Views.{BlockView, count}
+use Rattle.block_net.specs.Views.{CellsView, count}
 use Rattle.discharge.specs.Standing.{BucketedView, IsAside}
-use Rattle.discharge.specs.Works.{Does, IsIdle}
+use Rattle.discharge.specs.Works.{DoesEvents, IsIdle}
 use Rattle.discharge.proofs.Runs.{does_more, idle_look}
 use Rattle.discharge.proofs.passes.work.Goals as goal
 
@@ -18,7 +18,7 @@ sweeps-preserved g c =
       more = omega arith;
       rises = omega arith;
       same = λ none. absurd (omega arith);
-      does = subst (λ (b : BlockView). Does c.args.cells.now.block (g.W.Ways.seen c.args.ways.now) (c.sweeps.count + c.sweep-did.result.0) b now) (sym c.restore_aside.ensures.block) all;
+      does = subst (λ (b : CellsView). DoesEvents c.args.cells.now.block (g.W.Ways.seen c.args.ways.now) (c.sweeps.count + c.sweep-did.result.0) b now) (sym c.restore_aside.ensures.block) all;
     }
 
 pub returns-then-rises-eq0-clause-does : goal.returns-then-rises-eq0-clause-does
@@ -44,4 +44,4 @@ returns-then-rises-eq0-clause-idle g c = λ none some fresh v.
     let was = g.W.Ways.seen c.args.ways.now in
     let fresh' = subst (λ (x : BucketedView). (u : ℕ) → u < count x.block → ¬ IsAside x u) (sym same) fresh in
     let idle = idle_look c.sweeps.cells.block was (g.W.Ways.seen c.sweeps.ways) v still.1 (c.sweep-did.ensures.idle (omega arith) (omega arith) fresh' v) in
-    subst (λ (x : BlockView). IsIdle x was v) still.0 idle
+    subst (λ (x : CellsView). IsIdle x was v) still.0 idle

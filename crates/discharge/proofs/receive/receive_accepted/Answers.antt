@@ -1,10 +1,10 @@
 use Rattle.std.proofs.Common.{subst}
 use Rattle.parcel.specs.declared.message.Message.TheVariants.{Accepted}
-use Rattle.block_net.specs.Views.{BlockView}
+use Rattle.block_net.specs.Views.{CellsView}
 use Rattle.discharge.specs.Steps.{MaySettle}
 use Rattle.discharge.proofs.Receiving.{does_settle}
 use Rattle.discharge.proofs.receive.receive_accepted.Goals as goal
 
 pub returns-clause-does : goal.returns-clause-does
 returns-clause-does g c =
-    does_settle c.args.cells.now.block c.settle.new.self.block _ _ c.args.from c.args.direction c.args.amount c.args.place (subst (λ (b : BlockView). MaySettle b c.args.from c.args.place (Accepted c.args.direction c.args.amount)) c.cells.ensures (c.may_settle.ensures.0 c.if-not-may_settle.false)) c.settle.ensures.block (c.take.ensures.take _ c.requires.front)
+    does_settle c.args.cells.now.block c.settle.new.self.block _ _ c.args.from c.args.direction c.args.amount c.args.place (subst (λ (b : CellsView). MaySettle b c.args.from c.args.place (Accepted c.args.direction c.args.amount)) c.cells.ensures (c.may_settle.ensures.0 c.if-not-may_settle.false)) c.settle.ensures.block (c.take.ensures.take _ c.requires.front)

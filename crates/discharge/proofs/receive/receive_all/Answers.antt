@@ -1,6 +1,6 @@
 use Rattle.std.proofs.Common.{◌≡◌, ℕ, inl, inr, slice_index, sym, ◌∙◌, ap, subst, arith}
 use Rattle.std.proofs.lemmas.Bool.{cases_lt}
-use Rattle.block_net.specs.Views.{BlockView}
+use Rattle.block_net.specs.Views.{CellsView}
 use Rattle.discharge.specs.Works.{IsIdleFrom}
 use Rattle.discharge.proofs.Runs.{does_more, idle_from_look}
 use Rattle.discharge.proofs.receive.receive_all.Goals as goal
@@ -23,6 +23,6 @@ others-preserved g c =
             let here : k ≡ c.others.i = omega arith in
             let idle' = idle_from_look c.others.cells.block was seen (slice_index c.args.others.now c.others.i) still.1 (told.idle (omega arith) (omega arith)) in
             let node = ap (slice_index c.args.others.now) (sym here) in
-            subst (λ (x : BlockView). IsIdleFrom x was (slice_index c.args.others.now k)) still.0 (subst (λ (u : ℕ). IsIdleFrom c.others.cells.block was u) node idle')
+            subst (λ (x : CellsView). IsIdleFrom x was (slice_index c.args.others.now k)) still.0 (subst (λ (u : ℕ). IsIdleFrom c.others.cells.block was u) node idle')
       ];
     }

@@ -1,6 +1,6 @@
 use Rattle.std.proofs.Common.{◌≡◌, ℕ, ◌+◌, inl, inr, List, slice_index, sym, ◌∙◌, ap, subst, arith}
 use Rattle.std.proofs.lemmas.Bool.{cases_lt, false≢true}
-use Rattle.block_net.specs.Views.{BlockView}
+use Rattle.block_net.specs.Views.{CellsView}
 use Rattle.block_net.specs.Views.{MayPush}
 use Rattle.discharge.specs.Active.{IsActive}
 use Rattle.discharge.proofs.Runs.{no_seen, does_more}
@@ -12,7 +12,7 @@ is_active-requires c = omega (arith, c.requires.node, (c.lanes.invariant.does no
 pub returns-then-not-is_active-clause-idle : goal.returns-then-not-is_active-clause-idle
 returns-then-not-is_active-clause-idle c = λ none some j on.
     let same = ((c.lanes.invariant.does no_seen).still none).0 in
-    let active : IsActive c.lanes.cells.block c.args.v = subst (λ (b : BlockView). IsActive b c.args.v) (sym same) on.0 in
+    let active : IsActive c.lanes.cells.block c.args.v = subst (λ (b : CellsView). IsActive b c.args.v) (sym same) on.0 in
     false≢true (sym c.if-not-is_active.true ∙ c.is_active.ensures.1 active)
 
 pub try_push-count-requires-clause-lane : goal.try_push-count-requires-clause-lane
@@ -44,6 +44,6 @@ lanes-preserved c =
             let same = ((inv.does no_seen).still zero').0 in
             let here : i ≡ c.lanes.j = omega arith in
             let off = told.idle (omega arith) in
-            λ may. off (subst (λ (b : BlockView). MayPush b c.args.v c.lanes.j) (sym same) (subst (λ (k : ℕ). MayPush old c.args.v k) here may))
+            λ may. off (subst (λ (b : CellsView). MayPush b c.args.v c.lanes.j) (sym same) (subst (λ (k : ℕ). MayPush old c.args.v k) here may))
       ];
     }

@@ -1,6 +1,6 @@
 use Rattle.std.proofs.Common.{◌≡◌, ℕ, inl, inr, sym, ◌∙◌, subst, arith}
 use Rattle.std.proofs.lemmas.Bool.{cases_lt}
-use Rattle.block_net.specs.Views.{BlockView}
+use Rattle.block_net.specs.Views.{CellsView}
 use Rattle.discharge.specs.Steps.{IsSure, Send}
 use Rattle.discharge.proofs.Runs.{does_more}
 use Rattle.discharge.proofs.visits.send_all.Goals as goal
@@ -27,6 +27,6 @@ borders-preserved g c =
             λ on.
             let on' : IsSure old was (Send c.args.v c.borders.j) = subst (λ (k : ℕ). IsSure old was (Send c.args.v k)) here on in
             let seen' : IsSure old seen (Send c.args.v c.borders.j) = (on'.0, still.1.room _ on'.1) in
-            off (subst (λ (b : BlockView). IsSure b seen (Send c.args.v c.borders.j)) (sym still.0) seen')
+            off (subst (λ (b : CellsView). IsSure b seen (Send c.args.v c.borders.j)) (sym still.0) seen')
       ];
     }

@@ -1,5 +1,5 @@
 use Rattle.std.proofs.Common.{◌∙◌, ◌*◌, ℕ, ℤ, List, sym, subst}
-use Rattle.moves.specs.Runs.{Answers}
+use Rattle.moves.specs.Runs.{AnswersRun}
 use Rattle.cost_store.specs.LabelCosts.{AreLabelCosts, costs_of}
 use Rattle.moves.specs.Instances.{data_entry, instance_of}
 use Rattle.gco_cli.proofs.NamedRuns.{bound_in_range, costs_are, costs_kept}
@@ -20,9 +20,9 @@ run_tables-requires-clause-smooth g c =
 
 pub returns-clause-run : goal.returns-clause-run
 returns-clause-run g c =
-    let P : ℕ → Type 0 = λ labels. Answers (instance_of c.args.problem.pairs labels (data_entry labels c.args.problem.data.items) c.args.problem.smooth.items
+    let P : ℕ → Type 0 = λ labels. AnswersRun (instance_of c.args.problem.pairs labels (data_entry labels c.args.problem.data.items) c.args.problem.smooth.items
     (costs_of c.args.problem.label_costs)) c.args.problem.moves c.args.problem.cycles c.args.problem.start.at c.run_tables.result in
-    let Q : List ℤ → Type 0 = λ costs. Answers (instance_of c.args.problem.pairs c.args.problem.labels (data_entry c.args.problem.labels c.args.problem.data.items)
+    let Q : List ℤ → Type 0 = λ costs. AnswersRun (instance_of c.args.problem.pairs c.args.problem.labels (data_entry c.args.problem.labels c.args.problem.data.items)
     c.args.problem.smooth.items costs) c.args.problem.moves c.args.problem.cycles c.args.problem.start.at c.run_tables.result in
     subst Q (costs_are c.args.problem.label_costs)
     (subst P c.requires.limits.start_labels (rw (c.as_slice.ensures.value, c.as_slice-2.ensures.value) at c.run_tables.ensures.run))

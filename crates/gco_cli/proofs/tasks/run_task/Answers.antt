@@ -1,6 +1,6 @@
 use Rattle.command_line.specs.declared.task.Task.TheVariants.{Energy, Label}
 use Rattle.gco_cli.proofs.RefusalLemmas.{cut_in, task_refused}
-use Rattle.gco_cli.specs.Commands.{IsDueFor, StandsFor}
+use Rattle.gco_cli.specs.Commands.{IsDueFor, IsFaultFor}
 use Rattle.gco_cli.proofs.tasks.run_task.Goals as goal
 
 pub returns-in_ok-answer-in-Energy-clause-refused : goal.returns-in_ok-answer-in-Energy-clause-refused
@@ -10,7 +10,7 @@ returns-in_ok-answer-in-Energy-clause-refused g c =
     let old = g.W.Sink.stream c.args.sink.now in
     let new = g.W.Sink.stream c.write_text.new.sink in
     let answer = c.in_ok-answer-in-Energy.answer in
-    rw c.in-Energy.is (cut_in (IsDueFor Energy source) (StandsFor refuses Energy source) old new c.as_slice.result.now answer.text.items answer.said.bytes
+    rw c.in-Energy.is (cut_in (IsDueFor Energy source) (IsFaultFor refuses Energy source) old new c.as_slice.result.now answer.text.items answer.said.bytes
     c.write_text.result c.as_slice.ensures.value c.in_ok-answer-in-Energy.ensures.due c.write_text.ensures.cut)
 
 pub returns-in_ok-answer-in-Label-clause-refused : goal.returns-in_ok-answer-in-Label-clause-refused
@@ -20,7 +20,7 @@ returns-in_ok-answer-in-Label-clause-refused g c =
     let old = g.W.Sink.stream c.args.sink.now in
     let new = g.W.Sink.stream c.write_text-in-Label.new.sink in
     let answer = c.in_ok-answer-in-Label.answer in
-    rw c.in-Label.is (cut_in (IsDueFor (Label c.in-Label.bound) source) (StandsFor refuses (Label c.in-Label.bound) source) old new c.as_slice-in-Label.result.now answer.text.items answer.said.bytes
+    rw c.in-Label.is (cut_in (IsDueFor (Label c.in-Label.bound) source) (IsFaultFor refuses (Label c.in-Label.bound) source) old new c.as_slice-in-Label.result.now answer.text.items answer.said.bytes
     c.write_text-in-Label.result c.as_slice-in-Label.ensures.value c.in_ok-answer-in-Label.ensures.due c.write_text-in-Label.ensures.cut)
 
 pub returns-in_err-answer-in-Energy-clause-refused : goal.returns-in_err-answer-in-Energy-clause-refused

@@ -1,7 +1,7 @@
 use Rattle.std.proofs.lemmas.Grind.{common_steps}
 use Rattle.std.proofs.Common.{◌≡◌, ◌≤◌, ◌+◌, ℕ, List, sym, ◌∙◌, ap, subst, refl, arith, length, slice_range, slice_index}
 use Rattle.std.proofs.lemmas.List.{get_or_default}
-use Rattle.block_net.specs.Views.{BlockView, count}
+use Rattle.block_net.specs.Views.{CellsView, count}
 use Rattle.block_net.specs.Whole.{Whole, block_at, put_block, whole_of}
 use Rattle.block_net.proofs.Spans.{length_range, range_at}
 use Rattle.laid_blocks.specs.Views.{blocks_in}
@@ -53,7 +53,7 @@ returns c =
     let part : slice_range labels first (first + c.len-nodes.result) ≡ slice_range labels (slice_index w.firsts b) (slice_index w.firsts b + count (block_at w b)) =
     rw (sym read.first, sym read.many) refl in
     let made : c.write_labels.new.self ≡ record (block_at w b) { labels = slice_range labels (slice_index w.firsts b) (slice_index w.firsts b + count (block_at w b)) } =
-    c.write_labels.ensures ∙ (ap (λ (q : BlockView). record q { labels = slice_range labels first (first + c.len-nodes.result) }) (sym at.is)
+    c.write_labels.ensures ∙ (ap (λ (q : CellsView). record q { labels = slice_range labels first (first + c.len-nodes.result) }) (sym at.is)
     ∙ ap (λ (xs : List ℕ). record (block_at w b) { labels = xs }) part) in
-    subst (λ (q : BlockView). IsLabelled w (put_block w b q) b labels) (sym made)
+    subst (λ (q : CellsView). IsLabelled w (put_block w b q) b labels) (sym made)
     (labelled_block w b labels c.requires.laid c.requires.block (omega (arith, read.within, read.many, read.first, c.requires.len)))

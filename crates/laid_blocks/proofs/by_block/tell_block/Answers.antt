@@ -1,5 +1,5 @@
 use Rattle.std.proofs.Common.{◌≡◌, ap, subst, refl, arith, length}
-use Rattle.block_net.specs.Views.{BlockView}
+use Rattle.block_net.specs.Views.{CellsView}
 use Rattle.block_net.specs.Whole.{Whole, block_at, whole_of}
 use Rattle.laid_blocks.specs.Views.{blocks_in}
 use Rattle.laid_blocks.specs.ByBlock.{IsTelling}
@@ -17,12 +17,12 @@ borders-preserved c =
     let t : Whole = whole_of c.args.net.now c.tell_border.new.parts in
     let at = at_read w (blocks_in w) c.args.block c.index.result.now c.requires.laid refl c.requires.block c.index.ensures in
     telling_more w u t c.args.block c.borders.j c.borders.invariant (omega (arith, c.requires.block, c.borders.invariant.number))
-    (omega (arith, c.borders.invariant.borders, ap (λ (q : BlockView). length q.borders) at.is, c.borders-j-end.ensures, c.borders-test.true))
+    (omega (arith, c.borders.invariant.borders, ap (λ (q : CellsView). length q.borders) at.is, c.borders-j-end.ensures, c.borders-test.true))
     c.tell_border.ensures.told c.tell_border.ensures.laid
 
 pub returns : goal.returns
 returns c =
     let w : Whole = whole_of c.args.net.now c.args.parts.now in
     let at = at_read w (blocks_in w) c.args.block c.index.result.now c.requires.laid refl c.requires.block c.index.ensures in
-    let all : c.borders.j ≡ length (block_at w c.args.block).borders = omega (arith, ap (λ (q : BlockView). length q.borders) at.is, c.borders-j-end.ensures, c.borders-test.false, c.borders.auto.j-end) in
+    let all : c.borders.j ≡ length (block_at w c.args.block).borders = omega (arith, ap (λ (q : CellsView). length q.borders) at.is, c.borders-j-end.ensures, c.borders-test.false, c.borders.auto.j-end) in
     subst (IsTelling w (whole_of c.args.net.now c.borders.parts) c.args.block) all c.borders.invariant

@@ -1,10 +1,10 @@
 use Rattle.std.proofs.Common.{◌*◌}
 use Rattle.move_energy.specs.Limits.{label_terms}
-use Rattle.move_energy.specs.LabelCosts.{costs_below, AddsHidden, IsWider}
+use Rattle.move_energy.specs.LabelCosts.{costs_below, AddsHidden, GrowsBy}
 use Rattle.move_energy.proofs.label_costs.add_label_costs.Given as goal
 
 abbrev pub invariant-loop-label : goal.invariant-loop-label
 invariant-loop-label l = record {
-  wider : IsWider l.label (label_terms * l.label) l.initial.form l.form;
+  wider : GrowsBy l.label (label_terms * l.label) l.initial.form l.form;
   adds : AddsHidden l.initial.form l.form (costs_below l.label l.alpha l.at l.variables.choices.items l.costs);
 }

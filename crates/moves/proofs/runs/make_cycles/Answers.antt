@@ -1,7 +1,7 @@
 use Rattle.std.proofs.Common.{rules, ◌≡◌, ◌∙◌, ◌+◌, List, ℕ, length, suc, arith, ap, refl, sym, subst, inl}
 use Rattle.std.proofs.lemmas.Option.{slice_get_within}
 use Rattle.std.proofs.lemmas.Result.{err_from_is_err_and}
-use Rattle.labellings.specs.Chains.{Leads, Cycles}
+use Rattle.labellings.specs.Chains.{MovesLead, Cycles}
 use Rattle.labellings.proofs.Chains.{cycles_more, chain_settles, chain_runs_out, chain_breaks}
 use Rattle.labellings.specs.Chains.{moves_of}
 use Rattle.moves.proofs.runs.make_cycles.Goals as goal
@@ -28,7 +28,7 @@ returns-then-not-branch-clause-run g c = λ m meant.
     let cycle = c.in_ok-cycle.ensures.cycled m meant in
     let still = cycle.1.1 c.if-not-branch.true in
     let P : List ℕ → Type 0 = λ x. Cycles m moves c.loop-done.done c.args.labelling.now.at x in
-    let Q : List ℕ → Type 0 = λ x. Leads m moves x c.cycle.new.labelling.at in
+    let Q : List ℕ → Type 0 = λ x. MovesLead m moves x c.cycle.new.labelling.at in
     chain_settles m moves c.args.cycles c.loop-done.done c.args.labelling.now.at c.cycle.new.labelling.at (omega arith)
     (subst P (sym still) so_far) (subst Q (sym still) cycle.0)
 

@@ -2,7 +2,7 @@ use Rattle.std.proofs.Common.{◌∙◌, ℕ, Ok, Err, sym, subst, w64}
 use Rattle.std.proofs.lemmas.Int.{to_z-of_z}
 use Rattle.labellings.specs.Chains.{moves_of}
 use Rattle.cost_store.proofs.Meaning.{pairs_meant, metric_meant, fits_still}
-use Rattle.moves.specs.Problems.{IsRun}
+use Rattle.moves.specs.Problems.{IsRunOfCycles}
 use Rattle.moves.proofs.Entries.{metric_run}
 use Rattle.moves.proofs.Telling.{free_costs, made_free, refused_own, tells_bound}
 use Rattle.moves.proofs.tables.run_problem.Goals as goal
@@ -19,7 +19,7 @@ label_energy-label-requires-clause-fits g c = λ κs lives. fits_still _ _ _ c.r
 pub returns-in-Ok-clause-run : goal.returns-in-Ok-clause-run
 returns-in-Ok-clause-run g c = λ m meant.
     let field = c.run.new.labelling in
-    let P : ℕ → Type 0 = λ k. IsRun m (moves_of c.args.request.moves k) c.args.request.cycles c.args.request.start.at field.at (Ok c.in-Ok.ended) in
+    let P : ℕ → Type 0 = λ k. IsRunOfCycles m (moves_of c.args.request.moves k) c.args.request.cycles c.args.request.start.at field.at (Ok c.in-Ok.ended) in
     let run = subst P (sym meant.labels_are) (c.in-Ok.ensures.run m meant) in (
       run,
       to_z-of_z w64 c.data_energy-data.result (record { sfits = c.data_energy-data.type_inv }) ∙ c.data_energy-data.ensures.energy m meant,
@@ -39,7 +39,7 @@ returns-in-Ok-clause-run g c = λ m meant.
 
 pub returns-in-Err-clause-run : goal.returns-in-Err-clause-run
 returns-in-Err-clause-run g c = λ m meant.
-    let P : ℕ → Type 0 = λ k. IsRun m (moves_of c.args.request.moves k) c.args.request.cycles c.args.request.start.at c.run.new.labelling.at (Err c.in-Err.error) in
+    let P : ℕ → Type 0 = λ k. IsRunOfCycles m (moves_of c.args.request.moves k) c.args.request.cycles c.args.request.start.at c.run.new.labelling.at (Err c.in-Err.error) in
     let run = subst P (sym meant.labels_are) (c.in-Err.ensures.run m meant) in
     (c.run.new.labelling.at, run, refused_own m c.args.request.moves c.args.request.cycles c.args.request.start.at c.run.new.labelling.at c.in-Err.error c.in-Err.ensures.own run)
 

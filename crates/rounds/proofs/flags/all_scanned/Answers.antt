@@ -1,7 +1,7 @@
 use Rattle.std.proofs.Common.{◌≡◌, ℕ, ◌+◌, ◌<◌, Bool, List, [], length, map, get_or, sym, ◌∙◌, ap, subst, arith, Vec, Global}
 use Rattle.std.proofs.lemmas.Grind.{common_steps}
 use Rattle.std.proofs.lemmas.List.{length-map, map_push}
-use Rattle.block_net.specs.Views.{BlockView}
+use Rattle.block_net.specs.Views.{CellsView}
 use Rattle.rounds.specs.Joining.{IsScanned}
 use Rattle.rounds.proofs.Scanning.{scans_more, all_scans}
 use Rattle.rounds.proofs.flags.all_scanned.Goals as goal
@@ -17,7 +17,7 @@ loop-b-preserved c =
     let here : block ≡ get_or cells c.loop-b.b block = grind (arith, common_steps) in
     record {
       len = grind (arith, common_steps);
-      each = subst (λ (r : List (List Bool)). (i : ℕ) (d : BlockView) → i < c.loop-b.b + 1 → IsScanned (length cells) (get_or cells i d) (get_or r i []))
+      each = subst (λ (r : List (List Bool)). (i : ℕ) (d : CellsView) → i < c.loop-b.b + 1 → IsScanned (length cells) (get_or cells i d) (get_or r i []))
           (sym (ap (map items) c.in_ok-push.ensures.items ∙ map_push items rows row))
           (scans_more cells (map items rows) row.items block c.loop-b.b (length-map rows items ∙ was.len) (grind (arith, common_steps)) here c.in_ok-scanned.ensures was.each);
     }

@@ -3,7 +3,7 @@ use Rattle.std.specs.Vec.Iter.{into_iter_items}
 use Rattle.std.proofs.lemmas.Grind.{common_steps}
 use Rattle.std.proofs.lemmas.List.Elements.{All-rest}
 use Rattle.flow_network.specs.Limits.{node_limit}
-use Rattle.block_net.specs.Views.{BlockView, count}
+use Rattle.block_net.specs.Views.{CellsView, count}
 use Rattle.block_workers.specs.declared.seat.Seat.{Seat}
 use Rattle.rounds.proofs.Seating.{each_more}
 use Rattle.rounds.proofs.seats.seats_of.Goals as goal
@@ -28,7 +28,7 @@ loop-cells-preserved c =
       numbers = subst (λ l. (b : ℕ) (d : Seat) → b < length l → (get_or l b d).number ≡ b) (sym items)
           (each_more (λ b s. s.number ≡ b) seats seat was.numbers (is.number ∙ sym was.number));
       nodes = subst (λ l. (b : ℕ) (d : Seat) → b < length l → (get_or l b d).nodes ≡ count (get_or l b d).block) (sym items)
-          (each_more (λ b s. s.nodes ≡ count s.block) seats seat was.nodes (is.nodes ∙ sym (ap (λ (B : BlockView). count B) is.block)));
+          (each_more (λ b s. s.nodes ≡ count s.block) seats seat was.nodes (is.nodes ∙ sym (ap (λ (B : CellsView). count B) is.block)));
       new = subst (λ l. (b : ℕ) (d : Seat) → b < length l → (get_or l b d).turn ≡ 0) (sym items)
           (each_more (λ b s. s.turn ≡ 0) seats seat was.new is.turn);
     }

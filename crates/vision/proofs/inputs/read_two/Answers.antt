@@ -1,6 +1,6 @@
 use Rattle.std.proofs.Common.{List, ℕ, length-drop, inl, inr, refl, subst, arith}
 use Rattle.std.proofs.lemmas.List.{take_rest}
-use Rattle.pgm_image.specs.Front.{Front, Refuses}
+use Rattle.pgm_image.specs.Front.{Front, RefusesFront}
 use Rattle.std.proofs.lemmas.Result.{err_from_is_err_and}
 use Rattle.vision.proofs.Places.{place_within}
 use Rattle.vision.proofs.inputs.read_two.Goals as goal
@@ -8,7 +8,7 @@ use Rattle.vision.proofs.inputs.read_two.Goals.{then-width-via-then-width, then-
 
 pub moved-requires : goal.moved-requires
 moved-requires c =
-    let R : List ℕ → Type 0 = λ bytes. Refuses bytes c.in-Err.error in
+    let R : List ℕ → Type 0 = λ bytes. RefusesFront bytes c.in-Err.error in
     let within = place_within _ c.in-Err.error (subst R (take_rest c.args.input.now c.past_spaces-at.result) c.in-Err.ensures.refused) in
     let size = length-drop c.past_spaces-at.result c.args.input.now in
     omega (arith, within, size, c.past_spaces-at.ensures.within)
@@ -20,7 +20,7 @@ returns-in_err-first-clause-refused c =
 
 pub returns-in-Err-clause-refused : goal.returns-in-Err-clause-refused
 returns-in-Err-clause-refused c =
-    let R : List ℕ → Type 0 = λ bytes. Refuses bytes c.in-Err.error in
+    let R : List ℕ → Type 0 = λ bytes. RefusesFront bytes c.in-Err.error in
     inl (
       c.moved.result,
       inr (record {

@@ -5,7 +5,7 @@ use Rattle.label_field.specs.PairLists.{PairList}
 use Rattle.run_options.specs.Shapes.{shape_cost}
 use Rattle.labellings.specs.declared.cycles.Moves.{Moves}
 use Rattle.vision.specs.Faults.{HasRunError}
-use Rattle.vision.specs.Jobs.{IsFinished, job_of}
+use Rattle.vision.specs.Jobs.{IsReadyToWrite, job_of}
 use Rattle.vision.specs.Problems.{restore_problem}
 use Rattle.vision.specs.declared.job.Plan.{Plan}
 use Rattle.vision.proofs.Metrics.{shape_metric_table}
@@ -18,7 +18,7 @@ returns-clause-run g c =
     let p = c.args.picture.now in
     let maxval = c.maxval-maxval.ensures in
     let problem = restore_problem o p in
-    let M : Moves → ℕ → Bool → ℕ → Type 0 = λ m k b v. MatchResult c.run_job.result (IsFinished (job_of problem m k b p v)) (HasRunError (g.H.How.refuses c.args.how.now) (job_of problem m k b p v)) in
+    let M : Moves → ℕ → Bool → ℕ → Type 0 = λ m k b v. MatchResult c.run_job.result (IsReadyToWrite (job_of problem m k b p v)) (HasRunError (g.H.How.refuses c.args.how.now) (job_of problem m k b p v)) in
     let J : Plan → Type 0 = λ q. M q.moves q.cycles q.bound q.maxval in
     let S : List ℤ → Type 0 = λ t. IsTable (c.maxval-maxval.result + 1) (c.maxval-maxval.result + 1) (shape_cost o.smooth o.trunc) t in
     subst (M o.moves o.cycles o.bound) maxval (subst J c.restore_plan-plan.ensures (c.run_job.ensures.run problem (rw c.new-data_cost.ensures.stored (record {

@@ -1,7 +1,7 @@
 use Rattle.std.proofs.Common.{arith, inl, inr, refl}
 use Rattle.vision.proofs.Refusing.{restore_finished, restore_refused}
 use Rattle.std.proofs.lemmas.Result.{IfOk-from_err, err_from_is_err_and}
-use Rattle.pgm_image.specs.Front.{Refuses}
+use Rattle.pgm_image.specs.Front.{RefusesFront}
 use Rattle.vision.proofs.Metrics.{image_tells_none}
 use Rattle.vision.proofs.restore.restore_input.Goals as goal
 
@@ -19,7 +19,7 @@ returns-in_err-picture-clause-finished g c = IfOk-from_err _ _ c.from_residual.e
 pub returns-in_err-picture-clause-metric : goal.returns-in_err-picture-clause-metric
 returns-in_err-picture-clause-metric g c =
     let p = err_from_is_err_and c.from_residual.result c.from_residual.ensures.1 in
-    λ apart. rw (p.1, p.2) (image_tells_none (Refuses c.args.input.now) _ c.in_err-picture.ensures.refused)
+    λ apart. rw (p.1, p.2) (image_tells_none (RefusesFront c.args.input.now) _ c.in_err-picture.ensures.refused)
 
 pub returns-clause-finished : goal.returns-clause-finished
 returns-clause-finished g c =

@@ -3,7 +3,7 @@ use Rattle.cost_store.specs.Promises.{IsTable}
 use Rattle.label_field.specs.PairLists.{PairList}
 use Rattle.run_options.specs.Shapes.{shape_cost}
 use Rattle.vision.specs.Faults.{HasRunError}
-use Rattle.vision.specs.Jobs.{IsFinished, job_of}
+use Rattle.vision.specs.Jobs.{IsReadyToWrite, job_of}
 use Rattle.vision.specs.Problems.{stereo_problem}
 use Rattle.vision.proofs.Metrics.{shape_metric_table}
 use Rattle.std.proofs.lemmas.Result.{err_from_is_err_and}
@@ -14,7 +14,7 @@ returns-clause-run g c =
     let o = c.args.options.now in
     let left = c.args.left.now in
     let problem = stereo_problem o left c.args.right.now in
-    let J : ℕ → Type 0 = λ v. MatchResult c.run_job.result (IsFinished (job_of problem o.moves o.cycles o.bound left v)) (HasRunError (g.H.How.refuses c.args.how.now) (job_of problem o.moves o.cycles o.bound left v)) in
+    let J : ℕ → Type 0 = λ v. MatchResult c.run_job.result (IsReadyToWrite (job_of problem o.moves o.cycles o.bound left v)) (HasRunError (g.H.How.refuses c.args.how.now) (job_of problem o.moves o.cycles o.bound left v)) in
     let S : List ℤ → Type 0 = λ t. IsTable o.labels o.labels (shape_cost o.smooth o.trunc) t in
     subst J c.max.ensures (c.run_job.ensures.run problem (rw c.new-data_cost.ensures.stored (record {
       sites_are = sym (ap (λ (l : PairList). l.sites) c.in_ok-pairs.ensures);

@@ -1,6 +1,6 @@
 use Rattle.std.proofs.Common.{◌≡◌, ◌+◌, ◌<◌, ◌∙◌, ℕ, List, length, sym, ap, subst, arith, replicate}
 use Rattle.block_net.proofs.Moving.{fresh_rows, held_rows, whole}
-use Rattle.block_net.specs.Rows.{AreRows}
+use Rattle.block_net.specs.Standing.{AreRows}
 use Rattle.block_net.proofs.buckets.Buckets.clear.Goals as goal
 
 pub part-requires : goal.part-requires

@@ -1,6 +1,6 @@
 use Rattle.std.proofs.Common.{◌≡◌, ◌+◌, ◌<◌, ◌≤◌, ◌∙◌, length, slice_index, sym, ap, subst, arith}
 use Rattle.std.proofs.lemmas.List.{get_or_read}
-use Rattle.block_net.specs.Rows.{Standing, nodes, row_in, aside, IsEmpty}
+use Rattle.block_net.specs.Standing.{Standing, nodes, row_in, aside, IsEmpty}
 use Rattle.block_net.proofs.Moving.{none_stands, first_stands}
 use Rattle.block_net.proofs.buckets.Buckets.first.Goals as goal
 

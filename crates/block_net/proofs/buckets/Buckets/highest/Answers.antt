@@ -1,6 +1,6 @@
 use Rattle.std.proofs.Common.{◌+◌, ◌<◌, ◌≤◌, ◌∙◌, ℕ, inl, inr, sym, subst, arith}
 use Rattle.std.proofs.lemmas.Bool.{cases_lt}
-use Rattle.block_net.specs.Rows.{Standing, nodes, row_in, IsHighest, AreEmpty}
+use Rattle.block_net.specs.Standing.{Standing, nodes, row_in, IsHighest, AreEmpty}
 use Rattle.block_net.proofs.Moving.{lower_top}
 use Rattle.block_net.proofs.buckets.Buckets.highest.Goals as goal
 

@@ -1,5 +1,5 @@
 use Rattle.std.proofs.Common.{ℕ, ◌≡◌, ◌+◌, ◌<◌, ◌≤◌}
-use Rattle.block_net.specs.Rows.{nodes, row_in}
+use Rattle.block_net.specs.Standing.{nodes, row_in}
 use Rattle.block_net.proofs.buckets.Buckets.highest.Given as goal
 
 abbrev pub invariant-buckets : goal.invariant-buckets

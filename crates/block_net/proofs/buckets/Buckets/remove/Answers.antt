@@ -1,6 +1,6 @@
 use Rattle.std.proofs.Common.{◌≡◌, ◌<◌, ◌∙◌, length, sym, ap, subst, arith}
 use Rattle.block_net.specs.Circles.{unlinked}
-use Rattle.block_net.specs.Rows.{Standing, nodes}
+use Rattle.block_net.specs.Standing.{Standing, nodes}
 use Rattle.block_net.proofs.Linking.{two_length}
 use Rattle.block_net.proofs.Moving.{left_rows, held_rows, whole}
 use Rattle.block_net.proofs.buckets.Buckets.remove.Goals as goal

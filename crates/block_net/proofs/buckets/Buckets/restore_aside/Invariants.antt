@@ -1,5 +1,5 @@
 use Rattle.std.proofs.Common.{ℕ, ◌≡◌, ◌<◌, cond, eqb, sum_by, slice_index}
-use Rattle.block_net.specs.Rows.{nodes, row_in, aside, bucket_of}
+use Rattle.block_net.specs.Standing.{nodes, row_in, aside, bucket_of}
 use Rattle.block_net.proofs.buckets.Buckets.restore_aside.Given as goal
 
 abbrev pub decreases-aside : goal.decreases-aside

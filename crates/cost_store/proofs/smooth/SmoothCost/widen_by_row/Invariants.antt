@@ -1,11 +1,11 @@
 use Rattle.std.proofs.Common.{ℕ, ◌≤◌}
-use Rattle.cost_store.specs.Promises.{Answers}
+use Rattle.cost_store.specs.Promises.{AnswersTable}
 use Rattle.cost_store.specs.Ratios.{IsRatioSoFar}
 use Rattle.cost_store.proofs.smooth.SmoothCost.widen_by_row.Given as goal
 
 abbrev pub invariant-loop-second : goal.invariant-loop-second
 invariant-loop-second g l = record {
   ordered : l.now.least ≤ l.now.greatest;
-  ratio : (cost : ℕ → ℕ → ℕ) → Answers (goal.V-post g l.self.v) cost l.self.labels l.self.labels → IsRatioSoFar l.self.labels cost l.first 0 l.fn.seen →
+  ratio : (cost : ℕ → ℕ → ℕ) → AnswersTable (goal.V-post g l.self.v) cost l.self.labels l.self.labels → IsRatioSoFar l.self.labels cost l.first 0 l.fn.seen →
       IsRatioSoFar l.self.labels cost l.first l.second l.now;
 }

@@ -1,7 +1,7 @@
 use Rattle.std.proofs.Common.{◌≡◌, ◌<◌, ◌≤◌, ◌*◌, ◌∙◌, ℕ, ap, sym, subst, length, arith}
 use Rattle.std.proofs.lemmas.Result.{err_from_is_err_and}
 use Rattle.labellings.specs.Energies.{labelling}
-use Rattle.deciding.specs.Working.{AreWaiting, ArePartlyDecided, IsWithinRange, left, room_of}
+use Rattle.deciding.specs.Working.{AreWaiting, ArePartlyDecided, IsWithinRange, left, budget_of}
 use Rattle.move_energy.proofs.PairEnds.{ends_len}
 use Rattle.deciding.proofs.Left.{left_most}
 use Rattle.deciding.proofs.Places.{none_waits}
@@ -60,7 +60,7 @@ pub settle_all-requires-clause-range : goal.settle_all-requires-clause-range
 settle_all-requires-clause-range g c = λ κs lives.
     let a = c.args in
     let same = ap (λ (v : _). left a.ends.now (length a.at.now) v.items) c.in_ok-sum_site.ensures.same in
-    let R : ℕ → Type 0 = λ n. IsWithinRange (room_of n) c.sum_site.new.self in
+    let R : ℕ → Type 0 = λ n. IsWithinRange (budget_of n) c.sum_site.new.self in
     subst R (sym same) c.in_ok-sum_site.ensures.range
 
 pub settle_all-requires-clause-waiting : goal.settle_all-requires-clause-waiting

@@ -1,7 +1,7 @@
 use Rattle.std.proofs.Common.{◌≡◌, ◌+◌, ◌*◌, ◌≤◌, length}
 use Rattle.cost_store.specs.Posed.{IsMeant}
 use Rattle.labellings.specs.Energies.{Instance, labelling}
-use Rattle.deciding.specs.Working.{IsSummed, AreWaiting, IsWithinRange, ArePartlyDecided, left, room_of, greatest_total}
+use Rattle.deciding.specs.Working.{IsSummed, AreWaiting, IsWithinRange, ArePartlyDecided, left, budget_of, greatest_total}
 use Rattle.deciding.proofs.bounds.Bounds.settle_all.Given as goal
 
 abbrev pub invariant-settling : goal.invariant-settling
@@ -10,7 +10,7 @@ invariant-settling g l = record {
   same : length l.self.least.items ≡ length l.fn.self.least.items;
   waiting : AreWaiting (length l.fn.self.least.items) l.self;
   few : left l.ends (length l.at) l.self.choices.items ≤ 2 * length l.problem.pairs.list;
-  range : IsWithinRange (room_of (left l.ends (length l.at) l.self.choices.items)) l.self;
+  range : IsWithinRange (budget_of (left l.ends (length l.at) l.self.choices.items)) l.self;
   total : greatest_total l.self + 20000000 * left l.ends (length l.at) l.self.choices.items
       ≤ greatest_total l.fn.self + 20000000 * left l.ends (length l.at) l.fn.self.choices.items;
   decided : (m : Instance) → IsMeant g.F.Fn g.V.Fn l.problem m

@@ -8,7 +8,7 @@ use Rattle.move_energy.proofs.Joins.{read_at}
 use Rattle.move_energy.specs.declared.choice.Choice.{Choice}
 use Rattle.deciding.specs.Decisions.{rise}
 use Rattle.deciding.specs.MoveValues.{move_value}
-use Rattle.deciding.specs.Working.{valued, left, room_of}
+use Rattle.deciding.specs.Working.{valued, left, budget_of}
 use Rattle.deciding.proofs.Left.{degree_most}
 use Rattle.deciding.proofs.Places.{meant_pairs, partly_same}
 use Rattle.deciding.proofs.Ranges.{added_of, added_summed, added_range, added_waits, closed_waits, called_waits, range_same, summed_same, added_total, total_same}
@@ -29,7 +29,7 @@ returns-then-not-is_open-clause-sized g c =
 pub returns-then-not-is_open-clause-range : goal.returns-then-not-is_open-clause-range
 returns-then-not-is_open-clause-range g c =
     let a = c.args in
-    on_ok_weaker c.add_bounds.result (λ adds. added_range a.site (room_of (left a.ends.now (length a.at.now) a.self.now.choices.items)) _ _ a.self.now c.add_bounds.new.self (added_of a.site _ _ a.self.now c.add_bounds.new.self c.requires.site.1 c.requires.sized.greatest adds) (omega arith) (omega arith) c.requires.range) c.add_bounds.ensures.adds
+    on_ok_weaker c.add_bounds.result (λ adds. added_range a.site (budget_of (left a.ends.now (length a.at.now) a.self.now.choices.items)) _ _ a.self.now c.add_bounds.new.self (added_of a.site _ _ a.self.now c.add_bounds.new.self c.requires.site.1 c.requires.sized.greatest adds) (omega arith) (omega arith) c.requires.range) c.add_bounds.ensures.adds
 
 pub returns-then-not-is_open-clause-waiting : goal.returns-then-not-is_open-clause-waiting
 returns-then-not-is_open-clause-waiting g c =
@@ -81,7 +81,7 @@ returns-clause-range g c =
     let rises = c.site_rises-rises in
     on_ok_weaker c.call_up.result (λ calls.
     range_same c.add_bounds-2.new.self c.call_up.new.self _ s.1 s.2
-    (added_range a.site (room_of (left a.ends.now (length a.at.now) a.self.now.choices.items)) _ _ a.self.now c.add_bounds-2.new.self added
+    (added_range a.site (budget_of (left a.ends.now (length a.at.now) a.self.now.choices.items)) _ _ a.self.now c.add_bounds-2.new.self added
     (sum_room rises.result.least (degree a.ends.now a.site) _ rises.ensures.range.0 few (omega (arith, c.requires.left, c.requires.posed.pairs.count)))
     (sum_room rises.result.greatest (degree a.ends.now a.site) _ rises.ensures.range.1 few (omega (arith, c.requires.left, c.requires.posed.pairs.count))) c.requires.range)) c.call_up.ensures.calls
 

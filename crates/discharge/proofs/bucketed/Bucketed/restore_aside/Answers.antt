@@ -1,5 +1,5 @@
 use Rattle.std.proofs.Common.{◌∙◌, ℕ, ap}
-use Rattle.block_net.specs.Rows.{moved, bucket_of}
+use Rattle.block_net.specs.Standing.{moved, bucket_of}
 use Rattle.discharge.proofs.Placing.{put_stands}
 use Rattle.discharge.proofs.bucketed.Bucketed.restore_aside.Goals as goal
 

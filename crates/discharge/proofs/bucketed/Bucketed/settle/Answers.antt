@@ -1,5 +1,5 @@
 use Rattle.std.proofs.Common.{◌≡◌, ap}
-use Rattle.block_net.specs.Views.{BlockView, count, excess_in, label_in, settled}
+use Rattle.block_net.specs.Views.{CellsView, count, excess_in, label_in, settled}
 use Rattle.discharge.proofs.Placing.{same_stands}
 use Rattle.discharge.proofs.bucketed.Bucketed.settle.Goals as goal
 
@@ -7,5 +7,5 @@ pub invariant_of-self : goal.invariant_of-self
 invariant_of-self c =
     let b = c.self.inside.cells in
     let is : c.settle.new.self ≡ settled b c.args.j = c.settle.ensures in
-    same_stands b c.settle.new.self _ c.self.invariant (ap count is) (ap (λ (x : BlockView). x.top) is)
-    (λ u. ap (λ (x : BlockView). label_in x u) is) (λ u. ap (λ (x : BlockView). excess_in x u) is)
+    same_stands b c.settle.new.self _ c.self.invariant (ap count is) (ap (λ (x : CellsView). x.top) is)
+    (λ u. ap (λ (x : CellsView). label_in x u) is) (λ u. ap (λ (x : CellsView). excess_in x u) is)

@@ -6,7 +6,7 @@ use Rattle.parcel.specs.Directions.{opposite}
 use Rattle.parcel.specs.States as core
 use Rattle.parcel.specs.Soundness.{amount_out}
 use Rattle.parcel.proofs.Lanes.{border_opposite}
-use Rattle.block_net.specs.Views.{BlockView, border_in}
+use Rattle.block_net.specs.Views.{CellsView, border_in}
 use Rattle.block_net.specs.Whole.{Whole, put_block, is_outer, whole_of}
 use Rattle.parcel.specs.Effects.{accepted}
 use Rattle.laid_blocks.specs.Views.{blocks_in, IsLaid, IsRow}
@@ -38,7 +38,7 @@ invariant_of-self c =
     let x = c.args.direction in
     let found = subst (λ (q : Direction). IsRow w q (is_outer w q) b p) c.opposite_of.ensures c.row-block.ensures in
     let row = row_as w _ b B (opposite x) true p at found (border_opposite c.args.self.now.net c.args.self.now.blocks x ∙ c.requires.border) in
-    subst (λ (q : BlockView). IsLaid (put_block w b q)) (sym c.accept.ensures) (accepted_at w _ b B x p c.args.amount c.args.label at row (back_spot w _ b B x p at row)).laid
+    subst (λ (q : CellsView). IsLaid (put_block w b q)) (sym c.accept.ensures) (accepted_at w _ b B x p c.args.amount c.args.label at row (back_spot w _ b B x p at row)).laid
 
 pub returns : goal.returns
 returns c =
@@ -51,7 +51,7 @@ returns c =
     let x = c.args.direction in
     let found = subst (λ (q : Direction). IsRow w q (is_outer w q) b p) c.opposite_of.ensures c.row-block.ensures in
     let row = row_as w _ b B (opposite x) true p at found (border_opposite c.args.self.now.net c.args.self.now.blocks x ∙ c.requires.border) in
-    subst (λ (q : BlockView). blocks_in (put_block w b q) ≡ accepted c.args.self.now x c.args.amount c.args.label) (sym c.accept.ensures) (accepted_at w _ b B x p c.args.amount c.args.label at row (back_spot w _ b B x p at row)).view
+    subst (λ (q : CellsView). blocks_in (put_block w b q) ≡ accepted c.args.self.now x c.args.amount c.args.label) (sym c.accept.ensures) (accepted_at w _ b B x p c.args.amount c.args.label at row (back_spot w _ b B x p at row)).view
 
 pub accept-requires-clause-label : goal.accept-requires-clause-label
 accept-requires-clause-label c = grind (arith, common_steps)

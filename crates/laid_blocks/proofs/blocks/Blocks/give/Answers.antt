@@ -1,7 +1,7 @@
 use Rattle.std.proofs.Common.{◌≡◌, sym, subst, arith}
-use Rattle.block_net.specs.Views.{BlockView}
+use Rattle.block_net.specs.Views.{CellsView}
 use Rattle.block_net.specs.Whole.{Whole, put_block, whole_of}
-use Rattle.parcel.specs.Effects.{gave}
+use Rattle.parcel.specs.Effects.{given}
 use Rattle.laid_blocks.specs.Views.{blocks_in, IsLaid}
 use Rattle.laid_blocks.proofs.Steps.{at_read, excess_read, room_read, gave_at}
 use Rattle.laid_blocks.proofs.blocks.Blocks.give.Goals as goal
@@ -34,7 +34,7 @@ invariant_of-self c =
     let p = c.spot-block.result.1 in
     let B = c.index_mut.result.now in
     let at = at_read w c.args.self.now b B c.self.invariant c.self.view_is c.spot-block.ensures.block c.index_mut.ensures.value in
-    subst (λ (q : BlockView). IsLaid (put_block w b q)) (sym c.give.ensures.given) (gave_at w _ b B c.args.v p c.args.amount at c.spot-block.ensures c.give.ensures.place).laid
+    subst (λ (q : CellsView). IsLaid (put_block w b q)) (sym c.give.ensures.given) (gave_at w _ b B c.args.v p c.args.amount at c.spot-block.ensures c.give.ensures.place).laid
 
 pub returns : goal.returns
 returns c =
@@ -44,4 +44,4 @@ returns c =
     let p = c.spot-block.result.1 in
     let B = c.index_mut.result.now in
     let at = at_read w c.args.self.now b B c.self.invariant c.self.view_is c.spot-block.ensures.block c.index_mut.ensures.value in
-    subst (λ (q : BlockView). blocks_in (put_block w b q) ≡ gave c.args.self.now c.args.v c.args.amount) (sym c.give.ensures.given) (gave_at w _ b B c.args.v p c.args.amount at c.spot-block.ensures c.give.ensures.place).view
+    subst (λ (q : CellsView). blocks_in (put_block w b q) ≡ given c.args.self.now c.args.v c.args.amount) (sym c.give.ensures.given) (gave_at w _ b B c.args.v p c.args.amount at c.spot-block.ensures c.give.ensures.place).view

@@ -1,7 +1,7 @@
 use Rattle.std.proofs.Common.{◌≡◌, false, sym, ap, subst, arith}
 use Rattle.parcel.specs.declared.lane.Lane.{Lane}
 use Rattle.parcel.specs.States as core
-use Rattle.block_net.specs.Views.{BlockView}
+use Rattle.block_net.specs.Views.{CellsView}
 use Rattle.block_net.specs.Whole.{Whole, put_block, whole_of}
 use Rattle.parcel.specs.Effects.{pushed}
 use Rattle.laid_blocks.specs.Views.{blocks_in, IsLaid}
@@ -62,7 +62,7 @@ invariant_of-self c =
     let row = row_as w _ b B x false j at c.row-block.ensures c.requires.inner in
     let p = c.spot-place.result.1 in
     let spot = spot_as w _ b B x false j c.near_of.result c.spot-place.result.0 p at row c.near_of.ensures.value c.spot-place.ensures in
-    subst (λ (q : BlockView). IsLaid (put_block w b q)) (sym c.push.ensures) (pushed_at w _ b B x j p c.args.amount at row spot (back_row w _ b B x j at row) (far_spot w _ b B x j at row)).laid
+    subst (λ (q : CellsView). IsLaid (put_block w b q)) (sym c.push.ensures) (pushed_at w _ b B x j p c.args.amount at row spot (back_row w _ b B x j at row) (far_spot w _ b B x j at row)).laid
 
 pub returns : goal.returns
 returns c =
@@ -76,4 +76,4 @@ returns c =
     let row = row_as w _ b B x false j at c.row-block.ensures c.requires.inner in
     let p = c.spot-place.result.1 in
     let spot = spot_as w _ b B x false j c.near_of.result c.spot-place.result.0 p at row c.near_of.ensures.value c.spot-place.ensures in
-    subst (λ (q : BlockView). blocks_in (put_block w b q) ≡ pushed c.args.self.now x c.args.amount) (sym c.push.ensures) (pushed_at w _ b B x j p c.args.amount at row spot (back_row w _ b B x j at row) (far_spot w _ b B x j at row)).view
+    subst (λ (q : CellsView). blocks_in (put_block w b q) ≡ pushed c.args.self.now x c.args.amount) (sym c.push.ensures) (pushed_at w _ b B x j p c.args.amount at row spot (back_row w _ b B x j at row) (far_spot w _ b B x j at row)).view

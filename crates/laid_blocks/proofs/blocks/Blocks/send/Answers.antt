@@ -2,7 +2,7 @@ use Rattle.std.proofs.lemmas.Grind.{common_steps}
 use Rattle.std.proofs.Common.{◌≡◌, true, sym, ◌∙◌, ap, subst, arith}
 use Rattle.parcel.specs.declared.lane.Lane.{Lane}
 use Rattle.parcel.specs.States as core
-use Rattle.block_net.specs.Views.{BlockView}
+use Rattle.block_net.specs.Views.{CellsView}
 use Rattle.block_net.specs.Whole.{Whole, put_block, whole_of}
 use Rattle.parcel.specs.Effects.{sent}
 use Rattle.laid_blocks.specs.Views.{blocks_in, IsLaid}
@@ -63,7 +63,7 @@ invariant_of-self c =
     let row = row_as w _ b B x true j at c.row-block.ensures c.requires.border in
     let p = c.spot-place.result.1 in
     let spot = spot_as w _ b B x true j c.near_of.result c.spot-place.result.0 p at row c.near_of.ensures.value c.spot-place.ensures in
-    subst (λ (q : BlockView). IsLaid (put_block w b q)) (sym c.send.ensures) (sent_at w _ b B x j p c.args.amount at row spot).laid
+    subst (λ (q : CellsView). IsLaid (put_block w b q)) (sym c.send.ensures) (sent_at w _ b B x j p c.args.amount at row spot).laid
 
 pub returns : goal.returns
 returns c =
@@ -77,7 +77,7 @@ returns c =
     let row = row_as w _ b B x true j at c.row-block.ensures c.requires.border in
     let p = c.spot-place.result.1 in
     let spot = spot_as w _ b B x true j c.near_of.result c.spot-place.result.0 p at row c.near_of.ensures.value c.spot-place.ensures in
-    subst (λ (q : BlockView). blocks_in (put_block w b q) ≡ sent c.args.self.now x c.args.amount) (sym c.send.ensures) (sent_at w _ b B x j p c.args.amount at row spot).view
+    subst (λ (q : CellsView). blocks_in (put_block w b q) ≡ sent c.args.self.now x c.args.amount) (sym c.send.ensures) (sent_at w _ b B x j p c.args.amount at row spot).view
 
 pub send-requires-clause-node : goal.send-requires-clause-node
 send-requires-clause-node c = grind (arith, common_steps)

@@ -1,6 +1,6 @@
 use Rattle.std.proofs.lemmas.Grind.{common_steps}
 use Rattle.std.proofs.Common.{◌≡◌, true, sym, subst, arith}
-use Rattle.block_net.specs.Views.{BlockView}
+use Rattle.block_net.specs.Views.{CellsView}
 use Rattle.block_net.specs.Whole.{Whole, put_block, whole_of}
 use Rattle.parcel.specs.Effects.{settled}
 use Rattle.laid_blocks.specs.Views.{blocks_in, IsLaid}
@@ -17,7 +17,7 @@ invariant_of-self c =
     let at = at_read w c.args.self.now b B c.self.invariant c.self.view_is c.row-block.ensures.block c.index_mut.ensures.value in
     let x = c.args.direction in
     let row = row_as w _ b B x true p at c.row-block.ensures c.requires.border in
-    subst (λ (q : BlockView). IsLaid (put_block w b q)) (sym c.settle.ensures) (settled_at w _ b B x p at row).laid
+    subst (λ (q : CellsView). IsLaid (put_block w b q)) (sym c.settle.ensures) (settled_at w _ b B x p at row).laid
 
 pub returns : goal.returns
 returns c =
@@ -29,7 +29,7 @@ returns c =
     let at = at_read w c.args.self.now b B c.self.invariant c.self.view_is c.row-block.ensures.block c.index_mut.ensures.value in
     let x = c.args.direction in
     let row = row_as w _ b B x true p at c.row-block.ensures c.requires.border in
-    subst (λ (q : BlockView). blocks_in (put_block w b q) ≡ settled c.args.self.now x) (sym c.settle.ensures) (settled_at w _ b B x p at row).view
+    subst (λ (q : CellsView). blocks_in (put_block w b q) ≡ settled c.args.self.now x) (sym c.settle.ensures) (settled_at w _ b B x p at row).view
 
 pub settle-requires : goal.settle-requires
 settle-requires c = grind (arith, common_steps)

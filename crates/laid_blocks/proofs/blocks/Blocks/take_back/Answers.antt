@@ -3,7 +3,7 @@ use Rattle.std.proofs.Common.{◌≡◌, true, sym, ap, subst, arith}
 use Rattle.parcel.specs.declared.lane.Lane.{Lane}
 use Rattle.parcel.specs.States as core
 use Rattle.parcel.specs.Soundness.{amount_out}
-use Rattle.block_net.specs.Views.{BlockView, border_in}
+use Rattle.block_net.specs.Views.{CellsView, border_in}
 use Rattle.block_net.specs.Whole.{Whole, put_block, whole_of}
 use Rattle.parcel.specs.Effects.{returned}
 use Rattle.laid_blocks.specs.Views.{blocks_in, IsLaid}
@@ -44,7 +44,7 @@ invariant_of-self c =
     let at = at_read w c.args.self.now b B c.self.invariant c.self.view_is c.row-block.ensures.block c.index_mut.ensures.value in
     let x = c.args.direction in
     let row = row_as w _ b B x true p at c.row-block.ensures c.requires.border in
-    subst (λ (q : BlockView). IsLaid (put_block w b q)) (sym c.take_back.ensures) (returned_at w _ b B x p c.args.amount c.args.told at row (border_spot w _ b B x p at row)).laid
+    subst (λ (q : CellsView). IsLaid (put_block w b q)) (sym c.take_back.ensures) (returned_at w _ b B x p c.args.amount c.args.told at row (border_spot w _ b B x p at row)).laid
 
 pub returns : goal.returns
 returns c =
@@ -56,7 +56,7 @@ returns c =
     let at = at_read w c.args.self.now b B c.self.invariant c.self.view_is c.row-block.ensures.block c.index_mut.ensures.value in
     let x = c.args.direction in
     let row = row_as w _ b B x true p at c.row-block.ensures c.requires.border in
-    subst (λ (q : BlockView). blocks_in (put_block w b q) ≡ returned c.args.self.now x c.args.amount c.args.told) (sym c.take_back.ensures) (returned_at w _ b B x p c.args.amount c.args.told at row (border_spot w _ b B x p at row)).view
+    subst (λ (q : CellsView). blocks_in (put_block w b q) ≡ returned c.args.self.now x c.args.amount c.args.told) (sym c.take_back.ensures) (returned_at w _ b B x p c.args.amount c.args.told at row (border_spot w _ b B x p at row)).view
 
 pub take_back-requires-clause-place : goal.take_back-requires-clause-place
 take_back-requires-clause-place c = grind (arith, common_steps)
