@@ -1,12 +1,12 @@
--- A push within the block keeps what its lists keep.
-use Rattle.std.proofs.Common.{◌≡◌, ℕ, ◌+◌, ◌-◌, ◌<◌, ◌≤◌, List, length, set, get_or, slice_index, sum, Bool, true, false, cond, max, All, sym, ◌∙◌, ap, subst, arith}
+-- What goes on within a block, or leaves it, or comes, keeps what its lists keep.
+use Rattle.std.proofs.Common.{◌≡◌, ℕ, ◌+◌, ◌-◌, ◌<◌, ◌≤◌, List, length, set, get_or, slice_index, sum, Bool, true, false, cond, max, Some, All, sym, ◌∙◌, ap, subst, arith}
 use Rattle.std.proofs.lemmas.List.{length-set}
 use Rattle.std.proofs.lemmas.List.Sums.{sum_by-set}
 use Rattle.std.proofs.lemmas.List.Elements.{All-set, All-get_or}
 use Rattle.std.specs.Option.{is_some}
 use Rattle.block_net.specs.declared.lanes.InnerLane.{InnerLane}
 use Rattle.block_net.specs.declared.lanes.Border.{Border}
-use Rattle.block_net.specs.Views.{CellsView, IsBlock, IsLane, IsBorder, count, excess_in, lane_in, border_in, no_row, no_border, out_of, spare, pushed, accepted}
+use Rattle.block_net.specs.Views.{CellsView, IsBlock, IsLane, IsBorder, count, excess_in, label_in, lane_in, border_in, no_row, no_border, out_of, spare, pushed, sent, accepted}
 
 -- an amount that goes from one number to another leaves the sum
 sum_moved : (xs : List ℕ) (v w a : ℕ) → v < length xs → w < length xs → a ≤ slice_index xs v
@@ -88,4 +88,33 @@ accept_keeps b j a d k lj fits ld =
       borders = subst (λ (n : ℕ). All (IsBorder n b.top) (set b.borders j row)) (sym e1) all;
       residuals = k.residuals;
       total = omega (arith, s1, s2, fits, k.total);
+    }
+
+pub send_keeps : (b : CellsView) (v j a : ℕ) → IsBlock b → v < count b → j < length b.borders → a ≤ excess_in b v → a ≤ (border_in b j).residual
+    → IsBlock (sent b v j a)
+send_keeps b v j a k lv lj le lr =
+    let x = border_in b j in
+    let is = All-get_or (IsBorder (length b.excess) b.top) b.borders j no_border lj k.borders in
+    let row : Border = record x { residual = x.residual - a; flight = Some (record { amount = a; label = label_in b v }) } in
+    let e1 = length-set b.excess v (excess_in b v - a) in
+    let e2 = length-set b.borders j row in
+    let whole : x.residual ≤ x.capacity = omega (arith, is.fits) in
+    let all = All-set (IsBorder (length b.excess) b.top) b.borders j row (record { near = is.near; fits = omega (arith, lr, whole); known = is.known; small = is.small }) k.borders in
+    let s1 = sum_by-set (λ (n : ℕ). n) b.excess v (excess_in b v - a) 0 lv in
+    let s2 = sum_by-set spare b.borders j row no_border lj in
+    record {
+      top = k.top;
+      above = k.above;
+      small = omega (arith, e1, k.small);
+      labels_len = k.labels_len ∙ sym e1;
+      rooms_len = k.rooms_len ∙ sym e1;
+      starts_len = k.starts_len ∙ ap (λ n. n + 1) (sym e1);
+      border_starts_len = k.border_starts_len ∙ ap (λ n. n + 1) (sym e1);
+      within = λ u l. k.within u (omega (arith, l, e1));
+      border_within = λ u l. omega (arith, k.border_within u (omega (arith, l, e1)), e2);
+      labels = k.labels;
+      lanes = subst (λ (n : ℕ). All (IsLane n (length b.lanes)) b.lanes) (sym e1) k.lanes;
+      borders = subst (λ (n : ℕ). All (IsBorder n b.top) (set b.borders j row)) (sym e1) all;
+      residuals = k.residuals;
+      total = omega (arith, s1, s2, le, lr, whole, k.total);
     }

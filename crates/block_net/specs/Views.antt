@@ -4,6 +4,8 @@ use Rattle.std.specs.Option.{is_some}
 use Rattle.flow_network.specs.Limits.{node_limit}
 use Rattle.flow_network.specs.Progress.{top_label}
 use Rattle.parcel.specs.declared.flight.Flight.{Flight}
+use Rattle.parcel.specs.declared.message.Message.{Message}
+use Rattle.parcel.specs.declared.message.Message.TheVariants.{Parcel}
 use Rattle.block_net.specs.declared.lanes.InnerLane.{InnerLane}
 use Rattle.block_net.specs.declared.lanes.Border.{Border}
 
@@ -149,6 +151,11 @@ sent b v j a = record b {
         flight = Some (record { amount = a; label = label_in b v });
       });
 }
+
+-- the parcel of a node's excess on the direction at a place
+abbrev pub parcel_of : CellsView → ℕ → ℕ → Message
+parcel_of b v j =
+    Parcel (border_in b j).direction (min (excess_in b v) (border_in b j).residual) (label_in b v)
 
 -- an amount comes from another block: the direction learns the label, but not while a parcel of its own is
 -- out

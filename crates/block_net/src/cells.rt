@@ -1,8 +1,10 @@
-ghost use Rattle.std.specs.Prelude.{◌≡◌, ◌≢◌, ◌↔◌, IsTrue, ◌+◌, ◌^◌, ◌<◌, ◌≤◌, All, IfOk, None, length};
+ghost use Rattle.std.specs.Prelude.{◌≡◌, ◌≢◌, ◌↔◌, IsTrue, ◌+◌, ◌^◌, ◌<◌, ◌≤◌, min, All, IfOk, None, length};
 ghost use Rattle.flow_network.specs.Limits.{node_limit};
 ghost use Rattle.flow_network.specs.Progress.{top_label};
+ghost use Rattle.parcel.specs.declared.message.Message.TheVariants.{Accepted, Refused};
+ghost use Rattle.parcel.specs.Directions.{opposite};
 ghost use Rattle.block_net.specs.Split.{CanSplit, starts_made, rows_made, block_rows, block_made};
-ghost use Rattle.block_net.specs.Views.{CellsView, count, excess_in, label_in, room_in, lane_in, border_in, first_lane, first_border, out_of, MayPush, MaySend, pushed, given, labelled, sent, accepted, settled, returned, informed, lane_allows, border_allows, highest};
+ghost use Rattle.block_net.specs.Views.{CellsView, count, excess_in, label_in, room_in, lane_in, border_in, first_lane, first_border, out_of, MayPush, MaySend, pushed, given, labelled, sent, accepted, settled, returned, informed, parcel_of, lane_allows, border_allows, highest};
 
 use crate::buckets::Buckets;
 use crate::by_node::outer_starts;
@@ -11,9 +13,9 @@ use crate::ends::bounds;
 use crate::leaving::Leaving;
 use crate::make::starts_from;
 use crate::opening::nodes_from;
-use crate::{Border, InnerLane};
+use crate::{Border, InnerLane, opposite_of};
 use flow_network::Net;
-use parcel::Flight;
+use parcel::{Flight, Message};
 use std::alloc::{AllocError, Global};
 use std::marker::Model;
 
@@ -273,32 +275,32 @@ impl Cells {
         border.residual > 0 && self.label(v) == border.known + 1 && border.flight.is_none()
     }
 
-    /// An amount of a node's excess goes along a direction within the block.
-    pub fn push(&mut self, v: usize, j: usize, amount: u64)
+    /// Excess of a node goes along a direction within the block: as much as the direction can carry.
+    pub fn push(&mut self, v: usize, j: usize)
         requires node { v < count self.old }
         requires place { j < length self.old.lanes }
         requires other { (lane_in self.old j).far ≢ v }
-        requires excess { amount ≤ excess_in self.old v }
-        requires residual { amount ≤ (lane_in self.old j).residual }
-        ensures { self.new ≡ pushed self.old v j amount }
+        ensures { self.new ≡ pushed self.old v j (min (excess_in self.old v) (lane_in self.old j).residual) }
     {
         let lane = self.lanes[j];
+        let amount = u64::min(self.excess[v], lane.residual);
         self.excess[v] -= amount;
         self.excess[lane.far as usize] += amount;
         self.lanes[j].residual -= amount;
         self.lanes[lane.opposite as usize].residual += amount;
     }
 
-    /// An amount of a node's excess goes to the sink.
-    pub fn give(&mut self, v: usize, amount: u64)
-        requires node { v < count self.old }
-        requires excess { amount ≤ excess_in self.old v }
-        requires room { amount ≤ room_in self.old v }
-        ensures given { self.new ≡ given self.old v amount }
+    /// Excess of a node goes to the sink: as much as the node can still give it. Answers that amount.
+    pub fn give(&mut self, v: usize) -> u64
+        requires { v < count self.old }
+        ensures given { self.new ≡ given self.old v (min (excess_in self.old v) (room_in self.old v)) }
+        ensures amount { result ≡ min (excess_in self.old v) (room_in self.old v) }
         ensures place { v < length self.old.rooms }
     {
+        let amount = u64::min(self.excess[v], self.rooms[v]);
         self.excess[v] -= amount;
         self.rooms[v] -= amount;
+        amount
     }
 
     /// A node gets a label.
@@ -320,20 +322,25 @@ impl Cells {
         self.labels.as_mut_slice().copy_from_slice(labels);
     }
 
-    /// An amount of a node's excess leaves for another block.
-    pub fn send(&mut self, v: usize, j: usize, amount: u64)
+    /// Excess of a node leaves for another block: as much as the direction can carry. Answers the parcel.
+    pub fn send(&mut self, v: usize, j: usize) -> Message
         requires node { v < count self.old }
         requires place { j < length self.old.borders }
-        requires excess { amount ≤ excess_in self.old v }
-        requires residual { amount ≤ (border_in self.old j).residual }
         requires idle { (border_in self.old j).flight ≡ None }
-        ensures { self.new ≡ sent self.old v j amount }
+        ensures sent { self.new ≡ sent self.old v j (min (excess_in self.old v) (border_in self.old j).residual) }
+        ensures parcel { result ≡ parcel_of self.old v j }
     {
         let label = self.labels[v];
-        self.excess[v] -= amount;
         let border = self.borders[j].border();
+        let amount = u64::min(self.excess[v], border.residual);
+        self.excess[v] -= amount;
         let flight = Some(Flight { amount, label });
         self.borders[j].set(border.residual - amount, border.known, flight);
+        Message::Parcel {
+            direction: border.direction,
+            amount,
+            label,
+        }
     }
 
     /// How many directions lead to other blocks.
@@ -343,13 +350,30 @@ impl Cells {
         self.borders.len()
     }
 
-    /// An amount comes along the opposite of a direction to another block.
-    pub fn accept(&mut self, j: usize, amount: u64, label: u32)
+    /// Whether a parcel with a label, along the opposite of a direction to another block, is to be taken.
+    pub fn may_accept(&self, j: usize, label: u32) -> bool
+        requires { j < length self.now.borders }
+        ensures { IsTrue result ↔ (label_in self.now (border_in self.now j).near + 1 ≡ label) }
+    {
+        self.label(self.border(j).near as usize) + 1 == label
+    }
+
+    /// Whether a parcel with a label, along the opposite of a direction to another block, is to be sent back.
+    pub fn may_refuse(&self, j: usize, label: u32) -> bool
+        requires { j < length self.now.borders }
+        ensures { IsTrue result ↔ (label ≤ label_in self.now (border_in self.now j).near) }
+    {
+        label <= self.label(self.border(j).near as usize)
+    }
+
+    /// An amount comes along the opposite of a direction to another block. Answers that it was taken.
+    pub fn accept(&mut self, j: usize, amount: u64, label: u32) -> Message
         requires place { j < length self.old.borders }
         requires fits { (border_in self.old j).residual + out_of (border_in self.old j).flight + amount
             ≤ (border_in self.old j).capacity }
         requires label { label ≤ self.old.top }
-        ensures { self.new ≡ accepted self.old j amount label }
+        ensures accepted { self.new ≡ accepted self.old j amount label }
+        ensures answer { result ≡ Accepted (opposite (border_in self.old j).direction) amount }
     {
         let border = self.borders[j].border();
         self.excess[border.near as usize] += amount;
@@ -359,6 +383,26 @@ impl Cells {
             u32::max(border.known, label)
         };
         self.borders[j].set(border.residual + amount, known, border.flight);
+        Message::Accepted {
+            direction: opposite_of(border.direction),
+            amount,
+        }
+    }
+
+    /// The answer that a parcel, along the opposite of a direction to another block, was not taken: with the label that
+    /// stands against it.
+    pub fn refusal(&self, j: usize, amount: u64, label: u32) -> Message
+        requires { j < length self.now.borders }
+        ensures { result ≡ Refused (opposite (border_in self.now j).direction) amount label
+            (label_in self.now (border_in self.now j).near) }
+    {
+        let border = self.border(j);
+        Message::Refused {
+            direction: opposite_of(border.direction),
+            amount,
+            label,
+            told: self.label(border.near as usize),
+        }
     }
 
     /// A direction to another block knows a label of its far end.

@@ -30,6 +30,6 @@ mod parts;
 pub use buckets::Buckets;
 pub use cells::Cells;
 pub use homes::homes_of;
-pub use lanes::{Border, InnerLane};
+pub use lanes::{Border, InnerLane, opposite_of};
 pub use limits::{ARC_LIMIT, BLOCK_LIMIT};
 pub use parts::Parts;

@@ -28,5 +28,5 @@ invariant_of-self c =
 pub overflow_add-index_mut : goal.overflow_add-index_mut
 overflow_add-index_mut c = grind (arith, common_steps)
 
-pub returns : goal.returns
-returns c = grind (arith, common_steps)
+pub returns-clause-accepted : goal.returns-clause-accepted
+returns-clause-accepted c = grind (arith, common_steps)
