@@ -1,5 +1,5 @@
 -- What the calls of a block do to what all blocks show.
-use Rattle.std.proofs.Common.{◌≡◌, ℕ, ◌+◌, ◌-◌, ◌<◌, Bool, true, false, cond, max, not, eqb, List, length, set, get_or, slice_index, Some, None, Option, refl, sym, ◌∙◌, ap, subst, arith}
+use Rattle.std.proofs.Common.{◌≡◌, ℕ, ◌+◌, ◌-◌, ◌<◌, Bool, true, false, cond, min, max, not, eqb, List, length, set, get_or, slice_index, Some, None, Option, refl, sym, ◌∙◌, ap, subst, arith}
 use Rattle.std.specs.Option.{is_some}
 use Rattle.std.proofs.lemmas.List.{length-set, set-set, get_or_read}
 use Rattle.std.proofs.lemmas.Bool.{eqb-true}
@@ -9,15 +9,16 @@ use Rattle.flow_network.specs.Progress.{top}
 use Rattle.parcel.specs.declared.lane.Lane.{Lane}
 use Rattle.parcel.specs.declared.direction.Direction.{Direction}
 use Rattle.parcel.specs.declared.flight.Flight.{Flight}
+use Rattle.parcel.specs.declared.message.Message.TheVariants.{Parcel}
 use Rattle.parcel.specs.Directions.{near, far, opposite}
 use Rattle.parcel.specs.States as core
 use Rattle.parcel.specs.Soundness.{amount_out}
 use Rattle.parcel.proofs.Ends.{near_in, far_in}
-use Rattle.parcel.proofs.Lanes.{near_opposite, border_opposite}
+use Rattle.parcel.proofs.Lanes.{near_opposite, border_opposite, opposite_twice}
 use Rattle.block_net.specs.declared.lanes.InnerLane.{InnerLane}
 use Rattle.block_net.specs.declared.lanes.Border.{Border}
 use Rattle.block_net.specs.Views as block
-use Rattle.block_net.specs.Views.{CellsView, no_row, no_border, count, excess_in, label_in, room_in, lane_in, border_in, out_of}
+use Rattle.block_net.specs.Views.{CellsView, no_row, no_border, count, excess_in, label_in, room_in, lane_in, border_in, out_of, parcel_of}
 use Rattle.block_net.specs.Whole.{Whole, no_block, block_at, block_with, home, place, slot, is_outer, lane_of, border_of, shown_lane, shown_border, put_block}
 use Rattle.block_net.proofs.Tables.{table_at}
 use Rattle.parcel.specs.Effects.{BlocksView, given, labelled, pushed, sent, accepted, settled, returned}
@@ -94,6 +95,13 @@ border_capacity w v b B x j at row =
     ap (λ (q : Border). q.capacity) (border_is w v b B x j at row)
     ∙ ((at.laid.placed.borders x row.direction row.outer).capacity ∙ ap (λ (q : BlocksView). (arc_at q.net x.arc).capacity) at.view)
 
+-- the name of a border direction, and of the one against it
+pub border_names : (w : Whole) (v : BlocksView) (b : ℕ) (B : CellsView) (x : Direction) (j : ℕ) → IsAt w v b B → IsRow w x true b j → (border_in B j).direction ≡ x
+border_names w v b B x j at row = ap (λ (q : Border). q.direction) (border_is w v b B x j at row) ∙ (at.laid.placed.borders x row.direction row.outer).direction
+
+pub back_names : (w : Whole) (v : BlocksView) (b : ℕ) (B : CellsView) (x : Direction) (j : ℕ) → IsAt w v b B → IsRow w (opposite x) true b j → opposite (border_in B j).direction ≡ x
+back_names w v b B x j at row = ap opposite (border_names w v b B (opposite x) j at row) ∙ opposite_twice x
+
 -- the place of the far node, and the slot of the opposite direction
 pub lane_far : (w : Whole) (v : BlocksView) (b : ℕ) (B : CellsView) (x : Direction) (j : ℕ) → IsAt w v b B → IsRow w x false b j → (lane_in B j).far ≡ place w (far w.net x)
 lane_far w v b B x j at row = ap (λ (q : InnerLane). q.far) (lane_is w v b B x j at row) ∙ (at.laid.placed.inner x row.direction row.outer).far
@@ -168,6 +176,29 @@ pub far_other : (w : Whole) (v : BlocksView) (b : ℕ) (B : CellsView) (x : Dire
 far_other w v b B x j p at row spot off same =
     let away = far_spot w v b B x j at row in
     off (same_spot w (near v.net x) (far v.net x) b p at.laid.placed spot (record { node = away.node; home = away.home; place = away.place ∙ same; block = away.block }))
+
+-- ---- how much goes, and the parcel that it goes in
+
+pub given_amount : (w : Whole) (v : BlocksView) (b : ℕ) (B : CellsView) (u p : ℕ) → IsAt w v b B → IsSpot w u b p
+    → min (excess_in B p) (room_in B p) ≡ min (slice_index v.excess u) (slice_index v.rooms u)
+given_amount w v b B u p at spot = rw (excess_read w v b B u p at spot, room_read w v b B u p at spot) refl
+
+pub pushed_amount : (w : Whole) (v : BlocksView) (b : ℕ) (B : CellsView) (x : Direction) (j p : ℕ) → IsAt w v b B → IsRow w x false b j → IsSpot w (near v.net x) b p
+    → min (excess_in B p) (lane_in B j).residual ≡ min (slice_index v.excess (near v.net x)) (core.lane_at v.lanes x).residual
+pushed_amount w v b B x j p at row spot =
+    let residual : (lane_in B j).residual ≡ (core.lane_at v.lanes x).residual = ap (λ (q : Lane). q.residual) (inner_read w v b B x j at row) in
+    rw (excess_read w v b B (near v.net x) p at spot, residual) refl
+
+pub sent_amount : (w : Whole) (v : BlocksView) (b : ℕ) (B : CellsView) (x : Direction) (j p : ℕ) → IsAt w v b B → IsRow w x true b j → IsSpot w (near v.net x) b p
+    → min (excess_in B p) (border_in B j).residual ≡ min (slice_index v.excess (near v.net x)) (core.lane_at v.lanes x).residual
+sent_amount w v b B x j p at row spot =
+    let residual : (border_in B j).residual ≡ (core.lane_at v.lanes x).residual = ap (λ (q : Lane). q.residual) (border_read w v b B x j at row) in
+    rw (excess_read w v b B (near v.net x) p at spot, residual) refl
+
+pub sent_parcel : (w : Whole) (v : BlocksView) (b : ℕ) (B : CellsView) (x : Direction) (j p : ℕ) → IsAt w v b B → IsRow w x true b j → IsSpot w (near v.net x) b p
+    → parcel_of B p j ≡ Parcel x (min (slice_index v.excess (near v.net x)) (core.lane_at v.lanes x).residual) (slice_index v.labels (near v.net x))
+sent_parcel w v b B x j p at row spot =
+    rw (border_names w v b B x j at row, sent_amount w v b B x j p at row spot, label_read w v b B (near v.net x) p at spot) refl
 
 pub out_same : (f : Option Flight) → out_of f ≡ amount_out f
 out_same (Some f) = refl

@@ -1,8 +1,9 @@
-ghost use Rattle.std.specs.Prelude.{IfOk, ◌≡◌, ◌≢◌, ◌↔◌, ◌+◌, ◌*◌, ◌/◌, ◌<◌, ◌≤◌, ℕ, IsTrue, None, true, false, [], length, slice_index};
+ghost use Rattle.std.specs.Prelude.{IfOk, ◌≡◌, ◌≢◌, ◌↔◌, ◌+◌, ◌*◌, ◌/◌, ◌<◌, ◌≤◌, ℕ, IsTrue, None, true, false, min, [], length, slice_index};
 ghost use Rattle.flow_network.specs.Limits.{node_limit};
 ghost use Rattle.flow_network.specs.Cut.{nodes, IsNet};
 ghost use Rattle.flow_network.specs.Preflow.{arc_at};
 ghost use Rattle.flow_network.specs.Progress.{top};
+ghost use Rattle.parcel.specs.declared.message.Message.TheVariants.{Parcel, Accepted, Refused};
 ghost use Rattle.parcel.specs.Directions.{IsDirection, near, far, opposite};
 ghost use Rattle.parcel.specs.States.{lane_at, put_lane, block_of, is_border};
 ghost use Rattle.parcel.specs.Soundness.{amount_out};
@@ -15,9 +16,9 @@ ghost use Rattle.laid_blocks.specs.Views.{blocks_in, IsLaid, IsLong, IsSpot, IsR
 ghost use Rattle.laid_blocks.specs.ByBlock.{IsToldFrom, IsRelabelled};
 
 use crate::by_block::{label_block, tell_block};
-use block_net::{Parts, homes_of};
+use block_net::{Parts, homes_of, opposite_of};
 use flow_network::Net;
-use parcel::{Direction, Lane};
+use parcel::{Direction, Lane, Message};
 use std::alloc::{AllocError, Global};
 use std::marker::Model;
 
@@ -42,16 +43,6 @@ impl Model for Blocks {
     ghost view = { λ b. blocks_in (whole_of b.net b.parts) };
 
     ghost invariant = { λ b. IsLaid (whole_of b.net b.parts) };
-}
-
-/// The direction against a direction.
-pub fn opposite_of(direction: Direction) -> Direction
-    ensures { result ≡ opposite direction }
-{
-    Direction {
-        arc: direction.arc,
-        back: !direction.back,
-    }
 }
 
 /// The block of a node of so many nodes.
@@ -354,15 +345,15 @@ impl Blocks {
         label_block(&self.net, &mut self.parts, block, labels);
     }
 
-    /// An amount of a node's excess goes to the sink.
-    pub fn give(&mut self, v: usize, amount: u64)
-        requires node { v < nodes self.old.net }
-        requires excess { amount ≤ slice_index self.old.excess v }
-        requires room { amount ≤ slice_index self.old.rooms v }
-        ensures { self.new ≡ given self.old v amount }
+    /// Excess of a node goes to the sink: as much as the node can still give it. Answers that amount.
+    pub fn give(&mut self, v: usize) -> u64
+        requires { v < nodes self.old.net }
+        ensures given { self.new ≡ given self.old v
+            (min (slice_index self.old.excess v) (slice_index self.old.rooms v)) }
+        ensures amount { result ≡ min (slice_index self.old.excess v) (slice_index self.old.rooms v) }
     {
         let (block, place) = spot(&self.net, &self.parts, v);
-        self.parts.blocks[block].give(place, amount);
+        self.parts.blocks[block].give(place)
     }
 
     /// A node gets a label.
@@ -375,47 +366,86 @@ impl Blocks {
         self.parts.blocks[block].relabel(place, label);
     }
 
-    /// An amount of the near end's excess goes along a direction within a block to the far end.
-    pub fn push(&mut self, direction: Direction, amount: u64)
+    /// Excess of the near end goes along a direction within a block to the far end: as much as the direction can carry.
+    pub fn push(&mut self, direction: Direction)
         requires direction { IsDirection self.old.net direction }
         requires inner { is_border self.old.net self.old.blocks direction ≡ false }
         requires other { near self.old.net direction ≢ far self.old.net direction }
-        requires excess { amount ≤ slice_index self.old.excess (near self.old.net direction) }
-        requires residual { amount ≤ (lane_at self.old.lanes direction).residual }
-        ensures { self.new ≡ pushed self.old direction amount }
+        ensures { self.new ≡ pushed self.old direction
+            (min (slice_index self.old.excess (near self.old.net direction))
+            (lane_at self.old.lanes direction).residual) }
     {
         let (_, place) = spot(&self.net, &self.parts, near_of(&self.net, direction));
         let (block, slot) = row(&self.net, &self.parts, direction);
-        self.parts.blocks[block].push(place, slot, amount);
+        self.parts.blocks[block].push(place, slot);
     }
 
-    /// An amount of the near end's excess leaves along a direction to another block in a parcel.
-    pub fn send(&mut self, direction: Direction, amount: u64)
+    /// Excess of the near end leaves along a direction to another block: as much as the direction can carry. Answers the
+    /// parcel.
+    pub fn send(&mut self, direction: Direction) -> Message
         requires direction { IsDirection self.old.net direction }
         requires border { is_border self.old.net self.old.blocks direction ≡ true }
-        requires excess { amount ≤ slice_index self.old.excess (near self.old.net direction) }
-        requires residual { amount ≤ (lane_at self.old.lanes direction).residual }
         requires idle { (lane_at self.old.lanes direction).flight ≡ None }
-        ensures { self.new ≡ sent self.old direction amount }
+        ensures sent { self.new ≡ sent self.old direction
+            (min (slice_index self.old.excess (near self.old.net direction))
+            (lane_at self.old.lanes direction).residual) }
+        ensures parcel { result ≡ Parcel direction
+            (min (slice_index self.old.excess (near self.old.net direction))
+            (lane_at self.old.lanes direction).residual)
+            (slice_index self.old.labels (near self.old.net direction)) }
     {
         let (_, place) = spot(&self.net, &self.parts, near_of(&self.net, direction));
         let (block, slot) = row(&self.net, &self.parts, direction);
-        self.parts.blocks[block].send(place, slot, amount);
+        self.parts.blocks[block].send(place, slot)
+    }
+
+    /// Whether a parcel with a label, along a direction from another block, is to be taken, as the far end's block tells.
+    pub fn may_accept(&self, direction: Direction, label: u32) -> bool
+        requires direction { IsDirection self.now.net direction }
+        requires border { is_border self.now.net self.now.blocks direction ≡ true }
+        ensures { IsTrue result ↔ (slice_index self.now.labels (far self.now.net direction) + 1 ≡ label) }
+    {
+        let (block, slot) = row(&self.net, &self.parts, opposite_of(direction));
+        self.parts.blocks[block].may_accept(slot, label)
+    }
+
+    /// Whether a parcel with a label, along a direction from another block, is to be sent back, as the far end's block
+    /// tells.
+    pub fn may_refuse(&self, direction: Direction, label: u32) -> bool
+        requires direction { IsDirection self.now.net direction }
+        requires border { is_border self.now.net self.now.blocks direction ≡ true }
+        ensures { IsTrue result ↔ (label ≤ slice_index self.now.labels (far self.now.net direction)) }
+    {
+        let (block, slot) = row(&self.net, &self.parts, opposite_of(direction));
+        self.parts.blocks[block].may_refuse(slot, label)
     }
 
     /// An amount comes along a direction from another block: its far end gets it, and the opposite direction
-    /// learns the label that it was sent by, but not while a parcel of its own is out.
-    pub fn accept(&mut self, direction: Direction, amount: u64, label: u32)
+    /// learns the label that it was sent by, but not while a parcel of its own is out. Answers that it was taken.
+    pub fn accept(&mut self, direction: Direction, amount: u64, label: u32) -> Message
         requires direction { IsDirection self.old.net direction }
         requires border { is_border self.old.net self.old.blocks direction ≡ true }
         requires fits { (lane_at self.old.lanes (opposite direction)).residual
             + amount_out (lane_at self.old.lanes (opposite direction)).flight + amount
             ≤ (arc_at self.old.net direction.arc).capacity }
         requires label { label ≤ top self.old.net }
-        ensures { self.new ≡ accepted self.old direction amount label }
+        ensures accepted { self.new ≡ accepted self.old direction amount label }
+        ensures answer { result ≡ Accepted direction amount }
     {
         let (block, slot) = row(&self.net, &self.parts, opposite_of(direction));
-        self.parts.blocks[block].accept(slot, amount, label);
+        self.parts.blocks[block].accept(slot, amount, label)
+    }
+
+    /// The answer that a parcel along a direction from another block was not taken: with the label that stands against
+    /// it.
+    pub fn refusal(&self, direction: Direction, amount: u64, label: u32) -> Message
+        requires direction { IsDirection self.now.net direction }
+        requires border { is_border self.now.net self.now.blocks direction ≡ true }
+        ensures { result ≡ Refused direction amount label
+            (slice_index self.now.labels (far self.now.net direction)) }
+    {
+        let (block, slot) = row(&self.net, &self.parts, opposite_of(direction));
+        self.parts.blocks[block].refusal(slot, amount, label)
     }
 
     /// The parcel of a direction to another block was taken.

@@ -6,8 +6,8 @@ ghost use Rattle.block_net.specs.Whole.{block_at, whole_of};
 ghost use Rattle.laid_blocks.specs.Views.{blocks_in, IsLaid, IsRow};
 ghost use Rattle.laid_blocks.specs.ByBlock.{direction_at, told_at, IsTelling, IsLabelled};
 
-use crate::blocks::{near_of, opposite_of};
-use block_net::Parts;
+use crate::blocks::near_of;
+use block_net::{Parts, opposite_of};
 use flow_network::Net;
 
 /// The label of the far end of the direction at a place of a block, among those to other blocks. The block of the far

@@ -2,8 +2,8 @@
 //! node or by a direction.
 //!
 //! A `Blocks` has the net, its blocks, and where each node and each direction stands in them. What is asked of a node or
-//! of a direction goes to the block that holds it (`block_net`): its calls are the effects of events on the blocks, and
-//! of the messages between them it knows nothing.
+//! of a direction goes to the block that holds it (`block_net`): its calls are the effects of events on the blocks. Those
+//! that send something answer the message, and of the ways that it takes they know nothing.
 #![tactic(auto)]
 
 mod blocks;
