@@ -98,11 +98,11 @@ refuse_room {rooms} {s} b c x a d rest held way front above =
     room_after (Refuse b c) (core.put_way s.ways b c rest) c b (Refused x a d (core.label_of s (far s.net x))) held (may_refuse s b c x a d rest way front above) is
     (square_put s.blocks s.ways b c rest held.sound.sized.ways) way.1 way.0 (out_apart s x a d b c (parcel_out b c x a d rest held front))
 
-pub refuse_is : (v : BlocksView) (ways ways1 ways2 : List (List (List Message))) (got b c : ℕ) (x : Direction) (a d w told : ℕ) (rest : List Message)
-    → core.way_at ways b c ≡ Parcel x a d ∷ rest → w ≡ far v.net x → told ≡ slice_index v.labels w → ways1 ≡ core.put_way ways b c rest
-    → ways2 ≡ core.put_message ways1 c b (Refused x a d told) → state_of v ways2 got ≡ events.effect (state_of v ways got) (Refuse b c)
-refuse_is v ways ways1 ways2 got b c x a d w told rest front at_w label took put =
-    rw (put, took, label, at_w) (sym (ap (events.refused (state_of v ways got) b c) front))
+pub refuse_is : (v : BlocksView) (ways ways1 ways2 : List (List (List Message))) (got b c : ℕ) (x : Direction) (a d : ℕ) (rest : List Message)
+    → core.way_at ways b c ≡ Parcel x a d ∷ rest → ways1 ≡ core.put_way ways b c rest
+    → ways2 ≡ core.put_message ways1 c b (Refused x a d (slice_index v.labels (far v.net x))) → state_of v ways2 got ≡ events.effect (state_of v ways got) (Refuse b c)
+refuse_is v ways ways1 ways2 got b c x a d rest front took put =
+    rw (put, took) (sym (ap (events.refused (state_of v ways got) b c) front))
 
 -- ---- the answer in front ends its flight
 

@@ -220,10 +220,7 @@ impl State {
         if !self.may_push_sink(v) {
             return false;
         }
-        let excess = self.blocks.excess(v);
-        let room = self.blocks.room(v);
-        let amount = u64::min(excess, room);
-        self.blocks.give(v, amount);
+        let amount = self.blocks.give(v);
         self.got += amount;
         true
     }
@@ -257,11 +254,7 @@ impl State {
         if !self.may_push_inner(direction) {
             return false;
         }
-        let near = self.blocks.near(direction);
-        let excess = self.blocks.excess(near);
-        let lane = self.blocks.lane(direction);
-        let amount = u64::min(excess, lane.residual);
-        self.blocks.push(direction, amount);
+        self.blocks.push(direction);
         true
     }
 
@@ -275,23 +268,11 @@ impl State {
             return false;
         }
         let near = self.blocks.near(direction);
-        let label = self.blocks.label(near);
-        let excess = self.blocks.excess(near);
-        let lane = self.blocks.lane(direction);
-        let amount = u64::min(excess, lane.residual);
         let from = self.blocks.home(near);
         let far = self.blocks.far(direction);
         let to = self.blocks.home(far);
-        self.blocks.send(direction, amount);
-        self.ways.put(
-            from,
-            to,
-            Message::Parcel {
-                direction,
-                amount,
-                label,
-            },
-        );
+        let parcel = self.blocks.send(direction);
+        self.ways.put(from, to, parcel);
         true
     }
 
@@ -332,10 +313,9 @@ impl State {
         requires label { label_of self.old (far self.old.net direction) + 1 ≡ label }
         ensures { self.new ≡ effect self.old (Accept from to) }
     {
-        self.blocks.accept(direction, amount, label);
+        let accepted = self.blocks.accept(direction, amount, label);
         self.ways.take(from, to);
-        self.ways
-            .put(to, from, Message::Accepted { direction, amount });
+        self.ways.put(to, from, accepted);
     }
 
     /// The parcel in front of a way is sent back.
@@ -353,14 +333,8 @@ impl State {
         requires label { label ≤ label_of self.old (far self.old.net direction) }
         ensures { self.new ≡ effect self.old (Refuse from to) }
     {
-        let told = self.blocks.label(self.blocks.far(direction));
+        let refused = self.blocks.refusal(direction, amount, label);
         self.ways.take(from, to);
-        let refused = Message::Refused {
-            direction,
-            amount,
-            label,
-            told,
-        };
         self.ways.put(to, from, refused);
     }
 
@@ -439,8 +413,7 @@ impl State {
                     label,
                 },
             ) => {
-                let far = self.blocks.far(direction);
-                if self.blocks.label(far) as u64 + 1 != label as u64 {
+                if !self.blocks.may_accept(direction, label) {
                     return false;
                 }
                 self.take_parcel(from, to, direction, amount, label);
@@ -464,8 +437,7 @@ impl State {
                     label,
                 },
             ) => {
-                let far = self.blocks.far(direction);
-                if self.blocks.label(far) < label {
+                if !self.blocks.may_refuse(direction, label) {
                     return false;
                 }
                 self.return_parcel(from, to, direction, amount, label);

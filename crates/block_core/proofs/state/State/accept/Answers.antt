@@ -7,8 +7,8 @@ use Rattle.parcel.specs.Effects.{state_of}
 use Rattle.block_core.proofs.Fronts.{parcel_out}
 use Rattle.block_core.proofs.state.State.accept.Goals as goal
 
-pub far-far-requires : goal.far-far-requires
-far-far-requires c =
+pub may_accept-requires-clause-direction : goal.may_accept-requires-clause-direction
+may_accept-requires-clause-direction c =
     let b = c.args.from in
     let e = c.args.to in
     let m : Message = Parcel c.in-Some-Parcel.direction c.in-Some-Parcel.amount c.in-Some-Parcel.label in
@@ -16,6 +16,16 @@ far-far-requires c =
     let now : core.way_at c.args.self.now.ways b e ≡ m ∷ drop 1 (core.way_at c.args.self.now.ways b e) = grind (arith, common_steps) in
     let front : core.way_at s.ways b e ≡ m ∷ drop 1 (core.way_at s.ways b e) = subst (λ (t : core.State). core.way_at t.ways b e ≡ m ∷ drop 1 (core.way_at t.ways b e)) (sym c.self.view_is) now in
     (parcel_out b e _ _ _ _ c.self.invariant front).direction
+
+pub may_accept-requires-clause-border : goal.may_accept-requires-clause-border
+may_accept-requires-clause-border c =
+    let b = c.args.from in
+    let e = c.args.to in
+    let m : Message = Parcel c.in-Some-Parcel.direction c.in-Some-Parcel.amount c.in-Some-Parcel.label in
+    let s : core.State = state_of c.self.inside.blocks c.self.inside.ways.messages c.self.inside.got in
+    let now : core.way_at c.args.self.now.ways b e ≡ m ∷ drop 1 (core.way_at c.args.self.now.ways b e) = grind (arith, common_steps) in
+    let front : core.way_at s.ways b e ≡ m ∷ drop 1 (core.way_at s.ways b e) = subst (λ (t : core.State). core.way_at t.ways b e ≡ m ∷ drop 1 (core.way_at t.ways b e)) (sym c.self.view_is) now in
+    (parcel_out b e _ _ _ _ c.self.invariant front).border
 
 -- found without help too: written so that a wrong step is refused at once
 pub take_parcel-requires-clause-label : goal.take_parcel-requires-clause-label

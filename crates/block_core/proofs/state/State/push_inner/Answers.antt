@@ -1,10 +1,9 @@
-use Rattle.std.proofs.Common.{sym, subst}
+use Rattle.std.proofs.Common.{◌≡◌, refl, sym, subst}
 use Rattle.parcel.specs.States as core
 use Rattle.parcel.specs.declared.event.Event.TheVariants.{PushInner}
-use Rattle.parcel.specs.Events.{Enabled}
+use Rattle.parcel.specs.Events.{Enabled, effect}
 use Rattle.parcel.specs.Effects.{state_of}
 use Rattle.block_core.proofs.Keeping.{held_next}
-use Rattle.block_core.proofs.Effects.{pushed_is}
 use Rattle.block_core.proofs.state.State.push_inner.Goals as goal
 
 pub invariant_of-self : goal.invariant_of-self
@@ -12,5 +11,5 @@ invariant_of-self c =
     let x = c.args.direction in
     let s : core.State = state_of c.self.inside.blocks c.self.inside.ways.messages c.self.inside.got in
     let on : Enabled s (PushInner x) = subst (λ (t : core.State). Enabled t (PushInner x)) (sym c.self.view_is) (c.may_push_inner.ensures.0 c.if-not-may_push_inner.false) in
-    held_next (PushInner x) _ c.self.invariant on
-    (pushed_is c.self.inside.blocks _ _ _ x _ _ _ c.lane-lane.result c.near-near.ensures.value c.excess-excess.ensures c.lane-lane.ensures c.min-amount.ensures c.push.ensures)
+    let is : state_of c.push.new.self c.self.inside.ways.messages c.self.inside.got ≡ effect s (PushInner x) = rw c.push.ensures refl in
+    held_next (PushInner x) _ c.self.invariant on is

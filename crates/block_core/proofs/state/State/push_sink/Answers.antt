@@ -10,5 +10,5 @@ pub invariant_of-self : goal.invariant_of-self
 invariant_of-self c =
     let s : core.State = state_of c.self.inside.blocks c.self.inside.ways.messages c.self.inside.got in
     let on : Enabled s (PushSink c.args.v) = subst (λ (t : core.State). Enabled t (PushSink c.args.v)) (sym c.self.view_is) (c.may_push_sink.ensures.0 c.if-not-may_push_sink.false) in
-    let is : state_of c.give.new.self c.self.inside.ways.messages (c.self.inside.got + c.min-amount.result) ≡ effect s (PushSink c.args.v) = rw (c.give.ensures, c.min-amount.ensures, c.excess-excess.ensures, c.room-room.ensures) refl in
+    let is : state_of c.give-amount.new.self c.self.inside.ways.messages (c.self.inside.got + c.give-amount.result) ≡ effect s (PushSink c.args.v) = rw (c.give-amount.ensures.given, c.give-amount.ensures.amount) refl in
     held_next (PushSink c.args.v) _ c.self.invariant on is

@@ -1,21 +1,32 @@
-use Rattle.std.proofs.Common.{◌≡◌, ◌≤◌, ◌∷◌, drop, sym, subst}
+use Rattle.std.proofs.Common.{◌≡◌, ◌≤◌, ◌∷◌, drop, sym, ◌∙◌, ap, subst, arith}
+use Rattle.parcel.specs.declared.message.Message.{Message}
 use Rattle.parcel.specs.declared.message.Message.TheVariants.{Parcel}
 use Rattle.parcel.specs.declared.event.Event.TheVariants.{Refuse}
 use Rattle.parcel.specs.Directions.{far}
 use Rattle.parcel.specs.States as core
+use Rattle.parcel.specs.Soundness.{direction_of}
 use Rattle.parcel.specs.Effects.{state_of}
 use Rattle.block_core.proofs.Keeping.{held_next}
 use Rattle.block_core.proofs.Fronts.{parcel_out, parcel_arc, may_refuse, refuse_room, refuse_is}
 use Rattle.block_core.proofs.state.State.return_parcel.Goals as goal
 
-pub far-requires : goal.far-requires
-far-requires c =
+pub refusal-refused-requires-clause-direction : goal.refusal-refused-requires-clause-direction
+refusal-refused-requires-clause-direction c =
     let b = c.args.from in
     let e = c.args.to in
     let x = c.args.direction in
     let s : core.State = state_of c.self.inside.blocks c.self.inside.ways.messages c.self.inside.got in
     let front : core.way_at s.ways b e ≡ Parcel x c.args.amount c.args.label ∷ drop 1 (core.way_at s.ways b e) = subst (λ (t : core.State). core.way_at t.ways b e ≡ Parcel x c.args.amount c.args.label ∷ drop 1 (core.way_at t.ways b e)) (sym c.self.view_is) c.requires.front in
     (parcel_out b e x c.args.amount c.args.label _ c.self.invariant front).direction
+
+pub refusal-refused-requires-clause-border : goal.refusal-refused-requires-clause-border
+refusal-refused-requires-clause-border c =
+    let b = c.args.from in
+    let e = c.args.to in
+    let x = c.args.direction in
+    let s : core.State = state_of c.self.inside.blocks c.self.inside.ways.messages c.self.inside.got in
+    let front : core.way_at s.ways b e ≡ Parcel x c.args.amount c.args.label ∷ drop 1 (core.way_at s.ways b e) = subst (λ (t : core.State). core.way_at t.ways b e ≡ Parcel x c.args.amount c.args.label ∷ drop 1 (core.way_at t.ways b e)) (sym c.self.view_is) c.requires.front in
+    (parcel_out b e x c.args.amount c.args.label _ c.self.invariant front).border
 
 pub put-requires-clause-arc : goal.put-requires-clause-arc
 put-requires-clause-arc c =
@@ -24,7 +35,8 @@ put-requires-clause-arc c =
     let x = c.args.direction in
     let s : core.State = state_of c.self.inside.blocks c.self.inside.ways.messages c.self.inside.got in
     let front : core.way_at s.ways b e ≡ Parcel x c.args.amount c.args.label ∷ drop 1 (core.way_at s.ways b e) = subst (λ (t : core.State). core.way_at t.ways b e ≡ Parcel x c.args.amount c.args.label ∷ drop 1 (core.way_at t.ways b e)) (sym c.self.view_is) c.requires.front in
-    parcel_arc b e x c.args.amount c.args.label _ c.self.invariant front
+    let arc = parcel_arc b e x c.args.amount c.args.label _ c.self.invariant front in
+    omega (arith, arc, ap (λ (m : Message). (direction_of m).arc) c.refusal-refused.ensures)
 
 pub put-requires-clause-room : goal.put-requires-clause-room
 put-requires-clause-room c =
@@ -46,5 +58,6 @@ invariant_of-self c =
     let front : core.way_at s.ways b e ≡ Parcel x c.args.amount c.args.label ∷ drop 1 (core.way_at s.ways b e) = subst (λ (t : core.State). core.way_at t.ways b e ≡ Parcel x c.args.amount c.args.label ∷ drop 1 (core.way_at t.ways b e)) (sym c.self.view_is) c.requires.front in
     let way = subst (λ (t : core.State). core.IsWay t b e) (sym c.self.view_is) c.requires.way in
     let above = subst (λ (t : core.State). c.args.label ≤ core.label_of t (far t.net x)) (sym c.self.view_is) c.requires.label in
+    let put = c.put.ensures.messages ∙ ap (core.put_message c.take.new.self.messages e b) c.refusal-refused.ensures in
     rw (c.put.ensures.rooms, c.take.ensures.rooms) (held_next (Refuse b e) _ c.self.invariant (may_refuse s b e x c.args.amount c.args.label _ way front above)
-    (refuse_is c.self.inside.blocks _ _ _ _ b e x c.args.amount c.args.label _ _ _ front c.far.ensures.value c.label-told.ensures.value c.take.ensures.messages c.put.ensures.messages))
+    (refuse_is c.self.inside.blocks _ _ _ _ b e x c.args.amount c.args.label _ front c.take.ensures.messages put))

@@ -1,4 +1,4 @@
-use Rattle.std.proofs.Common.{◌≡◌, sym, ◌∙◌, ap, subst}
+use Rattle.std.proofs.Common.{◌≡◌, slice_index, refl, sym, ◌∙◌, ap, subst}
 use Rattle.parcel.specs.States as core
 use Rattle.parcel.specs.declared.event.Event.TheVariants.{Send}
 use Rattle.parcel.specs.Events.{Enabled}
@@ -21,8 +21,10 @@ invariant_of-self c =
     let x = c.args.direction in
     let s : core.State = state_of c.self.inside.blocks c.self.inside.ways.messages c.self.inside.got in
     let on : Enabled s (Send x) = subst (λ (t : core.State). Enabled t (Send x)) (sym c.self.view_is) (c.may_send.ensures.0 c.if-not-may_send.false) in
-    let made = sent_is c.self.inside.blocks c.send.new.self c.self.inside.ways.messages c.put.new.self.messages c.self.inside.got x
-    c.near-near.result c.far-far.result c.label-label.result c.excess-excess.result c.min-amount.result c.home-from.result c.home-to.result c.lane-lane.result
-    c.near-near.ensures.value c.far-far.ensures.value c.label-label.ensures.value c.excess-excess.ensures c.lane-lane.ensures c.min-amount.ensures
-    c.home-from.ensures.value c.home-to.ensures.value c.send.ensures c.put.ensures.messages in
+    let parcel = c.send-parcel.ensures.parcel in
+    let put = c.put.ensures.messages ∙ ap (core.put_message c.self.inside.ways.messages c.home-from.result c.home-to.result) parcel in
+    let made = sent_is c.self.inside.blocks c.send-parcel.new.self c.self.inside.ways.messages c.put.new.self.messages c.self.inside.got x
+    c.near-near.result c.far-far.result _ _ _ c.home-from.result c.home-to.result _ c.near-near.ensures.value c.far-far.ensures.value
+    (ap (slice_index c.self.inside.blocks.labels) (sym c.near-near.ensures.value)) (ap (slice_index c.self.inside.blocks.excess) (sym c.near-near.ensures.value)) refl refl
+    c.home-from.ensures.value c.home-to.ensures.value c.send-parcel.ensures.sent put in
     rw c.put.ensures.rooms (held_next (Send x) _ c.self.invariant on made)
