@@ -3,11 +3,11 @@ use Rattle.std.proofs.Common.{◌≡◌, ℕ, ◌-◌, ◌<◌, inl, inr, min, L
 use mathlib.Core.Path.{fun_ext}
 use Rattle.std.proofs.lemmas.Bool.{cases_eq, cases_lt}
 use Rattle.std.proofs.lemmas.List.{length-set, set_past}
-use Rattle.parcel.specs.declared.message.Message.TheVariants.{Parcel}
+use Rattle.parcel.specs.declared.message.Message.{Message}
 use Rattle.block_net.specs.declared.lanes.Border.{Border}
-use Rattle.block_net.specs.Views.{MayPush, MaySend, CellsView, excess_in, label_in, room_in, lane_in, border_in, no_border, pushed, given, labelled, sent, highest}
+use Rattle.block_net.specs.Views.{MayPush, MaySend, CellsView, excess_in, label_in, room_in, lane_in, border_in, no_border, pushed, given, labelled, sent, parcel_of, highest}
 use Rattle.discharge.specs.Seen.{Seen, IsLook, IsPut, add_to}
-use Rattle.discharge.specs.Steps.{Push, Give, Rise, Send, IsOfNode, IsBorderOfNode, parcel_of}
+use Rattle.discharge.specs.Steps.{Push, Give, Rise, Send, IsOfNode, IsBorderOfNode}
 use Rattle.discharge.specs.Active.{IsActive}
 use Rattle.discharge.specs.Works.{IsAlike, DoesEvents}
 use Rattle.discharge.proofs.Runs.{does_one, look_sent, look_taken}
@@ -24,10 +24,9 @@ to_kept xs j row e i = elim (cases_eq i j) [
 
 -- ---- the sink
 
-pub does_give : (b b' : CellsView) (s : Seen) (v a : ℕ) → IsActive b v → 0 < room_in b v → label_in b v ≡ 1 → a ≡ min (excess_in b v) (room_in b v) → b' ≡ given b v a
+pub does_give : (b b' : CellsView) (s : Seen) (v : ℕ) → IsActive b v → 0 < room_in b v → label_in b v ≡ 1 → b' ≡ given b v (min (excess_in b v) (room_in b v))
     → DoesEvents b s 1 b' s
-does_give b b' s v a active room label is made =
-    let at : b' ≡ given b v (min (excess_in b v) (room_in b v)) = made ∙ ap (given b v) is in
+does_give b b' s v active room label made =
     let alike : IsAlike b (given b v (min (excess_in b v) (room_in b v))) = record {
       top = refl;
       count = length-set b.excess v _;
@@ -37,15 +36,14 @@ does_give b b' s v a active room label is made =
       borders = refl;
       tos = λ i. refl;
     } in
-    subst (λ (x : CellsView). DoesEvents b s 1 x s) (sym at) (does_one b _ s s (Give v) (active, room, label) refl alike)
+    subst (λ (x : CellsView). DoesEvents b s 1 x s) (sym made) (does_one b _ s s (Give v) (active, room, label) refl alike)
 
 -- ---- a direction within the block
 
-pub does_push : (b b' : CellsView) (s : Seen) (v j a : ℕ) → IsActive b v → IsOfNode b v j → MayPush b v j → a ≡ min (excess_in b v) (lane_in b j).residual → b' ≡ pushed b v j a
+pub does_push : (b b' : CellsView) (s : Seen) (v j : ℕ) → IsActive b v → IsOfNode b v j → MayPush b v j → b' ≡ pushed b v j (min (excess_in b v) (lane_in b j).residual)
     → DoesEvents b s 1 b' s
-does_push b b' s v j a active lane may is made =
+does_push b b' s v j active lane may made =
     let z = min (excess_in b v) (lane_in b j).residual in
-    let at : b' ≡ pushed b v j z = made ∙ ap (pushed b v j) is in
     let less = set b.excess v (excess_in b v - z) in
     let taken = set b.lanes j (record (lane_in b j) { residual = (lane_in b j).residual - z }) in
     let alike : IsAlike b (pushed b v j z) = record {
@@ -57,17 +55,15 @@ does_push b b' s v j a active lane may is made =
       borders = refl;
       tos = λ i. refl;
     } in
-    subst (λ (x : CellsView). DoesEvents b s 1 x s) (sym at) (does_one b _ s s (Push v j) (active, lane, may) refl alike)
+    subst (λ (x : CellsView). DoesEvents b s 1 x s) (sym made) (does_one b _ s s (Push v j) (active, lane, may) refl alike)
 
 -- ---- another block
 
-pub does_send : (b b' : CellsView) (s t u : Seen) (v j a d : ℕ) (x : Border) → IsActive b v → IsBorderOfNode b v j → MaySend b v j → x ≡ border_in b j → d ≡ label_in b v
-    → a ≡ min (excess_in b v) x.residual → b' ≡ sent b v j a → IsLook s t → IsPut x.to (Parcel x.direction a d) t u
+pub does_send : (b b' : CellsView) (s t u : Seen) (v j : ℕ) (x : Border) (m : Message) → IsActive b v → IsBorderOfNode b v j → MaySend b v j → x ≡ border_in b j → m ≡ parcel_of b v j
+    → b' ≡ sent b v j (min (excess_in b v) (border_in b j).residual) → IsLook s t → IsPut x.to m t u
     → DoesEvents b s 1 b' u
-does_send b b' s t u v j a d x active border may is_x is_d is made look put =
+does_send b b' s t u v j x m active border may is_x is_m made look put =
     let z = min (excess_in b v) (border_in b j).residual in
-    let is_a : a ≡ z = is ∙ ap (λ (y : Border). min (excess_in b v) y.residual) is_x in
-    let at : b' ≡ sent b v j z = made ∙ ap (sent b v j) is_a in
     let alike : IsAlike b (sent b v j z) = record {
       top = refl;
       count = length-set b.excess v _;
@@ -77,9 +73,9 @@ does_send b b' s t u v j a d x active border may is_x is_d is made look put =
       borders = length-set b.borders j _;
       tos = to_kept b.borders j _ refl;
     } in
-    let sent_is : u.sent ≡ add_to s.sent (border_in b j).to (parcel_of b v j) = fun_ext put.sent ∙ rw (look_sent s t look, is_a, is_d, is_x) refl in
+    let sent_is : u.sent ≡ add_to s.sent (border_in b j).to (parcel_of b v j) = fun_ext put.sent ∙ rw (look_sent s t look, is_m, is_x) refl in
     let taken_is : u.taken ≡ s.taken = fun_ext put.taken ∙ look_taken s t look in
-    subst (λ (y : CellsView). DoesEvents b s 1 y u) (sym at) (does_one b _ s u (Send v j) (active, border, may) (rw (sent_is, taken_is) refl) alike)
+    subst (λ (y : CellsView). DoesEvents b s 1 y u) (sym made) (does_one b _ s u (Send v j) (active, border, may) (rw (sent_is, taken_is) refl) alike)
 
 -- ---- a label
 

@@ -1,10 +1,12 @@
 -- One message taken in code is one event of the block.
-use Rattle.std.proofs.Common.{◌≡◌, ℕ, ◌+◌, max, cond, None, refl, sym, ◌∙◌, subst}
+use Rattle.std.proofs.Common.{◌≡◌, ℕ, ◌+◌, max, cond, None, refl, sym, ◌∙◌, ap, subst}
 use Rattle.std.specs.Option.{is_some}
 use mathlib.Core.Path.{fun_ext}
 use Rattle.std.proofs.lemmas.List.{length-set}
 use Rattle.parcel.specs.declared.direction.Direction.{Direction}
+use Rattle.parcel.specs.declared.message.Message.{Message}
 use Rattle.parcel.specs.declared.message.Message.TheVariants.{Parcel, Accepted, Refused}
+use Rattle.parcel.specs.Directions.{opposite}
 use Rattle.block_net.specs.declared.lanes.Border.{Border}
 use Rattle.block_net.specs.Views.{CellsView, label_in, border_in, accepted, settled, returned}
 use Rattle.discharge.specs.declared.letter.Letter.{Letter}
@@ -14,9 +16,9 @@ use Rattle.discharge.specs.Works.{IsAlike, DoesEvents}
 use Rattle.discharge.proofs.Runs.{does_one, alike_same, look_sent, look_taken}
 use Rattle.discharge.proofs.Doing.{to_kept}
 
-pub does_accept : (b b' : CellsView) (s t u w : Seen) (c : ℕ) (x : Direction) (a d j : ℕ) → MayAccept b c j (Parcel x a d) → b' ≡ accepted b j a d
-    → IsLook s t → IsPut c (Accepted x a) t u → IsTake c (Parcel x a d) u w → DoesEvents b s 1 b' w
-does_accept b b' s t u w c x a d j may made look put take =
+pub does_accept : (b b' : CellsView) (s t u w : Seen) (c : ℕ) (x : Direction) (a d j : ℕ) (m : Message) → MayAccept b c j (Parcel x a d) → b' ≡ accepted b j a d
+    → m ≡ Accepted (opposite (border_in b j).direction) a → IsLook s t → IsPut c m t u → IsTake c (Parcel x a d) u w → DoesEvents b s 1 b' w
+does_accept b b' s t u w c x a d j m may made is look put take =
     let y = border_in b j in
     let row : Border = record y { residual = y.residual + a; known = cond (is_some y.flight) y.known (max y.known d) } in
     let alike : IsAlike b (accepted b j a d) = record {
@@ -28,15 +30,18 @@ does_accept b b' s t u w c x a d j may made look put take =
       borders = length-set b.borders j row;
       tos = to_kept b.borders j row refl;
     } in
-    let sent_is : w.sent ≡ add_to s.sent c (Accepted x a) = fun_ext take.sent ∙ (fun_ext put.sent ∙ rw (look_sent s t look) refl) in
+    let answer : m ≡ Accepted x a = is ∙ ap (λ (q : Direction). Accepted q a) may.1 in
+    let sent_is : w.sent ≡ add_to s.sent c (Accepted x a) = fun_ext take.sent ∙ (fun_ext put.sent ∙ rw (look_sent s t look, answer) refl) in
     let taken_is : w.taken ≡ add_to s.taken c (Parcel x a d) = fun_ext take.taken ∙ rw (fun_ext put.taken, look_taken s t look) refl in
     let letter : Letter = record { message = Parcel x a d; place = j } in
     subst (λ (z : CellsView). DoesEvents b s 1 z w) (sym made) (does_one b _ s w (Accept c letter) may (rw (sent_is, taken_is) refl) alike)
 
-pub does_refuse : (b : CellsView) (s t u w : Seen) (c : ℕ) (x : Direction) (a d j told : ℕ) → MayRefuse b c j (Parcel x a d) → told ≡ label_in b (border_in b j).near
-    → IsLook s t → IsPut c (Refused x a d told) t u → IsTake c (Parcel x a d) u w → DoesEvents b s 1 b w
-does_refuse b s t u w c x a d j told may is look put take =
-    let sent_is : w.sent ≡ add_to s.sent c (Refused x a d (label_in b (border_in b j).near)) = fun_ext take.sent ∙ (fun_ext put.sent ∙ rw (look_sent s t look, is) refl) in
+pub does_refuse : (b : CellsView) (s t u w : Seen) (c : ℕ) (x : Direction) (a d j : ℕ) (m : Message) → MayRefuse b c j (Parcel x a d)
+    → m ≡ Refused (opposite (border_in b j).direction) a d (label_in b (border_in b j).near) → IsLook s t → IsPut c m t u → IsTake c (Parcel x a d) u w → DoesEvents b s 1 b w
+does_refuse b s t u w c x a d j m may is look put take =
+    let told = label_in b (border_in b j).near in
+    let answer : m ≡ Refused x a d told = is ∙ ap (λ (q : Direction). Refused q a d told) may.1 in
+    let sent_is : w.sent ≡ add_to s.sent c (Refused x a d told) = fun_ext take.sent ∙ (fun_ext put.sent ∙ rw (look_sent s t look, answer) refl) in
     let taken_is : w.taken ≡ add_to s.taken c (Parcel x a d) = fun_ext take.taken ∙ rw (fun_ext put.taken, look_taken s t look) refl in
     let letter : Letter = record { message = Parcel x a d; place = j } in
     does_one b b s w (Refuse c letter) may (rw (sent_is, taken_is) refl) (alike_same b)

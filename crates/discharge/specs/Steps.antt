@@ -4,7 +4,7 @@ use Rattle.parcel.specs.declared.message.Message.{Message}
 use Rattle.parcel.specs.declared.message.Message.TheVariants.{Parcel, Accepted, Refused}
 use Rattle.parcel.specs.Directions.{opposite}
 use Rattle.parcel.specs.Workers.{IsFair}
-use Rattle.block_net.specs.Views.{CellsView, excess_in, label_in, room_in, lane_in, border_in, first_lane, first_border, out_of, MayPush, MaySend, pushed, given, labelled, sent, accepted, settled, returned, highest}
+use Rattle.block_net.specs.Views.{CellsView, excess_in, label_in, room_in, lane_in, border_in, first_lane, first_border, out_of, MayPush, MaySend, pushed, given, labelled, sent, accepted, settled, returned, parcel_of, highest}
 use Rattle.discharge.specs.Active.{IsActive}
 use Rattle.discharge.specs.declared.letter.Letter.{Letter}
 use Rattle.discharge.specs.Seen.{Seen, add_to}
@@ -82,11 +82,6 @@ pub record Held : Type 0 where
 
 abbrev pub held : CellsView → Seen → Held
 held b s = record { block = b; sent = s.sent; taken = s.taken }
-
--- the parcel of a node's excess on the direction at a place
-abbrev pub parcel_of : CellsView → ℕ → ℕ → Message
-parcel_of b v j =
-    Parcel (border_in b j).direction (min (excess_in b v) (border_in b j).residual) (label_in b v)
 
 abbrev pub accepting : Held → ℕ → ℕ → Message → Held
 accepting h c j (Parcel x a d) = record {

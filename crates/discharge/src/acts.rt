@@ -6,7 +6,6 @@ ghost use Rattle.discharge.specs.Steps.{IsOfNode, IsBorderOfNode, IsSure, Send};
 ghost use Rattle.discharge.specs.Works.{DoesEvents};
 
 use crate::{Bucketed, Letter, Ways};
-use parcel::Message;
 
 /// Excess of an active node goes to the sink, where that is enabled.
 pub(crate) fn try_give(cells: &mut Bucketed, v: usize) -> u32
@@ -19,8 +18,7 @@ pub(crate) fn try_give(cells: &mut Bucketed, v: usize) -> u32
     if !cells.cells().may_give(v) {
         return 0;
     }
-    let amount = u64::min(cells.excess(v), cells.room(v));
-    cells.give(v, amount);
+    cells.give(v);
     1
 }
 
@@ -37,8 +35,7 @@ pub(crate) fn try_push(cells: &mut Bucketed, v: usize, j: usize) -> u32
     if !cells.cells().may_push(v, j) {
         return 0;
     }
-    let amount = u64::min(cells.excess(v), cells.lane(j).residual);
-    cells.push(v, j, amount);
+    cells.push(v, j);
     1
 }
 
@@ -57,17 +54,10 @@ pub(crate) fn try_send<W: Ways>(cells: &mut Bucketed, ways: &mut W, v: usize, j:
         return 0;
     }
     let border = cells.border(j);
-    let label = cells.label(v);
     if !ways.room(border.to) {
         return 0;
     }
-    let amount = u64::min(cells.excess(v), border.residual);
-    cells.send(v, j, amount);
-    let message = Message::Parcel {
-        direction: border.direction,
-        amount,
-        label,
-    };
+    let message = cells.send(v, j);
     ways.put(
         border.to,
         Letter {

@@ -1,13 +1,16 @@
-ghost use Rattle.std.specs.Prelude.{◌≡◌, ◌≢◌, ◌↔◌, ◌⊎◌, ◌+◌, ◌^◌, ◌<◌, ◌≤◌, ℕ, None, IsTrue, IfOk, IfSome, MatchOption, length};
+ghost use Rattle.std.specs.Prelude.{◌≡◌, ◌≢◌, ◌↔◌, ◌⊎◌, ◌+◌, ◌^◌, ◌<◌, ◌≤◌, ℕ, None, IsTrue, IfOk, IfSome, MatchOption, min, length};
 ghost use Rattle.flow_network.specs.Limits.{node_limit};
 ghost use Rattle.flow_network.specs.Progress.{top_label};
-ghost use Rattle.block_net.specs.Views.{count, excess_in, label_in, room_in, lane_in, border_in, first_lane, first_border, out_of, highest, pushed, given, labelled, sent, accepted, settled, returned};
+ghost use Rattle.parcel.specs.declared.message.Message.TheVariants.{Accepted};
+ghost use Rattle.parcel.specs.Directions.{opposite};
+ghost use Rattle.block_net.specs.Views.{count, excess_in, label_in, room_in, lane_in, border_in, first_lane, first_border, out_of, highest, pushed, given, labelled, sent, accepted, settled, returned, parcel_of};
 ghost use Rattle.block_net.specs.Standing.{nodes};
 ghost use Rattle.discharge.specs.Active.{IsActive};
 ghost use Rattle.discharge.specs.Standing.{IsAside, HasHighestBucket, KeepsAside, StaysAside, waiting};
 
 use crate::renewing::{is_active, move_up, renew};
 use block_net::{Border, Buckets, Cells, InnerLane};
+use parcel::Message;
 use std::alloc::{AllocError, Global};
 use std::marker::Model;
 
@@ -204,33 +207,31 @@ impl Bucketed {
         self.buckets.set_aside(v);
     }
 
-    /// An amount of a node's excess goes along a direction within the block.
-    pub fn push(&mut self, v: usize, j: usize, amount: u64)
+    /// Excess of a node goes along a direction within the block: as much as the direction can carry.
+    pub fn push(&mut self, v: usize, j: usize)
         requires node { v < count self.old.block }
         requires place { j < length self.old.block.lanes }
         requires other { (lane_in self.old.block j).far ≢ v }
-        requires excess { amount ≤ excess_in self.old.block v }
-        requires residual { amount ≤ (lane_in self.old.block j).residual }
-        ensures block { self.new.block ≡ pushed self.old.block v j amount }
+        ensures block { self.new.block ≡ pushed self.old.block v j
+            (min (excess_in self.old.block v) (lane_in self.old.block j).residual) }
         ensures aside { KeepsAside self.old self.new }
         ensures stays { StaysAside self.old self.new }
     {
         let far = self.cells.lane(j).far as usize;
-        self.cells.push(v, j, amount);
+        self.cells.push(v, j);
         renew(&self.cells, &mut self.buckets, v);
         renew(&self.cells, &mut self.buckets, far);
     }
 
-    /// An amount of a node's excess goes to the sink.
-    pub fn give(&mut self, v: usize, amount: u64)
-        requires node { v < count self.old.block }
-        requires excess { amount ≤ excess_in self.old.block v }
-        requires room { amount ≤ room_in self.old.block v }
-        ensures block { self.new.block ≡ given self.old.block v amount }
+    /// Excess of a node goes to the sink: as much as the node can still give it.
+    pub fn give(&mut self, v: usize)
+        requires { v < count self.old.block }
+        ensures block { self.new.block ≡ given self.old.block v
+            (min (excess_in self.old.block v) (room_in self.old.block v)) }
         ensures aside { KeepsAside self.old self.new }
         ensures stays { StaysAside self.old self.new }
     {
-        self.cells.give(v, amount);
+        self.cells.give(v);
         renew(&self.cells, &mut self.buckets, v);
     }
 
@@ -256,34 +257,37 @@ impl Bucketed {
         }
     }
 
-    /// An amount of a node's excess leaves for another block.
-    pub fn send(&mut self, v: usize, j: usize, amount: u64)
+    /// Excess of a node leaves for another block: as much as the direction can carry. Answers the parcel.
+    pub fn send(&mut self, v: usize, j: usize) -> Message
         requires node { v < count self.old.block }
         requires place { j < length self.old.block.borders }
-        requires excess { amount ≤ excess_in self.old.block v }
-        requires residual { amount ≤ (border_in self.old.block j).residual }
         requires idle { (border_in self.old.block j).flight ≡ None }
-        ensures block { self.new.block ≡ sent self.old.block v j amount }
+        ensures block { self.new.block ≡ sent self.old.block v j
+            (min (excess_in self.old.block v) (border_in self.old.block j).residual) }
+        ensures parcel { result ≡ parcel_of self.old.block v j }
         ensures aside { KeepsAside self.old self.new }
         ensures stays { StaysAside self.old self.new }
     {
-        self.cells.send(v, j, amount);
+        let parcel = self.cells.send(v, j);
         renew(&self.cells, &mut self.buckets, v);
+        parcel
     }
 
-    /// An amount comes along the opposite of a direction to another block.
-    pub fn accept(&mut self, j: usize, amount: u64, label: u32)
+    /// An amount comes along the opposite of a direction to another block. Answers that it was taken.
+    pub fn accept(&mut self, j: usize, amount: u64, label: u32) -> Message
         requires place { j < length self.old.block.borders }
         requires fits { (border_in self.old.block j).residual + out_of (border_in self.old.block j).flight + amount
             ≤ (border_in self.old.block j).capacity }
         requires label { label ≤ self.old.block.top }
         ensures block { self.new.block ≡ accepted self.old.block j amount label }
+        ensures answer { result ≡ Accepted (opposite (border_in self.old.block j).direction) amount }
         ensures aside { KeepsAside self.old self.new }
         ensures stays { StaysAside self.old self.new }
     {
         let near = self.cells.border(j).near as usize;
-        self.cells.accept(j, amount, label);
+        let accepted = self.cells.accept(j, amount, label);
         renew(&self.cells, &mut self.buckets, near);
+        accepted
     }
 
     /// The parcel of a direction was taken.

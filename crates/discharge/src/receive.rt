@@ -40,7 +40,7 @@ fn may_accept(
     if !are_opposite(border.direction, direction) {
         return false;
     }
-    if cells.label(border.near as usize) + 1 != label || cells.top() < label {
+    if !cells.may_accept(place as usize, label) || cells.top() < label {
         return false;
     }
     let held = match border.flight {
@@ -65,7 +65,7 @@ fn may_refuse(
         return false;
     }
     let border = cells.border(place as usize);
-    are_opposite(border.direction, direction) && label <= cells.label(border.near as usize)
+    are_opposite(border.direction, direction) && cells.may_refuse(place as usize, label)
 }
 
 /// Takes the parcel in front, where that is enabled and there is room for the answer: one event or none.
@@ -94,29 +94,24 @@ fn receive_parcel<W: Ways>(
     if !ways.room(from) {
         return 0;
     }
-    let border = cells.border(place as usize);
+    let back = cells.border(place as usize).opposite;
     if accepts {
+        let accepted = cells.accept(place as usize, amount, label);
         ways.put(
             from,
             Letter {
-                message: Message::Accepted { direction, amount },
-                place: border.opposite,
+                message: accepted,
+                place: back,
             },
         );
         ways.take(from);
-        cells.accept(place as usize, amount, label);
     } else {
-        let told = cells.label(border.near as usize);
+        let refused = cells.cells().refusal(place as usize, amount, label);
         ways.put(
             from,
             Letter {
-                message: Message::Refused {
-                    direction,
-                    amount,
-                    label,
-                    told,
-                },
-                place: border.opposite,
+                message: refused,
+                place: back,
             },
         );
         ways.take(from);
