@@ -18,8 +18,7 @@ fn give(cells: &mut Cells, v: usize)
     requires { v < count cells.old }
     ensures { Opens cells.old cells.new }
 {
-    let amount = u64::min(cells.excess(v), cells.room(v));
-    cells.give(v, amount);
+    cells.give(v);
 }
 
 /// Sends along the direction at a place what its node has and the direction can still carry.
@@ -30,9 +29,8 @@ fn send(cells: &mut Cells, v: usize, j: usize)
     ensures { Opens cells.old cells.new }
 {
     let lane = cells.lane(j);
-    let amount = u64::min(cells.excess(v), lane.residual);
-    if amount > 0 && lane.far as usize != v {
-        cells.push(v, j, amount);
+    if lane.residual > 0 && lane.far as usize != v {
+        cells.push(v, j);
     }
 }
 

@@ -108,7 +108,7 @@ fn active_nodes_by_their_labels(rt: HostRuntime) -> Result<(), Fail> {
     block.restore_aside();
     assert!(rt; block.highest() == Some(2) && block.len() == 4);
     assert!(rt; block.excess(2) == 3 && block.room(2) == 3);
-    block.give(2, 3);
+    block.give(2);
     assert!(rt; block.highest() == Some(0));
     let mut block = Bucketed::new(rt.alloc(), block.into_cells())?;
     let order = set_aside_all(&rt, &mut block)?;

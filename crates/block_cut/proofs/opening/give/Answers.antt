@@ -1,8 +1,9 @@
-use Rattle.std.proofs.Common.{arith}
+use Rattle.std.proofs.Common.{min, arith}
+use Rattle.block_net.specs.Views.{excess_in, room_in}
 use Rattle.block_cut.proofs.Opened.{given_opens}
 use Rattle.block_cut.proofs.opening.give.Goals as goal
 
 pub returns : goal.returns
 returns c =
-    rw (c.give.ensures.given) (given_opens c.args.cells.now c.args.v c.min-amount.result c.requires c.give.ensures.place
-    (omega (arith, c.min-amount.ensures, c.excess.ensures)) (omega (arith, c.min-amount.ensures, c.room.ensures)))
+    let B = c.args.cells.now in
+    rw (c.give.ensures.given) (given_opens B c.args.v (min (excess_in B c.args.v) (room_in B c.args.v)) c.requires c.give.ensures.place (omega arith) (omega arith))
