@@ -16,30 +16,30 @@ use Rattle.move_energy.proofs.building.MoveEnergy.build_weighted_listed.Goals as
 pub listed_weights-requires : goal.listed_weights-requires
 listed_weights-requires g c = opened_within c.args.self.now.variables.choices.items c.args.opened.now (length c.args.weights.now) c.requires.listed (c.requires.choices ∙ sym c.requires.count)
 
-pub add_listed_surpluses-requires-clause-by_site : goal.add_listed_surpluses-requires-clause-by_site
-add_listed_surpluses-requires-clause-by_site g c = λ κs lives. c.requires.by_site
+pub add_listed_pairs-requires-clause-by_site : goal.add_listed_pairs-requires-clause-by_site
+add_listed_pairs-requires-clause-by_site g c = λ κs lives. c.requires.by_site
 
-pub add_listed_surpluses-requires-clause-choices : goal.add_listed_surpluses-requires-clause-choices
-add_listed_surpluses-requires-clause-choices g c = λ κs lives. ap (λ (xs : List Choice). length xs) c.number_listed.ensures.kept ∙ c.requires.choices
+pub add_listed_pairs-requires-clause-choices : goal.add_listed_pairs-requires-clause-choices
+add_listed_pairs-requires-clause-choices g c = λ κs lives. ap (λ (xs : List Choice). length xs) c.number_listed.ensures.kept ∙ c.requires.choices
 
-pub add_listed_surpluses-requires-clause-numbering : goal.add_listed_surpluses-requires-clause-numbering
-add_listed_surpluses-requires-clause-numbering g c = λ κs lives. c.in_ok-_count.ensures.numbering
+pub add_listed_pairs-requires-clause-numbering : goal.add_listed_pairs-requires-clause-numbering
+add_listed_pairs-requires-clause-numbering g c = λ κs lives. c.in_ok-_count.ensures.numbering
 
-pub add_listed_surpluses-requires-clause-variables : goal.add_listed_surpluses-requires-clause-variables
-add_listed_surpluses-requires-clause-variables g c = λ κs lives.
+pub add_listed_pairs-requires-clause-variables : goal.add_listed_pairs-requires-clause-variables
+add_listed_pairs-requires-clause-variables g c = λ κs lives.
     let choices = c.number_listed.new.self.choices.items in
     let O : List Choice → Type 0 = λ xs. AreOpenSites xs c.args.opened.now in
     let listed = subst O (sym c.number_listed.ensures.kept) c.requires.listed in
     let F : List ℤ → Type 0 = λ ws. IsOfWeights ws c.in_ok-form.form in
     form_nodes choices c.args.weights.now c.in_ok-form.form (length choices) refl (subst F (listed_weights_are choices c.args.weights.now c.args.opened.now listed) c.in_ok-form.ensures)
 
-pub add_listed_surpluses-requires-clause-listed : goal.add_listed_surpluses-requires-clause-listed
-add_listed_surpluses-requires-clause-listed g c = λ κs lives.
+pub add_listed_pairs-requires-clause-listed : goal.add_listed_pairs-requires-clause-listed
+add_listed_pairs-requires-clause-listed g c = λ κs lives.
     let O : List Choice → Type 0 = λ xs. AreOpenSites xs c.args.opened.now in
     subst O (sym c.number_listed.ensures.kept) c.requires.listed
 
-pub add_listed_surpluses-requires-clause-bounded : goal.add_listed_surpluses-requires-clause-bounded
-add_listed_surpluses-requires-clause-bounded g c = λ κs lives.
+pub add_listed_pairs-requires-clause-bounded : goal.add_listed_pairs-requires-clause-bounded
+add_listed_pairs-requires-clause-bounded g c = λ κs lives.
     let choices = c.number_listed.new.self.choices.items in
     let size = ap (λ (xs : List Choice). length xs) c.number_listed.ensures.kept ∙ c.requires.choices in
     let O : List Choice → Type 0 = λ xs. AreOpenSites xs c.args.opened.now in
@@ -53,7 +53,7 @@ pub returns-clause-kept : goal.returns-clause-kept
 returns-clause-kept g c = c.number_listed.ensures.kept
 
 pub returns-clause-bounded : goal.returns-clause-bounded
-returns-clause-bounded g c = c.add_listed_surpluses.ensures.bounded
+returns-clause-bounded g c = c.add_listed_pairs.ensures.bounded
 
 pub returns-clause-few : goal.returns-clause-few
 returns-clause-few g c =
@@ -63,8 +63,8 @@ returns-clause-few g c =
     let F : List ℤ → Type 0 = λ ws. IsOfWeights ws c.in_ok-form.form in
     let nodes = form_nodes choices c.args.weights.now c.in_ok-form.form (length choices) refl (subst F (listed_weights_are choices c.args.weights.now c.args.opened.now listed) c.in_ok-form.ensures) in
     let size = ap (λ (xs : List Choice). length xs) c.number_listed.ensures.kept ∙ c.requires.choices in
-    on_ok_weaker c.add_listed_surpluses.result (λ kept. omega (arith, kept, nodes, rank_most choices (length choices), size, c.requires.asked.sites, c.requires.posed.pairs.sites))
-    c.add_listed_surpluses.ensures.nodes
+    on_ok_weaker c.add_listed_pairs.result (λ kept. omega (arith, kept, nodes, rank_most choices (length choices), size, c.requires.asked.sites, c.requires.posed.pairs.sites))
+    c.add_listed_pairs.ensures.nodes
 
 pub returns-clause-variables : goal.returns-clause-variables
 returns-clause-variables g c =
@@ -73,7 +73,7 @@ returns-clause-variables g c =
     let listed = subst O (sym c.number_listed.ensures.kept) c.requires.listed in
     let F : List ℤ → Type 0 = λ ws. IsOfWeights ws c.in_ok-form.form in
     let nodes = form_nodes choices c.args.weights.now c.in_ok-form.form (length choices) refl (subst F (listed_weights_are choices c.args.weights.now c.args.opened.now listed) c.in_ok-form.ensures) in
-    on_ok_weaker c.add_listed_surpluses.result (λ kept. kept ∙ nodes) c.add_listed_surpluses.ensures.nodes
+    on_ok_weaker c.add_listed_pairs.result (λ kept. kept ∙ nodes) c.add_listed_pairs.ensures.nodes
 
 pub returns-clause-built : goal.returns-clause-built
 returns-clause-built g c = λ m meant.
@@ -88,9 +88,9 @@ returns-clause-built g c = λ m meant.
     let size = ap (λ (xs : List Choice). length xs) c.number_listed.ensures.kept ∙ c.requires.choices ∙ c.requires.asked.sites in
     let allowed = c.requires.allowed m meant in
     let L : List Pair → Type 0 = λ ps. All (IsRegularPair m a.change (labelling a.at.now)) ps in
-    on_ok_both c.add_listed_surpluses.result _ _ _ (λ kept adds.
-    weighted_stands m a.change (labelling a.at.now) choices a.weights.now c.in_ok-form.form c.add_listed_surpluses.new.form all (size ∙ sym meant.sites_are) allowed weights
+    on_ok_both c.add_listed_pairs.result _ _ _ (λ kept adds.
+    weighted_stands m a.change (labelling a.at.now) choices a.weights.now c.in_ok-form.form c.add_listed_pairs.new.form all (size ∙ sym meant.sites_are) allowed weights
     (subst F (listed_weights_are choices a.weights.now a.opened.now listed) c.in_ok-form.ensures) kept
-    (listed_savings m a.change (labelling a.at.now) choices a.opened.now a.problem.now.pairs a.ends.now c.in_ok-form.form c.add_listed_surpluses.new.form
+    (listed_savings m a.change (labelling a.at.now) choices a.opened.now a.problem.now.pairs a.ends.now c.in_ok-form.form c.add_listed_pairs.new.form
     meant.sites_are meant.pairs_are all c.requires.by_site size listed (adds m meant (subst L meant.pairs_are allowed))))
-    c.add_listed_surpluses.ensures.nodes c.add_listed_surpluses.ensures.adds
+    c.add_listed_pairs.ensures.nodes c.add_listed_pairs.ensures.adds

@@ -5,12 +5,11 @@ use Rattle.move_energy.specs.BySite.{degree, met_below}
 use Rattle.move_energy.proofs.Parts.{pair_has}
 use Rattle.labellings.specs.Energies.{labelling}
 use Rattle.move_energy.specs.Built.{AddsCost, IsLonger}
+use Rattle.move_energy.specs.Added.{added, IsRightFor}
 use Rattle.move_energy.specs.Choices.{choice_at, open_at, rank}
-use Rattle.move_energy.specs.Weights.{unsaved}
-use Rattle.labellings.specs.Moves.{IsRegularPair}
 use Rattle.move_energy.proofs.Steps.{longer_none}
 use Rattle.move_energy.proofs.Adding.{cost_none, met_longer, met_adds, met_room}
-use Rattle.move_energy.proofs.weighted_listed.add_surpluses_at.Goals as goal
+use Rattle.move_energy.proofs.listed_pairs.add_pairs_at.Goals as goal
 
 pub ends_at-index-end-requires-clause-site : goal.ends_at-index-end-requires-clause-site
 ends_at-index-end-requires-clause-site g c = omega (arith, c.requires.site, c.requires.asked.sites)
@@ -27,22 +26,22 @@ pair_at-pair-requires-clause-site g c = omega (arith, c.requires.site, c.require
 pub pair_at-pair-requires-clause-index : goal.pair_at-pair-requires-clause-index
 pair_at-pair-requires-clause-index g c = omega (arith, c.loop-index-test.true, c.ends_at-index-end.ensures)
 
-pub add_counted_surplus-requires-clause-pair : goal.add_counted_surplus-requires-clause-pair
-add_counted_surplus-requires-clause-pair g c = λ κs lives.
+pub add_counted-requires-clause-pair : goal.add_counted-requires-clause-pair
+add_counted-requires-clause-pair g c = λ κs lives.
     let P : ℕ → Type 0 = λ n. IsPair n c.pair_at-pair.result in
     subst P (sym c.requires.asked.sites) c.pair_at-pair.ensures.pair
 
-pub add_counted_surplus-requires-clause-choices : goal.add_counted_surplus-requires-clause-choices
-add_counted_surplus-requires-clause-choices g c = λ κs lives. c.requires.choices
+pub add_counted-requires-clause-choices : goal.add_counted-requires-clause-choices
+add_counted-requires-clause-choices g c = λ κs lives. c.requires.choices
 
-pub add_counted_surplus-requires-clause-numbering : goal.add_counted_surplus-requires-clause-numbering
-add_counted_surplus-requires-clause-numbering g c = λ κs lives. c.requires.numbering
+pub add_counted-requires-clause-numbering : goal.add_counted-requires-clause-numbering
+add_counted-requires-clause-numbering g c = λ κs lives. c.requires.numbering
 
-pub add_counted_surplus-requires-clause-variables : goal.add_counted_surplus-requires-clause-variables
-add_counted_surplus-requires-clause-variables g c = λ κs lives. c.loop-index.invariant.longer.nodes ∙ c.requires.variables
+pub add_counted-requires-clause-variables : goal.add_counted-requires-clause-variables
+add_counted-requires-clause-variables g c = λ κs lives. c.loop-index.invariant.longer.nodes ∙ c.requires.variables
 
-pub add_counted_surplus-requires-clause-bounded : goal.add_counted_surplus-requires-clause-bounded
-add_counted_surplus-requires-clause-bounded g c = λ κs lives.
+pub add_counted-requires-clause-bounded : goal.add_counted-requires-clause-bounded
+add_counted-requires-clause-bounded g c = λ κs lives.
     let a = c.args in
     met_room a.problem.now.pairs.list a.ends.now (open_at a.variables.now.choices.items) a.site c.loop-index.index a.form.now c.loop-index.form
     (omega (arith, c.loop-index-test.true, c.ends_at-index-end.ensures)) c.requires.met c.requires.bounded c.loop-index.invariant.longer
@@ -54,15 +53,15 @@ loop-index-preserved g c =
     let inside : a.site < a.problem.now.pairs.sites = omega (arith, c.requires.site, c.requires.asked.sites) in
     let within : c.loop-index.index < degree a.ends.now a.site = omega (arith, c.loop-index-test.true, c.ends_at-index-end.ensures) in
     record {
-      longer = met_longer a.problem.now.pairs.list a.ends.now (open_at choices) a.site c.loop-index.index c.pair_at-pair.result a.form.now c.loop-index.form c.add_counted_surplus.new.form
-          c.pair_at-pair.ensures.value c.loop-index.invariant.longer c.in_ok-add_counted_surplus.ensures.longer;
+      longer = met_longer a.problem.now.pairs.list a.ends.now (open_at choices) a.site c.loop-index.index c.pair_at-pair.result a.form.now c.loop-index.form c.add_counted.new.form
+          c.pair_at-pair.ensures.value c.loop-index.invariant.longer c.in_ok-add_counted.ensures.longer;
       adds = λ m answers fit.
-          let P : Pair → Type 0 = λ pair. IsRegularPair m a.change (labelling a.at.now) pair in
+          let P : Pair → Type 0 = λ pair. IsRightFor a.adds m a.change (labelling a.at.now) (choice_at choices) pair in
           let fits = subst P (sym c.pair_at-pair.ensures.value) (pair_has P a.problem.now.pairs a.ends.now a.site c.loop-index.index fit c.requires.by_site inside within) in
           met_adds a.problem.now.pairs.list a.ends.now (open_at choices)
-          (λ (x : ℕ → Bool) (pair : Pair). unsaved m a.change (labelling a.at.now) (choice_at choices) (rank choices) x pair)
-          a.site c.loop-index.index c.pair_at-pair.result a.form.now c.loop-index.form c.add_counted_surplus.new.form
-          c.pair_at-pair.ensures.value (c.loop-index.invariant.adds m answers fit) (c.in_ok-add_counted_surplus.ensures.adds m answers fits);
+          (λ (x : ℕ → Bool) (pair : Pair). added a.adds m a.change (labelling a.at.now) (choice_at choices) (rank choices) x pair)
+          a.site c.loop-index.index c.pair_at-pair.result a.form.now c.loop-index.form c.add_counted.new.form
+          c.pair_at-pair.ensures.value (c.loop-index.invariant.adds m answers fit) (c.in_ok-add_counted.ensures.adds m answers fits);
     }
 
 pub returns-clause-longer : goal.returns-clause-longer
@@ -76,5 +75,5 @@ returns-clause-adds g c = λ m answers fit.
     let a = c.args in
     let choices = a.variables.now.choices.items in
     let P : ℕ → Type 0 = λ k. AddsCost a.form.now c.loop-index.form (λ x. met_below a.problem.now.pairs.list a.ends.now (open_at choices)
-    (unsaved m a.change (labelling a.at.now) (choice_at choices) (rank choices) x) a.site k) in
+    (added a.adds m a.change (labelling a.at.now) (choice_at choices) (rank choices) x) a.site k) in
     subst P (omega (arith, c.loop-index-test.false, c.loop-index.auto, c.ends_at-index-end.ensures)) (c.loop-index.invariant.adds m answers fit)

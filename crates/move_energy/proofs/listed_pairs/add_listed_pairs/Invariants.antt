@@ -2,17 +2,16 @@ use Rattle.std.proofs.Common.{All, take, sum_by}
 use Rattle.cost_store.specs.Posed.{IsMeant}
 use Rattle.move_energy.specs.BySite.{met_at}
 use Rattle.labellings.specs.Energies.{Instance, labelling}
+use Rattle.move_energy.specs.Added.{added, IsRightFor}
 use Rattle.move_energy.specs.Choices.{choice_at, open_at, rank}
-use Rattle.move_energy.specs.Weights.{unsaved}
 use Rattle.move_energy.specs.Built.{AddsCost, IsLonger}
-use Rattle.labellings.specs.Moves.{IsRegularPair}
-use Rattle.move_energy.proofs.weighted_listed.add_listed_surpluses.Given as goal
+use Rattle.move_energy.proofs.listed_pairs.add_listed_pairs.Given as goal
 
 abbrev pub invariant-loop-index : goal.invariant-loop-index
 invariant-loop-index g l = record {
   longer : IsLonger (sum_by (met_at l.problem.pairs.list l.ends (open_at l.variables.choices.items) (λ pair. 1)) (take l.index l.opened)) l.fn.form l.form;
   adds : (m : Instance) → IsMeant g.F.Fn g.V.Fn l.problem m →
-      All (IsRegularPair m l.change (labelling l.at)) l.problem.pairs.list →
+      All (IsRightFor l.adds m l.change (labelling l.at) (choice_at l.variables.choices.items)) l.problem.pairs.list →
       AddsCost l.fn.form l.form (λ x. sum_by (met_at l.problem.pairs.list l.ends (open_at l.variables.choices.items)
-      (unsaved m l.change (labelling l.at) (choice_at l.variables.choices.items) (rank l.variables.choices.items) x)) (take l.index l.opened));
+      (added l.adds m l.change (labelling l.at) (choice_at l.variables.choices.items) (rank l.variables.choices.items) x)) (take l.index l.opened));
 }

@@ -1,17 +1,17 @@
 use Rattle.std.proofs.Common.{All}
 use Rattle.cost_store.specs.Posed.{IsMeant}
 use Rattle.move_energy.specs.BySite.{met_below}
-use Rattle.labellings.specs.Energies.{Instance, labelling, pair_cost}
-use Rattle.move_energy.specs.Choices.{choice_at, open_at, rank, made_by}
+use Rattle.labellings.specs.Energies.{Instance, labelling}
+use Rattle.move_energy.specs.Added.{added, IsRightFor}
+use Rattle.move_energy.specs.Choices.{choice_at, open_at, rank}
 use Rattle.move_energy.specs.Built.{AddsCost, IsLonger}
-use Rattle.move_energy.specs.Problems.{IsFitPair}
-use Rattle.move_energy.proofs.listed.add_pairs_at.Given as goal
+use Rattle.move_energy.proofs.listed_pairs.add_pairs_at.Given as goal
 
 abbrev pub invariant-loop-index : goal.invariant-loop-index
 invariant-loop-index g l = record {
   longer : IsLonger (met_below l.problem.pairs.list l.ends (open_at l.variables.choices.items) (λ pair. 1) l.site l.index) l.fn.form l.form;
   adds : (m : Instance) → IsMeant g.F.Fn g.V.Fn l.problem m →
-      All (IsFitPair m l.change (labelling l.at) (choice_at l.variables.choices.items)) l.problem.pairs.list →
+      All (IsRightFor l.adds m l.change (labelling l.at) (choice_at l.variables.choices.items)) l.problem.pairs.list →
       AddsCost l.fn.form l.form (λ x. met_below l.problem.pairs.list l.ends (open_at l.variables.choices.items)
-      (pair_cost m (made_by l.change (labelling l.at) (choice_at l.variables.choices.items) (rank l.variables.choices.items) x)) l.site l.index);
+      (added l.adds m l.change (labelling l.at) (choice_at l.variables.choices.items) (rank l.variables.choices.items) x) l.site l.index);
 }

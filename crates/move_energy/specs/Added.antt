@@ -1,0 +1,22 @@
+-- What a pair adds to the form of a partly decided move.
+use Rattle.std.specs.Prelude.{ℕ, Bool}
+use Rattle.label_field.specs.declared.pair.Pair.{Pair}
+use Rattle.labellings.specs.declared.change.Move.{Move}
+use Rattle.labellings.specs.Energies.{Instance, pair_cost}
+use Rattle.labellings.specs.Moves.{IsRegularPair}
+use Rattle.move_energy.specs.declared.choice.Choice.{Choice}
+use Rattle.move_energy.specs.declared.listed_pairs.Adds.{Adds}
+use Rattle.move_energy.specs.declared.listed_pairs.Adds.TheVariants.{Costs, Savings}
+use Rattle.move_energy.specs.Choices.{made_by}
+use Rattle.move_energy.specs.Problems.{IsFitPair}
+use Rattle.move_energy.specs.Weights.{unsaved}
+
+-- what a pair adds: what it costs, or what of its surplus is not saved
+abbrev pub added : Adds → Instance → Move → (ℕ → ℕ) → (ℕ → Choice) → (ℕ → ℕ) → (ℕ → Bool) → Pair → ℕ
+added Costs m move f choice variable x = pair_cost m (made_by move f choice variable x)
+added Savings m move f choice variable x = unsaved m move f choice variable x
+
+-- the pair's term is right for that: regular, and for costs only if both of its ends are open
+abbrev pub IsRightFor : Adds → Instance → Move → (ℕ → ℕ) → (ℕ → Choice) → Pair → Type 0
+IsRightFor Costs m move f choice = IsFitPair m move f choice
+IsRightFor Savings m move f choice = IsRegularPair m move f
