@@ -5,3 +5,5 @@ pub mod Smallest
 pub mod Push
 pub mod Moves
 pub mod Given
+pub mod Widening
+pub mod Growing

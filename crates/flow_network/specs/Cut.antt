@@ -1,5 +1,6 @@
 -- Nets and cuts (Ford, Fulkerson 1956; Boykov, Veksler, Zabih 2001, section 3).
 use Rattle.std.specs.Prelude.{◌≡◌, ℕ, ◌+◌, ◌<◌, ◌≤◌, Bool, true, false, not, ◌&&◌, List, length, slice_index, slice_index_or, sum, sum_by, All}
+use Rattle.std.specs.Simd.Lanes.{zip2}
 use Rattle.sums.specs.Sums.{sum_below, counted}
 use Rattle.flow_network.specs.declared.arc.Arc.{Arc}
 use Rattle.flow_network.specs.Limits.{node_limit, capacity_limit}
@@ -62,3 +63,12 @@ pub record IsNet (net : Network) : Type 0 where
   pub count : length net.sources ≤ node_limit
   pub arcs : All (IsArc (length net.sources)) net.arcs
   pub total : total_capacity net ≤ capacity_limit
+
+-- the net in which each node can send the sink so much more
+abbrev pub widened : Network → List ℕ → Network
+widened net more = network_of net.sources (zip2 (λ sink extra. sink + extra) net.sinks more) net.arcs
+
+-- a number for each node, and the net stays within the limits with so much more
+pub record AreExtras (net : Network) (more : List ℕ) : Type 0 where
+  pub len : length more ≡ nodes net
+  pub fits : IsNet (widened net more)

@@ -1,5 +1,5 @@
 ghost use Rattle.std.specs.Prelude.{◌≡◌, ◌↔◌, ◌+◌, ◌<◌, IsTrue, length, sum, sum_by, All, MatchOption};
-ghost use Rattle.flow_network.specs.Cut.{network_of, nodes, IsArc, IsNet};
+ghost use Rattle.flow_network.specs.Cut.{network_of, nodes, AreExtras, IsArc, IsNet};
 
 use crate::{Arc, CAPACITY_LIMIT, Graph, NODE_LIMIT};
 use std::marker::Model;
@@ -107,6 +107,26 @@ impl Net {
             sources,
             sinks,
         }
+    }
+
+    /// Whether each node could send the sink so much more: a number for each node, and all capacities stay together at
+    /// most `CAPACITY_LIMIT`. It may be asked of any numbers.
+    pub fn can_take(&self, more: &[u64]) -> bool
+        ensures { IsTrue result ↔ AreExtras self.now more.now }
+    {
+        if more.len() != self.nodes() {
+            return false;
+        }
+        let Some(after_sources) = room_after(CAPACITY_LIMIT, self.sources()) else {
+            return false;
+        };
+        let Some(after_sinks) = room_after(after_sources, self.sinks()) else {
+            return false;
+        };
+        let Some(after_more) = room_after(after_sinks, more) else {
+            return false;
+        };
+        room_after_arcs(after_more, self.arcs()).is_some()
     }
 
     /// The arcs, and how many nodes the net has.

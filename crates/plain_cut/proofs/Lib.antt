@@ -5,3 +5,4 @@ pub mod Raising
 pub mod Solving
 pub mod Passes
 pub mod Unlabelled
+pub mod Wider

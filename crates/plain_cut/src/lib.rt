@@ -4,6 +4,7 @@
 //! order, and `solver` is the whole (Goldberg, Tarjan 1988).
 #![tactic(auto)]
 
+mod both;
 mod opening;
 mod pushes;
 mod relabels;
@@ -13,5 +14,6 @@ mod turns;
 mod work;
 mod workspace;
 
+pub use both::{BothSides, both_sides_in};
 pub use solver::{smallest_side, smallest_side_in, solve};
 pub use workspace::Workspace;

@@ -22,16 +22,14 @@ fn push_wave(net: &Outline, work: &mut Work, order: &[u32]) -> Result<(), AllocE
     Ok(())
 }
 
-/// Begins a round: raises all labels to the exact distances, pushes at each node once, the farthest from the sink
-/// first, and queues anew the nodes that still have excess and reach the sink.
-pub fn begin_round(net: &Outline, work: &mut Work, order: &mut [u32]) -> Result<(), AllocError>
+/// Pushes at each node once, the farthest from the sink first, and queues anew the nodes that still have excess and reach
+/// the sink, where all labels have just been raised and `order` is what that left.
+pub fn push_round(net: &Outline, work: &mut Work, order: &[u32]) -> Result<(), AllocError>
     requires limits { IsNet net.now }
     requires work { IsWork net.now work.old }
-    requires order { length order.old ≡ nodes net.now }
+    requires counted { work.old.relabels ≡ 0 }
     ensures round { OnOk result (IsRound net.now work.old work.new) }
 {
-    order.fill(u32::MAX);
-    raise_all(net, work, order);
     work.queue.clear();
     push_wave(net, work, order)?;
     queue_again(
@@ -40,4 +38,16 @@ pub fn begin_round(net: &Outline, work: &mut Work, order: &mut [u32]) -> Result<
         work.labels.as_slice(),
         net.top_label(),
     )
+}
+
+/// Begins a round: raises all labels to the exact distances, and pushes.
+pub fn begin_round(net: &Outline, work: &mut Work, order: &mut [u32]) -> Result<(), AllocError>
+    requires limits { IsNet net.now }
+    requires work { IsWork net.now work.old }
+    requires order { length order.old ≡ nodes net.now }
+    ensures round { OnOk result (IsRound net.now work.old work.new) }
+{
+    order.fill(u32::MAX);
+    raise_all(net, work, order);
+    push_round(net, work, order)
 }

@@ -1,4 +1,4 @@
-ghost use Rattle.std.specs.Prelude.{◌≡◌, ◌-◌, ◌<◌, ◌≤◌, ℕ, IfOk, OnOk, length, slice_index};
+ghost use Rattle.std.specs.Prelude.{◌≡◌, ◌↔◌, ◌-◌, ◌<◌, ◌≤◌, ℕ, IfOk, IsTrue, OnOk, length, slice_index};
 ghost use Rattle.std.specs.Simd.Lanes.{zip2};
 ghost use Rattle.flow_network.specs.Limits.{capacity_limit};
 ghost use Rattle.flow_network.specs.Cut.{nodes, set_of, IsNet, IsSmallestLeastCut};
@@ -9,7 +9,7 @@ ghost use Rattle.sink_distances.specs.Rows.{carried, firsts_of, first_at, second
 ghost use Rattle.plain_cut.specs.State.{work_flow, IsWork, HasNoActiveNode};
 
 use crate::opening::open;
-use crate::rounds::begin_round;
+use crate::rounds::push_round;
 use crate::turns::run;
 use crate::work::{Work, raise_all};
 use crate::workspace::Workspace;
@@ -21,7 +21,7 @@ use std::mem::replace;
 
 /// The work at its end, whose labels are the exact distances. It takes the net's rows, sources and sinks over, and the
 /// workspace's labels and queue; the order goes back to it.
-fn finish(
+pub fn finish(
     alloc: Global,
     net: &Outline,
     rows: Rows,
@@ -37,6 +37,7 @@ fn finish(
     ensures work { IfOk result (λ w. IsWork net.now w) }
     ensures finished { IfOk result (λ w. HasNoActiveNode net.now w) }
     ensures exact { IfOk result (λ w. AreDistances net.now (work_flow net.now w) w.labels.items) }
+    ensures order { OnOk result (length space.new.order.items ≡ nodes net.now) }
 {
     let nodes = net.nodes();
     let labels = replace(&mut space.labels, Vec::new(alloc));
@@ -48,8 +49,23 @@ fn finish(
     Ok(work)
 }
 
-/// Rounds until no node that reaches the sink has excess; at the end the labels are the exact distances.
-fn settle(net: &Outline, work: &mut Work, order: &mut [u32]) -> Result<(), AllocError>
+/// Whether no node whose label is below the top one has excess.
+fn is_settled(net: &Outline, work: &Work) -> bool
+    requires { IsWork net.now work.now }
+    ensures { IsTrue result ↔ HasNoActiveNode net.now work.now }
+{
+    let top = net.top_label();
+    'nodes: for v in 0..net.nodes() {
+        if work.excess[v] > 0 && work.labels[v] < top {
+            return false;
+        }
+    }
+    true
+}
+
+/// Rounds until no node that reaches the sink has excess; at the end the labels are the exact distances. Where none has
+/// at the start, all that is done is to find these.
+pub fn settle(net: &Outline, work: &mut Work, order: &mut [u32]) -> Result<(), AllocError>
     requires limits { IsNet net.now }
     requires work { IsWork net.now work.old }
     requires order { length order.old ≡ nodes net.now }
@@ -57,7 +73,12 @@ fn settle(net: &Outline, work: &mut Work, order: &mut [u32]) -> Result<(), Alloc
     ensures finished { OnOk result (HasNoActiveNode net.now work.new) }
     ensures exact { OnOk result (AreDistances net.now (work_flow net.now work.new) work.new.labels.items) }
 {
-    begin_round(net, work, order)?;
+    order.fill(u32::MAX);
+    raise_all(net, work, order);
+    if is_settled(net, work) {
+        return Ok(());
+    }
+    push_round(net, work, order)?;
     run(net, work, order)?;
     raise_all(net, work, order);
     Ok(())
@@ -125,7 +146,7 @@ pub fn smallest_side_in(
 }
 
 /// The nodes that reach the sink, of work that is finished, whose labels are the exact distances.
-fn least_side(alloc: Global, net: &Outline, work: &Work) -> Result<Vec<bool>, AllocError>
+pub fn least_side(alloc: Global, net: &Outline, work: &Work) -> Result<Vec<bool>, AllocError>
     requires limits { IsNet net.now }
     requires work { IsWork net.now work.now }
     requires finished { HasNoActiveNode net.now work.now }

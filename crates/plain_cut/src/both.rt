@@ -1,0 +1,132 @@
+ghost use Rattle.std.specs.Prelude.{◌≡◌, ◌↔◌, ◌+◌, ◌<◌, ◌^◌, ℕ, IfOk, IsTrue, length, slice_index};
+ghost use Rattle.std.specs.Simd.Lanes.{zip2};
+ghost use Rattle.flow_network.specs.Cut.{nodes, set_of, widened, AreExtras, IsNet, IsSmallestLeastCut, LiesWithin};
+ghost use Rattle.sink_distances.specs.Distances.{AreDistances};
+ghost use Rattle.plain_cut.specs.State.{work_flow, IsWork, HasNoActiveNode};
+
+use crate::solver::{finish, least_side, settle};
+use crate::work::Work;
+use crate::workspace::Workspace;
+use flow_network::{Graph, Net};
+use sink_distances::{Outline, Spare, rows_of};
+use std::alloc::{AllocError, Global};
+use std::mem::replace;
+
+/// The sink sides of a net that is cut twice, as `both_sides_in` finds them: one bit for each node in both.
+#[derive(Drop)]
+pub struct BothSides {
+    /// The sink side of the smallest least cut of the net.
+    pub lower: Vec<bool>,
+    /// That of the net in which nodes can send the sink more.
+    pub upper: Vec<bool>,
+}
+
+/// Adds to each number that at its place in the other list.
+fn add_each(numbers: &mut [u64], more: &[u64])
+    requires len { length more.now ≡ length numbers.old }
+    requires small { (v : ℕ) → v < length numbers.old →
+        slice_index numbers.old v + slice_index more.now v < 2 ^ 64 }
+    ensures { numbers.new ≡ zip2 (λ number extra. number + extra) numbers.old more.now }
+{
+    'places: for v in 0..more.len() {
+        numbers[v] += more[v];
+    }
+}
+
+/// The graph of the net in which each node can send the sink so much more.
+fn widen(alloc: Global, graph: Graph, sinks: &[u64], more: &[u64]) -> Result<Graph, AllocError>
+    requires limits { IsNet graph }
+    requires sinks { sinks.now ≡ graph.sinks }
+    requires extras { AreExtras graph more.now }
+    ensures { IfOk result (λ wider. wider ≡ widened graph more.now) }
+{
+    let mut wide = Vec::from_slice(alloc, sinks)?;
+    add_each(wide.as_mut_slice(), more);
+    Ok(graph.with_sinks(&wide))
+}
+
+/// Whether the numbers are all 0.
+fn are_none(more: &[u64]) -> bool
+    ensures { IsTrue result ↔ ((v : ℕ) → v < length more.now → slice_index more.now v ≡ 0) }
+{
+    'places: for v in 0..more.len() {
+        if more[v] != 0 {
+            return false;
+        }
+    }
+    true
+}
+
+/// Gives each node so much more room to the sink, and the label 0: work of the net becomes work of the wider one.
+fn add_room(net: &Outline, wider: &Outline, work: &mut Work, more: &[u64])
+    requires limits { IsNet net.now }
+    requires extras { AreExtras net.now more.now }
+    requires wider { wider.now ≡ widened net.now more.now }
+    requires work { IsWork net.now work.old }
+    ensures { IsWork wider.now work.new }
+{
+    add_each(work.rooms.as_mut_slice(), more);
+    work.labels.as_mut_slice().fill(0);
+}
+
+/// The sink side of the smallest least cut of the wider net, of work that is finished in the net: the second cut goes on
+/// from its preflow.
+fn wider_side(
+    alloc: Global,
+    net: &Outline,
+    wider: &Outline,
+    work: &mut Work,
+    more: &[u64],
+    order: &mut [u32],
+) -> Result<Vec<bool>, AllocError>
+    requires limits { IsNet net.now }
+    requires extras { AreExtras net.now more.now }
+    requires wider { wider.now ≡ widened net.now more.now }
+    requires work { IsWork net.now work.old }
+    requires finished { HasNoActiveNode net.now work.old }
+    requires exact { AreDistances net.now (work_flow net.now work.old) work.old.labels.items }
+    requires order { length order.old ≡ nodes net.now }
+    ensures bits { IfOk result (λ side. length side.items ≡ nodes net.now) }
+    ensures smallest { IfOk result (λ side. IsSmallestLeastCut (widened net.now more.now) (set_of side.items)) }
+{
+    if are_none(more) {
+        return least_side(alloc, net, work);
+    }
+    add_room(net, wider, work, more);
+    settle(wider, work, order)?;
+    least_side(alloc, wider, work)
+}
+
+/// The sink sides of the smallest least cuts of the net, and of the net in which each node can send the sink so much
+/// more, `more` of which `Net::can_take` says yes. The second cut goes on from the preflow of the first: what the sink
+/// has got stays, and only the excess that was left is pushed again.
+///
+/// Where `more` is all 0 the second costs a copy, and where no node has excess that now reaches the sink one search.
+/// Refuses for the same reasons as `smallest_side_in`.
+pub fn both_sides_in(
+    alloc: Global,
+    net: Net,
+    more: &[u64],
+    space: &mut Workspace,
+) -> Result<BothSides, AllocError>
+    requires { AreExtras net more.now }
+    ensures lower_bits { IfOk result (λ sides. length sides.lower.items ≡ nodes net) }
+    ensures upper_bits { IfOk result (λ sides. length sides.upper.items ≡ nodes net) }
+    ensures lower { IfOk result (λ sides. IsSmallestLeastCut net (set_of sides.lower.items)) }
+    ensures upper { IfOk result (λ sides. IsSmallestLeastCut (widened net more.now) (set_of sides.upper.items)) }
+    ensures within { IfOk result (λ sides.
+        LiesWithin (nodes net) (set_of sides.lower.items) (set_of sides.upper.items)) }
+{
+    let (graph, sources, sinks) = net.into_parts();
+    let outline = Outline::of(&graph);
+    let graph = widen(alloc, graph, sinks.as_slice(), more)?;
+    let wider = Outline::of(&graph);
+    let spare = replace(&mut space.rows, Spare::new(alloc));
+    let rows = rows_of(graph, spare)?;
+    let mut work = finish(alloc, &outline, rows, sources, sinks, space)?;
+    let lower = least_side(alloc, &outline, &work)?;
+    let order = space.order.as_mut_slice();
+    let upper = wider_side(alloc, &outline, &wider, &mut work, more, order)?;
+    space.keep(alloc, work);
+    Ok(BothSides { lower, upper })
+}
