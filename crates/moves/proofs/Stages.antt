@@ -1,8 +1,7 @@
 -- The stages of an expansion that is made once more.
-use Rattle.std.proofs.Common.{◌≡◌, ◌≢◌, ◌⊎◌, ◌↔◌, ℕ, ◌+◌, ◌<◌, Bool, true, false, cond, List, All, length, get_or, vec_len, ℤ, pos, ◌+ℤ◌, ◌≤ℤ◌, IsTrue, IfOk, Result, Ok, Err, refl, sym, ap, ◌∙◌, inl, inr, subst, arith}
+use Rattle.std.proofs.Common.{◌≡◌, ◌≢◌, ◌⊎◌, ◌↔◌, ℕ, ◌+◌, ◌<◌, Bool, true, false, cond, List, All, length, get_or, vec_len, IsTrue, IfOk, Result, Ok, Err, refl, sym, ap, ◌∙◌, inl, inr, subst, arith}
 use Rattle.std.specs.Prelude.{slice_index, slice_set, IsFalse, OnOk}
 use Rattle.std.specs.List.{Contains}
-use Rattle.std.proofs.lemmas.Int.{ints}
 use Rattle.std.proofs.lemmas.Bool.{cases_Bool, cases_eq, cases_lt}
 use Rattle.std.proofs.lemmas.List.{length-set, get_or-set_same, get_or-set_other, set-get_or}
 use Rattle.std.proofs.lemmas.Grind.{get_or_default_zero}
@@ -11,93 +10,37 @@ use Rattle.labellings.specs.declared.change.Move.{Move}
 use Rattle.labellings.specs.declared.change.Move.TheVariants.{Expand}
 use Rattle.labellings.specs.Energies.{Instance, IsInstance, IsMetric, AreLabelsFree, labelling}
 use Rattle.labellings.proofs.Metric.{metric_allows}
-use Rattle.labellings.specs.Moves.{IsAllowed, IsBest, made, label_in}
-use Rattle.labellings.proofs.Energy.{plain-same}
+use Rattle.labellings.specs.Moves.{IsAllowed, IsBest, made}
 use Rattle.pseudo_bool.specs.Energies.{assignment}
 use Rattle.compile_cut.specs.declared.quadratic.Quadratic.{Quadratic}
 use Rattle.compile_cut.specs.Quadratics.{quadratic_value}
 use Rattle.move_energy.specs.declared.choice.Choice.{Choice}
-use Rattle.move_energy.specs.declared.choice.Choice.TheVariants.{Open, Zero, One}
-use Rattle.move_energy.specs.Choices.{bit_of, choice_at, value_of, rank, made_by, StandsFor}
+use Rattle.move_energy.specs.declared.choice.Choice.TheVariants.{Zero}
+use Rattle.move_energy.specs.Choices.{choice_at, value_of, rank, StandsFor}
 use Rattle.deciding.specs.Decisions.{IsSmallestLeast}
 use Rattle.deciding.specs.MoveValues.{move_value}
 use Rattle.deciding.proofs.Rises.{move_falls, move_over}
-use Rattle.stages.specs.Fixing.{fixed, fixed_value, AreLeastZeros}
+use Rattle.closing_in.specs.Fixing.{fixed, AreLeastZeros}
 use Rattle.stages.specs.Fresh.{WasExpanded, AreFresh, IsApart}
 use Rattle.stages.specs.Looking.{IsClosedIn}
 use Rattle.stages.proofs.Parts.{ones_can_take}
-use Rattle.stages.proofs.Fixing.{ones_bound}
+use Rattle.closing_in.specs.Forms.{bits_by_site}
+use Rattle.closing_in.proofs.Fixing.{ones_bound}
+use Rattle.closing_in.proofs.Forms.{open_bit, form_smallest}
 use Rattle.stages.proofs.Ending.{stage_ends}
 use Rattle.moves.specs.Stages.{IsStageLeast, HasTaken}
 use Rattle.moves.proofs.Least.{expanded_best, free_least}
 
 -- ---- the cut of a stage
 
-same_bit : (c : Choice) (a b : Bool) → (c ≡ Open → a ≡ b) → bit_of c a ≡ bit_of c b
-same_bit Open a b same = same refl
-same_bit Zero a b same = refl
-same_bit One a b same = refl
-
--- the bit of an open variable, and 0 of a fixed one
-abbrev open_bit : Choice → Bool → Bool
-open_bit Open b = b
-open_bit Zero b = false
-open_bit One b = false
-
-fixed_open : (c : Choice) (b : Bool) → bit_of c (open_bit c b) ≡ bit_of c b
-fixed_open Open b = refl
-fixed_open Zero b = refl
-fixed_open One b = refl
-
-open_one : (c : Choice) (b : Bool) → open_bit c b ≡ true → (c ≡ Open) × (b ≡ true)
-open_one Open b one = (refl, one)
-open_one Zero b one = absurd (cc one)
-open_one One b one = absurd (cc one)
-
-least_by : (a b c d r : ℤ) → a +ℤ r ≡ c → b +ℤ r ≡ d → a ≤ℤ b → c ≤ℤ d
-least_by a b c d r h k l = omega (arith, ints, h, k, l)
-
-level_by : (a b c d r : ℤ) → a +ℤ r ≡ c → b +ℤ r ≡ d → d ≡ c → b ≡ a
-level_by a b c d r h k l = omega (arith, ints, h, k, l)
-
--- the form at the bits of the sites, as the value of the whole with the fixed values put in
-stage_value : (m : Instance) (move : Move) (f : ℕ → ℕ) (choice : ℕ → Choice) (q : Quadratic) (variable : ℕ → ℕ) (z : ℕ → Bool) → IsInstance m
-    → (stands : StandsFor m move f choice q variable)
-    → quadratic_value q (λ i. z (stands.site i)) +ℤ stands.rest ≡ fixed_value (move_value m move f) choice z
-stage_value m move f choice q variable z pairs stands =
-    stands.value (λ i. z (stands.site i))
-    ∙ ap pos (plain-same m (made_by move f choice variable (λ i. z (stands.site i))) (made move f (fixed choice z)) pairs
-    (λ p l. ap (label_in move (f p)) (same_bit (choice p) (z (stands.site (variable p))) (z p) (λ opened. ap z ((stands.covers p l opened).1)))))
-
--- and at any bits
-bits_value : (m : Instance) (move : Move) (f : ℕ → ℕ) (choice : ℕ → Choice) (q : Quadratic) (variable : ℕ → ℕ) (y : ℕ → Bool) → IsInstance m
-    → (stands : StandsFor m move f choice q variable)
-    → quadratic_value q y +ℤ stands.rest ≡ fixed_value (move_value m move f) choice (λ p. open_bit (choice p) (y (variable p)))
-bits_value m move f choice q variable y pairs stands =
-    stands.value y
-    ∙ ap pos (plain-same m (made_by move f choice variable y) (made move f (fixed choice (λ p. open_bit (choice p) (y (variable p))))) pairs
-    (λ p l. ap (label_in move (f p)) (sym (fixed_open (choice p) (y (variable p))))))
-
 pub stage_least : (m : Instance) (move : Move) (f : ℕ → ℕ) (choices : List Choice) (q : Quadratic) (bits : List Bool) → IsInstance m
     → StandsFor m move f (choice_at choices) q (rank choices) → IsSmallestLeast (vec_len q.weights) (quadratic_value q) (assignment bits)
     → IsStageLeast m move f choices bits
-stage_least m move f choices q bits pairs stands least =
-    let choice = choice_at choices in
-    let variable = rank choices in
-    let y = assignment bits in
-    record {
-      values = λ p. open_bit (choice p) (y (variable p));
-      least = record {
-        least = λ w. least_by _ _ _ _ stands.rest (bits_value m move f choice q variable y pairs stands) (stage_value m move f choice q variable w pairs stands)
-            (least.least (λ i. w (stands.site i)));
-        smallest = λ w level p l one.
-            let own = open_one (choice p) (y (variable p)) one in
-            let covered = stands.covers p l own.0 in
-            let equal = level_by _ _ _ _ stands.rest (bits_value m move f choice q variable y pairs stands) (stage_value m move f choice q variable w pairs stands) level in
-            ap w (sym covered.1) ∙ least.smallest (λ i. w (stands.site i)) equal (variable p) covered.0 own.1;
-      };
-      shown = λ p. fixed_open (choice p) (y (variable p));
-    }
+stage_least m move f choices q bits pairs stands least = record {
+  values = bits_by_site (choice_at choices) (rank choices) (assignment bits);
+  least = form_smallest m move f (choice_at choices) q (rank choices) (assignment bits) pairs stands least;
+  shown = λ p. open_bit (choice_at choices p) (assignment bits (rank choices p));
+}
 
 -- ---- the zeros of the stages
 

@@ -13,7 +13,7 @@ use Rattle.deciding.specs.Decisions.{IsSmallestLeast}
 use Rattle.deciding.specs.MoveValues.{move_value}
 use Rattle.stages.specs.declared.changes.Changes.{Changes}
 use Rattle.stages.specs.Changes.{changed_after}
-use Rattle.stages.specs.Fixing.{fixed, fixed_value, AreLeastZeros}
+use Rattle.closing_in.specs.Fixing.{fixed, fixed_value, AreLeastZeros}
 use Rattle.stages.specs.Fresh.{WasExpanded, AreFresh}
 use Rattle.stages.specs.Looking.{marked}
 use Rattle.moves.specs.declared.error.MoveError.{MoveError}

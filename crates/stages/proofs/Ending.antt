@@ -13,11 +13,11 @@ use Rattle.move_energy.specs.Choices.{bit_of}
 use Rattle.deciding.specs.Decisions.{IsOver, IsSmallestLeast}
 use Rattle.deciding.specs.MoveValues.{move_value}
 use Rattle.deciding.proofs.Rises.{move_falls, move_over}
-use Rattle.stages.specs.Fixing.{fixed, fixed_value, AreLeastZeros, LiesWithin, IsLeftOpen}
+use Rattle.closing_in.specs.Fixing.{fixed, fixed_value, AreLeastZeros, LiesWithin, IsLeftOpen}
 use Rattle.stages.specs.Fresh.{LowersNothing, WasExpanded, AreFresh, HoldsFresh, IsPartOf}
 use Rattle.stages.proofs.Parts.{swapped_le, closing}
-use Rattle.stages.proofs.Fixing.{ones_bound}
-use Rattle.stages.proofs.Existing.{least_exists}
+use Rattle.closing_in.proofs.Fixing.{ones_bound}
+use Rattle.closing_in.proofs.Existing.{least_exists}
 
 pub best_is_low : (m : Instance) (a : ℕ) (f g : List ℕ) → AreLabelsFree m → IsBest m (Expand a) f g → LowersNothing m a (labelling g)
 best_is_low m a f g free best x =

@@ -1,8 +1,5 @@
-pub mod Lattice
-pub mod Fixing
 pub mod Parts
 pub mod Ending
-pub mod Existing
 pub mod Marks
 pub mod Around
 pub mod Scanning

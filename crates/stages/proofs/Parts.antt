@@ -15,7 +15,7 @@ use Rattle.labellings.proofs.Energy.{plain-same}
 use Rattle.deciding.specs.Decisions.{set_bit, IsSmallestLeast}
 use Rattle.deciding.specs.MoveValues.{move_value}
 use Rattle.deciding.proofs.Putting.{set_at, set_other}
-use Rattle.stages.specs.Fixing.{LiesWithin}
+use Rattle.closing_in.specs.Fixing.{LiesWithin}
 use Rattle.stages.specs.Fresh.{WasExpanded, IsFreshAcross, AreFresh, HoldsNoFresh, HoldsFresh, IsApart, IsPartOf}
 
 -- ---- four labellings of which two and two are equal, one way or the other, at each site and at each pair

@@ -7,7 +7,7 @@ use Rattle.label_field.specs.declared.pair.Pair.{Pair}
 use Rattle.labellings.specs.declared.change.Move.TheVariants.{Expand}
 use Rattle.labellings.specs.Energies.{Instance, plain_energy}
 use Rattle.labellings.specs.Moves.{made}
-use Rattle.stages.specs.Fixing.{LiesWithin}
+use Rattle.closing_in.specs.Fixing.{LiesWithin}
 
 -- no expansion of the label makes labels that cost the sites and the pairs less than f
 abbrev pub LowersNothing : Instance → ℕ → (ℕ → ℕ) → Type 0

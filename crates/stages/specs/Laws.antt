@@ -1,34 +1,16 @@
 -- The laws of stages, over the definitions alone.
-use Rattle.std.specs.Prelude.{◌≡◌, ℕ, ◌<◌, Bool, false, List, ℤ, ◌≤ℤ◌}
+use Rattle.std.specs.Prelude.{◌≡◌, ℕ, ◌<◌, Bool, false, List}
 use Rattle.std.specs.List.{All}
 use Rattle.move_energy.specs.declared.choice.Choice.{Choice}
 use Rattle.labellings.specs.declared.change.Move.TheVariants.{Expand}
 use Rattle.labellings.specs.Energies.{Instance, IsInstance, AreLabelsFree, labelling}
 use Rattle.labellings.specs.Moves.{IsAllowed, IsBest}
-use Rattle.deciding.specs.Decisions.{IsSubmodular, IsOver, IsSmallestLeast}
+use Rattle.deciding.specs.Decisions.{IsSmallestLeast}
 use Rattle.deciding.specs.MoveValues.{move_value}
-use Rattle.stages.specs.Fixing.{fixed, fixed_value, HasZeros, HasOnes, AreLeastZeros, LiesWithin, IsLeftOpen}
+use Rattle.closing_in.specs.Fixing.{fixed, fixed_value, AreLeastZeros, LiesWithin, IsLeftOpen}
 use Rattle.stages.specs.Fresh.{WasExpanded, AreFresh, HoldsNoFresh, HoldsFresh, IsApart, IsPartOf}
 use Rattle.stages.specs.declared.changes.Changes.{Changes}
 use Rattle.stages.specs.Changes.{AreStamped, IsNotedMove}
-
--- ---- of any function of an assignment
-
--- where what is fixed to 0 is 0 in the least assignment with the fewest ones, its ones lie within those of
--- every least assignment of what is left (Topkis 1978)
-abbrev pub OnesBoundLeast : Type 0
-OnesBoundLeast =
-    (n : ℕ) (E : (ℕ → Bool) → ℤ) (choice : ℕ → Choice) (s z : ℕ → Bool)
-    → IsSubmodular E → IsOver n E → IsSmallestLeast n E s → HasZeros n choice s
-    → ((y : ℕ → Bool) → fixed_value E choice z ≤ℤ fixed_value E choice y) → LiesWithin n s (fixed choice z)
-
--- where what is fixed is fixed as in the least assignment with the fewest ones, that of what is left, with
--- what is fixed, is the whole's
-abbrev pub RestAndFixedIsLeast : Type 0
-RestAndFixedIsLeast =
-    (n : ℕ) (E : (ℕ → Bool) → ℤ) (choice : ℕ → Choice) (s z : ℕ → Bool)
-    → IsOver n E → IsSmallestLeast n E s → HasZeros n choice s → HasOnes n choice s
-    → IsSmallestLeast n (fixed_value E choice) z → IsSmallestLeast n E (fixed choice z)
 
 -- ---- of the labellings that an expansion makes
 

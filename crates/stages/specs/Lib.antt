@@ -1,4 +1,3 @@
-pub mod Fixing
 pub mod Fresh
 pub mod Laws
 pub mod Looking

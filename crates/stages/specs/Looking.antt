@@ -6,7 +6,7 @@ use Rattle.label_field.specs.PairLists.{PairList}
 use Rattle.labellings.specs.Energies.{Instance}
 use Rattle.move_energy.specs.declared.choice.Choice.{Choice}
 use Rattle.stages.specs.declared.stage.Stage.{Stage}
-use Rattle.stages.specs.Fixing.{LiesWithin, IsLeftOpen}
+use Rattle.closing_in.specs.Fixing.{LiesWithin, IsLeftOpen}
 use Rattle.stages.specs.Fresh.{AreFresh, HoldsFresh, IsApart}
 
 -- is the site marked?

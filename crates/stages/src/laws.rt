@@ -1,47 +1,13 @@
-//! Laws of expansions that are made once more: each function does nothing, and its contract is the law. The
-//! first four are of any function of an assignment, the others of the labellings that an expansion makes.
-//! There, as in `deciding`, what labels cost by themselves is left out.
+//! Laws of expansions that are made once more: each function does nothing, and its contract is the law. As in
+//! `deciding`, what labels cost by themselves is left out.
 
-ghost use Rattle.std.specs.Prelude.{ℕ, Bool, List, ℤ};
-ghost use Rattle.move_energy.specs.declared.choice.Choice.{Choice};
+ghost use Rattle.std.specs.Prelude.{ℕ, List};
 ghost use Rattle.labellings.specs.declared.change.Move.TheVariants.{Expand};
 ghost use Rattle.labellings.specs.Energies.{Instance, AreLabelsFree, labelling};
 ghost use Rattle.labellings.specs.Moves.{IsBest};
-ghost use Rattle.deciding.specs.Decisions.{IsSubmodular, IsOver, IsSmallestLeast};
-ghost use Rattle.stages.specs.Fixing.{fixed_value};
 ghost use Rattle.stages.specs.Fresh.{LowersNothing};
-ghost use Rattle.stages.specs.Laws.{OnesBoundLeast, RestAndFixedIsLeast};
 ghost use Rattle.stages.specs.Laws.{PartWithoutFreshIsEmpty, ClosedSetHoldsLeast};
 ghost use Rattle.stages.specs.Laws.{ClosedSetIsLeast, ClosedStageEndsMove, NotedMoveIsStamped};
-
-/// There is a least assignment with the fewest ones: the least ones are closed under "both" and "either"
-/// (Topkis 1978). So what is kept for each such assignment is kept for one.
-pub fn smallest_least_exists()
-    ensures { (n : ℕ) (E : (ℕ → Bool) → ℤ) → IsSubmodular E → IsOver n E →
-        (s : ℕ → Bool) × IsSmallestLeast n E s }
-{}
-
-/// What is fixed leaves a function whose rises fall, of the same variables: so deciding and its laws serve it
-/// too.
-pub fn fixed_is_submodular()
-    ensures falls { (E : (ℕ → Bool) → ℤ) (choice : ℕ → Choice) → IsSubmodular E →
-        IsSubmodular (fixed_value E choice) }
-    ensures variables { (n : ℕ) (E : (ℕ → Bool) → ℤ) (choice : ℕ → Choice) → IsOver n E →
-        IsOver n (fixed_value E choice) }
-{}
-
-/// An upper bound: where what is fixed to 0 is 0 in the least assignment with the fewest ones, its ones lie
-/// within those of every least assignment of what is left, whatever else is fixed to 1 (Topkis 1978).
-pub fn ones_bound_least()
-    ensures { OnesBoundLeast }
-{}
-
-/// Where what is fixed is fixed as in the least assignment with the fewest ones, the least assignment with
-/// the fewest ones of what is left, with what is fixed, is the whole's: so a last cut may have all sites
-/// outside a closed set at 0.
-pub fn rest_and_fixed_is_least()
-    ensures { RestAndFixedIsLeast }
-{}
 
 /// After an expansion no expansion of its label lowers the energy (Boykov, Veksler, Zabih, PAMI 2001), and
 /// so, where no label costs anything by itself, none lowers what the labels cost the sites and the pairs.

@@ -6,7 +6,7 @@ use Rattle.move_energy.specs.Choices.{choice_at}
 use Rattle.cost_store.proofs.Meaning.{pairs_meant}
 use Rattle.deciding.specs.MoveValues.{move_value}
 use Rattle.stages.specs.Changes.{made_of}
-use Rattle.stages.specs.Fixing.{AreLeastZeros}
+use Rattle.closing_in.specs.Fixing.{AreLeastZeros}
 use Rattle.stages.specs.Fresh.{AreFresh}
 use Rattle.stages.specs.Looking.{marked, changed_since}
 use Rattle.moves.proofs.Stages.{first_zeros, on_ok, on_ok_map}

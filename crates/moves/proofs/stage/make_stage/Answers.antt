@@ -5,7 +5,7 @@ use Rattle.move_energy.specs.declared.choice.Choice.{Choice}
 use Rattle.move_energy.specs.Choices.{choice_at, value_of}
 use Rattle.cost_store.proofs.Meaning.{pairs_meant}
 use Rattle.deciding.specs.MoveValues.{move_value}
-use Rattle.stages.specs.Fixing.{AreLeastZeros}
+use Rattle.closing_in.specs.Fixing.{AreLeastZeros}
 use Rattle.stages.specs.Looking.{marked, IsClosedIn}
 use Rattle.moves.proofs.Stages.{closed_ends, next_zeros}
 use Rattle.moves.proofs.stage.make_stage.Goals as goal

@@ -8,9 +8,9 @@ use Rattle.move_energy.specs.declared.choice.Choice.TheVariants.{Open}
 use Rattle.move_energy.specs.Choices.{bit_of, choice_of}
 use Rattle.deciding.specs.Decisions.{IsSubmodular, IsOver, IsSmallestLeast}
 use Rattle.deciding.proofs.Putting.{value_same}
-use Rattle.stages.specs.Fixing.{fixed}
-use Rattle.stages.proofs.Lattice.{both, either, both_second, both_and_either}
-use Rattle.stages.proofs.Fixing.{fixed_falls}
+use Rattle.closing_in.specs.Fixing.{fixed}
+use Rattle.closing_in.proofs.Lattice.{both, either, both_second, both_and_either}
+use Rattle.closing_in.proofs.Fixing.{fixed_falls}
 
 le_or_lt : (y z : ℤ) → (y ≤ℤ z) ⊎ (z <ℤ y)
 le_or_lt (pos a) (pos b) = elim (cases_lt b a) [

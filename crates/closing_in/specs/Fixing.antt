@@ -1,5 +1,5 @@
 -- A function of yes-no variables of which some are fixed, whether they were forced or not.
-use Rattle.std.specs.Prelude.{◌≡◌, ℕ, ◌<◌, Bool, true, false, ℤ}
+use Rattle.std.specs.Prelude.{◌≡◌, ℕ, ◌<◌, Bool, true, false, ℤ, ◌≤ℤ◌}
 use Rattle.move_energy.specs.declared.choice.Choice.{Choice}
 use Rattle.move_energy.specs.declared.choice.Choice.TheVariants.{Open, Zero, One}
 use Rattle.move_energy.specs.Choices.{bit_of}
@@ -13,6 +13,10 @@ fixed choice x p = bit_of (choice p) (x p)
 abbrev pub fixed_value : ((ℕ → Bool) → ℤ) → (ℕ → Choice) → (ℕ → Bool) → ℤ
 fixed_value E choice x = E (fixed choice x)
 
+-- an assignment of least value
+abbrev pub IsLeast : ((ℕ → Bool) → ℤ) → (ℕ → Bool) → Type 0
+IsLeast E x = (y : ℕ → Bool) → E x ≤ℤ E y
+
 -- what is chosen to be 0 is 0 in s
 abbrev pub HasZeros : ℕ → (ℕ → Choice) → (ℕ → Bool) → Type 0
 HasZeros n choice s = (p : ℕ) → p < n → choice p ≡ Zero → s p ≡ false
@@ -24,6 +28,10 @@ HasOnes n choice s = (p : ℕ) → p < n → choice p ≡ One → s p ≡ true
 -- what is chosen to be 0 is 0 in the least assignment with the fewest ones
 abbrev pub AreLeastZeros : ℕ → ((ℕ → Bool) → ℤ) → (ℕ → Choice) → Type 0
 AreLeastZeros n E choice = (s : ℕ → Bool) → IsSmallestLeast n E s → HasZeros n choice s
+
+-- what is chosen to be 1 is 1 in the least assignment with the fewest ones
+abbrev pub AreLeastOnes : ℕ → ((ℕ → Bool) → ℤ) → (ℕ → Choice) → Type 0
+AreLeastOnes n E choice = (s : ℕ → Bool) → IsSmallestLeast n E s → HasOnes n choice s
 
 -- of the first n variables, those that are 1 in x are 1 in y
 abbrev pub LiesWithin : ℕ → (ℕ → Bool) → (ℕ → Bool) → Type 0

@@ -1,5 +1,5 @@
 -- Functions of which some variables are fixed.
-use Rattle.std.proofs.Common.{◌≡◌, ◌<◌, ◌⊎◌, ℕ, Bool, true, false, ℤ, ◌+ℤ◌, ◌-ℤ◌, ◌≤ℤ◌, refl, sym, ap, ◌∙◌, inl, inr, arith, ◌||◌}
+use Rattle.std.proofs.Common.{◌≡◌, ◌<◌, ◌⊎◌, ℕ, Bool, true, false, ℤ, ◌+ℤ◌, ◌-ℤ◌, ◌≤ℤ◌, refl, sym, ap, ◌∙◌, inl, inr, arith, ◌&&◌, ◌||◌}
 use Rattle.std.proofs.lemmas.Int.{ints}
 use Rattle.std.proofs.lemmas.Bool.{cases_eq}
 use Rattle.move_energy.specs.declared.choice.Choice.{Choice}
@@ -7,8 +7,8 @@ use Rattle.move_energy.specs.declared.choice.Choice.TheVariants.{Open, Zero, One
 use Rattle.move_energy.specs.Choices.{bit_of}
 use Rattle.deciding.specs.Decisions.{set_bit, rise, OnesWithin, IsSubmodular, IsOver, IsSmallestLeast}
 use Rattle.deciding.proofs.Putting.{set_at, set_other, value_same}
-use Rattle.stages.specs.Fixing.{fixed, fixed_value, HasZeros, HasOnes, LiesWithin}
-use Rattle.stages.proofs.Lattice.{both, either, both_second, both_and_either}
+use Rattle.closing_in.specs.Fixing.{fixed, fixed_value, IsLeast, HasZeros, HasOnes, LiesWithin}
+use Rattle.closing_in.proofs.Lattice.{both, either, both_second, both_and_either}
 
 bit_grows : (c : Choice) (a b : Bool) → (a ≡ true → b ≡ true) → bit_of c a ≡ true → bit_of c b ≡ true
 bit_grows Open a b within h = within h
@@ -28,7 +28,7 @@ set_open choice x i b opened k = elim (cases_eq k i) [
   | inr other ↦ ap (bit_of (choice k)) (set_other x i k b other) ∙ sym (set_other (fixed choice x) i k b other)
 ]
 
-set_shut : (choice : ℕ → Choice) (x : ℕ → Bool) (i : ℕ) (b : Bool) → ((a c : Bool) → bit_of (choice i) a ≡ bit_of (choice i) c) → (k : ℕ)
+pub set_shut : (choice : ℕ → Choice) (x : ℕ → Bool) (i : ℕ) (b : Bool) → ((a c : Bool) → bit_of (choice i) a ≡ bit_of (choice i) c) → (k : ℕ)
     → fixed choice (set_bit x i b) k ≡ fixed choice x k
 set_shut choice x i b shut k = elim (cases_eq k i) [
   | inl same ↦
@@ -58,6 +58,14 @@ open_falls E choice x y i falls within opened =
     (value_same E _ _ (set_open choice x i true opened)) (value_same E _ _ (set_open choice x i false opened))
     (falls (fixed choice x) (fixed choice y) i (fixed_within choice x y within))
 
+-- the rise of an open variable is that with the fixed values put in
+pub open_rise : (E : (ℕ → Bool) → ℤ) (choice : ℕ → Choice) (x : ℕ → Bool) (i : ℕ) → choice i ≡ Open
+    → rise (fixed_value E choice) i x ≡ rise E i (fixed choice x)
+open_rise E choice x i opened =
+    let one = value_same E _ _ (set_open choice x i true opened) in
+    let none = value_same E _ _ (set_open choice x i false opened) in
+    (λ j. one j -ℤ none j)
+
 cases_choice : (c : Choice) → (c ≡ Open) ⊎ ((a b : Bool) → bit_of c a ≡ bit_of c b)
 cases_choice Open = inl refl
 cases_choice Zero = inr (λ a b. refl)
@@ -72,9 +80,18 @@ fixed_falls E choice falls x y i within = elim (cases_choice (choice i)) [
 pub fixed_over : (n : ℕ) (E : (ℕ → Bool) → ℤ) (choice : ℕ → Choice) → IsOver n E → IsOver n (fixed_value E choice)
 fixed_over n E choice over x y same = over (fixed choice x) (fixed choice y) (λ k l. ap (bit_of (choice k)) (same k l))
 
--- ---- the upper bound
+pub fixed_same : (n : ℕ) (E : (ℕ → Bool) → ℤ) (choice other : ℕ → Choice) → IsOver n E → ((p : ℕ) → p < n → choice p ≡ other p)
+    → (x : ℕ → Bool) → fixed_value E choice x ≡ fixed_value E other x
+fixed_same n E choice other over same x = over (fixed choice x) (fixed other x) (λ k l. ap (λ (c : Choice). bit_of c (x k)) (same k l))
 
--- what is added to the ones by s leaves the fixed values as they are, where the fixed zeros are zeros of s
+-- ---- bounds
+
+-- what is 1 in both, or in either, has the fixed values
+met_fixed : (c : Choice) (a b : Bool) → (c ≡ One → b ≡ true) → bit_of c (bit_of c a && b) ≡ (bit_of c a && b)
+met_fixed Open a b one = refl
+met_fixed Zero a b one = refl
+met_fixed One a b one = sym (one refl)
+
 joined_fixed : (c : Choice) (a b : Bool) → (c ≡ Zero → a ≡ false) → bit_of c (a || bit_of c b) ≡ (a || bit_of c b)
 joined_fixed Open a b zero = refl
 joined_fixed Zero true b zero = sym (zero refl)
@@ -82,19 +99,40 @@ joined_fixed Zero false b zero = refl
 joined_fixed One true b zero = refl
 joined_fixed One false b zero = refl
 
-not_higher : (a b c d e : ℤ) → (a +ℤ b) ≤ℤ (c +ℤ d) → d ≤ℤ e → e ≡ a → b ≤ℤ c
-not_higher a b c d e h k l = omega (arith, ints, h, k, l)
+ones_as : (c : Choice) (z b : Bool) → (c ≡ One → b ≡ true) → (z ≡ true → b ≡ true) → bit_of c z ≡ true → b ≡ true
+ones_as Open z b one within h = within h
+ones_as Zero z b one within h = absurd (cc (h))
+ones_as One z b one within h = one refl
+
+-- join + meet ≤ s + t, and t ≤ join' = join, so meet ≤ s; and s ≤ meet' = meet
+met_level : (join meet s t joined met : ℤ) → (join +ℤ meet) ≤ℤ (s +ℤ t) → t ≤ℤ joined → joined ≡ join → s ≤ℤ met → met ≡ meet → met ≡ s
+met_level join meet s t joined met h k l q r = omega (arith, ints, h, k, l, q, r)
 
 level : (a b : ℤ) → a ≤ℤ b → b ≤ℤ a → a ≡ b
 level a b h k = omega (arith, ints, h, k)
 
+pub least_rises : (n : ℕ) (E : (ℕ → Bool) → ℤ) (low high : ℕ → Choice) (x y : ℕ → Bool) → IsSubmodular E → IsOver n E
+    → IsSmallestLeast n (fixed_value E low) x → IsLeast (fixed_value E high) y
+    → HasOnes n low (fixed high y) → HasZeros n high (fixed low x) → LiesWithin n (fixed low x) (fixed high y)
+least_rises n E low high x y falls over best least ones zeros p l one =
+    let s = fixed low x in
+    let t = fixed high y in
+    let met = over (fixed low (both s t)) (both s t) (λ k below. met_fixed (low k) (x k) (t k) (ones k below)) in
+    let join = over (fixed high (either s t)) (either s t) (λ k below. joined_fixed (high k) (s k) (y k) (zeros k below)) in
+    let same : fixed_value E low (both s t) ≡ fixed_value E low x =
+    met_level _ _ _ _ _ _ (both_and_either n E s t falls over) (least (either s t)) join (best.least (both s t)) met in
+    ones_as (low p) (x p) (t p) (ones p l) (λ own. both_second (s p) (t p) (best.smallest (both s t) same p l own)) one
+
+-- with nothing fixed on the one side
 pub ones_bound : (n : ℕ) (E : (ℕ → Bool) → ℤ) (choice : ℕ → Choice) (s z : ℕ → Bool) → IsSubmodular E → IsOver n E → IsSmallestLeast n E s
-    → HasZeros n choice s → ((y : ℕ → Bool) → fixed_value E choice z ≤ℤ fixed_value E choice y) → LiesWithin n s (fixed choice z)
-ones_bound n E choice s z falls over best zeros least p l one =
-    let t = fixed choice z in
-    let joined = over (fixed choice (either s t)) (either s t) (λ k below. joined_fixed (choice k) (s k) (z k) (zeros k below)) in
-    let lower : E (both s t) ≤ℤ E s = not_higher _ _ _ _ _ (both_and_either n E s t falls over) (least (either s t)) joined in
-    both_second (s p) (t p) (best.smallest (both s t) (level _ _ lower (best.least (both s t))) p l one)
+    → HasZeros n choice s → IsLeast (fixed_value E choice) z → LiesWithin n s (fixed choice z)
+ones_bound n E choice s z falls over best zeros least =
+    least_rises n E (λ p. Open) choice s z falls over best least (λ p l one. absurd (cc (one))) zeros
+
+pub zeros_bound : (n : ℕ) (E : (ℕ → Bool) → ℤ) (choice : ℕ → Choice) (s z : ℕ → Bool) → IsSubmodular E → IsOver n E → IsLeast E s
+    → HasOnes n choice s → IsSmallestLeast n (fixed_value E choice) z → LiesWithin n (fixed choice z) s
+zeros_bound n E choice s z falls over least ones best =
+    least_rises n E choice (λ p. Open) z s falls over best least ones (λ p l zero. absurd (cc (zero)))
 
 -- ---- what is fixed as in s
 
@@ -102,11 +140,6 @@ fixed_as : (c : Choice) (b : Bool) → (c ≡ Zero → b ≡ false) → (c ≡ O
 fixed_as Open b zero one = refl
 fixed_as Zero b zero one = sym (zero refl)
 fixed_as One b zero one = sym (one refl)
-
-ones_as : (c : Choice) (z b : Bool) → (c ≡ One → b ≡ true) → (z ≡ true → b ≡ true) → bit_of c z ≡ true → b ≡ true
-ones_as Open z b one within h = within h
-ones_as Zero z b one within h = absurd (cc (h))
-ones_as One z b one within h = one refl
 
 le_then : (a b c d : ℤ) → a ≤ℤ b → b ≡ c → c ≤ℤ d → a ≤ℤ d
 le_then a b c d h k l = omega (arith, ints, h, k, l)

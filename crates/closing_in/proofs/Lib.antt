@@ -1,0 +1,9 @@
+pub mod Lattice
+pub mod Fixing
+pub mod Existing
+pub mod Agreeing
+pub mod Strips
+pub mod Borders
+pub mod Forms
+pub mod Told
+pub mod Rooms
