@@ -6,3 +6,4 @@ pub mod Searching
 pub mod Showing
 pub mod Making
 pub mod Seeing
+pub mod Nearing

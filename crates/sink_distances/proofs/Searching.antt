@@ -89,7 +89,7 @@ searched_more net flow next s t h l g marked net_is =
 -- ---- the end of the search
 
 -- a labelled node's label is at most the number of nodes
-near_nodes : (net : Network) (flow : Flow) (next : ℕ) (s : Found) → IsSearched net flow next s → (v : ℕ) → v < nodes net
+pub near_nodes : (net : Network) (flow : Flow) (next : ℕ) (s : Found) → IsSearched net flow next s → (v : ℕ) → v < nodes net
     → (label_of s v ≡ top net) ⊎ ((label_of s v ≤ nodes net) × ((i : ℕ) × (i < s.count) × (node_at s i ≡ v)))
 near_nodes net flow next s h v l = elim (h.order.listed v (omega (arith, l, h.len))) [
   | inl none ↦ inl (omega (arith, none, h.len))

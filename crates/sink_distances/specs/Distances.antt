@@ -18,6 +18,11 @@ pub record AreDistances (net : Network) (flow : Flow) (labels : List ℕ) : Type
   pub len : length labels ≡ nodes net
   pub exact : (v : ℕ) → v < nodes net → IsExactLabel net flow v (slice_index labels v)
 
+-- each label below the limit is the distance
+abbrev pub AreExactBelow : Network → Flow → ℕ → List ℕ → Type 0
+AreExactBelow net flow limit labels =
+    (v : ℕ) → v < nodes net → slice_index labels v < limit → IsDistance net flow v (slice_index labels v)
+
 -- the nodes whose label is below the top one
 abbrev pub is_below_top : Network → List ℕ → ℕ → Bool
 is_below_top net labels v = nat_lt (slice_index labels v) (top net)

@@ -1,8 +1,9 @@
 use Rattle.std.specs.Prelude.{◌≡◌, ℕ, ◌+◌, ◌<◌, ◌≤◌, ◌⊎◌, ◌==◌, List, [], length, slice_index, sum_by}
 use Rattle.sums.specs.Sums.{counted}
 use Rattle.flow_network.specs.Cut.{Network, nodes}
-use Rattle.flow_network.specs.Preflow.{IsResidual}
+use Rattle.flow_network.specs.Preflow.{Flow, IsResidual, ReachesIn}
 use Rattle.flow_network.specs.Progress.{top_label, top}
+use Rattle.sink_distances.specs.Distances.{AreDistances}
 
 -- labels, and the labelled nodes in the order in which they were found: the first `count` of a list
 pub record Found : Type 0 where
@@ -70,3 +71,15 @@ pub record AreStarts (net : Network) (rooms : List ℕ) (v : ℕ) (found : Found
       ⊎ ((label_of found u ≡ 1) × (0 < slice_index rooms u))
   pub sinks : (u : ℕ) → u < v → u < nodes net → 0 < slice_index rooms u
       → label_of found u ≤ 1
+
+-- labels of a search that may have ended early: those below the limit are lengths of paths; those of nodes that can give
+-- the sink more, and of nodes with a residual direction to one whose label is more than 1 below the limit, are right; and
+-- all are where the limit is the top label
+pub record IsNear (net : Network) (flow : Flow) (limit : ℕ) (found : List ℕ) : Type 0 where
+  pub len : length found ≡ nodes net
+  pub fits : limit ≤ top net
+  pub leads : (v : ℕ) → v < nodes net → slice_index found v < limit → ReachesIn net flow (slice_index found v) v
+  pub sinks : (v : ℕ) → v < nodes net → slice_index flow.sinks v < slice_index net.sinks v → slice_index found v ≤ 1
+  pub falls : (v w : ℕ) → IsResidual net flow v w → slice_index found w + 1 < limit
+      → slice_index found v ≤ slice_index found w + 1
+  pub full : limit ≡ top net → AreDistances net flow found

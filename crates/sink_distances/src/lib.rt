@@ -9,6 +9,7 @@ ghost use Rattle.sink_distances.specs.Laws.{DistancesLabel, DistancesRise, Dista
 mod adjacency;
 mod filling;
 mod labels;
+mod near;
 mod outline;
 mod rooms;
 mod rows;
@@ -18,6 +19,7 @@ mod side;
 pub use adjacency::{Adjacency, arcs_by_node};
 pub use filling::{rows_by_node, rows_of, zeros};
 pub use labels::top_label;
+pub use near::{Extent, raise_labels};
 pub use outline::Outline;
 pub use rooms::are_rooms;
 pub use rows::{Cell, Rows, Spare};

@@ -38,7 +38,12 @@ pub fn mark(labels: &mut [u32], order: &mut [u32], count: usize, v: u32, label: 
 }
 
 /// Labels the nodes that can give the sink more.
-fn mark_starts(net: &Outline, rooms: &[u64], labels: &mut [u32], order: &mut [u32]) -> usize
+pub(crate) fn mark_starts(
+    net: &Outline,
+    rooms: &[u64],
+    labels: &mut [u32],
+    order: &mut [u32],
+) -> usize
     requires len { length labels.old ≡ nodes net.now }
     requires order_len { length order.old ≡ nodes net.now }
     requires rooms_len { length rooms.now ≡ nodes net.now }
@@ -293,7 +298,7 @@ fn mark_row(
 }
 
 /// Labels the nodes that have a residual direction to the node, one above its label.
-fn mark_behind(
+pub(crate) fn mark_behind(
     net: &Outline,
     rows: &Rows,
     labels: &mut [u32],

@@ -1,0 +1,31 @@
+use Rattle.std.proofs.Common.{arith, ◌∙◌}
+use Rattle.flow_network.specs.Preflow.{Flow, flow_by, given}
+use Rattle.sink_distances.specs.Rows.{carried}
+use Rattle.sink_distances.proofs.Nearing.{rooms-small, raised_labelling, raised_low, raised_near, raised_exact, AreRaisedTo}
+use Rattle.sink_distances.proofs.near.raise_labels.Goals as goal
+
+pub search_near-extent-requires-clause-small : goal.search_near-extent-requires-clause-small
+search_near-extent-requires-clause-small c = rooms-small c.args.net.now c.args.rooms.now c.nodes-nodes.ensures.limits c.requires.rooms
+
+pub returns : goal.returns
+returns c =
+    let net = c.args.net.now in
+    let flow : Flow = flow_by (carried c.args.rows.now) (given net c.args.rooms.now) in
+    let h = c.search_near-extent.ensures.limits in
+    let old = c.args.labels.now in
+    let new = c.raise_to.new.labels in
+    let found = c.search_near-extent.new.found in
+    let limit = c.search_near-extent.result.limit in
+    let near = c.search_near-extent.ensures.near in
+    let len = c.raise_to.auto.labels ∙ c.requires.labels.len in
+    let told : AreRaisedTo net limit found old new = λ v l. c.raise_to.ensures v (omega (arith, l, c.requires.labels.len)) in
+    let made = raised_labelling net flow limit found old new h c.requires.labels near len told in
+    record {
+      labelling = made;
+      rises = λ v l. omega (arith, told v l);
+      low = raised_low net flow limit found old new c.requires.low near told;
+      fits = near.fits;
+      count = c.search_near-extent.ensures.count;
+      near = raised_near net flow limit found old new c.requires.labels near made told;
+      full = raised_exact net flow limit found old new c.requires.labels c.requires.low near len told;
+    }

@@ -1,0 +1,137 @@
+ghost use Rattle.std.specs.Prelude.{◌≡◌, ◌*◌, ◌<◌, ◌≤◌, ℕ, length, max, min, slice_index, sum};
+ghost use Rattle.flow_network.specs.Limits.{capacity_limit};
+ghost use Rattle.flow_network.specs.Cut.{nodes, IsNet};
+ghost use Rattle.flow_network.specs.Preflow.{flow_by, given, AreRooms};
+ghost use Rattle.flow_network.specs.Labels.{IsLabelling};
+ghost use Rattle.flow_network.specs.Progress.{top};
+ghost use Rattle.sink_distances.specs.Distances.{AreDistances, AreExactBelow};
+ghost use Rattle.sink_distances.specs.Laws.{AreLow};
+ghost use Rattle.sink_distances.specs.Rows.{carried, IsRows};
+ghost use Rattle.sink_distances.specs.Search.{IsNear};
+
+use crate::search::{mark_behind, mark_starts};
+use crate::{Outline, Rows};
+
+/// How far a search went.
+#[derive(Clone, Copy)]
+pub struct Extent {
+    /// No node that was not found is nearer to the sink than this. It is the top label where the search was a full one.
+    pub limit: u32,
+    /// How many nodes were found: they stand first in the order, the nearest before the others.
+    pub count: usize,
+}
+
+/// Twice what the rooms are together.
+fn twice_the_room(rooms: &[u64]) -> u64
+    requires { sum rooms.now ≤ capacity_limit }
+    ensures { result ≡ 2 * sum rooms.now }
+{
+    let room: u64 = rooms.iter().sum();
+    2 * room
+}
+
+/// An amount and what the nodes at these places of the order have, or the greatest number there is. What is no node is
+/// passed over.
+fn with_excess(seen: u64, excess: &[u64], order: &[u32]) -> u64 {
+    let mut sum = seen;
+    'found: for place in 0..order.len() {
+        let v = order[place] as usize;
+        if v < excess.len() {
+            sum = sum.saturating_add(excess[v]);
+        }
+    }
+    sum
+}
+
+/// Searches as `write_row_distances` does, and ends at the first level from which on the nodes that were found have more
+/// than twice as much excess as there is room to the sink: that level is the last that was found, and one above it the
+/// limit.
+fn search_near(
+    net: &Outline,
+    rows: &Rows,
+    rooms: &[u64],
+    excess: &[u64],
+    found: &mut [u32],
+    order: &mut [u32],
+) -> Extent
+    requires rows { IsRows net.now rows.now }
+    requires rooms { AreRooms net.now rooms.now }
+    requires small { sum rooms.now ≤ capacity_limit }
+    requires found_len { length found.old ≡ nodes net.now }
+    requires order_len { length order.old ≡ nodes net.now }
+    ensures limits { IsNet net.now }
+    ensures near { IsNear net.now (flow_by (carried rows.now) (given net.now rooms.now)) result.limit found.new }
+    ensures count { result.count ≤ length order.new }
+{
+    let enough = twice_the_room(rooms);
+    let mut count = mark_starts(net, rooms, found, order);
+    let mut seen = with_excess(0, excess, &order[..count]);
+    let mut level = 1;
+    let mut next = 0;
+    'levels: while next < count {
+        let w = order[next] as usize;
+        let label = found[w];
+        if label > level && seen > enough {
+            return Extent {
+                limit: label + 1,
+                count,
+            };
+        }
+        level = label;
+        let first = count;
+        count = mark_behind(net, rows, found, order, count, w);
+        seen = with_excess(seen, excess, &order[first..count]);
+        next += 1;
+    }
+    Extent {
+        limit: net.top_label(),
+        count,
+    }
+}
+
+/// Raises each label to what was found, or to the limit where that is lower.
+fn raise_to(labels: &mut [u32], found: &[u32], limit: u32)
+    requires { length labels.old ≡ length found.now }
+    ensures { (v : ℕ) → v < length labels.old →
+        slice_index labels.new v ≡ max (slice_index labels.old v) (min (slice_index found.now v) limit) }
+{
+    'nodes: for v in 0..found.len() {
+        labels[v] = u32::max(labels[v], u32::min(found[v], limit));
+    }
+}
+
+/// Raises labels by a search that ends early: once the nearest nodes have more than twice as much excess as there is room
+/// to the sink, none beyond their level is looked for. Labels below the limit that it answers are then exact distances, and
+/// where the limit is the top label all are.
+///
+/// `found` and `order` are room for the search, one place for each node. Takes no memory.
+pub fn raise_labels(
+    net: &Outline,
+    rows: &Rows,
+    rooms: &[u64],
+    excess: &[u64],
+    labels: &mut [u32],
+    found: &mut [u32],
+    order: &mut [u32],
+) -> Extent
+    requires rows { IsRows net.now rows.now }
+    requires rooms { AreRooms net.now rooms.now }
+    requires labels { IsLabelling net.now (flow_by (carried rows.now) (given net.now rooms.now)) labels.old }
+    requires low { AreLow net.now labels.old }
+    requires found_len { length found.old ≡ nodes net.now }
+    requires order_len { length order.old ≡ nodes net.now }
+    ensures labelling { IsLabelling net.now (flow_by (carried rows.now) (given net.now rooms.now)) labels.new }
+    ensures rises { (v : ℕ) → v < nodes net.now → slice_index labels.old v ≤ slice_index labels.new v }
+    ensures low { AreLow net.now labels.new }
+    ensures fits { result.limit ≤ top net.now }
+    ensures count { result.count ≤ length order.new }
+    ensures near { AreExactBelow net.now
+        (flow_by (carried rows.now) (given net.now rooms.now)) result.limit labels.new }
+    ensures full { result.limit ≡ top net.now →
+        AreDistances net.now (flow_by (carried rows.now) (given net.now rooms.now)) labels.new }
+{
+    let _nodes = net.nodes();
+    let extent = search_near(net, rows, rooms, excess, found, order);
+    raise_to(labels, found, extent.limit);
+    extent
+}
