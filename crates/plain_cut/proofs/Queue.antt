@@ -3,17 +3,16 @@ use Rattle.std.proofs.Common.{◌≡◌, ◌≢◌, ℕ, zero, suc, ◌<◌, inl
 use Rattle.std.proofs.lemmas.Bool.{cases_lt, cases_eq}
 use Rattle.plain_cut.specs.declared.work.Work.{Work}
 use Rattle.flow_network.specs.Cut.{Network, nodes}
-use Rattle.flow_network.specs.Progress.{top}
-use Rattle.plain_cut.specs.State.{IsWork, IsQueuedBut}
+use Rattle.plain_cut.specs.State.{IsWork, IsQueuedBut, HasNoExcessBelow}
 
 contains_rest : (v x : ℕ) (rest : List ℕ) → x ≢ v → Contains (v ∷ rest) x → Contains rest x
 contains_rest v x rest ne (zero, l, e) = absurd (ne (sym e))
 contains_rest v x rest ne (suc k, l, e) = (k, omega arith, e)
 
-pub pop_queued : (net : Network) (w w' : Work) (v : ℕ) (rest : List ℕ) → w.queue.items ≡ v ∷ rest
+pub pop_queued : (net : Network) (limit : ℕ) (w w' : Work) (v : ℕ) (rest : List ℕ) → w.queue.items ≡ v ∷ rest
     → w'.excess.items ≡ w.excess.items → w'.labels.items ≡ w.labels.items → w'.queue.items ≡ rest
-    → IsQueuedBut net (nodes net) w → IsQueuedBut net v w'
-pop_queued net w w' v rest eq ee el er h x lx ne some low =
+    → IsQueuedBut net limit (nodes net) w → IsQueuedBut net limit v w'
+pop_queued net limit w w' v rest eq ee el er h x lx ne some low =
     let inside = h x lx (λ e. absurd (omega arith)) (omega (arith, ap (λ (xs : List ℕ). slice_index xs x) ee, some)) (omega (arith, ap (λ (xs : List ℕ). slice_index xs x) el, low)) in
     rw er (contains_rest v x rest ne (rw eq at inside))
 
@@ -25,9 +24,9 @@ pop_work net w w' v rest eq ea es ee el er h =
     let all = rw eq at h.queue in
     (all 0 0 (omega arith), record { sound = rw (ea, es, ee, el) h.sound; shown = rw ea h.shown; rooms = rw es h.rooms; queue = rw er (λ k d l. all (suc k) d (omega (arith, l))) })
 
-pub done_queued : (net : Network) (w : Work) (v : ℕ) → (slice_index w.labels.items v < top net → slice_index w.excess.items v ≡ 0)
-    → IsQueuedBut net v w → IsQueuedBut net (nodes net) w
-done_queued net w v done h x lx ne some low = elim (cases_eq x v) [
+pub done_queued : (net : Network) (limit : ℕ) (w : Work) (v : ℕ) → (slice_index w.labels.items v < limit → slice_index w.excess.items v ≡ 0)
+    → IsQueuedBut net limit v w → IsQueuedBut net limit (nodes net) w
+done_queued net limit w v done h x lx ne some low = elim (cases_eq x v) [
   | inl same ↦
       let e1 = ap (slice_index w.labels.items) same in
       let e2 = ap (slice_index w.excess.items) same in
@@ -36,9 +35,8 @@ done_queued net w v done h x lx ne some low = elim (cases_eq x v) [
   | inr other ↦ h x lx other some low
 ]
 
-pub all_done : (net : Network) (w : Work) → w.queue.items ≡ [] → IsQueuedBut net (nodes net) w
-    → (v : ℕ) → v < nodes net → slice_index w.labels.items v < top net → slice_index w.excess.items v ≡ 0
-all_done net w none h v lv low = elim (cases_lt 0 (slice_index w.excess.items v)) [
+pub all_done : (net : Network) (limit : ℕ) (w : Work) → w.queue.items ≡ [] → IsQueuedBut net limit (nodes net) w → HasNoExcessBelow net limit w
+all_done net limit w none h v lv low = elim (cases_lt 0 (slice_index w.excess.items v)) [
   | inl some ↦
       let inside = h v lv (λ e. absurd (omega arith)) some low in
       let empty = rw none at inside in

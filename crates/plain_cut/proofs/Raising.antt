@@ -9,7 +9,7 @@ use Rattle.flow_network.proofs.Moves.{kept-le-total}
 use Rattle.sink_distances.specs.Distances.{AreDistances}
 use Rattle.sink_distances.proofs.Laws.{distances_label, distances_rise, distances-le-top}
 use Rattle.plain_cut.specs.declared.work.Work.{Work}
-use Rattle.plain_cut.specs.State.{work_flow, IsWork, IsQueuedBut, HasNoActiveNode, IsRaised}
+use Rattle.plain_cut.specs.State.{work_flow, IsWork, HasNoActiveNode, IsRaised}
 
 sum_times : (x y k : ℕ) → (x + y) * k ≡ x * k + y * k
 sum_times x y k = grind arith
@@ -61,31 +61,35 @@ raise_sound net flow kept labels new s fits low = record {
 
 -- ---- over the work
 
+-- labels that fit the flow and did not fall
+pub raise_fit : (net : Network) (old new : Work) → IsNet net → IsWork net old
+    → new.rows ≡ old.rows → new.rooms.items ≡ old.rooms.items
+    → new.excess.items ≡ old.excess.items → new.queue.items ≡ old.queue.items
+    → IsLabelling net (work_flow net old) new.labels.items
+    → ((v : ℕ) → v < nodes net → slice_index old.labels.items v ≤ slice_index new.labels.items v)
+    → ((v : ℕ) → v < nodes net → slice_index new.labels.items v ≤ top net) → IsRaised net old new
+raise_fit net old new h s ea es ee eq fits up low = record {
+  work = record {
+    sound = rw (ea, es, ee) (raise_sound net (work_flow net old) old.excess.items old.labels.items new.labels.items s.sound fits low);
+    shown = rw ea s.shown;
+    rooms = rw es s.rooms;
+    queue = rw eq s.queue;
+  };
+  fall = rw ee (raise_lowers net (work_flow net old) old.excess.items old.labels.items new.labels.items h s.sound up low);
+  labels = up;
+  excess = ee;
+  queue = eq;
+}
+
+-- the exact distances
 pub raise_work : (net : Network) (old new : Work) → IsNet net → IsWork net old
     → new.rows ≡ old.rows → new.rooms.items ≡ old.rooms.items
     → new.excess.items ≡ old.excess.items → new.queue.items ≡ old.queue.items
     → AreDistances net (work_flow net old) new.labels.items → IsRaised net old new
 raise_work net old new h s ea es ee eq exact =
-    let up = distances_rise net (work_flow net old) old.labels.items new.labels.items s.sound.labelling s.sound.below_top exact in
-    let low = distances-le-top net (work_flow net old) new.labels.items exact in
-    record {
-      work = record {
-        sound = rw (ea, es, ee) (raise_sound net (work_flow net old) old.excess.items old.labels.items new.labels.items s.sound
-            (distances_label net (work_flow net old) new.labels.items h exact) low);
-        shown = rw ea s.shown;
-        rooms = rw es s.rooms;
-        queue = rw eq s.queue;
-      };
-      fall = rw ee (raise_lowers net (work_flow net old) old.excess.items old.labels.items new.labels.items h s.sound up low);
-      labels = up;
-      excess = ee;
-      queue = eq;
-    }
-
--- no node with excess is forgotten
-pub raise_queued : (net : Network) (but : ℕ) (old new : Work) → IsRaised net old new → IsQueuedBut net but old → IsQueuedBut net but new
-raise_queued net but old new r h v lv off some low =
-    rw r.queue (h v lv off (omega (arith, ap (λ (xs : List ℕ). slice_index xs v) r.excess, some)) (omega (arith, r.labels v lv, low)))
+    raise_fit net old new h s ea es ee eq (distances_label net (work_flow net old) new.labels.items h exact)
+    (distances_rise net (work_flow net old) old.labels.items new.labels.items s.sound.labelling s.sound.below_top exact)
+    (distances-le-top net (work_flow net old) new.labels.items exact)
 
 -- what is finished stays so
 pub raise_finished : (net : Network) (old new : Work) → IsRaised net old new → HasNoActiveNode net old → HasNoActiveNode net new

@@ -51,8 +51,8 @@ push_step net old new u w z h sound shown lower ne lw es ee el eq er =
       lower = lower;
       counted = omega (arith, lower, er);
       queue = rw eq (queue_length old.queue.items w b);
-      queued = λ before v lv off some low.
-          let low' : slice_index old.labels.items v < top net = omega (arith, ap (λ (xs : List ℕ). slice_index xs v) el, low) in
+      queued = λ limit before v lv off some low.
+          let low' : slice_index old.labels.items v < limit = omega (arith, ap (λ (xs : List ℕ). slice_index xs v) el, low) in
           let kept = ap (λ (xs : List ℕ). slice_index xs v) ee in
           rw eq (elim (cases_eq v w) [
             | inl there ↦ rw there (queue_gains old.queue.items w b (λ fails.
@@ -161,7 +161,7 @@ give_step net old new u z h s l le some fits ea es ee el eq er = record {
   lower = rw (ee, el) (give_lowers net old.excess.items old.labels.items u z l s.sound.kept_len le some);
   counted = rw (ee, el) (omega (arith, er, give_lowers net old.excess.items old.labels.items u z l s.sound.kept_len le some));
   queue = rw eq (omega arith);
-  queued = λ before v lv off positive low.
+  queued = λ limit before v lv off positive low.
       let kept = ap (λ (xs : List ℕ). slice_index xs v) ee in
       let r = get_or-set_other old.excess.items u v (slice_index old.excess.items u - z) 0 off in
       rw eq (before v lv off (omega (arith, kept, r, positive)) (omega (arith, ap (λ (xs : List ℕ). slice_index xs v) el, low)));
@@ -185,7 +185,7 @@ relabel_step net old new u j h s l up low ea es ee el eq er = record {
   lower = rw (ee, el) (relabel_lowers_all net (work_flow net old) old.excess.items old.labels.items u j h s.sound l up low.fits);
   counted = rw (ee, el) (omega (arith, er, relabel_lowers_all net (work_flow net old) old.excess.items old.labels.items u j h s.sound l up low.fits));
   queue = rw eq (omega arith);
-  queued = λ before v lv off positive below.
+  queued = λ limit before v lv off positive below.
       let kept = ap (λ (xs : List ℕ). slice_index xs v) ee in
       let lab = ap (λ (xs : List ℕ). slice_index xs v) el in
       let r = get_or-set_other old.labels.items u v j 0 off in
@@ -193,6 +193,9 @@ relabel_step net old new u j h s l up low ea es ee el eq er = record {
 }
 
 -- ---- many steps
+
+pub steps_none : (net : Network) (u : ℕ) (a : Work) → IsWork net a → IsSteps net u a a
+steps_none net u a h = record { work = h; fall = omega arith; lower = omega arith; counted = omega arith; queued = λ limit q. q }
 
 pub steps_one : (net : Network) (u : ℕ) (a b : Work) → IsStep net u a b → IsSteps net u a b
 steps_one net u a b s = record { work = s.work; fall = omega (arith, s.lower); lower = omega (arith, s.lower, s.queue); counted = s.counted; queued = s.queued }
@@ -203,23 +206,10 @@ steps_more net u a b c h s = record {
   fall = omega (arith, h.fall, s.fall);
   lower = omega (arith, h.lower, s.lower);
   counted = omega (arith, h.counted, s.counted);
-  queued = λ q. s.queued (h.queued q);
+  queued = λ limit q. s.queued limit (h.queued limit q);
 }
 
--- ---- a wave and a round
+-- ---- a wave
 
 pub wave_more : (net : Network) (u : ℕ) (a b c : Work) → IsWave net a b → IsSteps net u b c → IsWave net a c
 wave_more net u a b c h s = record { work = s.work; fall = omega (arith, h.fall, s.fall); counted = omega (arith, h.counted, s.counted) }
-
-times_le : (k a b : ℕ) → b ≤ a → b * k ≤ a * k
-times_le k a b h = grind arith
-
--- a turn lowers what a round may not raise
-pub turn_lowers : (n a b x y : ℕ) → b ≤ a → y < x → b * (n + 1) + y < a * (n + 1) + x
-turn_lowers n a b x y h l = omega (arith, times_le (n + 1) a b h, l)
-
--- a round lowers the first part by more than it may raise the other
-pub round_lowers : (n a b x y : ℕ) → b < a → y ≤ x + n → b * (n + 1) + y < a * (n + 1) + x
-round_lowers n a b x y h l =
-    let step : (b + 1) * (n + 1) ≡ b * (n + 1) + (n + 1) = grind arith in
-    omega (arith, step, times_le (n + 1) a (b + 1) (omega (arith, h)), l)

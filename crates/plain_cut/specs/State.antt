@@ -26,15 +26,19 @@ pub record IsUnlabelled (net : Network) (w : Work) : Type 0 where
 abbrev pub left : Network → Work → ℕ
 left net w = work_left net w.excess.items w.labels.items
 
--- each node with excess whose label is below the top, but for one, is queued
-abbrev pub IsQueuedBut : Network → ℕ → Work → Type 0
-IsQueuedBut net but w = (v : ℕ) → v < nodes net → v ≢ but → 0 < slice_index w.excess.items v
-    → slice_index w.labels.items v < top net → Contains w.queue.items v
+-- each node with excess whose label is below the limit, but for one, is queued
+abbrev pub IsQueuedBut : Network → ℕ → ℕ → Work → Type 0
+IsQueuedBut net limit but w = (v : ℕ) → v < nodes net → v ≢ but → 0 < slice_index w.excess.items v
+    → slice_index w.labels.items v < limit → Contains w.queue.items v
+
+-- no node whose label is below the limit has excess
+abbrev pub HasNoExcessBelow : Network → ℕ → Work → Type 0
+HasNoExcessBelow net limit w =
+    (v : ℕ) → v < nodes net → slice_index w.labels.items v < limit → slice_index w.excess.items v ≡ 0
 
 -- no node whose label is below the top has excess
 abbrev pub HasNoActiveNode : Network → Work → Type 0
-HasNoActiveNode net w =
-    (v : ℕ) → v < nodes net → slice_index w.labels.items v < top net → slice_index w.excess.items v ≡ 0
+HasNoActiveNode net w = HasNoExcessBelow net (top net) w
 
 -- a push or a new label at a node: less is left, also of what new labels lower and count; at most one more
 -- node is queued, and none is forgotten
@@ -43,7 +47,7 @@ pub record IsStep (net : Network) (but : ℕ) (old new : Work) : Type 0 where
   pub lower : left net new < left net old
   pub counted : left net new + new.relabels ≤ left net old + old.relabels
   pub queue : length new.queue.items ≤ length old.queue.items + 1
-  pub queued : IsQueuedBut net but old → IsQueuedBut net but new
+  pub queued : (limit : ℕ) → IsQueuedBut net limit but old → IsQueuedBut net limit but new
 
 -- steps at a node, maybe none: less is left by as many as were queued
 pub record IsSteps (net : Network) (but : ℕ) (old new : Work) : Type 0 where
@@ -51,7 +55,7 @@ pub record IsSteps (net : Network) (but : ℕ) (old new : Work) : Type 0 where
   pub fall : left net new ≤ left net old
   pub lower : left net new + length new.queue.items ≤ left net old + length old.queue.items
   pub counted : left net new + new.relabels ≤ left net old + old.relabels
-  pub queued : IsQueuedBut net but old → IsQueuedBut net but new
+  pub queued : (limit : ℕ) → IsQueuedBut net limit but old → IsQueuedBut net limit but new
 
 -- no residual direction of the node leads to a lower label
 pub record IsLowest (net : Network) (w : Work) (v least : ℕ) : Type 0 where
@@ -100,10 +104,10 @@ pub record IsWave (net : Network) (old new : Work) : Type 0 where
   pub fall : left net new ≤ left net old
   pub counted : left net new + new.relabels ≤ left net old + old.relabels
 
--- the work at the start of a round: no node is forgotten, and no more are queued than there are
-pub record IsRound (net : Network) (old new : Work) : Type 0 where
+-- the work at the start of a round: of the nodes whose label is below the limit none with excess is forgotten, and the
+-- others stand aside
+pub record IsRound (net : Network) (limit : ℕ) (old new : Work) : Type 0 where
   pub work : IsWork net new
-  pub fall : left net new ≤ left net old
   pub counted : left net new + new.relabels ≤ left net old
-  pub queue : length new.queue.items ≤ nodes net
-  pub queued : IsQueuedBut net (nodes net) new
+  pub queued : IsQueuedBut net limit (nodes net) new
+  pub aside : All (λ v. slice_index new.labels.items v < limit) new.queue.items

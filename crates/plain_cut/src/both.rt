@@ -78,6 +78,7 @@ fn wider_side(
     work: &mut Work,
     more: &[u64],
     order: &mut [u32],
+    found: &mut [u32],
 ) -> Result<Vec<bool>, AllocError>
     requires limits { IsNet net.now }
     requires extras { AreExtras net.now more.now }
@@ -86,6 +87,7 @@ fn wider_side(
     requires finished { HasNoActiveNode net.now work.old }
     requires exact { AreDistances net.now (work_flow net.now work.old) work.old.labels.items }
     requires order { length order.old ≡ nodes net.now }
+    requires found { length found.old ≡ nodes net.now }
     ensures bits { IfOk result (λ side. length side.items ≡ nodes net.now) }
     ensures smallest { IfOk result (λ side. IsSmallestLeastCut (widened net.now more.now) (set_of side.items)) }
 {
@@ -93,7 +95,7 @@ fn wider_side(
         return least_side(alloc, net, work);
     }
     add_room(net, wider, work, more);
-    settle(wider, work, order)?;
+    settle(wider, work, order, found)?;
     least_side(alloc, wider, work)
 }
 
@@ -126,7 +128,8 @@ pub fn both_sides_in(
     let mut work = finish(alloc, &outline, rows, sources, sinks, space)?;
     let lower = least_side(alloc, &outline, &work)?;
     let order = space.order.as_mut_slice();
-    let upper = wider_side(alloc, &outline, &wider, &mut work, more, order)?;
+    let found = space.found.as_mut_slice();
+    let upper = wider_side(alloc, &outline, &wider, &mut work, more, order, found)?;
     space.keep(alloc, work);
     Ok(BothSides { lower, upper })
 }

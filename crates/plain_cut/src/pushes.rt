@@ -152,6 +152,7 @@ pub fn push_all(net: &Outline, work: &mut Work, v: usize) -> Result<(), AllocErr
     requires work { IsWork net.now work.old }
     requires node { v < nodes net.now }
     ensures steps { OnOk result (IsSteps net.now v work.old work.new) }
+    ensures labels { OnOk result (work.new.labels.items ≡ work.old.labels.items) }
     ensures stuck { OnOk result (0 < slice_index work.new.excess.items v → IsStuck work.new v) }
 {
     try_push_sink(net, work, v);

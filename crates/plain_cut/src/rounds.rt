@@ -1,9 +1,9 @@
-ghost use Rattle.std.specs.Prelude.{◌≡◌, OnOk, length};
+ghost use Rattle.std.specs.Prelude.{◌≡◌, OnOk};
 ghost use Rattle.flow_network.specs.Cut.{nodes, IsNet};
 ghost use Rattle.plain_cut.specs.State.{IsWork, IsWave, IsRound};
 
 use crate::pushes::push_all;
-use crate::work::{Work, queue_again, raise_all};
+use crate::work::{Work, queue_again};
 use sink_distances::Outline;
 use std::alloc::AllocError;
 
@@ -22,32 +22,25 @@ fn push_wave(net: &Outline, work: &mut Work, order: &[u32]) -> Result<(), AllocE
     Ok(())
 }
 
-/// Pushes at each node once, the farthest from the sink first, and queues anew the nodes that still have excess and reach
-/// the sink, where all labels have just been raised and `order` is what that left.
-pub fn push_round(net: &Outline, work: &mut Work, order: &[u32]) -> Result<(), AllocError>
+/// Begins a round, where the labels have just been raised: pushes at each of these nodes once, the last first, and queues
+/// anew the nodes that still have excess and a label below the limit. The others stand aside until the next search.
+pub fn begin_round(
+    net: &Outline,
+    work: &mut Work,
+    found: &[u32],
+    limit: u32,
+) -> Result<(), AllocError>
     requires limits { IsNet net.now }
     requires work { IsWork net.now work.old }
     requires counted { work.old.relabels ≡ 0 }
-    ensures round { OnOk result (IsRound net.now work.old work.new) }
+    ensures round { OnOk result (IsRound net.now limit work.old work.new) }
 {
     work.queue.clear();
-    push_wave(net, work, order)?;
+    push_wave(net, work, found)?;
     queue_again(
         &mut work.queue,
         work.excess.as_slice(),
         work.labels.as_slice(),
-        net.top_label(),
+        limit,
     )
-}
-
-/// Begins a round: raises all labels to the exact distances, and pushes.
-pub fn begin_round(net: &Outline, work: &mut Work, order: &mut [u32]) -> Result<(), AllocError>
-    requires limits { IsNet net.now }
-    requires work { IsWork net.now work.old }
-    requires order { length order.old ≡ nodes net.now }
-    ensures round { OnOk result (IsRound net.now work.old work.new) }
-{
-    order.fill(u32::MAX);
-    raise_all(net, work, order);
-    push_round(net, work, order)
 }

@@ -1,26 +1,27 @@
-ghost use Rattle.std.specs.Prelude.{◌≡◌, ◌↔◌, ◌-◌, ◌<◌, ◌≤◌, ℕ, IfOk, IsTrue, OnOk, length, slice_index};
+ghost use Rattle.std.specs.Prelude.{◌≡◌, ◌-◌, ◌<◌, ◌≤◌, ℕ, IfOk, IsTrue, OnOk, length, slice_index};
 ghost use Rattle.std.specs.Simd.Lanes.{zip2};
 ghost use Rattle.flow_network.specs.Limits.{capacity_limit};
 ghost use Rattle.flow_network.specs.Cut.{nodes, set_of, IsNet, IsSmallestLeastCut};
 ghost use Rattle.flow_network.specs.Preflow.{IsReach};
 ghost use Rattle.flow_network.specs.Answer.{side_of, IsRightCut};
+ghost use Rattle.flow_network.specs.Progress.{top};
 ghost use Rattle.sink_distances.specs.Distances.{AreDistances};
 ghost use Rattle.sink_distances.specs.Rows.{carried, firsts_of, first_at, second_at, places_of, IsRows, AreEmpty};
-ghost use Rattle.plain_cut.specs.State.{work_flow, IsWork, HasNoActiveNode};
+ghost use Rattle.plain_cut.specs.State.{work_flow, IsWork, IsRaised, HasNoActiveNode};
 
 use crate::opening::open;
-use crate::rounds::push_round;
-use crate::turns::run;
-use crate::work::{Work, raise_all};
+use crate::rounds::begin_round;
+use crate::turns::take_turns;
+use crate::work::{Work, raise_all, raise_near};
 use crate::workspace::Workspace;
 use flow_network::{Net, Solved, cut_capacity};
-use sink_distances::{Outline, Rows, Spare, rows_by_node, rows_of, side_below, zeros};
+use sink_distances::{Extent, Outline, Rows, Spare, rows_by_node, rows_of, side_below, zeros};
 use std::alloc::{AllocError, Global};
 use std::collections::VecDeque;
 use std::mem::replace;
 
 /// The work at its end, whose labels are the exact distances. It takes the net's rows, sources and sinks over, and the
-/// workspace's labels and queue; the order goes back to it.
+/// workspace's labels and queue; what the searches use goes back to it.
 pub fn finish(
     alloc: Global,
     net: &Outline,
@@ -38,23 +39,30 @@ pub fn finish(
     ensures finished { IfOk result (λ w. HasNoActiveNode net.now w) }
     ensures exact { IfOk result (λ w. AreDistances net.now (work_flow net.now w) w.labels.items) }
     ensures order { OnOk result (length space.new.order.items ≡ nodes net.now) }
+    ensures found { OnOk result (length space.new.found.items ≡ nodes net.now) }
 {
     let nodes = net.nodes();
     let labels = replace(&mut space.labels, Vec::new(alloc));
     let queue = replace(&mut space.queue, VecDeque::new(alloc));
     let mut order = zeros(replace(&mut space.order, Vec::new(alloc)), nodes)?;
+    let mut found = zeros(replace(&mut space.found, Vec::new(alloc)), nodes)?;
     let mut work = open(net, rows, sources, sinks, labels, queue)?;
-    settle(net, &mut work, order.as_mut_slice())?;
+    settle(net, &mut work, order.as_mut_slice(), found.as_mut_slice())?;
     space.order = order;
+    space.found = found;
     Ok(work)
 }
 
-/// Whether no node whose label is below the top one has excess.
-fn is_settled(net: &Outline, work: &Work) -> bool
+/// Whether the search that ended at this limit was a full one, and no node that reaches the sink has excess.
+fn is_settled(net: &Outline, work: &Work, limit: u32) -> bool
     requires { IsWork net.now work.now }
-    ensures { IsTrue result ↔ HasNoActiveNode net.now work.now }
+    ensures full { IsTrue result → top net.now ≤ limit }
+    ensures finished { IsTrue result → HasNoActiveNode net.now work.now }
 {
     let top = net.top_label();
+    if limit < top {
+        return false;
+    }
     'nodes: for v in 0..net.nodes() {
         if work.excess[v] > 0 && work.labels[v] < top {
             return false;
@@ -63,24 +71,59 @@ fn is_settled(net: &Outline, work: &Work) -> bool
     true
 }
 
-/// Rounds until no node that reaches the sink has excess; at the end the labels are the exact distances. Where none has
-/// at the start, all that is done is to find these.
-pub fn settle(net: &Outline, work: &mut Work, order: &mut [u32]) -> Result<(), AllocError>
+/// A search after a round: one that ends early; or a full one where the round has given no new label.
+fn search_again(net: &Outline, work: &mut Work, order: &mut [u32], found: &mut [u32]) -> Extent
     requires limits { IsNet net.now }
     requires work { IsWork net.now work.old }
     requires order { length order.old ≡ nodes net.now }
+    requires found { length found.old ≡ nodes net.now }
+    ensures raised { IsRaised net.now work.old work.new }
+    ensures fits { result.limit ≤ top net.now }
+    ensures count { result.count ≤ nodes net.now }
+    ensures exact { result.limit ≡ top net.now →
+        AreDistances net.now (work_flow net.now work.new) work.new.labels.items }
+    ensures counted { work.new.relabels ≡ 0 }
+    ensures full { work.old.relabels ≡ 0 → result.limit ≡ top net.now }
+{
+    if work.relabels > 0 {
+        raise_near(net, work, order, found)
+    } else {
+        raise_all(net, work, order);
+        Extent {
+            limit: net.top_label(),
+            count: net.nodes(),
+        }
+    }
+}
+
+/// Rounds until no node that reaches the sink has excess; at the end the labels are the exact distances. Where none has
+/// at the start, all that is done is to find these.
+///
+/// Each round begins with a search, and ends where no node that it found has excess, or there were many new labels.
+pub fn settle(
+    net: &Outline,
+    work: &mut Work,
+    order: &mut [u32],
+    found: &mut [u32],
+) -> Result<(), AllocError>
+    requires limits { IsNet net.now }
+    requires work { IsWork net.now work.old }
+    requires order { length order.old ≡ nodes net.now }
+    requires found { length found.old ≡ nodes net.now }
     ensures work { OnOk result (IsWork net.now work.new) }
     ensures finished { OnOk result (HasNoActiveNode net.now work.new) }
     ensures exact { OnOk result (AreDistances net.now (work_flow net.now work.new) work.new.labels.items) }
 {
-    order.fill(u32::MAX);
-    raise_all(net, work, order);
-    if is_settled(net, work) {
-        return Ok(());
+    let mut extent = raise_near(net, work, order, found);
+    'rounds: while !is_settled(net, work, extent.limit) {
+        begin_round(net, work, &order[..extent.count], extent.limit)?;
+        take_turns(net, work, extent.limit)?;
+        let last = work.relabels == 0 && extent.limit == net.top_label();
+        extent = search_again(net, work, order, found);
+        if last {
+            return Ok(());
+        }
     }
-    push_round(net, work, order)?;
-    run(net, work, order)?;
-    raise_all(net, work, order);
     Ok(())
 }
 
@@ -89,12 +132,14 @@ pub fn settle(net: &Outline, work: &mut Work, order: &mut [u32]) -> Result<(), A
 ///
 /// The preflow method with one queue, first in and first out (Goldberg, Tarjan 1988, "A new approach to the
 /// maximum-flow problem", sections 2 to 4). First excess goes from each node to higher ones, back to lower ones,
-/// and up once more, with no labels yet; then come rounds: a round begins at the start and after each n / 32 new labels,
-/// where n is the number of nodes. It raises the labels to the exact distances (Cherkassky, Goldberg 1997, "On
-/// implementing the push-relabel method for the maximum flow problem") and pushes once at each node, the farthest
-/// from the sink first, so that excess moves down all the way in one pass. The method stops where no node that
-/// reaches the sink has excess: a preflow certifies the cut as well as a flow. The sink side is the nodes that reach
-/// the sink over residual directions.
+/// and up once more, with no labels yet; then come rounds. A round raises the labels to the exact distances (Cherkassky,
+/// Goldberg 1997, "On implementing the push-relabel method for the maximum flow problem"), by a search from the sink that
+/// ends at the level at which it has found more than twice as much excess as the sink can still take. Nodes that it did
+/// not find stand aside until the next search. Then it pushes once at each node that was found, the farthest from the sink
+/// first, so that excess moves down all the way in one pass, and discharges those that have excess left, until none has,
+/// or there were more than n / 32 new labels, where n is the number of nodes. The method stops where a full search finds
+/// that no node that reaches the sink has excess: a preflow certifies the cut as well as a flow. The sink side is the nodes
+/// that reach the sink over residual directions.
 ///
 /// Takes every net, also of no nodes, with parallel and opposite arcs, and with arcs from a node to itself.
 /// Refuses only where memory runs out; a net of 2^31 arcs or more counts as that.

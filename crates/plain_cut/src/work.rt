@@ -1,11 +1,12 @@
 ghost use Rattle.std.specs.Prelude.{◌≡◌, ◌<◌, ◌≤◌, ℕ, IfOk, OnOk, All, Contains, length, slice_index};
 ghost use Rattle.flow_network.specs.Limits.{node_limit};
 ghost use Rattle.flow_network.specs.Cut.{nodes, IsNet};
+ghost use Rattle.flow_network.specs.Progress.{top};
 ghost use Rattle.sink_distances.specs.Distances.{AreDistances};
 ghost use Rattle.sink_distances.specs.Rows.{IsRows, AreEmpty};
 ghost use Rattle.plain_cut.specs.State.{work_flow, IsWork, IsRaised, IsUnlabelled};
 
-use sink_distances::{Outline, Rows, write_row_distances, zeros};
+use sink_distances::{Extent, Outline, Rows, raise_labels, write_row_distances, zeros};
 use std::alloc::AllocError;
 use std::collections::VecDeque;
 
@@ -22,27 +23,27 @@ pub struct Work {
     pub labels: Vec<u32>,
     /// Nodes that had excess when they came, in the order of their turns.
     pub queue: VecDeque<u32>,
-    /// How many new labels there were since all labels were exact distances.
+    /// How many new labels there were since all labels were raised by a search.
     pub relabels: usize,
 }
 
-/// Queues anew the nodes that have excess and a label below the top one, in rising order.
+/// Queues anew the nodes that have excess and a label below the limit, in rising order.
 pub fn queue_again(
     queue: &mut VecDeque<u32>,
     excess: &[u64],
     labels: &[u32],
-    top: u32,
+    limit: u32,
 ) -> Result<(), AllocError>
     requires len { length labels.now ≡ length excess.now }
-    requires limit { length excess.now ≤ node_limit }
+    requires many { length excess.now ≤ node_limit }
     ensures nodes { OnOk result (All (λ v. v < length excess.now) queue.new.items) }
     ensures all { OnOk result ((v : ℕ) → v < length excess.now → 0 < slice_index excess.now v →
-        slice_index labels.now v < top → Contains queue.new.items v) }
-    ensures few { OnOk result (length queue.new.items ≤ length excess.now) }
+        slice_index labels.now v < limit → Contains queue.new.items v) }
+    ensures aside { OnOk result (All (λ v. slice_index labels.now v < limit) queue.new.items) }
 {
     queue.clear();
     'nodes: for v in 0..excess.len() {
-        if excess[v] > 0 && labels[v] < top {
+        if excess[v] > 0 && labels[v] < limit {
             queue.push_back(v as u32)?;
         }
     }
@@ -98,4 +99,30 @@ pub fn raise_all(net: &Outline, work: &mut Work, order: &mut [u32])
         order,
     );
     work.relabels = 0;
+}
+
+/// Raises the labels by a search that ends early, as `raise_labels` does. `order` and `found` have one place for each node:
+/// the nodes that were found then stand first in `order`, the nearest before the others.
+pub fn raise_near(net: &Outline, work: &mut Work, order: &mut [u32], found: &mut [u32]) -> Extent
+    requires limits { IsNet net.now }
+    requires work { IsWork net.now work.old }
+    requires order { length order.old ≡ nodes net.now }
+    requires found { length found.old ≡ nodes net.now }
+    ensures raised { IsRaised net.now work.old work.new }
+    ensures fits { result.limit ≤ top net.now }
+    ensures count { result.count ≤ nodes net.now }
+    ensures exact { result.limit ≡ top net.now →
+        AreDistances net.now (work_flow net.now work.new) work.new.labels.items }
+    ensures counted { work.new.relabels ≡ 0 }
+{
+    work.relabels = 0;
+    raise_labels(
+        net,
+        &work.rows,
+        work.rooms.as_slice(),
+        work.excess.as_slice(),
+        work.labels.as_mut_slice(),
+        found,
+        order,
+    )
 }

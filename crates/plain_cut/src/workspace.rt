@@ -10,9 +10,10 @@ pub struct Workspace {
     pub(crate) labels: Vec<u32>,
     pub(crate) queue: VecDeque<u32>,
     pub(crate) order: Vec<u32>,
+    pub(crate) found: Vec<u32>,
 }
 
-/// The most nodes of a net whose lists are kept, as many as a picture of 512 by 512 has: they take 80 bytes a node of two
+/// The most nodes of a net whose lists are kept, as many as a picture of 512 by 512 has: they take 84 bytes a node of two
 /// arcs while the next net is made. Lists of larger nets are given back.
 const KEPT_NODES: usize = 262_144;
 
@@ -28,6 +29,7 @@ impl Workspace {
             labels: Vec::new(alloc),
             queue: VecDeque::new(alloc),
             order: Vec::new(alloc),
+            found: Vec::new(alloc),
         }
     }
 

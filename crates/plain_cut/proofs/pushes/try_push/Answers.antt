@@ -37,7 +37,7 @@ returns-clause-steps c =
     on_ok_weaker c.push_along.result (steps_one c.args.net.now c.args.v c.args.work.now c.push_along.new.work) c.push_along.ensures.step
 
 pub returns-then-index-eq0-clause-steps : goal.returns-then-index-eq0-clause-steps
-returns-then-index-eq0-clause-steps c = record { work = c.requires.work; fall = omega arith; lower = omega arith; counted = omega arith; queued = λ q. q }
+returns-then-index-eq0-clause-steps c = record { work = c.requires.work; fall = omega arith; lower = omega arith; counted = omega arith; queued = λ limit q. q }
 
 pub returns-then-index-eq0-clause-push : goal.returns-then-index-eq0-clause-push
 returns-then-index-eq0-clause-push c = record { labels = refl; sinks = refl; starts = refl; heads = λ q. refl; excess = omega arith }

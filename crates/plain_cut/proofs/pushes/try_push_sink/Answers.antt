@@ -24,7 +24,7 @@ returns-then-index-gt0-2 c = record {
 }
 
 pub returns-else-index-gt0-clause-steps : goal.returns-else-index-gt0-clause-steps
-returns-else-index-gt0-clause-steps c = record { work = c.requires.work; fall = omega arith; lower = omega arith; counted = omega arith; queued = λ q. q }
+returns-else-index-gt0-clause-steps c = record { work = c.requires.work; fall = omega arith; lower = omega arith; counted = omega arith; queued = λ limit q. q }
 
 pub returns-else-index-gt0-clause-rows : goal.returns-else-index-gt0-clause-rows
 returns-else-index-gt0-clause-rows c = refl

@@ -1,9 +1,9 @@
-use Rattle.std.proofs.Common.{◌<◌, ◌≤◌, ℕ, All, Contains, length, slice_index}
+use Rattle.std.proofs.Common.{◌<◌, ℕ, All, Contains, length, slice_index}
 use Rattle.plain_cut.proofs.work.queue_again.Given as goal
 
 abbrev pub invariant-nodes : goal.invariant-nodes
 invariant-nodes l = record {
   nodes : All (λ v. v < length l.excess) l.queue.items;
-  all : (v : ℕ) → v < l.v → 0 < slice_index l.excess v → slice_index l.labels v < l.top → Contains l.queue.items v;
-  few : length l.queue.items ≤ l.v;
+  all : (v : ℕ) → v < l.v → 0 < slice_index l.excess v → slice_index l.labels v < l.limit → Contains l.queue.items v;
+  aside : All (λ v. slice_index l.labels v < l.limit) l.queue.items;
 }
