@@ -1,5 +1,5 @@
 ghost use Rattle.std.specs.Prelude.{◌≡◌, OnOk};
-ghost use Rattle.flow_network.specs.Cut.{nodes, IsNet};
+ghost use Rattle.flow_network.specs.Cut.{IsNet};
 ghost use Rattle.plain_cut.specs.State.{IsWork, IsWave, IsRound};
 
 use crate::pushes::push_all;

@@ -71,8 +71,25 @@ fn is_settled(net: &Outline, work: &Work, limit: u32) -> bool
     true
 }
 
-/// A search after a round: one that ends early; or a full one where the round has given no new label.
-fn search_again(net: &Outline, work: &mut Work, order: &mut [u32], found: &mut [u32]) -> Extent
+/// How many times the room is looked for after a round: twice as many as before it, where its queue is empty. So only 64
+/// rounds of a cut have few new labels.
+fn times_after(work: &Work, times: u64) -> u64 {
+    if work.queue.is_empty() {
+        times.saturating_mul(2)
+    } else {
+        times
+    }
+}
+
+/// A search after a round: one that ends early; or a full one where the round has given no new label. What stands in
+/// `order` behind the nodes that a full search found does no harm.
+fn search_again(
+    net: &Outline,
+    work: &mut Work,
+    times: u64,
+    order: &mut [u32],
+    found: &mut [u32],
+) -> Extent
     requires limits { IsNet net.now }
     requires work { IsWork net.now work.old }
     requires order { length order.old ≡ nodes net.now }
@@ -86,7 +103,7 @@ fn search_again(net: &Outline, work: &mut Work, order: &mut [u32], found: &mut [
     ensures full { work.old.relabels ≡ 0 → result.limit ≡ top net.now }
 {
     if work.relabels > 0 {
-        raise_near(net, work, order, found)
+        raise_near(net, work, times, order, found)
     } else {
         raise_all(net, work, order);
         Extent {
@@ -114,12 +131,14 @@ pub fn settle(
     ensures finished { OnOk result (HasNoActiveNode net.now work.new) }
     ensures exact { OnOk result (AreDistances net.now (work_flow net.now work.new) work.new.labels.items) }
 {
-    let mut extent = raise_near(net, work, order, found);
+    let mut times = 2;
+    let mut extent = raise_near(net, work, times, order, found);
     'rounds: while !is_settled(net, work, extent.limit) {
         begin_round(net, work, &order[..extent.count], extent.limit)?;
         take_turns(net, work, extent.limit)?;
         let last = work.relabels == 0 && extent.limit == net.top_label();
-        extent = search_again(net, work, order, found);
+        times = times_after(work, times);
+        extent = search_again(net, work, times, order, found);
         if last {
             return Ok(());
         }
@@ -134,8 +153,8 @@ pub fn settle(
 /// maximum-flow problem", sections 2 to 4). First excess goes from each node to higher ones, back to lower ones,
 /// and up once more, with no labels yet; then come rounds. A round raises the labels to the exact distances (Cherkassky,
 /// Goldberg 1997, "On implementing the push-relabel method for the maximum flow problem"), by a search from the sink that
-/// ends at the level at which it has found more than twice as much excess as the sink can still take. Nodes that it did
-/// not find stand aside until the next search. Then it pushes once at each node that was found, the farthest from the sink
+/// ends at the level at which it has found more than twice as much excess as the sink can still take; later searches look
+/// for more. Nodes that it did not find stand aside until the next search. Then it pushes once at each node that was found, the farthest from the sink
 /// first, so that excess moves down all the way in one pass, and discharges those that have excess left, until none has,
 /// or there were more than n / 32 new labels, where n is the number of nodes. The method stops where a full search finds
 /// that no node that reaches the sink has excess: a preflow certifies the cut as well as a flow. The sink side is the nodes

@@ -11,12 +11,7 @@ use std::alloc::{AllocError, Global};
 
 /// Pushes and new labels until the node has no excess, or its label has come to the limit. A node whose label is there
 /// already stands aside: it does not push.
-pub fn discharge(
-    net: &Outline,
-    work: &mut Work,
-    v: usize,
-    limit: u32,
-) -> Result<(), AllocError>
+pub fn discharge(net: &Outline, work: &mut Work, v: usize, limit: u32) -> Result<(), AllocError>
     requires work { IsWork net.now work.old }
     requires node { v < nodes net.now }
     requires limit { limit ≤ top net.now }

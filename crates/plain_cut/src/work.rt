@@ -101,9 +101,16 @@ pub fn raise_all(net: &Outline, work: &mut Work, order: &mut [u32])
     work.relabels = 0;
 }
 
-/// Raises the labels by a search that ends early, as `raise_labels` does. `order` and `found` have one place for each node:
-/// the nodes that were found then stand first in `order`, the nearest before the others.
-pub fn raise_near(net: &Outline, work: &mut Work, order: &mut [u32], found: &mut [u32]) -> Extent
+/// Raises the labels by a search that ends early, as `raise_labels` does: once it has found so many times as much excess as
+/// there is room. `order` and `found` have one place for each node: the nodes that were found then stand first in `order`,
+/// the nearest before the others.
+pub fn raise_near(
+    net: &Outline,
+    work: &mut Work,
+    times: u64,
+    order: &mut [u32],
+    found: &mut [u32],
+) -> Extent
     requires limits { IsNet net.now }
     requires work { IsWork net.now work.old }
     requires order { length order.old ≡ nodes net.now }
@@ -121,6 +128,7 @@ pub fn raise_near(net: &Outline, work: &mut Work, order: &mut [u32], found: &mut
         &work.rows,
         work.rooms.as_slice(),
         work.excess.as_slice(),
+        times,
         work.labels.as_mut_slice(),
         found,
         order,

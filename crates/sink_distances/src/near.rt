@@ -1,4 +1,4 @@
-ghost use Rattle.std.specs.Prelude.{◌≡◌, ◌*◌, ◌<◌, ◌≤◌, ℕ, length, max, min, slice_index, sum};
+ghost use Rattle.std.specs.Prelude.{◌≡◌, ◌<◌, ◌≤◌, ℕ, length, max, min, slice_index, sum};
 ghost use Rattle.flow_network.specs.Limits.{capacity_limit};
 ghost use Rattle.flow_network.specs.Cut.{nodes, IsNet};
 ghost use Rattle.flow_network.specs.Preflow.{flow_by, given, AreRooms};
@@ -21,13 +21,12 @@ pub struct Extent {
     pub count: usize,
 }
 
-/// Twice what the rooms are together.
-fn twice_the_room(rooms: &[u64]) -> u64
+/// So many times what the rooms are together, or the greatest number there is.
+fn room_times(rooms: &[u64], times: u64) -> u64
     requires { sum rooms.now ≤ capacity_limit }
-    ensures { result ≡ 2 * sum rooms.now }
 {
     let room: u64 = rooms.iter().sum();
-    2 * room
+    room.saturating_mul(times)
 }
 
 /// An amount and what the nodes at these places of the order have, or the greatest number there is. What is no node is
@@ -43,14 +42,14 @@ fn with_excess(seen: u64, excess: &[u64], order: &[u32]) -> u64 {
     sum
 }
 
-/// Searches as `write_row_distances` does, and ends at the first level from which on the nodes that were found have more
-/// than twice as much excess as there is room to the sink: that level is the last that was found, and one above it the
-/// limit.
+/// Searches as `write_row_distances` does, and ends at the level by which the nodes that were found have more than so many
+/// times as much excess as there is room to the sink: that level is the last that was found, and one above it the limit.
 fn search_near(
     net: &Outline,
     rows: &Rows,
     rooms: &[u64],
     excess: &[u64],
+    times: u64,
     found: &mut [u32],
     order: &mut [u32],
 ) -> Extent
@@ -63,7 +62,7 @@ fn search_near(
     ensures near { IsNear net.now (flow_by (carried rows.now) (given net.now rooms.now)) result.limit found.new }
     ensures count { result.count ≤ length order.new }
 {
-    let enough = twice_the_room(rooms);
+    let enough = room_times(rooms, times);
     let mut count = mark_starts(net, rooms, found, order);
     let mut seen = with_excess(0, excess, &order[..count]);
     let mut level = 1;
@@ -100,7 +99,7 @@ fn raise_to(labels: &mut [u32], found: &[u32], limit: u32)
     }
 }
 
-/// Raises labels by a search that ends early: once the nearest nodes have more than twice as much excess as there is room
+/// Raises labels by a search that ends early: once the nearest nodes have more than `times` as much excess as there is room
 /// to the sink, none beyond their level is looked for. Labels below the limit that it answers are then exact distances, and
 /// where the limit is the top label all are.
 ///
@@ -110,6 +109,7 @@ pub fn raise_labels(
     rows: &Rows,
     rooms: &[u64],
     excess: &[u64],
+    times: u64,
     labels: &mut [u32],
     found: &mut [u32],
     order: &mut [u32],
@@ -131,7 +131,7 @@ pub fn raise_labels(
         AreDistances net.now (flow_by (carried rows.now) (given net.now rooms.now)) labels.new }
 {
     let _nodes = net.nodes();
-    let extent = search_near(net, rows, rooms, excess, found, order);
+    let extent = search_near(net, rows, rooms, excess, times, found, order);
     raise_to(labels, found, extent.limit);
     extent
 }
