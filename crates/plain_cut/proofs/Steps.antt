@@ -1,12 +1,12 @@
 -- A push, a gift or a new label is a step of the work.
-use Rattle.std.proofs.Common.{◌≡◌, ◌≢◌, ℕ, ◌+◌, ◌-◌, ◌*◌, ◌<◌, ◌≤◌, inl, inr, Bool, true, false, cond, eqb, List, [], ◌∷◌, ◌++◌, length, set, slice_index, All, Contains, refl, sym, ◌∙◌, ap, subst, arith, get_or-set_other}
+use Rattle.std.proofs.Common.{◌≡◌, ◌≢◌, ℕ, ◌+◌, ◌-◌, ◌<◌, ◌≤◌, inl, inr, Bool, true, false, cond, eqb, List, [], ◌∷◌, ◌++◌, length, set, slice_index, All, Contains, refl, sym, ◌∙◌, ap, subst, arith, get_or-set_other}
 use Rattle.std.proofs.lemmas.List.{length_push}
 use Rattle.std.proofs.lemmas.List.Elements.{All-push, Contains-append_left, Contains-push}
 use Rattle.std.proofs.lemmas.Bool.{cases_lt, cases_eq, eq-eqb}
 use Rattle.plain_cut.specs.declared.work.Work.{Work}
 use Rattle.flow_network.specs.Cut.{Network, nodes, IsNet}
 use Rattle.flow_network.specs.Preflow.{arc_at, given, IsResidual}
-use Rattle.flow_network.specs.Progress.{top, IsSound}
+use Rattle.flow_network.specs.Progress.{IsSound}
 use Rattle.sink_distances.specs.Rows.{head_at, residual_at, carried, IsPlace, IsOf, IsRows, IsSent}
 use Rattle.sink_distances.proofs.Showing.{carried_at, carried_forth, carried_back, rows_sent, residual_place}
 use Rattle.plain_cut.specs.State.{work_flow, IsWork, left, IsStep, IsSteps, IsWave, IsLowest}

@@ -1,6 +1,5 @@
 use Rattle.std.proofs.Common.{◌≡◌, ◌<◌, slice_index, refl, ap, arith}
 use Rattle.std.proofs.lemmas.List.{get_or_read}
-use Rattle.std.proofs.lemmas.Result.{IfOk-from_err}
 use Rattle.flow_network.specs.Progress.{top}
 use Rattle.plain_cut.specs.declared.work.Work.{Work}
 use Rattle.plain_cut.specs.State.{IsSteps}

@@ -1,5 +1,4 @@
 use Rattle.std.proofs.Common.{refl, arith}
-use Rattle.plain_cut.specs.State.{IsQueuedBut}
 use Rattle.plain_cut.proofs.Queue.{pop_queued, pop_work, done_queued}
 use Rattle.plain_cut.proofs.turns.take_turns.Goals as goal
 

@@ -1,11 +1,11 @@
-use Rattle.std.proofs.Common.{refl, arith}
+use Rattle.std.proofs.Common.{arith}
 use Rattle.flow_network.specs.Preflow.{Flow, flow_by, given}
 use Rattle.sink_distances.specs.Rows.{carried}
 use Rattle.sink_distances.specs.Search.{found_of}
 use Rattle.sink_distances.proofs.Order.{count-le-length}
 use Rattle.sink_distances.proofs.Searching.{searched_begins, searched_more}
 use Rattle.sink_distances.proofs.Nearing.{search_is_near}
-use Rattle.sink_distances.proofs.Nearing.IsAt.{Before, Done}
+use Rattle.sink_distances.proofs.Nearing.IsAt.{Done}
 use Rattle.sink_distances.proofs.near.search_near.Goals as goal
 
 pub levels-init : goal.levels-init
