@@ -7,7 +7,7 @@ use Rattle.std.proofs.lemmas.List.Elements.{All-head, All-tail}
 use Rattle.std.proofs.lemmas.List.Sums.{sum_by-cons}
 use Rattle.sums.specs.Sums.{sum_below, counted}
 use Rattle.sums.specs.IntegerSums.{int_sum_by, int_sum_below}
-use Rattle.grouping.specs.declared.Groups.{Groups}
+use Rattle.move_energy.specs.declared.by_site.Neighbours.{Neighbours}
 use Rattle.grouping.specs.Grouping.{IsGrouped}
 use Rattle.label_field.specs.declared.pair.Pair.{Pair}
 use Rattle.label_field.specs.PairLists.{IsPair}
@@ -441,11 +441,11 @@ no_pair m move f choice set p pair off other =
     ap (λ b. pos (counted b (pair_surplus m move f pair)))
     (leads_none _ (is_beyond choice set pair.second) _ (is_beyond choice set pair.first) (test_false pair.first p off) (test_false pair.second p other))
 
-pub border_by_site : (m : Instance) (move : Move) (f : ℕ → ℕ) (choice : ℕ → Choice) (set : ℕ → Bool) (p : ℕ) (ends : Groups) → IsInstance m
+pub border_by_site : (m : Instance) (move : Move) (f : ℕ → ℕ) (choice : ℕ → Choice) (set : ℕ → Bool) (p : ℕ) (ends : Neighbours) → IsInstance m
     → IsGrouped m.sites (ends_of m.pairs) ends → p < m.sites
-    → border_at m move f choice set p ≡ sum_below (degree ends p) (λ k. pair_border m move f choice set p (pair_of m.pairs ends p k))
+    → border_at m move f choice set p ≡ sum_below (degree ends p) (λ k. pair_border m move f choice set p (pair_of ends p k))
 border_by_site m move f choice set p ends pairs grouped l =
     let all = sum_is (pair_border m move f choice set p) m.pairs in
-    let own = below_is_sum (degree ends p) (λ k. pair_border m move f choice set p (pair_of m.pairs ends p k)) in
+    let own = below_is_sum (degree ends p) (λ k. pair_border m move f choice set p (pair_of ends p k)) in
     let same = site_sum m.sites p m.pairs ends (λ pair. pos (pair_border m move f choice set p pair)) pairs grouped l (no_pair m move f choice set p) in
     omega (arith, ints, all, own, same)

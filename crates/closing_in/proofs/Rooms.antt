@@ -5,7 +5,7 @@ use Rattle.std.proofs.lemmas.Int.{ints, to_z-of_z}
 use Rattle.std.proofs.lemmas.List.Elements.{All-get_or}
 use Rattle.sums.specs.Sums.{sum_below}
 use Rattle.sums.proofs.IntegerSumLemmas.{within_fits, abs-add}
-use Rattle.grouping.specs.declared.Groups.{Groups}
+use Rattle.move_energy.specs.declared.by_site.Neighbours.{Neighbours}
 use Rattle.grouping.specs.Grouping.{start_of, place_at}
 use Rattle.label_field.specs.declared.pair.Pair.{Pair}
 use Rattle.label_field.specs.PairLists.{PairList, IsPairList}
@@ -39,19 +39,19 @@ pub total_more : (old added new : ℤ) (g : ℕ → ℕ) (k b : ℕ) → new ≡
 total_more old added new g k b is before one here = rw add-one (omega (arith, ints, is, before, one, here))
 
 -- each pair of a site has a regular term
-pub regular_at : (m : Instance) (move : Move) (f : ℕ → ℕ) (pairs : PairList) (ends : Groups) (site k : ℕ) (pair : Pair) → AreBySite pairs ends → site < pairs.sites → k < degree ends site
-    → m.pairs ≡ pairs.list → pair ≡ pair_of pairs.list ends site k → IsAllowed m move f → IsRegularPair m move f pair
+pub regular_at : (m : Instance) (move : Move) (f : ℕ → ℕ) (pairs : PairList) (ends : Neighbours) (site k : ℕ) (pair : Pair) → AreBySite pairs ends → site < pairs.sites → k < degree ends site
+    → m.pairs ≡ pairs.list → pair ≡ pair_of ends site k → IsAllowed m move f → IsRegularPair m move f pair
 regular_at m move f pairs ends site k pair by_site inside l same is allowed =
     let P : Pair → Type 0 = λ p. IsRegularPair m move f p in
     let Q : List Pair → Type 0 = λ ps. All (IsRegularPair m move f) ps in
     subst P (sym is)
-    (All-get_or P pairs.list (place_at ends (start_of ends site + k) / 2) (record { first = 0; second = 0; weight = 0 }) (end_within pairs ends site k by_site inside l).1 (subst Q same allowed))
+    (All-get_or P pairs.list (place_at ends (start_at ends site + k) / 2) (record { first = 0; second = 0; weight = 0 }) (end_within pairs ends site k by_site inside l).1 (subst Q same allowed))
 
 -- all pairs
-pub total_all : (m : Instance) (move : Move) (f : ℕ → ℕ) (choice : ℕ → Choice) (set : ℕ → Bool) (pairs : PairList) (ends : Groups) (site k : ℕ) (total : ℤ)
+pub total_all : (m : Instance) (move : Move) (f : ℕ → ℕ) (choice : ℕ → Choice) (set : ℕ → Bool) (pairs : PairList) (ends : Neighbours) (site k : ℕ) (total : ℤ)
     → m.pairs ≡ pairs.list → m.sites ≡ pairs.sites → IsPairList pairs → AreBySite pairs ends → site < pairs.sites → k ≡ degree ends site
-    → total ≡ pos (sum_below k (λ i. pair_border m move f choice set site (pair_of pairs.list ends site i)))
+    → total ≡ pos (sum_below k (λ i. pair_border m move f choice set site (pair_of ends site i)))
     → total ≡ pos (border_at m move f choice set site)
 total_all m move f choice set pairs ends site k total same sites list by_site inside end is =
-    is ∙ (λ j. pos (sum_below (end j) (λ i. pair_border m move f choice set site (pair_of (sym same j) ends site i))))
+    is ∙ (λ j. pos (sum_below (end j) (λ i. pair_border m move f choice set site (pair_of ends site i))))
     ∙ ap pos (sym (border_by_site m move f choice set site ends (meant_pairs m pairs same sites list) (meant_grouped m pairs ends same sites by_site) (omega (arith, inside, sites))))

@@ -2,7 +2,7 @@
 use Rattle.std.specs.Prelude.{◌≡◌, ◌⊎◌, ℕ, ◌<◌, Bool, true, false, List, ℤ, pos, ◌+ℤ◌, vec_len}
 use Rattle.std.specs.List.{All}
 use Rattle.sums.specs.Sums.{sum_below}
-use Rattle.grouping.specs.declared.Groups.{Groups}
+use Rattle.move_energy.specs.declared.by_site.Neighbours.{Neighbours}
 use Rattle.grouping.specs.Grouping.{IsGrouped}
 use Rattle.labellings.specs.declared.change.Move.{Move}
 use Rattle.labellings.specs.Energies.{Instance, IsInstance}
@@ -194,10 +194,10 @@ UpperRiseIsLower =
 -- a site's border is a sum over its own pairs
 abbrev pub BorderBySite : Type 0
 BorderBySite =
-    (m : Instance) (move : Move) (f : ℕ → ℕ) (choice : ℕ → Choice) (set : ℕ → Bool) (p : ℕ) (ends : Groups)
+    (m : Instance) (move : Move) (f : ℕ → ℕ) (choice : ℕ → Choice) (set : ℕ → Bool) (p : ℕ) (ends : Neighbours)
     → IsInstance m → IsGrouped m.sites (ends_of m.pairs) ends → p < m.sites
     → border_at m move f choice set p
-    ≡ sum_below (degree ends p) (λ k. pair_border m move f choice set p (pair_of m.pairs ends p k))
+    ≡ sum_below (degree ends p) (λ k. pair_border m move f choice set p (pair_of ends p k))
 
 -- but for a fixed number, the upper function is the lower one, less the border of the ones
 abbrev pub UpperIsLowerWithBorder : Type 0

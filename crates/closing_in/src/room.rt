@@ -10,7 +10,6 @@ ghost use Rattle.move_energy.specs.Limits.{surplus_limit};
 ghost use Rattle.closing_in.specs.Borders.{range_of, is_beyond as beyond_of, leads_beyond as leads_of, pair_border as border_of_pair, border_at};
 
 use cost_store::Problem;
-use grouping::Groups;
 use label_field::Pair;
 use labellings::Move;
 use move_energy::{Choice, ends_at, pair_at, surplus, term};
@@ -62,7 +61,7 @@ fn pair_border<F: Fn(u32, u32) -> i64 + Sync, V: Fn(u32, u32) -> i64 + Sync>(
 /// The border of a site of a strip that is a range of sites: what its pairs to open sites outside the range come to.
 pub fn border<F: Fn(u32, u32) -> i64 + Sync, V: Fn(u32, u32) -> i64 + Sync>(
     problem: &Problem<F, V>,
-    ends: &Groups,
+    ends: &Neighbours,
     choices: &[Choice],
     from: u32,
     to: u32,

@@ -2,7 +2,7 @@
 use Rattle.std.proofs.Common.{◌≡◌, ◌≢◌, ℕ, zero, suc, ◌+◌, ◌*◌, ◌<◌, ◌≤◌, false, List, length, refl, sym, ap, arith}
 use Rattle.sums.specs.Sums.{sum_below, counted}
 use Rattle.sums.proofs.SumLemmas.{sum_below-change, sum_below-le, counted-le}
-use Rattle.grouping.specs.declared.Groups.{Groups}
+use Rattle.move_energy.specs.declared.by_site.Neighbours.{Neighbours}
 use Rattle.grouping.specs.Grouping.{start_of}
 use Rattle.label_field.specs.PairLists.{PairList}
 use Rattle.move_energy.specs.BySite.{degree, AreBySite}
@@ -18,7 +18,7 @@ closed_not Zero off = refl
 closed_not One off = refl
 
 -- a decided site's ends are no longer left
-pub left_less : (ends : Groups) (n site : ℕ) (old new : List Choice) → site < n → choice_at old site ≡ Open → ¬ (choice_at new site ≡ Open)
+pub left_less : (ends : Neighbours) (n site : ℕ) (old new : List Choice) → site < n → choice_at old site ≡ Open → ¬ (choice_at new site ≡ Open)
     → ((u : ℕ) → u ≢ site → choice_at new u ≡ choice_at old u) → left ends n new + degree ends site ≡ left ends n old
 left_less ends n site old new l opened closed others =
     let change = sum_below-change n site (λ u. counted (is_open (choice_at old u)) (degree ends u)) (λ u. counted (is_open (choice_at new u)) (degree ends u)) l
@@ -30,16 +30,16 @@ left_less ends n site old new l opened closed others =
 succ_is : (n : ℕ) → n + 1 ≡ suc n
 succ_is n = omega arith
 
-all_degrees : (ends : Groups) (n : ℕ) → ((v : ℕ) → v < n → start_of ends v ≤ start_of ends (v + 1)) → sum_below n (degree ends) ≤ start_of ends n
+all_degrees : (ends : Neighbours) (n : ℕ) → ((v : ℕ) → v < n → start_at ends v ≤ start_at ends (v + 1)) → sum_below n (degree ends) ≤ start_at ends n
 all_degrees ends zero ordered = omega arith
 all_degrees ends (suc n) ordered =
     let before = all_degrees ends n (λ v l. ordered v (omega (arith, l))) in
     let here = ordered n (omega arith) in
-    let next = ap (start_of ends) (succ_is n) in
+    let next = ap (start_at ends) (succ_is n) in
     omega (arith, before, here, next)
 
 -- at most two ends of each pair are left
-pub left_most : (pairs : PairList) (ends : Groups) (choices : List Choice) → AreBySite pairs ends → left ends pairs.sites choices ≤ 2 * length pairs.list
+pub left_most : (pairs : PairList) (ends : Neighbours) (choices : List Choice) → AreBySite pairs ends → left ends pairs.sites choices ≤ 2 * length pairs.list
 left_most pairs ends choices by_site =
     let below = sum_below-le pairs.sites (λ u. counted (is_open (choice_at choices u)) (degree ends u)) (degree ends) (λ u l. counted-le (is_open (choice_at choices u)) (degree ends u)) in
     let all = all_degrees ends pairs.sites by_site.ordered in
@@ -47,7 +47,7 @@ left_most pairs ends choices by_site =
     omega (arith, below, all, most, ends_len pairs.list)
 
 -- and of one site
-pub degree_most : (pairs : PairList) (ends : Groups) (site : ℕ) → AreBySite pairs ends → site < pairs.sites → degree ends site ≤ 2 * length pairs.list
+pub degree_most : (pairs : PairList) (ends : Neighbours) (site : ℕ) → AreBySite pairs ends → site < pairs.sites → degree ends site ≤ 2 * length pairs.list
 degree_most pairs ends site by_site l =
     let most = by_site.within (site + 1) (omega (arith, l)) in
     omega (arith, most, ends_len pairs.list)

@@ -3,7 +3,7 @@ use Rattle.std.proofs.Common.{◌≡◌, ◌≢◌, ℕ, ◌+◌, ◌-◌, ◌*�
 use Rattle.std.specs.Prelude.{slice_get}
 use Rattle.std.proofs.lemmas.Option.{get_or_from_slice_get}
 use Rattle.std.proofs.lemmas.List.Elements.{All-pop, Contains-push_cases}
-use Rattle.grouping.specs.declared.Groups.{Groups}
+use Rattle.move_energy.specs.declared.by_site.Neighbours.{Neighbours}
 use Rattle.grouping.specs.Grouping.{IsGrouped, start_of, place_at}
 use Rattle.label_field.specs.declared.pair.Pair.{Pair}
 use Rattle.label_field.specs.PairLists.{IsPair, PairList, IsPairList}
@@ -28,24 +28,24 @@ meant_pairs m pairs same sites list =
     let Q : List Pair → Type 0 = λ ps. All (IsPair m.sites) ps in
     subst Q (sym same) (subst P (sym sites) list.each)
 
-pub meant_grouped : (m : Instance) (pairs : PairList) (ends : Groups) → m.pairs ≡ pairs.list → m.sites ≡ pairs.sites → AreBySite pairs ends → IsGrouped m.sites (ends_of m.pairs) ends
+pub meant_grouped : (m : Instance) (pairs : PairList) (ends : Neighbours) → m.pairs ≡ pairs.list → m.sites ≡ pairs.sites → AreBySite pairs ends → IsGrouped m.sites (ends_of m.pairs) ends
 meant_grouped m pairs ends same sites by_site =
     let P : ℕ → Type 0 = λ n. IsGrouped n (ends_of pairs.list) ends in
     let Q : List Pair → Type 0 = λ ps. IsGrouped m.sites (ends_of ps) ends in
     subst Q (sym same) (subst P (sym sites) by_site)
 
 -- where a site's part begins, as it was read
-pub start_read : (pairs : PairList) (ends : Groups) (v n : ℕ) → AreBySite pairs ends → v ≤ pairs.sites → n ≡ get_or ends.starts.items v n → n ≡ start_of ends v
+pub start_read : (pairs : PairList) (ends : Neighbours) (v n : ℕ) → AreBySite pairs ends → v ≤ pairs.sites → n ≡ get_or ends.starts.items v n → n ≡ start_at ends v
 start_read pairs ends v n by_site l is = read_at ends.starts.items v n 0 (omega (arith, l, by_site.starts_len)) is
 
 -- the place that was read
-pub place_read : (pairs : PairList) (ends : Groups) (site place j : ℕ) → AreBySite pairs ends → site < pairs.sites → place < start_of ends (site + 1) → j ≡ get_or ends.places.items place j
+pub place_read : (pairs : PairList) (ends : Neighbours) (site place j : ℕ) → AreBySite pairs ends → site < pairs.sites → place < start_at ends (site + 1) → j ≡ get_or ends.places.items place j
     → j ≡ place_at ends place
 place_read pairs ends site place j by_site inside to is =
     let most = by_site.within (site + 1) (omega (arith, inside)) in
     read_at ends.places.items place j 0 (omega (arith, to, most, by_site.places_len)) is
 
-pub place_within : (pairs : PairList) (ends : Groups) (site place j : ℕ) → AreBySite pairs ends → site < pairs.sites → start_of ends site ≤ place → place < start_of ends (site + 1)
+pub place_within : (pairs : PairList) (ends : Neighbours) (site place j : ℕ) → AreBySite pairs ends → site < pairs.sites → start_at ends site ≤ place → place < start_at ends (site + 1)
     → j ≡ place_at ends place → j / 2 < length pairs.list
 place_within pairs ends site place j by_site inside from to is =
     let at = by_site.places site place inside from to in
@@ -55,7 +55,7 @@ place_within pairs ends site place j by_site inside from to is =
 pub pair_read : (list : List Pair) (k : ℕ) (pair : Pair) → slice_get list k ≡ Some pair → pair_in list k ≡ pair
 pair_read list k pair is = get_or_from_slice_get list k pair _ is
 
-pub place_touches : (pairs : PairList) (ends : Groups) (site place j : ℕ) (pair : Pair) → AreBySite pairs ends → site < pairs.sites → start_of ends site ≤ place → place < start_of ends (site + 1)
+pub place_touches : (pairs : PairList) (ends : Neighbours) (site place j : ℕ) (pair : Pair) → AreBySite pairs ends → site < pairs.sites → start_at ends site ≤ place → place < start_at ends (site + 1)
     → j ≡ place_at ends place → slice_get pairs.list (j / 2) ≡ Some pair → Touches site pair
 place_touches pairs ends site place j pair by_site inside from to is here =
     let at = by_site.places site place inside from to in
@@ -71,8 +71,8 @@ range_step start place first old new l looking range most within =
     range_wider (most + 20000000 * (place - start) + 20000000 * 1) (most + 20000000 * (place + 1 - start)) new (omega (arith, l))
     (looking.range (most + 20000000 * (place - start)) (range most within))
 
-pub range_enough : (pairs : PairList) (ends : Groups) (site place : ℕ) (first now : Bounds) → AreBySite pairs ends → IsPairList pairs → site < pairs.sites → start_of ends site ≤ place → place < start_of ends (site + 1)
-    → ((most : ℕ) → IsWithinRange most first → IsWithinRange (most + 20000000 * (place - start_of ends site)) now) → IsWithinRange 576460752303423488 first
+pub range_enough : (pairs : PairList) (ends : Neighbours) (site place : ℕ) (first now : Bounds) → AreBySite pairs ends → IsPairList pairs → site < pairs.sites → start_at ends site ≤ place → place < start_at ends (site + 1)
+    → ((most : ℕ) → IsWithinRange most first → IsWithinRange (most + 20000000 * (place - start_at ends site)) now) → IsWithinRange 576460752303423488 first
     → IsWithinRange 1152921504606846976 now
 range_enough pairs ends site place first now by_site list inside from to range within =
     let most = degree_most pairs ends site by_site inside in

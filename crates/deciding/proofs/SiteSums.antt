@@ -5,7 +5,7 @@ use Rattle.std.proofs.lemmas.Bool.{cases_eq}
 use Rattle.std.proofs.lemmas.Bool.Decides.{nat_tests}
 use Rattle.sums.specs.IntegerSums.{int_sum_below}
 use Rattle.sums.proofs.IntegerSumLemmas.{within_fits, abs-add}
-use Rattle.grouping.specs.declared.Groups.{Groups}
+use Rattle.move_energy.specs.declared.by_site.Neighbours.{Neighbours}
 use Rattle.grouping.specs.Grouping.{IsGrouped, start_of, place_at}
 use Rattle.label_field.specs.declared.pair.Pair.{Pair}
 use Rattle.move_energy.specs.BySite.{ends_of, degree, pair_in, pair_of}
@@ -68,8 +68,8 @@ passed_rise m move f site other x pair stays turns asked label z small rises end
 -- ---- one pair after another
 
 -- the first pairs of a site
-abbrev pub risen : Instance → Move → (ℕ → ℕ) → Groups → ℕ → (ℕ → Bool) → ℕ → ℤ
-risen m move f ends site x k = data_rise m move f site +ℤ int_sum_below k (λ i. pair_rise m move f site x (pair_of m.pairs ends site i))
+abbrev pub risen : Instance → Move → (ℕ → ℕ) → Neighbours → ℕ → (ℕ → Bool) → ℕ → ℤ
+risen m move f ends site x k = data_rise m move f site +ℤ int_sum_below k (λ i. pair_rise m move f site x (pair_of ends site i))
 
 sum_more : (a b c d e s : ℤ) → a ≡ b +ℤ c → d ≡ e → s ≡ a +ℤ d → s ≡ b +ℤ (c +ℤ e)
 sum_more a b c d e s h k l = omega (arith, ints, h, k, l)
@@ -80,16 +80,16 @@ next_place start place l = omega (arith, l)
 here_place : (start place : ℕ) → start ≤ place → start + (place - start) ≡ place
 here_place start place l = omega (arith, l)
 
-pub risen_more : (m : Instance) (move : Move) (f : ℕ → ℕ) (ends : Groups) (site : ℕ) (x : ℕ → Bool) (place : ℕ) (pair : Pair) (old added new : ℤ) → start_of ends site ≤ place
+pub risen_more : (m : Instance) (move : Move) (f : ℕ → ℕ) (ends : Neighbours) (site : ℕ) (x : ℕ → Bool) (place : ℕ) (pair : Pair) (old added new : ℤ) → start_at ends site ≤ place
     → pair_in m.pairs (place_at ends place / 2) ≡ pair → added ≡ pair_rise m move f site x pair → new ≡ old +ℤ added
-    → old ≡ risen m move f ends site x (place - start_of ends site) → new ≡ risen m move f ends site x (place + 1 - start_of ends site)
+    → old ≡ risen m move f ends site x (place - start_at ends site) → new ≡ risen m move f ends site x (place + 1 - start_at ends site)
 risen_more m move f ends site x place pair old added new from read is sum before =
-    let here : pair_of m.pairs ends site (place - start_of ends site) ≡ pair = ap (λ p. pair_in m.pairs (place_at ends p / 2)) (here_place (start_of ends site) place from) ∙ read in
-    sum_more old (data_rise m move f site) _ added (pair_rise m move f site x (pair_of m.pairs ends site (place - start_of ends site))) new
+    let here : pair_of ends site (place - start_at ends site) ≡ pair = ap (λ p. pair_in m.pairs (place_at ends p / 2)) (here_place (start_at ends site) place from) ∙ read in
+    sum_more old (data_rise m move f site) _ added (pair_rise m move f site x (pair_of ends site (place - start_at ends site))) new
     before (is ∙ ap (pair_rise m move f site x) (sym here)) sum
-    ∙ ap (risen m move f ends site x) (next_place (start_of ends site) place from)
+    ∙ ap (risen m move f ends site x) (next_place (start_at ends site) place from)
 
-pub risen_all : (m : Instance) (move : Move) (f : ℕ → ℕ) (ends : Groups) (site : ℕ) (x : ℕ → Bool) → IsInstance m → IsGrouped m.sites (ends_of m.pairs) ends → site < m.sites
+pub risen_all : (m : Instance) (move : Move) (f : ℕ → ℕ) (ends : Neighbours) (site : ℕ) (x : ℕ → Bool) → IsInstance m → IsGrouped m.sites (ends_of m.pairs) ends → site < m.sites
     → risen m move f ends site x (degree ends site) ≡ rise (move_value m move f) site x
 risen_all m move f ends site x pairs grouped inside =
     ap (λ s. data_rise m move f site +ℤ s)
@@ -99,10 +99,10 @@ risen_all m move f ends site x pairs grouped inside =
 risen_first : (z : ℤ) → z ≡ z +ℤ pos 0
 risen_first z = omega (arith, ints)
 
-pub risen_none : (m : Instance) (move : Move) (f : ℕ → ℕ) (ends : Groups) (site : ℕ) (x : ℕ → Bool) (own : ℤ) (place : ℕ) → own ≡ data_rise m move f site → place ≡ start_of ends site
-    → own ≡ risen m move f ends site x (place - start_of ends site)
+pub risen_none : (m : Instance) (move : Move) (f : ℕ → ℕ) (ends : Neighbours) (site : ℕ) (x : ℕ → Bool) (own : ℤ) (place : ℕ) → own ≡ data_rise m move f site → place ≡ start_at ends site
+    → own ≡ risen m move f ends site x (place - start_at ends site)
 risen_none m move f ends site x own place is at =
-    let none : 0 ≡ place - start_of ends site = omega (arith, at) in
+    let none : 0 ≡ place - start_at ends site = omega (arith, at) in
     is ∙ risen_first (data_rise m move f site) ∙ ap (risen m move f ends site x) none
 
 -- ---- the sums, as the machine counts them

@@ -13,7 +13,6 @@ ghost use Rattle.deciding.specs.Working.{AreEnds, AreTurned, end_rise as end_ris
 
 use crate::costs::data_rise;
 use cost_store::Problem;
-use grouping::Groups;
 use label_field::Pair;
 use labellings::Move;
 use move_energy::Choice;
@@ -137,7 +136,7 @@ fn pair_rises<F: Fn(u32, u32) -> i64 + Sync, V: Fn(u32, u32) -> i64 + Sync>(
 /// By how much the energy rises where a site turns: its own cost's rise and those of its pairs.
 pub(crate) fn site_rises<F: Fn(u32, u32) -> i64 + Sync, V: Fn(u32, u32) -> i64 + Sync>(
     problem: &Problem<F, V>,
-    ends: &Groups,
+    ends: &Neighbours,
     choices: &[Choice],
     at: &[u8],
     change: Move,

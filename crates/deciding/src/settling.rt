@@ -16,7 +16,6 @@ ghost use Rattle.deciding.specs.Working.{bound_at, summed, CanDecide, TellsValue
 use crate::Bounds;
 use crate::rising::other_end;
 use cost_store::Problem;
-use grouping::Groups;
 use label_field::Pair;
 use labellings::Move;
 use move_energy::{Choice, surplus, term};
@@ -138,7 +137,7 @@ impl Bounds {
     fn decide<F: Fn(u32, u32) -> i64 + Sync, V: Fn(u32, u32) -> i64 + Sync>(
         &mut self,
         problem: &Problem<F, V>,
-        ends: &Groups,
+        ends: &Neighbours,
         at: &[u8],
         change: Move,
         site: u32,
@@ -187,7 +186,7 @@ impl Bounds {
     fn settle<F: Fn(u32, u32) -> i64 + Sync, V: Fn(u32, u32) -> i64 + Sync>(
         &mut self,
         problem: &Problem<F, V>,
-        ends: &Groups,
+        ends: &Neighbours,
         at: &[u8],
         change: Move,
         site: u32,
@@ -231,7 +230,7 @@ impl Bounds {
     pub(crate) fn settle_all<F: Fn(u32, u32) -> i64 + Sync, V: Fn(u32, u32) -> i64 + Sync>(
         &mut self,
         problem: &Problem<F, V>,
-        ends: &Groups,
+        ends: &Neighbours,
         at: &[u8],
         change: Move,
     ) -> Result<(), AllocError>

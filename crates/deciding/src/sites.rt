@@ -14,7 +14,6 @@ ghost use Rattle.deciding.specs.Working.{AreOfSites, AreOfNoSites};
 use crate::testing::test_terms;
 use crate::{Bounds, Lists};
 use cost_store::Problem;
-use grouping::Groups;
 use label_field::Pairs;
 use labellings::Move;
 use move_energy::{BuildError, group_pairs};

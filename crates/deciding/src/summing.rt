@@ -13,7 +13,6 @@ ghost use Rattle.deciding.specs.Working.{summed, CanDecide, AreOfSites, IsSummed
 use crate::Bounds;
 use crate::rising::site_rises;
 use cost_store::Problem;
-use grouping::Groups;
 use labellings::Move;
 use move_energy::Choice;
 use std::alloc::AllocError;
@@ -83,7 +82,7 @@ impl Bounds {
     fn sum_site<F: Fn(u32, u32) -> i64 + Sync, V: Fn(u32, u32) -> i64 + Sync>(
         &mut self,
         problem: &Problem<F, V>,
-        ends: &Groups,
+        ends: &Neighbours,
         at: &[u8],
         change: Move,
         site: u32,
@@ -122,7 +121,7 @@ impl Bounds {
     pub(crate) fn decide_sites<F: Fn(u32, u32) -> i64 + Sync, V: Fn(u32, u32) -> i64 + Sync>(
         &mut self,
         problem: &Problem<F, V>,
-        ends: &Groups,
+        ends: &Neighbours,
         at: &[u8],
         change: Move,
     ) -> Result<(), AllocError>

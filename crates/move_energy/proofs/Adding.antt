@@ -6,12 +6,12 @@ use Rattle.std.proofs.lemmas.List.Sums.{sum_by-cons, sum_by_more, sum_by-take-le
 use Rattle.std.proofs.lemmas.List.{take_all}
 use Rattle.sums.specs.Sums.{sum_below, counted}
 use Rattle.sums.proofs.SumLemmas.{sum_below-same, sum_below-add, sum_below-le-longer, counted-le}
-use Rattle.grouping.specs.declared.Groups.{Groups}
+use Rattle.move_energy.specs.declared.by_site.Neighbours.{Neighbours}
 use Rattle.label_field.specs.declared.pair.Pair.{Pair}
 use Rattle.label_field.specs.PairLists.{PairList, IsPair}
 use Rattle.move_energy.specs.BySite.{AreBySite, degree, pair_of, is_counted, has_chosen, listing, met_below, met_at}
 use Rattle.move_energy.proofs.Listings.{listed_sites_are_summed}
-use Rattle.move_energy.proofs.Meetings.{pairs_are_met_once}
+use Rattle.move_energy.proofs.Beside.{pairs_are_met_once}
 use Rattle.labellings.specs.declared.change.Move.{Move}
 use Rattle.labellings.specs.Energies.{Instance, labelling, pair_cost, plain_energy}
 use Rattle.labellings.specs.Moves.{label_in}
@@ -81,36 +81,36 @@ site_all old new value opened i l adds =
 
 -- ---- the pairs of a site
 
-met_next : (list : List Pair) (ends : Groups) (chosen : ℕ → Bool) (value : Pair → ℕ) (site k : ℕ)
-    → met_below list ends chosen value site (k + 1)
-    ≡ met_below list ends chosen value site k + counted (is_counted chosen site (pair_of list ends site k)) (value (pair_of list ends site k))
-met_next list ends chosen value site k =
-    ap (λ n. met_below list ends chosen value site n) (add-one k)
+met_next : (ends : Neighbours) (chosen : ℕ → Bool) (value : Pair → ℕ) (site k : ℕ)
+    → met_below ends chosen value site (k + 1)
+    ≡ met_below ends chosen value site k + counted (is_counted chosen site (pair_of ends site k)) (value (pair_of ends site k))
+met_next ends chosen value site k =
+    ap (λ n. met_below ends chosen value site n) (add-one k)
 
-pub met_longer : (list : List Pair) (ends : Groups) (chosen : ℕ → Bool) (site k : ℕ) (pair : Pair) (old now new : Quadratic) → pair ≡ pair_of list ends site k
-    → IsLonger (met_below list ends chosen (λ p. 1) site k) old now → IsLonger (counted (is_counted chosen site pair) 1) now new
-    → IsLonger (met_below list ends chosen (λ p. 1) site (k + 1)) old new
-met_longer list ends chosen site k pair old now new is so_far longer =
-    longer_add _ _ (met_below list ends chosen (λ p. 1) site (k + 1)) old now new so_far longer
-    (met_next list ends chosen (λ p. 1) site k ∙ ap (λ p. met_below list ends chosen (λ p. 1) site k + counted (is_counted chosen site p) 1) (sym is))
+pub met_longer : (ends : Neighbours) (chosen : ℕ → Bool) (site k : ℕ) (pair : Pair) (old now new : Quadratic) → pair ≡ pair_of ends site k
+    → IsLonger (met_below ends chosen (λ p. 1) site k) old now → IsLonger (counted (is_counted chosen site pair) 1) now new
+    → IsLonger (met_below ends chosen (λ p. 1) site (k + 1)) old new
+met_longer ends chosen site k pair old now new is so_far longer =
+    longer_add _ _ (met_below ends chosen (λ p. 1) site (k + 1)) old now new so_far longer
+    (met_next ends chosen (λ p. 1) site k ∙ ap (λ p. met_below ends chosen (λ p. 1) site k + counted (is_counted chosen site p) 1) (sym is))
 
-pub met_adds : (list : List Pair) (ends : Groups) (chosen : ℕ → Bool) (value : (ℕ → Bool) → Pair → ℕ) (site k : ℕ) (pair : Pair) (old now new : Quadratic) → pair ≡ pair_of list ends site k
-    → AddsCost old now (λ x. met_below list ends chosen (value x) site k) → AddsCost now new (λ x. counted (is_counted chosen site pair) (value x pair))
-    → AddsCost old new (λ x. met_below list ends chosen (value x) site (k + 1))
-met_adds list ends chosen value site k pair old now new is so_far adds =
-    cost_more old now new (λ x. met_below list ends chosen (value x) site k) (λ x. counted (is_counted chosen site pair) (value x pair))
-    (λ x. met_below list ends chosen (value x) site (k + 1)) so_far adds
-    (λ x. met_next list ends chosen (value x) site k
-    ∙ ap (λ p. met_below list ends chosen (value x) site k + counted (is_counted chosen site p) (value x p)) (sym is))
+pub met_adds : (ends : Neighbours) (chosen : ℕ → Bool) (value : (ℕ → Bool) → Pair → ℕ) (site k : ℕ) (pair : Pair) (old now new : Quadratic) → pair ≡ pair_of ends site k
+    → AddsCost old now (λ x. met_below ends chosen (value x) site k) → AddsCost now new (λ x. counted (is_counted chosen site pair) (value x pair))
+    → AddsCost old new (λ x. met_below ends chosen (value x) site (k + 1))
+met_adds ends chosen value site k pair old now new is so_far adds =
+    cost_more old now new (λ x. met_below ends chosen (value x) site k) (λ x. counted (is_counted chosen site pair) (value x pair))
+    (λ x. met_below ends chosen (value x) site (k + 1)) so_far adds
+    (λ x. met_next ends chosen (value x) site k
+    ∙ ap (λ p. met_below ends chosen (value x) site k + counted (is_counted chosen site p) (value x p)) (sym is))
 
 -- there is room for the next pair
-pub met_room : (list : List Pair) (ends : Groups) (chosen : ℕ → Bool) (site k : ℕ) (old now : Quadratic) → k ≤ degree ends site
-    → met_at list ends chosen (λ p. 1) site ≤ 8388608 → IsBounded (8388608 - met_at list ends chosen (λ p. 1) site) old
-    → IsLonger (met_below list ends chosen (λ p. 1) site k) old now → IsBounded 8388608 now
-met_room list ends chosen site k old now l few bounded longer =
-    let less : met_below list ends chosen (λ p. 1) site k ≤ met_at list ends chosen (λ p. 1) site =
-    sum_below-le-longer k (degree ends site) (λ i. counted (is_counted chosen site (pair_of list ends site i)) 1) l in
-    bounded-weaker _ 8388608 now (omega (arith, less, few)) (longer.bounded (8388608 - met_at list ends chosen (λ p. 1) site) bounded)
+pub met_room : (ends : Neighbours) (chosen : ℕ → Bool) (site k : ℕ) (old now : Quadratic) → k ≤ degree ends site
+    → met_at ends chosen (λ p. 1) site ≤ 8388608 → IsBounded (8388608 - met_at ends chosen (λ p. 1) site) old
+    → IsLonger (met_below ends chosen (λ p. 1) site k) old now → IsBounded 8388608 now
+met_room ends chosen site k old now l few bounded longer =
+    let less : met_below ends chosen (λ p. 1) site k ≤ met_at ends chosen (λ p. 1) site =
+    sum_below-le-longer k (degree ends site) (λ i. counted (is_counted chosen site (pair_of ends site i)) 1) l in
+    bounded-weaker _ 8388608 now (omega (arith, less, few)) (longer.bounded (8388608 - met_at ends chosen (λ p. 1) site) bounded)
 
 -- ---- the pairs of all listed sites
 
@@ -119,14 +119,14 @@ counted_few test [] = omega arith
 counted_few test (x ∷ xs) = omega (arith, sum_by-cons (λ x. counted (test x) 1) x xs, counted_few test xs, counted-le (test x) 1)
 
 -- no more pairs are met than there are
-pub met_few : (pairs : PairList) (ends : Groups) (choices : List Choice) (opened : List ℕ) (n : ℕ) → AreBySite pairs ends → All (IsPair pairs.sites) pairs.list
+pub met_few : (pairs : PairList) (ends : Neighbours) (choices : List Choice) (opened : List ℕ) (n : ℕ) → AreBySite pairs ends → All (IsPair pairs.sites) pairs.list
     → n ≡ pairs.sites → length choices ≡ n → AreOpenSites choices opened
-    → sum_by (met_at pairs.list ends (open_at choices) (λ p. 1)) opened ≤ length pairs.list
+    → sum_by (met_at ends (open_at choices) (λ p. 1)) opened ≤ length pairs.list
 met_few pairs ends choices opened n by_site all same size listed =
-    let met = met_at pairs.list ends (open_at choices) (λ p. 1) in
+    let met = met_at ends (open_at choices) (λ p. 1) in
     let is : sum_by met opened ≡ sum_by met (listing (open_at choices) pairs.sites) =
     ap (λ (xs : List ℕ). sum_by met xs) (listed ∙ ap (λ k. listing (open_at choices) k) (size ∙ same)) in
-    omega (arith, is, pairs_are_met_once pairs.sites pairs.list ends (open_at choices) (λ p. 1) all by_site, counted_few (has_chosen (open_at choices)) pairs.list)
+    omega (arith, is, pairs_are_met_once pairs ends (open_at choices) (λ p. 1) all by_site, counted_few (has_chosen (open_at choices)) pairs.list)
 
 pub sum_longer : (met : ℕ → ℕ) (opened : List ℕ) (i : ℕ) (old now new : Quadratic) → i < length opened
     → IsLonger (sum_by met (take i opened)) old now → IsLonger (met (get_or opened i 0)) now new → IsLonger (sum_by met (take (i + 1) opened)) old new
@@ -217,28 +217,28 @@ left_pairs_same m move f choices x y =
     (x (rank choices pair.first)) (x (rank choices pair.second)) (y (rank choices pair.first)) (y (rank choices pair.second)))
 
 -- the energy is what the listed sites and their pairs cost, and what is left out
-energy_listed : (m : Instance) (move : Move) (f : ℕ → ℕ) (choices : List Choice) (opened : List ℕ) (ends : Groups) → length choices ≡ m.sites → AreOpenSites choices opened
+energy_listed : (m : Instance) (move : Move) (f : ℕ → ℕ) (choices : List Choice) (opened : List ℕ) (ends : Neighbours) → length choices ≡ m.sites → AreOpenSites choices opened
     → All (IsPair m.sites) m.pairs → AreBySite (record { sites = m.sites; list = m.pairs }) ends → (x : ℕ → Bool)
     → plain_energy m (made_by move f (choice_at choices) (rank choices) x)
     ≡ sum_by (λ p. m.data_cost p (made_by move f (choice_at choices) (rank choices) x p)) opened
-    + sum_by (met_at m.pairs ends (open_at choices) (pair_cost m (made_by move f (choice_at choices) (rank choices) x))) opened
+    + sum_by (met_at ends (open_at choices) (pair_cost m (made_by move f (choice_at choices) (rank choices) x))) opened
     + (left_sites m move f choices x + left_pairs m move f choices x)
 energy_listed m move f choices opened ends size listed all by_site x =
     let g = made_by move f (choice_at choices) (rank choices) x in
     let own : ℕ → ℕ = λ p. m.data_cost p (g p) in
-    let met = met_at m.pairs ends (open_at choices) (pair_cost m g) in
+    let met = met_at ends (open_at choices) (pair_cost m g) in
     let is : opened ≡ listing (open_at choices) m.sites = listed ∙ ap (λ k. listing (open_at choices) k) size in
     let sites : sum_by own opened ≡ sum_below m.sites (λ p. counted (open_at choices p) (own p)) =
     ap (λ (xs : List ℕ). sum_by own xs) is ∙ listed_sites_are_summed (open_at choices) m.sites own in
     let pairs : sum_by met opened ≡ sum_by (λ pair. counted (has_chosen (open_at choices) pair) (pair_cost m g pair)) m.pairs =
-    ap (λ (xs : List ℕ). sum_by met xs) is ∙ pairs_are_met_once m.sites m.pairs ends (open_at choices) (pair_cost m g) all by_site in
+    ap (λ (xs : List ℕ). sum_by met xs) is ∙ pairs_are_met_once (record { sites = m.sites; list = m.pairs }) ends (open_at choices) (pair_cost m g) all by_site in
     omega (arith, sites, pairs, below_split m.sites (open_at choices) own, sum_split (has_chosen (open_at choices)) (pair_cost m g) m.pairs)
 
-pub listed_stands : (m : Instance) (move : Move) (f : List ℕ) (choices : List Choice) (opened : List ℕ) (ends : Groups) (first new : Quadratic) (nodes : ℕ)
+pub listed_stands : (m : Instance) (move : Move) (f : List ℕ) (choices : List Choice) (opened : List ℕ) (ends : Neighbours) (first new : Quadratic) (nodes : ℕ)
     → length choices ≡ m.sites → AreOpenSites choices opened → All (IsPair m.sites) m.pairs → AreBySite (record { sites = m.sites; list = m.pairs }) ends
     → IsConstant (pos 0) nodes first → vec_len new.weights ≡ open_count choices
     → AddsCost first new (λ x. sum_by (λ p. m.data_cost p (made_by move (labelling f) (choice_at choices) (rank choices) x p)) opened
-    + sum_by (met_at m.pairs ends (open_at choices) (pair_cost m (made_by move (labelling f) (choice_at choices) (rank choices) x))) opened)
+    + sum_by (met_at ends (open_at choices) (pair_cost m (made_by move (labelling f) (choice_at choices) (rank choices) x))) opened)
     → StandsFor m move (labelling f) (choice_at choices) new (rank choices)
 listed_stands m move f choices opened ends first new nodes size listed all by_site zero_form variables adds =
     let none : ℕ → Bool = λ p. false in
@@ -265,20 +265,20 @@ on_ok_both (Ok v) P Q R f p q = f p q
 on_ok_both (Err e) P Q R f p q = tt
 
 -- the sites first, and then their pairs
-pub listed_built : (m : Instance) (move : Move) (f : List ℕ) (choices : List Choice) (opened : List ℕ) (pairs : PairList) (ends : Groups) (first now new : Quadratic) (nodes : ℕ)
+pub listed_built : (m : Instance) (move : Move) (f : List ℕ) (choices : List Choice) (opened : List ℕ) (pairs : PairList) (ends : Neighbours) (first now new : Quadratic) (nodes : ℕ)
     → m.sites ≡ pairs.sites → m.pairs ≡ pairs.list → All (IsPair m.sites) m.pairs → AreBySite pairs ends → length choices ≡ pairs.sites → AreOpenSites choices opened
     → IsConstant (pos 0) nodes first → vec_len new.weights ≡ open_count choices
     → AddsCost first now (λ x. sum_by (λ p. m.data_cost p (made_by move (labelling f) (choice_at choices) (rank choices) x p)) opened)
-    → AddsCost now new (λ x. sum_by (met_at pairs.list ends (open_at choices) (pair_cost m (made_by move (labelling f) (choice_at choices) (rank choices) x))) opened)
+    → AddsCost now new (λ x. sum_by (met_at ends (open_at choices) (pair_cost m (made_by move (labelling f) (choice_at choices) (rank choices) x))) opened)
     → StandsFor m move (labelling f) (choice_at choices) new (rank choices)
 listed_built m move f choices opened pairs ends first now new nodes same_sites same_pairs all by_site size listed zero_form variables sites parts =
     let P : ℕ → Type 0 = λ n. AreBySite (record { sites = n; list = pairs.list }) ends in
     let Q : List Pair → Type 0 = λ ps. AreBySite (record { sites = m.sites; list = ps }) ends in
     let R : List Pair → Type 0 = λ ps.
-    AddsCost now new (λ x. sum_by (met_at ps ends (open_at choices) (pair_cost m (made_by move (labelling f) (choice_at choices) (rank choices) x))) opened) in
+    AddsCost now new (λ x. sum_by (met_at ends (open_at choices) (pair_cost m (made_by move (labelling f) (choice_at choices) (rank choices) x))) opened) in
     listed_stands m move f choices opened ends first new nodes (size ∙ sym same_sites) listed all (subst Q (sym same_pairs) (subst P (sym same_sites) by_site)) zero_form variables
     (cost_more first now new (λ x. sum_by (λ p. m.data_cost p (made_by move (labelling f) (choice_at choices) (rank choices) x p)) opened)
-    (λ x. sum_by (met_at m.pairs ends (open_at choices) (pair_cost m (made_by move (labelling f) (choice_at choices) (rank choices) x))) opened)
+    (λ x. sum_by (met_at ends (open_at choices) (pair_cost m (made_by move (labelling f) (choice_at choices) (rank choices) x))) opened)
     (λ x. sum_by (λ p. m.data_cost p (made_by move (labelling f) (choice_at choices) (rank choices) x p)) opened
-    + sum_by (met_at m.pairs ends (open_at choices) (pair_cost m (made_by move (labelling f) (choice_at choices) (rank choices) x))) opened)
+    + sum_by (met_at ends (open_at choices) (pair_cost m (made_by move (labelling f) (choice_at choices) (rank choices) x))) opened)
     sites (subst R (sym same_pairs) parts) (λ x. refl))

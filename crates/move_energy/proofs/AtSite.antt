@@ -12,7 +12,8 @@ use Rattle.label_field.specs.declared.pair.Pair.{Pair}
 use Rattle.label_field.specs.PairLists.{IsPair}
 use Rattle.grouping.specs.declared.Groups.{Groups}
 use Rattle.grouping.specs.Grouping.{IsGrouped}
-use Rattle.move_energy.specs.BySite.{ends_of, degree, pair_in, pair_of}
+use Rattle.move_energy.specs.BySite.{ends_of, pair_in}
+use Rattle.move_energy.proofs.Grouped.{degree, pair_of}
 use Rattle.move_energy.proofs.PairEnds.{ends_first, ends_second, ends_len}
 use Rattle.move_energy.proofs.Meetings.{part_sum, sum_twos, half_even, half_odd}
 

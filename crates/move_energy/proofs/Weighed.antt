@@ -12,9 +12,9 @@ use Rattle.flow_network.specs.Cut.{IsArc}
 use Rattle.flow_network.specs.declared.arc.Arc.{Arc}
 use Rattle.label_field.specs.declared.pair.Pair.{Pair}
 use Rattle.label_field.specs.PairLists.{PairList, IsPair}
-use Rattle.grouping.specs.declared.Groups.{Groups}
+use Rattle.move_energy.specs.declared.by_site.Neighbours.{Neighbours}
 use Rattle.move_energy.specs.BySite.{AreBySite, has_chosen, listing, met_at}
-use Rattle.move_energy.proofs.Meetings.{pairs_are_met_once}
+use Rattle.move_energy.proofs.Beside.{pairs_are_met_once}
 use Rattle.labellings.specs.declared.change.Move.{Move}
 use Rattle.labellings.specs.Energies.{Instance}
 use Rattle.labellings.specs.Moves.{label_in, pair_entry, IsRegularPair, IsAllowed}
@@ -286,9 +286,9 @@ sum_same f g [] same = refl
 sum_same f g (x ∷ xs) same = omega (arith, sum_by-cons f x xs, sum_by-cons g x xs, same x, sum_same f g xs same)
 
 -- the pairs of the listed sites are all that save anything
-pub listed_savings : (m : Instance) (move : Move) (f : ℕ → ℕ) (choices : List Choice) (opened : List ℕ) (pairs : PairList) (ends : Groups) (first new : Quadratic)
+pub listed_savings : (m : Instance) (move : Move) (f : ℕ → ℕ) (choices : List Choice) (opened : List ℕ) (pairs : PairList) (ends : Neighbours) (first new : Quadratic)
     → m.sites ≡ pairs.sites → m.pairs ≡ pairs.list → All (IsPair m.sites) m.pairs → AreBySite pairs ends → length choices ≡ pairs.sites → AreOpenSites choices opened
-    → AddsCost first new (λ x. sum_by (met_at pairs.list ends (open_at choices) (unsaved m move f (choice_at choices) (rank choices) x)) opened)
+    → AddsCost first new (λ x. sum_by (met_at ends (open_at choices) (unsaved m move f (choice_at choices) (rank choices) x)) opened)
     → AddsCost first new (λ x. sum_by (unsaved m move f (choice_at choices) (rank choices) x) m.pairs)
 listed_savings m move f choices opened pairs ends first new same_sites same_pairs all by_site size listed adds =
     let P : ℕ → List Pair → Type 0 = λ n ps. All (IsPair n) ps in
@@ -296,11 +296,11 @@ listed_savings m move f choices opened pairs ends first new same_sites same_pair
     let R : List Pair → Type 0 = λ ps. P pairs.sites ps in
     let every = subst R same_pairs (subst Q same_sites all) in
     let is : opened ≡ listing (open_at choices) pairs.sites = listed ∙ ap (λ k. listing (open_at choices) k) size in
-    adds_same first new (λ x. sum_by (met_at pairs.list ends (open_at choices) (unsaved m move f (choice_at choices) (rank choices) x)) opened)
+    adds_same first new (λ x. sum_by (met_at ends (open_at choices) (unsaved m move f (choice_at choices) (rank choices) x)) opened)
     (λ x. sum_by (unsaved m move f (choice_at choices) (rank choices) x) m.pairs)
     (λ x. (let value : Pair → ℕ = unsaved m move f (choice_at choices) (rank choices) x in
-    ap (λ (xs : List ℕ). sum_by (met_at pairs.list ends (open_at choices) value) xs) is
-    ∙ pairs_are_met_once pairs.sites pairs.list ends (open_at choices) value every by_site
+    ap (λ (xs : List ℕ). sum_by (met_at ends (open_at choices) value) xs) is
+    ∙ pairs_are_met_once pairs ends (open_at choices) value every by_site
     ∙ sum_same (λ (pair : Pair). counted (has_chosen (open_at choices) pair) (value pair)) value pairs.list
     (λ pair. met_unsaved (open_at choices pair.first) (open_at choices pair.second) _)
     ∙ ap (λ (ps : List Pair). sum_by value ps) (sym same_pairs))) adds

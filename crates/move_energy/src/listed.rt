@@ -10,13 +10,12 @@ ghost use Rattle.move_energy.specs.Choices.{choice_at, rank, open_count, made_by
 ghost use Rattle.move_energy.specs.Built.{AddsCost, IsLonger};
 ghost use Rattle.move_energy.specs.Problems.{IsFitPair, Stands};
 
-use crate::MoveEnergy;
+use crate::{MoveEnergy, Neighbours};
 use crate::building::add_site;
 use crate::listed_pairs::{Adds, add_listed_pairs};
 use crate::variables::Variables;
 use compile_cut::Quadratic;
 use cost_store::Problem;
-use grouping::Groups;
 use labellings::Move;
 use std::alloc::{AllocError, Global};
 
@@ -58,7 +57,7 @@ impl MoveEnergy {
         &mut self,
         alloc: Global,
         problem: &Problem<F, V>,
-        ends: &Groups,
+        ends: &Neighbours,
         opened: &[u32],
         at: &[u8],
         change: Move,

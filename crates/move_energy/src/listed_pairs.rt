@@ -14,12 +14,11 @@ ghost use Rattle.move_energy.specs.Choices.{choice_at, open_at, rank, open_count
 ghost use Rattle.move_energy.specs.Built.{AddsCost, IsLonger};
 
 use crate::building::add_pair;
-use crate::by_site::{ends_at, pair_at};
+use crate::by_site::{Neighbours, ends_at, pair_at};
 use crate::variables::Variables;
 use crate::weighted::add_surplus;
 use compile_cut::Quadratic;
 use cost_store::Problem;
-use grouping::Groups;
 use label_field::Pair;
 use labellings::Move;
 use std::alloc::AllocError;
@@ -107,7 +106,7 @@ fn add_counted<F: Fn(u32, u32) -> i64 + Sync, V: Fn(u32, u32) -> i64 + Sync>(
 /// Adds what those pairs of an open site add that are counted at it.
 fn add_pairs_at<F: Fn(u32, u32) -> i64 + Sync, V: Fn(u32, u32) -> i64 + Sync>(
     problem: &Problem<F, V>,
-    ends: &Groups,
+    ends: &Neighbours,
     form: &mut Quadratic,
     at: &[u8],
     change: Move,
@@ -122,15 +121,15 @@ fn add_pairs_at<F: Fn(u32, u32) -> i64 + Sync, V: Fn(u32, u32) -> i64 + Sync>(
     requires numbering { IsNumbering variables.now.choices.items variables.now.of_sites.items }
     requires variables { vec_len form.old.weights ≡ open_count variables.now.choices.items }
     requires site { site < length at.now }
-    requires met { met_at problem.now.pairs.list ends.now (open_at variables.now.choices.items) (λ pair. 1)
+    requires met { met_at ends.now (open_at variables.now.choices.items) (λ pair. 1)
         site ≤ term_limit }
-    requires bounded { IsBounded (term_limit - met_at problem.now.pairs.list ends.now
+    requires bounded { IsBounded (term_limit - met_at ends.now
         (open_at variables.now.choices.items) (λ pair. 1) site) form.old }
-    ensures longer { OnOk result (IsLonger (met_at problem.now.pairs.list ends.now
+    ensures longer { OnOk result (IsLonger (met_at ends.now
         (open_at variables.now.choices.items) (λ pair. 1) site) form.old form.new) }
     ensures adds { OnOk result (Meant F.Fn V.Fn problem.now (λ m. All (IsRightFor adds m change
         (labelling at.now) (choice_at variables.now.choices.items)) problem.now.pairs.list →
-        AddsCost form.old form.new (λ x. met_at problem.now.pairs.list ends.now
+        AddsCost form.old form.new (λ x. met_at ends.now
         (open_at variables.now.choices.items) (added adds m change (labelling at.now)
         (choice_at variables.now.choices.items) (rank variables.now.choices.items) x) site))) }
 {
@@ -144,7 +143,7 @@ fn add_pairs_at<F: Fn(u32, u32) -> i64 + Sync, V: Fn(u32, u32) -> i64 + Sync>(
 /// Adds what each pair of an open site adds.
 pub(crate) fn add_listed_pairs<F: Fn(u32, u32) -> i64 + Sync, V: Fn(u32, u32) -> i64 + Sync>(
     problem: &Problem<F, V>,
-    ends: &Groups,
+    ends: &Neighbours,
     form: &mut Quadratic,
     at: &[u8],
     change: Move,
@@ -164,7 +163,7 @@ pub(crate) fn add_listed_pairs<F: Fn(u32, u32) -> i64 + Sync, V: Fn(u32, u32) ->
     ensures bounded { OnOk result (IsBounded term_limit form.new) }
     ensures adds { OnOk result (Meant F.Fn V.Fn problem.now (λ m. All (IsRightFor adds m change
         (labelling at.now) (choice_at variables.now.choices.items)) problem.now.pairs.list →
-        AddsCost form.old form.new (λ x. sum_by (met_at problem.now.pairs.list ends.now
+        AddsCost form.old form.new (λ x. sum_by (met_at ends.now
         (open_at variables.now.choices.items) (added adds m change (labelling at.now)
         (choice_at variables.now.choices.items) (rank variables.now.choices.items) x)) opened.now))) }
 {

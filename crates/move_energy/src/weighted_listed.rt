@@ -13,12 +13,11 @@ ghost use Rattle.move_energy.specs.Problems.{Stands};
 ghost use Rattle.move_energy.specs.Limits.{weights_limit};
 ghost use Rattle.move_energy.specs.Weights.{AreWeights, IsOfWeights, weight_at};
 
-use crate::MoveEnergy;
+use crate::{MoveEnergy, Neighbours};
 use crate::listed_pairs::{Adds, add_listed_pairs};
 use crate::variables::Variables;
 use compile_cut::Quadratic;
 use cost_store::Problem;
-use grouping::Groups;
 use labellings::Move;
 use std::alloc::{AllocError, Global};
 
@@ -45,7 +44,7 @@ impl MoveEnergy {
         &mut self,
         alloc: Global,
         problem: &Problem<F, V>,
-        ends: &Groups,
+        ends: &Neighbours,
         opened: &[u32],
         weights: &[i64],
         at: &[u8],

@@ -10,7 +10,7 @@ use Rattle.std.proofs.lemmas.List.Sums.{sum_by-cons, sum_by_more, sum_by-take-le
 use Rattle.sums.specs.Sums.{sum_below, counted}
 use Rattle.sums.proofs.SumLemmas.{sum_below-same, counted-le}
 use Rattle.sums.proofs.IntegerSumLemmas.{within_fits, abs-add}
-use Rattle.grouping.specs.declared.Groups.{Groups}
+use Rattle.move_energy.specs.declared.by_site.Neighbours.{Neighbours}
 use Rattle.label_field.specs.declared.pair.Pair.{Pair}
 use Rattle.label_field.specs.PairLists.{PairList, IsPair}
 use Rattle.move_energy.specs.BySite.{AreBySite, IsListing, listing, is_counted, has_chosen, pair_of, met_below, met_at}
@@ -236,32 +236,32 @@ sites_rise chosen n sites g f total listed same is =
 
 -- ---- the pairs of the listed sites
 
-pub met_more : (list : List Pair) (ends : Groups) (moved : ℕ → Bool) (g f : Pair → ℕ) (site k : ℕ) (total r : ℤ) (pair : Pair) → pair ≡ pair_of list ends site k
-    → total ≡ pos (met_below list ends moved g site k) -ℤ pos (met_below list ends moved f site k)
+pub met_more : (ends : Neighbours) (moved : ℕ → Bool) (g f : Pair → ℕ) (site k : ℕ) (total r : ℤ) (pair : Pair) → pair ≡ pair_of ends site k
+    → total ≡ pos (met_below ends moved g site k) -ℤ pos (met_below ends moved f site k)
     → r ≡ pos (counted (is_counted moved site pair) (g pair)) -ℤ pos (counted (is_counted moved site pair) (f pair))
-    → total +ℤ r ≡ pos (met_below list ends moved g site (k + 1)) -ℤ pos (met_below list ends moved f site (k + 1))
-met_more list ends moved g f site k total r pair read so_far own =
-    let next_g = ap (λ n. met_below list ends moved g site n) (add-one k) in
-    let next_f = ap (λ n. met_below list ends moved f site n) (add-one k) in
+    → total +ℤ r ≡ pos (met_below ends moved g site (k + 1)) -ℤ pos (met_below ends moved f site (k + 1))
+met_more ends moved g f site k total r pair read so_far own =
+    let next_g = ap (λ n. met_below ends moved g site n) (add-one k) in
+    let next_f = ap (λ n. met_below ends moved f site n) (add-one k) in
     let of_g = ap (λ (p : Pair). counted (is_counted moved site p) (g p)) read in
     let of_f = ap (λ (p : Pair). counted (is_counted moved site p) (f p)) read in
     omega (arith, ints, so_far, own, next_g, next_f, of_g, of_f)
 
 -- how many of a site's first pairs are counted
-abbrev pub met_count : List Pair → Groups → (ℕ → Bool) → ℕ → ℕ → ℕ
-met_count list ends moved site k = met_below list ends moved (λ pair. 1) site k
+abbrev pub met_count : Neighbours → (ℕ → Bool) → ℕ → ℕ → ℕ
+met_count ends moved site k = met_below ends moved (λ pair. 1) site k
 
-pub met_count_more : (list : List Pair) (ends : Groups) (moved : ℕ → Bool) (site k : ℕ) (pair : Pair) → pair ≡ pair_of list ends site k
-    → met_count list ends moved site (k + 1) ≡ met_count list ends moved site k + counted (is_counted moved site pair) 1
-met_count_more list ends moved site k pair read =
-    let next = ap (λ n. met_count list ends moved site n) (add-one k) in
+pub met_count_more : (ends : Neighbours) (moved : ℕ → Bool) (site k : ℕ) (pair : Pair) → pair ≡ pair_of ends site k
+    → met_count ends moved site (k + 1) ≡ met_count ends moved site k + counted (is_counted moved site pair) 1
+met_count_more ends moved site k pair read =
+    let next = ap (λ n. met_count ends moved site n) (add-one k) in
     let of = ap (λ (p : Pair). counted (is_counted moved site p) 1) read in
     omega (arith, next, of)
 
-pub met_count_few : (list : List Pair) (ends : Groups) (moved : ℕ → Bool) (site k : ℕ) → met_count list ends moved site k ≤ k
-met_count_few list ends moved site zero = omega arith
-met_count_few list ends moved site (suc k) =
-    omega (arith, met_count_few list ends moved site k, counted-le (is_counted moved site (pair_of list ends site k)) 1)
+pub met_count_few : (ends : Neighbours) (moved : ℕ → Bool) (site k : ℕ) → met_count ends moved site k ≤ k
+met_count_few ends moved site zero = omega arith
+met_count_few ends moved site (suc k) =
+    omega (arith, met_count_few ends moved site k, counted-le (is_counted moved site (pair_of ends site k)) 1)
 
 -- the sum so far and one rise more, as the machine counts them
 pub rise_adds : (y r : ℤ) (j k : ℕ) → unsigned_abs y ≤ 10000000 * j → unsigned_abs r ≤ 10000000 * k → j ≤ 4294967296 → k ≤ 4294967296
@@ -289,13 +289,13 @@ covered false true z h = absurd (cc (h refl))
 covered false false z h = refl
 
 -- the pairs of the sites that move, each once
-pub moved_pairs : (pairs : PairList) (ends : Groups) (chosen moved : ℕ → Bool) (sites : List ℕ) (value : Pair → ℕ) → All (IsPair pairs.sites) pairs.list → AreBySite pairs ends
+pub moved_pairs : (pairs : PairList) (ends : Neighbours) (chosen moved : ℕ → Bool) (sites : List ℕ) (value : Pair → ℕ) → All (IsPair pairs.sites) pairs.list → AreBySite pairs ends
     → IsListing chosen pairs.sites sites → ((p : ℕ) → p < pairs.sites → moved p ≡ true → chosen p ≡ true)
-    → sum_by (moved_met pairs.list ends moved value) sites ≡ sum_by (λ pair. counted (has_chosen moved pair) (value pair)) pairs.list
+    → sum_by (moved_met ends moved value) sites ≡ sum_by (λ pair. counted (has_chosen moved pair) (value pair)) pairs.list
 moved_pairs pairs ends chosen moved sites value all by_site listed within =
-    let met = met_at pairs.list ends moved value in
-    ap (λ (xs : List ℕ). sum_by (moved_met pairs.list ends moved value) xs) listed
-    ∙ listed_sites_are_summed chosen pairs.sites (moved_met pairs.list ends moved value)
+    let met = met_at ends moved value in
+    ap (λ (xs : List ℕ). sum_by (moved_met ends moved value) xs) listed
+    ∙ listed_sites_are_summed chosen pairs.sites (moved_met ends moved value)
     ∙ sum_below-same pairs.sites (λ p. counted (chosen p) (counted (moved p) (met p))) (λ p. counted (moved p) (met p)) (λ p l. covered (chosen p) (moved p) (met p) (within p l))
     ∙ sym (listed_sites_are_summed moved pairs.sites met)
     ∙ pairs_are_met_once pairs.sites pairs.list ends moved value all by_site
@@ -306,23 +306,23 @@ pairs_at_most moved (p ∷ ps) =
     omega (arith, sum_by-cons (λ pair. counted (has_chosen moved pair) 1) p ps, counted-le (has_chosen moved p) 1, pairs_at_most moved ps)
 
 -- so many of them are met at the first listed sites
-pub counts_whole : (pairs : PairList) (ends : Groups) (move : Move) (f : List ℕ) (choices : List Choice) (sites : List ℕ) (i : ℕ) → All (IsPair pairs.sites) pairs.list
+pub counts_whole : (pairs : PairList) (ends : Neighbours) (move : Move) (f : List ℕ) (choices : List Choice) (sites : List ℕ) (i : ℕ) → All (IsPair pairs.sites) pairs.list
     → AreBySite pairs ends → length f ≡ pairs.sites → HasChanges move f choices sites
-    → sum_by (moved_met pairs.list ends (moves_site move (labelling f) choices) (λ pair. 1)) (take i sites) ≤ length pairs.list
+    → sum_by (moved_met ends (moves_site move (labelling f) choices) (λ pair. 1)) (take i sites) ≤ length pairs.list
 counts_whole pairs ends move f choices sites i all by_site size changes =
     let moved = moves_site move (labelling f) choices in
     let listed : IsListing changes.chosen pairs.sites sites = changes.listed ∙ ap (λ n. listing changes.chosen n) size in
     let within : (p : ℕ) → p < pairs.sites → moved p ≡ true → changes.chosen p ≡ true = λ p l. changes.each p (omega (arith, l, size)) in
     let whole = moved_pairs pairs ends changes.chosen moved sites (λ pair. 1) all by_site listed within in
-    omega (arith, whole, pairs_at_most moved pairs.list, sum_by-take-le (moved_met pairs.list ends moved (λ pair. 1)) sites i)
+    omega (arith, whole, pairs_at_most moved pairs.list, sum_by-take-le (moved_met ends moved (λ pair. 1)) sites i)
 
 -- and at the next
-pub counts_few : (pairs : PairList) (ends : Groups) (move : Move) (f : List ℕ) (choices : List Choice) (sites : List ℕ) (i : ℕ) → All (IsPair pairs.sites) pairs.list
+pub counts_few : (pairs : PairList) (ends : Neighbours) (move : Move) (f : List ℕ) (choices : List Choice) (sites : List ℕ) (i : ℕ) → All (IsPair pairs.sites) pairs.list
     → AreBySite pairs ends → length f ≡ pairs.sites → HasChanges move f choices sites → i < length sites
-    → (sum_by (moved_met pairs.list ends (moves_site move (labelling f) choices) (λ pair. 1)) (take i sites) ≤ length pairs.list)
-    × (moved_met pairs.list ends (moves_site move (labelling f) choices) (λ pair. 1) (get_or sites i 0) ≤ length pairs.list)
+    → (sum_by (moved_met ends (moves_site move (labelling f) choices) (λ pair. 1)) (take i sites) ≤ length pairs.list)
+    × (moved_met ends (moves_site move (labelling f) choices) (λ pair. 1) (get_or sites i 0) ≤ length pairs.list)
 counts_few pairs ends move f choices sites i all by_site size changes l =
-    let one = moved_met pairs.list ends (moves_site move (labelling f) choices) (λ pair. 1) in
+    let one = moved_met ends (moves_site move (labelling f) choices) (λ pair. 1) in
     let before = counts_whole pairs ends move f choices sites i all by_site size changes in
     let next = counts_whole pairs ends move f choices sites (i + 1) all by_site size changes in
     let more = sum_by_more one sites i 0 l in
@@ -355,10 +355,10 @@ pair_same m move f choices pair is =
     let second = unmoved move f choices pair.second kept.1 in
     ap (λ a. pair.weight * m.smooth_cost a (made move f (site_values choices) pair.second)) first ∙ ap (λ b. pair.weight * m.smooth_cost (f pair.first) b) second
 
-pub pairs_rise : (m : Instance) (pairs : PairList) (ends : Groups) (move : Move) (f : List ℕ) (choices : List Choice) (sites : List ℕ) (total : ℤ) → m.pairs ≡ pairs.list
+pub pairs_rise : (m : Instance) (pairs : PairList) (ends : Neighbours) (move : Move) (f : List ℕ) (choices : List Choice) (sites : List ℕ) (total : ℤ) → m.pairs ≡ pairs.list
     → All (IsPair pairs.sites) pairs.list → AreBySite pairs ends → length f ≡ pairs.sites → HasChanges move f choices sites
-    → total ≡ pos (sum_by (moved_met pairs.list ends (moves_site move (labelling f) choices) (pair_cost m (made move (labelling f) (site_values choices)))) sites)
-    -ℤ pos (sum_by (moved_met pairs.list ends (moves_site move (labelling f) choices) (pair_cost m (labelling f))) sites)
+    → total ≡ pos (sum_by (moved_met ends (moves_site move (labelling f) choices) (pair_cost m (made move (labelling f) (site_values choices)))) sites)
+    -ℤ pos (sum_by (moved_met ends (moves_site move (labelling f) choices) (pair_cost m (labelling f))) sites)
     → total ≡ pos (sum_by (pair_cost m (made move (labelling f) (site_values choices))) m.pairs) -ℤ pos (sum_by (pair_cost m (labelling f)) m.pairs)
 pairs_rise m pairs ends move f choices sites total same all by_site size changes is =
     let moved = moves_site move (labelling f) choices in
@@ -369,6 +369,6 @@ pairs_rise m pairs ends move f choices sites total same all by_site size changes
     let of_g = moved_pairs pairs ends changes.chosen moved sites g all by_site listed within in
     let of_h = moved_pairs pairs ends changes.chosen moved sites h all by_site listed within in
     let whole = elsewhere_pairs (has_chosen moved) g h pairs.list (λ pair none. pair_same m move (labelling f) choices pair none) in
-    rise_by total (sum_by (moved_met pairs.list ends moved g) sites) (sum_by (moved_met pairs.list ends moved h) sites) (sum_by g pairs.list) (sum_by h pairs.list) is
+    rise_by total (sum_by (moved_met ends moved g) sites) (sum_by (moved_met ends moved h) sites) (sum_by g pairs.list) (sum_by h pairs.list) is
     (omega (arith, of_g, of_h, whole))
     ∙ ap (λ (xs : List Pair). pos (sum_by g xs) -ℤ pos (sum_by h xs)) (sym same)

@@ -14,7 +14,7 @@ use Rattle.move_energy.specs.Problems.{IsPrepareRefusal}
 use Rattle.move_energy.specs.Limits.{weights_limit}
 use Rattle.move_energy.specs.Weights.{AreWeights}
 use Rattle.sums.specs.Sums.{counted}
-use Rattle.grouping.specs.declared.Groups.{Groups}
+use Rattle.move_energy.specs.declared.by_site.Neighbours.{Neighbours}
 use Rattle.label_field.specs.declared.pair.Pair.{Pair}
 use Rattle.label_field.specs.PairLists.{PairList}
 use Rattle.move_energy.specs.BySite.{AreBySite, IsListing, met_at}
@@ -57,8 +57,8 @@ abbrev pub moves_site : Move → (ℕ → ℕ) → List Choice → ℕ → Bool
 moves_site move f choices p = not (made move f (site_values choices) p == f p)
 
 -- the sum of a value over the pairs that are counted at a site, where its label changes
-abbrev pub moved_met : List Pair → Groups → (ℕ → Bool) → (Pair → ℕ) → ℕ → ℕ
-moved_met list ends moved value site = counted (moved site) (met_at list ends moved value site)
+abbrev pub moved_met : Neighbours → (ℕ → Bool) → (Pair → ℕ) → ℕ → ℕ
+moved_met ends moved value site = counted (moved site) (met_at ends moved value site)
 
 -- the sites are listed, and among them are all whose labels the values change
 pub record HasChanges (move : Move) (f : List ℕ) (choices : List Choice) (sites : List ℕ) : Type 0 where

@@ -13,7 +13,6 @@ ghost use Rattle.moves.specs.Building.{site_values, moves_site, moved_met, HasCh
 use crate::lowering::{is_negative, lowers_all, made_label, pair_rise, site_rise};
 use crate::workspace::Workspace;
 use cost_store::Problem;
-use grouping::Groups;
 use label_field::Pair;
 use labellings::Move;
 use move_energy::{Choice, ends_at, pair_at};
@@ -88,7 +87,7 @@ fn counted_rise<F: Fn(u32, u32) -> i64 + Sync, V: Fn(u32, u32) -> i64 + Sync>(
 /// By how much more the labels that the values make cost the pairs that are counted at a site.
 fn met_rise<F: Fn(u32, u32) -> i64 + Sync, V: Fn(u32, u32) -> i64 + Sync>(
     problem: &Problem<F, V>,
-    ends: &Groups,
+    ends: &Neighbours,
     at: &[u8],
     change: Move,
     choices: &[Choice],
@@ -99,11 +98,11 @@ fn met_rise<F: Fn(u32, u32) -> i64 + Sync, V: Fn(u32, u32) -> i64 + Sync>(
     requires choices { length choices.now ≡ length at.now }
     requires by_site { AreBySite problem.now.pairs ends.now }
     requires site { site < length at.now }
-    ensures rise { Meant F.Fn V.Fn problem.now (λ m. result ≡ pos (met_at problem.now.pairs.list ends.now
+    ensures rise { Meant F.Fn V.Fn problem.now (λ m. result ≡ pos (met_at ends.now
         (moves_site change (labelling at.now) choices.now) (cost_of_pair m (made change (labelling at.now)
-        (site_values choices.now))) site) -ℤ pos (met_at problem.now.pairs.list ends.now (moves_site change
+        (site_values choices.now))) site) -ℤ pos (met_at ends.now (moves_site change
         (labelling at.now) choices.now) (cost_of_pair m (labelling at.now)) site)) }
-    ensures range { unsigned_abs result ≤ pair_cost_limit * met_at problem.now.pairs.list ends.now (moves_site
+    ensures range { unsigned_abs result ≤ pair_cost_limit * met_at ends.now (moves_site
         change (labelling at.now) choices.now) (λ pair. 1) site }
 {
     let mut total = 0i64;
@@ -117,7 +116,7 @@ fn met_rise<F: Fn(u32, u32) -> i64 + Sync, V: Fn(u32, u32) -> i64 + Sync>(
 /// The same of a site whose label may change, and nothing of one that keeps it.
 fn moved_rise<F: Fn(u32, u32) -> i64 + Sync, V: Fn(u32, u32) -> i64 + Sync>(
     problem: &Problem<F, V>,
-    ends: &Groups,
+    ends: &Neighbours,
     at: &[u8],
     change: Move,
     choices: &[Choice],
@@ -128,11 +127,11 @@ fn moved_rise<F: Fn(u32, u32) -> i64 + Sync, V: Fn(u32, u32) -> i64 + Sync>(
     requires choices { length choices.now ≡ length at.now }
     requires by_site { AreBySite problem.now.pairs ends.now }
     requires site { site < length at.now }
-    ensures rise { Meant F.Fn V.Fn problem.now (λ m. result ≡ pos (moved_met problem.now.pairs.list ends.now
+    ensures rise { Meant F.Fn V.Fn problem.now (λ m. result ≡ pos (moved_met ends.now
         (moves_site change (labelling at.now) choices.now) (cost_of_pair m (made change (labelling at.now)
-        (site_values choices.now))) site) -ℤ pos (moved_met problem.now.pairs.list ends.now (moves_site change
+        (site_values choices.now))) site) -ℤ pos (moved_met ends.now (moves_site change
         (labelling at.now) choices.now) (cost_of_pair m (labelling at.now)) site)) }
-    ensures range { unsigned_abs result ≤ pair_cost_limit * moved_met problem.now.pairs.list ends.now
+    ensures range { unsigned_abs result ≤ pair_cost_limit * moved_met ends.now
         (moves_site change (labelling at.now) choices.now) (λ pair. 1) site }
 {
     if !is_moved(at, change, choices, site) {
@@ -144,7 +143,7 @@ fn moved_rise<F: Fn(u32, u32) -> i64 + Sync, V: Fn(u32, u32) -> i64 + Sync>(
 /// By how much more the labels that the values make cost the pairs, each asked at one of its ends.
 fn smooth_rise_listed<F: Fn(u32, u32) -> i64 + Sync, V: Fn(u32, u32) -> i64 + Sync>(
     problem: &Problem<F, V>,
-    ends: &Groups,
+    ends: &Neighbours,
     at: &[u8],
     change: Move,
     choices: &[Choice],

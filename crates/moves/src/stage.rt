@@ -16,7 +16,6 @@ use crate::workspace::Workspace;
 use crate::{How, MoveError};
 use compile_cut::Quadratic;
 use cost_store::Problem;
-use grouping::Groups;
 use label_field::Pairs;
 use labellings::Move;
 use move_energy::MoveEnergy;
@@ -36,7 +35,7 @@ fn cut_stage<F: Fn(u32, u32) -> i64 + Sync, V: Fn(u32, u32) -> i64 + Sync, H: Ho
     alloc: Global,
     problem: &Problem<F, V>,
     built: &mut MoveEnergy,
-    ends: &Groups,
+    ends: &Neighbours,
     opened: &[u32],
     at: &[u8],
     change: Move,

@@ -18,7 +18,6 @@ ghost use Rattle.move_energy.specs.LabelCosts.{AreCostsOf};
 
 use cost_store::{Problem, costs_of, has_cost};
 use deciding::{Bounds, Deciding, Lists};
-use grouping::Groups;
 use label_field::Pairs;
 use labellings::Move;
 use move_energy::{BuildError, MoveEnergy, add_label_costs};

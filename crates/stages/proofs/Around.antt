@@ -3,7 +3,7 @@ use Rattle.std.proofs.Common.{◌≡◌, ◌≢◌, ◌⊎◌, ◌==◌, ℕ, �
 use Rattle.std.proofs.lemmas.Bool.{eq-eqb, ne_eqb}
 use Rattle.std.specs.List.{Contains}
 use Rattle.std.proofs.lemmas.List.Elements.{All-contains_itself, All-get_or, All-from_get_or}
-use Rattle.grouping.specs.declared.Groups.{Groups}
+use Rattle.move_energy.specs.declared.by_site.Neighbours.{Neighbours}
 use Rattle.grouping.specs.Grouping.{start_of, place_at}
 use Rattle.label_field.specs.declared.pair.Pair.{Pair}
 use Rattle.label_field.specs.PairLists.{PairList, IsPair}
@@ -19,12 +19,12 @@ abbrev none : Pair
 none = record { first = 0; second = 0; weight = 0 }
 
 -- a pair that touches a site is among the site's
-pub pair_met : (pairs : PairList) (ends : Groups) (site i : ℕ) → AreBySite pairs ends → i < length pairs.list → Touches site (pair_in pairs.list i)
-    → (k : ℕ) × (k < degree ends site) × (pair_of pairs.list ends site k ≡ pair_in pairs.list i)
+pub pair_met : (pairs : PairList) (ends : Neighbours) (site i : ℕ) → AreBySite pairs ends → i < length pairs.list → Touches site (pair_in pairs.list i)
+    → (k : ℕ) × (k < degree ends site) × (pair_of ends site k ≡ pair_in pairs.list i)
 pair_met pairs ends site i by_site l touches =
     let found = touching_found pairs.list pairs.sites site i none ends by_site l touches in
-    let k = found.0 - start_of ends site in
-    let at : start_of ends site + k ≡ found.0 = omega (arith, found.1) in
+    let k = found.0 - start_at ends site in
+    let at : start_at ends site + k ≡ found.0 = omega (arith, found.1) in
     (k, omega (arith, found.1, found.2), ap (λ p. pair_in pairs.list (place_at ends p / 2)) at ∙ ap (pair_in pairs.list) found.3)
 
 -- what is true of each pair by its number is true of all
@@ -51,11 +51,11 @@ pub other_inside : (n : ℕ) (pair : Pair) (site other : ℕ) → IsPair n pair 
 other_inside n pair site other is e = omega (arith, e, other_of (pair.first == site) n pair.first pair.second is.first is.second)
 
 -- the pairs of a site touch it
-touches : (pairs : PairList) (ends : Groups) (site k : ℕ) → AreBySite pairs ends → site < pairs.sites → k < degree ends site → Touches site (pair_of pairs.list ends site k)
+touches : (pairs : PairList) (ends : Neighbours) (site k : ℕ) → AreBySite pairs ends → site < pairs.sites → k < degree ends site → Touches site (pair_of ends site k)
 touches pairs ends site k by_site inside l =
     let to = (inside_part pairs ends site k by_site inside l).0 in
-    let at = by_site.places site (start_of ends site + k) inside (omega arith) to in
-    (end_touches pairs.list site (place_at ends (start_of ends site + k)) none at.0 at.1).1
+    let at = by_site.places site (start_at ends site + k) inside (omega arith) to in
+    (end_touches pairs.list site (place_at ends (start_at ends site + k)) none at.0 at.1).1
 
 ends_are : (pair : Pair) (site other : ℕ) → pair.first ≢ pair.second → Touches site pair → other ≡ cond (pair.first == site) pair.second pair.first → AreEnds pair site other
 ends_are pair site other apart (inl first) is = inl (first, sym (is ∙ ap (λ b. cond b pair.second pair.first) (eq-eqb pair.first site first)))
@@ -63,8 +63,8 @@ ends_are pair site other apart (inr second) is =
     inr (sym (is ∙ ap (λ b. cond b pair.second pair.first) (ne_eqb pair.first site (λ first. apart (first ∙ sym second)))), second)
 
 -- the other end is beside the site
-pub other_beside : (pairs : PairList) (ends : Groups) (site k other : ℕ) (pair : Pair) → AreBySite pairs ends → site < pairs.sites → k < degree ends site
-    → pair ≡ pair_of pairs.list ends site k → pair.first ≢ pair.second → other ≡ cond (pair.first == site) pair.second pair.first → AreBeside pairs site other
+pub other_beside : (pairs : PairList) (ends : Neighbours) (site k other : ℕ) (pair : Pair) → AreBySite pairs ends → site < pairs.sites → k < degree ends site
+    → pair ≡ pair_of ends site k → pair.first ≢ pair.second → other ≡ cond (pair.first == site) pair.second pair.first → AreBeside pairs site other
 other_beside pairs ends site k other pair by_site inside l is apart at =
     let P : Pair → Type 0 = λ q. Touches site q in
     let Q : Pair → Type 0 = λ q. Contains pairs.list q in (
@@ -96,15 +96,15 @@ pub across_stays : (a : ℕ) (f : ℕ → ℕ) (site : ℕ) (old new : ℕ → B
     → IsMarkedAcross a f site old pair → IsMarkedAcross a f site new pair
 across_stays a f site old new pair stays across = ((λ here could. stays pair.second (across.0 here could)), (λ here could. stays pair.first (across.1 here could)))
 
-pub around_stays : (pairs : PairList) (ends : Groups) (a : ℕ) (f : ℕ → ℕ) (site : ℕ) (old new : ℕ → Bool) → ((p : ℕ) → old p ≡ true → new p ≡ true)
+pub around_stays : (pairs : PairList) (ends : Neighbours) (a : ℕ) (f : ℕ → ℕ) (site : ℕ) (old new : ℕ → Bool) → ((p : ℕ) → old p ≡ true → new p ≡ true)
     → IsMarkedAround pairs ends a f site old → IsMarkedAround pairs ends a f site new
 around_stays pairs ends a f site old new stays around = record {
   own = λ could. stays site (around.own could);
-  beside = λ k l. across_stays a f site old new (pair_of pairs.list ends site k) stays (around.beside k l);
+  beside = λ k l. across_stays a f site old new (pair_of ends site k) stays (around.beside k l);
 }
 
 -- a pair with a changed end
-fresh_across : (pairs : PairList) (ends : Groups) (a : ℕ) (f : ℕ → ℕ) (changed fresh : ℕ → Bool) (i : ℕ) → AreBySite pairs ends → All (IsPair pairs.sites) pairs.list
+fresh_across : (pairs : PairList) (ends : Neighbours) (a : ℕ) (f : ℕ → ℕ) (changed fresh : ℕ → Bool) (i : ℕ) → AreBySite pairs ends → All (IsPair pairs.sites) pairs.list
     → ((p : ℕ) → p < pairs.sites → changed p ≡ true → IsMarkedAround pairs ends a f p fresh) → i < length pairs.list → IsFreshAcross a f changed fresh (pair_in pairs.list i)
 fresh_across pairs ends a f changed fresh i by_site are around l =
     let pair = pair_in pairs.list i in
@@ -119,7 +119,7 @@ fresh_across pairs ends a f changed fresh i by_site are around l =
           (subst P met.2 ((around pair.first is.first held).beside met.0 met.1)).0 refl could),
     )
 
-pub all_fresh : (pairs : PairList) (ends : Groups) (a : ℕ) (f : ℕ → ℕ) (changed fresh : ℕ → Bool) → AreBySite pairs ends → All (IsPair pairs.sites) pairs.list
+pub all_fresh : (pairs : PairList) (ends : Neighbours) (a : ℕ) (f : ℕ → ℕ) (changed fresh : ℕ → Bool) → AreBySite pairs ends → All (IsPair pairs.sites) pairs.list
     → ((p : ℕ) → p < pairs.sites → changed p ≡ true → IsMarkedAround pairs ends a f p fresh)
     → (m : Instance) → m.sites ≡ pairs.sites → m.pairs ≡ pairs.list → AreFresh m a f changed fresh
 all_fresh pairs ends a f changed fresh by_site are around m sites list =

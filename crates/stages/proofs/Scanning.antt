@@ -2,7 +2,7 @@
 use Rattle.std.proofs.Common.{◌≡◌, ◌≢◌, ◌⊎◌, ℕ, ◌+◌, ◌<◌, ◌≤◌, Bool, true, false, List, sym, ◌∙◌, below_more}
 use Rattle.std.specs.Prelude.{slice_index}
 use Rattle.std.proofs.lemmas.Bool.{lt-ltb, le-ltb}
-use Rattle.grouping.specs.declared.Groups.{Groups}
+use Rattle.move_energy.specs.declared.by_site.Neighbours.{Neighbours}
 use Rattle.label_field.specs.PairLists.{PairList}
 use Rattle.stages.specs.declared.stage.Stage.{Stage}
 use Rattle.stages.specs.Looking.{marked, changed_since, AreBeside, IsNearChange}
@@ -10,12 +10,12 @@ use Rattle.stages.specs.Working.{AreMarks, StaysMarked, IsMarkedAround}
 use Rattle.stages.proofs.Around.{around_stays, only_near}
 
 -- the fresh sites are those of the changes below a site
-pub record AreScanned (pairs : PairList) (ends : Groups) (a : ℕ) (f : ℕ → ℕ) (stamps : List ℕ) (since n i : ℕ) (stage : Stage) : Type 0 where
+pub record AreScanned (pairs : PairList) (ends : Neighbours) (a : ℕ) (f : ℕ → ℕ) (stamps : List ℕ) (since n i : ℕ) (stage : Stage) : Type 0 where
   pub marks : AreMarks n stage.fresh.items stage.fresh_sites.items
   pub only : (p : ℕ) → marked stage.fresh.items p ≡ true → (f p ≢ a) × IsNearChange pairs (changed_since stamps since) p
   pub around : (p : ℕ) → p < i → changed_since stamps since p ≡ true → IsMarkedAround pairs ends a f p (marked stage.fresh.items)
 
-pub scanned_changed : (pairs : PairList) (ends : Groups) (a : ℕ) (f : ℕ → ℕ) (stamps : List ℕ) (since n i : ℕ) (now new : Stage) → since < slice_index stamps i
+pub scanned_changed : (pairs : PairList) (ends : Neighbours) (a : ℕ) (f : ℕ → ℕ) (stamps : List ℕ) (since n i : ℕ) (now new : Stage) → since < slice_index stamps i
     → AreMarks n new.fresh.items new.fresh_sites.items → StaysMarked now.fresh.items new.fresh.items
     → ((p : ℕ) → marked new.fresh.items p ≡ true → (marked now.fresh.items p ≡ true) ⊎ ((f p ≢ a) × ((p ≡ i) ⊎ AreBeside pairs i p)))
     → IsMarkedAround pairs ends a f i (marked new.fresh.items) → AreScanned pairs ends a f stamps since n i now → AreScanned pairs ends a f stamps since n (i + 1) new
@@ -30,7 +30,7 @@ scanned_changed pairs ends a f stamps since n i now new later marks stays only a
 clash : (b : Bool) → b ≡ true → b ≡ false → ⊥
 clash b h k = (let e = sym h ∙ k in cc (e))
 
-pub scanned_same : (pairs : PairList) (ends : Groups) (a : ℕ) (f : ℕ → ℕ) (stamps : List ℕ) (since n i : ℕ) (now : Stage) → slice_index stamps i ≤ since
+pub scanned_same : (pairs : PairList) (ends : Neighbours) (a : ℕ) (f : ℕ → ℕ) (stamps : List ℕ) (since n i : ℕ) (now : Stage) → slice_index stamps i ≤ since
     → AreScanned pairs ends a f stamps since n i now → AreScanned pairs ends a f stamps since n (i + 1) now
 scanned_same pairs ends a f stamps since n i now earlier scanned = record {
   marks = scanned.marks;

@@ -2,7 +2,7 @@
 use Rattle.std.proofs.Common.{◌≡◌, ℕ, ◌<◌, Bool, true, false, cond, List, [], ◌∷◌, ◌++◌, length, get_or, All, Result, Ok, Err, OnOk, refl, sym, ap, ◌∙◌, subst, inl, inr, arith}
 use Rattle.std.proofs.lemmas.List.{length-append, get_or_append_left}
 use Rattle.std.proofs.lemmas.List.Elements.{All-push, All-contains}
-use Rattle.grouping.specs.declared.Groups.{Groups}
+use Rattle.move_energy.specs.declared.by_site.Neighbours.{Neighbours}
 use Rattle.label_field.specs.declared.pair.Pair.{Pair}
 use Rattle.label_field.specs.PairLists.{PairList, IsPair}
 use Rattle.labellings.specs.Energies.{labelling}
@@ -44,9 +44,9 @@ across_wider choices bits site pair old new wider across = (
   (λ here. seen_wider choices bits pair.first old new wider (across.1 here)),
 )
 
-pub around_wider : (pairs : PairList) (ends : Groups) (choices : List Choice) (bits : List Bool) (site : ℕ) (old new : Stage) → IsWider old new
+pub around_wider : (pairs : PairList) (ends : Neighbours) (choices : List Choice) (bits : List Bool) (site : ℕ) (old new : Stage) → IsWider old new
     → AreSeenAround pairs ends choices bits site old → AreSeenAround pairs ends choices bits site new
-around_wider pairs ends choices bits site old new wider around k l = across_wider choices bits site (pair_of pairs.list ends site k) old new wider (around k l)
+around_wider pairs ends choices bits site old new wider around k l = across_wider choices bits site (pair_of ends site k) old new wider (around k l)
 
 -- ---- one site
 
@@ -111,7 +111,7 @@ seen_waits choices bits site old new front none held =
 
 -- ---- closed
 
-apart_across : (pairs : PairList) (ends : Groups) (choices : List Choice) (bits : List Bool) (stage : Stage) (a : ℕ) (f : ℕ → ℕ) (i : ℕ) → AreBySite pairs ends
+apart_across : (pairs : PairList) (ends : Neighbours) (choices : List Choice) (bits : List Bool) (stage : Stage) (a : ℕ) (f : ℕ → ℕ) (i : ℕ) → AreBySite pairs ends
     → All (IsPair pairs.sites) pairs.list → AreMarks pairs.sites stage.taken.items stage.taking.items → All (λ p. AreSeenAround pairs ends choices bits p stage) stage.taking.items
     → length stage.front.items ≡ 0 → i < length pairs.list → IsApart a f (value_of choices bits) (marked stage.taken.items) (pair_in pairs.list i)
 apart_across pairs ends choices bits stage a f i by_site are marks around none l =
@@ -129,7 +129,7 @@ apart_across pairs ends choices bits stage a f i by_site are marks around none l
           (subst P met.2 (seen pair.second held is.second met.0 met.1)).1 refl none one),
     )
 
-pub closes : (pairs : PairList) (ends : Groups) (choices : List Choice) (bits : List Bool) (stage : Stage) → AreBySite pairs ends → All (IsPair pairs.sites) pairs.list
+pub closes : (pairs : PairList) (ends : Neighbours) (choices : List Choice) (bits : List Bool) (stage : Stage) → AreBySite pairs ends → All (IsPair pairs.sites) pairs.list
     → length choices ≡ pairs.sites → AreShown choices bits stage
     → ((p : ℕ) → p < pairs.sites → marked stage.fresh.items p ≡ true → IsSeen choices bits p stage)
     → All (λ p. AreSeenAround pairs ends choices bits p stage) stage.taking.items → length stage.front.items ≡ 0

@@ -1,7 +1,7 @@
 -- What is kept while a stage marks, opens and takes sites.
 use Rattle.std.specs.Prelude.{◌≡◌, ◌≢◌, ◌↔◌, ◌⊎◌, ℕ, ◌<◌, ◌≤◌, Bool, true, cond, List, [], ◌∷◌, ◌++◌, length, slice_index}
 use Rattle.std.specs.List.{All, Contains}
-use Rattle.grouping.specs.declared.Groups.{Groups}
+use Rattle.move_energy.specs.declared.by_site.Neighbours.{Neighbours}
 use Rattle.label_field.specs.declared.pair.Pair.{Pair}
 use Rattle.label_field.specs.PairLists.{PairList}
 use Rattle.move_energy.specs.BySite.{degree, pair_of}
@@ -37,10 +37,10 @@ IsMarkedAcross a f site fresh pair =
     × (pair.second ≡ site → f pair.first ≢ a → fresh pair.first ≡ true)
 
 -- the site and those beside it are fresh, of all that could take the label
-pub record IsMarkedAround (pairs : PairList) (ends : Groups) (a : ℕ) (f : ℕ → ℕ) (site : ℕ)
+pub record IsMarkedAround (pairs : PairList) (ends : Neighbours) (a : ℕ) (f : ℕ → ℕ) (site : ℕ)
     (fresh : ℕ → Bool) : Type 0 where
   pub own : f site ≢ a → fresh site ≡ true
-  pub beside : (k : ℕ) → k < degree ends site → IsMarkedAcross a f site fresh (pair_of pairs.list ends site k)
+  pub beside : (k : ℕ) → k < degree ends site → IsMarkedAcross a f site fresh (pair_of ends site k)
 
 -- ---- opening
 
@@ -78,6 +78,6 @@ IsSeenAcross choices bits site pair stage =
     × (pair.second ≡ site → IsSeen choices bits pair.first stage)
 
 -- the sites beside a site were seen
-abbrev pub AreSeenAround : PairList → Groups → List Choice → List Bool → ℕ → Stage → Type 0
+abbrev pub AreSeenAround : PairList → Neighbours → List Choice → List Bool → ℕ → Stage → Type 0
 AreSeenAround pairs ends choices bits site stage = (k : ℕ) → k < degree ends site
-    → IsSeenAcross choices bits site (pair_of pairs.list ends site k) stage
+    → IsSeenAcross choices bits site (pair_of ends site k) stage

@@ -8,7 +8,6 @@ ghost use Rattle.stages.specs.Working.{AreShown, IsWider, IsSeen, AreSeenAround}
 
 use crate::Stage;
 use crate::stage::{mark, other_end, unmark_all};
-use grouping::Groups;
 use label_field::Pairs;
 use move_energy::{Choice, ends_at, pair_at};
 use std::alloc::AllocError;
@@ -61,7 +60,7 @@ impl Stage {
     fn see_around(
         &mut self,
         pairs: &Pairs,
-        ends: &Groups,
+        ends: &Neighbours,
         choices: &[Choice],
         numbers: &[u32],
         bits: &[bool],
@@ -115,7 +114,7 @@ impl Stage {
     fn see_beside(
         &mut self,
         pairs: &Pairs,
-        ends: &Groups,
+        ends: &Neighbours,
         choices: &[Choice],
         numbers: &[u32],
         bits: &[bool],
@@ -152,7 +151,7 @@ impl Stage {
     pub fn close(
         &mut self,
         pairs: &Pairs,
-        ends: &Groups,
+        ends: &Neighbours,
         choices: &[Choice],
         numbers: &[u32],
         bits: &[bool],

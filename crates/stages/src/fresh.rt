@@ -7,7 +7,6 @@ ghost use Rattle.stages.specs.Working.{AreMarks, StaysMarked, IsMarkedAround};
 
 use crate::Stage;
 use crate::stage::{mark, other_end, unmark_all};
-use grouping::Groups;
 use label_field::Pairs;
 use move_energy::{ends_at, pair_at};
 use std::alloc::AllocError;
@@ -34,7 +33,7 @@ impl Stage {
     fn mark_around(
         &mut self,
         pairs: &Pairs,
-        ends: &Groups,
+        ends: &Neighbours,
         at: &[u8],
         alpha: u32,
         site: u32,
@@ -65,7 +64,7 @@ impl Stage {
     pub fn mark_fresh(
         &mut self,
         pairs: &Pairs,
-        ends: &Groups,
+        ends: &Neighbours,
         at: &[u8],
         alpha: u32,
         stamps: &[u32],

@@ -11,7 +11,6 @@ ghost use Rattle.stages.specs.Working.{KeepsZeros};
 
 use crate::Stage;
 use crate::stage::other_end;
-use grouping::Groups;
 use label_field::Pairs;
 use move_energy::{Choice, ends_at, pair_at};
 use std::alloc::AllocError;
@@ -165,7 +164,7 @@ fn list_open(opened: &mut Vec<u32>, choices: &[Choice]) -> Result<(), AllocError
 /// Opens the sites beside a site that were not looked at, and lists them.
 fn open_beside(
     pairs: &Pairs,
-    ends: &Groups,
+    ends: &Neighbours,
     choices: &mut Vec<Choice>,
     ring: &mut Vec<u32>,
     site: u32,
@@ -191,7 +190,7 @@ fn open_beside(
 /// listed too.
 fn open_ring(
     pairs: &Pairs,
-    ends: &Groups,
+    ends: &Neighbours,
     choices: &mut Vec<Choice>,
     ring: &mut Vec<u32>,
     from: usize,
@@ -212,7 +211,7 @@ fn open_ring(
 /// Opens rings around the listed sites, until so many sites are listed.
 fn open_rings(
     pairs: &Pairs,
-    ends: &Groups,
+    ends: &Neighbours,
     choices: &mut Vec<Choice>,
     ring: &mut Vec<u32>,
     most: usize,
@@ -241,7 +240,7 @@ impl Stage {
         &mut self,
         choices: &mut Vec<Choice>,
         pairs: &Pairs,
-        ends: &Groups,
+        ends: &Neighbours,
         at: &[u8],
         alpha: u32,
     ) -> Result<(), AllocError>
@@ -271,7 +270,7 @@ impl Stage {
         &mut self,
         choices: &mut Vec<Choice>,
         pairs: &Pairs,
-        ends: &Groups,
+        ends: &Neighbours,
         bits: &[bool],
     ) -> Result<bool, AllocError>
         requires by_site { AreBySite pairs.now ends.now }

@@ -20,7 +20,7 @@ loop-index-preserved g c =
     record {
       small = total_small old added _ k c.loop-index.invariant.small c.pair_border-total.ensures.range is;
       so_far = λ m answers allowed.
-          total_more old added _ (λ i. pair_border m a.change (labelling a.at.now) (choice_at a.choices.now) (range_of a.from a.to) a.site (pair_of a.problem.now.pairs.list a.ends.now a.site i)) k _
+          total_more old added _ (λ i. pair_border m a.change (labelling a.at.now) (choice_at a.choices.now) (range_of a.from a.to) a.site (pair_of a.ends.now a.site i)) k _
           is (c.loop-index.invariant.so_far m answers allowed)
           (c.pair_border-total.ensures.value m answers
           (regular_at m a.change (labelling a.at.now) a.problem.now.pairs a.ends.now a.site k c.pair_at-pair.result c.requires.by_site inside below answers.pairs_are c.pair_at-pair.ensures.value allowed))

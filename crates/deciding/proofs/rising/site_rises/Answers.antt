@@ -16,8 +16,8 @@ get-pair-requires g c =
     let inside : a.site < a.problem.now.pairs.sites = omega (arith, c.requires.site, c.requires.asked.sites) in
     let start = start_read a.problem.now.pairs a.ends.now a.site _ c.requires.by_site (omega (arith, inside)) c.index-place.ensures in
     let end = start_read a.problem.now.pairs a.ends.now (a.site + 1) _ c.requires.by_site (omega (arith, inside)) c.index-place-end.ensures in
-    let from : start_of a.ends.now a.site ≤ c.loop-place.place = omega (arith, start, c.loop-place.auto.place) in
-    let to : c.loop-place.place < start_of a.ends.now (a.site + 1) = omega (arith, end, c.loop-place-test.true) in
+    let from : start_at a.ends.now a.site ≤ c.loop-place.place = omega (arith, start, c.loop-place.auto.place) in
+    let to : c.loop-place.place < start_at a.ends.now (a.site + 1) = omega (arith, end, c.loop-place-test.true) in
     place_within a.problem.now.pairs a.ends.now a.site c.loop-place.place _ c.requires.by_site inside from to
     (place_read a.problem.now.pairs a.ends.now a.site c.loop-place.place _ c.requires.by_site inside to c.index.ensures)
 
@@ -27,8 +27,8 @@ pair_rises-rises-requires-clause-end g c = λ κs lives.
     let inside : a.site < a.problem.now.pairs.sites = omega (arith, c.requires.site, c.requires.asked.sites) in
     let start = start_read a.problem.now.pairs a.ends.now a.site _ c.requires.by_site (omega (arith, inside)) c.index-place.ensures in
     let end = start_read a.problem.now.pairs a.ends.now (a.site + 1) _ c.requires.by_site (omega (arith, inside)) c.index-place-end.ensures in
-    let from : start_of a.ends.now a.site ≤ c.loop-place.place = omega (arith, start, c.loop-place.auto.place) in
-    let to : c.loop-place.place < start_of a.ends.now (a.site + 1) = omega (arith, end, c.loop-place-test.true) in
+    let from : start_at a.ends.now a.site ≤ c.loop-place.place = omega (arith, start, c.loop-place.auto.place) in
+    let to : c.loop-place.place < start_at a.ends.now (a.site + 1) = omega (arith, end, c.loop-place-test.true) in
     place_touches a.problem.now.pairs a.ends.now a.site c.loop-place.place _ c.get-pair.result c.requires.by_site inside from to
     (place_read a.problem.now.pairs a.ends.now a.site c.loop-place.place _ c.requires.by_site inside to c.index.ensures) c.get-pair.ensures.value
 
@@ -58,11 +58,11 @@ overflow_add-least g c =
     let inside : a.site < a.problem.now.pairs.sites = omega (arith, c.requires.site, c.requires.asked.sites) in
     let start = start_read a.problem.now.pairs a.ends.now a.site _ c.requires.by_site (omega (arith, inside)) c.index-place.ensures in
     let end = start_read a.problem.now.pairs a.ends.now (a.site + 1) _ c.requires.by_site (omega (arith, inside)) c.index-place-end.ensures in
-    let from : start_of a.ends.now a.site ≤ c.loop-place.place = omega (arith, start, c.loop-place.auto.place) in
-    let to : c.loop-place.place < start_of a.ends.now (a.site + 1) = omega (arith, end, c.loop-place-test.true) in
-    let few : c.loop-place.place - start_of a.ends.now a.site ≤ 8388608 =
+    let from : start_at a.ends.now a.site ≤ c.loop-place.place = omega (arith, start, c.loop-place.auto.place) in
+    let to : c.loop-place.place < start_at a.ends.now (a.site + 1) = omega (arith, end, c.loop-place-test.true) in
+    let few : c.loop-place.place - start_at a.ends.now a.site ≤ 8388608 =
     omega (arith, degree_most a.problem.now.pairs a.ends.now a.site c.requires.by_site inside, from, to, c.requires.posed.pairs.count) in
-    sum_fits (to_z w64 c.loop-place.least-bits) c.pair_rises-rises.result.least (c.loop-place.place - start_of a.ends.now a.site) c.loop-place.invariant.least_small c.pair_rises-rises.ensures.range.0 few
+    sum_fits (to_z w64 c.loop-place.least-bits) c.pair_rises-rises.result.least (c.loop-place.place - start_at a.ends.now a.site) c.loop-place.invariant.least_small c.pair_rises-rises.ensures.range.0 few
 
 pub overflow_add-greatest : goal.overflow_add-greatest
 overflow_add-greatest g c =
@@ -70,11 +70,11 @@ overflow_add-greatest g c =
     let inside : a.site < a.problem.now.pairs.sites = omega (arith, c.requires.site, c.requires.asked.sites) in
     let start = start_read a.problem.now.pairs a.ends.now a.site _ c.requires.by_site (omega (arith, inside)) c.index-place.ensures in
     let end = start_read a.problem.now.pairs a.ends.now (a.site + 1) _ c.requires.by_site (omega (arith, inside)) c.index-place-end.ensures in
-    let from : start_of a.ends.now a.site ≤ c.loop-place.place = omega (arith, start, c.loop-place.auto.place) in
-    let to : c.loop-place.place < start_of a.ends.now (a.site + 1) = omega (arith, end, c.loop-place-test.true) in
-    let few : c.loop-place.place - start_of a.ends.now a.site ≤ 8388608 =
+    let from : start_at a.ends.now a.site ≤ c.loop-place.place = omega (arith, start, c.loop-place.auto.place) in
+    let to : c.loop-place.place < start_at a.ends.now (a.site + 1) = omega (arith, end, c.loop-place-test.true) in
+    let few : c.loop-place.place - start_at a.ends.now a.site ≤ 8388608 =
     omega (arith, degree_most a.problem.now.pairs a.ends.now a.site c.requires.by_site inside, from, to, c.requires.posed.pairs.count) in
-    sum_fits (to_z w64 c.loop-place.greatest-bits) c.pair_rises-rises.result.greatest (c.loop-place.place - start_of a.ends.now a.site) c.loop-place.invariant.greatest_small c.pair_rises-rises.ensures.range.1 few
+    sum_fits (to_z w64 c.loop-place.greatest-bits) c.pair_rises-rises.result.greatest (c.loop-place.place - start_at a.ends.now a.site) c.loop-place.invariant.greatest_small c.pair_rises-rises.ensures.range.1 few
 
 pub loop-place-preserved : goal.loop-place-preserved
 loop-place-preserved g c =
@@ -82,18 +82,18 @@ loop-place-preserved g c =
     let inside : a.site < a.problem.now.pairs.sites = omega (arith, c.requires.site, c.requires.asked.sites) in
     let start = start_read a.problem.now.pairs a.ends.now a.site _ c.requires.by_site (omega (arith, inside)) c.index-place.ensures in
     let end = start_read a.problem.now.pairs a.ends.now (a.site + 1) _ c.requires.by_site (omega (arith, inside)) c.index-place-end.ensures in
-    let from : start_of a.ends.now a.site ≤ c.loop-place.place = omega (arith, start, c.loop-place.auto.place) in
-    let to : c.loop-place.place < start_of a.ends.now (a.site + 1) = omega (arith, end, c.loop-place-test.true) in
-    let few : c.loop-place.place - start_of a.ends.now a.site ≤ 8388608 =
+    let from : start_at a.ends.now a.site ≤ c.loop-place.place = omega (arith, start, c.loop-place.auto.place) in
+    let to : c.loop-place.place < start_at a.ends.now (a.site + 1) = omega (arith, end, c.loop-place-test.true) in
+    let few : c.loop-place.place - start_at a.ends.now a.site ≤ 8388608 =
     omega (arith, degree_most a.problem.now.pairs a.ends.now a.site c.requires.by_site inside, from, to, c.requires.posed.pairs.count) in
     let i = c.loop-place.invariant in
     let e = c.pair_rises-rises.ensures in
     let place = place_read a.problem.now.pairs a.ends.now a.site c.loop-place.place _ c.requires.by_site inside to c.index.ensures in
-    let low = added_is (to_z w64 c.loop-place.least-bits) c.pair_rises-rises.result.least (c.loop-place.place - start_of a.ends.now a.site) i.least_small e.range.0 few in
-    let high = added_is (to_z w64 c.loop-place.greatest-bits) c.pair_rises-rises.result.greatest (c.loop-place.place - start_of a.ends.now a.site) i.greatest_small e.range.1 few in
+    let low = added_is (to_z w64 c.loop-place.least-bits) c.pair_rises-rises.result.least (c.loop-place.place - start_at a.ends.now a.site) i.least_small e.range.0 few in
+    let high = added_is (to_z w64 c.loop-place.greatest-bits) c.pair_rises-rises.result.greatest (c.loop-place.place - start_at a.ends.now a.site) i.greatest_small e.range.1 few in
     record {
-      least_small = range_more (to_z w64 c.loop-place.least-bits) c.pair_rises-rises.result.least _ (start_of a.ends.now a.site) c.loop-place.place from i.least_small e.range.0 low;
-      greatest_small = range_more (to_z w64 c.loop-place.greatest-bits) c.pair_rises-rises.result.greatest _ (start_of a.ends.now a.site) c.loop-place.place from i.greatest_small e.range.1 high;
+      least_small = range_more (to_z w64 c.loop-place.least-bits) c.pair_rises-rises.result.least _ (start_at a.ends.now a.site) c.loop-place.place from i.least_small e.range.0 low;
+      greatest_small = range_more (to_z w64 c.loop-place.greatest-bits) c.pair_rises-rises.result.greatest _ (start_at a.ends.now a.site) c.loop-place.place from i.greatest_small e.range.1 high;
       least = λ m answers.
           risen_more m a.change (labelling a.at.now) a.ends.now a.site (valued a.choices.now true) c.loop-place.place c.get-pair.result (to_z w64 c.loop-place.least-bits) c.pair_rises-rises.result.least _ from
           ((λ j. pair_in (answers.pairs_are j) (sym place j / 2)) ∙ pair_read a.problem.now.pairs.list _ c.get-pair.result c.get-pair.ensures.value)
@@ -110,7 +110,7 @@ returns-clause-least g c = λ m answers.
     let inside : a.site < a.problem.now.pairs.sites = omega (arith, c.requires.site, c.requires.asked.sites) in
     let start = start_read a.problem.now.pairs a.ends.now a.site _ c.requires.by_site (omega (arith, inside)) c.index-place.ensures in
     let end = start_read a.problem.now.pairs a.ends.now (a.site + 1) _ c.requires.by_site (omega (arith, inside)) c.index-place-end.ensures in
-    let last : c.loop-place.place - start_of a.ends.now a.site ≡ degree a.ends.now a.site =
+    let last : c.loop-place.place - start_at a.ends.now a.site ≡ degree a.ends.now a.site =
     omega (arith, start, end, c.requires.by_site.ordered a.site inside, c.loop-place.auto.place-end, c.loop-place-test.false) in
     c.loop-place.invariant.least m answers ∙ ap (risen m a.change (labelling a.at.now) a.ends.now a.site (valued a.choices.now true)) last
     ∙ risen_all m a.change (labelling a.at.now) a.ends.now a.site (valued a.choices.now true)
@@ -123,7 +123,7 @@ returns-clause-greatest g c = λ m answers.
     let inside : a.site < a.problem.now.pairs.sites = omega (arith, c.requires.site, c.requires.asked.sites) in
     let start = start_read a.problem.now.pairs a.ends.now a.site _ c.requires.by_site (omega (arith, inside)) c.index-place.ensures in
     let end = start_read a.problem.now.pairs a.ends.now (a.site + 1) _ c.requires.by_site (omega (arith, inside)) c.index-place-end.ensures in
-    let last : c.loop-place.place - start_of a.ends.now a.site ≡ degree a.ends.now a.site =
+    let last : c.loop-place.place - start_at a.ends.now a.site ≡ degree a.ends.now a.site =
     omega (arith, start, end, c.requires.by_site.ordered a.site inside, c.loop-place.auto.place-end, c.loop-place-test.false) in
     c.loop-place.invariant.greatest m answers ∙ ap (risen m a.change (labelling a.at.now) a.ends.now a.site (valued a.choices.now false)) last
     ∙ risen_all m a.change (labelling a.at.now) a.ends.now a.site (valued a.choices.now false)
@@ -136,6 +136,6 @@ returns-clause-range g c =
     let inside : a.site < a.problem.now.pairs.sites = omega (arith, c.requires.site, c.requires.asked.sites) in
     let start = start_read a.problem.now.pairs a.ends.now a.site _ c.requires.by_site (omega (arith, inside)) c.index-place.ensures in
     let end = start_read a.problem.now.pairs a.ends.now (a.site + 1) _ c.requires.by_site (omega (arith, inside)) c.index-place-end.ensures in
-    let last : c.loop-place.place - start_of a.ends.now a.site ≡ degree a.ends.now a.site =
+    let last : c.loop-place.place - start_at a.ends.now a.site ≡ degree a.ends.now a.site =
     omega (arith, start, end, c.requires.by_site.ordered a.site inside, c.loop-place.auto.place-end, c.loop-place-test.false) in
     (omega (arith, last, c.loop-place.invariant.least_small), omega (arith, last, c.loop-place.invariant.greatest_small))

@@ -8,10 +8,10 @@ use Rattle.deciding.proofs.rising.site_rises.Given as goal
 
 abbrev pub invariant-loop-place : goal.invariant-loop-place
 invariant-loop-place g l = record {
-  least_small : unsigned_abs l.least ≤ 10000000 + 10000000 * (l.place - start_of l.ends l.site);
-  greatest_small : unsigned_abs l.greatest ≤ 10000000 + 10000000 * (l.place - start_of l.ends l.site);
+  least_small : unsigned_abs l.least ≤ 10000000 + 10000000 * (l.place - start_at l.ends l.site);
+  greatest_small : unsigned_abs l.greatest ≤ 10000000 + 10000000 * (l.place - start_at l.ends l.site);
   least : (m : Instance) → IsMeant g.F.Fn g.V.Fn l.problem m
-      → l.least ≡ risen m l.change (labelling l.at) l.ends l.site (valued l.choices true) (l.place - start_of l.ends l.site);
+      → l.least ≡ risen m l.change (labelling l.at) l.ends l.site (valued l.choices true) (l.place - start_at l.ends l.site);
   greatest : (m : Instance) → IsMeant g.F.Fn g.V.Fn l.problem m
-      → l.greatest ≡ risen m l.change (labelling l.at) l.ends l.site (valued l.choices false) (l.place - start_of l.ends l.site);
+      → l.greatest ≡ risen m l.change (labelling l.at) l.ends l.site (valued l.choices false) (l.place - start_at l.ends l.site);
 }

@@ -35,7 +35,7 @@ pub add_pairs_at-requires-clause-met : goal.add_pairs_at-requires-clause-met
 add_pairs_at-requires-clause-met g c = λ κs lives.
     let a = c.args in
     let choices = a.variables.now.choices.items in
-    let met = met_at a.problem.now.pairs.list a.ends.now (open_at choices) (λ pair. 1) in
+    let met = met_at a.ends.now (open_at choices) (λ pair. 1) in
     let few : sum_by met a.opened.now ≤ length a.problem.now.pairs.list =
     met_few a.problem.now.pairs a.ends.now choices a.opened.now (length a.at.now) c.requires.by_site c.requires.posed.pairs.each
     c.requires.asked.sites c.requires.choices c.requires.listed in
@@ -46,7 +46,7 @@ pub add_pairs_at-requires-clause-bounded : goal.add_pairs_at-requires-clause-bou
 add_pairs_at-requires-clause-bounded g c = λ κs lives.
     let a = c.args in
     let choices = a.variables.now.choices.items in
-    let met = met_at a.problem.now.pairs.list a.ends.now (open_at choices) (λ pair. 1) in
+    let met = met_at a.ends.now (open_at choices) (λ pair. 1) in
     let few : sum_by met a.opened.now ≤ length a.problem.now.pairs.list =
     met_few a.problem.now.pairs a.ends.now choices a.opened.now (length a.at.now) c.requires.by_site c.requires.posed.pairs.each
     c.requires.asked.sites c.requires.choices c.requires.listed in
@@ -58,11 +58,11 @@ loop-index-preserved g c =
     let a = c.args in
     let choices = a.variables.now.choices.items in
     record {
-      longer = sum_longer (met_at a.problem.now.pairs.list a.ends.now (open_at choices) (λ pair. 1)) a.opened.now c.loop-index.index a.form.now c.loop-index.form c.add_pairs_at.new.form
+      longer = sum_longer (met_at a.ends.now (open_at choices) (λ pair. 1)) a.opened.now c.loop-index.index a.form.now c.loop-index.form c.add_pairs_at.new.form
           c.loop-index-test.true c.loop-index.invariant.longer c.in_ok-add_pairs_at.ensures.longer;
       adds = λ m answers fit.
           site_more a.form.now c.loop-index.form c.add_pairs_at.new.form
-          (λ (x : ℕ → Bool). met_at a.problem.now.pairs.list a.ends.now (open_at choices) (added a.adds m a.change (labelling a.at.now) (choice_at choices) (rank choices) x))
+          (λ (x : ℕ → Bool). met_at a.ends.now (open_at choices) (added a.adds m a.change (labelling a.at.now) (choice_at choices) (rank choices) x))
           a.opened.now c.loop-index.index c.loop-index-test.true (c.loop-index.invariant.adds m answers fit) (c.in_ok-add_pairs_at.ensures.adds m answers fit);
     }
 
@@ -70,7 +70,7 @@ pub returns-clause-bounded : goal.returns-clause-bounded
 returns-clause-bounded g c =
     let a = c.args in
     let choices = a.variables.now.choices.items in
-    let met = met_at a.problem.now.pairs.list a.ends.now (open_at choices) (λ pair. 1) in
+    let met = met_at a.ends.now (open_at choices) (λ pair. 1) in
     let few : sum_by met a.opened.now ≤ length a.problem.now.pairs.list =
     met_few a.problem.now.pairs a.ends.now choices a.opened.now (length a.at.now) c.requires.by_site c.requires.posed.pairs.each
     c.requires.asked.sites c.requires.choices c.requires.listed in
@@ -82,5 +82,5 @@ returns-clause-adds g c = λ m answers fit.
     let a = c.args in
     let choices = a.variables.now.choices.items in
     site_all a.form.now c.loop-index.form
-    (λ (x : ℕ → Bool). met_at a.problem.now.pairs.list a.ends.now (open_at choices) (added a.adds m a.change (labelling a.at.now) (choice_at choices) (rank choices) x))
+    (λ (x : ℕ → Bool). met_at a.ends.now (open_at choices) (added a.adds m a.change (labelling a.at.now) (choice_at choices) (rank choices) x))
     a.opened.now c.loop-index.index (omega (arith, c.loop-index-test.false)) (c.loop-index.invariant.adds m answers fit)

@@ -9,9 +9,9 @@ use Rattle.move_energy.proofs.listed_pairs.add_listed_pairs.Given as goal
 
 abbrev pub invariant-loop-index : goal.invariant-loop-index
 invariant-loop-index g l = record {
-  longer : IsLonger (sum_by (met_at l.problem.pairs.list l.ends (open_at l.variables.choices.items) (λ pair. 1)) (take l.index l.opened)) l.fn.form l.form;
+  longer : IsLonger (sum_by (met_at l.ends (open_at l.variables.choices.items) (λ pair. 1)) (take l.index l.opened)) l.fn.form l.form;
   adds : (m : Instance) → IsMeant g.F.Fn g.V.Fn l.problem m →
       All (IsRightFor l.adds m l.change (labelling l.at) (choice_at l.variables.choices.items)) l.problem.pairs.list →
-      AddsCost l.fn.form l.form (λ x. sum_by (met_at l.problem.pairs.list l.ends (open_at l.variables.choices.items)
+      AddsCost l.fn.form l.form (λ x. sum_by (met_at l.ends (open_at l.variables.choices.items)
       (added l.adds m l.change (labelling l.at) (choice_at l.variables.choices.items) (rank l.variables.choices.items) x)) (take l.index l.opened));
 }

@@ -43,7 +43,7 @@ add_counted-requires-clause-variables g c = λ κs lives. c.loop-index.invariant
 pub add_counted-requires-clause-bounded : goal.add_counted-requires-clause-bounded
 add_counted-requires-clause-bounded g c = λ κs lives.
     let a = c.args in
-    met_room a.problem.now.pairs.list a.ends.now (open_at a.variables.now.choices.items) a.site c.loop-index.index a.form.now c.loop-index.form
+    met_room a.ends.now (open_at a.variables.now.choices.items) a.site c.loop-index.index a.form.now c.loop-index.form
     (omega (arith, c.loop-index-test.true, c.ends_at-index-end.ensures)) c.requires.met c.requires.bounded c.loop-index.invariant.longer
 
 pub loop-index-preserved : goal.loop-index-preserved
@@ -53,12 +53,12 @@ loop-index-preserved g c =
     let inside : a.site < a.problem.now.pairs.sites = omega (arith, c.requires.site, c.requires.asked.sites) in
     let within : c.loop-index.index < degree a.ends.now a.site = omega (arith, c.loop-index-test.true, c.ends_at-index-end.ensures) in
     record {
-      longer = met_longer a.problem.now.pairs.list a.ends.now (open_at choices) a.site c.loop-index.index c.pair_at-pair.result a.form.now c.loop-index.form c.add_counted.new.form
+      longer = met_longer a.ends.now (open_at choices) a.site c.loop-index.index c.pair_at-pair.result a.form.now c.loop-index.form c.add_counted.new.form
           c.pair_at-pair.ensures.value c.loop-index.invariant.longer c.in_ok-add_counted.ensures.longer;
       adds = λ m answers fit.
           let P : Pair → Type 0 = λ pair. IsRightFor a.adds m a.change (labelling a.at.now) (choice_at choices) pair in
           let fits = subst P (sym c.pair_at-pair.ensures.value) (pair_has P a.problem.now.pairs a.ends.now a.site c.loop-index.index fit c.requires.by_site inside within) in
-          met_adds a.problem.now.pairs.list a.ends.now (open_at choices)
+          met_adds a.ends.now (open_at choices)
           (λ (x : ℕ → Bool) (pair : Pair). added a.adds m a.change (labelling a.at.now) (choice_at choices) (rank choices) x pair)
           a.site c.loop-index.index c.pair_at-pair.result a.form.now c.loop-index.form c.add_counted.new.form
           c.pair_at-pair.ensures.value (c.loop-index.invariant.adds m answers fit) (c.in_ok-add_counted.ensures.adds m answers fits);
@@ -67,13 +67,13 @@ loop-index-preserved g c =
 pub returns-clause-longer : goal.returns-clause-longer
 returns-clause-longer g c =
     let a = c.args in
-    let P : ℕ → Type 0 = λ k. IsLonger (met_below a.problem.now.pairs.list a.ends.now (open_at a.variables.now.choices.items) (λ pair. 1) a.site k) a.form.now c.loop-index.form in
+    let P : ℕ → Type 0 = λ k. IsLonger (met_below a.ends.now (open_at a.variables.now.choices.items) (λ pair. 1) a.site k) a.form.now c.loop-index.form in
     subst P (omega (arith, c.loop-index-test.false, c.loop-index.auto, c.ends_at-index-end.ensures)) c.loop-index.invariant.longer
 
 pub returns-clause-adds : goal.returns-clause-adds
 returns-clause-adds g c = λ m answers fit.
     let a = c.args in
     let choices = a.variables.now.choices.items in
-    let P : ℕ → Type 0 = λ k. AddsCost a.form.now c.loop-index.form (λ x. met_below a.problem.now.pairs.list a.ends.now (open_at choices)
+    let P : ℕ → Type 0 = λ k. AddsCost a.form.now c.loop-index.form (λ x. met_below a.ends.now (open_at choices)
     (added a.adds m a.change (labelling a.at.now) (choice_at choices) (rank choices) x) a.site k) in
     subst P (omega (arith, c.loop-index-test.false, c.loop-index.auto, c.ends_at-index-end.ensures)) (c.loop-index.invariant.adds m answers fit)

@@ -9,9 +9,9 @@ use Rattle.moves.proofs.listed.met_rise.Given as goal
 
 abbrev pub invariant-loop-number : goal.invariant-loop-number
 invariant-loop-number g l = record {
-  small : unsigned_abs l.total ≤ 10000000 * met_count l.problem.pairs.list l.ends (moves_site l.change (labelling l.at) l.choices) l.site l.number;
+  small : unsigned_abs l.total ≤ 10000000 * met_count l.ends (moves_site l.change (labelling l.at) l.choices) l.site l.number;
   so_far : (m : Instance) → IsMeant g.F.Fn g.V.Fn l.problem m →
-      l.total ≡ pos (met_below l.problem.pairs.list l.ends (moves_site l.change (labelling l.at) l.choices)
+      l.total ≡ pos (met_below l.ends (moves_site l.change (labelling l.at) l.choices)
       (pair_cost m (made l.change (labelling l.at) (site_values l.choices))) l.site l.number)
-      -ℤ pos (met_below l.problem.pairs.list l.ends (moves_site l.change (labelling l.at) l.choices) (pair_cost m (labelling l.at)) l.site l.number);
+      -ℤ pos (met_below l.ends (moves_site l.change (labelling l.at) l.choices) (pair_cost m (labelling l.at)) l.site l.number);
 }

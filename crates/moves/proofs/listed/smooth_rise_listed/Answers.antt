@@ -15,7 +15,7 @@ pub overflow_add-total : goal.overflow_add-total
 overflow_add-total g c =
     let a = c.args in
     let moved = moves_site a.change (labelling a.at.now) a.choices.now in
-    let one = moved_met a.problem.now.pairs.list a.ends.now moved (λ pair. 1) in
+    let one = moved_met a.ends.now moved (λ pair. 1) in
     let i = c.loop-index.index in
     let few = counts_few a.problem.now.pairs a.ends.now a.change a.at.now a.choices.now a.sites.now i
     c.requires.posed.pairs.each c.requires.by_site c.requires.asked.sites c.requires.changes c.loop-index-test.true in
@@ -28,7 +28,7 @@ loop-index-preserved g c =
     let a = c.args in
     let moved = moves_site a.change (labelling a.at.now) a.choices.now in
     let list = a.problem.now.pairs.list in
-    let one = moved_met list a.ends.now moved (λ pair. 1) in
+    let one = moved_met a.ends.now moved (λ pair. 1) in
     let i = c.loop-index.index in
     let site = get_or a.sites.now i 0 in
     let few = counts_few a.problem.now.pairs a.ends.now a.change a.at.now a.choices.now a.sites.now i
@@ -41,8 +41,8 @@ loop-index-preserved g c =
       so_far = λ m answers.
           rise_adds (to_z w64 c.loop-index.total-bits) c.moved_rise-total.result (sum_by one (take i a.sites.now)) (one site)
           c.loop-index.invariant.small c.moved_rise-total.ensures.range before own
-          ∙ rise_more (moved_met list a.ends.now moved (pair_cost m (made a.change (labelling a.at.now) (site_values a.choices.now))))
-          (moved_met list a.ends.now moved (pair_cost m (labelling a.at.now))) a.sites.now i _ _ site c.loop-index-test.true refl
+          ∙ rise_more (moved_met a.ends.now moved (pair_cost m (made a.change (labelling a.at.now) (site_values a.choices.now))))
+          (moved_met a.ends.now moved (pair_cost m (labelling a.at.now))) a.sites.now i _ _ site c.loop-index-test.true refl
           (c.loop-index.invariant.so_far m answers) (c.moved_rise-total.ensures.rise m answers);
     }
 
@@ -53,8 +53,8 @@ returns-clause-rise g c = λ m answers.
     let list = a.problem.now.pairs.list in
     pairs_rise m a.problem.now.pairs a.ends.now a.change a.at.now a.choices.now a.sites.now _ answers.pairs_are
     c.requires.posed.pairs.each c.requires.by_site c.requires.asked.sites c.requires.changes
-    (rise_all (moved_met list a.ends.now moved (pair_cost m (made a.change (labelling a.at.now) (site_values a.choices.now))))
-    (moved_met list a.ends.now moved (pair_cost m (labelling a.at.now))) a.sites.now c.loop-index.index _ c.loop-index-test.false
+    (rise_all (moved_met a.ends.now moved (pair_cost m (made a.change (labelling a.at.now) (site_values a.choices.now))))
+    (moved_met a.ends.now moved (pair_cost m (labelling a.at.now))) a.sites.now c.loop-index.index _ c.loop-index-test.false
     (c.loop-index.invariant.so_far m answers))
 
 pub returns-clause-range : goal.returns-clause-range

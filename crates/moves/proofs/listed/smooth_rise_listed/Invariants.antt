@@ -7,9 +7,9 @@ use Rattle.moves.proofs.listed.smooth_rise_listed.Given as goal
 
 abbrev pub invariant-loop-index : goal.invariant-loop-index
 invariant-loop-index g l = record {
-  small : unsigned_abs l.total ≤ 10000000 * sum_by (moved_met l.problem.pairs.list l.ends (moves_site l.change (labelling l.at) l.choices) (λ pair. 1)) (take l.index l.sites);
+  small : unsigned_abs l.total ≤ 10000000 * sum_by (moved_met l.ends (moves_site l.change (labelling l.at) l.choices) (λ pair. 1)) (take l.index l.sites);
   so_far : (m : Instance) → IsMeant g.F.Fn g.V.Fn l.problem m →
-      l.total ≡ pos (sum_by (moved_met l.problem.pairs.list l.ends (moves_site l.change (labelling l.at) l.choices)
+      l.total ≡ pos (sum_by (moved_met l.ends (moves_site l.change (labelling l.at) l.choices)
       (pair_cost m (made l.change (labelling l.at) (site_values l.choices)))) (take l.index l.sites))
-      -ℤ pos (sum_by (moved_met l.problem.pairs.list l.ends (moves_site l.change (labelling l.at) l.choices) (pair_cost m (labelling l.at))) (take l.index l.sites));
+      -ℤ pos (sum_by (moved_met l.ends (moves_site l.change (labelling l.at) l.choices) (pair_cost m (labelling l.at))) (take l.index l.sites));
 }

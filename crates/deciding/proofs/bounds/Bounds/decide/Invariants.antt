@@ -12,9 +12,9 @@ invariant-loop-place g l = record {
   sized : IsSummed (length l.at) l.self;
   same : length l.self.least.items ≡ length l.fn.self.least.items;
   waiting : AreWaiting (length l.fn.self.least.items) l.self;
-  more : length l.self.waiting.items ≤ length l.fn.self.waiting.items + (l.place - start_of l.ends l.site);
-  range : (most : ℕ) → IsWithinRange most l.fn.self → IsWithinRange (most + 20000000 * (l.place - start_of l.ends l.site)) l.self;
-  total : greatest_total l.self ≤ greatest_total l.fn.self + 20000000 * (l.place - start_of l.ends l.site);
+  more : length l.self.waiting.items ≤ length l.fn.self.waiting.items + (l.place - start_at l.ends l.site);
+  range : (most : ℕ) → IsWithinRange most l.fn.self → IsWithinRange (most + 20000000 * (l.place - start_at l.ends l.site)) l.self;
+  total : greatest_total l.self ≤ greatest_total l.fn.self + 20000000 * (l.place - start_at l.ends l.site);
   spread : (m : Instance) → IsMeant g.F.Fn g.V.Fn l.problem m
       → (decided : ArePartlyDecided m l.change (labelling l.at) (length l.fn.self.least.items) l.fn.self)
       → IsSpread m l.change (labelling l.at) (length l.fn.self.least.items) decided.decisions l.site l.value l.ends l.place l.self;

@@ -14,6 +14,6 @@ invariant-loop-site g l = record {
   few : left l.ends (length l.at) l.self.choices.items ≤ 2 * length l.problem.pairs.list;
   range : IsWithinRange (budget_of (left l.ends (length l.at) l.self.choices.items)) l.self;
   total : greatest_total l.self + 20000000 * left l.ends (length l.at) l.self.choices.items
-      ≤ 40000000 * length l.problem.pairs.list + 10000000 * l.site + 10000000 * start_of l.ends l.site;
+      ≤ 40000000 * length l.problem.pairs.list + 10000000 * l.site + 10000000 * start_at l.ends l.site;
   decided : (m : Instance) → IsMeant g.F.Fn g.V.Fn l.problem m → ArePartlyDecided m l.change (labelling l.at) l.site l.self;
 }

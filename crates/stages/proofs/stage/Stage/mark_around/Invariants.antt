@@ -13,5 +13,5 @@ invariant-loop-index l = record {
       ⊎ ((labelling l.at p ≢ l.alpha) × ((p ≡ l.site) ⊎ AreBeside l.pairs l.site p));
   own : labelling l.at l.site ≢ l.alpha → marked l.self.fresh.items l.site ≡ true;
   beside : (k : ℕ) → k < l.index
-      → IsMarkedAcross l.alpha (labelling l.at) l.site (marked l.self.fresh.items) (pair_of l.pairs.list l.ends l.site k);
+      → IsMarkedAcross l.alpha (labelling l.at) l.site (marked l.self.fresh.items) (pair_of l.ends l.site k);
 }
