@@ -8,7 +8,6 @@ use Rattle.std.proofs.lemmas.List.Sums.{sum_by-cons}
 use Rattle.sums.specs.Sums.{sum_below, counted}
 use Rattle.sums.specs.IntegerSums.{int_sum_by, int_sum_below}
 use Rattle.move_energy.specs.declared.by_site.Neighbours.{Neighbours}
-use Rattle.grouping.specs.Grouping.{IsGrouped}
 use Rattle.label_field.specs.declared.pair.Pair.{Pair}
 use Rattle.label_field.specs.PairLists.{IsPair}
 use Rattle.labellings.specs.declared.change.Move.{Move}
@@ -17,8 +16,8 @@ use Rattle.labellings.specs.Moves.{pair_entry, IsRegularPair, IsAllowed}
 use Rattle.move_energy.specs.declared.choice.Choice.{Choice}
 use Rattle.move_energy.specs.declared.choice.Choice.TheVariants.{Open, Zero, One}
 use Rattle.move_energy.specs.Choices.{bit_of, choice_at, is_open}
-use Rattle.move_energy.specs.BySite.{ends_of, degree, pair_of}
-use Rattle.move_energy.proofs.AtSite.{site_sum}
+use Rattle.move_energy.specs.BySite.{AreNeighboursOf, degree, pair_of}
+use Rattle.move_energy.proofs.Beside.{site_sum}
 use Rattle.move_energy.specs.Weights.{weight_at, pair_surplus, AreWeights}
 use Rattle.deciding.specs.Decisions.{set_bit, rise, IsSmallestLeast}
 use Rattle.deciding.specs.MoveValues.{move_value, data_rise, pair_rise}
@@ -442,10 +441,10 @@ no_pair m move f choice set p pair off other =
     (leads_none _ (is_beyond choice set pair.second) _ (is_beyond choice set pair.first) (test_false pair.first p off) (test_false pair.second p other))
 
 pub border_by_site : (m : Instance) (move : Move) (f : ℕ → ℕ) (choice : ℕ → Choice) (set : ℕ → Bool) (p : ℕ) (ends : Neighbours) → IsInstance m
-    → IsGrouped m.sites (ends_of m.pairs) ends → p < m.sites
+    → AreNeighboursOf m ends → p < m.sites
     → border_at m move f choice set p ≡ sum_below (degree ends p) (λ k. pair_border m move f choice set p (pair_of ends p k))
 border_by_site m move f choice set p ends pairs grouped l =
     let all = sum_is (pair_border m move f choice set p) m.pairs in
     let own = below_is_sum (degree ends p) (λ k. pair_border m move f choice set p (pair_of ends p k)) in
-    let same = site_sum m.sites p m.pairs ends (λ pair. pos (pair_border m move f choice set p pair)) pairs grouped l (no_pair m move f choice set p) in
+    let same = site_sum (record { sites = m.sites; list = m.pairs }) ends p (λ pair. pos (pair_border m move f choice set p pair)) pairs grouped l (no_pair m move f choice set p) in
     omega (arith, ints, all, own, same)

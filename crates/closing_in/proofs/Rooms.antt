@@ -6,7 +6,6 @@ use Rattle.std.proofs.lemmas.List.Elements.{All-get_or}
 use Rattle.sums.specs.Sums.{sum_below}
 use Rattle.sums.proofs.IntegerSumLemmas.{within_fits, abs-add}
 use Rattle.move_energy.specs.declared.by_site.Neighbours.{Neighbours}
-use Rattle.grouping.specs.Grouping.{start_of, place_at}
 use Rattle.label_field.specs.declared.pair.Pair.{Pair}
 use Rattle.label_field.specs.PairLists.{PairList, IsPairList}
 use Rattle.labellings.specs.declared.change.Move.{Move}
@@ -14,8 +13,8 @@ use Rattle.labellings.specs.Energies.{Instance}
 use Rattle.labellings.specs.Moves.{IsRegularPair, IsAllowed}
 use Rattle.move_energy.specs.BySite.{AreBySite, degree, pair_of}
 use Rattle.move_energy.specs.declared.choice.Choice.{Choice}
-use Rattle.move_energy.proofs.Parts.{end_within}
-use Rattle.deciding.proofs.Places.{meant_pairs, meant_grouped}
+use Rattle.move_energy.proofs.Parts.{pair_has}
+use Rattle.deciding.proofs.Places.{meant_pairs, meant_beside}
 use Rattle.closing_in.specs.Borders.{pair_border, border_at}
 use Rattle.closing_in.proofs.Borders.{border_by_site}
 
@@ -45,7 +44,7 @@ regular_at m move f pairs ends site k pair by_site inside l same is allowed =
     let P : Pair → Type 0 = λ p. IsRegularPair m move f p in
     let Q : List Pair → Type 0 = λ ps. All (IsRegularPair m move f) ps in
     subst P (sym is)
-    (All-get_or P pairs.list (place_at ends (start_at ends site + k) / 2) (record { first = 0; second = 0; weight = 0 }) (end_within pairs ends site k by_site inside l).1 (subst Q same allowed))
+    (pair_has P pairs ends site k (subst Q same allowed) by_site inside l)
 
 -- all pairs
 pub total_all : (m : Instance) (move : Move) (f : ℕ → ℕ) (choice : ℕ → Choice) (set : ℕ → Bool) (pairs : PairList) (ends : Neighbours) (site k : ℕ) (total : ℤ)
@@ -54,4 +53,4 @@ pub total_all : (m : Instance) (move : Move) (f : ℕ → ℕ) (choice : ℕ →
     → total ≡ pos (border_at m move f choice set site)
 total_all m move f choice set pairs ends site k total same sites list by_site inside end is =
     is ∙ (λ j. pos (sum_below (end j) (λ i. pair_border m move f choice set site (pair_of ends site i))))
-    ∙ ap pos (sym (border_by_site m move f choice set site ends (meant_pairs m pairs same sites list) (meant_grouped m pairs ends same sites by_site) (omega (arith, inside, sites))))
+    ∙ ap pos (sym (border_by_site m move f choice set site ends (meant_pairs m pairs same sites list) (meant_beside m pairs ends same sites by_site) (omega (arith, inside, sites))))

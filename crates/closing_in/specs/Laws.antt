@@ -3,7 +3,6 @@ use Rattle.std.specs.Prelude.{◌≡◌, ◌⊎◌, ℕ, ◌<◌, Bool, true, fa
 use Rattle.std.specs.List.{All}
 use Rattle.sums.specs.Sums.{sum_below}
 use Rattle.move_energy.specs.declared.by_site.Neighbours.{Neighbours}
-use Rattle.grouping.specs.Grouping.{IsGrouped}
 use Rattle.labellings.specs.declared.change.Move.{Move}
 use Rattle.labellings.specs.Energies.{Instance, IsInstance}
 use Rattle.labellings.specs.Moves.{IsAllowed}
@@ -13,7 +12,7 @@ use Rattle.compile_cut.specs.Quadratics.{quadratic_value}
 use Rattle.move_energy.specs.declared.choice.Choice.{Choice}
 use Rattle.move_energy.specs.declared.choice.Choice.TheVariants.{Open, Zero, One}
 use Rattle.move_energy.specs.Choices.{choice_at, StandsFor}
-use Rattle.move_energy.specs.BySite.{ends_of, degree, pair_of}
+use Rattle.move_energy.specs.BySite.{AreNeighboursOf, degree, pair_of}
 use Rattle.move_energy.specs.Weights.{weight_at, AreWeights}
 use Rattle.deciding.specs.Decisions.{Decision, AreForced, rise, IsSubmodular, IsOver, IsSmallestLeast}
 use Rattle.deciding.specs.MoveValues.{move_value}
@@ -195,7 +194,7 @@ UpperRiseIsLower =
 abbrev pub BorderBySite : Type 0
 BorderBySite =
     (m : Instance) (move : Move) (f : ℕ → ℕ) (choice : ℕ → Choice) (set : ℕ → Bool) (p : ℕ) (ends : Neighbours)
-    → IsInstance m → IsGrouped m.sites (ends_of m.pairs) ends → p < m.sites
+    → IsInstance m → AreNeighboursOf m ends → p < m.sites
     → border_at m move f choice set p
     ≡ sum_below (degree ends p) (λ k. pair_border m move f choice set p (pair_of ends p k))
 

@@ -12,7 +12,7 @@ ghost use Rattle.closing_in.specs.Borders.{range_of, is_beyond as beyond_of, lea
 use cost_store::Problem;
 use label_field::Pair;
 use labellings::Move;
-use move_energy::{Choice, ends_at, pair_at, surplus, term};
+use move_energy::{Choice, Neighbours, ends_at, pair_at, surplus, term};
 
 /// Whether a site is open and outside a range of sites.
 fn is_beyond(choices: &[Choice], from: u32, to: u32, site: u32) -> bool

@@ -3,13 +3,13 @@ use Rattle.std.proofs.Common.{◌≡◌, ◌≢◌, ℕ, zero, suc, ◌+◌, ◌
 use Rattle.sums.specs.Sums.{sum_below, counted}
 use Rattle.sums.proofs.SumLemmas.{sum_below-change, sum_below-le, counted-le}
 use Rattle.move_energy.specs.declared.by_site.Neighbours.{Neighbours}
-use Rattle.grouping.specs.Grouping.{start_of}
 use Rattle.label_field.specs.PairLists.{PairList}
-use Rattle.move_energy.specs.BySite.{degree, AreBySite}
+use Rattle.move_energy.specs.BySite.{degree, start_at, AreBySite}
 use Rattle.move_energy.specs.declared.choice.Choice.{Choice}
 use Rattle.move_energy.specs.declared.choice.Choice.TheVariants.{Open, Zero, One}
 use Rattle.move_energy.specs.Choices.{choice_at, is_open}
 use Rattle.deciding.specs.Working.{left}
+use Rattle.move_energy.proofs.Parts.{starts_rise, starts_within}
 use Rattle.move_energy.proofs.PairEnds.{ends_len}
 
 closed_not : (c : Choice) → ¬ (c ≡ Open) → is_open c ≡ false
@@ -42,12 +42,12 @@ all_degrees ends (suc n) ordered =
 pub left_most : (pairs : PairList) (ends : Neighbours) (choices : List Choice) → AreBySite pairs ends → left ends pairs.sites choices ≤ 2 * length pairs.list
 left_most pairs ends choices by_site =
     let below = sum_below-le pairs.sites (λ u. counted (is_open (choice_at choices u)) (degree ends u)) (degree ends) (λ u l. counted-le (is_open (choice_at choices u)) (degree ends u)) in
-    let all = all_degrees ends pairs.sites by_site.ordered in
-    let most = by_site.within pairs.sites (omega arith) in
+    let all = all_degrees ends pairs.sites (λ v l. starts_rise pairs ends v by_site l) in
+    let most = starts_within pairs ends pairs.sites by_site (omega arith) in
     omega (arith, below, all, most, ends_len pairs.list)
 
 -- and of one site
 pub degree_most : (pairs : PairList) (ends : Neighbours) (site : ℕ) → AreBySite pairs ends → site < pairs.sites → degree ends site ≤ 2 * length pairs.list
 degree_most pairs ends site by_site l =
-    let most = by_site.within (site + 1) (omega (arith, l)) in
+    let most = starts_within pairs ends (site + 1) by_site (omega (arith, l)) in
     omega (arith, most, ends_len pairs.list)

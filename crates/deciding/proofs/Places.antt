@@ -4,10 +4,10 @@ use Rattle.std.specs.Prelude.{slice_get}
 use Rattle.std.proofs.lemmas.Option.{get_or_from_slice_get}
 use Rattle.std.proofs.lemmas.List.Elements.{All-pop, Contains-push_cases}
 use Rattle.move_energy.specs.declared.by_site.Neighbours.{Neighbours}
-use Rattle.grouping.specs.Grouping.{IsGrouped, start_of, place_at}
+use Rattle.grouping.specs.Grouping.{IsGrouped}
 use Rattle.label_field.specs.declared.pair.Pair.{Pair}
 use Rattle.label_field.specs.PairLists.{IsPair, PairList, IsPairList}
-use Rattle.move_energy.specs.BySite.{ends_of, AreBySite}
+use Rattle.move_energy.specs.BySite.{ends_of, start_at, grouped_at, AreBySite, AreNeighboursOf}
 use Rattle.labellings.specs.declared.change.Move.{Move}
 use Rattle.labellings.specs.Energies.{Instance, IsInstance}
 use Rattle.move_energy.specs.declared.choice.Choice.{Choice}
@@ -28,40 +28,17 @@ meant_pairs m pairs same sites list =
     let Q : List Pair → Type 0 = λ ps. All (IsPair m.sites) ps in
     subst Q (sym same) (subst P (sym sites) list.each)
 
-pub meant_grouped : (m : Instance) (pairs : PairList) (ends : Neighbours) → m.pairs ≡ pairs.list → m.sites ≡ pairs.sites → AreBySite pairs ends → IsGrouped m.sites (ends_of m.pairs) ends
-meant_grouped m pairs ends same sites by_site =
-    let P : ℕ → Type 0 = λ n. IsGrouped n (ends_of pairs.list) ends in
-    let Q : List Pair → Type 0 = λ ps. IsGrouped m.sites (ends_of ps) ends in
+pub meant_grouped : (m : Instance) (pairs : PairList) (ends : Neighbours) → m.pairs ≡ pairs.list → m.sites ≡ pairs.sites → (b : AreBySite pairs ends) → IsGrouped m.sites (ends_of m.pairs) (grouped_at ends b.places)
+meant_grouped m pairs ends same sites b =
+    let P : ℕ → Type 0 = λ n. IsGrouped n (ends_of pairs.list) (grouped_at ends b.places) in
+    let Q : List Pair → Type 0 = λ ps. IsGrouped m.sites (ends_of ps) (grouped_at ends b.places) in
+    subst Q (sym same) (subst P (sym sites) b.grouped)
+
+pub meant_beside : (m : Instance) (pairs : PairList) (ends : Neighbours) → m.pairs ≡ pairs.list → m.sites ≡ pairs.sites → AreBySite pairs ends → AreNeighboursOf m ends
+meant_beside m pairs ends same sites by_site =
+    let P : ℕ → Type 0 = λ n. AreBySite (record { sites = n; list = pairs.list }) ends in
+    let Q : List Pair → Type 0 = λ ps. AreBySite (record { sites = m.sites; list = ps }) ends in
     subst Q (sym same) (subst P (sym sites) by_site)
-
--- where a site's part begins, as it was read
-pub start_read : (pairs : PairList) (ends : Neighbours) (v n : ℕ) → AreBySite pairs ends → v ≤ pairs.sites → n ≡ get_or ends.starts.items v n → n ≡ start_at ends v
-start_read pairs ends v n by_site l is = read_at ends.starts.items v n 0 (omega (arith, l, by_site.starts_len)) is
-
--- the place that was read
-pub place_read : (pairs : PairList) (ends : Neighbours) (site place j : ℕ) → AreBySite pairs ends → site < pairs.sites → place < start_at ends (site + 1) → j ≡ get_or ends.places.items place j
-    → j ≡ place_at ends place
-place_read pairs ends site place j by_site inside to is =
-    let most = by_site.within (site + 1) (omega (arith, inside)) in
-    read_at ends.places.items place j 0 (omega (arith, to, most, by_site.places_len)) is
-
-pub place_within : (pairs : PairList) (ends : Neighbours) (site place j : ℕ) → AreBySite pairs ends → site < pairs.sites → start_at ends site ≤ place → place < start_at ends (site + 1)
-    → j ≡ place_at ends place → j / 2 < length pairs.list
-place_within pairs ends site place j by_site inside from to is =
-    let at = by_site.places site place inside from to in
-    let within = (end_touches pairs.list site (place_at ends place) (record { first = 0; second = 0; weight = 0 }) at.0 at.1).0 in
-    omega (arith, within, ap (λ i. i / 2) is)
-
-pub pair_read : (list : List Pair) (k : ℕ) (pair : Pair) → slice_get list k ≡ Some pair → pair_in list k ≡ pair
-pair_read list k pair is = get_or_from_slice_get list k pair _ is
-
-pub place_touches : (pairs : PairList) (ends : Neighbours) (site place j : ℕ) (pair : Pair) → AreBySite pairs ends → site < pairs.sites → start_at ends site ≤ place → place < start_at ends (site + 1)
-    → j ≡ place_at ends place → slice_get pairs.list (j / 2) ≡ Some pair → Touches site pair
-place_touches pairs ends site place j pair by_site inside from to is here =
-    let at = by_site.places site place inside from to in
-    let touches = (end_touches pairs.list site (place_at ends place) (record { first = 0; second = 0; weight = 0 }) at.0 at.1).1 in
-    let P : Pair → Type 0 = λ p. Touches site p in
-    subst P (ap (λ i. pair_in pairs.list (i / 2)) (sym is) ∙ pair_read pairs.list (j / 2) pair here) touches
 
 -- the range while places are looked at
 pub range_step : (start place : ℕ) (first old new : Bounds) → start ≤ place → IsLooking 1 old new

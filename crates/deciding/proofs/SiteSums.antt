@@ -6,10 +6,9 @@ use Rattle.std.proofs.lemmas.Bool.Decides.{nat_tests}
 use Rattle.sums.specs.IntegerSums.{int_sum_below}
 use Rattle.sums.proofs.IntegerSumLemmas.{within_fits, abs-add}
 use Rattle.move_energy.specs.declared.by_site.Neighbours.{Neighbours}
-use Rattle.grouping.specs.Grouping.{IsGrouped, start_of, place_at}
 use Rattle.label_field.specs.declared.pair.Pair.{Pair}
-use Rattle.move_energy.specs.BySite.{ends_of, degree, pair_in, pair_of}
-use Rattle.move_energy.proofs.AtSite.{site_sum}
+use Rattle.move_energy.specs.BySite.{AreNeighboursOf, degree, start_at, pair_beside, pair_of}
+use Rattle.move_energy.proofs.Beside.{site_sum}
 use Rattle.labellings.specs.declared.change.Move.{Move}
 use Rattle.labellings.specs.Energies.{Instance, IsInstance}
 use Rattle.labellings.specs.Moves.{label_in}
@@ -81,19 +80,19 @@ here_place : (start place : ℕ) → start ≤ place → start + (place - start)
 here_place start place l = omega (arith, l)
 
 pub risen_more : (m : Instance) (move : Move) (f : ℕ → ℕ) (ends : Neighbours) (site : ℕ) (x : ℕ → Bool) (place : ℕ) (pair : Pair) (old added new : ℤ) → start_at ends site ≤ place
-    → pair_in m.pairs (place_at ends place / 2) ≡ pair → added ≡ pair_rise m move f site x pair → new ≡ old +ℤ added
+    → pair_beside ends site place ≡ pair → added ≡ pair_rise m move f site x pair → new ≡ old +ℤ added
     → old ≡ risen m move f ends site x (place - start_at ends site) → new ≡ risen m move f ends site x (place + 1 - start_at ends site)
 risen_more m move f ends site x place pair old added new from read is sum before =
-    let here : pair_of ends site (place - start_at ends site) ≡ pair = ap (λ p. pair_in m.pairs (place_at ends p / 2)) (here_place (start_at ends site) place from) ∙ read in
+    let here : pair_of ends site (place - start_at ends site) ≡ pair = ap (pair_beside ends site) (here_place (start_at ends site) place from) ∙ read in
     sum_more old (data_rise m move f site) _ added (pair_rise m move f site x (pair_of ends site (place - start_at ends site))) new
     before (is ∙ ap (pair_rise m move f site x) (sym here)) sum
     ∙ ap (risen m move f ends site x) (next_place (start_at ends site) place from)
 
-pub risen_all : (m : Instance) (move : Move) (f : ℕ → ℕ) (ends : Neighbours) (site : ℕ) (x : ℕ → Bool) → IsInstance m → IsGrouped m.sites (ends_of m.pairs) ends → site < m.sites
+pub risen_all : (m : Instance) (move : Move) (f : ℕ → ℕ) (ends : Neighbours) (site : ℕ) (x : ℕ → Bool) → IsInstance m → AreNeighboursOf m ends → site < m.sites
     → risen m move f ends site x (degree ends site) ≡ rise (move_value m move f) site x
 risen_all m move f ends site x pairs grouped inside =
     ap (λ s. data_rise m move f site +ℤ s)
-    (sym (site_sum m.sites site m.pairs ends (pair_rise m move f site x) pairs grouped inside (λ pair off other. pair_rise-none m move f site x pair off other)))
+    (sym (site_sum (record { sites = m.sites; list = m.pairs }) ends site (pair_rise m move f site x) pairs grouped inside (λ pair off other. pair_rise-none m move f site x pair off other)))
     ∙ sym (rise_parts m move f site x inside)
 
 risen_first : (z : ℤ) → z ≡ z +ℤ pos 0

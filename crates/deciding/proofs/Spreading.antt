@@ -6,7 +6,7 @@ use Rattle.std.proofs.lemmas.Bool.Decides.{nat_tests}
 use Rattle.std.proofs.lemmas.List.Elements.{All-get_or}
 use Rattle.sums.specs.IntegerSums.{int_sum_by, int_sum_below}
 use Rattle.sums.proofs.IntegerSumLemmas.{int_sum_below-same, int_sum_below-change, int_sum_below-front}
-use Rattle.move_energy.specs.declared.by_site.Neighbours.{Neighbours}
+use Rattle.grouping.specs.declared.Groups.{Groups}
 use Rattle.grouping.specs.Grouping.{IsGrouped, start_of, place_at}
 use Rattle.label_field.specs.declared.pair.Pair.{Pair}
 use Rattle.label_field.specs.PairLists.{IsPair}
@@ -69,7 +69,7 @@ step_one n here seen d b c old new l unseen was is =
 
 -- ---- the loop over the places of a site's part
 
-pub record IsSpread (m : Instance) (move : Move) (f : ℕ → ℕ) (n : ℕ) (ds : List Decision) (site : ℕ) (value : Bool) (ends : Neighbours) (place : ℕ) (b : Bounds) : Type 0 where
+pub record IsSpread (m : Instance) (move : Move) (f : ℕ → ℕ) (n : ℕ) (ds : List Decision) (site : ℕ) (value : Bool) (ends : Groups) (place : ℕ) (b : Bounds) : Type 0 where
   pub seen : ℕ → Bool
   pub least : (u : ℕ) → u < n → u ≢ site → choice_at b.choices.items u ≡ Open
       → bound_at b.least.items u ≡ data_rise m move f u +ℤ int_sum_below (length m.pairs)
@@ -78,13 +78,13 @@ pub record IsSpread (m : Instance) (move : Move) (f : ℕ → ℕ) (n : ℕ) (ds
       → bound_at b.greatest.items u ≡ data_rise m move f u +ℤ int_sum_below (length m.pairs)
       (mixed seen (λ k. pair_rise m move f u (put ds (λ v. false)) (pair_in m.pairs k)) (λ k. pair_rise m move f u (set_bit (put ds (λ v. false)) site value) (pair_in m.pairs k)))
   pub to_see : (k : ℕ) → k < length m.pairs → seen k ≡ false → Touches site (pair_in m.pairs k)
-      → (p : ℕ) × (place ≤ p) × (p < start_at ends (site + 1)) × (place_at ends p / 2 ≡ k)
-  pub unseen : (p : ℕ) → place ≤ p → p < start_at ends (site + 1) → seen (place_at ends p / 2) ≡ false
+      → (p : ℕ) × (place ≤ p) × (p < start_of ends (site + 1)) × (place_at ends p / 2 ≡ k)
+  pub unseen : (p : ℕ) → place ≤ p → p < start_of ends (site + 1) → seen (place_at ends p / 2) ≡ false
 
 -- before the first: the site's own choice was set
-pub spread_start : (m : Instance) (move : Move) (f : ℕ → ℕ) (site : ℕ) (value : Bool) (ends : Neighbours) (old new : Bounds) (n : ℕ) → n ≤ m.sites
+pub spread_start : (m : Instance) (move : Move) (f : ℕ → ℕ) (site : ℕ) (value : Bool) (ends : Groups) (old new : Bounds) (n : ℕ) → n ≤ m.sites
     → IsGrouped m.sites (ends_of m.pairs) ends → (decided : ArePartlyDecided m move f n old) → IsMarked site value old new
-    → IsSpread m move f n decided.decisions site value ends (start_at ends site) new
+    → IsSpread m move f n decided.decisions site value ends (start_of ends site) new
 spread_start m move f site value ends old new n most grouped decided marked = record {
   seen = λ k. false;
   least = λ u l off opened.
@@ -99,8 +99,8 @@ later : (a b : ℕ) → a ≤ b → a ≢ b → a + 1 ≤ b
 later a b h k = omega (arith, h, k)
 
 -- one more
-pub spread_step : (m : Instance) (move : Move) (f : ℕ → ℕ) (n : ℕ) (ds : List Decision) (site : ℕ) (value : Bool) (ends : Neighbours) (place : ℕ) (pair : Pair) (old new : Bounds)
-    → IsInstance m → IsGrouped m.sites (ends_of m.pairs) ends → site < m.sites → start_at ends site ≤ place → place < start_at ends (site + 1)
+pub spread_step : (m : Instance) (move : Move) (f : ℕ → ℕ) (n : ℕ) (ds : List Decision) (site : ℕ) (value : Bool) (ends : Groups) (place : ℕ) (pair : Pair) (old new : Bounds)
+    → IsInstance m → IsGrouped m.sites (ends_of m.pairs) ends → site < m.sites → start_of ends site ≤ place → place < start_of ends (site + 1)
     → pair_in m.pairs (place_at ends place / 2) ≡ pair → put ds (λ v. true) site ≡ true → put ds (λ v. false) site ≡ false
     → new.choices ≡ old.choices → SeesPair m move f n site value pair old new → IsSpread m move f n ds site value ends place old
     → IsSpread m move f n ds site value ends (place + 1) new
@@ -159,10 +159,10 @@ passes_of m move f n site false old decided l opened tells = (let e = decided.le
 passes_of m move f n site true old decided l opened tells = (let e = decided.greatest site l opened in let P : ℤ → Type 0 = λ z. z <ℤ pos 0 in subst P e tells)
 
 -- after the last
-pub spread_end : (m : Instance) (move : Move) (f : ℕ → ℕ) (n site : ℕ) (value : Bool) (ends : Neighbours) (place : ℕ) (old mid new : Bounds)
+pub spread_end : (m : Instance) (move : Move) (f : ℕ → ℕ) (n site : ℕ) (value : Bool) (ends : Groups) (place : ℕ) (old mid new : Bounds)
     → IsInstance m → n ≤ m.sites → site < n → (decided : ArePartlyDecided m move f n old) → choice_at old.choices.items site ≡ Open → TellsValue old site value
     → IsMarked site value old mid → new.choices ≡ mid.choices
-    → start_at ends (site + 1) ≤ place → IsSpread m move f n decided.decisions site value ends place new → ArePartlyDecided m move f n new
+    → start_of ends (site + 1) ≤ place → IsSpread m move f n decided.decisions site value ends place new → ArePartlyDecided m move f n new
 spread_end m move f n site value ends place old mid new are most inside decided was tells marked same past spread =
     let choices = ap (λ (v : _). v.items) same in
     let others = λ (u : ℕ) (off : u ≢ site). ap (λ (xs : List Choice). choice_at xs u) choices ∙ marked.others u off in

@@ -29,7 +29,7 @@ abbrev pub bound_at : List ℤ → ℕ → ℤ
 bound_at bounds u = slice_index_or bounds u (pos 0)
 
 -- how many ends lie at open sites: those that may still be looked at
-abbrev pub left : Groups → ℕ → List Choice → ℕ
+abbrev pub left : Neighbours → ℕ → List Choice → ℕ
 left ends n choices = sum_below n (λ u. counted (is_open (choice_at choices u)) (degree ends u))
 
 -- how large a bound may be while so many ends are left: each end that is looked at changes one by at most a

@@ -15,7 +15,7 @@ use crate::costs::data_rise;
 use cost_store::Problem;
 use label_field::Pair;
 use labellings::Move;
-use move_energy::Choice;
+use move_energy::{Choice, Neighbours, pair_beside};
 
 /// The labels of a site: where its value is 0, and where it is 1.
 #[derive(Clone, Copy)]
@@ -160,7 +160,7 @@ pub(crate) fn site_rises<F: Fn(u32, u32) -> i64 + Sync, V: Fn(u32, u32) -> i64 +
     let mut least = own;
     let mut greatest = own;
     for place in ends.starts[site as usize]..ends.starts[site as usize + 1] {
-        let pair = problem.pairs.get(ends.places[place as usize] as usize / 2);
+        let pair = pair_beside(&problem.pairs, ends, site, place);
         let rises = pair_rises(problem, choices, at, change, site, turn, pair);
         least += rises.least;
         greatest += rises.greatest;

@@ -18,7 +18,7 @@ use crate::rising::other_end;
 use cost_store::Problem;
 use label_field::Pair;
 use labellings::Move;
-use move_energy::{Choice, surplus, term};
+use move_energy::{Choice, Neighbours, pair_beside, surplus, term};
 use std::alloc::AllocError;
 
 /// What is known of a variable once it has a value.
@@ -167,7 +167,7 @@ impl Bounds {
     {
         self.mark(site as usize, value);
         for place in ends.starts[site as usize]..ends.starts[site as usize + 1] {
-            let pair = problem.pairs.get(ends.places[place as usize] as usize / 2);
+            let pair = pair_beside(&problem.pairs, ends, site, place);
             self.see(problem, at, change, pair, site, value)?;
         }
         Ok(())

@@ -16,13 +16,13 @@ use crate::{Bounds, Lists};
 use cost_store::Problem;
 use label_field::Pairs;
 use labellings::Move;
-use move_energy::{BuildError, group_pairs};
+use move_energy::{BuildError, Neighbours, group_pairs};
 use std::alloc::{AllocError, Global};
 
-/// The ends of a list of pairs by their sites, made once a run, and the room in which the sites of a move are decided.
+/// The neighbours of each site by a list of pairs, made once a run, and the room in which the sites of a move are decided.
 #[derive(Drop)]
 pub struct Deciding {
-    pub ends: Groups,
+    pub ends: Neighbours,
     pub bounds: Bounds,
     pub lists: Lists,
 }
@@ -31,15 +31,12 @@ impl Deciding {
     /// Of no pairs, with nothing known of any site. It takes no memory.
     pub fn empty(alloc: Global) -> Deciding
         ensures listed { result.lists.listed ≡ false }
-        ensures ends { (result.ends.starts.items ≡ []) × (result.ends.places.items ≡ []) }
+        ensures ends { (result.ends.starts.items ≡ []) × (result.ends.heads.items ≡ []) }
         ensures bounds { AreOfNoSites result.bounds }
         ensures lists { AreEmpty result.lists }
     {
         Deciding {
-            ends: Groups {
-                starts: Vec::new(alloc),
-                places: Vec::new(alloc),
-            },
+            ends: Neighbours::empty(alloc),
             bounds: Bounds::new(alloc),
             lists: Lists::empty(alloc),
         }

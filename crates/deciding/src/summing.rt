@@ -14,7 +14,7 @@ use crate::Bounds;
 use crate::rising::site_rises;
 use cost_store::Problem;
 use labellings::Move;
-use move_energy::Choice;
+use move_energy::{Choice, Neighbours};
 use std::alloc::AllocError;
 
 /// What is known of a site before anything is summed. Where the move cannot change its label its value makes no

@@ -15,7 +15,7 @@ use Rattle.label_field.specs.declared.pair.Pair.{Pair}
 use Rattle.label_field.specs.PairLists.{PairList, IsPair}
 use Rattle.move_energy.specs.BySite.{AreBySite, IsListing, listing, is_counted, has_chosen, pair_of, met_below, met_at}
 use Rattle.move_energy.proofs.Listings.{chosen_below, listing_place, listing_has, listing_short, listed_sites_are_summed}
-use Rattle.move_energy.proofs.Meetings.{pairs_are_met_once}
+use Rattle.move_energy.proofs.Beside.{pairs_are_met_once}
 use Rattle.labellings.specs.declared.change.Move.{Move}
 use Rattle.labellings.specs.Energies.{Instance, labelling, pair_cost}
 use Rattle.labellings.specs.Moves.{made, label_in}
@@ -298,7 +298,7 @@ moved_pairs pairs ends chosen moved sites value all by_site listed within =
     ∙ listed_sites_are_summed chosen pairs.sites (moved_met ends moved value)
     ∙ sum_below-same pairs.sites (λ p. counted (chosen p) (counted (moved p) (met p))) (λ p. counted (moved p) (met p)) (λ p l. covered (chosen p) (moved p) (met p) (within p l))
     ∙ sym (listed_sites_are_summed moved pairs.sites met)
-    ∙ pairs_are_met_once pairs.sites pairs.list ends moved value all by_site
+    ∙ pairs_are_met_once pairs ends moved value all by_site
 
 pairs_at_most : (moved : ℕ → Bool) (list : List Pair) → sum_by (λ pair. counted (has_chosen moved pair) 1) list ≤ length list
 pairs_at_most moved [] = omega arith

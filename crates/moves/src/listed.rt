@@ -15,7 +15,7 @@ use crate::workspace::Workspace;
 use cost_store::Problem;
 use label_field::Pair;
 use labellings::Move;
-use move_energy::{Choice, ends_at, pair_at};
+use move_energy::{Choice, Neighbours, ends_at, pair_at};
 
 /// Whether a site's value changes its label.
 fn is_moved(at: &[u8], change: Move, choices: &[Choice], site: u32) -> bool

@@ -18,7 +18,7 @@ use compile_cut::Quadratic;
 use cost_store::Problem;
 use label_field::Pairs;
 use labellings::Move;
-use move_energy::MoveEnergy;
+use move_energy::{MoveEnergy, Neighbours};
 use std::alloc::{AllocError, Global};
 use std::mem::replace;
 

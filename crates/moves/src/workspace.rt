@@ -20,7 +20,7 @@ use cost_store::{Problem, costs_of, has_cost};
 use deciding::{Bounds, Deciding, Lists};
 use label_field::Pairs;
 use labellings::Move;
-use move_energy::{BuildError, MoveEnergy, add_label_costs};
+use move_energy::{BuildError, MoveEnergy, Neighbours, add_label_costs};
 use stages::Stage;
 use std::alloc::{AllocError, Global};
 use std::mem::swap;
@@ -51,10 +51,7 @@ fn give_groups_back(alloc: Global, grouped: &mut bool, deciding: &mut Deciding)
 {
     if deciding.lists.count > GROUPED_SITES {
         *grouped = false;
-        deciding.ends = Groups {
-            starts: Vec::new(alloc),
-            places: Vec::new(alloc),
-        };
+        deciding.ends = Neighbours::empty(alloc);
         deciding.lists = Lists::empty(alloc);
     }
 }

@@ -4,13 +4,12 @@ use Rattle.std.proofs.lemmas.Bool.{eq-eqb, ne_eqb}
 use Rattle.std.specs.List.{Contains}
 use Rattle.std.proofs.lemmas.List.Elements.{All-contains_itself, All-get_or, All-from_get_or}
 use Rattle.move_energy.specs.declared.by_site.Neighbours.{Neighbours}
-use Rattle.grouping.specs.Grouping.{start_of, place_at}
 use Rattle.label_field.specs.declared.pair.Pair.{Pair}
 use Rattle.label_field.specs.PairLists.{PairList, IsPair}
 use Rattle.labellings.specs.Energies.{Instance}
-use Rattle.move_energy.specs.BySite.{AreBySite, degree, pair_in, pair_of}
-use Rattle.move_energy.proofs.PairEnds.{Touches, touching_found, end_touches}
-use Rattle.move_energy.proofs.Parts.{inside_part, pair_has}
+use Rattle.move_energy.specs.BySite.{AreBySite, degree, start_at, grouped_at, pair_in, pair_of, pair_beside}
+use Rattle.move_energy.proofs.PairEnds.{Touches, touching_found}
+use Rattle.move_energy.proofs.Parts.{from_touches, pair_has}
 use Rattle.stages.specs.Fresh.{AreFresh, IsFreshAcross}
 use Rattle.stages.specs.Looking.{AreEnds, AreBeside, IsNearChange}
 use Rattle.stages.specs.Working.{IsMarkedAcross, IsMarkedAround}
@@ -19,13 +18,13 @@ abbrev none : Pair
 none = record { first = 0; second = 0; weight = 0 }
 
 -- a pair that touches a site is among the site's
-pub pair_met : (pairs : PairList) (ends : Neighbours) (site i : ℕ) → AreBySite pairs ends → i < length pairs.list → Touches site (pair_in pairs.list i)
+pub pair_met : (pairs : PairList) (ends : Neighbours) (site i : ℕ) → AreBySite pairs ends → site < pairs.sites → i < length pairs.list → Touches site (pair_in pairs.list i)
     → (k : ℕ) × (k < degree ends site) × (pair_of ends site k ≡ pair_in pairs.list i)
-pair_met pairs ends site i by_site l touches =
-    let found = touching_found pairs.list pairs.sites site i none ends by_site l touches in
+pair_met pairs ends site i by_site inside l touches =
+    let found = touching_found pairs.list pairs.sites site i none (grouped_at ends by_site.places) by_site.grouped l touches in
     let k = found.0 - start_at ends site in
     let at : start_at ends site + k ≡ found.0 = omega (arith, found.1) in
-    (k, omega (arith, found.1, found.2), ap (λ p. pair_in pairs.list (place_at ends p / 2)) at ∙ ap (pair_in pairs.list) found.3)
+    (k, omega (arith, found.1, found.2), ap (pair_beside ends site) at ∙ by_site.each site found.0 inside found.1 found.2 ∙ ap (pair_in pairs.list) found.3)
 
 -- what is true of each pair by its number is true of all
 pub of_all : (P : Pair → Type 0) (list : List Pair) → ((i : ℕ) → i < length list → P (pair_in list i)) → All P list
@@ -51,11 +50,8 @@ pub other_inside : (n : ℕ) (pair : Pair) (site other : ℕ) → IsPair n pair 
 other_inside n pair site other is e = omega (arith, e, other_of (pair.first == site) n pair.first pair.second is.first is.second)
 
 -- the pairs of a site touch it
-touches : (pairs : PairList) (ends : Neighbours) (site k : ℕ) → AreBySite pairs ends → site < pairs.sites → k < degree ends site → Touches site (pair_of ends site k)
-touches pairs ends site k by_site inside l =
-    let to = (inside_part pairs ends site k by_site inside l).0 in
-    let at = by_site.places site (start_at ends site + k) inside (omega arith) to in
-    (end_touches pairs.list site (place_at ends (start_at ends site + k)) none at.0 at.1).1
+touches : (ends : Neighbours) (site k : ℕ) → Touches site (pair_of ends site k)
+touches ends site k = from_touches _ site _ _
 
 ends_are : (pair : Pair) (site other : ℕ) → pair.first ≢ pair.second → Touches site pair → other ≡ cond (pair.first == site) pair.second pair.first → AreEnds pair site other
 ends_are pair site other apart (inl first) is = inl (first, sym (is ∙ ap (λ b. cond b pair.second pair.first) (eq-eqb pair.first site first)))
@@ -70,7 +66,7 @@ other_beside pairs ends site k other pair by_site inside l is apart at =
     let Q : Pair → Type 0 = λ q. Contains pairs.list q in (
       pair,
       subst Q (sym is) (pair_has Q pairs ends site k (All-contains_itself pairs.list) by_site inside l),
-      ends_are pair site other apart (subst P (sym is) (touches pairs ends site k by_site inside l)) at,
+      ends_are pair site other apart (subst P (sym is) (touches ends site k)) at,
     )
 
 -- ---- fresh sites
@@ -110,11 +106,11 @@ fresh_across pairs ends a f changed fresh i by_site are around l =
     let pair = pair_in pairs.list i in
     let is = of_one (IsPair pairs.sites) pairs.list i are l in (
       (λ could held.
-          let met = pair_met pairs ends pair.second i by_site l (inr refl) in
+          let met = pair_met pairs ends pair.second i by_site is.second l (inr refl) in
           let P : Pair → Type 0 = λ q. IsMarkedAcross a f pair.second fresh q in
           (subst P met.2 ((around pair.second is.second held).beside met.0 met.1)).1 refl could),
       (λ could held.
-          let met = pair_met pairs ends pair.first i by_site l (inl refl) in
+          let met = pair_met pairs ends pair.first i by_site is.first l (inl refl) in
           let P : Pair → Type 0 = λ q. IsMarkedAcross a f pair.first fresh q in
           (subst P met.2 ((around pair.first is.first held).beside met.0 met.1)).0 refl could),
     )

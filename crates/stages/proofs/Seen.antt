@@ -120,11 +120,11 @@ apart_across pairs ends choices bits stage a f i by_site are marks around none l
     let seen : (p : ℕ) → marked stage.taken.items p ≡ true → p < pairs.sites → AreSeenAround pairs ends choices bits p stage =
     λ p held inside. All-contains (λ q. AreSeenAround pairs ends choices bits q stage) stage.taking.items p around ((marks.listed p inside).0 held) in (
       (λ held one could.
-          let met = pair_met pairs ends pair.first i by_site l (inl refl) in
+          let met = pair_met pairs ends pair.first i by_site is.first l (inl refl) in
           let P : Pair → Type 0 = λ q. IsSeenAcross choices bits pair.first q stage in
           (subst P met.2 (seen pair.first held is.first met.0 met.1)).0 refl none one),
       (λ held one could.
-          let met = pair_met pairs ends pair.second i by_site l (inr refl) in
+          let met = pair_met pairs ends pair.second i by_site is.second l (inr refl) in
           let P : Pair → Type 0 = λ q. IsSeenAcross choices bits pair.second q stage in
           (subst P met.2 (seen pair.second held is.second met.0 met.1)).1 refl none one),
     )

@@ -9,7 +9,7 @@ ghost use Rattle.stages.specs.Working.{AreShown, IsWider, IsSeen, AreSeenAround}
 use crate::Stage;
 use crate::stage::{mark, other_end, unmark_all};
 use label_field::Pairs;
-use move_energy::{Choice, ends_at, pair_at};
+use move_energy::{Choice, Neighbours, ends_at, pair_at};
 use std::alloc::AllocError;
 
 /// What the cut of a stage showed of a site, or what was known: whether it counts as 1.

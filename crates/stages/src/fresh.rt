@@ -8,7 +8,7 @@ ghost use Rattle.stages.specs.Working.{AreMarks, StaysMarked, IsMarkedAround};
 use crate::Stage;
 use crate::stage::{mark, other_end, unmark_all};
 use label_field::Pairs;
-use move_energy::{ends_at, pair_at};
+use move_energy::{Neighbours, ends_at, pair_at};
 use std::alloc::AllocError;
 
 impl Stage {

@@ -12,7 +12,7 @@ ghost use Rattle.stages.specs.Working.{KeepsZeros};
 use crate::Stage;
 use crate::stage::other_end;
 use label_field::Pairs;
-use move_energy::{Choice, ends_at, pair_at};
+use move_energy::{Choice, Neighbours, ends_at, pair_at};
 use std::alloc::AllocError;
 
 /// So many rings of sites are opened around those that a stage has to look at.

@@ -1,36 +1,28 @@
 use Rattle.std.proofs.Common.{◌≡◌, ◌<◌, ◌≤◌, ◌+◌, ◌-◌, ◌/◌, ◌∙◌, pos, ◌-ℤ◌, w64, to_z, true, false, ap, sym, arith}
-use Rattle.grouping.specs.Grouping.{start_of}
-use Rattle.move_energy.specs.BySite.{degree, pair_in}
+use Rattle.move_energy.specs.BySite.{degree, start_at}
 use Rattle.labellings.specs.Energies.{labelling}
 use Rattle.labellings.specs.Moves.{label_in}
 use Rattle.deciding.specs.Working.{valued}
 use Rattle.deciding.proofs.Numbers.{passed_on, passed_range}
 use Rattle.deciding.proofs.SiteSums.{risen, risen_none, risen_more, risen_all, sum_fits, range_more, added_is}
 use Rattle.deciding.proofs.Left.{degree_most}
-use Rattle.deciding.proofs.Places.{start_read, place_read, place_within, place_touches, pair_read, meant_pairs, meant_grouped}
+use Rattle.deciding.proofs.Places.{meant_pairs, meant_beside}
+use Rattle.move_energy.proofs.Parts.{start_read, starts_rise}
 use Rattle.deciding.proofs.rising.site_rises.Goals as goal
 
-pub get-pair-requires : goal.get-pair-requires
-get-pair-requires g c =
+pub pair_beside-pair-requires-clause-site : goal.pair_beside-pair-requires-clause-site
+pair_beside-pair-requires-clause-site g c = omega (arith, c.requires.site, c.requires.asked.sites)
+
+pub pair_beside-pair-requires-clause-place : goal.pair_beside-pair-requires-clause-place
+pair_beside-pair-requires-clause-place g c =
     let a = c.args in
     let inside : a.site < a.problem.now.pairs.sites = omega (arith, c.requires.site, c.requires.asked.sites) in
     let start = start_read a.problem.now.pairs a.ends.now a.site _ c.requires.by_site (omega (arith, inside)) c.index-place.ensures in
     let end = start_read a.problem.now.pairs a.ends.now (a.site + 1) _ c.requires.by_site (omega (arith, inside)) c.index-place-end.ensures in
-    let from : start_at a.ends.now a.site ≤ c.loop-place.place = omega (arith, start, c.loop-place.auto.place) in
-    let to : c.loop-place.place < start_at a.ends.now (a.site + 1) = omega (arith, end, c.loop-place-test.true) in
-    place_within a.problem.now.pairs a.ends.now a.site c.loop-place.place _ c.requires.by_site inside from to
-    (place_read a.problem.now.pairs a.ends.now a.site c.loop-place.place _ c.requires.by_site inside to c.index.ensures)
+    (omega (arith, start, c.loop-place.auto.place), omega (arith, end, c.loop-place-test.true))
 
 pub pair_rises-rises-requires-clause-end : goal.pair_rises-rises-requires-clause-end
-pair_rises-rises-requires-clause-end g c = λ κs lives.
-    let a = c.args in
-    let inside : a.site < a.problem.now.pairs.sites = omega (arith, c.requires.site, c.requires.asked.sites) in
-    let start = start_read a.problem.now.pairs a.ends.now a.site _ c.requires.by_site (omega (arith, inside)) c.index-place.ensures in
-    let end = start_read a.problem.now.pairs a.ends.now (a.site + 1) _ c.requires.by_site (omega (arith, inside)) c.index-place-end.ensures in
-    let from : start_at a.ends.now a.site ≤ c.loop-place.place = omega (arith, start, c.loop-place.auto.place) in
-    let to : c.loop-place.place < start_at a.ends.now (a.site + 1) = omega (arith, end, c.loop-place-test.true) in
-    place_touches a.problem.now.pairs a.ends.now a.site c.loop-place.place _ c.get-pair.result c.requires.by_site inside from to
-    (place_read a.problem.now.pairs a.ends.now a.site c.loop-place.place _ c.requires.by_site inside to c.index.ensures) c.get-pair.ensures.value
+pair_rises-rises-requires-clause-end g c = λ κs lives. c.pair_beside-pair.ensures.end
 
 pub loop-place-init : goal.loop-place-init
 loop-place-init g c =
@@ -88,19 +80,18 @@ loop-place-preserved g c =
     omega (arith, degree_most a.problem.now.pairs a.ends.now a.site c.requires.by_site inside, from, to, c.requires.posed.pairs.count) in
     let i = c.loop-place.invariant in
     let e = c.pair_rises-rises.ensures in
-    let place = place_read a.problem.now.pairs a.ends.now a.site c.loop-place.place _ c.requires.by_site inside to c.index.ensures in
     let low = added_is (to_z w64 c.loop-place.least-bits) c.pair_rises-rises.result.least (c.loop-place.place - start_at a.ends.now a.site) i.least_small e.range.0 few in
     let high = added_is (to_z w64 c.loop-place.greatest-bits) c.pair_rises-rises.result.greatest (c.loop-place.place - start_at a.ends.now a.site) i.greatest_small e.range.1 few in
     record {
       least_small = range_more (to_z w64 c.loop-place.least-bits) c.pair_rises-rises.result.least _ (start_at a.ends.now a.site) c.loop-place.place from i.least_small e.range.0 low;
       greatest_small = range_more (to_z w64 c.loop-place.greatest-bits) c.pair_rises-rises.result.greatest _ (start_at a.ends.now a.site) c.loop-place.place from i.greatest_small e.range.1 high;
       least = λ m answers.
-          risen_more m a.change (labelling a.at.now) a.ends.now a.site (valued a.choices.now true) c.loop-place.place c.get-pair.result (to_z w64 c.loop-place.least-bits) c.pair_rises-rises.result.least _ from
-          ((λ j. pair_in (answers.pairs_are j) (sym place j / 2)) ∙ pair_read a.problem.now.pairs.list _ c.get-pair.result c.get-pair.ensures.value)
+          risen_more m a.change (labelling a.at.now) a.ends.now a.site (valued a.choices.now true) c.loop-place.place c.pair_beside-pair.result (to_z w64 c.loop-place.least-bits) c.pair_rises-rises.result.least _ from
+          (sym c.pair_beside-pair.ensures.value)
           (e.least m answers) low (i.least m answers);
       greatest = λ m answers.
-          risen_more m a.change (labelling a.at.now) a.ends.now a.site (valued a.choices.now false) c.loop-place.place c.get-pair.result (to_z w64 c.loop-place.greatest-bits) c.pair_rises-rises.result.greatest _ from
-          ((λ j. pair_in (answers.pairs_are j) (sym place j / 2)) ∙ pair_read a.problem.now.pairs.list _ c.get-pair.result c.get-pair.ensures.value)
+          risen_more m a.change (labelling a.at.now) a.ends.now a.site (valued a.choices.now false) c.loop-place.place c.pair_beside-pair.result (to_z w64 c.loop-place.greatest-bits) c.pair_rises-rises.result.greatest _ from
+          (sym c.pair_beside-pair.ensures.value)
           (e.greatest m answers) high (i.greatest m answers);
     }
 
@@ -111,10 +102,10 @@ returns-clause-least g c = λ m answers.
     let start = start_read a.problem.now.pairs a.ends.now a.site _ c.requires.by_site (omega (arith, inside)) c.index-place.ensures in
     let end = start_read a.problem.now.pairs a.ends.now (a.site + 1) _ c.requires.by_site (omega (arith, inside)) c.index-place-end.ensures in
     let last : c.loop-place.place - start_at a.ends.now a.site ≡ degree a.ends.now a.site =
-    omega (arith, start, end, c.requires.by_site.ordered a.site inside, c.loop-place.auto.place-end, c.loop-place-test.false) in
+    omega (arith, start, end, starts_rise a.problem.now.pairs a.ends.now a.site c.requires.by_site inside, c.loop-place.auto.place-end, c.loop-place-test.false) in
     c.loop-place.invariant.least m answers ∙ ap (risen m a.change (labelling a.at.now) a.ends.now a.site (valued a.choices.now true)) last
     ∙ risen_all m a.change (labelling a.at.now) a.ends.now a.site (valued a.choices.now true)
-    (meant_pairs m a.problem.now.pairs answers.pairs_are answers.sites_are c.requires.posed.pairs) (meant_grouped m a.problem.now.pairs a.ends.now answers.pairs_are answers.sites_are c.requires.by_site)
+    (meant_pairs m a.problem.now.pairs answers.pairs_are answers.sites_are c.requires.posed.pairs) (meant_beside m a.problem.now.pairs a.ends.now answers.pairs_are answers.sites_are c.requires.by_site)
     (omega (arith, inside, answers.sites_are))
 
 pub returns-clause-greatest : goal.returns-clause-greatest
@@ -124,10 +115,10 @@ returns-clause-greatest g c = λ m answers.
     let start = start_read a.problem.now.pairs a.ends.now a.site _ c.requires.by_site (omega (arith, inside)) c.index-place.ensures in
     let end = start_read a.problem.now.pairs a.ends.now (a.site + 1) _ c.requires.by_site (omega (arith, inside)) c.index-place-end.ensures in
     let last : c.loop-place.place - start_at a.ends.now a.site ≡ degree a.ends.now a.site =
-    omega (arith, start, end, c.requires.by_site.ordered a.site inside, c.loop-place.auto.place-end, c.loop-place-test.false) in
+    omega (arith, start, end, starts_rise a.problem.now.pairs a.ends.now a.site c.requires.by_site inside, c.loop-place.auto.place-end, c.loop-place-test.false) in
     c.loop-place.invariant.greatest m answers ∙ ap (risen m a.change (labelling a.at.now) a.ends.now a.site (valued a.choices.now false)) last
     ∙ risen_all m a.change (labelling a.at.now) a.ends.now a.site (valued a.choices.now false)
-    (meant_pairs m a.problem.now.pairs answers.pairs_are answers.sites_are c.requires.posed.pairs) (meant_grouped m a.problem.now.pairs a.ends.now answers.pairs_are answers.sites_are c.requires.by_site)
+    (meant_pairs m a.problem.now.pairs answers.pairs_are answers.sites_are c.requires.posed.pairs) (meant_beside m a.problem.now.pairs a.ends.now answers.pairs_are answers.sites_are c.requires.by_site)
     (omega (arith, inside, answers.sites_are))
 
 pub returns-clause-range : goal.returns-clause-range
@@ -137,5 +128,5 @@ returns-clause-range g c =
     let start = start_read a.problem.now.pairs a.ends.now a.site _ c.requires.by_site (omega (arith, inside)) c.index-place.ensures in
     let end = start_read a.problem.now.pairs a.ends.now (a.site + 1) _ c.requires.by_site (omega (arith, inside)) c.index-place-end.ensures in
     let last : c.loop-place.place - start_at a.ends.now a.site ≡ degree a.ends.now a.site =
-    omega (arith, start, end, c.requires.by_site.ordered a.site inside, c.loop-place.auto.place-end, c.loop-place-test.false) in
+    omega (arith, start, end, starts_rise a.problem.now.pairs a.ends.now a.site c.requires.by_site inside, c.loop-place.auto.place-end, c.loop-place-test.false) in
     (omega (arith, last, c.loop-place.invariant.least_small), omega (arith, last, c.loop-place.invariant.greatest_small))

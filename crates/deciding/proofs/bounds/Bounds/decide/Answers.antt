@@ -1,13 +1,14 @@
 use Rattle.std.proofs.Common.{◌<◌, ◌≤◌, ◌+◌, ◌-◌, ◌*◌, ◌/◌, ◌∙◌, ℕ, true, false, ap, sym, subst, refl, length, arith}
-use Rattle.grouping.specs.Grouping.{start_of}
-use Rattle.move_energy.specs.BySite.{degree}
+use Rattle.grouping.specs.Grouping.{place_at}
+use Rattle.move_energy.specs.BySite.{degree, start_at, grouped_at}
 use Rattle.labellings.specs.Energies.{labelling}
 use Rattle.move_energy.specs.Choices.{choice_at}
 use Rattle.deciding.specs.Working.{AreWaiting, SeesPair}
+use Rattle.move_energy.proofs.Parts.{start_read, starts_rise}
 use Rattle.deciding.proofs.Left.{left_less}
 use Rattle.deciding.proofs.Ranges.{range_wider, decided_waits, total_same}
 use Rattle.deciding.proofs.Spreading.{IsSpread, spread_start, spread_step, spread_end, pair_in}
-use Rattle.deciding.proofs.Places.{start_read, place_read, place_within, place_touches, pair_read, meant_pairs, meant_grouped, range_start, range_step, range_enough, site_free}
+use Rattle.deciding.proofs.Places.{meant_pairs, meant_grouped, range_start, range_step, range_enough, site_free}
 use Rattle.std.proofs.lemmas.Result.{err_from_is_err_and}
 use Rattle.deciding.proofs.bounds.Bounds.decide.Goals as goal
 
@@ -28,34 +29,27 @@ loop-place-init g c =
       more = (let e = ap (λ (v : _). length v.items) c.mark.ensures.waiting in omega (arith, e));
       range = λ most within. range_wider most _ c.mark.new.self (omega arith) (range_start a.self.now c.mark.new.self a.site a.value c.mark.ensures most within);
       total = (let e = total_same a.self.now c.mark.new.self c.mark.ensures.greatest in omega (arith, e));
-      spread = λ m answers decided.
+      spread = λ m answers decided by_site.
+          let G = grouped_at a.ends.now by_site.places in
           let most : length a.self.now.least.items ≤ m.sites = omega (arith, c.requires.sized.within, c.requires.asked.sites, answers.sites_are) in
-          let P : ℕ → Type 0 = λ p. IsSpread m a.change (labelling a.at.now) (length a.self.now.least.items) decided.decisions a.site a.value a.ends.now p c.mark.new.self in
+          let P : ℕ → Type 0 = λ p. IsSpread m a.change (labelling a.at.now) (length a.self.now.least.items) decided.decisions a.site a.value G p c.mark.new.self in
           subst P (sym start)
-          (spread_start m a.change (labelling a.at.now) a.site a.value a.ends.now a.self.now c.mark.new.self (length a.self.now.least.items) most (meant_grouped m a.problem.now.pairs a.ends.now answers.pairs_are answers.sites_are c.requires.by_site) decided c.mark.ensures);
+          (spread_start m a.change (labelling a.at.now) a.site a.value G a.self.now c.mark.new.self (length a.self.now.least.items) most (meant_grouped m a.problem.now.pairs a.ends.now answers.pairs_are answers.sites_are by_site) decided c.mark.ensures);
     }
 
-pub get-pair-requires : goal.get-pair-requires
-get-pair-requires g c =
+pub pair_beside-pair-requires-clause-site : goal.pair_beside-pair-requires-clause-site
+pair_beside-pair-requires-clause-site g c = omega (arith, c.requires.site.0, c.requires.sized.within, c.requires.asked.sites)
+
+pub pair_beside-pair-requires-clause-place : goal.pair_beside-pair-requires-clause-place
+pair_beside-pair-requires-clause-place g c =
     let a = c.args in
     let inside : a.site < a.problem.now.pairs.sites = omega (arith, c.requires.site.0, c.requires.sized.within, c.requires.asked.sites) in
     let start = start_read a.problem.now.pairs a.ends.now a.site _ c.requires.by_site (omega (arith, inside)) c.index-place.ensures in
     let end = start_read a.problem.now.pairs a.ends.now (a.site + 1) _ c.requires.by_site (omega (arith, inside)) c.index-place-end.ensures in
-    let from : start_at a.ends.now a.site ≤ c.loop-place.place = omega (arith, start, c.loop-place.auto.place) in
-    let to : c.loop-place.place < start_at a.ends.now (a.site + 1) = omega (arith, end, c.loop-place-test.true) in
-    place_within a.problem.now.pairs a.ends.now a.site c.loop-place.place _ c.requires.by_site inside from to
-    (place_read a.problem.now.pairs a.ends.now a.site c.loop-place.place _ c.requires.by_site inside to c.index.ensures)
+    (omega (arith, start, c.loop-place.auto.place), omega (arith, end, c.loop-place-test.true))
 
 pub see-requires-clause-end : goal.see-requires-clause-end
-see-requires-clause-end g c = λ κs lives.
-    let a = c.args in
-    let inside : a.site < a.problem.now.pairs.sites = omega (arith, c.requires.site.0, c.requires.sized.within, c.requires.asked.sites) in
-    let start = start_read a.problem.now.pairs a.ends.now a.site _ c.requires.by_site (omega (arith, inside)) c.index-place.ensures in
-    let end = start_read a.problem.now.pairs a.ends.now (a.site + 1) _ c.requires.by_site (omega (arith, inside)) c.index-place-end.ensures in
-    let from : start_at a.ends.now a.site ≤ c.loop-place.place = omega (arith, start, c.loop-place.auto.place) in
-    let to : c.loop-place.place < start_at a.ends.now (a.site + 1) = omega (arith, end, c.loop-place-test.true) in
-    place_touches a.problem.now.pairs a.ends.now a.site c.loop-place.place _ c.get-pair.result c.requires.by_site inside from to
-    (place_read a.problem.now.pairs a.ends.now a.site c.loop-place.place _ c.requires.by_site inside to c.index.ensures) c.get-pair.ensures.value
+see-requires-clause-end g c = λ κs lives. c.pair_beside-pair.ensures.end
 
 pub see-requires-clause-range : goal.see-requires-clause-range
 see-requires-clause-range g c = λ κs lives.
@@ -75,7 +69,6 @@ loop-place-preserved g c =
     let end = start_read a.problem.now.pairs a.ends.now (a.site + 1) _ c.requires.by_site (omega (arith, inside)) c.index-place-end.ensures in
     let from : start_at a.ends.now a.site ≤ c.loop-place.place = omega (arith, start, c.loop-place.auto.place) in
     let to : c.loop-place.place < start_at a.ends.now (a.site + 1) = omega (arith, end, c.loop-place-test.true) in
-    let read = place_read a.problem.now.pairs a.ends.now a.site c.loop-place.place _ c.requires.by_site inside to c.index.ensures in
     let looking = c.in_ok-see.ensures.looking in
     record {
       choices = looking.choices ∙ c.loop-place.invariant.choices;
@@ -89,15 +82,16 @@ loop-place-preserved g c =
       more = omega (arith, looking.waiting, c.loop-place.invariant.more, from);
       range = range_step (start_at a.ends.now a.site) c.loop-place.place a.self.now c.loop-place.self c.see.new.self from looking c.loop-place.invariant.range;
       total = omega (arith, looking.total, c.loop-place.invariant.total, from);
-      spread = λ m answers decided.
+      spread = λ m answers decided by_site.
+          let G = grouped_at a.ends.now by_site.places in
           let within : a.site < m.sites = omega (arith, inside, answers.sites_are) in
-          let S : ℕ → Type 0 = λ n. SeesPair m a.change (labelling a.at.now) n a.site a.value c.get-pair.result c.loop-place.self c.see.new.self in
-          spread_step m a.change (labelling a.at.now) (length a.self.now.least.items) decided.decisions a.site a.value a.ends.now c.loop-place.place c.get-pair.result c.loop-place.self c.see.new.self
-          (meant_pairs m a.problem.now.pairs answers.pairs_are answers.sites_are c.requires.posed.pairs) (meant_grouped m a.problem.now.pairs a.ends.now answers.pairs_are answers.sites_are c.requires.by_site) within from to
-          ((λ i. pair_in (answers.pairs_are i) (sym read i / 2)) ∙ pair_read a.problem.now.pairs.list _ c.get-pair.result c.get-pair.ensures.value)
+          let S : ℕ → Type 0 = λ n. SeesPair m a.change (labelling a.at.now) n a.site a.value c.pair_beside-pair.result c.loop-place.self c.see.new.self in
+          spread_step m a.change (labelling a.at.now) (length a.self.now.least.items) decided.decisions a.site a.value G c.loop-place.place c.pair_beside-pair.result c.loop-place.self c.see.new.self
+          (meant_pairs m a.problem.now.pairs answers.pairs_are answers.sites_are c.requires.posed.pairs) (meant_grouped m a.problem.now.pairs a.ends.now answers.pairs_are answers.sites_are by_site) within from to
+          ((λ i. pair_in (answers.pairs_are i) (place_at G c.loop-place.place / 2)) ∙ sym (by_site.each a.site c.loop-place.place inside from to) ∙ sym c.pair_beside-pair.ensures.value)
           (site_free m a.change (labelling a.at.now) a.site true a.self.now (length a.self.now.least.items) decided within c.requires.site.1)
           (site_free m a.change (labelling a.at.now) a.site false a.self.now (length a.self.now.least.items) decided within c.requires.site.1)
-          looking.choices (subst S c.loop-place.invariant.same (c.in_ok-see.ensures.sees m answers)) (c.loop-place.invariant.spread m answers decided);
+          looking.choices (subst S c.loop-place.invariant.same (c.in_ok-see.ensures.sees m answers)) (c.loop-place.invariant.spread m answers decided by_site);
     }
 
 pub returns-clause-range : goal.returns-clause-range
@@ -106,7 +100,7 @@ returns-clause-range g c = λ most within.
     let inside : a.site < a.problem.now.pairs.sites = omega (arith, c.requires.site.0, c.requires.sized.within, c.requires.asked.sites) in
     let end = start_read a.problem.now.pairs a.ends.now (a.site + 1) _ c.requires.by_site (omega (arith, inside)) c.index-place-end.ensures in
     let start = start_read a.problem.now.pairs a.ends.now a.site _ c.requires.by_site (omega (arith, inside)) c.index-place.ensures in
-    let ordered = c.requires.by_site.ordered a.site inside in
+    let ordered = starts_rise a.problem.now.pairs a.ends.now a.site c.requires.by_site inside in
     let last : c.loop-place.place - start_at a.ends.now a.site ≤ degree a.ends.now a.site = omega (arith, start, end, ordered, c.loop-place.auto.place-end) in
     range_wider (most + 20000000 * (c.loop-place.place - start_at a.ends.now a.site)) (most + 20000000 * degree a.ends.now a.site) c.loop-place.self
     (omega (arith, last)) (c.loop-place.invariant.range most within)
@@ -127,9 +121,9 @@ returns-clause-decided g c = λ m answers tells decided.
     let end = start_read a.problem.now.pairs a.ends.now (a.site + 1) _ c.requires.by_site (omega (arith, inside)) c.index-place-end.ensures in
     let past : start_at a.ends.now (a.site + 1) ≤ c.loop-place.place = omega (arith, end, c.loop-place-test.false) in
     let most : length a.self.now.least.items ≤ m.sites = omega (arith, c.requires.sized.within, c.requires.asked.sites, answers.sites_are) in
-    spread_end m a.change (labelling a.at.now) (length a.self.now.least.items) a.site a.value a.ends.now c.loop-place.place a.self.now c.mark.new.self c.loop-place.self
+    spread_end m a.change (labelling a.at.now) (length a.self.now.least.items) a.site a.value (grouped_at a.ends.now c.requires.by_site.places) c.loop-place.place a.self.now c.mark.new.self c.loop-place.self
     (meant_pairs m a.problem.now.pairs answers.pairs_are answers.sites_are c.requires.posed.pairs) most c.requires.site.0 decided c.requires.site.1 tells c.mark.ensures c.loop-place.invariant.choices past
-    (c.loop-place.invariant.spread m answers decided)
+    (c.loop-place.invariant.spread m answers decided c.requires.by_site)
 
 pub see-requires-clause-sized : goal.see-requires-clause-sized
 see-requires-clause-sized g c = λ κs lives. c.loop-place.invariant.sized
@@ -185,7 +179,7 @@ returns-clause-total g c =
     let inside : a.site < a.problem.now.pairs.sites = omega (arith, c.requires.site.0, c.requires.sized.within, c.requires.asked.sites) in
     let end = start_read a.problem.now.pairs a.ends.now (a.site + 1) _ c.requires.by_site (omega (arith, inside)) c.index-place-end.ensures in
     let start = start_read a.problem.now.pairs a.ends.now a.site _ c.requires.by_site (omega (arith, inside)) c.index-place.ensures in
-    let ordered = c.requires.by_site.ordered a.site inside in
+    let ordered = starts_rise a.problem.now.pairs a.ends.now a.site c.requires.by_site inside in
     let last : c.loop-place.place - start_at a.ends.now a.site ≤ degree a.ends.now a.site = omega (arith, start, end, ordered, c.loop-place.auto.place-end) in
     omega (arith, last, c.loop-place.invariant.total)
 

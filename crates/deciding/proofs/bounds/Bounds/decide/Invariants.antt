@@ -1,6 +1,6 @@
 use Rattle.std.proofs.Common.{◌≡◌, ◌+◌, ◌-◌, ◌*◌, ◌≤◌, ℕ, length}
 use Rattle.cost_store.specs.Posed.{IsMeant}
-use Rattle.grouping.specs.Grouping.{start_of}
+use Rattle.move_energy.specs.BySite.{start_at, grouped_at, AreBySite}
 use Rattle.labellings.specs.Energies.{Instance, labelling}
 use Rattle.deciding.specs.Working.{IsSummed, AreWaiting, IsWithinRange, ArePartlyDecided, greatest_total}
 use Rattle.deciding.proofs.Spreading.{IsSpread}
@@ -17,5 +17,6 @@ invariant-loop-place g l = record {
   total : greatest_total l.self ≤ greatest_total l.fn.self + 20000000 * (l.place - start_at l.ends l.site);
   spread : (m : Instance) → IsMeant g.F.Fn g.V.Fn l.problem m
       → (decided : ArePartlyDecided m l.change (labelling l.at) (length l.fn.self.least.items) l.fn.self)
-      → IsSpread m l.change (labelling l.at) (length l.fn.self.least.items) decided.decisions l.site l.value l.ends l.place l.self;
+      → (by_site : AreBySite l.problem.pairs l.ends)
+      → IsSpread m l.change (labelling l.at) (length l.fn.self.least.items) decided.decisions l.site l.value (grouped_at l.ends by_site.places) l.place l.self;
 }

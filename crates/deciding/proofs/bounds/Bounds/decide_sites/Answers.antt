@@ -2,6 +2,7 @@ use Rattle.std.proofs.Common.{◌≡◌, ◌<◌, ◌≤◌, ◌*◌, ◌∙◌,
 use Rattle.std.proofs.lemmas.Result.{err_from_is_err_and}
 use Rattle.labellings.specs.Energies.{labelling}
 use Rattle.deciding.specs.Working.{AreWaiting, ArePartlyDecided, IsWithinRange, left, budget_of}
+use Rattle.move_energy.proofs.Parts.{starts_rise, starts_within}
 use Rattle.move_energy.proofs.PairEnds.{ends_len}
 use Rattle.deciding.proofs.Left.{left_most}
 use Rattle.deciding.proofs.Places.{none_waits}
@@ -82,7 +83,7 @@ loop-site-preserved g c =
       few = e.left;
       range = e.range;
       total = (let inside : c.loop-site.site < a.problem.now.pairs.sites = omega (arith, c.loop-site-test.true, c.requires.asked.sites) in
-          let ordered = c.requires.by_site.ordered c.loop-site.site inside in
+          let ordered = starts_rise a.problem.now.pairs a.ends.now c.loop-site.site c.requires.by_site inside in
           let same = ap (λ (v : _). left a.ends.now (length a.at.now) v.items) one.same in
           omega (arith, e.total, one.total, same, ordered, c.loop-site.invariant.total));
       decided = λ m answers.
@@ -146,7 +147,7 @@ returns-clause-total g c =
     let a = c.args in
     let at_end : c.loop-site.site ≡ length a.at.now = omega (arith, c.loop-site-test.false, c.loop-site.auto) in
     let inside : c.loop-site.site ≤ a.problem.now.pairs.sites = omega (arith, at_end, c.requires.asked.sites) in
-    let most = c.requires.by_site.within c.loop-site.site inside in
+    let most = starts_within a.problem.now.pairs a.ends.now c.loop-site.site c.requires.by_site inside in
     omega (arith, c.loop-site.invariant.total, inside, most, ends_len a.problem.now.pairs.list, c.requires.posed.pairs.count, c.requires.posed.pairs.sites)
 
 pub returns-in_err-sum_site-clause-total : goal.returns-in_err-sum_site-clause-total

@@ -1,6 +1,6 @@
 use Rattle.std.proofs.Common.{◌≡◌, ◌+◌, ◌*◌, ◌≤◌, [], length}
 use Rattle.cost_store.specs.Posed.{IsMeant}
-use Rattle.grouping.specs.Grouping.{start_of}
+use Rattle.move_energy.specs.BySite.{start_at}
 use Rattle.labellings.specs.Energies.{Instance, labelling}
 use Rattle.deciding.specs.Working.{IsSummed, AreWaiting, IsWithinRange, ArePartlyDecided, left, budget_of, greatest_total}
 use Rattle.deciding.proofs.bounds.Bounds.decide_sites.Given as goal
