@@ -7,7 +7,7 @@ use Rattle.move_energy.specs.declared.by_site.Neighbours.{Neighbours}
 use Rattle.label_field.specs.declared.pair.Pair.{Pair}
 use Rattle.label_field.specs.PairLists.{PairList, IsPair}
 use Rattle.labellings.specs.Energies.{Instance}
-use Rattle.move_energy.specs.BySite.{AreBySite, degree, start_at, grouped_at, pair_in, pair_of, pair_beside}
+use Rattle.move_energy.specs.BySite.{AreBySite, degree, start_at, head_at, weight_at, is_first, grouped_at, pair_in, pair_of, pair_beside}
 use Rattle.move_energy.proofs.PairEnds.{Touches, touching_found}
 use Rattle.move_energy.proofs.Parts.{from_touches, pair_has}
 use Rattle.stages.specs.Fresh.{AreFresh, IsFreshAcross}
@@ -51,7 +51,7 @@ other_inside n pair site other is e = omega (arith, e, other_of (pair.first == s
 
 -- the pairs of a site touch it
 touches : (ends : Neighbours) (site k : ℕ) → Touches site (pair_of ends site k)
-touches ends site k = from_touches _ site _ _
+touches ends site k = from_touches (is_first ends site (start_at ends site + k)) site (head_at ends (start_at ends site + k)) (weight_at ends (start_at ends site + k))
 
 ends_are : (pair : Pair) (site other : ℕ) → pair.first ≢ pair.second → Touches site pair → other ≡ cond (pair.first == site) pair.second pair.first → AreEnds pair site other
 ends_are pair site other apart (inl first) is = inl (first, sym (is ∙ ap (λ b. cond b pair.second pair.first) (eq-eqb pair.first site first)))

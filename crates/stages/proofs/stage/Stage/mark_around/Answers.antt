@@ -26,8 +26,8 @@ loop-index-preserved c =
           (omega (arith, c.loop-index-test.true, c.ends_at-index-end.ensures)) c.pair_at-pair.ensures.value c.pair_at-pair.ensures.pair.unequal c.other_end.ensures))
           c.loop-index.invariant.only c.in_ok-mark_site-2.ensures.only;
       own = λ could. stays a.site (c.loop-index.invariant.own could);
-      beside = below_more (λ k. P (pair_of a.pairs.now.list a.ends.now a.site k)) c.loop-index.index
-          (λ k l. across_stays a.alpha f a.site now new (pair_of a.pairs.now.list a.ends.now a.site k) stays (c.loop-index.invariant.beside k l))
+      beside = below_more (λ k. P (pair_of a.ends.now a.site k)) c.loop-index.index
+          (λ k l. across_stays a.alpha f a.site now new (pair_of a.ends.now a.site k) stays (c.loop-index.invariant.beside k l))
           (subst P c.pair_at-pair.ensures.value
           (at_other (λ q. f q ≢ a.alpha → new q ≡ true) pair a.site c.other_end.result c.pair_at-pair.ensures.pair.unequal c.other_end.ensures c.in_ok-mark_site-2.ensures.here));
     }

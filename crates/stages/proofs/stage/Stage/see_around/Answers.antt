@@ -19,8 +19,8 @@ loop-index-preserved c =
     record {
       shown = e.shown;
       wider = wider_then a.self.now now new invariant.wider e.wider;
-      seen = below_more (λ k. P (pair_of a.pairs.now.list a.ends.now a.site k)) c.loop-index.index
-          (λ k l. across_wider a.choices.now a.bits.now a.site (pair_of a.pairs.now.list a.ends.now a.site k) now new e.wider (invariant.seen k l))
+      seen = below_more (λ k. P (pair_of a.ends.now a.site k)) c.loop-index.index
+          (λ k l. across_wider a.choices.now a.bits.now a.site (pair_of a.ends.now a.site k) now new e.wider (invariant.seen k l))
           (subst P c.pair_at-pair.ensures.value
           (at_other (λ q. IsSeen a.choices.now a.bits.now q new) pair a.site c.other_end.result c.pair_at-pair.ensures.pair.unequal c.other_end.ensures e.seen));
       fresh = same.0 ∙ invariant.fresh;

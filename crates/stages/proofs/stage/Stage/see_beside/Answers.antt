@@ -1,4 +1,6 @@
 use Rattle.std.proofs.Common.{◌≡◌, ◌∙◌, ◌<◌, ℕ, length, get_or, sym, subst, below_more, arith}
+use Rattle.std.proofs.lemmas.Bool.{leb-true}
+use Rattle.std.proofs.lemmas.List.Elements.{All-from_get_or}
 use Rattle.move_energy.proofs.Joins.{read_at}
 use Rattle.stages.specs.Working.{AreSeenAround}
 use Rattle.stages.proofs.Seen.{wider_then, around_wider}
@@ -29,3 +31,18 @@ loop-index-preserved c =
       fresh_sites = same.1 ∙ invariant.fresh_sites;
       opened = same.2 ∙ invariant.opened;
     }
+
+pub returns-then-index-len-clause-seen : goal.returns-then-index-len-clause-seen
+returns-then-index-len-clause-seen c = λ yes.
+    let a = c.args in
+    let now = c.loop-index.self in
+    All-from_get_or (λ p. AreSeenAround a.pairs.now a.ends.now a.choices.now a.bits.now p now) now.taking.items 0
+    (λ k l. c.loop-index.invariant.seen k (omega (arith, l, c.if-index-len.true, c.len.ensures, now.taking.ok.0)))
+
+pub returns-clause-seen : goal.returns-clause-seen
+returns-clause-seen c = λ yes.
+    let a = c.args in
+    let now = c.loop-index.self in
+    let most = leb-true c.len-2.result (length a.choices.now) yes in
+    All-from_get_or (λ p. AreSeenAround a.pairs.now a.ends.now a.choices.now a.bits.now p now) now.taking.items 0
+    (λ k l. c.loop-index.invariant.seen k (omega (arith, l, most, c.len-2.ensures, now.taking.ok.0, c.loop-index-test.false, c.loop-index.auto)))
