@@ -1,6 +1,6 @@
 use Rattle.std.proofs.Common.{◌≡◌, ◌∙◌, ℕ, List, length, ap, sym, subst, refl, arith}
 use Rattle.cost_store.proofs.Meaning.{pairs_meant}
-use Rattle.moves.specs.Building.{site_values}
+use Rattle.moves.specs.Building.{site_values, AreChangesListed}
 use Rattle.labellings.specs.declared.change.Move.{Move}
 use Rattle.cost_store.specs.LabelCosts.{costs_of}
 use Rattle.moves.specs.LabelCosts.{IsFreeFor}
@@ -98,3 +98,8 @@ returns-then-not-lowers-clause-taken g c = λ a is. (let swap = c.in-Swap.is in 
 
 pub returns-else-not-lowers-clause-taken : goal.returns-else-not-lowers-clause-taken
 returns-else-not-lowers-clause-taken g c = λ a is. (let swap = c.in-Swap.is in absurd (cc (swap, is)))
+
+pub lowers-requires-clause-changes : goal.lowers-requires-clause-changes
+lowers-requires-clause-changes g c = λ κs lives yes.
+    let P : List ℕ → Type 0 = λ f. AreChangesListed c.args.problem.now.pairs c.args.change f c.args.space.now in
+    subst P (sym c.as_slice.ensures.value) (c.requires.changes yes)
