@@ -23,10 +23,13 @@ use stages::Changes;
 use std::alloc::{AllocError, Global};
 
 /// A later expansion looks near the changes where less than one in so many sites changed.
-const CHANGED_SHARE: usize = 32;
+const CHANGED_SHARE: usize = 64;
 
 /// The most stages of an expansion: where none of so many is closed, the expansion is made whole.
 const STAGE_LIMIT: u32 = 64;
+
+/// The stages of an expansion open at most one in so many sites together: where they need more, it is made whole.
+const OPENED_SHARE: usize = 16;
 
 /// Whether few sites that have not the label changed since a move.
 fn are_few(stamps: &[u32], since: u32, at: &[u8], alpha: u32) -> bool
@@ -129,11 +132,15 @@ fn look<F: Fn(u32, u32) -> i64 + Sync, V: Fn(u32, u32) -> i64 + Sync, H: How>(
         Ok(()) => {}
         Err(_) => return Err(MoveError::OutOfMemory),
     }
+    let mut total = 0usize;
     for _stage in 0..STAGE_LIMIT {
+        total = total.saturating_add(space.stage.opened.len());
+        if total > at.len() / OPENED_SHARE {
+            return Ok(false);
+        }
         match make_stage(alloc, problem, space, at, alpha, how)? {
             Standing::Closed => return Ok(true),
             Standing::Open => {}
-            Standing::GivenUp => return Ok(false),
         }
     }
     Ok(false)

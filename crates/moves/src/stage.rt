@@ -22,12 +22,11 @@ use move_energy::{MoveEnergy, Neighbours};
 use std::alloc::{AllocError, Global};
 use std::mem::replace;
 
-/// What a stage leaves: the sites that take the label are found, or there are more sites to look at, or too many of them.
+/// What a stage leaves: the sites that take the label are found, or there are more sites to look at.
 #[derive(Clone, Copy)]
 pub(crate) enum Standing {
     Closed,
     Open,
-    GivenUp,
 }
 
 /// The cut of a partly fixed move, over the listed open sites: a bit for each.
@@ -91,17 +90,13 @@ fn end_stage(space: &mut Workspace, pairs: &Pairs, bits: &[bool]) -> Result<Stan
     if closed {
         return Ok(Standing::Closed);
     }
-    let more = space.stage.reopen(
+    space.stage.reopen(
         &mut space.built.variables.choices,
         pairs,
         &space.deciding.ends,
         bits,
     )?;
-    if more {
-        Ok(Standing::Open)
-    } else {
-        Ok(Standing::GivenUp)
-    }
+    Ok(Standing::Open)
 }
 
 /// One stage: its cut, and what is done with what that shows.

@@ -16,11 +16,13 @@ use move_energy::{Choice, Neighbours, ends_at, pair_at};
 use std::alloc::AllocError;
 
 /// So many rings of sites are opened around those that a stage has to look at.
-const RINGS: usize = 5;
+const RINGS: usize = 20;
 
-/// In the rings may be this many sites, and one for each two sites that are open without them, and one for each around
-/// which they lie.
+/// In the rings may be this many sites, and so many for each site that is open without them, and one for each around which
+/// they lie.
 const RING_ROOM: usize = 16;
+
+const RING_SHARE: usize = 4;
 
 /// So many sites are looked over at once for an open one.
 const BLOCK: usize = 64;
@@ -233,6 +235,14 @@ fn open_rings(
     Ok(())
 }
 
+/// With the rings so many sites are listed, where so many lie at the front and so many are open without the rings.
+fn most_listed(front: usize, open: usize) -> usize {
+    open.saturating_mul(RING_SHARE)
+        .saturating_add(front)
+        .saturating_add(front)
+        .saturating_add(RING_ROOM)
+}
+
 impl Stage {
     /// The choices of the first stage: sites that have the label are at 0, fresh sites and rings around them are open, and
     /// all others count as 1. `opened` lists the open ones.
@@ -258,21 +268,20 @@ impl Stage {
         self.front.clear();
         self.front.extend_from_slice(&self.fresh_sites)?;
         open_all(choices, &self.front);
-        let most = self.front.len() * 2 + self.front.len() / 2 + RING_ROOM;
+        let most = most_listed(self.front.len(), self.front.len());
         open_rings(pairs, ends, choices, &mut self.front, most)?;
         list_open(&mut self.opened, choices)
     }
 
     /// The choices of the next stage: what the cut showed to be 0 is 0 for good; the parts that hold a fresh site, `front` and
-    /// rings around it are open, and all else counts as 1. `opened` lists the open ones. It answers no where they are over
-    /// half of the sites: then a whole move is cheaper.
+    /// rings around it are open, and all else counts as 1. `opened` lists the open ones.
     pub fn reopen(
         &mut self,
         choices: &mut Vec<Choice>,
         pairs: &Pairs,
         ends: &Neighbours,
         bits: &[bool],
-    ) -> Result<bool, AllocError>
+    ) -> Result<(), AllocError>
         requires by_site { AreBySite pairs.now ends.now }
         requires sites { length choices.old.items ≡ pairs.now.sites }
         requires listed { AreOpenSites choices.old.items self.old.opened.items }
@@ -288,9 +297,8 @@ impl Stage {
         settle(choices, &self.opened, bits);
         open_all(choices, &self.taking);
         open_all(choices, &self.front);
-        let most = self.front.len() * 2 + (self.taking.len() + self.front.len()) / 2 + RING_ROOM;
+        let most = most_listed(self.front.len(), self.taking.len() + self.front.len());
         open_rings(pairs, ends, choices, &mut self.front, most)?;
-        list_open(&mut self.opened, choices)?;
-        Ok(self.opened.len() <= choices.len() / 2)
+        list_open(&mut self.opened, choices)
     }
 }
