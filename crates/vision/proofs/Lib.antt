@@ -3,6 +3,7 @@ pub mod Places
 pub mod Images
 pub mod Finishing
 pub mod Refusing
+pub mod Shifts
 pub mod Weights
 pub mod Writing
 pub mod Parts

@@ -1,6 +1,6 @@
 -- The problems of labels that pictures and options name. A site is a pixel, row by row from the top, each row
 -- from the left.
-use Rattle.std.specs.Prelude.{ℕ, ◌+◌, ◌-◌, ◌*◌, ◌==◌, nat_lt, nat_le, min, List, map, slice_index, unwrap_or, if◌then◌else◌}
+use Rattle.std.specs.Prelude.{◌≡◌, ℕ, ◌+◌, ◌-◌, ◌*◌, ◌<◌, ◌==◌, nat_lt, nat_le, min, List, length, map, slice_index, unwrap_or, if◌then◌else◌}
 use Rattle.label_field.specs.declared.pair.Pair.{Pair}
 use Rattle.label_field.specs.Grids.{grid, steps4, steps8, column, distance}
 use Rattle.labellings.specs.Energies.{Instance}
@@ -41,6 +41,17 @@ abbrev pub shift_cost : ℕ → Picture → Picture → ℕ → ℕ → ℕ
 shift_cost cap left right site shift =
     if nat_lt (column left.width site) shift then cap
     else min (distance (sample left site) (sample right (site - shift))) cap
+
+-- of each pixel how many columns lie to its left, at most 255: no shift is greater
+pub record AreColumns (width : ℕ) (left columns : List ℕ) : Type 0 where
+  pub count : length columns ≡ length left
+  pub each : (site : ℕ) → site < length left → slice_index columns site ≡ min (column width site) 255
+
+-- the same by the samples of both pictures, and how many columns lie to the left of each pixel
+abbrev pub cost_by_columns : ℕ → List ℕ → List ℕ → List ℕ → ℕ → ℕ → ℕ
+cost_by_columns cap columns left right site shift =
+    if nat_lt (slice_index columns site) shift then cap
+    else min (distance (slice_index left site) (slice_index right (site - shift))) cap
 
 -- stereo: a label is a shift
 abbrev pub stereo_problem : StereoOptions → Picture → Picture → Instance

@@ -2,12 +2,12 @@
 ghost use Rattle.std.specs.Prelude.{◌≡◌, ◌≢◌, ◌+◌, ◌-◌, ◌*◌, ◌%◌, ◌<◌, ◌≤◌, pos, min, nat_lt, if◌then◌else◌, IfOk, IfErr, MatchResult, length, slice_index};
 ghost use Rattle.run_options.specs.Limits.{cap_limit};
 ghost use Rattle.run_options.specs.Ranges.{AreStereoOptions};
-ghost use Rattle.pgm_image.specs.Picture.{IsPicture};
+ghost use Rattle.pgm_image.specs.Picture.{sample_limit};
 ghost use Rattle.run_options.specs.declared.shape.Shape.TheVariants.{Quadratic};
 ghost use Rattle.vision.specs.Faults.{HasRunError, HasStereoError, IsWrite, Leaves, IsOfPair};
 ghost use Rattle.vision.specs.Inputs.{IsStereoJob, SameSizes};
 ghost use Rattle.vision.specs.Jobs.{WritesPicture, IsReadyToWrite, Job, stereo_job};
-ghost use Rattle.vision.specs.Problems.{shift_cost};
+ghost use Rattle.vision.specs.Problems.{AreColumns, cost_by_columns};
 
 use crate::inputs::read_two;
 use crate::job::{Finished, Plan, is_metric_cost, put_finished, run_job, smooth_costs};
@@ -18,7 +18,7 @@ use cost_store::DataCost;
 use moves::How;
 use pgm_image::Image;
 use run_options::StereoOptions;
-use std::alloc::Global;
+use std::alloc::{AllocError, Global};
 
 /// Matches the two pictures of the input, the left one first, and writes the shifts of the left one's pixels as `P5`.
 ///
@@ -101,14 +101,17 @@ fn match_pictures<H: How>(
         bound: options.bound,
         maxval: (labels - 1).max(1),
     };
-    let _left = left.samples();
-    let _right = right.samples();
+    let here = left.samples();
+    let there = right.samples();
+    let columns = columns_of(alloc, here, left.width())?;
+    let columns = columns.as_slice();
     let data_cost = DataCost::new(
         |site: u32, shift: u32| -> i64
-            requires { (site < length left.now.samples) × (site < length right.now.samples)
-                × (1 ≤ left.now.width) }
-            ensures { result ≡ pos (shift_cost cap left.entry.now right.entry.now site shift) }
-        { i64::from(shift_cost(cap, left, right, site, shift)) },
+            requires { (site < length columns.now) × (site < length here.now)
+                × (site < length there.now) }
+            ensures { result ≡ pos (cost_by_columns cap columns.entry.now here.entry.now
+                there.entry.now site shift) }
+        { i64::from(shift_cost(cap, columns, here, there, site, shift)) },
         left.width() * left.height(),
         labels,
     );
@@ -117,18 +120,39 @@ fn match_pictures<H: How>(
     )
 }
 
-/// What a shift costs a pixel of the left picture.
-fn shift_cost(cap: u32, left: &Image, right: &Image, site: u32, shift: u32) -> u32
-    requires left { site < length left.now.samples }
-    requires right { site < length right.now.samples }
-    requires width { 1 ≤ left.now.width }
-    ensures cost { result ≡ shift_cost cap left.now right.now site shift }
+/// The greatest number of columns that is told: no shift is greater.
+const COLUMN_LIMIT: u32 = 255;
+
+/// Of each pixel of a picture of this width how many columns lie to its left, at most 255. So a cost needs no division.
+fn columns_of(alloc: Global, samples: &[u16], width: u32) -> Result<Vec<u8>, AllocError>
+    requires width { 1 ≤ width }
+    requires few { length samples.now ≤ sample_limit }
+    ensures { IfOk result (λ columns. AreColumns width samples.now columns.items) }
+{
+    let mut columns = Vec::with_capacity(alloc, samples.len())?;
+    for site in 0..samples.len() {
+        columns.push_reserved((site as u32 % width).min(COLUMN_LIMIT) as u8);
+    }
+    Ok(columns)
+}
+
+/// What a shift costs a pixel of the left picture, by how many columns lie to the left of each.
+fn shift_cost(
+    cap: u32,
+    columns: &[u8],
+    left: &[u16],
+    right: &[u16],
+    site: u32,
+    shift: u32,
+) -> u32
+    requires site { (site < length columns.now) × (site < length left.now) × (site < length right.now) }
+    ensures cost { result ≡ cost_by_columns cap columns.now left.now right.now site shift }
     ensures capped { result ≤ cap }
 {
-    if site % left.width() < shift {
+    if u32::from(columns[site as usize]) < shift {
         return cap;
     }
-    let here = u32::from(left.samples()[site as usize]);
-    let there = u32::from(right.samples()[(site - shift) as usize]);
+    let here = u32::from(left[site as usize]);
+    let there = u32::from(right[site.saturating_sub(shift) as usize]);
     here.abs_diff(there).min(cap)
 }

@@ -6,6 +6,7 @@ use Rattle.vision.specs.Faults.{HasRunError}
 use Rattle.vision.specs.Jobs.{IsReadyToWrite, job_of}
 use Rattle.vision.specs.Problems.{stereo_problem}
 use Rattle.vision.proofs.Metrics.{shape_metric_table}
+use Rattle.vision.proofs.Shifts.{told_cost}
 use Rattle.std.proofs.lemmas.Result.{err_from_is_err_and}
 use Rattle.vision.proofs.stereo.match_pictures.Goals as goal
 
@@ -20,7 +21,9 @@ returns-clause-run g c =
       sites_are = sym (ap (λ (l : PairList). l.sites) c.in_ok-pairs.ensures);
       labels_are = refl;
       pairs_are = sym (ap (λ (l : PairList). l.list) c.in_ok-pairs.ensures);
-      data_are = λ a b z la lb is. is;
+      data_are = told_cost o.cap c.width.result _ o.labels c.args.left.now c.args.right.now c.in_ok-columns.columns.items c.as_slice-columns.result.now c.samples-here.result.now
+      c.samples-there.result.now c.samples-here.ensures.valid c.width.ensures (ap (λ (l : PairList). l.sites) c.in_ok-pairs.ensures) c.requires.options.labels_most
+      c.in_ok-columns.ensures c.as_slice-columns.ensures.value c.samples-here.ensures.value c.samples-there.ensures.value;
       smooth_are = subst S (sym c.as_slice-table.ensures.value) c.in_ok-smooth.ensures.table;
     })) (record { each = λ label l. refl }))
 
@@ -35,7 +38,9 @@ returns-clause-metric g c = λ apart.
       sites_are = sym (ap (λ (l : PairList). l.sites) c.in_ok-pairs.ensures);
       labels_are = refl;
       pairs_are = sym (ap (λ (l : PairList). l.list) c.in_ok-pairs.ensures);
-      data_are = λ a b z la lb is. is;
+      data_are = told_cost o.cap c.width.result _ o.labels c.args.left.now c.args.right.now c.in_ok-columns.columns.items c.as_slice-columns.result.now c.samples-here.result.now
+      c.samples-there.result.now c.samples-here.ensures.valid c.width.ensures (ap (λ (l : PairList). l.sites) c.in_ok-pairs.ensures) c.requires.options.labels_most
+      c.in_ok-columns.ensures c.as_slice-columns.ensures.value c.samples-here.ensures.value c.samples-there.ensures.value;
       smooth_are = table;
     })) (record { each = λ label l. refl })
 
@@ -54,3 +59,8 @@ is_metric_cost-by_metric-requires-clause-table g c =
     let S : List ℤ → Type 0 = λ t. IsTable c.args.options.now.labels c.args.options.now.labels (shape_cost c.args.options.now.smooth c.args.options.now.trunc) t in
     let table = subst S (sym c.as_slice-table.ensures.value) c.in_ok-smooth.ensures.table in
     (c.args.options.now.trunc, c.requires.options.run.trunc_least, table)
+
+pub returns-in_err-columns : goal.returns-in_err-columns
+returns-in_err-columns g c =
+    let p = err_from_is_err_and c.from_residual-in_err-columns.result c.from_residual-in_err-columns.ensures.1 in
+    record { run = rw (p.1, p.2) (inl refl); metric = λ apart. rw (p.1, p.2) (λ tells. tells) }
