@@ -1,8 +1,8 @@
 -- What a call of a source does to its stream, and what reading a whole input answers.
-use Rattle.std.specs.Prelude.{◌≡◌, ◌<◌, ◌≤◌, ◌||◌, ℕ, Bool, true, false, List, length, Result, Ok, Err, IfOk, is_err, Vec, ⊤}
+use Rattle.std.specs.Prelude.{◌≡◌, ◌<◌, ◌≤◌, ℕ, Bool, true, false, List, length, Result, Ok, Err, IfOk, is_err, Vec, ⊤}
 use Rattle.std.specs.Io.KnownBytes.{ReadConsumes}
 use Rattle.std.specs.declared.alloc.Global.{Global}
-use Rattle.byte_streams.specs.Streams.{Stream}
+use Rattle.byte_streams.specs.Streams.{Stream, failures_after}
 use Rattle.byte_streams.specs.declared.input.ReadError.{ReadError}
 use Rattle.byte_streams.specs.declared.input.ReadError.TheVariants.{OutOfMemory, ReadFailed, InputTooLong}
 
@@ -22,9 +22,10 @@ IsReadOr input (Ok v) = (v.items ≡ input) × (length input ≤ input_limit)
 IsReadOr input (Err error) = IsReadRefusal input error
 
 -- the stream gave as many bytes as the call answers, and none only at its end or to a buffer without room; and it
--- failed exactly where the call answered a fault
+-- counts the call exactly where it answered a fault
 abbrev pub Gives : {E : Type 0} → Stream → Stream → Result ℕ E → List ℕ → Type 0
-Gives old new r buffer = ReadConsumes old.bytes new.bytes r buffer × (new.has_failed ≡ (is_err r || old.has_failed))
+Gives old new r buffer = ReadConsumes old.bytes new.bytes r buffer
+    × (new.failures ≡ failures_after (is_err r) old.failures)
 
 -- a call that gives no byte to a buffer with room tells the end
 abbrev pub NotesEnd : {E : Type 0} → Bool → Result ℕ E → List ℕ → Type 0
@@ -36,7 +37,7 @@ is_fault ReadFailed = true
 is_fault InputTooLong = false
 is_fault OutOfMemory = false
 
--- the stream failed on the way exactly where the answer says so
+-- a call failed on the way, one, exactly where the answer says so
 abbrev pub TellsFault : {T : Type 0} → Stream → Stream → Result T ReadError → Type 0
-TellsFault old new (Ok x) = new.has_failed ≡ old.has_failed
-TellsFault old new (Err error) = new.has_failed ≡ (is_fault error || old.has_failed)
+TellsFault old new (Ok x) = new.failures ≡ old.failures
+TellsFault old new (Err error) = new.failures ≡ failures_after (is_fault error) old.failures

@@ -25,9 +25,9 @@ pub enum ReadError {
     InputTooLong,
 }
 
-/// Bytes to read, which remembers whether it failed.
+/// Bytes to read, which counts the calls that failed.
 pub trait Source {
-    // The bytes that it will give from here on, where they are known, and whether a call answered a fault.
+    // The bytes that it will give from here on, where they are known, and how many calls answered a fault.
     ghost stream: { Self → Stream };
 
     // A call gave no byte to a buffer with room: the end. True of a source that does not remember it.
@@ -43,27 +43,44 @@ pub trait Source {
 /// A reader of std as a source.
 #[derive(Drop)]
 pub struct WatchedReader<'a, R> {
-    /// Where the bytes come from.
-    pub reader: &'a mut R,
-    /// The reader answered a fault.
-    pub has_failed: bool,
+    reader: &'a mut R,
+    failures: u64,
+}
+
+impl<'a, R> WatchedReader<'a, R> {
+    /// A reader to watch. None of its calls has failed yet.
+    pub fn new(reader: &'a mut R) -> WatchedReader<'a, R>
+        ensures { result.failures ≡ 0 }
+    {
+        WatchedReader {
+            reader,
+            failures: 0,
+        }
+    }
+
+    /// How many calls of the reader have answered a fault, counted in 64 bits.
+    pub fn failures(&self) -> u64
+        ensures { result ≡ self.now.failures }
+    {
+        self.failures
+    }
 }
 
 impl<R: Read> Source for WatchedReader<'_, R> {
-    ghost stream = { λ s. record { bytes = R.remaining s.reader.now; has_failed = s.has_failed } };
+    ghost stream = { λ s. record { bytes = R.remaining s.reader.now; failures = s.failures } };
 
     fn take(&mut self, buffer: &mut [u8]) -> io::Result<usize> {
         let result = self.reader.read(buffer);
         if result.is_err() {
-            self.has_failed = true;
+            self.failures = self.failures.wrapping_add(1);
         }
         result
     }
 }
 
 /// Reads to the end, to the first fault, or to the first byte beyond the limit, by at most
-/// `INPUT_LIMIT` + 1 calls of `take`. A fault is told exactly where a call answered one; a call that
-/// answers `Interrupted` is a fault like any other and is not made again.
+/// `INPUT_LIMIT` + 1 calls of `take`. A fault is told exactly where one of these calls answered it, whatever
+/// failed before; a call that answers `Interrupted` is a fault like any other and is not made again.
 pub fn read_input<S: Source>(alloc: Global, source: &mut S) -> Result<Vec<u8>, ReadError>
     ensures input { IfSome (S.stream source.old).bytes (λ input. IsReadOr input result) }
     ensures limit { IfOk result (λ input. length input.items ≤ input_limit) }

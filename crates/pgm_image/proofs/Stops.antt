@@ -1,9 +1,9 @@
 -- Where a later piece of a text was cut short.
-use Rattle.std.proofs.Common.{◌≡◌, ℕ, suc, ◌+◌, ◌-◌, List, [], ◌∷◌, ◌++◌, length, take, sym, ap, ◌∙◌, arith, length-append, subst}
+use Rattle.std.proofs.Common.{◌≡◌, ℕ, true, suc, ◌+◌, ◌-◌, List, [], ◌∷◌, ◌++◌, length, take, sym, ap, ◌∙◌, arith, length-append, subst}
 use Rattle.std.proofs.lemmas.List.{take-append-le}
 use Rattle.std.specs.Io.KnownBytes.{Appends}
 use Rattle.std.proofs.KnownBytes.{Appends-trans}
-use Rattle.byte_streams.specs.Streams.{Stops, Stream, Takes}
+use Rattle.byte_streams.specs.Streams.{Stops, Stream, Takes, failures_after}
 
 take_over : (xs ys : List ℕ) (k n : ℕ) → n ≡ length xs + k → take n (xs ++ ys) ≡ xs ++ take k ys
 take_over [] ys k n e = let f : n ≡ k = omega arith in ap (λ j. take j ys) f
@@ -26,5 +26,5 @@ stops_later a b c front part rest text taken count first at stops whole =
     ∙ ap (λ ys. front ++ ys) (take-append-le count part rest (omega arith)) in (
       omega arith,
       subst (λ ys. Appends a.bytes c.bytes ys) (sym cut) (Appends-trans a.bytes b.bytes c.bytes front (take count part) first.0 stops.1),
-      stops.2,
+      stops.2 ∙ ap (failures_after true) first.1,
     )

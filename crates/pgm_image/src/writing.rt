@@ -103,10 +103,10 @@ fn put_raster<S: Sink>(sink: &mut S, maxval: u32, samples: &[u16]) -> Result<(),
     Ok(())
 }
 
-/// Puts the image as `P5` into a sink that tells whether it failed. Takes no memory.
+/// Puts the image as `P5` into a sink that counts the calls that failed. Takes no memory.
 ///
-/// `WriteFailed` comes only where a call of the sink failed. The sink then took exactly the told
-/// count of bytes, the first ones of the written form.
+/// `WriteFailed` comes only where a call of the sink failed in this writing, whatever failed before. The sink
+/// then took exactly the told count of bytes, the first ones of the written form.
 pub fn put_image<S: Sink>(image: &Image, sink: &mut S) -> Result<(), WriteError>
     ensures takes { OnOk result (Takes (S.stream sink.old) (S.stream sink.new) (written image.now)) }
     ensures stops { IfErr result (StopsAsTold (S.stream sink.old) (S.stream sink.new) (written image.now)) }
@@ -126,9 +126,9 @@ pub fn put_image<S: Sink>(image: &Image, sink: &mut S) -> Result<(), WriteError>
 
 /// Writes the image as `P5` to a writer of std that is watched. Takes no memory.
 ///
-/// `WriteFailed` comes only where a call of the writer answered a fault, or took no byte of a piece that was not
-/// empty. The writer then took exactly the told count of bytes, the first ones of the written form, which are
-/// fewer than all.
+/// `WriteFailed` comes only where a call of the writer answered a fault in this writing, or took no byte of a piece
+/// that was not empty; what failed before is not told again. The writer then took exactly the told count of bytes,
+/// the first ones of the written form, which are fewer than all.
 pub fn write_image<'a, W: Write>(image: &Image, sink: &mut Watched<'a, W>) -> Result<(), WriteError>
     ensures takes { OnOk result (Takes (⟦<Watched<'a, W> as Sink>⟧.stream sink.old)
         (⟦<Watched<'a, W> as Sink>⟧.stream sink.new) (written image.now)) }

@@ -6,4 +6,4 @@ abbrev pub invariant-loop : goal.invariant-loop
 invariant-loop g l =
     (l.counter ≤ length l.input.items) × (length l.input.items ≤ 268435456)
     × Consumes (g.S.Source.stream l.initial.source).bytes (g.S.Source.stream l.source).bytes l.input.items
-    × ((g.S.Source.stream l.source).has_failed ≡ (g.S.Source.stream l.initial.source).has_failed)
+    × ((g.S.Source.stream l.source).failures ≡ (g.S.Source.stream l.initial.source).failures)
