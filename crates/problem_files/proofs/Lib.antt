@@ -7,5 +7,7 @@ pub mod Listed
 pub mod PairLemmas
 pub mod SmoothLemmas
 pub mod StartLemmas
+pub mod StatedLabelLemmas
 pub mod StatedLemmas
+pub mod StatedListLemmas
 pub mod TermLemmas

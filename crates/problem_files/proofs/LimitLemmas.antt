@@ -22,15 +22,15 @@ use Rattle.run_options.specs.Shapes.{shape_table}
 use Rattle.run_options.specs.declared.shape.Shape.{Shape}
 use Rattle.run_options.specs.declared.shape.Shape.TheVariants.{Potts}
 
-unless_ok : {A : Type 0} (o : Option ℕ) (fault : ℕ → LabelFault) (r : Result A LabelFault) (x : A) → unless o fault r ≡ Ok x → (o ≡ None) × (r ≡ Ok x)
+pub unless_ok : {A : Type 0} (o : Option ℕ) (fault : ℕ → LabelFault) (r : Result A LabelFault) (x : A) → unless o fault r ≡ Ok x → (o ≡ None) × (r ≡ Ok x)
 unless_ok None fault r x e = (refl, e)
 unless_ok (Some i) fault r x e = absurd (let never = e in cc)
 
-if_ok : {A : Type 0} (b : Bool) (r : Result A LabelFault) (f : LabelFault) (x : A) → (if b then r else Err f) ≡ Ok x → (b ≡ true) × (r ≡ Ok x)
+pub if_ok : {A : Type 0} (b : Bool) (r : Result A LabelFault) (f : LabelFault) (x : A) → (if b then r else Err f) ≡ Ok x → (b ≡ true) × (r ≡ Ok x)
 if_ok true r f x e = (refl, e)
 if_ok false r f x e = absurd (let never = e in cc)
 
-then_ok : {A B : Type 0} (r : Result A LabelFault) (next : A → Result B LabelFault) (y : B) → and_then r next ≡ Ok y → (x : A) × (r ≡ Ok x) × (next x ≡ Ok y)
+pub then_ok : {A B : Type 0} (r : Result A LabelFault) (next : A → Result B LabelFault) (y : B) → and_then r next ≡ Ok y → (x : A) × (r ≡ Ok x) × (next x ≡ Ok y)
 then_ok (Ok x) next y e = (x, refl, e)
 then_ok (Err f) next y e = absurd (let never = e in cc)
 

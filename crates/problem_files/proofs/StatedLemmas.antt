@@ -1,5 +1,5 @@
 -- An energy that a table names is one that it states.
-use Rattle.std.proofs.Common.{◌≡◌, ℕ, ◌+◌, Bool, true, false, not, ◌&&◌, nat_le, List, [], ◌∷◌, ℤ, pos, negsuc, unsigned_abs, Result, Ok, Err, Option, Some, None, option_and_then, option_map, codes, refl, ap, if◌then◌else◌}
+use Rattle.std.proofs.Common.{◌≡◌, ℕ, ◌+◌, Bool, true, false, not, ◌&&◌, nat_le, List, [], ◌∷◌, ℤ, pos, negsuc, unsigned_abs, Result, Ok, Err, IfOk, Option, Some, None, option_and_then, option_map, codes, refl, ap, if◌then◌else◌}
 use Rattle.std.specs.List.{list_all}
 use Rattle.std.proofs.lemmas.Bool.{and_parts}
 use Rattle.toml.specs.Data.{Data, integer, array, Items, no_items, item, Members, as_array, as_integer, get, get_member}
@@ -10,6 +10,8 @@ use Rattle.pseudo_bool.specs.Energies.{Energy}
 use Rattle.problem_files.specs.declared.energy_fault.EnergyFault.{EnergyFault}
 use Rattle.problem_files.specs.declared.energy_fault.EnergyFault.TheVariants.{NoSuchVariable, SameVariable, ValueRange}
 use Rattle.problem_files.specs.Problem.{and_then, checked, constant_at, constant_in, integers_at, integers_of, is_distinct, is_value, is_variable, item_count, names, term_at, term_from, term_of, terms_at, terms_from, terms_in, variables_from, variables_in}
+use Rattle.toml.specs.Parse.{parse_document}
+use Rattle.problem_files.specs.Text.{TextStates, energy_in, named_by}
 use Rattle.problem_files.specs.Stated.{States, StatesConstant, StatesList, StatesTerm, StatesTerms, integers}
 
 -- a step that has no fault
@@ -31,7 +33,7 @@ one_more : (z : ℤ) (ds : Items) (o : Option (List ℤ)) (zs : List ℤ) → ((
 one_more z ds None zs h e = absurd (let no = e in cc)
 one_more z ds (Some ys) zs h e = let is : zs ≡ z ∷ ys = cc in rw is (ap (item (integer z)) (h ys refl))
 
-integers_back : (ds : Items) (zs : List ℤ) → integers_of ds ≡ Some zs → ds ≡ integers zs
+pub integers_back : (ds : Items) (zs : List ℤ) → integers_of ds ≡ Some zs → ds ≡ integers zs
 integers_back no_items zs e = let is : zs ≡ [] = cc in rw is refl
 integers_back (item (integer z) ds) zs e = one_more z ds (integers_of ds) zs (integers_back ds) e
 integers_back (item _ ds) zs e = absurd (let no = e in cc)
@@ -173,3 +175,12 @@ stated ms e named =
       constant = constant_back (get_member (codes "constant") ms) second.value second.is;
       terms = list_back first.value (get_member (codes "terms") ms) third.value third.is;
     })
+
+of_document : (o : Option Members) (e : Energy) → named_by o ≡ Ok e → (ms : Members) × (o ≡ Some ms) × States ms e
+of_document None e named = absurd (let no = named in cc)
+of_document (Some ms) e named = (ms, refl, stated ms e named)
+
+-- and so is one that a text names
+pub all_texts : (bytes : List ℕ) (r : Result Energy EnergyFault) → IfOk r (λ e. energy_in bytes ≡ Ok e) → IfOk r (TextStates bytes)
+all_texts bytes (Ok e) named = of_document (parse_document bytes) e named
+all_texts bytes (Err fault) named = tt

@@ -15,5 +15,6 @@ pub mod SmoothFields
 pub mod Smooths
 pub mod StartFields
 pub mod Stated
+pub mod StatedLabels
 pub mod Text
 pub mod Within

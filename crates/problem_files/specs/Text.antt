@@ -6,6 +6,7 @@ use Rattle.pseudo_bool.specs.Energies.{Energy}
 use Rattle.problem_files.specs.declared.energy_fault.EnergyFault.{EnergyFault}
 use Rattle.problem_files.specs.declared.energy_fault.EnergyFault.TheVariants.{BadToml, OutOfMemory}
 use Rattle.problem_files.specs.Problem.{names}
+use Rattle.problem_files.specs.Stated.{States}
 
 abbrev pub named_by : Option Members → Result Energy EnergyFault
 named_by None = Err BadToml
@@ -18,6 +19,10 @@ energy_in bytes = named_by (parse_document bytes)
 -- the bytes are a text, and name this energy
 abbrev pub NamesEnergy : List ℕ → Energy → Type 0
 NamesEnergy bytes energy = IsUtf8 bytes × (energy_in bytes ≡ Ok energy)
+
+-- the bytes are a TOML text, whose table states the energy
+abbrev pub TextStates : List ℕ → Energy → Type 0
+TextStates bytes energy = (ms : Members) × (parse_document bytes ≡ Some ms) × States ms energy
 
 -- The bytes have this fault: they are no TOML text, or a text with this first fault. Memory may always be
 -- refused.

@@ -7,7 +7,7 @@ ghost use Rattle.problem_files.specs.declared.energy_fault.EnergyFault.TheVarian
 ghost use Rattle.problem_files.specs.Added.{GainsAll, IsFirstOf};
 ghost use Rattle.problem_files.specs.Problem.{names, terms_from, terms_in};
 ghost use Rattle.problem_files.specs.Stated.{States};
-ghost use Rattle.problem_files.specs.Text.{HasFault, NamesEnergy};
+ghost use Rattle.problem_files.specs.Text.{HasFault, NamesEnergy, TextStates};
 
 use crate::fields::{constant_of, member, variables_of};
 use crate::table::read_table;
@@ -20,6 +20,7 @@ use toml::{Table, Value};
 /// The energy that the bytes of a TOML text name, or its first fault.
 pub fn read_energy(alloc: Global, bytes: &[u8]) -> Result<Energy, EnergyFault>
     ensures ok { IfOk result (NamesEnergy bytes.now) }
+    ensures stated { IfOk result (TextStates bytes.now) }
     ensures refused { IfErr result (HasFault bytes.now) }
 {
     let table = read_table(alloc, bytes)?;

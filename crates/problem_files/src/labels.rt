@@ -4,6 +4,7 @@ ghost use Rattle.label_field.specs.LabelFields.{AreSizes};
 ghost use Rattle.problem_files.specs.declared.label_fault.LabelFault.TheVariants.{BadToml, OutOfMemory};
 ghost use Rattle.problem_files.specs.Limits.{AreCosts, IsInLimits};
 ghost use Rattle.problem_files.specs.Names.{names, names_rest, problem_in, told};
+ghost use Rattle.problem_files.specs.StatedLabels.{StatesProblem, TextStatesProblem};
 
 use crate::costs::{data_in, label_costs_in};
 use crate::move_names::moves_in;
@@ -21,6 +22,7 @@ use toml::Table;
 /// The problem of labels that the bytes of a TOML text name, or its first fault.
 pub fn read_label(alloc: Global, bytes: &[u8]) -> Result<LabelProblem, LabelFault>
     ensures ok { IfOk result (λ problem. IsUtf8 bytes.now × (problem_in bytes.now ≡ Ok (told problem))) }
+    ensures stated { IfOk result (λ problem. TextStatesProblem bytes.now (told problem)) }
     ensures limits { IfOk result (λ problem. IsInLimits (told problem)) }
     ensures refused { IfErr result (λ fault. fault ≢ OutOfMemory →
         IsUtf8 bytes.now → problem_in bytes.now ≡ Err fault) }
@@ -38,6 +40,7 @@ pub fn read_label(alloc: Global, bytes: &[u8]) -> Result<LabelProblem, LabelFaul
 /// `labels`, `data`, `smooth`, `trunc`, `pairs`, `start`, `moves`, `cycles`, `label_costs`; other fields are ignored.
 pub fn problem_of(alloc: Global, table: &Table) -> Result<LabelProblem, LabelFault>
     ensures ok { IfOk result (λ problem. names (table_view table.now) ≡ Ok (told problem)) }
+    ensures stated { IfOk result (λ problem. StatesProblem (table_view table.now) (told problem)) }
     ensures limits { IfOk result (λ problem. IsInLimits (told problem)) }
     ensures refused { IfErr result (λ fault. fault ≢ OutOfMemory → names (table_view table.now) ≡ Err fault) }
 {

@@ -1,7 +1,9 @@
-use Rattle.std.proofs.Common.{◌*◌, arith}
+use Rattle.std.proofs.Common.{◌≡◌, ◌*◌, IfOk, Ok, arith, rules}
 use Rattle.toml.specs.View.{table_view}
 use Rattle.problem_files.specs.Smooths.{table_by}
 use Rattle.problem_files.proofs.LimitLemmas.{data_kept, smooth_kept}
+use Rattle.problem_files.specs.Names.{names, told}
+use Rattle.problem_files.proofs.StatedLabelLemmas.{all_stated}
 use Rattle.problem_files.proofs.labels.problem_of.Goals as goal
 
 pub rest_of-requires-clause-sizes : goal.rest_of-requires-clause-sizes
@@ -18,3 +20,8 @@ rest_of-requires-clause-costs c =
       smooth_count = rw c.in-Ok.ensures table.0;
       smooth_most = rw c.in-Ok.ensures table.1;
     }
+
+pub returns-clause-stated : goal.returns-clause-stated
+returns-clause-stated c =
+    let named : IfOk c.rest_of.result (λ p. names (table_view c.args.table.now) ≡ Ok (told p)) = search rules in
+    all_stated (table_view c.args.table.now) c.rest_of.result named
