@@ -1,5 +1,6 @@
 -- How the refusal of a command becomes that of a run, and a run's end the run.
-use Rattle.std.proofs.Common.{◌≡◌, ◌||◌, ℕ, Bool, false, List, Option, inl, inr, Result, Ok, Err, IfOk, IfErr, MatchResult, refl, sym, ap, subst, arith}
+use Rattle.std.proofs.Common.{◌≡◌, ℕ, Bool, false, List, Option, inl, inr, Result, Ok, Err, IfOk, IfErr, MatchResult, refl, sym, ap, subst, arith}
+use Rattle.std.specs.Prelude.{string_bytes}
 use Rattle.std.specs.Result.{IsErrAnd}
 use Rattle.moves.specs.declared.error.SolveError.{SolveError}
 use Rattle.command_line.specs.Task.{Asks, AsksForHelp, HasText, IsNoTaskFor}
@@ -13,7 +14,7 @@ use Rattle.gco_cli.proofs.FaultKinds.{task_own}
 use Rattle.gco_cli.specs.Commands.{IsDueFor, IsFaultFor, StandsForAsked, cuts_refuse}
 use Rattle.gco_cli.specs.Refusals.{IsHelp, IsRefusalFor, IsRefusalOf, SaysRefusal, ShowsHelp, status_of}
 use Rattle.gco_cli.specs.Run.{IsCut, IsCutIn, IsDue, IsRun, Leaves, Refuses, Streams, Writes, is_failed_read, is_bad_option}
-use Rattle.byte_streams.specs.Streams.{Stream, Took}
+use Rattle.byte_streams.specs.Streams.{Stream, Took, failures_after}
 use Rattle.gco_cli.specs.declared.refusal.Refusal.{Refusal}
 use Rattle.gco_cli.specs.declared.refusal.Refusal.TheVariants.{Fault as Faulty, Words}
 
@@ -28,7 +29,7 @@ cut_weaker : (Due Due' : List ℕ → List ℕ → Type 0) (old new : Stream) (f
 cut_weaker Due Due' old new fault due k = (k.0, k.1, due k.0 k.1 k.2, k.3)
 
 leaves : (old new : Stream) (fault : Fault) → is_bad_option fault ≡ false
-    → new.has_failed ≡ (is_failed_read fault || old.has_failed) → Leaves old new fault
+    → new.failures ≡ failures_after (is_failed_read fault) old.failures → Leaves old new fault
 leaves old new fault is failed = record { failed = failed; unread = λ is_too. cc }
 
 -- the refusal of a command is for no option
@@ -40,7 +41,7 @@ not_asked request source old new fault (inr stops) = ap is_bad_option stops.3.1
 -- a refusal of a command that was asked for is one of the run
 pub of_command : (words : List (List ℕ)) (request : Request) (source source_new old new : Stream) (fault : Fault) → Asks words request
     → Refuses (IsDueFor request.task source) (StandsForAsked request source) old new fault
-    → source_new.has_failed ≡ (is_failed_read fault || source.has_failed)
+    → source_new.failures ≡ failures_after (is_failed_read fault) source.failures
     → IsRefusalFor words source source_new old new (Faulty fault)
 of_command words request source source_new old new fault asks refuses read = (
   elim refuses [
@@ -55,10 +56,10 @@ unread : (source : Stream) (fault : Fault) → is_failed_read fault ≡ false �
 unread source fault is = record { failed = rw is refl; unread = λ is_too. refl }
 
 -- help that was cut is a refusal of a run that was asked for help
-of_help : (words : List (List ℕ)) (source old new : Stream) (fault : Fault) → AsksForHelp words
-    → IsCut IsHelp old new fault → IsRefusalFor words source source old new (Faulty fault)
-of_help words source old new fault asks stops = (
-  inr (cut_weaker IsHelp (IsDue words source) old new fault (λ text said is. inl (asks, is.0, is.1)) stops),
+of_help : (help : List ℕ) (words : List (List ℕ)) (source old new : Stream) (fault : Fault) → AsksForHelp words
+    → IsCut (IsHelp help) old new fault → IsRefusalFor words source source old new (Faulty fault)
+of_help help words source old new fault asks stops = (
+  inr (cut_weaker (IsHelp help) (IsDue words source) old new fault (λ text said is. inl (asks, is.1, is.2)) stops),
   unread source fault (rw stops.3.1 refl),
 )
 
@@ -67,7 +68,7 @@ refused : (words : List (List ℕ)) (no_task : NoTask) (source old new : Stream)
     → HasText no_task → IsRefusalOf no_task old new e → IsRefusalFor words source source old new e
 refused words OutOfMemory source old new e is has of =
     rw of.0 (inl (inl refl, refl, of.1), unread source fault.OutOfMemory refl)
-refused words (Help text) source old new (Faulty fault) is has of = of_help words source old new fault is of
+refused words (Help text) source old new (Faulty fault) is has of = of_help (string_bytes text) words source old new fault is of
 refused words (Help text) source old new (Words said) is has of = absurd of
 refused words (Refused text) source old new e is has of = rw of.0 (is, refl, of.1, has)
 refused words (BadOption option) source old new e is has of =
@@ -81,8 +82,8 @@ all_refused words no_task source old new (Err e) is has of = refused words no_ta
 -- words without a task: what was shown is what was due
 pub all_shown : {T : Type 0} (bytes : T → List ℕ) (words : List (List ℕ)) (no_task : NoTask) (source old new : Stream)
     (r : Result T Refusal) → IsNoTaskFor words no_task → IfOk r (λ said. ShowsHelp no_task old new (bytes said))
-    → IfOk r (λ said. Writes (IsDue words source) old new (bytes said) × (source.has_failed ≡ source.has_failed))
-all_shown bytes words (Help text) source old new (Ok said) is shows = ((shows.0, inl (is, shows.1.0, shows.1.1), shows.2), refl)
+    → IfOk r (λ said. Writes (IsDue words source) old new (bytes said) × (source.failures ≡ source.failures))
+all_shown bytes words (Help text) source old new (Ok said) is shows = ((shows.0, inl (is, shows.1.1, shows.1.2), shows.2), refl)
 all_shown bytes words OutOfMemory source old new (Ok said) is shows = absurd shows
 all_shown bytes words (Refused text) source old new (Ok said) is shows = absurd shows
 all_shown bytes words (BadOption option) source old new (Ok said) is shows = absurd shows
@@ -92,7 +93,7 @@ all_shown bytes words no_task source old new (Err e) is shows = tt
 pub run_of : {T : Type 0} (bytes : T → List ℕ) (words : List (List ℕ)) (old new : Streams) (end : Result T Refusal)
     → MatchResult end (λ said. Took old.faults new.faults (bytes said)) (SaysRefusal old.faults new.faults)
     → IfOk end (λ said. Writes (IsDue words old.source) old.sink new.sink (bytes said)
-    × (new.source.has_failed ≡ old.source.has_failed))
+    × (new.source.failures ≡ old.source.failures))
     → IfErr end (IsRefusalFor words old.source new.source old.sink new.sink)
     → IsRun words old new (status_of end)
 run_of bytes words old new (Ok said) told done refused = record {

@@ -5,15 +5,15 @@ use Rattle.pseudo_bool.specs.Energies.{Energy}
 use Rattle.moves.specs.declared.error.SolveError.{SolveError}
 use Rattle.regular.specs.Regularity.{IsFirstFailing, IsRegular}
 use Rattle.regular.specs.declared.fixed.NotRegular.{NotRegular}
-use Rattle.problem_files.specs.Text.{HasFault, NamesEnergy}
+use Rattle.problem_files.specs.Text.{HasFault, NamesEnergy, TextStates}
 use Rattle.gco_cli.specs.declared.fault.Fault.{Fault}
 use Rattle.gco_cli.specs.declared.fault.Fault.TheVariants.{OutOfMemory, TermNotRegular}
 use Rattle.gco_cli.specs.Answer.{AnswersEnergy}
 use Rattle.gco_cli.specs.Faults.{TellsError, cut_fault, energy_fault, read_fault}
 
--- the input is not too long, and names this energy
+-- the input is not too long, names this energy, and states it
 abbrev pub HoldsEnergy : List ℕ → Energy → Type 0
-HoldsEnergy input e = (length input ≤ input_limit) × NamesEnergy input e
+HoldsEnergy input e = (length input ≤ input_limit) × NamesEnergy input e × TextStates input e
 
 -- the text is the answer to the energy that the input names
 abbrev pub AnswersInput : List ℕ → List ℕ → Type 0

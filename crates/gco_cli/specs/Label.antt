@@ -3,6 +3,7 @@ use Rattle.std.specs.Prelude.{◌≡◌, ◌≤◌, ◌⊎◌, ◌+◌, ◌++◌
 use Rattle.std.specs.List.{flat_map}
 use Rattle.byte_streams.specs.Input.{IsReadRefusal, input_limit}
 use Rattle.problem_files.specs.Names.{Problem, problem_in}
+use Rattle.problem_files.specs.StatedLabels.{TextStatesProblem}
 use Rattle.problem_files.specs.declared.label_fault.LabelFault.{LabelFault}
 use Rattle.problem_files.specs.declared.label_fault.LabelFault.TheVariants as label
 use Rattle.moves.specs.Problems.{IsRunRefusal}
@@ -36,9 +37,10 @@ run_text tells asked run =
     energy_words tells (parts_of run) ++ codes "\nlabels" ++ numbers_text run.labelling.at ++ codes "\n"
     ++ bound_line asked run.bound
 
--- the input is not too long, and names this problem
+-- the input is not too long, names this problem, and states it
 abbrev pub HoldsProblem : List ℕ → Problem → Type 0
-HoldsProblem input p = (length input ≤ input_limit) × IsUtf8 input × (problem_in input ≡ Ok p)
+HoldsProblem input p =
+    (length input ≤ input_limit) × IsUtf8 input × (problem_in input ≡ Ok p) × TextStatesProblem input p
 
 -- the text tells where a run of the problem's moves from its start ends: the part of the labels where the problem has
 -- costs of labels, and the bound where it is asked for

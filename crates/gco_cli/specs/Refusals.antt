@@ -18,26 +18,26 @@ IsRefusalFor words source source_new sink sink_new (Fault fault) =
 IsRefusalFor words source source_new sink sink_new (Words text) =
     IsNoTaskFor words (Refused text) × (source_new ≡ source) × (sink_new ≡ sink) × (0 < length (string_bytes text))
 
--- help, which is not empty, and nothing is said beside it
-abbrev pub IsHelp : List ℕ → List ℕ → Type 0
-IsHelp text said = (0 < length text) × (said ≡ [])
+-- this help, which is not empty, and nothing is said beside it
+abbrev pub IsHelp : List ℕ → List ℕ → List ℕ → Type 0
+IsHelp help text said = (text ≡ help) × (0 < length text) × (said ≡ [])
 
--- help was asked for, and written
+-- help was asked for, and the text that the words were answered with was written
 abbrev pub ShowsHelp : NoTask → Stream → Stream → List ℕ → Type 0
-ShowsHelp (Help text) old new said = Writes IsHelp old new said
+ShowsHelp (Help text) old new said = Writes (IsHelp (string_bytes text)) old new said
 ShowsHelp OutOfMemory old new said = ⊥
 ShowsHelp (Refused text) old new said = ⊥
 ShowsHelp (BadOption option) old new said = ⊥
 
--- the sink failed within help
-abbrev pub IsCutHelp : Stream → Stream → Refusal → Type 0
-IsCutHelp old new (Fault fault) = IsCut IsHelp old new fault
-IsCutHelp old new (Words text) = ⊥
+-- the sink failed within this help
+abbrev pub IsCutHelp : List ℕ → Stream → Stream → Refusal → Type 0
+IsCutHelp help old new (Fault fault) = IsCut (IsHelp help) old new fault
+IsCutHelp help old new (Words text) = ⊥
 
 -- words without a task are refused for this: help was cut, or nothing was written
 abbrev pub IsRefusalOf : NoTask → Stream → Stream → Refusal → Type 0
 IsRefusalOf OutOfMemory old new refusal = (refusal ≡ Fault fault.OutOfMemory) × (new ≡ old)
-IsRefusalOf (Help text) old new refusal = IsCutHelp old new refusal
+IsRefusalOf (Help text) old new refusal = IsCutHelp (string_bytes text) old new refusal
 IsRefusalOf (Refused text) old new refusal = (refusal ≡ Words text) × (new ≡ old)
 IsRefusalOf (BadOption option) old new refusal = (refusal ≡ Fault (fault.BadOption option)) × (new ≡ old)
 

@@ -1,5 +1,5 @@
 -- What a run answers and leaves.
-use Rattle.std.specs.Prelude.{◌≡◌, ◌≢◌, ◌⊎◌, ◌<◌, ◌≤◌, ◌||◌, ℕ, Bool, true, false, List, [], length, Result, Ok, Err, String, string_bytes, codes}
+use Rattle.std.specs.Prelude.{◌≡◌, ◌≢◌, ◌⊎◌, ◌<◌, ◌≤◌, ℕ, Bool, true, false, List, [], length, Result, Ok, Err, String, string_bytes, codes}
 use Rattle.std.specs.declared.alloc.Global.{Global}
 use Rattle.std.specs.declared.io.ErrorKind.{ErrorKind}
 use Rattle.std.specs.declared.io.ErrorKind.TheVariants.{InvalidData}
@@ -12,7 +12,7 @@ use Rattle.gco_cli.specs.FaultLine.{fault_line}
 use Rattle.gco_cli.specs.declared.fault.Fault.{Fault}
 use Rattle.gco_cli.specs.declared.fault.Fault.TheVariants.{OutOfMemory, Write, BadOption, ReadFailed}
 use Rattle.gco_cli.specs.Commands.{IsDueFor, StandsForAsked}
-use Rattle.byte_streams.specs.Streams.{Stream, Stops, Takes, Took}
+use Rattle.byte_streams.specs.Streams.{Stream, Stops, Takes, Took, failures_after}
 
 -- what a run of these words writes, and says beside it: help that was asked for, which is not empty, or the answer
 -- of a command
@@ -27,7 +27,7 @@ IsFaultOf words source fault = (fault ≡ OutOfMemory)
     ⊎ (((option : OptionName) × NamesBadOption words option × (fault ≡ BadOption option))
     ⊎ ((request : Request) × Asks words request × StandsForAsked request source fault))
 
--- the fault says that a sink failed
+-- the fault says that a call of a sink failed
 abbrev pub is_write : Fault → Bool
 is_write (Write failed) = true
 is_write fault = false
@@ -58,15 +58,15 @@ IsCut Due old new fault = (text : List ℕ) × (said : List ℕ) × Due text sai
 abbrev pub Refuses : (List ℕ → List ℕ → Type 0) → (Fault → Type 0) → Stream → Stream → Fault → Type 0
 Refuses Due Is old new fault = (Is fault × (is_write fault ≡ false) × (new ≡ old)) ⊎ IsCut Due old new fault
 
--- the source failed on the way exactly where the answer says so
+-- a call of the source failed on the way, one, exactly where the answer says so
 abbrev pub TellsRead : {T : Type 0} → Stream → Stream → Result T Fault → Type 0
-TellsRead old new (Ok x) = new.has_failed ≡ old.has_failed
-TellsRead old new (Err fault) = new.has_failed ≡ (is_failed_read fault || old.has_failed)
+TellsRead old new (Ok x) = new.failures ≡ old.failures
+TellsRead old new (Err fault) = new.failures ≡ failures_after (is_failed_read fault) old.failures
 
--- a refused run has failed to read exactly where its fault says so, and read nothing where an option was
--- refused
+-- in a refused run a call of the source failed exactly where its fault says so, and nothing was read where an option
+-- was refused
 pub record Leaves (old new : Stream) (fault : Fault) : Type 0 where
-  pub failed : new.has_failed ≡ (is_failed_read fault || old.has_failed)
+  pub failed : new.failures ≡ failures_after (is_failed_read fault) old.failures
   pub unread : is_bad_option fault ≡ true → new ≡ old
 
 -- the streams of a run
@@ -83,7 +83,7 @@ pub record IsDone (words : List (List ℕ)) (old new : Streams) : Type 0 where
   pub said : List ℕ
   pub written : Writes (IsDue words old.source) old.sink new.sink said
   pub told : Took old.faults new.faults said
-  pub read : new.source.has_failed ≡ old.source.has_failed
+  pub read : new.source.failures ≡ old.source.failures
 
 -- status 1: the run was refused, and the line of its fault said
 pub record IsRefused (words : List (List ℕ)) (old new : Streams) : Type 0 where

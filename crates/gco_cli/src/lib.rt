@@ -20,5 +20,5 @@ mod written;
 pub use fault::Fault;
 pub use fault_line::{LINE_LIMIT, Line, line_of};
 pub use program::run_program;
-pub use runs::{run_streams, run_words};
+pub use runs::{run_gated, run_streams, run_words};
 pub use unread::refuse_unread;

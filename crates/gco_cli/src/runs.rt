@@ -48,10 +48,11 @@ pub fn run_words<
     }
 }
 
-/// One whole run of these words over a source, a sink and a sink for faults, which remember their failures. The
+/// One whole run of these words over a source, a sink and a sink for faults, which count their failures. The
 /// first word is the program's name. Answers the exit status: 0 where the due text was written, 1 where the run was
-/// refused and its line said, 2 where the words were refused. A failed read is told exactly where the source failed,
-/// a write stops only where the sink failed, and what is said is whole where its sink did not fail.
+/// refused and its line said, 2 where the words were refused. A failed read is told exactly where a call of the
+/// source failed in this run, a write stops only where a call of the sink did, and what is said is whole where none
+/// of its sink failed.
 pub fn run_streams<A: AllocGlobal + Threads + Wait + Sync, S: AsStr, R: Source, W: Sink, E: Sink>(
     rt: &A,
     words: &[S],
@@ -64,7 +65,27 @@ pub fn run_streams<A: AllocGlobal + Threads + Wait + Sync, S: AsStr, R: Source, 
         (streams (R.stream source.new) (W.stream sink.new) (E.stream faults.new)) result }
     ensures kept { (W.loan sink.new ≡ W.loan sink.old) × (E.loan faults.new ≡ E.loan faults.old) }
 {
-    let end = perform(rt, rt.alloc(), words, source, sink);
+    let open = Open;
+    let gate: &(dyn Gate + Sync) = &open;
+    run_gated(rt, words, gate, source, sink, faults)
+}
+
+/// The same run, in which a gate lets each turn of a worker pass or not. A run of words that ask for no workers does
+/// not ask it.
+pub fn run_gated<A: AllocGlobal + Threads + Wait + Sync, S: AsStr, R: Source, W: Sink, E: Sink>(
+    rt: &A,
+    words: &[S],
+    gate: &(dyn Gate + Sync),
+    source: &mut R,
+    sink: &mut W,
+    faults: &mut E,
+) -> u8
+    ensures run { IsRun (map S.text words.now)
+        (streams (R.stream source.old) (W.stream sink.old) (E.stream faults.old))
+        (streams (R.stream source.new) (W.stream sink.new) (E.stream faults.new)) result }
+    ensures kept { (W.loan sink.new ≡ W.loan sink.old) × (E.loan faults.new ≡ E.loan faults.old) }
+{
+    let end = perform(rt, rt.alloc(), words, gate, source, sink);
     say_end(faults, end)
 }
 
@@ -73,18 +94,19 @@ fn perform<A: Threads + Wait + Sync, S: AsStr, R: Source, W: Sink>(
     rt: &A,
     alloc: Global,
     words: &[S],
+    gate: &(dyn Gate + Sync),
     source: &mut R,
     sink: &mut W,
 ) -> Result<Line, Refusal>
     ensures done { IfOk result (λ said. Writes (IsDue (map S.text words.now) (R.stream source.old))
         (W.stream sink.old) (W.stream sink.new) said.bytes
-        × ((R.stream source.new).has_failed ≡ (R.stream source.old).has_failed)) }
+        × ((R.stream source.new).failures ≡ (R.stream source.old).failures)) }
     ensures refused { IfErr result (IsRefusalFor (map S.text words.now)
         (R.stream source.old) (R.stream source.new) (W.stream sink.old) (W.stream sink.new)) }
     ensures kept { W.loan sink.new ≡ W.loan sink.old }
 {
     match parse(alloc, words) {
-        Ok(request) => Ok(answer_request(rt, alloc, request, source, sink)?),
+        Ok(request) => Ok(answer_request(rt, alloc, request, gate, source, sink)?),
         Err(no_task) => end_without_task(no_task, sink),
     }
 }
@@ -94,6 +116,7 @@ fn answer_request<A: Threads + Wait + Sync, R: Source, W: Sink>(
     rt: &A,
     alloc: Global,
     request: Request,
+    gate: &(dyn Gate + Sync),
     source: &mut R,
     sink: &mut W,
 ) -> Result<Line, Fault>
@@ -107,16 +130,17 @@ fn answer_request<A: Threads + Wait + Sync, R: Source, W: Sink>(
 {
     match request.workers {
         None => run_task(alloc, request.task, &Alone, source, sink),
-        Some(options) => run_by_workers(rt, alloc, request.task, options, source, sink),
+        Some(options) => run_by_workers(rt, alloc, request.task, options, gate, source, sink),
     }
 }
 
-// One command over its input, its cuts by workers whose gate lets each turn pass.
+// One command over its input, its cuts by workers with this gate.
 fn run_by_workers<A: Threads + Wait + Sync, R: Source, W: Sink>(
     rt: &A,
     alloc: Global,
     task: Task,
     options: Options,
+    gate: &(dyn Gate + Sync),
     source: &mut R,
     sink: &mut W,
 ) -> Result<Line, Fault>
@@ -128,8 +152,6 @@ fn run_by_workers<A: Threads + Wait + Sync, R: Source, W: Sink>(
     ensures read { TellsRead (R.stream source.old) (R.stream source.new) result }
     ensures kept { W.loan sink.new ≡ W.loan sink.old }
 {
-    let open = Open;
-    let gate: &(dyn Gate + Sync) = &open;
     let how = Workers {
         rt,
         options,

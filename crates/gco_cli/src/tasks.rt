@@ -65,8 +65,8 @@ pub fn end_without_task<W: Sink>(no_task: NoTask, sink: &mut W) -> Result<Line, 
 // Writes help, which is not empty. Nothing is said beside it.
 fn show_help<W: Sink>(sink: &mut W, text: &str) -> Result<Line, Refusal>
     requires { 0 < length text.now }
-    ensures done { IfOk result (λ said. Writes IsHelp (W.stream sink.old) (W.stream sink.new) said.bytes) }
-    ensures cut { IfErr result (IsCutHelp (W.stream sink.old) (W.stream sink.new)) }
+    ensures done { IfOk result (λ said. Writes (IsHelp text.now) (W.stream sink.old) (W.stream sink.new) said.bytes) }
+    ensures cut { IfErr result (IsCutHelp text.now (W.stream sink.old) (W.stream sink.new)) }
     ensures kept { W.loan sink.new ≡ W.loan sink.old }
 {
     match write_text(sink, text.as_bytes(), Line::new()) {

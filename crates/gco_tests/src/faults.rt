@@ -248,24 +248,15 @@ fn is_remembered(rt: &(impl AllocGlobal + Threads + Wait + Sync), row: &Remember
     let mut reader = SlowReader::new(FILE, 5, *is_broken);
     let mut writer = CutWriter::new(*room, 5);
     let mut faults = CutWriter::ample();
-    let mut source = WatchedReader {
-        reader: &mut reader,
-        has_failed: false,
-    };
-    let mut sink = Watched {
-        writer: &mut writer,
-        has_failed: false,
-    };
-    let mut fault_sink = Watched {
-        writer: &mut faults,
-        has_failed: false,
-    };
+    let mut source = WatchedReader::new(&mut reader);
+    let mut sink = Watched::new(&mut writer);
+    let mut fault_sink = Watched::new(&mut faults);
     let words = ["gco", "energy"];
     let ended = run_streams(rt, &words, &mut source, &mut sink, &mut fault_sink);
     ended == *status
-        && source.has_failed == *is_broken
-        && sink.has_failed == (*room < 24)
-        && !fault_sink.has_failed
+        && source.failures() == u64::from(*is_broken)
+        && sink.failures() == u64::from(*room < 24)
+        && fault_sink.failures() == 0
         && writer.held.as_slice() == *written
 }
 

@@ -8,6 +8,8 @@ mod energies;
 #[cfg(test)]
 mod faults;
 #[cfg(test)]
+mod gates;
+#[cfg(test)]
 mod images;
 #[cfg(test)]
 mod label_files;

@@ -103,18 +103,9 @@ pub fn run(
     writer: &mut CutWriter,
     faults: &mut CutWriter,
 ) -> u8 {
-    let mut source = WatchedReader {
-        reader,
-        has_failed: false,
-    };
-    let mut sink = Watched {
-        writer,
-        has_failed: false,
-    };
-    let mut fault_sink = Watched {
-        writer: faults,
-        has_failed: false,
-    };
+    let mut source = WatchedReader::new(reader);
+    let mut sink = Watched::new(writer);
+    let mut fault_sink = Watched::new(faults);
     run_streams(rt, words, &mut source, &mut sink, &mut fault_sink)
 }
 

@@ -11,6 +11,7 @@ use std::sync::Wait;
 use std::thread::Threads;
 
 mod helps;
+mod options;
 
 /// Words, the exit status, and how the text begins.
 type Row = (&'static [&'static str], u8, &'static str);
@@ -146,10 +147,7 @@ fn words(rt: HostRuntime) {
 #[test]
 fn words_that_were_not_read(rt: HostRuntime) {
     let mut writer = CutWriter::ample();
-    let mut faults = Watched {
-        writer: &mut writer,
-        has_failed: false,
-    };
+    let mut faults = Watched::new(&mut writer);
     assert!(rt; refuse_unread(ErrorKind::OutOfMemory, &mut faults) == 1);
     assert!(rt; refuse_unread(ErrorKind::InvalidData, &mut faults) == 2);
     let said = b"refused 0\nerror: an argument is not text\n";

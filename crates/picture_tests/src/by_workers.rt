@@ -99,10 +99,7 @@ pub fn is_kept<R: Threads + Wait + Sync + Abort>(
     let mut writer = Kept {
         bytes: Vec::new(alloc),
     };
-    let mut sink = Watched {
-        writer: &mut writer,
-        has_failed: false,
-    };
+    let mut sink = Watched::new(&mut writer);
     assert!(*rt; RESTORE.fits());
     let report = run_restore(alloc, picture, &RESTORE, &how, &mut sink);
     report

@@ -104,12 +104,9 @@ fn refused(rt: HostRuntime) {
             step: 9999,
             faults: true,
         };
-        let mut sink = Watched {
-            writer: &mut writer,
-            has_failed: false,
-        };
+        let mut sink = Watched::new(&mut writer);
         let refused = run(&rt, rt.alloc(), task, input, &mut sink).err();
-        assert!(rt; refused == Some(*wanted) && !sink.has_failed);
+        assert!(rt; refused == Some(*wanted) && sink.failures() == 0);
         assert!(rt; writer.held.is_empty());
     }
 }

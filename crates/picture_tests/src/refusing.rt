@@ -151,13 +151,10 @@ fn written(
     let mut writer = Kept {
         bytes: Vec::new(alloc),
     };
-    let mut sink = Watched {
-        writer: &mut writer,
-        has_failed: false,
-    };
+    let mut sink = Watched::new(&mut writer);
     assert!(*rt; RESTORE.fits());
     let report = run_restore(alloc, ROW, &RESTORE, &how, &mut sink);
-    assert!(*rt; !sink.has_failed);
+    assert!(*rt; sink.failures() == 0);
     let Kept { bytes } = writer;
     (report, bytes)
 }

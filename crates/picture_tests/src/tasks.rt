@@ -100,11 +100,8 @@ pub fn expect(
         step: 9999,
         faults: true,
     };
-    let mut sink = Watched {
-        writer: &mut writer,
-        has_failed: false,
-    };
+    let mut sink = Watched::new(&mut writer);
     let report = run(rt, alloc, task, input, &mut sink);
-    assert!(*rt; !sink.has_failed);
+    assert!(*rt; sink.failures() == 0);
     assert!(*rt; report == Ok(wanted) && writer.held.as_slice() == written);
 }

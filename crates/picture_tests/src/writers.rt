@@ -38,13 +38,10 @@ fn writers_stop(rt: HostRuntime) {
                     step: *step,
                     faults: *faults,
                 };
-                let mut sink = Watched {
-                    writer: &mut writer,
-                    has_failed: false,
-                };
+                let mut sink = Watched::new(&mut writer);
                 let stopped = run(&rt, rt.alloc(), task, input, &mut sink).err();
                 let wanted = VisionError::Write(WriteFailed { count });
-                assert!(rt; stopped == Some(wanted) && sink.has_failed, "{count}");
+                assert!(rt; stopped == Some(wanted) && sink.failures() == 1, "{count}");
                 assert!(rt; writer.held.as_slice() == &written[..count], "{count}");
             }
         }

@@ -43,10 +43,7 @@ fn is_stopped(
         step,
         faults,
     };
-    let mut sink = Watched {
-        writer: &mut writer,
-        has_failed: false,
-    };
+    let mut sink = Watched::new(&mut writer);
     let said = write_image(image, &mut sink);
     let count = if step == 0 { 0 } else { room.min(whole.len()) };
     let wanted = if count < whole.len() {
@@ -55,7 +52,9 @@ fn is_stopped(
         Ok(())
     };
     let has_failed = count < whole.len();
-    said == wanted && sink.has_failed == has_failed && writer.held.as_slice() == &whole[..count]
+    said == wanted
+        && sink.failures() == u64::from(has_failed)
+        && writer.held.as_slice() == &whole[..count]
 }
 
 /// Writes the image to writers that stop at this byte of its written form.
@@ -113,12 +112,9 @@ fn whole_of(alloc: Global, even: &Even) -> Result<Vec<u8>, AllocError> {
 /// Whether all bytes come to a writer that takes them.
 fn is_put(alloc: Global, image: &Image, whole: &[u8]) -> bool {
     let mut held: Vec<u8> = Vec::new(alloc);
-    let mut sink = Watched {
-        writer: &mut held,
-        has_failed: false,
-    };
+    let mut sink = Watched::new(&mut held);
     let is_done = put_image(image, &mut sink) == Ok(());
-    is_done && !sink.has_failed && held.as_slice() == whole
+    is_done && sink.failures() == 0 && held.as_slice() == whole
 }
 
 /// Writes an image to each writer, and takes its samples out again.

@@ -225,14 +225,11 @@ const LENGTHS: &[(usize, &str)] = &[
 /// Whether an input of the greatest length is read whole.
 fn is_read_whole(alloc: Global) -> bool {
     let mut reader = long_reader(INPUT_LIMIT, false);
-    let mut source = WatchedReader {
-        reader: &mut reader,
-        has_failed: false,
-    };
+    let mut source = WatchedReader::new(&mut reader);
     let Ok(input) = read_input(alloc, &mut source) else {
         return false;
     };
-    input.len() == INPUT_LIMIT && !source.has_failed
+    input.len() == INPUT_LIMIT && source.failures() == 0
 }
 
 // An input of the greatest length is read whole, and one byte more is refused before a fault behind it is met.

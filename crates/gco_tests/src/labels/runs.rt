@@ -20,6 +20,10 @@ const DISTRICTS: &str = "sites = 5\nlabels = 3\ndata = [4,6,9,7,5,6,8,4,7,9,7,3,
 
 const THREE_PIXELS: &str = "sites = 3\nlabels = 4\ndata = [0,1,2,3,3,2,1,0,0,1,2,3]\n";
 
+// Four sites in a row, whose pairs weigh 3, 3 and 2, from a start of three labels.
+const STREET: &str = "sites = 4\nlabels = 3\ndata = [8,2,1,3,7,4,3,4,6,9,5,3]\nstart = [1,2,0,0]\n\
+                      pairs = [[0,1,3],[1,2,3],[2,3,2]]\nmoves = 'swap'\n";
+
 /// A file in two parts, the exit status, what is written, and what is said.
 type Row = (&'static str, &'static str, u8, &'static str, &'static str);
 
@@ -61,6 +65,37 @@ const ROWS: &[Row] = &[
         "pairs = [[0,1,20],[1,2,5]]",
         0,
         "energy 6 data 1 smooth 5\nlabels 0 0 1\n",
+        "",
+    ),
+    // Without a cycle the start stays, at 3 + 3; an expansion of label 1 would cost nothing.
+    (
+        "sites = 2\nlabels = 2\ndata = [3,0,3,0]\npairs = [[0,1,5]]\n",
+        "cycles = 0",
+        0,
+        "energy 6 data 6 smooth 0\nlabels 0 0\n",
+        "",
+    ),
+    (
+        "sites = 2\nlabels = 2\ndata = [3,0,3,0]\npairs = [[0,1,5]]\n",
+        "cycles = 1",
+        0,
+        "energy 0 data 0 smooth 0\nlabels 1 1\n",
+        "",
+    ),
+    // The start costs 2 + 4 + 3 + 9 at the sites, and 3 for each of the first two pairs.
+    (
+        STREET,
+        "cycles = 0",
+        0,
+        "energy 24 data 18 smooth 6\nlabels 1 2 0 0\n",
+        "",
+    ),
+    // Swaps by turns lead to label 2 everywhere, which costs 1 + 4 + 6 + 3; the fourth cycle changes nothing.
+    (
+        STREET,
+        "cycles = 9",
+        0,
+        "energy 14 data 14 smooth 0\nlabels 2 2 2 2\n",
         "",
     ),
     // To expand label 1 makes the term 4, 1, 1, 0: 4 + 0 is above 1 + 1.

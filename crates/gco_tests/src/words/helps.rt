@@ -1,4 +1,5 @@
-//! What help writes. The texts were taken from the program and read.
+//! What help writes: a snapshot. The texts were taken from the program and read; ranges and defaults are tested from
+//! the tables of the docs, in `options`.
 
 pub const GCO_HELP: &str = "\
 Labels pixels by minimum cuts. The answer is proved to be right.

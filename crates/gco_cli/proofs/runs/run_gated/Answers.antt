@@ -1,7 +1,7 @@
 use Rattle.std.proofs.Common.{map}
 use Rattle.gco_cli.specs.Run.{streams}
 use Rattle.gco_cli.proofs.RefusalLemmas.{run_of}
-use Rattle.gco_cli.proofs.runs.run_streams.Goals as goal
+use Rattle.gco_cli.proofs.runs.run_gated.Goals as goal
 
 pub returns-clause-run : goal.returns-clause-run
 returns-clause-run g c =

@@ -1,0 +1,219 @@
+//! The options of each command, their ranges and their defaults: what the tables of docs/IMAGES.md and docs/LABEL.md say.
+use crate::rows::expect;
+use crate::streams::{CutWriter, ROOM, SlowReader, joined, run};
+use std::alloc::{AllocError, Global};
+use std::str;
+use std::sync::Wait;
+use std::test::Fail;
+use std::thread::Threads;
+
+/// An option with a number: its name, the number before the least, the least, the most, the one after it, the range in
+/// the words of help, and the default, if it has one.
+type Row = (
+    &'static str,
+    &'static str,
+    &'static str,
+    &'static str,
+    &'static str,
+    &'static str,
+    &'static str,
+);
+
+const RESTORE: &[Row] = &[
+    ("trunc", "0", "1", "10000", "10001", "1 to 10000", "1"),
+    ("weight", "-1", "0", "1000", "1001", "0 to 1000", "1"),
+    ("neighbours", "3", "4", "8", "9", "4 (by an edge) or 8", "4"),
+    ("cycles", "-1", "0", "1000", "1001", "0 to 1000", "100"),
+    (
+        "label-cost",
+        "-1",
+        "0",
+        "10000000",
+        "10000001",
+        "0 to 10000000",
+        "",
+    ),
+];
+
+const STEREO: &[Row] = &[
+    ("trunc", "0", "1", "10000", "10001", "1 to 10000", "1"),
+    ("weight", "-1", "0", "1000", "1001", "0 to 1000", "1"),
+    ("neighbours", "3", "4", "8", "9", "4 (by an edge) or 8", "4"),
+    ("cycles", "-1", "0", "1000", "1001", "0 to 1000", "100"),
+    ("labels", "0", "1", "256", "257", "1 to 256", "16"),
+    (
+        "cap",
+        "-1",
+        "0",
+        "10000000",
+        "10000001",
+        "0 to 10000000",
+        "20",
+    ),
+];
+
+const SEGMENT: &[Row] = &[
+    ("strong", "-1", "0", "1000", "1001", "0 to 1000", "20"),
+    ("weak", "-1", "0", "1000", "1001", "0 to 1000", "5"),
+    ("edge", "-1", "0", "65535", "65536", "0 to 65535", "5"),
+    ("neighbours", "3", "4", "8", "9", "4 (by an edge) or 8", "4"),
+    ("cycles", "-1", "0", "1000", "1001", "0 to 1000", "100"),
+];
+
+const LOW: &[Row] = &[("low", "-1", "0", "65535", "65536", "0 to 65535", "")];
+
+const HIGH: &[Row] = &[("high", "-1", "0", "65535", "65536", "0 to 65535", "")];
+
+const WORKERS: &[Row] = &[
+    ("threads", "0", "1", "64", "65", "1 to 64", ""),
+    ("blocks", "0", "1", "256", "257", "1 to 256", "16"),
+    ("ring", "0", "1", "65536", "65537", "1 to 65536", "64"),
+    (
+        "turns",
+        "-1",
+        "0",
+        "1000000",
+        "1000001",
+        "0 to 1000000",
+        "4096",
+    ),
+    ("rounds", "-1", "0", "10000", "10001", "0 to 10000", "64"),
+];
+
+/// Words of a command, what it says of no input, and options that it takes.
+type Group = (&'static [&'static str], &'static str, &'static [Row]);
+
+const GROUPS: &[Group] = &[
+    (&["gco", "restore"], "refused 1\n", RESTORE),
+    (&["gco", "stereo"], "refused 1\n", STEREO),
+    (
+        &["gco", "segment", "--low=1", "--high=2"],
+        "refused 1\n",
+        SEGMENT,
+    ),
+    (&["gco", "segment", "--high=2"], "refused 1\n", LOW),
+    (&["gco", "segment", "--low=1"], "refused 1\n", HIGH),
+    (&["gco", "restore"], "refused 1\n", WORKERS),
+    (&["gco", "stereo"], "refused 1\n", WORKERS),
+    (
+        &["gco", "segment", "--low=1", "--high=2"],
+        "refused 1\n",
+        WORKERS,
+    ),
+    (&["gco", "energy"], "refused 29 variables\n", WORKERS),
+    (&["gco", "label"], "refused 29 sites\n", WORKERS),
+];
+
+/// Whether a run of these words with the option at this value, over no input, ends with this status and says this first.
+fn is_told(
+    rt: &(impl AllocGlobal + Threads + Wait + Sync),
+    words: &[&str],
+    name: &str,
+    value: &str,
+    status: u8,
+    said: &str,
+) -> Result<bool, AllocError> {
+    let option = format!(in rt.alloc(); "--{name}={value}")?;
+    let words = joined(rt.alloc(), words, &[option.as_str()])?;
+    let mut reader = SlowReader::new(b"", ROOM, false);
+    let mut writer = CutWriter::ample();
+    let mut faults = CutWriter::ample();
+    let ended = run(rt, words.as_slice(), &mut reader, &mut writer, &mut faults);
+    Ok(
+        ended == status
+            && writer.held.is_empty()
+            && faults.held.as_slice().starts_with(said.as_bytes()),
+    )
+}
+
+/// Whether the option is refused at this value, with the range that its row tells.
+fn is_beyond(
+    rt: &(impl AllocGlobal + Threads + Wait + Sync),
+    words: &[&str],
+    row: &Row,
+    value: &str,
+) -> Result<bool, AllocError> {
+    let (name, _, least, most, _, _, _) = row;
+    let said = format!(in rt.alloc();
+        "error: invalid value '{value}' for '--{name} <N>': {value} is not in {least}..={most}"
+    )?;
+    is_told(rt, words, name, value, 2, said.as_str())
+}
+
+/// Whether the option takes the ends of its range, and no number next to them.
+fn is_ranged(
+    rt: &(impl AllocGlobal + Threads + Wait + Sync),
+    group: &Group,
+    row: &Row,
+) -> Result<bool, AllocError> {
+    let (words, said, _) = group;
+    let (name, before, least, most, after, _, _) = row;
+    Ok(
+        is_told(rt, words, name, least, 1, said)?
+            && is_told(rt, words, name, most, 1, said)?
+            && is_beyond(rt, words, row, before)?
+            && is_beyond(rt, words, row, after)?,
+    )
+}
+
+/// Whether the line of help for the option tells its range and its default.
+fn is_helped(alloc: Global, help: &str, row: &Row) -> Result<bool, AllocError> {
+    let (name, _, _, _, _, range, default) = row;
+    let front = format!(in alloc; "      --{name} <N>")?;
+    let end = format!(in alloc; " [default: {default}]")?;
+    for line in help.lines() {
+        if line.starts_with(front.as_str()) {
+            let is_due = if default.is_empty() {
+                !line.ends_with("]")
+            } else {
+                line.ends_with(end.as_str())
+            };
+            return Ok(is_due && line.contains(*range));
+        }
+    }
+    Ok(false)
+}
+
+/// Whether help of the command has a line for each option of the group.
+fn is_group_helped(
+    rt: &(impl AllocGlobal + Threads + Wait + Sync),
+    group: &Group,
+) -> Result<bool, AllocError> {
+    let (words, _, rows) = group;
+    let words = joined(rt.alloc(), words, &["--help"])?;
+    let mut reader = SlowReader::new(b"", ROOM, false);
+    let mut writer = CutWriter::ample();
+    let mut faults = CutWriter::ample();
+    if run(rt, words.as_slice(), &mut reader, &mut writer, &mut faults) != 0 {
+        return Ok(false);
+    }
+    let Ok(help) = str::from_utf8(writer.held.as_slice()) else {
+        return Ok(false);
+    };
+    for row in *rows {
+        if !is_helped(rt.alloc(), help, row)? {
+            return Ok(false);
+        }
+    }
+    Ok(true)
+}
+
+#[test]
+fn options_are_ranged(rt: HostRuntime) -> Result<(), Fail> {
+    for (place, group) in GROUPS.iter().enumerate() {
+        for row in group.2 {
+            let is_right = is_ranged(&rt, group, row)?;
+            expect(&rt, row.0, place, is_right);
+        }
+    }
+    Ok(())
+}
+
+#[test]
+fn help_tells_ranges_and_defaults(rt: HostRuntime) -> Result<(), Fail> {
+    for (place, group) in GROUPS.iter().enumerate() {
+        let is_right = is_group_helped(&rt, group)?;
+        expect(&rt, "GROUPS", place, is_right);
+    }
+    Ok(())
+}
