@@ -21,9 +21,12 @@ impl Gate for Counter {
     }
 }
 
-/// The values at 00, 01, 10 and 11 are 3, 8, 2 and 3.
-const ENERGY: &str = "variables = 2\nterms = [{ on = [0], values = [3,0] }, \
-                      { on = [1], values = [0,3] }, { on = [0,1], values = [0,2,2,0] }]";
+/// The first two variables are best at 01, which costs 2: at 00 and 11 they cost 3, at 10 they cost 8. So are the last two,
+/// whose pair is named the other way round.
+const ENERGY: &str = "variables = 4\nterms = [{ on = [0], values = [0,3] }, \
+                      { on = [1], values = [3,0] }, { on = [0,1], values = [0,2,2,0] }, \
+                      { on = [2], values = [0,3] }, { on = [3], values = [3,0] }, \
+                      { on = [3,2], values = [0,2,2,0] }]";
 
 /// Two sites that would each pay more for label 1 alone, and less for it together.
 const LABELS: &str = "sites = 2\nlabels = 2\ndata = [3,0,3,0]\npairs = [[0,1,5]]";
@@ -35,13 +38,13 @@ const ROWS: &[Row] = &[
     (
         &["gco", "energy"],
         ENERGY,
-        "minimum 2\nassignment 10\n",
+        "minimum 4\nassignment 0101\n",
         false,
     ),
     (
         &["gco", "energy", "--threads", "2"],
         ENERGY,
-        "minimum 2\nassignment 10\n",
+        "minimum 4\nassignment 0101\n",
         true,
     ),
     (
