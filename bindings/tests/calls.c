@@ -1,5 +1,5 @@
-/* Each call of gco.h: worked examples, every status once, what a refusal leaves, and four threads at once. It exits with the
- * first line that fails. */
+/* Each call of gco.h: worked examples, every status once, every field that a call tells, what a refusal leaves, and four
+ * threads at once. It exits with the first line that fails. */
 #include <pthread.h>
 #include <stdio.h>
 #include <stdlib.h>
@@ -22,6 +22,17 @@ static uint32_t labels[5];
 static const uint32_t zero[5];
 static gco_outcome told;
 
+/* whether the last call told this, and 0 in each field that is not named */
+static int tells(gco_outcome due) {
+    return told.data == due.data && told.smooth == due.smooth && told.label == due.label && told.place == due.place
+        && told.vmin == due.vmin && told.vmax == due.vmax && told.cycles == due.cycles && told.settled == due.settled
+        && told.changed == due.changed && told.alpha == due.alpha && told.beta == due.beta;
+}
+
+/* a call whose outcome was filled with ones before; and one that is refused and tells a place, and nothing else */
+#define FRESH(call) (memset(&told, 0xff, sizeof told), (call))
+#define REFUSED(call, status, at) WANT(FRESH(call) == (status) && tells((gco_outcome){.place = (at)}))
+
 static uint32_t run(uint32_t label_count, size_t data_count, size_t smooth_count, size_t cost_count, uint32_t moves, uint32_t cycles) {
     memset(&told, 0xff, sizeof told);
     return gco_label(label_count, data, data_count, smooth, smooth_count, costs, cost_count, pairs, 6, moves, cycles, labels, 5, &told);
@@ -33,90 +44,99 @@ static int labels_are(uint32_t a, uint32_t b, uint32_t c, uint32_t d, uint32_t e
 
 static int worked(void) {
     WANT(run(3, 15, 9, 0, GCO_EXPANSION, GCO_ALL_CYCLES) == GCO_OK);
-    WANT(labels_are(1, 1, 1, 2, 2) && told.data == 23 && told.smooth == 4 && told.label == 0 && told.settled == 1);
-    WANT(told.vmin == 1 && told.vmax == 1 && told.place == 0 && told.alpha == 0 && told.beta == 0);
+    WANT(labels_are(1, 1, 1, 2, 2) && tells((gco_outcome){.data = 23, .smooth = 4, .vmin = 1, .vmax = 1, .cycles = 2, .settled = 1}));
     /* no cycle: the energy of the labels */
-    WANT(run(3, 15, 9, 0, GCO_EXPANSION, 0) == GCO_OK && told.data == 23 && told.smooth == 4 && told.cycles == 0 && told.settled == 0);
+    WANT(run(3, 15, 9, 0, GCO_EXPANSION, 0) == GCO_OK && tells((gco_outcome){.data = 23, .smooth = 4}));
     memset(labels, 0, sizeof labels);
-    WANT(run(3, 15, 9, 3, GCO_SWAP, GCO_ALL_CYCLES) == GCO_OK && told.settled == 1 && told.vmax == 0);
+    WANT(run(3, 15, 9, 3, GCO_SWAP, GCO_ALL_CYCLES) == GCO_OK && tells((gco_outcome){.data = 23, .smooth = 4, .cycles = 2, .settled = 1}));
     /* one move after another: docs/BINDINGS.md, "One move" */
     memset(labels, 0, sizeof labels);
-    WANT(gco_expand(3, data, 15, smooth, 9, NULL, 0, pairs, 6, 2, labels, 5, &told) == GCO_OK);
-    WANT(labels_are(0, 2, 2, 2, 2) && told.changed == 1 && told.data + told.smooth == 29);
-    WANT(gco_swap(3, data, 15, smooth, 9, NULL, 0, pairs, 6, 2, 1, labels, 5, &told) == GCO_OK);
-    WANT(labels_are(0, 1, 1, 2, 2) && told.changed == 1 && told.data + told.smooth == 28);
-    WANT(gco_swap(3, data, 15, smooth, 9, NULL, 0, pairs, 6, 2, 1, labels, 5, &told) == GCO_OK && told.changed == 0);
+    WANT(FRESH(gco_expand(3, data, 15, smooth, 9, NULL, 0, pairs, 6, 2, labels, 5, &told)) == GCO_OK);
+    WANT(labels_are(0, 2, 2, 2, 2) && tells((gco_outcome){.data = 25, .smooth = 4, .changed = 1}));
+    WANT(FRESH(gco_swap(3, data, 15, smooth, 9, NULL, 0, pairs, 6, 2, 1, labels, 5, &told)) == GCO_OK);
+    WANT(labels_are(0, 1, 1, 2, 2) && tells((gco_outcome){.data = 21, .smooth = 7, .changed = 1}));
+    WANT(FRESH(gco_swap(3, data, 15, smooth, 9, NULL, 0, pairs, 6, 2, 1, labels, 5, &told)) == GCO_OK);
+    WANT(labels_are(0, 1, 1, 2, 2) && tells((gco_outcome){.data = 21, .smooth = 7}));
     /* a label that costs too much by itself goes: the labels 1 1 1 2 2 cost 27, 1 everywhere 30 and 2 everywhere 30 */
     memset(labels, 0, sizeof labels);
     costs[2] = 100;
-    WANT(run(3, 15, 9, 3, GCO_EXPANSION, GCO_ALL_CYCLES) == GCO_OK && labels_are(1, 1, 1, 1, 1) && told.data == 30 && told.label == 0);
+    WANT(run(3, 15, 9, 3, GCO_EXPANSION, GCO_ALL_CYCLES) == GCO_OK && labels_are(1, 1, 1, 1, 1));
+    WANT(tells((gco_outcome){.data = 30, .cycles = 2, .settled = 1}));
     costs[1] = 5;
-    WANT(run(3, 15, 9, 3, GCO_EXPANSION, 0) == GCO_OK && told.label == 5 && told.vmax == 0);
+    WANT(run(3, 15, 9, 3, GCO_EXPANSION, 0) == GCO_OK && tells((gco_outcome){.data = 30, .label = 5}));
     costs[1] = costs[2] = 0;
     /* an asymmetric table: 0 beside 1 costs 5, 1 beside 0 costs 1, so the first site takes 1 */
     int64_t free[] = {0, 0, 0, 0}, apart[] = {0, 5, 1, 0};
     gco_pair one = {0, 1, 1};
     uint32_t two[2] = {1, 0};
-    WANT(gco_label(2, free, 4, apart, 4, NULL, 0, &one, 1, GCO_EXPANSION, 0, two, 2, &told) == GCO_OK && told.smooth == 1);
+    WANT(FRESH(gco_label(2, free, 4, apart, 4, NULL, 0, &one, 1, GCO_EXPANSION, 0, two, 2, &told)) == GCO_OK);
+    WANT(tells((gco_outcome){.smooth = 1}));
     two[0] = 0;
     two[1] = 1;
-    WANT(gco_label(2, free, 4, apart, 4, NULL, 0, &one, 1, GCO_EXPANSION, 0, two, 2, &told) == GCO_OK && told.smooth == 5);
+    WANT(FRESH(gco_label(2, free, 4, apart, 4, NULL, 0, &one, 1, GCO_EXPANSION, 0, two, 2, &told)) == GCO_OK);
+    WANT(tells((gco_outcome){.smooth = 5}));
     /* nothing at all */
-    WANT(gco_label(1, NULL, 0, smooth, 1, NULL, 0, NULL, 0, GCO_SWAP, 1, NULL, 0, &told) == GCO_OK && told.data == 0 && told.settled == 1);
+    WANT(FRESH(gco_label(1, NULL, 0, smooth, 1, NULL, 0, NULL, 0, GCO_SWAP, 1, NULL, 0, &told)) == GCO_OK);
+    WANT(tells((gco_outcome){.cycles = 1, .settled = 1}));
     return 0;
 }
 
 static int refused(void) {
     memset(labels, 0, sizeof labels);
-    WANT(run(3, 15, 9, 0, 2, 1) == GCO_NO_SUCH_MOVES && told.data == 0 && told.place == 0);
-    WANT(gco_label(3, data, 15, smooth, 9, costs, 0, pairs, 6, 0, 1, labels, (size_t)GCO_SITE_LIMIT + 1, &told) == GCO_TOO_MANY_SITES);
-    WANT(run(0, 0, 0, 0, 0, 1) == GCO_LABEL_COUNT && run(257, 15, 9, 0, 0, 1) == GCO_LABEL_COUNT);
-    WANT(run(3, 14, 9, 0, 0, 1) == GCO_DATA_COUNT && run(3, 0, 9, 0, 0, 1) == GCO_DATA_COUNT);
-    WANT(run(3, 15, 8, 0, 0, 1) == GCO_SMOOTH_COUNT);
-    WANT(run(3, 15, 9, 2, 0, 1) == GCO_LABEL_COST_COUNT);
+    REFUSED(run(3, 15, 9, 0, 2, 1), GCO_NO_SUCH_MOVES, 0);
+    REFUSED(gco_label(3, data, 15, smooth, 9, costs, 0, pairs, 6, 0, 1, labels, (size_t)GCO_SITE_LIMIT + 1, &told), GCO_TOO_MANY_SITES, 0);
+    REFUSED(run(0, 0, 0, 0, 0, 1), GCO_LABEL_COUNT, 0);
+    REFUSED(run(257, 15, 9, 0, 0, 1), GCO_LABEL_COUNT, 0);
+    REFUSED(run(3, 14, 9, 0, 0, 1), GCO_DATA_COUNT, 0);
+    REFUSED(run(3, 0, 9, 0, 0, 1), GCO_DATA_COUNT, 0);
+    REFUSED(run(3, 15, 8, 0, 0, 1), GCO_SMOOTH_COUNT, 0);
+    REFUSED(run(3, 15, 9, 2, 0, 1), GCO_LABEL_COST_COUNT, 0);
     data[7] = -1;
-    WANT(run(3, 15, 9, 0, 0, 1) == GCO_DATA_RANGE && told.place == 7);
+    REFUSED(run(3, 15, 9, 0, 0, 1), GCO_DATA_RANGE, 7);
     data[7] = GCO_DATA_LIMIT + 1;
-    WANT(run(3, 15, 9, 0, 0, 1) == GCO_DATA_RANGE && told.place == 7);
+    REFUSED(run(3, 15, 9, 0, 0, 1), GCO_DATA_RANGE, 7);
     data[7] = 4;
     smooth[5] = INT64_MIN;
-    WANT(run(3, 15, 9, 0, 0, 1) == GCO_SMOOTH_RANGE && told.place == 5);
+    REFUSED(run(3, 15, 9, 0, 0, 1), GCO_SMOOTH_RANGE, 5);
     smooth[5] = 1;
     costs[1] = GCO_LABEL_COST_LIMIT + 1;
-    WANT(run(3, 15, 9, 3, 0, 1) == GCO_LABEL_COST_RANGE && told.place == 1);
+    REFUSED(run(3, 15, 9, 3, 0, 1), GCO_LABEL_COST_RANGE, 1);
     costs[1] = 0;
     pairs[4].second = 5;
-    WANT(run(3, 15, 9, 0, 0, 1) == GCO_NO_SUCH_SITE && told.place == 4);
+    REFUSED(run(3, 15, 9, 0, 0, 1), GCO_NO_SUCH_SITE, 4);
     pairs[4].second = 1;
-    WANT(run(3, 15, 9, 0, 0, 1) == GCO_SAME_SITE && told.place == 4);
+    REFUSED(run(3, 15, 9, 0, 0, 1), GCO_SAME_SITE, 4);
     pairs[4].second = 3;
     pairs[2].weight = 1001;
-    WANT(run(3, 15, 9, 0, 0, 1) == GCO_WEIGHT_RANGE && told.place == 2);
+    REFUSED(run(3, 15, 9, 0, 0, 1), GCO_WEIGHT_RANGE, 2);
     pairs[2].weight = 2;
     labels[3] = 3;
-    WANT(run(3, 15, 9, 0, 0, 1) == GCO_NO_SUCH_LABEL && told.place == 3 && labels[3] == 3);
+    REFUSED(run(3, 15, 9, 0, 0, 1), GCO_NO_SUCH_LABEL, 3);
+    WANT(labels[3] == 3);
     labels[3] = 0;
     costs[0] = 1;
-    WANT(run(3, 15, 9, 3, GCO_SWAP, 0) == GCO_LABEL_COST_IN_SWAP);
-    WANT(gco_swap(3, data, 15, smooth, 9, costs, 3, pairs, 6, 0, 1, labels, 5, &told) == GCO_LABEL_COST_IN_SWAP);
+    REFUSED(run(3, 15, 9, 3, GCO_SWAP, 0), GCO_LABEL_COST_IN_SWAP, 0);
+    REFUSED(gco_swap(3, data, 15, smooth, 9, costs, 3, pairs, 6, 0, 1, labels, 5, &told), GCO_LABEL_COST_IN_SWAP, 0);
     costs[0] = 0;
-    WANT(gco_swap(3, data, 15, smooth, 9, costs, 0, pairs, 6, 0, 3, labels, 5, &told) == GCO_NO_SUCH_MOVE);
-    WANT(gco_expand(3, data, 15, smooth, 9, costs, 0, pairs, 6, 3, labels, 5, &told) == GCO_NO_SUCH_MOVE);
-    WANT(gco_expand(3, data, 15, smooth, 8, costs, 0, pairs, 6, 3, labels, 5, &told) == GCO_SMOOTH_COUNT);
+    REFUSED(gco_swap(3, data, 15, smooth, 9, costs, 0, pairs, 6, 0, 3, labels, 5, &told), GCO_NO_SUCH_MOVE, 0);
+    REFUSED(gco_expand(3, data, 15, smooth, 9, costs, 0, pairs, 6, 3, labels, 5, &told), GCO_NO_SUCH_MOVE, 0);
+    REFUSED(gco_expand(3, data, 15, smooth, 8, costs, 0, pairs, 6, 3, labels, 5, &told), GCO_SMOOTH_COUNT, 0);
     WANT(!memcmp(labels, zero, sizeof labels));
     /* one more pair than there may be */
     size_t many = (size_t)GCO_PAIR_LIMIT + 1;
     gco_pair *list = malloc(many * sizeof *list);
     WANT(list != NULL);
     for (size_t i = 0; i < many; i++) list[i] = pairs[0];
-    WANT(gco_label(3, data, 15, smooth, 9, NULL, 0, list, many, 0, 1, labels, 5, &told) == GCO_TOO_MANY_PAIRS);
+    REFUSED(gco_label(3, data, 15, smooth, 9, NULL, 0, list, many, 0, 1, labels, 5, &told), GCO_TOO_MANY_PAIRS, 0);
     free(list);
     /* docs/LABEL.md's example of a term that is not regular */
     int64_t far[] = {0, 9, 9, 9, 9, 0}, square[] = {0, 1, 4, 1, 0, 1, 4, 1, 0};
-    gco_pair one[] = {{0, 1, 1}};
     uint32_t ends[2] = {0, 2};
-    WANT(gco_label(3, far, 6, square, 9, NULL, 0, one, 1, 0, 1, ends, 2, &told) == GCO_NOT_REGULAR);
-    WANT(told.place == 0 && told.alpha == 1 && told.beta == 1 && ends[0] == 0 && ends[1] == 2);
+    gco_pair two[] = {{0, 1, 0}, {0, 1, 1}};
+    gco_outcome due = {.place = 1, .alpha = 1, .beta = 1};
+    WANT(FRESH(gco_label(3, far, 6, square, 9, NULL, 0, two, 2, 0, 1, ends, 2, &told)) == GCO_NOT_REGULAR && tells(due));
+    WANT(FRESH(gco_expand(3, far, 6, square, 9, NULL, 0, two, 2, 1, ends, 2, &told)) == GCO_NOT_REGULAR && tells(due));
+    WANT(ends[0] == 0 && ends[1] == 2);
     return 0;
 }
 
@@ -132,25 +152,39 @@ static int narrow(void) {
     wide = told;
 #define RUN32(count, costs_given) \
     gco_label_int32(3, data32, count, smooth32, 9, costs32, costs_given, pairs, 6, GCO_EXPANSION, GCO_ALL_CYCLES, ends, 5, &told)
-    WANT(RUN32(15, 0) == GCO_OK && !memcmp(ends, labels, sizeof ends));
-    WANT(told.data == wide.data && told.smooth == wide.smooth && told.cycles == wide.cycles && told.vmin == 1 && told.vmax == 1);
-    WANT(RUN32(15, 3) == GCO_OK && told.data == 23 && told.smooth == 4 && told.label == 4 && told.settled == 1);
-    WANT(gco_label_int32(3, data32, 15, smooth32, 9, NULL, 0, pairs, 6, GCO_SWAP, 0, ends, 5, &told) == GCO_OK && told.label == 0);
-    WANT(gco_label_int32(3, data32, 15, smooth32, 9, NULL, 0, pairs, 6, 2, 0, ends, 5, &told) == GCO_NO_SUCH_MOVES);
-    WANT(RUN32(14, 0) == GCO_DATA_COUNT && RUN32(15, 2) == GCO_LABEL_COST_COUNT);
+    WANT(FRESH(RUN32(15, 0)) == GCO_OK && !memcmp(ends, labels, sizeof ends) && tells(wide));
+    WANT(FRESH(RUN32(15, 3)) == GCO_OK && tells((gco_outcome){.data = 23, .smooth = 4, .label = 4, .cycles = 1, .settled = 1}));
+    WANT(FRESH(gco_label_int32(3, data32, 15, smooth32, 9, NULL, 0, pairs, 6, GCO_SWAP, 0, ends, 5, &told)) == GCO_OK);
+    WANT(tells((gco_outcome){.data = 23, .smooth = 4}));
+    REFUSED(gco_label_int32(3, data32, 15, smooth32, 9, NULL, 0, pairs, 6, 2, 0, ends, 5, &told), GCO_NO_SUCH_MOVES, 0);
+    REFUSED(RUN32(14, 0), GCO_DATA_COUNT, 0);
+    REFUSED(RUN32(15, 2), GCO_LABEL_COST_COUNT, 0);
     data32[14] = INT32_MIN;
-    WANT(RUN32(15, 0) == GCO_DATA_RANGE && told.place == 14);
+    REFUSED(RUN32(15, 0), GCO_DATA_RANGE, 14);
     data32[3] = GCO_DATA_LIMIT + 1;
-    WANT(RUN32(15, 0) == GCO_DATA_RANGE && told.place == 3);
+    REFUSED(RUN32(15, 0), GCO_DATA_RANGE, 3);
     data32[3] = GCO_DATA_LIMIT;
     data32[14] = 5;
     smooth32[8] = GCO_SMOOTH_LIMIT + 1;
-    WANT(RUN32(15, 0) == GCO_SMOOTH_RANGE && told.place == 8);
+    REFUSED(RUN32(15, 0), GCO_SMOOTH_RANGE, 8);
     smooth32[8] = 0;
     costs32[2] = -1;
-    WANT(RUN32(15, 3) == GCO_LABEL_COST_RANGE && told.place == 2 && !memcmp(ends, labels, sizeof ends));
+    REFUSED(RUN32(15, 3), GCO_LABEL_COST_RANGE, 2);
+    WANT(!memcmp(ends, labels, sizeof ends));
     return 0;
 }
+
+static gco_minimum found;
+
+/* whether the last minimum told this */
+static int finds(int64_t value, uint64_t place, uint64_t fixed, uint64_t fixed_at) {
+    return found.value == value && found.place == place && found.fixed == fixed && found.fixed_at == fixed_at;
+}
+
+/* a call whose minimum was filled with ones before; one that finds a value; and one that is refused and tells a place */
+#define AFRESH(call) (memset(&found, 0xff, sizeof found), (call))
+#define FOUND(call, value) WANT(AFRESH(call) == GCO_OK && finds(value, 0, GCO_NOTHING_FIXED, 0))
+#define UNFOUND(call, status, at) WANT(AFRESH(call) == (status) && finds(0, at, GCO_NOTHING_FIXED, 0))
 
 static int minimised(void) {
     /* docs/ENERGY.md's first example */
@@ -158,43 +192,43 @@ static int minimised(void) {
     gco_two twos[] = {{0, 1, 0, 3, 4, 0}};
     gco_three threes[] = {{0, 1, 2, 0, 3, 3, 3, 3, 3, 3, 3, 0}};
     uint8_t bits[3] = {7, 7, 7};
-    gco_minimum found;
-    WANT(gco_minimise(0, ones, 2, twos, 1, NULL, 0, bits, 2, &found) == GCO_OK && found.value == 6 && bits[0] == 0 && bits[1] == 0 && bits[2] == 7);
+    FOUND(gco_minimise(0, ones, 2, twos, 1, NULL, 0, bits, 2, &found), 6);
+    WANT(bits[0] == 0 && bits[1] == 0 && bits[2] == 7);
     /* an asymmetric term: 0 at 01 alone, so the second is 1 and the first 0 */
     gco_two apart[] = {{0, 1, 1, 0, 1, 0}};
-    WANT(gco_minimise(7, NULL, 0, apart, 1, NULL, 0, bits, 2, &found) == GCO_OK && found.value == 7 && bits[0] == 0 && bits[1] == 1);
+    FOUND(gco_minimise(7, NULL, 0, apart, 1, NULL, 0, bits, 2, &found), 7);
+    WANT(bits[0] == 0 && bits[1] == 1);
     gco_one two[] = {{0, 0, 0, 2}};
     gco_two same[] = {{1, 2, 0, 4, 4, 0}};
-    WANT(gco_minimise(10, two, 1, same, 1, threes, 1, bits, 3, &found) == GCO_OK && found.value == 12 && bits[0] == 1 && bits[1] == 1 && bits[2] == 1);
+    FOUND(gco_minimise(10, two, 1, same, 1, threes, 1, bits, 3, &found), 12);
+    WANT(bits[0] == 1 && bits[1] == 1 && bits[2] == 1);
     /* refusals, in their order; places are counted over all terms */
     memset(bits, 9, sizeof bits);
-    WANT(gco_minimise(0, ones, 2, twos, 1, NULL, 0, bits, (size_t)GCO_VARIABLE_LIMIT + 1, &found) == GCO_TOO_MANY_SITES);
-    WANT(gco_minimise(GCO_VALUE_LIMIT + 1, ones, 2, twos, 1, NULL, 0, bits, 2, &found) == GCO_CONSTANT_RANGE);
-    WANT(gco_minimise(0, ones, 2, twos, 1, threes, 1, bits, 2, &found) == GCO_NO_SUCH_SITE && found.place == 3);
+    UNFOUND(gco_minimise(0, ones, 2, twos, 1, NULL, 0, bits, (size_t)GCO_VARIABLE_LIMIT + 1, &found), GCO_TOO_MANY_SITES, 0);
+    UNFOUND(gco_minimise(GCO_VALUE_LIMIT + 1, ones, 2, twos, 1, NULL, 0, bits, 2, &found), GCO_CONSTANT_RANGE, 0);
+    UNFOUND(gco_minimise(0, ones, 2, twos, 1, threes, 1, bits, 2, &found), GCO_NO_SUCH_SITE, 3);
     twos[0].second = 0;
-    WANT(gco_minimise(0, ones, 2, twos, 1, threes, 1, bits, 3, &found) == GCO_SAME_SITE && found.place == 2);
+    UNFOUND(gco_minimise(0, ones, 2, twos, 1, threes, 1, bits, 3, &found), GCO_SAME_SITE, 2);
     twos[0].second = 1;
     threes[0].at110 = -GCO_VALUE_LIMIT - (int64_t)1;
-    WANT(gco_minimise(0, ones, 2, twos, 1, threes, 1, bits, 3, &found) == GCO_WEIGHT_RANGE && found.place == 3);
+    UNFOUND(gco_minimise(0, ones, 2, twos, 1, threes, 1, bits, 3, &found), GCO_WEIGHT_RANGE, 3);
     threes[0].at110 = 30;
     threes[0].at111 = 30;
     threes[0].at000 = 30;
-    WANT(gco_minimise(0, ones, 2, twos, 1, threes, 1, bits, 3, &found) == GCO_TERM_NOT_REGULAR && found.place == 3 && found.value == 0);
-    WANT(found.fixed == 0 && found.fixed_at == 0);
+    WANT(AFRESH(gco_minimise(0, ones, 2, twos, 1, threes, 1, bits, 3, &found)) == GCO_TERM_NOT_REGULAR && finds(0, 3, 0, 0));
     /* 1 at 010 alone: the term of the first and third is irregular where the second is 1, and no other is */
     gco_three late[] = {{2, 1, 0, 0, 0, 0, 1, 0, 0, 0, 0, 0}};
-    WANT(gco_minimise(0, NULL, 0, NULL, 0, late, 1, bits, 3, &found) == GCO_TERM_NOT_REGULAR && found.place == 0);
-    WANT(found.fixed == 1 && found.fixed_at == 1);
+    WANT(AFRESH(gco_minimise(0, NULL, 0, NULL, 0, late, 1, bits, 3, &found)) == GCO_TERM_NOT_REGULAR && finds(0, 0, 1, 1));
     twos[0].at00 = 8;
-    WANT(gco_minimise(0, ones, 2, twos, 1, threes, 1, bits, 3, &found) == GCO_TERM_NOT_REGULAR && found.place == 2);
-    WANT(found.fixed == GCO_NOTHING_FIXED && found.fixed_at == 0);
+    WANT(AFRESH(gco_minimise(0, ones, 2, twos, 1, threes, 1, bits, 3, &found)) == GCO_TERM_NOT_REGULAR && finds(0, 2, GCO_NOTHING_FIXED, 0));
     WANT(bits[0] == 9 && bits[1] == 9 && bits[2] == 9);
     size_t many = (size_t)GCO_TERM_LIMIT + 1;
     gco_one *list = calloc(many, sizeof *list);
     WANT(list != NULL);
-    WANT(gco_minimise(0, list, many, NULL, 0, NULL, 0, bits, 1, &found) == GCO_TOO_MANY_PAIRS && bits[0] == 9);
+    UNFOUND(gco_minimise(0, list, many, NULL, 0, NULL, 0, bits, 1, &found), GCO_TOO_MANY_PAIRS, 0);
+    WANT(bits[0] == 9);
     free(list);
-    WANT(gco_minimise(-3, NULL, 0, NULL, 0, NULL, 0, NULL, 0, &found) == GCO_OK && found.value == -3);
+    FOUND(gco_minimise(-3, NULL, 0, NULL, 0, NULL, 0, NULL, 0, &found), -3);
     return 0;
 }
 

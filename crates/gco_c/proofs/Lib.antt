@@ -3,3 +3,4 @@ pub mod Entries
 pub mod Given
 pub mod Lists
 pub mod Parts
+pub mod Told

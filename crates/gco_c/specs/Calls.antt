@@ -1,21 +1,21 @@
 -- What a call from C means.
-use Rattle.std.specs.Prelude.{◌≡◌, ◌⊎◌, ℕ, ◌*◌, ◌<◌, Bool, cond, List, length, map, All, ℤ, pos, Option, Some, None, Ok}
+use Rattle.std.specs.Prelude.{◌≡◌, ◌⊎◌, ℕ, ◌*◌, ◌<◌, Bool, List, length, map, All, ℤ, pos, Option, Ok}
 use Rattle.label_field.specs.LabelFields.{AreSizes}
 use Rattle.label_field.specs.PairLists.{PairList, IsPairList}
 use Rattle.label_field.specs.declared.pair.Pair.{Pair}
 use Rattle.cost_store.specs.Limits.{data_limit, smooth_limit, label_cost_limit}
 use Rattle.cost_store.specs.Promises.{IsCost, cost_in}
 use Rattle.labellings.specs.declared.change.Move.{Move}
-use Rattle.labellings.specs.Energies.{Instance, labelling, data_energy, smooth_energy, label_energy}
+use Rattle.labellings.specs.Energies.{Instance}
 use Rattle.labellings.specs.Chains.{IsChain, moves_of}
 use Rattle.moves.specs.declared.bound.Bound.{Bound}
 use Rattle.cost_store.specs.LabelCosts.{AreLabelCosts, costs_of}
 use Rattle.moves.specs.Problems.{IsMoved}
-use Rattle.moves.specs.declared.tables.Run.{Run}
 use Rattle.moves.specs.Instances.{instance_of}
 use Rattle.moves.specs.Runs.{MayMake, TellsBound}
 use Rattle.labellings.specs.declared.cycles.Moves.{Moves}
 use Rattle.labellings.specs.declared.cycles.Moves.TheVariants.{Expansion, Swap}
+use Rattle.gco_c.specs.Outcomes.{energy_told, move_told, run_told}
 use Rattle.gco_c.specs.declared.pairs.GcoPair.{GcoPair}
 use Rattle.gco_c.specs.declared.outcome.GcoOutcome.{GcoOutcome}
 use Rattle.gco_c.specs.declared.ready.Ready.{Ready}
@@ -94,42 +94,22 @@ abbrev pub number_of : Moves → ℕ
 number_of Expansion = 0
 number_of Swap = 1
 
--- the two numbers of a bound, or 0 and 0
-abbrev pub bound_numbers : Option Bound → ℕ × ℕ
-bound_numbers None = (0, 0)
-bound_numbers (Some bound) = (bound.vmin, bound.vmax)
-
--- the outcome tells where a run ended
-pub record IsRunIn (run : Run) (told : GcoOutcome) : Type 0 where
-  pub data_is : told.«data» ≡ run.«data»
-  pub smooth_is : told.smooth ≡ run.smooth
-  pub label_is : told.label ≡ run.label
-  pub cycles_are : told.cycles ≡ run.ended.cycles
-  pub settled_is : told.settled ≡ cond run.ended.settled 1 0
-  pub bound_is : (told.vmin, told.vmax) ≡ bound_numbers run.bound
-
--- the run from the start ended at the labels, and the outcome tells its cycles, the three parts of the energy there, and
--- its bound, where it has one
+-- the run from the start ended at the labels, and the outcome tells its cycles, whether it settled, the three parts of the
+-- energy there, its bound, where it has one, and nothing else
 pub record IsRunTold (a : Asked) (number cycles : ℕ) (labels : List ℕ) (told : GcoOutcome) : Type 0 where
   pub moves : Moves
   pub numbered : number ≡ number_of moves
+  pub made : ℕ
   pub settled : Bool
-  pub settled_is : told.settled ≡ cond settled 1 0
-  pub chain : IsChain (instance_given a) (moves_of moves a.label_count) cycles a.start labels told.cycles settled
-  pub data_is : told.«data» ≡ pos (data_energy (instance_given a) (labelling labels))
-  pub smooth_is : told.smooth ≡ pos (smooth_energy (instance_given a) (labelling labels))
-  pub label_is : told.label ≡ pos (label_energy (instance_given a) (labelling labels))
+  pub chain : IsChain (instance_given a) (moves_of moves a.label_count) cycles a.start labels made settled
   pub bound : Option Bound
-  pub bound_is : (told.vmin, told.vmax) ≡ bound_numbers bound
   pub tells : TellsBound (instance_given a) moves labels settled bound
   pub may : MayMake (instance_given a) moves
+  pub told_is : told ≡ run_told (energy_told (instance_given a) labels) made settled bound
 
--- one move from the start reached the labels, and the outcome tells whether they are others, and the three parts of the
--- energy there
+-- one move from the start reached the labels, and the outcome tells whether they are others, the three parts of the
+-- energy there, and nothing else
 pub record IsMoveTold (a : Asked) (move : Move) (labels : List ℕ) (told : GcoOutcome) : Type 0 where
   pub changed : Bool
-  pub changed_is : told.changed ≡ cond changed 1 0
   pub moved : IsMoved (instance_given a) move a.start labels (Ok changed)
-  pub data_is : told.«data» ≡ pos (data_energy (instance_given a) (labelling labels))
-  pub smooth_is : told.smooth ≡ pos (smooth_energy (instance_given a) (labelling labels))
-  pub label_is : told.label ≡ pos (label_energy (instance_given a) (labelling labels))
+  pub told_is : told ≡ move_told (energy_told (instance_given a) labels) changed

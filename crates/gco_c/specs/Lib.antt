@@ -1,6 +1,7 @@
 pub mod Calls
 pub mod Energies
 pub mod Moved
+pub mod Outcomes
 pub mod Refusals
 pub mod Statuses
 pub mod TermRefusals

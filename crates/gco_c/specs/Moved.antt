@@ -1,11 +1,10 @@
 -- What one move answers.
-use Rattle.std.specs.Prelude.{◌≡◌, ℕ, cond, List, pos, Result, Ok, Err}
+use Rattle.std.specs.Prelude.{◌≡◌, ℕ, List, pos, Result, Ok, Err}
 use Rattle.labellings.specs.declared.change.Move.{Move}
 use Rattle.labellings.specs.Energies.{Instance, labelling, data_energy, smooth_energy, label_energy}
 use Rattle.moves.specs.Problems.{IsMoved, IsRefusal}
 use Rattle.moves.specs.declared.error.MoveError.{MoveError}
 use Rattle.gco_c.specs.declared.moving.Moved.{Moved}
-use Rattle.gco_c.specs.declared.outcome.GcoOutcome.{GcoOutcome}
 
 -- where one move from a labelling ended, and the three parts of the energy there; or its refusal
 abbrev pub IsMovedTo : Instance → Move → List ℕ → Result Moved MoveError → Type 0
@@ -15,10 +14,3 @@ IsMovedTo m move start (Ok moved) =
     × (moved.smooth ≡ pos (smooth_energy m (labelling moved.labelling.at)))
     × (moved.label ≡ pos (label_energy m (labelling moved.labelling.at)))
 IsMovedTo m move start (Err e) = IsRefusal m move start e
-
--- the outcome tells where a move ended
-pub record IsMovedIn (moved : Moved) (told : GcoOutcome) : Type 0 where
-  pub data_is : told.«data» ≡ moved.«data»
-  pub smooth_is : told.smooth ≡ moved.smooth
-  pub label_is : told.label ≡ moved.label
-  pub changed_is : told.changed ≡ cond moved.changed 1 0

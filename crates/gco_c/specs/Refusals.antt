@@ -18,7 +18,8 @@ use Rattle.moves.specs.declared.error.MoveError.{MoveError}
 use Rattle.moves.specs.declared.error.MoveError.TheVariants as move_why
 use Rattle.labellings.specs.declared.cycles.Moves.{Moves}
 use Rattle.gco_c.specs.Calls.{Asked, AreLong, AreTables, IsGiven, instance_given, list_given, number_of}
-use Rattle.gco_c.specs.Statuses.{IsTold}
+use Rattle.gco_c.specs.Outcomes.{refusal_told}
+use Rattle.gco_c.specs.Statuses.{status_of}
 use Rattle.gco_c.specs.declared.outcome.GcoOutcome.{GcoOutcome}
 use Rattle.gco_c.specs.declared.pairs.GcoPair.{GcoPair}
 use Rattle.gco_c.specs.declared.refusal.Refusal.{Refusal}
@@ -98,6 +99,11 @@ IsLabelRefusal a moves cycles refusal =
     IsGivenRefusal a refusal
     ⊎ (IsGiven a × ((error : MoveError) × IsRunRefusal (λ e. e ≡ NoMemory) error
     × AnswersRun (instance_given a) moves cycles a.start (Err error) × (refusal ≡ move_refusal error)))
+
+-- the status and the outcome tell a refusal, and the outcome nothing else
+pub record IsTold (refusal : Refusal) (status : ℕ) (told : GcoOutcome) : Type 0 where
+  pub status_is : status ≡ status_of refusal
+  pub told_is : told ≡ refusal_told refusal
 
 -- the status and the outcome tell a refusal, and its cause holds: the number names no moves, or what a run of the
 -- moves that it names refuses

@@ -1,7 +1,6 @@
 -- The numbers that a call answers.
-use Rattle.std.specs.Prelude.{◌≡◌, ℕ, Option, Some, None, cond}
+use Rattle.std.specs.Prelude.{ℕ, Option, Some, None, cond}
 use Rattle.regular.specs.declared.fixed.Fixed.{Fixed}
-use Rattle.gco_c.specs.declared.outcome.GcoOutcome.{GcoOutcome}
 use Rattle.gco_c.specs.declared.refusal.Refusal.{Refusal}
 use Rattle.gco_c.specs.declared.refusal.Refusal.TheVariants as why
 
@@ -58,9 +57,3 @@ fixed_numbers (Some fixed) = (fixed.position, cond fixed.value 1 0)
 abbrev pub fixed_of : Refusal → ℕ × ℕ
 fixed_of (why.TermNotRegular place fixed) = fixed_numbers fixed
 fixed_of _ = (3, 0)
-
--- the status and the outcome tell a refusal
-pub record IsTold (refusal : Refusal) (status : ℕ) (told : GcoOutcome) : Type 0 where
-  pub status_is : status ≡ status_of refusal
-  pub place_is : told.place ≡ told_place refusal
-  pub labels_are : (told.alpha, told.beta) ≡ labels_of refusal

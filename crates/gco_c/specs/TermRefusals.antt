@@ -8,7 +8,8 @@ use Rattle.pseudo_bool.specs.declared.error.EnergyError.TheVariants as term_why
 use Rattle.pseudo_bool.specs.declared.term.Term.{Term}
 use Rattle.regular.specs.Regularity.{IsFirstFailing}
 use Rattle.regular.specs.declared.fixed.Fixed.{Fixed}
-use Rattle.gco_c.specs.Statuses.{fixed_of, told_place, status_of}
+use Rattle.gco_c.specs.Outcomes.{term_told}
+use Rattle.gco_c.specs.Statuses.{status_of}
 use Rattle.gco_c.specs.declared.minimise.GcoMinimum.{GcoMinimum}
 use Rattle.gco_c.specs.declared.refusal.Refusal.{Refusal}
 use Rattle.gco_c.specs.declared.refusal.Refusal.TheVariants as why
@@ -48,11 +49,10 @@ IsMinimumRefusal e refusal =
     ⊎ (IsEnergy e × ((place : ℕ) × (fixed : Option Fixed) × (refusal ≡ why.TermNotRegular place fixed) × IsFirstFailing e place fixed))
     ⊎ (IsEnergy e × (refusal ≡ why.OutOfMemory))
 
--- the status and the outcome tell a refusal
+-- the status and the outcome tell a refusal, and the outcome nothing else
 pub record IsRefusedIn (refusal : Refusal) (status : ℕ) (told : GcoMinimum) : Type 0 where
   pub status_is : status ≡ status_of refusal
-  pub place_is : told.place ≡ told_place refusal
-  pub fixed_is : (told.fixed, told.fixed_at) ≡ fixed_of refusal
+  pub told_is : told ≡ term_told refusal
 
 -- and its cause holds
 pub record IsMinimumTold (e : Energy) (status : ℕ) (told : GcoMinimum) : Type 0 where

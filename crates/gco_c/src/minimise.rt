@@ -4,7 +4,7 @@ ghost use Rattle.pseudo_bool.specs.Limits.{variable_limit};
 ghost use Rattle.pseudo_bool.specs.Energies.{IsEnergy, assignment, value_at};
 ghost use Rattle.compile_cut.specs.Shown.{IsSmallestLeastAssignment};
 ghost use Rattle.gco_c.specs.Energies.{bits, digit_of, formula_given};
-ghost use Rattle.gco_c.specs.Statuses.{told_place, status_of};
+ghost use Rattle.gco_c.specs.Outcomes.{value_told};
 ghost use Rattle.gco_c.specs.TermRefusals.{IsMinimumTold, IsMinimumRefusal, IsRefusedIn};
 
 use crate::refusal::Refusal;
@@ -18,9 +18,9 @@ use std::alloc::Global;
 #[repr(C)]
 #[derive(Clone, Copy)]
 pub struct GcoMinimum {
-    /// The least value.
+    /// The least value. Else 0.
     pub value: i64,
-    /// The place that a refusal names.
+    /// The place that a refusal names. Else 0.
     pub place: u64,
     /// Of a term of three that is not regular: which of its variables is fixed where it is not, 0, 1 or 2, and at which
     /// value. Else 3 and 0.
@@ -45,9 +45,9 @@ pub extern "C" fn gco_minimise(
     ensures best { result ≡ 0 → IsSmallestLeastAssignment
         (formula_given (length assignment.old) constant ones.now twos.now threes.now)
         (bits assignment.new) }
-    ensures value { result ≡ 0 → minimum.new.value ≡ value_at
+    ensures value { result ≡ 0 → minimum.new ≡ value_told (value_at
         (formula_given (length assignment.old) constant ones.now twos.now threes.now)
-        (bits assignment.new) }
+        (bits assignment.new)) }
     ensures unchanged { result ≢ 0 → assignment.new ≡ assignment.old }
     ensures refused { result ≢ 0 → IsMinimumTold
         (formula_given (length assignment.old) constant ones.now twos.now threes.now)
@@ -117,8 +117,9 @@ fn digit(bit: bool) -> u8
     if bit { 1 } else { 0 }
 }
 
+/// Tells a least value, and nothing else.
 fn put(minimum: &mut GcoMinimum, found: &Minimum)
-    ensures { minimum.new.value ≡ found.now.value }
+    ensures { minimum.new ≡ value_told found.now.value }
 {
     *minimum = GcoMinimum {
         value: found.value,
@@ -128,7 +129,7 @@ fn put(minimum: &mut GcoMinimum, found: &Minimum)
     };
 }
 
-/// Tells a refusal.
+/// Tells a refusal, and nothing else.
 fn refuse(minimum: &mut GcoMinimum, refusal: Refusal) -> u32
     ensures some { result ≢ 0 }
     ensures told { IsRefusedIn refusal result minimum.new }

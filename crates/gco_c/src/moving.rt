@@ -8,11 +8,12 @@ ghost use Rattle.cost_store.specs.Posed.{IsPosed, Meant, FitsProblem, AreOfOneSi
 ghost use Rattle.cost_store.specs.LabelCosts.{AreLabelCosts, costs_of};
 ghost use Rattle.moves.specs.Problems.{IsMoved};
 ghost use Rattle.gco_c.specs.Calls.{IsGiven, IsMoveTold, asked, instance_given};
-ghost use Rattle.gco_c.specs.Moved.{IsMovedIn, IsMovedTo};
+ghost use Rattle.gco_c.specs.Moved.{IsMovedTo};
+ghost use Rattle.gco_c.specs.Outcomes.{move_told, parts_told};
 ghost use Rattle.gco_c.specs.Refusals.{IsMoveCause, IsMoveRefusalTold};
 
 use crate::label::copy_labels;
-use crate::outcome::{GcoOutcome, digit, refuse};
+use crate::outcome::{GcoOutcome, NOTHING, digit, refuse};
 use crate::pairs::GcoPair;
 use crate::ready::{Ready, ready_of};
 use crate::refusal::Refusal;
@@ -273,21 +274,16 @@ fn make_move<F: Fn(u32, u32) -> i64 + Sync, V: Fn(u32, u32) -> i64 + Sync>(
     }
 }
 
-/// Tells where a move ended.
+/// Tells where a move ended, and nothing else.
 fn tell_move(outcome: &mut GcoOutcome, moved: &Moved)
-    ensures { IsMovedIn moved.now outcome.new }
+    ensures { outcome.new
+        ≡ move_told (parts_told moved.now.«data» moved.now.smooth moved.now.label) moved.now.changed }
 {
     *outcome = GcoOutcome {
         data: moved.data,
         smooth: moved.smooth,
         label: moved.label,
-        place: 0,
-        vmin: 0,
-        vmax: 0,
-        cycles: 0,
-        settled: 0,
         changed: digit(moved.changed),
-        alpha: 0,
-        beta: 0,
+        ..NOTHING
     };
 }

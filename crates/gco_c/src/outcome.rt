@@ -1,12 +1,12 @@
 //! What a call tells beside its status.
 ghost use Rattle.std.specs.Prelude.{◌≡◌, ◌≢◌, cond};
-ghost use Rattle.gco_c.specs.Calls.{IsRunIn, bound_numbers};
-ghost use Rattle.gco_c.specs.Statuses.{IsTold};
+ghost use Rattle.gco_c.specs.Outcomes.{bound_numbers, parts_told, run_told};
+ghost use Rattle.gco_c.specs.Refusals.{IsTold};
 
 use crate::refusal::Refusal;
 use moves::{Bound, Run};
 
-/// What a call tells beside its status. All of it is written by each call.
+/// What a call tells beside its status. All of it is written by each call, 0 where nothing is said.
 #[repr(C)]
 #[derive(Clone, Copy)]
 pub struct GcoOutcome {
@@ -33,6 +33,21 @@ pub struct GcoOutcome {
     pub beta: u32,
 }
 
+/// An outcome that tells nothing.
+pub(crate) const NOTHING: GcoOutcome = GcoOutcome {
+    data: 0,
+    smooth: 0,
+    label: 0,
+    place: 0,
+    vmin: 0,
+    vmax: 0,
+    cycles: 0,
+    settled: 0,
+    changed: 0,
+    alpha: 0,
+    beta: 0,
+};
+
 pub(crate) fn digit(yes: bool) -> u32
     ensures { result ≡ cond yes 1 0 }
 {
@@ -49,44 +64,35 @@ fn numbers(bound: Option<Bound>) -> (u64, u64)
     }
 }
 
-/// Tells where a run ended.
+/// Tells where a run ended, and nothing else.
 pub(crate) fn tell_run(outcome: &mut GcoOutcome, run: &Run)
-    ensures { IsRunIn run.now outcome.new }
+    ensures { outcome.new ≡ run_told (parts_told run.now.«data» run.now.smooth run.now.label)
+        run.now.ended.cycles run.now.ended.settled run.now.bound }
 {
     let (vmin, vmax) = numbers(run.bound);
     *outcome = GcoOutcome {
         data: run.data,
         smooth: run.smooth,
         label: run.label,
-        place: 0,
         vmin,
         vmax,
         cycles: run.ended.cycles,
         settled: digit(run.ended.settled),
-        changed: 0,
-        alpha: 0,
-        beta: 0,
+        ..NOTHING
     };
 }
 
-/// Tells a refusal.
+/// Tells a refusal, and nothing else.
 pub(crate) fn refuse(outcome: &mut GcoOutcome, refusal: Refusal) -> u32
     ensures some { result ≢ 0 }
     ensures told { IsTold refusal result outcome.new }
 {
     let (alpha, beta) = refusal.labels();
     *outcome = GcoOutcome {
-        data: 0,
-        smooth: 0,
-        label: 0,
         place: refusal.place() as u64,
-        vmin: 0,
-        vmax: 0,
-        cycles: 0,
-        settled: 0,
-        changed: 0,
         alpha,
         beta,
+        ..NOTHING
     };
     refusal.status()
 }

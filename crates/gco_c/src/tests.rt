@@ -59,6 +59,20 @@ fn no_outcome() -> GcoOutcome {
     }
 }
 
+/// Whether this and no more is told: the parts of the energy; place and bound; cycles, settled, changed and the labels of
+/// a move.
+fn tells(told: &GcoOutcome, parts: [i64; 3], place: [u64; 3], rest: [u32; 5]) -> bool {
+    [told.data, told.smooth, told.label] == parts
+        && [told.place, told.vmin, told.vmax] == place
+        && [
+            told.cycles,
+            told.settled,
+            told.changed,
+            told.alpha,
+            told.beta,
+        ] == rest
+}
+
 /// The five districts: the least energy is 27, which expansions reach from 0 everywhere.
 #[test]
 fn districts(rt: HostRuntime) -> Result<(), Fail> {
@@ -78,11 +92,7 @@ fn districts(rt: HostRuntime) -> Result<(), Fail> {
     );
     assert_eq!(rt; status, 0);
     assert_eq!(rt; labels, [1, 1, 1, 2, 2]);
-    assert_eq!(rt; told.data, 23);
-    assert_eq!(rt; told.smooth, 4);
-    assert_eq!(rt; told.settled, 1);
-    assert_eq!(rt; told.vmin, 1);
-    assert_eq!(rt; told.vmax, 1);
+    assert!(rt; tells(&told, [23, 4, 0], [0, 1, 1], [2, 1, 0, 0, 0]));
     Ok(())
 }
 
@@ -105,9 +115,7 @@ fn districts_int32(rt: HostRuntime) -> Result<(), Fail> {
     );
     assert_eq!(rt; status, 0);
     assert_eq!(rt; labels, [1, 1, 1, 2, 2]);
-    assert_eq!(rt; told.data, 23);
-    assert_eq!(rt; told.smooth, 4);
-    assert_eq!(rt; told.label, 4);
+    assert!(rt; tells(&told, [23, 4, 4], [0, 0, 0], [2, 1, 0, 0, 0]));
     Ok(())
 }
 
@@ -130,7 +138,7 @@ fn single_moves(rt: HostRuntime) -> Result<(), Fail> {
     );
     assert_eq!(rt; status, 0);
     assert_eq!(rt; labels, [0, 2, 2, 2, 2]);
-    assert_eq!(rt; told.changed, 1);
+    assert!(rt; tells(&told, [25, 4, 0], [0, 0, 0], [0, 0, 1, 0, 0]));
     let status = gco_swap(
         rt.alloc(),
         3,
@@ -145,8 +153,59 @@ fn single_moves(rt: HostRuntime) -> Result<(), Fail> {
     );
     assert_eq!(rt; status, 0);
     assert_eq!(rt; labels, [0, 1, 1, 2, 2]);
-    assert_eq!(rt; told.data, 21);
-    assert_eq!(rt; told.smooth, 7);
+    assert!(rt; tells(&told, [21, 7, 0], [0, 0, 0], [0, 0, 1, 0, 0]));
+    Ok(())
+}
+
+/// Two sites at 0 and 2 whose difference costs its square: the expansion of 1 has a term that is not regular, which
+/// names that move. A second pair of one site alone is refused by its place.
+#[test]
+fn refused_calls(rt: HostRuntime) -> Result<(), Fail> {
+    let mut pairs = [
+        GcoPair {
+            first: 0,
+            second: 1,
+            weight: 1,
+        },
+        GcoPair {
+            first: 0,
+            second: 1,
+            weight: 1,
+        },
+    ];
+    let data = [0i64, 9, 9, 9, 9, 0];
+    let squares = [0i64, 1, 4, 1, 0, 1, 4, 1, 0];
+    let mut labels = [0u32, 2];
+    let mut told = no_outcome();
+    let status = gco_expand(
+        rt.alloc(),
+        3,
+        &data,
+        &squares,
+        &[],
+        &pairs,
+        1,
+        &mut labels,
+        &mut told,
+    );
+    assert_eq!(rt; status, 24);
+    assert!(rt; tells(&told, [0, 0, 0], [0, 0, 0], [0, 0, 0, 1, 1]));
+    pairs[1].second = 0;
+    let status = gco_label(
+        rt.alloc(),
+        3,
+        &data,
+        &squares,
+        &[],
+        &pairs,
+        0,
+        9,
+        &mut labels,
+        &mut told,
+    );
+    assert_eq!(rt; status, 12);
+    assert!(rt; tells(&told, [0, 0, 0], [1, 0, 0], [0; 5]));
+    assert_eq!(rt; labels, [0, 2]);
     Ok(())
 }
 
@@ -184,10 +243,10 @@ fn three_variables(rt: HostRuntime) -> Result<(), Fail> {
     }];
     let mut assignment = [7u8; 3];
     let mut told = GcoMinimum {
-        value: 0,
-        place: 0,
-        fixed: 0,
-        fixed_at: 0,
+        value: 9,
+        place: 9,
+        fixed: 9,
+        fixed_at: 9,
     };
     let status = gco_minimise(
         rt.alloc(),
@@ -201,5 +260,6 @@ fn three_variables(rt: HostRuntime) -> Result<(), Fail> {
     assert_eq!(rt; status, 0);
     assert_eq!(rt; assignment, [1, 1, 1]);
     assert_eq!(rt; told.value, 12);
+    assert_eq!(rt; [told.place, told.fixed, told.fixed_at], [0, 3, 0]);
     Ok(())
 }
