@@ -43,8 +43,10 @@ pub trait Source {
 /// A reader of std as a source.
 #[derive(Drop)]
 pub struct WatchedReader<'a, R> {
-    reader: &'a mut R,
-    failures: u64,
+    /// Where the bytes come from.
+    pub reader: &'a mut R,
+    /// How many calls of the reader have answered a fault, counted in 64 bits.
+    pub failures: u64,
 }
 
 impl<'a, R> WatchedReader<'a, R> {
@@ -56,13 +58,6 @@ impl<'a, R> WatchedReader<'a, R> {
             reader,
             failures: 0,
         }
-    }
-
-    /// How many calls of the reader have answered a fault, counted in 64 bits.
-    pub fn failures(&self) -> u64
-        ensures { result ≡ self.now.failures }
-    {
-        self.failures
     }
 }
 
