@@ -266,5 +266,5 @@ ReweighedLessBorder =
     → IsInstance m → IsAllowed m move f → StandsFor m move f (others_at Zero set choice) q variable
     → IsOneToOne m.sites (is_inside choice set) (vec_len q.weights) variable site → IsReweighed q less
     → ((k : ℕ) → k < vec_len q.weights
-      → entry less.weights.items k +ℤ pos (border_at m move f choice set (site k)) ≡ entry q.weights.items k)
+    → entry less.weights.items k +ℤ pos (border_at m move f choice set (site k)) ≡ entry q.weights.items k)
     → StandsFor m move f (others_at One set choice) less variable

@@ -10,10 +10,10 @@ ghost use Rattle.move_energy.specs.Choices.{choice_at, rank, open_count, made_by
 ghost use Rattle.move_energy.specs.Built.{AddsCost, IsLonger};
 ghost use Rattle.move_energy.specs.Problems.{IsFitPair, Stands};
 
-use crate::{MoveEnergy, Neighbours};
 use crate::building::add_site;
 use crate::listed_pairs::{Adds, add_listed_pairs};
 use crate::variables::Variables;
+use crate::{MoveEnergy, Neighbours};
 use compile_cut::Quadratic;
 use cost_store::Problem;
 use labellings::Move;

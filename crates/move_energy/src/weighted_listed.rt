@@ -13,9 +13,9 @@ ghost use Rattle.move_energy.specs.Problems.{Stands};
 ghost use Rattle.move_energy.specs.Limits.{weights_limit};
 ghost use Rattle.move_energy.specs.Weights.{AreWeights, IsOfWeights, weight_at};
 
-use crate::{MoveEnergy, Neighbours};
 use crate::listed_pairs::{Adds, add_listed_pairs};
 use crate::variables::Variables;
+use crate::{MoveEnergy, Neighbours};
 use compile_cut::Quadratic;
 use cost_store::Problem;
 use labellings::Move;

@@ -137,14 +137,7 @@ fn columns_of(alloc: Global, samples: &[u16], width: u32) -> Result<Vec<u8>, All
 }
 
 /// What a shift costs a pixel of the left picture, by how many columns lie to the left of each.
-fn shift_cost(
-    cap: u32,
-    columns: &[u8],
-    left: &[u16],
-    right: &[u16],
-    site: u32,
-    shift: u32,
-) -> u32
+fn shift_cost(cap: u32, columns: &[u8], left: &[u16], right: &[u16], site: u32, shift: u32) -> u32
     requires site { (site < length columns.now) × (site < length left.now) × (site < length right.now) }
     ensures cost { result ≡ cost_by_columns cap columns.now left.now right.now site shift }
     ensures capped { result ≤ cap }
