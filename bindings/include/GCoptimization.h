@@ -1,32 +1,42 @@
-// gco under the names of gco-v3 (GCoptimization.h), over gco.h: a program written for gco-v3's grids and graphs is compiled
-// again with this header and linked with libgco. C++11, this header alone.
+// gco under the names of gco-v3 (GCoptimization.h), over gco.h: a program written for gco-v3's
+// grids and graphs is compiled again with this header and linked with libgco. C++11, this header
+// and gco.h alone.
 //
-// As in gco-v3: labels start at 0; costs are int; expansion and swap answer the energy; what cannot be done is thrown
-// as a GCException. Other than in gco-v3:
-// - the answer is one and proved: each move goes to the best labelling that it reaches, ties by a written rule;
-// - arrays are copied when they are set, and a run reads the data costs there (one below 0, and a single move, take one more
-//   copy);
-// - weights times smooth costs: after a common factor of all weights went over to the smooth costs, a weight is at most
-//   1,000 and a smooth cost at most 10,000; a smooth cost or weight below 0 is refused;
-// - data costs may be below 0: the least of each site is taken off before the call and put back in the energy;
-// - an expansion over a smooth cost that is no metric is refused where a term is not regular;
-// - a swap is refused where a label cost is above 0.
-// Not there:
-// - smooth costs by a function or functor of the sites (setSmoothCost(SmoothCostFn), .. with extra, setSmoothCostFunctor);
-// - setDataCostFunctor, and sparse data costs (setDataCost(LabelID, SparseDataCost *, SiteID));
-// - setLabelSubsetCost; setLabelOrder: the labels are taken in rising order;
-// - alpha_beta_swap with lists of sites;
-// - more than 1,048,576 sites, 256 labels or 4,194,304 pairs.
+// As in gco-v3: labels start at 0; costs are int; expansion and swap answer the energy; whatever
+// the class throws is a GCException. Functions and functors of costs are asked anew in each call
+// that needs costs. Other than in gco-v3:
+// - The answer is one and proved: each move goes to the best labelling that it reaches, ties by a
+//   written rule.
+// - Arrays are copied when they are set.
+// - The smooth cost of a pair is a weight of its two sites times one table of the labels. Smooth
+//   costs by a function or functor are taken if they turn out to be that. This is tested on every
+//   pair and all labels; other costs are refused.
+// - A smooth cost or weight below 0 is refused. A common factor moves between weights and smooth
+//   costs. A weight that stays above 1,000 is laid down as several pairs of the same sites, which
+//   counts the same. After that a smooth cost is at most 10,000, and there are at most 4,194,304
+//   pairs.
+// - A data cost is at most 10,000,000 above the least of its site, which may be below 0.
+// - A sparse data cost that is not listed is 10,000,000 (GCO_MAX_ENERGYTERM).
+// - An expansion over a smooth cost that is no metric is refused if a term is not regular.
+// - A swap is refused if a label cost is above 0. With lists of sites it takes all sites of its
+//   two labels.
+// - Labels are taken in rising order: setLabelOrder takes that order alone.
+// - setVerbosity(1) prints each cycle, and setVerbosity(2) each move, by a call for each.
+// Not there: setLabelSubsetCost, and more than 1,048,576 sites or 256 labels.
 #ifndef GCO_GCOPTIMIZATION_H
 #define GCO_GCOPTIMIZATION_H
 
 #include <algorithm>
+#include <array>
+#include <cstddef>
 #include <cstdint>
 #include <cstdio>
+#include <functional>
 #include <memory>
 #include <new>
 #include <string>
 #include <type_traits>
+#include <utility>
 #include <vector>
 
 #include "gco.h"
@@ -34,13 +44,28 @@
 #ifndef GCO_MAX_ENERGYTERM
 #define GCO_MAX_ENERGYTERM 10000000
 #endif
+static_assert(GCO_MAX_ENERGYTERM == GCO_DATA_LIMIT,
+              "GCO_MAX_ENERGYTERM is 10,000,000 in gco: leave it as it is");
+#ifdef GCO_ENERGYTERMTYPE
+static_assert(
+    std::is_same<GCO_ENERGYTERMTYPE, int>::value,
+    "gco counts costs in int: scale the costs, round them, and leave GCO_ENERGYTERMTYPE away");
+#endif
+#ifdef GCO_ENERGYTYPE
+static_assert(
+    std::is_integral<GCO_ENERGYTYPE>::value,
+    "gco counts energies in long long: scale the costs, round them, and leave GCO_ENERGYTYPE away");
+#endif
 
 struct GCException {
-    explicit GCException(const std::string &m) : text(std::make_shared<std::string>(m)), message(text->c_str()) {}
+    explicit GCException(const std::string &m)
+        : text(std::make_shared<std::string>(m)), message(text->c_str()) {}
+    explicit GCException(const char *literal) : message(literal) {}
     void Report() const { std::printf("\n%s\n", message); }
 
 private:
-    std::shared_ptr<std::string> text;   // kept by each copy, since the graph may be gone when it is caught
+    // kept by each copy, since the graph may be gone when it is caught
+    std::shared_ptr<std::string> text;
 
 public:
     const char *message;
@@ -50,58 +75,163 @@ class GCoptimization {
 public:
     typedef long long EnergyType;
     typedef int EnergyTermType;
-    static_assert(std::is_same<EnergyTermType, std::int32_t>::value, "costs go to gco_label_int32 as they are");
+    static_assert(std::is_same<EnergyTermType, std::int32_t>::value,
+                  "costs go to gco_label_int32 as they are");
     typedef int LabelID;
     typedef int SiteID;
     typedef EnergyTermType (*DataCostFn)(SiteID, LabelID);
     typedef EnergyTermType (*DataCostFnExtra)(SiteID, LabelID, void *);
+    typedef EnergyTermType (*SmoothCostFn)(SiteID, SiteID, LabelID, LabelID);
+    typedef EnergyTermType (*SmoothCostFnExtra)(SiteID, SiteID, LabelID, LabelID, void *);
+    struct DataCostFunctor {
+        virtual ~DataCostFunctor() {}
+        virtual EnergyTermType compute(SiteID s, LabelID l) = 0;
+    };
+    struct SmoothCostFunctor {
+        virtual ~SmoothCostFunctor() {}
+        virtual EnergyTermType compute(SiteID s1, SiteID s2, LabelID l1, LabelID l2) = 0;
+    };
+    struct SparseDataCost {
+        SiteID site;
+        EnergyTermType cost;
+    };
 
     GCoptimization(SiteID sites, LabelID labels) : sites_(sites), label_count_(labels) {
-        if (sites < 0 || labels < 1) throw GCException("there are no such numbers of sites and labels");
-        data_.assign(std::size_t(sites) * labels, 0);
-        smooth_.assign(std::size_t(labels) * labels, 0);
-        labels_.assign(sites, 0);
+        if (sites < 0)
+            throw GCException("there is no such number of sites: " + std::to_string(sites));
+        if (labels < 1)
+            throw GCException("there is no such number of labels: " + std::to_string(labels));
+        if (sites > SiteID(GCO_SITE_LIMIT))
+            throw GCException("there are " + std::to_string(sites) +
+                              " sites, and at most 1,048,576 are taken");
+        if (labels > LabelID(GCO_LABEL_LIMIT))
+            throw GCException("there are " + std::to_string(labels) +
+                              " labels, and at most 256 are taken");
+        in_memory([&] {
+            data_.assign(std::size_t(sites) * label_total(), 0);
+            smooth_.assign(label_total() * label_total(), 0);
+            labels_.assign(std::size_t(sites), 0);
+        });
     }
     virtual ~GCoptimization() {}
 
-    void setDataCost(const EnergyTermType *costs) { std::copy(costs, costs + data_.size(), data_.begin()); }
-    void setDataCost(SiteID site, LabelID label, EnergyTermType cost) { data_[place(site, label)] = cost; }
-    void setDataCost(DataCostFn cost) {
-        for (SiteID s = 0; s < sites_; s++)
-            for (LabelID l = 0; l < label_count_; l++) data_[place(s, l)] = cost(s, l);
+    void setDataCost(const EnergyTermType *costs) {
+        std::copy(costs, costs + data_.size(), data_.begin());
+        data_function_ = nullptr;
+        data_kind_ = DataKind::dense;
     }
+    // one cost; those that a function or a list of sites gave stay as they are now
+    void setDataCost(SiteID site, LabelID label, EnergyTermType cost) {
+        const std::size_t at = place(site, label);
+        ask_data();
+        data_function_ = nullptr;
+        data_[at] = cost;
+        if (data_kind_ == DataKind::none) data_kind_ = DataKind::dense;
+    }
+    void setDataCost(DataCostFn cost) { set_data_function(cost); }
     void setDataCost(DataCostFnExtra cost, void *extra) {
-        for (SiteID s = 0; s < sites_; s++)
-            for (LabelID l = 0; l < label_count_; l++) data_[place(s, l)] = cost(s, l, extra);
+        set_data_function([cost, extra](SiteID s, LabelID l) { return cost(s, l, extra); });
     }
+    void setDataCostFunctor(DataCostFunctor *functor) {
+        set_data_function([functor](SiteID s, LabelID l) { return functor->compute(s, l); });
+    }
+    // the sites that may have a label, in rising order, and what it costs there; all others pay
+    // GCO_MAX_ENERGYTERM for it
+    void setDataCost(LabelID l, const SparseDataCost *costs, SiteID count) {
+        check_sparse(l, costs, count);
+        if (data_kind_ == DataKind::none) std::fill(data_.begin(), data_.end(), GCO_MAX_ENERGYTERM);
+        data_kind_ = DataKind::sparse;
+        for (SiteID s = 0; s < sites_; s++) data_[place(s, l)] = GCO_MAX_ENERGYTERM;
+        for (SiteID i = 0; i < count; i++) data_[place(costs[i].site, l)] = costs[i].cost;
+    }
+
     // costs[l1 + l2 * numLabels()], as gco-v3's example has it; gco-v3 asks for a symmetric table
-    void setSmoothCost(const EnergyTermType *costs) { std::copy(costs, costs + smooth_.size(), smooth_.begin()); }
+    void setSmoothCost(const EnergyTermType *costs) {
+        std::copy(costs, costs + smooth_.size(), smooth_.begin());
+        smooth_function_ = nullptr;
+    }
     void setSmoothCost(LabelID l1, LabelID l2, EnergyTermType cost) {
-        if (!is_label(l1) || !is_label(l2)) throw GCException("there is no such label");
-        smooth_[std::size_t(l1) + std::size_t(l2) * label_count_] = cost;
+        check_label(l1);
+        check_label(l2);
+        if (smooth_function_)
+            throw GCException(
+                "the smooth costs are set by a function: set all of them by a table instead");
+        smooth_[std::size_t(l1) + std::size_t(l2) * label_total()] = cost;
+    }
+    // costs of two sites and their labels, where they are a weight of the sites times one table of
+    // the labels
+    void setSmoothCost(SmoothCostFn cost) { set_smooth_function(cost); }
+    void setSmoothCost(SmoothCostFnExtra cost, void *extra) {
+        set_smooth_function([cost, extra](SiteID p, SiteID q, LabelID a, LabelID b) {
+            return cost(p, q, a, b, extra);
+        });
+    }
+    void setSmoothCostFunctor(SmoothCostFunctor *functor) {
+        set_smooth_function([functor](SiteID p, SiteID q, LabelID a, LabelID b) {
+            return functor->compute(p, q, a, b);
+        });
     }
 
     // what a label costs once, where some site has it: the same for each, or one for each
-    void setLabelCost(EnergyTermType cost) { label_costs_.assign(std::size_t(label_count_), cost); }
-    void setLabelCost(const EnergyTermType *costs) { label_costs_.assign(costs, costs + label_count_); }
+    void setLabelCost(EnergyTermType cost) {
+        in_memory([&] { label_costs_.assign(label_total(), cost); });
+    }
+    void setLabelCost(const EnergyTermType *costs) {
+        in_memory([&] { label_costs_.assign(costs, costs + label_count_); });
+    }
+    template <typename... Any> void setLabelSubsetCost(Any...) {
+        static_assert(Absent<Any...>::value,
+                      "gco has no cost of a set of labels: give each label its own cost with "
+                      "setLabelCost(costs)");
+    }
 
-    EnergyType expansion(int cycles = -1) { return run(GCO_EXPANSION, cycles); }
-    EnergyType swap(int cycles = -1) { return run(GCO_SWAP, cycles); }
+    // the order of the moves
+    void setLabelOrder(bool is_random) {
+        if (is_random)
+            throw GCException(
+                "a random order of labels is not there, labels are taken in rising order: for "
+                "another order "
+                "call alpha_expansion(label) or alpha_beta_swap(label, label) yourself, in a loop");
+    }
+    void setLabelOrder(const LabelID *order, LabelID size) {
+        bool is_rising = size == label_count_;
+        for (LabelID l = 0; is_rising && l < size; l++) is_rising = order[l] == l;
+        if (!is_rising)
+            throw GCException(
+                "labels are taken in rising order, each of them: for another order call "
+                "alpha_expansion(label) or alpha_beta_swap(label, label) yourself, in a loop");
+    }
+
+    EnergyType expansion(int cycles = -1) {
+        return in_memory([&] { return run(GCO_EXPANSION, cycles); });
+    }
+    EnergyType swap(int cycles = -1) {
+        return in_memory([&] { return run(GCO_SWAP, cycles); });
+    }
     // one move; yes where a label changed, and so the energy fell
     bool alpha_expansion(LabelID alpha) {
-        const Arrays given(*this);
-        const Wide data(*given.data), smooth(given.smooth), costs(label_costs_);
-        check(gco_expand(std::uint32_t(label_count_), data.data(), data.size(), smooth.data(), smooth.size(), costs.data(), costs.size(),
-                         given.pairs->data(), given.pairs->size(), label(alpha), labels_.data(), labels_.size(), &outcome_));
-        return outcome_.changed != 0;
+        check_label(alpha);
+        return in_memory([&] { return Moves(*this).expand(alpha); });
     }
     void alpha_beta_swap(LabelID alpha, LabelID beta) {
-        const Arrays given(*this);
-        const Wide data(*given.data), smooth(given.smooth), costs(label_costs_);
-        check(gco_swap(std::uint32_t(label_count_), data.data(), data.size(), smooth.data(), smooth.size(), costs.data(), costs.size(),
-                       given.pairs->data(), given.pairs->size(), label(alpha), label(beta), labels_.data(), labels_.size(), &outcome_));
+        check_label(alpha);
+        check_label(beta);
+        in_memory([&] { return Moves(*this).swap(alpha, beta); });
     }
-    EnergyType compute_energy() { return run(GCO_EXPANSION, 0); }
+    // with the sites that have each of the two labels, all of them
+    void alpha_beta_swap(LabelID alpha, LabelID beta, const SiteID *alpha_sites, SiteID alpha_size,
+                         const SiteID *beta_sites, SiteID beta_size) {
+        check_label(alpha);
+        check_label(beta);
+        in_memory([&] {
+            check_all_sites(alpha, alpha_sites, alpha_size);
+            check_all_sites(beta, beta_sites, beta_size);
+        });
+        alpha_beta_swap(alpha, beta);
+    }
+    EnergyType compute_energy() {
+        return in_memory([&] { return Run(*this).make(GCO_EXPANSION, 0); });
+    }
     EnergyType giveDataEnergy() {
         compute_energy();
         return outcome_.data + shift_;
@@ -115,149 +245,482 @@ public:
         return outcome_.label;
     }
 
-    LabelID whatLabel(SiteID site) const { return LabelID(labels_.at(site)); }
+    LabelID whatLabel(SiteID site) const {
+        check_site(site);
+        return LabelID(labels_[std::size_t(site)]);
+    }
     void whatLabel(SiteID start, SiteID count, LabelID *labels) const {
+        if (start < 0 || count < 0 || std::int64_t(start) + count > sites_)
+            throw GCException("there are no " + std::to_string(count) + " sites from site " +
+                              std::to_string(start) + " on: there are " + std::to_string(sites_) +
+                              " sites");
         for (SiteID s = 0; s < count; s++) labels[s] = whatLabel(start + s);
     }
     void setLabel(SiteID site, LabelID label) {
-        if (!is_label(label)) throw GCException("there is no such label");
-        labels_.at(site) = std::uint32_t(label);
+        check_site(site);
+        check_label(label);
+        labels_[std::size_t(site)] = std::uint32_t(label);
     }
     SiteID numSites() const { return sites_; }
     LabelID numLabels() const { return label_count_; }
-    void setVerbosity(int) {}
+    // 0: nothing is printed, 1: each cycle, 2: each move
+    void setVerbosity(int level) { verbosity_ = level; }
 
-    // beyond gco-v3: what the last run told
+    // beyond gco-v3: what the last call told
     const gco_outcome &outcome() const { return outcome_; }
 
 protected:
+    void check_neighbours(SiteID p, SiteID q, EnergyTermType weight) const {
+        check_site(p);
+        check_site(q);
+        if (p == q) throw GCException("site " + std::to_string(p) + " is no neighbour of itself");
+        if (weight < 0)
+            throw GCException("the weight of " + names(p, q) + " is " + std::to_string(weight) +
+                              ", below 0");
+    }
+    static std::string too_many_pairs() {
+        return "there are more than 4,194,304 pairs of neighbours";
+    }
     void add_pair(SiteID p, SiteID q, EnergyTermType weight) {
-        if (p < 0 || q < 0 || p >= sites_ || q >= sites_) throw GCException("there is no such site");
-        if (p == q) throw GCException("a site is no neighbour of itself");
-        if (weight < 0) throw GCException("a weight is below 0");
-        gco_pair pair = {std::uint32_t(p), std::uint32_t(q), std::uint32_t(weight)};
-        pairs_.push_back(pair);
+        check_neighbours(p, q, weight);
+        if (pairs_.size() >= GCO_PAIR_LIMIT) throw GCException(too_many_pairs());
+        const gco_pair pair = {std::uint32_t(p), std::uint32_t(q), std::uint32_t(weight)};
+        in_memory([&] { pairs_.push_back(pair); });
+    }
+    void check_label(LabelID label) const {
+        if (label < 0 || label >= label_count_)
+            throw GCException("there is no label " + std::to_string(label) + ": there are " +
+                              std::to_string(label_count_));
+    }
+    void check_site(SiteID site) const {
+        if (site < 0 || site >= sites_)
+            throw GCException("there is no site " + std::to_string(site) + ": there are " +
+                              std::to_string(sites_));
+    }
+    static std::string names(std::int64_t p, std::int64_t q) {
+        return "sites " + std::to_string(p) + " and " + std::to_string(q);
+    }
+    // what is done without memory is told as all else is
+    template <typename Work> static auto in_memory(Work work) -> decltype(work()) {
+        try {
+            return work();
+        } catch (const std::bad_alloc &) {
+            throw GCException("there is not enough memory");
+        }
     }
     std::vector<gco_pair> pairs_;
 
 private:
-    bool is_label(LabelID label) const { return 0 <= label && label < label_count_; }
+    template <typename...> struct Absent : std::false_type {};
+    enum class DataKind { none, dense, sparse };
+    typedef std::function<EnergyTermType(SiteID, LabelID)> DataFunction;
+    typedef std::function<EnergyTermType(SiteID, SiteID, LabelID, LabelID)> SmoothFunction;
+
+    std::size_t label_total() const { return std::size_t(label_count_); }
     std::size_t place(SiteID site, LabelID label) const {
-        if (site < 0 || site >= sites_ || !is_label(label)) throw GCException("there is no such site or label");
-        return std::size_t(site) * label_count_ + label;
+        check_site(site);
+        check_label(label);
+        return std::size_t(site) * label_total() + std::size_t(label);
     }
-    static std::uint32_t common(std::uint32_t a, std::uint32_t b) {
-        while (b != 0) { std::uint32_t rest = a % b; a = b; b = rest; }
+
+    void set_data_function(DataFunction cost) {
+        data_function_ = std::move(cost);
+        data_kind_ = DataKind::dense;
+    }
+    void set_smooth_function(SmoothFunction cost) { smooth_function_ = std::move(cost); }
+    // fills the table from the function, where one gives the costs
+    void ask_data() {
+        if (!data_function_) return;
+        std::size_t at = 0;
+        for (SiteID s = 0; s < sites_; s++)
+            for (LabelID l = 0; l < label_count_; l++) data_[at++] = data_function_(s, l);
+    }
+    void check_sparse(LabelID l, const SparseDataCost *costs, SiteID count) const {
+        check_label(l);
+        if (data_kind_ == DataKind::dense)
+            throw GCException("the data costs were set for all sites before: set sparse costs for "
+                              "each label, and no others");
+        for (SiteID i = 0; i < count; i++) {
+            check_site(costs[i].site);
+            if (i > 0 && costs[i].site <= costs[i - 1].site)
+                throw GCException("the sparse costs of label " + std::to_string(l) + " name site " +
+                                  std::to_string(costs[i].site) + " behind site " +
+                                  std::to_string(costs[i - 1].site) +
+                                  ": list each site once, in rising order");
+        }
+    }
+    void check_all_sites(LabelID label, const SiteID *listed, SiteID count) const {
+        const std::string refusal =
+            "a swap takes all sites of its two labels: list each site of label " +
+            std::to_string(label) + " once, or call alpha_beta_swap(alpha, beta)";
+        std::vector<bool> is_listed(labels_.size());
+        for (SiteID i = 0; i < count; i++) {
+            if (whatLabel(listed[i]) != label || is_listed[std::size_t(listed[i])])
+                throw GCException(refusal);
+            is_listed[std::size_t(listed[i])] = true;
+        }
+        if (std::count(labels_.begin(), labels_.end(), std::uint32_t(label)) != std::max(count, 0))
+            throw GCException(refusal);
+    }
+
+    static std::uint64_t common(std::uint64_t a, std::uint64_t b) {
+        while (b != 0) {
+            const std::uint64_t rest = a % b;
+            a = b;
+            b = rest;
+        }
         return a;
     }
-    std::uint32_t label(LabelID number) const {
-        if (!is_label(number)) throw GCException("there is no such label");
-        return std::uint32_t(number);
-    }
-    static std::string told(std::uint32_t status, const gco_outcome &o) {
-        std::string place = std::to_string(o.place);
-        switch (status) {
-        case GCO_TOO_MANY_SITES: return "more than 1,048,576 sites";
-        case GCO_LABEL_COUNT: return "more than 256 labels";
-        case GCO_TOO_MANY_PAIRS: return "more than 4,194,304 pairs";
-        case GCO_WEIGHT_RANGE: return "the weight of pair " + place + " is above 1,000";
-        case GCO_DATA_RANGE: return "data cost " + place + " is more than 10,000,000 above its site's least";
-        case GCO_SMOOTH_RANGE: return "smooth cost " + place + " is not from 0 to 10,000";
-        case GCO_LABEL_COST_RANGE: return "the cost of label " + place + " is not from 0 to 10,000,000";
-        case GCO_LABEL_COST_IN_SWAP: return "a swap is asked for, and a label costs more than 0 by itself";
-        case GCO_NOT_REGULAR:
-            return "the smooth cost is no metric: the term of pair " + place + " in the move of labels " + std::to_string(o.alpha) +
-                   " and " + std::to_string(o.beta);
-        default: return "refused " + std::to_string(status);
+
+    // the smooth costs of a call: pairs within the limit of weights, and a table with a row for
+    // each label of the first site
+    struct Laid {
+        explicit Laid(const GCoptimization &given)
+            : of(given), k(given.label_total()), pairs(&given.pairs_), table(k * k) {
+            if (of.smooth_function_) {
+                ask_function();
+                return;
+            }
+            for (std::size_t a = 0; a < k; a++)
+                for (std::size_t b = 0; b < k; b++) table[a * k + b] = of.smooth_[a + b * k];
+            check_table();
+            if (is_within()) return;
+            const std::uint64_t factor = divide_by_common(table);
+            weights.reserve(of.pairs_.size());
+            for (const gco_pair &pair : of.pairs_) weights.push_back(factor * pair.weight);
+            lay(of.pairs_);
         }
-    }
-    void check(std::uint32_t status) const {
-        if (status == GCO_OUT_OF_MEMORY) throw std::bad_alloc();
-        if (status != GCO_OK) throw GCException(told(status, outcome_));
-    }
-    // a copy of 64 bits, for a single move
-    struct Wide : std::vector<std::int64_t> {
-        explicit Wide(const std::vector<std::int32_t> &of) : std::vector<std::int64_t>(of.begin(), of.end()) {}
+        Laid(const Laid &) = delete;
+        Laid &operator=(const Laid &) = delete;
+
+        void check_table() const {
+            for (std::size_t at = 0; at < table.size(); at++)
+                if (table[at] < 0)
+                    throw GCException(cost_name(at) + " is " + std::to_string(table[at]) +
+                                      ", below 0");
+        }
+        std::string cost_name(std::size_t at) const {
+            return "the smooth cost of labels " + std::to_string(at / k) + " and " +
+                   std::to_string(at % k);
+        }
+        bool is_within() const {
+            for (std::int32_t cost : table)
+                if (cost > GCO_SMOOTH_LIMIT) return false;
+            for (const gco_pair &pair : *pairs)
+                if (pair.weight > GCO_WEIGHT_LIMIT) return false;
+            return true;
+        }
+        static std::uint64_t divide_by_common(std::vector<std::int32_t> &costs) {
+            std::uint64_t factor = 0;
+            for (std::int32_t cost : costs) factor = common(factor, std::uint64_t(cost));
+            if (factor > 1)
+                for (std::int32_t &cost : costs) cost = std::int32_t(std::uint64_t(cost) / factor);
+            return factor;
+        }
+        // gives the table as much of the weights' common factor as it can take, and lays down what
+        // is left of each weight
+        void lay(const std::vector<gco_pair> &sites) {
+            const std::int64_t most = *std::max_element(table.begin(), table.end());
+            if (most > GCO_SMOOTH_LIMIT) throw GCException(too_much(most));
+            std::uint64_t all = 0, factor = 1;
+            for (std::uint64_t weight : weights) all = common(all, weight);
+            if (most > 0 && all > 0) {
+                factor = std::uint64_t(GCO_SMOOTH_LIMIT / most);
+                while (all % factor != 0) factor--;
+            }
+            for (std::int32_t &cost : table) cost = std::int32_t(std::uint64_t(cost) * factor);
+            check_count(sites, factor);
+            for (std::size_t i = 0; i < sites.size(); i++) {
+                std::uint64_t rest = weights[i] / factor;
+                for (; rest > GCO_WEIGHT_LIMIT; rest -= GCO_WEIGHT_LIMIT)
+                    add(sites[i], GCO_WEIGHT_LIMIT);
+                add(sites[i], std::uint32_t(rest));
+            }
+            pairs = &own;
+        }
+        void add(const gco_pair &sites, std::uint32_t weight) {
+            const gco_pair pair = {sites.first, sites.second, weight};
+            if (weight != 0) own.push_back(pair);
+        }
+        std::string too_much(std::int64_t most) const {
+            const std::ptrdiff_t at = std::max_element(table.begin(), table.end()) - table.begin();
+            return cost_name(std::size_t(at)) + " is " + std::to_string(most) +
+                   " without the common factor of all smooth costs, and at most 10,000 is taken";
+        }
+        // how many pairs are to be laid down, before memory is asked for them
+        void check_count(const std::vector<gco_pair> &sites, std::uint64_t factor) {
+            std::uint64_t count = 0;
+            std::size_t greatest = 0;
+            for (std::size_t i = 0; i < sites.size(); i++) {
+                if (weights[i] > weights[greatest]) greatest = i;
+                const std::uint64_t parts = (weights[i] / factor + GCO_WEIGHT_LIMIT - 1) /
+                                            GCO_WEIGHT_LIMIT;
+                count += std::min<std::uint64_t>(parts, GCO_PAIR_LIMIT + 1);
+            }
+            if (count > GCO_PAIR_LIMIT)
+                throw GCException("the weights come to more than 4,194,304 pairs of a weight of at "
+                                  "most 1,000, and the greatest "
+                                  "is that of " +
+                                  names(sites[greatest].first, sites[greatest].second) +
+                                  ": scale the weights down");
+            own.reserve(std::size_t(count));
+        }
+
+        // the costs of one pair, as gco-v3 asks for them: the greater site first
+        void ask_pair(const gco_pair &pair, std::vector<std::int32_t> &costs) const {
+            for (std::size_t a = 0; a < k; a++)
+                for (std::size_t b = 0; b < k; b++) {
+                    const EnergyTermType cost = of.smooth_function_(
+                        SiteID(pair.first), SiteID(pair.second), LabelID(a), LabelID(b));
+                    if (cost < 0)
+                        throw GCException("the smooth cost of " + names(pair.first, pair.second) +
+                                          " at labels " + std::to_string(a) + " and " +
+                                          std::to_string(b) + " is " + std::to_string(cost) +
+                                          ", below 0");
+                    costs[a * k + b] = cost;
+                }
+        }
+        // finds the table that all pairs share, and each pair's multiple of it
+        void ask_function() {
+            std::vector<gco_pair> sites(of.pairs_);
+            std::vector<std::int32_t> costs(table.size());
+            bool is_found = false;
+            std::size_t
+                mark = 0,
+                from = 0;   // a cost of the table that is not 0, and the pair that the table is of
+            for (std::size_t i = 0; i < sites.size(); i++) {
+                if (sites[i].first < sites[i].second) std::swap(sites[i].first, sites[i].second);
+                ask_pair(sites[i], costs);
+                if (!is_found) {
+                    for (mark = 0; mark < costs.size() && costs[mark] == 0; mark++) {}
+                    is_found = mark < costs.size();
+                    from = i;
+                    if (is_found) {
+                        table = costs;
+                        divide_by_common(table);
+                    }
+                }
+                const std::int64_t times = is_found ? costs[mark] / table[mark] : 0;
+                for (std::size_t at = 0; at < costs.size(); at++)
+                    if (costs[at] != times * table[at])
+                        throw GCException(no_proportion(sites[i], sites[from]));
+                weights.push_back(std::uint64_t(times) * sites[i].weight);
+            }
+            lay(sites);
+        }
+        static std::string no_proportion(const gco_pair &pair, const gco_pair &other) {
+            return "the smooth costs of " + names(pair.first, pair.second) +
+                   " are not in proportion to those of " + names(other.first, other.second) +
+                   ": gco takes smooth costs that are a weight of the two sites times "
+                   "one table of the labels";
+        }
+
+        const GCoptimization &of;
+        const std::size_t k;
+        const std::vector<gco_pair> *pairs;
+        std::vector<std::int32_t> table;
+        std::vector<std::uint64_t> weights;   // of each pair, before they are laid down
+        std::vector<gco_pair> own;
     };
-    // the arrays of a call: the data costs and the pairs are the class's own where nothing is to be changed in them
+
+    // the arrays of a call; the data costs and the pairs are the class's own where nothing is to be
+    // changed in them
     struct Arrays {
-        explicit Arrays(GCoptimization &of) : data(&of.data_), pairs(&of.pairs_), smooth(of.smooth_.size()) {
-            // the least cost of each site, where it is below 0, goes out of the table, and into the energy
+        explicit Arrays(GCoptimization &given) : of(given), laid(given) {
+            of.ask_data();
             of.shift_ = 0;
-            const std::size_t k = std::size_t(of.label_count_);
-            for (std::size_t s = 0; s < std::size_t(of.sites_); s++) {
+            const std::size_t k = of.label_total();
+            for (std::size_t s = 0; s < of.labels_.size(); s++) {
+                // the least cost of a site goes out of the table and into the energy, where it is
+                // below 0 or a cost is large
                 const EnergyTermType *row = of.data_.data() + s * k;
-                const std::int64_t least = *std::min_element(row, row + k);
-                if (least >= 0) continue;
+                const auto ends = std::minmax_element(row, row + k);
+                const std::int64_t least = *ends.first;
+                if (least >= 0 && *ends.second <= GCO_DATA_LIMIT) continue;
                 if (shifted.empty()) shifted = of.data_;
-                for (std::size_t l = 0; l < k; l++) shifted[s * k + l] = within(row[l] - least, GCO_DATA_LIMIT);
+                for (std::size_t l = 0; l < k; l++)
+                    shifted[s * k + l] = std::int32_t(checked(s, l, row[l], least));
                 of.shift_ += least;
             }
-            if (!shifted.empty()) data = &shifted;
-            // a common factor of the weights goes over to the smooth costs where a weight is too large
-            std::uint32_t most = 0, factor = 0;
-            for (const gco_pair &pair : of.pairs_) {
-                most = std::max(most, pair.weight);
-                factor = common(factor, pair.weight);
-            }
-            if (most <= GCO_WEIGHT_LIMIT || factor == 0) factor = 1;
-            if (factor > 1) {
-                divided = of.pairs_;
-                for (gco_pair &pair : divided) pair.weight /= factor;
-                pairs = &divided;
-            }
-            // a row for each label of a pair's first site
-            for (std::size_t a = 0; a < k; a++)
-                for (std::size_t b = 0; b < k; b++)
-                    smooth[a * k + b] = within(std::int64_t(of.smooth_[a + b * k]) * factor, GCO_SMOOTH_LIMIT);
         }
         Arrays(const Arrays &) = delete;
-        // a cost out of its range stays out of it
-        static std::int32_t within(std::int64_t cost, std::int64_t most) {
-            return std::int32_t(std::max(std::int64_t(-1), std::min(cost, most + 1)));
+        Arrays &operator=(const Arrays &) = delete;
+
+        static std::int64_t checked(std::size_t site, std::size_t label, std::int64_t cost,
+                                    std::int64_t least) {
+            if (cost - least > GCO_DATA_LIMIT)
+                throw GCException("the data cost of site " + std::to_string(site) + " and label " +
+                                  std::to_string(label) + " is " + std::to_string(cost) +
+                                  ", more than 10,000,000 above the least of its site, " +
+                                  std::to_string(least));
+            return cost - least;
         }
-        const std::vector<std::int32_t> *data;
-        const std::vector<gco_pair> *pairs;
-        std::vector<std::int32_t> shifted, smooth;
-        std::vector<gco_pair> divided;
+        const std::vector<std::int32_t> &data() const {
+            return shifted.empty() ? of.data_ : shifted;
+        }
+        void check(std::uint32_t status) const {
+            if (status != GCO_OK) throw GCException(told(status));
+        }
+        std::string told(std::uint32_t status) const {
+            const gco_outcome &o = of.outcome_;
+            if (status == GCO_OUT_OF_MEMORY) throw std::bad_alloc();
+            if (status == GCO_LABEL_COST_RANGE)
+                return "the cost of label " + std::to_string(o.place) + " is " +
+                       std::to_string(of.label_costs_[o.place]) + ": from 0 to 10,000,000 is taken";
+            if (status == GCO_LABEL_COST_IN_SWAP)
+                return "a swap is asked for, and a label costs more than 0 by itself";
+            if (status != GCO_NOT_REGULAR)
+                return "refused " + std::to_string(status) + " at " + std::to_string(o.place);
+            const gco_pair &pair = (*laid.pairs)[o.place];
+            return "the smooth cost is no metric: the term of " + names(pair.first, pair.second) +
+                   " is not regular in the " +
+                   (o.alpha == o.beta ? "expansion of label " + std::to_string(o.alpha)
+                                      : "swap of labels " + std::to_string(o.alpha) + " and " +
+                                            std::to_string(o.beta));
+        }
+        EnergyType energy() const {
+            return of.outcome_.data + of.outcome_.smooth + of.outcome_.label + of.shift_;
+        }
+
+        GCoptimization &of;
+        const Laid laid;
+        std::vector<std::int32_t> shifted;
     };
+
+    // runs over costs of 32 bits
+    struct Run : Arrays {
+        explicit Run(GCoptimization &given) : Arrays(given) {}
+        EnergyType make(std::uint32_t moves, std::uint32_t cycles) {
+            const std::vector<std::int32_t> &costs = data(), &own = of.label_costs_;
+            check(gco_label_int32(std::uint32_t(of.label_count_), costs.data(), costs.size(),
+                                  laid.table.data(), laid.table.size(), own.data(), own.size(),
+                                  laid.pairs->data(), laid.pairs->size(), moves, cycles,
+                                  of.labels_.data(), of.labels_.size(), &of.outcome_));
+            return energy();
+        }
+    };
+
+    // single moves, over a copy of the costs in 64 bits
+    struct Moves : Arrays {
+        typedef std::vector<std::int64_t> Wide;
+        explicit Moves(GCoptimization &given)
+            : Arrays(given), costs(data().begin(), data().end()),
+              smooth(laid.table.begin(), laid.table.end()),
+              own(given.label_costs_.begin(), given.label_costs_.end()) {}
+        bool expand(LabelID alpha) {
+            check(gco_expand(std::uint32_t(of.label_count_), costs.data(), costs.size(),
+                             smooth.data(), smooth.size(), own.data(), own.size(),
+                             laid.pairs->data(), laid.pairs->size(), std::uint32_t(alpha),
+                             of.labels_.data(), of.labels_.size(), &of.outcome_));
+            if (of.verbosity_ >= 2)
+                of.print("  expansion of label " + std::to_string(alpha), energy());
+            return of.outcome_.changed != 0;
+        }
+        bool swap(LabelID alpha, LabelID beta) {
+            check(gco_swap(std::uint32_t(of.label_count_), costs.data(), costs.size(),
+                           smooth.data(), smooth.size(), own.data(), own.size(), laid.pairs->data(),
+                           laid.pairs->size(), std::uint32_t(alpha), std::uint32_t(beta),
+                           of.labels_.data(), of.labels_.size(), &of.outcome_));
+            if (of.verbosity_ >= 2)
+                of.print("  swap of labels " + std::to_string(alpha) + " and " +
+                             std::to_string(beta),
+                         energy());
+            return of.outcome_.changed != 0;
+        }
+        // a cycle of moves; yes where one changed a label
+        bool cycle(std::uint32_t moves) {
+            bool is_changed = false;
+            for (LabelID a = 0; a < of.label_count_; a++) {
+                if (moves == GCO_EXPANSION) is_changed |= expand(a);
+                for (LabelID b = a + 1; moves == GCO_SWAP && b < of.label_count_; b++)
+                    is_changed |= swap(a, b);
+            }
+            return is_changed;
+        }
+        Wide costs, smooth, own;
+    };
+
     EnergyType run(std::uint32_t moves, int cycles) {
-        const Arrays given(*this);
-        check(gco_label_int32(std::uint32_t(label_count_), given.data->data(), given.data->size(), given.smooth.data(), given.smooth.size(),
-                              label_costs_.data(), label_costs_.size(), given.pairs->data(), given.pairs->size(), moves,
-                              cycles < 0 ? GCO_ALL_CYCLES : std::uint32_t(cycles), labels_.data(), labels_.size(), &outcome_));
-        return outcome_.data + outcome_.smooth + outcome_.label + shift_;
+        if (verbosity_ < 1)
+            return Run(*this).make(moves, cycles < 0 ? GCO_ALL_CYCLES : std::uint32_t(cycles));
+        Run calls(*this);
+        EnergyType energy = calls.make(moves, 0);
+        print("start", energy);
+        std::unique_ptr<Moves> single(verbosity_ >= 2 ? new Moves(*this) : nullptr);
+        std::uint32_t made = 0;
+        for (bool is_settled = false; !is_settled && (cycles < 0 || made < std::uint32_t(cycles));
+             made++) {
+            if (single) is_settled = !single->cycle(moves);
+            // a cycle that changes nothing is made again by one call, which tells the bound
+            energy = calls.make(moves, single && !is_settled ? 0 : 1);
+            is_settled = outcome_.settled != 0;
+            print("cycle " + std::to_string(made + 1), energy);
+        }
+        outcome_.cycles = made;
+        return energy;
+    }
+    void print(const std::string &what, EnergyType energy) const {
+        std::printf("gco: %s: energy %lld (data %lld, smooth %lld, label %lld)\n", what.c_str(),
+                    energy, static_cast<EnergyType>(outcome_.data + shift_),
+                    static_cast<EnergyType>(outcome_.smooth),
+                    static_cast<EnergyType>(outcome_.label));
+        std::fflush(stdout);
     }
 
     SiteID sites_;
     LabelID label_count_;
     std::vector<EnergyTermType> data_, smooth_, label_costs_;
+    DataFunction data_function_;
+    SmoothFunction smooth_function_;
+    DataKind data_kind_ = DataKind::none;
     std::vector<std::uint32_t> labels_;
     gco_outcome outcome_ = gco_outcome();
     EnergyType shift_ = 0;
+    int verbosity_ = 0;
 };
 
 class GCoptimizationGridGraph : public GCoptimization {
 public:
     GCoptimizationGridGraph(SiteID width, SiteID height, LabelID labels)
-        : GCoptimization(width * height, labels), width_(width), height_(height) {
+        : GCoptimization(area(width, height), labels), width_(width), height_(height) {
         join(nullptr, nullptr);
     }
-    // v[site] is the weight of a site and the one below, h[site] that of a site and the one on its right
-    void setSmoothCostVH(const EnergyTermType *costs, const EnergyTermType *v, const EnergyTermType *h) {
+    // v[site] is the weight of a site and the one below, h[site] that of a site and the one on its
+    // right
+    void setSmoothCostVH(const EnergyTermType *costs, const EnergyTermType *v,
+                         const EnergyTermType *h) {
+        each(v, h,
+             [this](SiteID p, SiteID q, EnergyTermType weight) { check_neighbours(p, q, weight); });
         setSmoothCost(costs);
         join(v, h);
     }
 
 private:
-    void join(const EnergyTermType *v, const EnergyTermType *h) {
-        pairs_.clear();
+    static SiteID area(SiteID width, SiteID height) {
+        if (width < 0 || height < 0)
+            throw GCException("there is no grid of " + std::to_string(width) + " by " +
+                              std::to_string(height) + " sites");
+        const std::int64_t sites = std::int64_t(width) * height;
+        if (sites > std::int64_t(GCO_SITE_LIMIT))
+            throw GCException("a grid of " + std::to_string(width) + " by " +
+                              std::to_string(height) + " has " + std::to_string(sites) +
+                              " sites, and at most 1,048,576 are taken");
+        return SiteID(sites);
+    }
+    // each pair of neighbours, with the weights that are given for it
+    template <typename Take>
+    void each(const EnergyTermType *v, const EnergyTermType *h, Take take) const {
         for (SiteID y = 0; y < height_; y++)
             for (SiteID x = 0; x < width_; x++) {
-                SiteID site = x + y * width_;
-                if (x + 1 < width_) add_pair(site, site + 1, h ? h[site] : 1);
-                if (y + 1 < height_) add_pair(site, site + width_, v ? v[site] : 1);
+                const SiteID site = x + y * width_;
+                if (x + 1 < width_) take(site, site + 1, h != nullptr ? h[site] : 1);
+                if (y + 1 < height_) take(site, site + width_, v != nullptr ? v[site] : 1);
             }
+    }
+    void join(const EnergyTermType *v, const EnergyTermType *h) {
+        in_memory([&] { pairs_.reserve(2 * std::size_t(numSites())); });
+        pairs_.clear();
+        each(v, h, [this](SiteID p, SiteID q, EnergyTermType weight) { add_pair(p, q, weight); });
     }
     SiteID width_, height_;
 };
@@ -266,11 +729,44 @@ class GCoptimizationGeneralGraph : public GCoptimization {
 public:
     GCoptimizationGeneralGraph(SiteID sites, LabelID labels) : GCoptimization(sites, labels) {}
     void setNeighbors(SiteID p, SiteID q, EnergyTermType weight = 1) { add_pair(p, q, weight); }
-    // each pair once, as gco-v3 takes it from the lists: of p's neighbours those above p
-    void setAllNeighbors(const SiteID *counts, SiteID *const *neighbours, EnergyTermType *const *weights) {
-        for (SiteID p = 0; p < numSites(); p++)
-            for (SiteID i = 0; i < counts[p]; i++)
-                if (p < neighbours[p][i]) add_pair(p, neighbours[p][i], weights[p][i]);
+    // of each site its neighbours and their weights, so that each pair stands in the lists of both
+    // of its sites
+    void setAllNeighbors(const SiteID *counts, const SiteID *const *neighbours,
+                         const EnergyTermType *const *weights) {
+        in_memory([&] {
+            std::vector<Listed> rising, falling;
+            for (SiteID p = 0; p < numSites(); p++)
+                for (SiteID i = 0; i < counts[p]; i++) {
+                    const SiteID q = neighbours[p][i];
+                    check_neighbours(p, q, weights[p][i]);
+                    const Listed pair = {{std::min(p, q), std::max(p, q), weights[p][i]}};
+                    (p < q ? rising : falling).push_back(pair);
+                }
+            check_both(rising, falling);
+            if (rising.size() > GCO_PAIR_LIMIT - pairs_.size()) throw GCException(too_many_pairs());
+            pairs_.reserve(pairs_.size() + rising.size());
+            for (const Listed &pair : rising) add_pair(pair[0], pair[1], pair[2]);
+        });
+    }
+
+private:
+    typedef std::array<int, 3> Listed;
+    // the pairs that the lesser site lists are those that the greater lists
+    static void check_both(std::vector<Listed> rising, std::vector<Listed> falling) {
+        std::sort(rising.begin(), rising.end());
+        std::sort(falling.begin(), falling.end());
+        if (rising == falling) return;
+        const Listed end = {{-1, -1, -1}};
+        rising.push_back(end);
+        falling.push_back(end);
+        std::size_t at = 0;
+        while (rising[at] == falling[at]) at++;
+        const Listed &one = rising[at] == end || (falling[at] != end && falling[at] < rising[at])
+                                ? falling[at]
+                                : rising[at];
+        throw GCException(names(one[0], one[1]) + " are not listed by both with the weight " +
+                          std::to_string(one[2]) +
+                          ": list each pair at both of its sites, with one weight");
     }
 };
 

@@ -1,16 +1,8 @@
-// A program in gco-v3's names: a grid of 10 by 5 sites with 7 labels, as in gco-v3's example, and each further method.
-#include <cstdio>
-#include <cstdlib>
+// A program in gco-v3's names: a grid of 10 by 5 sites with 7 labels, as in gco-v3's example, and
+// each further method.
 #include <string>
 #include "GCoptimization.h"
-
-#define WANT(x)                                                        \
-    do {                                                               \
-        if (!(x)) {                                                    \
-            std::printf("tests/gco_v3.cpp:%d: %s\n", __LINE__, #x);    \
-            return 1;                                                  \
-        }                                                              \
-    } while (0)
+#include "wanted.h"
 
 static const int width = 10, height = 5, sites = width * height, labels = 7;
 
@@ -19,22 +11,28 @@ static int data_of(int site, int label) {
     return label == 5 ? 0 : 10;
 }
 
-static int data_with(int site, int label, void *extra) { return data_of(site, label) + *static_cast<int *>(extra); }
+static int data_with(int site, int label, void *extra) {
+    return data_of(site, label) + *static_cast<int *>(extra);
+}
 
 int main() {
     int data[sites * labels], smooth[labels * labels], result[sites];
     for (int i = 0; i < sites; i++)
         for (int l = 0; l < labels; l++) data[i * labels + l] = data_of(i, l);
     for (int a = 0; a < labels; a++)
-        for (int b = 0; b < labels; b++) smooth[a + b * labels] = std::abs(a - b) <= 2 ? std::abs(a - b) : 2;
-    // 25 sites want 0 and 25 want 5, and the border between rows 0 to 2 and the half of row 2 is 11 pairs long, of cost 2
+        for (int b = 0; b < labels; b++)
+            smooth[a + b * labels] = std::abs(a - b) <= 2 ? std::abs(a - b) : 2;
+    // 25 sites want 0 and 25 want 5, and the border between rows 0 to 2 and the half of row 2 is 11
+    // pairs long, of cost 2
     GCoptimizationGridGraph grid(width, height, labels);
     grid.setDataCost(data);
     grid.setSmoothCost(smooth);
     WANT(grid.compute_energy() == 250);
-    WANT(grid.expansion(2) == 22 && grid.giveDataEnergy() == 0 && grid.giveSmoothEnergy() == 22 && grid.giveLabelEnergy() == 0);
+    WANT(grid.expansion(2) == 22 && grid.giveDataEnergy() == 0 && grid.giveSmoothEnergy() == 22 &&
+         grid.giveLabelEnergy() == 0);
     grid.whatLabel(0, sites, result);
-    for (int i = 0; i < sites; i++) WANT(result[i] == (i < 25 ? 0 : 5) && grid.whatLabel(i) == result[i]);
+    for (int i = 0; i < sites; i++)
+        WANT(result[i] == (i < 25 ? 0 : 5) && grid.whatLabel(i) == result[i]);
     WANT(grid.numSites() == sites && grid.numLabels() == labels);
     // the same by single moves, and by a function with a word of its own, which adds 1 at each site
     int extra = 1;
@@ -64,28 +62,34 @@ int main() {
     for (int y = 0; y < height; y++)
         for (int x = 1; x < width; x++) graph.setNeighbors(x + y * width, x - 1 + y * width, 5000);
     for (int y = 1; y < height; y++)
-        for (int x = 0; x < width; x++) graph.setNeighbors(x + y * width, x + (y - 1) * width, 5000);
+        for (int x = 0; x < width; x++)
+            graph.setNeighbors(x + y * width, x + (y - 1) * width, 5000);
     WANT(graph.swap() == 250 && graph.giveDataEnergy() == 250 && graph.giveSmoothEnergy() == 0);
     // data costs below 0
     graph.setDataCost(0, 3, -500000);
     WANT(graph.expansion() < -400000 && graph.whatLabel(0) == 3);
     // one so far above the least of its site that the difference is beyond 32 bits
     graph.setDataCost(0, 2, 2147483647);
-    try {
-        graph.expansion();
-        return 1;
-    } catch (GCException e) {
-        WANT(std::string(e.message).find("data cost 2 ") != std::string::npos);
-    }
+    WANT(throws<GCException>(
+        "the data cost of site 0 and label 2 is 2147483647, more than 10,000,000 above the least "
+        "of its site, "
+        "-500000",
+        [&] { graph.expansion(); }, message_of<GCException>));
     graph.setDataCost(0, 2, 10);
-    // a smooth cost that is too large once the factor is in it
+    // a smooth cost that the whole factor would take beyond its limit: 250 goes over, and weights
+    // of 20 stay
     graph.setSmoothCost(0, 6, 36);
-    try {
-        graph.expansion();
-        return 1;
-    } catch (GCException e) {
-        WANT(std::string(e.message).find("smooth cost 6 ") != std::string::npos);
-    }
+    for (int i = 0; i < sites; i++) graph.setLabel(i, 0);
+    WANT(graph.giveSmoothEnergy() == 0);
+    graph.setLabel(1, 6);   // beside sites 2 and 11, the first of their pairs, 36 each, and as the
+                            // first beside site 0 still 2
+    WANT(graph.giveSmoothEnergy() == (36 + 36 + 2) * 5000);
+    graph.setSmoothCost(0, 6, 10001);
+    WANT(throws<GCException>(
+        "the smooth cost of labels 0 and 6 is 10001 without the common factor of all smooth costs, "
+        "and at most "
+        "10,000 is taken",
+        [&] { graph.expansion(); }, message_of<GCException>));
     // a square is no metric: docs/LABEL.md's example of a term that is not regular
     GCoptimizationGeneralGraph square(2, 3);
     int far[] = {0, 9, 9, 9, 9, 0};

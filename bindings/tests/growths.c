@@ -1,5 +1,6 @@
-/* Memory: each growth of a call refused in turn, by a malloc that counts. The call answers GCO_OUT_OF_MEMORY and leaves what it
- * was given, or answers rightly all the same, and gives all of its memory back. */
+/* Memory: each growth of a call refused in turn, by a malloc that counts. The call answers
+ * GCO_OUT_OF_MEMORY and leaves what it was given, or answers rightly all the same, and gives all of
+ * its memory back. */
 #include <stdio.h>
 #include <stdlib.h>
 #include <string.h>
@@ -48,11 +49,17 @@ static uint32_t call(int which) {
     gco_outcome told;
     gco_minimum found;
     switch (which) {
-    case 0: return gco_label(3, data, 15, smooth, 9, NULL, 0, pairs, 6, GCO_EXPANSION, GCO_ALL_CYCLES, labels, 5, &told);
-    case 1: return gco_label(3, data, 15, smooth, 9, costs, 3, pairs, 6, GCO_EXPANSION, GCO_ALL_CYCLES, labels, 5, &told);
+    case 0:
+        return gco_label(3, data, 15, smooth, 9, NULL, 0, pairs, 6, GCO_EXPANSION, GCO_ALL_CYCLES,
+                         labels, 5, &told);
+    case 1:
+        return gco_label(3, data, 15, smooth, 9, costs, 3, pairs, 6, GCO_EXPANSION, GCO_ALL_CYCLES,
+                         labels, 5, &told);
     case 2: return gco_expand(3, data, 15, smooth, 9, costs, 3, pairs, 6, 2, labels, 5, &told);
     case 3: return gco_swap(3, data, 15, smooth, 9, NULL, 0, pairs, 6, 0, 2, labels, 5, &told);
-    case 4: return gco_label_int32(3, data32, 15, smooth32, 9, costs32, 3, pairs, 6, GCO_EXPANSION, GCO_ALL_CYCLES, labels, 5, &told);
+    case 4:
+        return gco_label_int32(3, data32, 15, smooth32, 9, costs32, 3, pairs, 6, GCO_EXPANSION,
+                               GCO_ALL_CYCLES, labels, 5, &told);
     default: return gco_minimise(10, ones, 1, twos, 1, threes, 1, bits, 3, &found);
     }
 }
@@ -68,24 +75,33 @@ int main(void) {
             memset(bits, 9, sizeof bits);
             count = live = 0;
             uint32_t status = call(which);
-            if (live != 0) return printf("tests/growths.c: call %d keeps %ld at %ld\n", which, live, fail_at), 1;
+            if (live != 0)
+                return printf("tests/growths.c: call %d keeps %ld at %ld\n", which, live, fail_at),
+                       1;
             if (fail_at == 0) {
                 growths = count;
-                if (status != GCO_OK || growths == 0) return printf("tests/growths.c: call %d answers %u\n", which, status), 1;
+                if (status != GCO_OK || growths == 0)
+                    return printf("tests/growths.c: call %d answers %u\n", which, status), 1;
                 memcpy(right, labels, sizeof labels);
                 memcpy(right_bits, bits, sizeof bits);
             } else if (status == GCO_OUT_OF_MEMORY) {
                 refused++;
                 for (int i = 0; i < 5; i++)
-                    if (labels[i] != 0 || bits[i % 3] != 9) return printf("tests/growths.c: call %d writes at %ld\n", which, fail_at), 1;
-            } else if (status == GCO_OK && !memcmp(labels, right, sizeof right) && !memcmp(bits, right_bits, sizeof right_bits)) {
+                    if (labels[i] != 0 || bits[i % 3] != 9)
+                        return printf("tests/growths.c: call %d writes at %ld\n", which, fail_at),
+                               1;
+            } else if (status == GCO_OK && !memcmp(labels, right, sizeof right) &&
+                       !memcmp(bits, right_bits, sizeof right_bits)) {
                 answered++;
             } else {
-                return printf("tests/growths.c: call %d answers %u at %ld\n", which, status, fail_at), 1;
+                return printf("tests/growths.c: call %d answers %u at %ld\n", which, status,
+                              fail_at),
+                       1;
             }
         }
     }
     if (refused == 0) return printf("tests/growths.c: nothing was refused\n"), 1;
-    printf("c: growths refused in turn, %ld told and %ld answered all the same, none kept\n", refused, answered);
+    printf("c: growths refused in turn, %ld told and %ld answered all the same, none kept\n",
+           refused, answered);
     return 0;
 }

@@ -1,15 +1,7 @@
-// A program in the names of Kolmogorov's Energy: worked terms, and random ones against every assignment.
-#include <cstdio>
-#include <cstdlib>
+// A program in the names of Kolmogorov's Energy: worked terms, and random ones against every
+// assignment.
 #include "energy.h"
-
-#define WANT(x)                                                            \
-    do {                                                                   \
-        if (!(x)) {                                                        \
-            std::printf("tests/kolmogorov.cpp:%d: %s\n", __LINE__, #x);    \
-            return 1;                                                      \
-        }                                                                  \
-    } while (0)
+#include "wanted.h"
 
 typedef Energy<int, int, long long> Whole;
 
@@ -68,17 +60,9 @@ int main() {
     three.add_constant(10);
     three.add_term1(0, 0, 2);
     three.add_term3(0, 1, 2, 3, 3, 3, 3, 3, 3, 3, 0);
-    WANT(three.minimize() == 12 && three.get_var(0) == 1 && three.get_var(1) == 1 && three.get_var(2) == 1);
+    WANT(three.minimize() == 12 && three.get_var(0) == 1 && three.get_var(1) == 1 &&
+         three.get_var(2) == 1);
     if (random_terms()) return 1;
-    int thrown = 0;
-    e.add_term2(x, y, 1, 0, 0, 1);
-    try { e.minimize(); } catch (const std::invalid_argument &) { thrown++; }
-    try { e.add_term1(2, 0, 0); } catch (const std::invalid_argument &) { thrown++; }
-    Whole large(1, 0);
-    large.add_variable();
-    large.add_term1(0, 0, 1000000001);
-    try { large.minimize(); } catch (const std::invalid_argument &) { thrown++; }
-    WANT(thrown == 3);
     std::printf("c++: Energy's names\n");
     return 0;
 }
