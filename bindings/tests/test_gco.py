@@ -1,24 +1,18 @@
-"""gco.py against worked examples, against the definitions tried in every case, and on what is refused."""
+"""The package against worked examples, against the definitions tried in every case, and on what is refused."""
 import array
 import itertools
 import random
 import sys
 import threading
 
+if "--without-numpy" in sys.argv:
+    sys.modules["numpy"] = None
 import gco
+from definitions import Problem
+from refusing import flat, refused
 
 DATA = [[4, 6, 9], [7, 5, 6], [8, 4, 7], [9, 7, 3], [6, 8, 5]]
 PAIRS = [(0, 1, 3), (1, 2, 2), (2, 3, 2), (3, 4, 4), (1, 3, 1), (0, 4, 1)]
-
-
-def refused(kind, call, *words, status=None, place=None, **more):
-    try:
-        call(*words, **more)
-    except kind as error:
-        assert status is None or error.status == status, (error, error.status)
-        assert place is None or error.place == place, (error, error.place)
-        return str(error)
-    raise AssertionError(f"no {kind.__name__}")
 
 
 def districts():
@@ -36,54 +30,17 @@ def districts():
     assert (list(moved.labels), moved.energy, moved.settled) == ([0, 1, 1, 2, 2], 28, False)
 
 
-# the definitions, by trying every case
-class Problem:
-    def __init__(self, data, smooth, pairs, costs):
-        self.data, self.smooth, self.pairs, self.costs = data, smooth, pairs, costs
-        self.sites, self.labels = len(data), len(smooth)
-
-    def parts(self, f):
-        return (sum(self.data[p][f[p]] for p in range(self.sites)), sum(w * self.smooth[f[p]][f[q]] for p, q, w in self.pairs),
-                sum(self.costs[label] for label in set(f)) if self.costs else 0)
-
-    def energy(self, f):
-        return sum(self.parts(f))
-
-    def label_in(self, move, old, bit):
-        if len(move) == 1:
-            return move[0] if bit else old
-        return move[bit] if old in move else old
-
-    def irregular(self, move, f):
-        for place, (p, q, w) in enumerate(self.pairs):
-            def entry(x, y):
-                return w * self.smooth[self.label_in(move, f[p], x)][self.label_in(move, f[q], y)]
-            if entry(0, 0) + entry(1, 1) > entry(0, 1) + entry(1, 0):
-                return place
-        return None
-
-    def best(self, move, f):
-        reached = {tuple(self.label_in(move, f[p], bits[p]) for p in range(self.sites)) for bits in itertools.product((0, 1), repeat=self.sites)}
-        least = min(map(self.energy, reached))
-        if least >= self.energy(f):
-            return f
-        return min((g for g in reached if self.energy(g) == least), key=lambda g: g.count(move[-1]))
-
-    def run(self, moves, cycles, f):
-        k = self.labels
-        if moves == "swap" and any(self.costs):
-            return ("refused", 27, 0, 0, 0)
-        order = [(a,) for a in range(k)] if moves == "expansion" else [(a, b) for a in range(k) for b in range(a + 1, k)]
-        for cycle in range(cycles):
-            before = f
-            for move in order:
-                place = self.irregular(move, f)
-                if place is not None:
-                    return ("refused", 24, place, move[0], move[-1])
-                f = self.best(move, f)
-            if f == before:
-                return (f, *self.parts(f), cycle + 1, True)
-        return (f, *self.parts(f), cycles, False)
+def given(rng, data, pairs):
+    """The same costs and pairs in one of the forms that they may be given in."""
+    labels = len(data[0]) if data else 0
+    forms = [(data, pairs), (array.array("q", [x for row in data for x in row]), pairs), (array.array("i", [x for row in data for x in row]), pairs)]
+    np = gco.arrays.numpy
+    if np is not None and data:
+        table, listed = np.array(data), np.array(pairs, dtype=int).reshape(-1, 3)
+        forms += [(table.astype(kind), listed) for kind in (np.uint8, np.int16, np.int32, np.uint64, ">i4")]
+        forms += [(np.asfortranarray(table), listed[:, :]), (np.repeat(table, 2, axis=1)[:, ::2], listed.astype(np.uint16)),
+                  (table.reshape(len(data), 1, labels), listed)]
+    return rng.choice(forms)
 
 
 def by_definition(count):
@@ -102,9 +59,9 @@ def by_definition(count):
         wanted = problem.run(moves, cycles, start)
         for progress in (None, lambda *told: None):
             try:
-                f = gco.label(data, array.array("q", [x for row in smooth for x in row]), pairs, label_costs=costs or None, moves=moves,
+                f = gco.label(*(lambda d, p: (d, array.array("q", [x for row in smooth for x in row]), p))(*given(rng, data, pairs)), label_costs=costs or None, moves=moves,
                               cycles=cycles, start=start, progress=progress)
-                got = (tuple(f.labels), f.data, f.smooth, f.label, f.cycles, f.settled)
+                got = (tuple(flat(f.labels)), f.data, f.smooth, f.label, f.cycles, f.settled)
                 kinds["answered"] += 1
                 if f.bound:
                     kinds["bound"] += 1
@@ -142,7 +99,7 @@ def assignments(count):
             kinds["answered"] += 1
         except gco.Refused as error:
             assert irregular and error.status == 20 and (error.place, error.fixed) == irregular[0], (turn, error)
-            assert str(error).endswith(" fixed %d at %d" % error.fixed if error.fixed else ")"), error
+            assert str(error).endswith(" fixed %d at %d" % error.fixed if error.fixed else "is not regular"), error
             kinds[20] += 1
     assert all(kinds.values()), kinds
     return kinds
@@ -217,17 +174,17 @@ def narrow():
 
 def threads():
     picture = [[[(x * 7 + y * 13 + k * 5) % 40 for k in range(6)] for x in range(60)] for y in range(50)]
-    one = list(gco.cut_grid_graph_simple(picture, gco.potts(6, 4), connect=8))
+    one = flat(gco.cut_grid_graph_simple(picture, gco.potts(6, 4), connect=8))
     answers = [None] * 4
 
     def run(i):
-        answers[i] = list(gco.cut_grid_graph_simple(picture, gco.potts(6, 4), connect=8))
+        answers[i] = flat(gco.cut_grid_graph_simple(picture, gco.potts(6, 4), connect=8))
     running = [threading.Thread(target=run, args=(i,)) for i in range(4)]
     for thread in running:
         thread.start()
     for thread in running:
         thread.join()
-    assert answers == [one] * 4
+    assert answers == [one] * 4 and len(set(one)) > 1
 
 
 def graph():
@@ -238,8 +195,7 @@ def graph():
     assert g.maxflow() == 3 * (1 + 1 + 2)
     assert [list(row) for row in g.get_grid_segments(ids)] == [[False, False, True, True]] * 3
     assert (g.get_segment(0), g.get_segment(3)) == (0, 1)
-    g.add_edge(0, 1, -1, 0)
-    refused(gco.Refused, g.maxflow, status=20)
+    refused(gco.Refused, g.add_edge, 0, 1, -1, 0, status=20)
 
 
 def with_numpy():
@@ -250,7 +206,7 @@ def with_numpy():
     refused(TypeError, gco.label, d / 2, potts, pairs)
     refused(OverflowError, gco.label, d.astype(np.uint64) + np.uint64(2**63), potts, pairs)
     refused(OverflowError, gco.label, d, potts, -pairs)
-    refused(TypeError, gco.cut_general_graph, pairs[:, :2], pairs[:, 2] / 2, d, potts)
+    refused(TypeError, gco.cut_general_graph, pairs[:, :2] / 2, pairs[:, 2], d, potts)
     start = np.zeros(5, dtype=np.int32)
     assert gco.label(d.astype(np.int32)[:, ::-1][:, ::-1], potts, pairs, start=start).energy == 27
     assert start.tolist() == [0] * 5
@@ -259,7 +215,7 @@ def with_numpy():
         assert gco.label(d.astype(kind), potts, pairs, label_costs=[2, 2, 2])[1:5] == (31, 23, 4, 4)
         assert gco.label(d.astype(kind), potts, pairs, progress=lambda *told: None)[1:] == f[1:]
     narrow = np.ascontiguousarray(d, dtype=np.int32)
-    assert gco._Call(narrow, potts, pairs, None, None, narrow=True).owners[0] is narrow
+    assert gco.labelling.Problem(narrow, potts, pairs, None, None, narrow=True).owners[0] is narrow
     refused(gco.Refused, gco.label, narrow - 9, potts, pairs, status=15, place=0)
     refused(gco.Refused, gco.label, narrow, potts + 2**40, pairs, status=16, place=0)
     refused(gco.Refused, gco.label, narrow, potts, pairs, label_costs=[1, 2, -2**40], status=17, place=2)
@@ -268,8 +224,10 @@ def with_numpy():
 
     # the pairs and edges of a grid, as they are made without numpy
     rng = random.Random(3)
-    weights = [[[rng.randrange(9) for _ in range(5)] for _ in range(4)] for _ in range(4)]
-    grids = [dict(connect=4), dict(connect=8, weight=7), dict(zip(("right", "down", "down_right", "down_left"), weights))]
+    weights = [[[rng.randrange(9) for _ in range(5)] for _ in range(4)] for _ in range(3)]
+    sides = {"right": (4, 4), "down": (3, 5), "down_right": (3, 4), "down_left": (3, 4)}
+    each = {name: [[rng.randrange(9) for _ in range(wide)] for _ in range(high)] for name, (high, wide) in sides.items()}
+    grids = [dict(connect=4), dict(connect=8, weight=7), each]
 
     def cuts():
         g = gco.Graph()
@@ -279,20 +237,20 @@ def with_numpy():
         g.add_grid_tedges(ids, weights[1], weights[2])
         return g.maxflow(), [bool(on) for row in g.get_grid_segments(ids) for on in row]
     kept = [[int(x) for x in np.asarray(gco.grid_pairs(5, 4, **grid)).ravel()] for grid in grids], cuts()
-    gco.numpy = None
+    gco.arrays.numpy = None
     assert kept == ([list(gco.grid_pairs(5, 4, **grid)) for grid in grids], cuts())
-    gco.numpy = np
-    refused(TypeError, gco.cut_grid_graph, np.zeros((4, 5, 2), dtype=int), gco.potts(2), np.ones((4, 5)) / 2, np.ones((4, 5)) / 2)
+    gco.arrays.numpy = np
+    refused(ValueError, gco.cut_grid_graph, np.zeros((4, 5, 2), dtype=int), gco.potts(2), np.ones((4, 5)), np.ones((4, 5)))
 
 
 districts()
-kinds = by_definition(300)
-least = assignments(300)
+kinds = by_definition(2000)
+least = assignments(2000)
 bad_input()
 progress()
 narrow()
 threads()
 graph()
-if gco.numpy is not None:
+if gco.arrays.numpy is not None:
     with_numpy()
-print("python", sys.version.split()[0], "with numpy" if gco.numpy is not None else "without numpy", "runs", kinds, "assignments", least)
+print("python", sys.version.split()[0], "with numpy" if gco.arrays.numpy is not None else "without numpy", "runs", kinds, "assignments", least)

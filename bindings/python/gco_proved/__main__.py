@@ -1,0 +1,34 @@
+"""`python -m gco` and `gco-picture`."""
+import sys
+from typing import List, Optional
+
+
+def main(words: Optional[List[str]] = None) -> int:
+    """Runs a command; answers 0, 1 where it was refused, and 130 where Ctrl-C stopped it."""
+    from gco_proved import __version__
+    from gco_proved.pictures import commands, problems
+    from gco_proved.pictures.options import command_line
+    from gco_proved.pictures.words import Wrong
+    options = command_line(__version__).parse_args(words)
+    try:
+        if options.command == "label":
+            sys.stdout.write(problems.label_lines(options.file, options.bound))
+            return 0
+        if options.command == "energy":
+            sys.stdout.write(problems.energy_lines(options.file))
+            return 0
+        return commands.run_picture(options)
+    except Wrong as wrong:
+        print(f"gco {options.command}: {wrong}", file=sys.stderr)
+        return 1
+    except problems.Line as line:
+        print(line, file=sys.stderr)
+        return 1
+    except KeyboardInterrupt:
+        print(f"gco {options.command}: stopped before the first move: nothing is written",
+              file=sys.stderr)
+        return commands.STOPPED
+
+
+if __name__ == "__main__":
+    sys.exit(main())

@@ -1,0 +1,317 @@
+"""label, expand and swap: labels of sites by moves, each to the best labelling that it reaches."""
+import ctypes
+import math
+import signal
+import threading
+from typing import Any, Callable, List, NamedTuple, Optional, Tuple
+
+from . import _library, arrays
+from ._library import ALL_CYCLES, MOVES, calls
+from .arrays import is_narrow, run_of, shape_of, taken, whole
+from .grids import run_of_pairs
+from .progress import bar
+from .refusals import Refused
+
+# a problem of so many costs or more is run move by move, so that Ctrl-C stops it after the move
+LONG = 1 << 22
+
+
+class Found(NamedTuple):
+    """Labels as they ended: energy = data + smooth + label.
+
+    `cycles` says how many were made, and `settled` whether the last changed nothing. `bound` is
+    (vmin, vmax) where it is known: vmin * energy is at most 2 * vmax times the least energy.
+    """
+
+    labels: Any
+    energy: int
+    data: int
+    smooth: int
+    label: int
+    cycles: int
+    settled: bool
+    bound: Optional[Tuple[int, int]]
+
+
+class Problem:
+    """The arrays of a call, and its labels, which are a copy of the start.
+
+    Where `narrow` is asked for, costs that lie in at most 32 bits go as 32 bits, and `narrow`
+    tells whether they do.
+    """
+
+    def __init__(self, data: Any, smooth: Any, pairs: Any, label_costs: Any, start: Any,
+                 narrow: bool = False) -> None:
+        tables = [taken(data, "data"), taken(smooth, "smooth"),
+                  taken(() if label_costs is None else label_costs, "label_costs")]
+        self._look(*tables)
+        self.narrow = narrow and is_narrow(tables[0])
+        names = ("data", "smooth", "label_costs")
+        try:
+            code = "i" if self.narrow else "q"
+            runs = [run_of(table, code, what) for table, what in zip(tables, names)]
+        except OverflowError:
+            if not self.narrow:
+                raise
+            self.narrow = False  # a smooth cost or label cost beyond 32 bits, which is refused
+            runs = [run_of(table, "q", what) for table, what in zip(tables, names)]
+        self.pairs = run_of_pairs(pairs)
+        self.owners = [run.owner for run in runs]
+        self.slices = [number for run in runs for number in (run.address, run.length)]
+        self.slices += [self.pairs.address, self.pairs.length // 3]
+        self._start(start)
+        self.told = _library.Outcome()
+
+    def _look(self, data, smooth, label_costs):
+        """Looks at the shapes: one smooth cost for each two labels, data costs by label."""
+        shape = _sides(smooth, "smooth", 5)
+        self.label_count = math.isqrt(shape[0]) if len(shape) == 1 else shape[0]
+        if shape not in ((self.label_count ** 2,), (self.label_count,) * 2):
+            raise Refused(5, words="smooth: one cost for each two labels is wanted, as of shape"
+                          f" {(self.label_count,) * 2}, and not {shape}")
+        if self.label_count == 0:
+            raise Refused(3)
+        shape = _sides(data, "data", 4)
+        wanted = self.label_count
+        if (shape[-1] % wanted if len(shape) == 1 else shape[-1] != wanted):
+            raise Refused(4, words=f"data: the last axis has {shape[-1]} costs, and smooth says"
+                          f" that there are {wanted} labels: the shape is {shape}, and"
+                          f" (.., {wanted}) is wanted")
+        self.shape = shape[:-1] if len(shape) > 1 else (shape[0] // wanted,)
+        costs = _sides(label_costs, "label_costs", 7)
+        if costs not in ((0,), (wanted,)):
+            raise Refused(7, words=f"label_costs: one cost for each of {wanted} labels is wanted,"
+                          f" and the shape is {costs}")
+
+    def _start(self, start):
+        self.sites = math.prod(self.shape)
+        if start is None:
+            self.labels = arrays.zeros(self.sites)
+        else:
+            start = taken(start, "start")
+            shape = shape_of(start, "start")
+            if shape not in (self.shape, (self.sites,)):
+                raise ValueError(f"start: one label for each of {self.sites:,} sites is wanted, of"
+                                 f" shape {self.shape}, and the shape is {shape}")
+            self.labels = arrays.copied_labels(start, "start")
+        self.at, _ = arrays.run_of_labels(self.labels)
+
+    def site(self, site: int) -> str:
+        """A site in the caller's words: a pixel by row and column where the data have them."""
+        if len(self.shape) != 2:
+            return f"site {site}"
+        return "the pixel in row %d, column %d" % divmod(site, self.shape[1])
+
+    def pair(self, place: int) -> Tuple[int, int, int]:
+        """The two sites and the weight of a pair."""
+        owner = self.pairs.owner
+        flat = owner.reshape(-1) if arrays.is_array(owner) else owner
+        first, second, weight = (int(flat[3 * place + part]) for part in range(3))
+        return first, second, weight
+
+    def _at(self, part, place):
+        owner = self.owners[part]
+        return int(owner.reshape(-1)[place] if arrays.is_array(owner) else owner[place])
+
+    def refused(self, status: int) -> Refused:
+        """The refusal in the caller's words."""
+        told, k, words, sites = self.told, self.label_count, None, None
+        place = told.place
+        if status in (10, 12, 14, 24):
+            first, second, weight = self.pair(place)
+            sites = (first, second)
+            words = {
+                10: f"pairs: the pair of sites {first} and {second}: the sites are 0 to"
+                    f" {self.sites - 1}",
+                12: f"pairs: a pair joins site {first} to itself",
+                14: f"pairs: the pair of sites {first} and {second} has the weight {weight}: a"
+                    " weight is from 0 to 1,000",
+                24: f"the smooth costs are no metric: {_move(told)} cannot take the pair of sites"
+                    f" {first} and {second}: take swaps, or smooth costs that are a metric",
+            }[status]
+        elif status == 15:
+            words = f"data: label {place % k} at {self.site(place // k)} costs" \
+                f" {self._at(0, place):,}: a data cost is from 0 to 10,000,000"
+        elif status == 16:
+            words = f"smooth: labels {place // k} and {place % k} cost {self._at(1, place):,}: a" \
+                " smooth cost is from 0 to 10,000"
+        elif status == 17:
+            words = f"label_costs: label {place} costs {self._at(2, place):,}: a label cost is" \
+                " from 0 to 10,000,000"
+        elif status == 11:
+            words = f"start: {self.site(place)} has label {int(self.labels[place])}: the labels" \
+                f" are 0 to {k - 1}"
+        elif status == 8:
+            words = f"the labels of a move are 0 to {k - 1}"
+        return Refused(status, place, told.alpha, told.beta, words=words, sites=sites)
+
+    def make(self, call: Any, *numbers: int) -> _library.Outcome:
+        """One call of the library over these arrays, or a Refused."""
+        told = self.told
+        status = call(self.label_count, *self.slices, *numbers, self.at, self.sites,
+                      ctypes.addressof(told))
+        if status:
+            raise self.refused(status)
+        return told
+
+    def energy(self) -> int:
+        return self.told.data + self.told.smooth + self.told.label
+
+    def found(self, cycles: int, settled: bool, bound: Optional[Tuple[int, int]] = None) -> Found:
+        told, labels = self.told, self.labels
+        if arrays.is_array(labels):
+            labels = labels.reshape(self.shape)
+        return Found(labels, self.energy(), told.data, told.smooth, told.label, cycles, settled,
+                     bound)
+
+
+def _sides(values, what, status):
+    """The shape of a table; rows of several lengths are a Refused of that status."""
+    try:
+        return shape_of(values, what) or (0,)
+    except ValueError as error:
+        raise Refused(status, words=str(error)) from None
+
+
+def _move(told):
+    if told.alpha == told.beta:
+        return f"an expansion of label {told.alpha}"
+    return f"a swap of labels {told.alpha} and {told.beta}"
+
+
+def label(data: Any, smooth: Any, pairs: Any, *, label_costs: Any = None,
+          moves: str = "expansion", cycles: Optional[int] = None, start: Any = None,
+          progress: Any = None, stoppable: Optional[bool] = None) -> Found:
+    """Makes moves from a labelling, 0 everywhere if no `start` is given, until a cycle changes
+    nothing or `cycles` are done.
+
+    `data` is an array of shape (.., labels), each cost from 0 to 10,000,000. `smooth` is one of
+    shape (labels, labels), each cost from 0 to 10,000. `pairs` are (p, q, weight) or (p, q), the
+    weight from 0 to 1,000, and 1 where it is left out. `label_costs` are one for each label from 0
+    to 10,000,000, or none. Raises Refused, ValueError for a wrong shape, TypeError for numbers with
+    a fraction, and OverflowError for numbers beyond their bits.
+
+    `progress` is called after each move with the cycle (from 1), the label of the move (of a swap
+    both), how many sites changed, and the energy. Where it answers False the run stops there, not
+    settled. True stands for a bar of tqdm where that is there, else for lines on standard error.
+
+    Ctrl-C stops a run that is `stoppable` after the move that is being made: the KeyboardInterrupt
+    has what was found till then as `partial`, which is None before the first move. A run is
+    stoppable if it has 4,194,304 data costs or more, where nothing else is said. It takes longer.
+    """
+    try:
+        return _labelled(data, smooth, pairs, label_costs, moves, cycles, start, progress,
+                         stoppable)
+    except KeyboardInterrupt as stop:
+        stop.partial = getattr(stop, "partial", None)  # type: ignore[attr-defined]
+        raise
+
+
+def _labelled(data, smooth, pairs, label_costs, moves, cycles, start, progress, stoppable):
+    """label, by one call of the library or move by move."""
+    if moves not in MOVES:
+        raise ValueError(f"moves: expansion or swap is wanted, and not {moves!r}")
+    allowed = ALL_CYCLES if cycles is None else whole(cycles, 0, ALL_CYCLES, "cycles")
+    narrow = progress is None and not stoppable
+    problem = Problem(data, smooth, pairs, label_costs, start, narrow=narrow)
+    if stoppable is None:
+        stoppable = _stops(problem)
+    if progress is None and not stoppable:
+        call = calls.gco_label_int32 if problem.narrow else calls.gco_label
+        told = problem.make(call, MOVES[moves], allowed)
+        bound = (told.vmin, told.vmax) if told.vmax else None
+        return problem.found(told.cycles, bool(told.settled), bound)
+    if problem.narrow:
+        problem = Problem(data, smooth, pairs, label_costs, start)
+    problem.make(calls.gco_label, MOVES[moves], 0)  # all that a run refuses but an irregular term
+    step = bar(problem.label_count, moves) if progress is True else progress
+    return run(problem, moves, allowed, step)
+
+
+def _stops(problem):
+    """Whether a run is to be stopped by Ctrl-C: it is long, and this thread is told of it."""
+    return (problem.sites * problem.label_count >= LONG
+            and threading.current_thread() is threading.main_thread()
+            and callable(signal.getsignal(signal.SIGINT)))
+
+
+def run(problem: Problem, moves: str, allowed: int, progress: Optional[Callable]) -> Found:
+    """The cycles of a run, move by move.
+
+    A move that comes again with no change since it was made changes nothing, so it is not made.
+    """
+    k = problem.label_count
+    order: List[Tuple[int, ...]]
+    if moves == "expansion":
+        call, order = calls.gco_expand, [(alpha,) for alpha in range(k)]
+    else:
+        call = calls.gco_swap
+        order = [(alpha, beta) for alpha in range(k) for beta in range(alpha + 1, k)]
+    still, cycle = 0, 0  # how many moves in a row are known to change nothing
+    try:
+        for cycle in range(1, allowed + 1):
+            changed_any = False
+            for change in order:
+                changed = 0
+                if still < len(order):
+                    changed = _moved(problem, call, change, progress is not None)
+                    still = 1 if changed else still + 1
+                changed_any = changed_any or changed > 0
+                named = change[0] if len(change) == 1 else change
+                if progress and progress(cycle, named, changed, problem.energy()) is False:
+                    return problem.found(cycle, False)
+            if not changed_any:
+                return problem.found(cycle, True, _bound(problem, moves))
+    except KeyboardInterrupt as stop:
+        stop.partial = problem.found(cycle, False)  # type: ignore[attr-defined]
+        raise
+    return problem.found(allowed, False)
+
+
+def _moved(problem, call, change, counted):
+    """How many sites one move changed; 1 for some where they are not counted."""
+    if not counted:
+        return int(problem.make(call, *change).changed)
+    before = problem.labels[:] if arrays.numpy is None else problem.labels.copy()
+    if not problem.make(call, *change).changed:
+        return 0
+    return arrays.differing(before, problem.labels)
+
+
+def _bound(problem, moves):
+    """The bound of a run that settled, which hangs on the smooth and label costs alone."""
+    told = _library.Outcome()
+    slices = [0, 0, *problem.slices[2:6], 0, 0]
+    calls.gco_label(problem.label_count, *slices, MOVES[moves], 1, 0, 0, ctypes.addressof(told))
+    return (told.vmin, told.vmax) if told.vmax else None
+
+
+def expand(data: Any, smooth: Any, pairs: Any, alpha: int, *, label_costs: Any = None,
+           start: Any = None) -> Found:
+    """One move: every site keeps its label or takes `alpha`. `settled`: nothing changed."""
+    problem = Problem(data, smooth, pairs, label_costs, start)
+    told = problem.make(calls.gco_expand, whole(alpha, 0, 2**32 - 1, "alpha"))
+    return problem.found(0, not told.changed)
+
+
+def swap(data: Any, smooth: Any, pairs: Any, alpha: int, beta: int, *, start: Any = None) -> Found:
+    """One move: every site that has `alpha` or `beta` takes either. `settled`: nothing changed."""
+    problem = Problem(data, smooth, pairs, None, start)
+    told = problem.make(calls.gco_swap, whole(alpha, 0, 2**32 - 1, "alpha"),
+                        whole(beta, 0, 2**32 - 1, "beta"))
+    return problem.found(0, not told.changed)
+
+
+def potts(label_count: int, cost: int = 1) -> Any:
+    """The table that costs nothing for one label and so much for two."""
+    return [[0 if a == b else cost for b in range(label_count)] for a in range(label_count)]
+
+
+def linear(label_count: int, trunc: int = 10000) -> Any:
+    """The table of how far two labels are apart, or `trunc` where that is less."""
+    return [[min(abs(a - b), trunc) for b in range(label_count)] for a in range(label_count)]
+
+
+def quadratic(label_count: int, trunc: int = 10000) -> Any:
+    """The table of the square of how far two labels are apart, or `trunc` where that is less."""
+    return [[min((a - b) ** 2, trunc) for b in range(label_count)] for a in range(label_count)]

@@ -1,0 +1,1 @@
+"""Pictures by the command line: `python -m gco`."""

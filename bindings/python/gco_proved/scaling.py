@@ -1,0 +1,183 @@
+"""Costs of a caller as whole numbers from 0 on: those below 0 are shifted, and those with a
+fraction are scaled by one power of two.
+
+The rule, where a cost has a fraction: unary costs are multiplied by `scale` and rounded to the
+nearest; pairwise costs and weights each by a power of two, whose product is `scale`, the former
+rounded up, which keeps a metric one, and the latter to the nearest. The powers are the least that
+leave no fraction, where there are such within gco's limits, and else the greatest within them.
+"""
+import math
+from typing import Any, NamedTuple, Optional
+
+from . import arrays
+from ._library import DATA_LIMIT, SMOOTH_LIMIT, WEIGHT_LIMIT
+from .arrays import run_of, shape_of, taken
+
+
+class Scaled(NamedTuple):
+    """Labels, the energy of the caller's own costs there, and by what those were multiplied.
+
+    `exact` says that the whole numbers are the costs times `scale`, with nothing rounded.
+    """
+
+    labels: Any
+    energy: Any
+    scale: float
+    exact: bool
+
+
+class Costs(NamedTuple):
+    """Whole costs from 0 on, and how they come from the caller's."""
+
+    unary: Any
+    pairwise: Any
+    weights: Any
+    scale: float
+    exact: bool
+
+
+def costs_of(values: Any, what: str) -> Any:
+    """Costs as an array of numpy, whole or with fractions; without numpy as they are given."""
+    values = taken(values, what)
+    if arrays.numpy is None:
+        run_of(values, "q", what)
+        return values
+    shape_of(values, what)
+    table = arrays.numpy.asarray(values)
+    if table.size == 0 and table.dtype.kind == "f" and not arrays.is_array(values):
+        table = table.astype(int)
+    if table.dtype.kind == "f":
+        if not arrays.numpy.isfinite(table).all():
+            raise ValueError(f"{what}: a cost is no number or has no limit: give a great one")
+        return table.astype(float)
+    if table.dtype.kind == "O":  # numbers that numpy has no kind for: too large ones, or none
+        run_of(values, "q", what)
+        raise TypeError(f"{what}: whole numbers are wanted")
+    return run_of(table, "q", what).owner
+
+
+def whole_costs(unary: Any, pairwise: Any, weights: Any,
+                down_weight_factor: Optional[float] = None) -> Costs:
+    """The whole costs of a problem by the rule above; `weights` may be None, for 1 everywhere."""
+    if arrays.numpy is None:
+        if down_weight_factor is not None:
+            raise TypeError("down_weight_factor: costs with a fraction are scaled with numpy alone:"
+                            " pip install numpy")
+        return _without_numpy(unary, pairwise, weights)
+    numpy = arrays.numpy
+    weights = numpy.ones(1, dtype=int) if weights is None else weights
+    if down_weight_factor is not None:
+        if not down_weight_factor > 0:
+            raise ValueError(f"down_weight_factor: {down_weight_factor} is not above 0")
+        unary, weights = unary / down_weight_factor, weights / down_weight_factor
+    unary, pairwise = _shifted(unary, pairwise)
+    if all(table.dtype.kind != "f" for table in (unary, pairwise, weights)):
+        pairwise, weights = _balanced(pairwise, weights)
+        return Costs(unary, pairwise, weights, 1.0, True)
+    if weights.size and weights.min() < 0:
+        raise ValueError(f"weights: {weights.min()} is below 0: a weight is from 0 on")
+    by_pairwise, by_weight = _powers(unary, pairwise, weights)
+    scale = by_pairwise * by_weight
+    whole = (numpy.rint(unary * scale), numpy.ceil(pairwise * by_pairwise - 1e-6),
+             numpy.rint(weights * by_weight))
+    exact = bool((whole[0] == unary * scale).all() and (whole[1] == pairwise * by_pairwise).all()
+                 and (whole[2] == weights * by_weight).all())
+    data, smooth, weighed = (table.astype(numpy.int64) for table in whole)
+    return Costs(data, smooth, weighed, scale / (down_weight_factor or 1), exact)
+
+
+def _shifted(unary, pairwise):
+    """Costs from 0 on: of each site's and of all pairwise ones the least is taken away, where it is
+    below 0. That changes each energy by the same amount."""
+    numpy = arrays.numpy
+    if unary.size and unary.min() < 0:
+        unary = unary - numpy.minimum(unary.min(axis=-1, keepdims=True), 0)
+    if pairwise.size and pairwise.min() < 0:
+        pairwise = pairwise - pairwise.min()
+    return unary, pairwise
+
+
+def _balanced(pairwise, weights):
+    """Whole pairwise costs or weights beyond their limit, within both, where a common factor of the
+    ones goes to the others; else as they are, and the call refuses them."""
+    numpy = arrays.numpy
+    if not pairwise.size or not weights.size or weights.min() < 0:
+        return pairwise, weights
+    greatest, heaviest = int(pairwise.max()), int(weights.max())
+    factor = _factor(pairwise, greatest, SMOOTH_LIMIT, heaviest, WEIGHT_LIMIT)
+    if factor > 1:
+        return pairwise // factor, weights * factor
+    factor = _factor(weights, heaviest, WEIGHT_LIMIT, greatest, SMOOTH_LIMIT)
+    return pairwise * factor, weights // factor
+
+
+def _factor(numbers, greatest, limit, other, other_limit):
+    """The least common factor that brings the numbers within their limit and leaves the others
+    within theirs; else 1."""
+    if greatest <= limit:
+        return 1
+    common = int(arrays.numpy.gcd.reduce(numbers.ravel()))
+    for factor in range(-(-greatest // limit), other_limit // max(other, 1) + 1):
+        if common % factor == 0:
+            return factor
+    return 1
+
+
+def _most(table, limit):
+    """The greatest power of two that keeps the numbers within the limit."""
+    greatest = float(table.max()) if table.size else 0.0
+    return 2.0 ** math.floor(math.log2(limit / greatest)) if greatest > 0 else 2.0 ** 60
+
+
+def _is_whole(table, power):
+    return bool((table * power == arrays.numpy.rint(table * power)).all())
+
+
+def _least_exact(table, most):
+    """The least power of two from 1 on that leaves no fraction, or None."""
+    if most < 1 or not _is_whole(table, most):
+        return None
+    least, great = 0, int(math.log2(most))
+    while least < great:  # a power that leaves no fraction has none above it that does
+        middle = (least + great) // 2
+        if _is_whole(table, 2.0 ** middle):
+            great = middle
+        else:
+            least = middle + 1
+    return 2.0 ** great
+
+
+def _powers(unary, pairwise, weights):
+    """The powers of two of pairwise costs and of weights."""
+    most = _most(unary, DATA_LIMIT), _most(pairwise, SMOOTH_LIMIT), _most(weights, WEIGHT_LIMIT)
+    exact = [_least_exact(table, power)
+             for table, power in zip((unary, pairwise, weights), most)]
+    scale = min(most[0], most[1] * most[2])
+    if None not in exact and max(exact[0], exact[1] * exact[2]) <= scale:
+        scale = max(exact[0], exact[1] * exact[2])
+    if exact[2] is not None:
+        by_weight = exact[2]
+    elif exact[1] is not None:
+        by_weight = scale / exact[1]
+    else:
+        by_weight = 2.0 ** round(math.log2(scale) * 3 / 7)
+    by_weight = min(max(by_weight, scale / most[1]), most[2])
+    return scale / by_weight, by_weight
+
+
+def _without_numpy(unary, pairwise, weights):
+    """Whole costs in lists, shifted."""
+    flat = run_of(pairwise, "q", "pairwise").owner
+    least = min(min(flat, default=0), 0)
+    count = math.isqrt(len(flat))
+    rows = run_of(unary, "q", "unary").owner
+    data = rows
+    if count and min(rows, default=0) < 0:
+        data = rows[:]
+        for site in range(len(rows) // count):
+            costs = rows[site * count:(site + 1) * count]
+            lowest = min(min(costs), 0)
+            for place, cost in enumerate(costs):
+                data[site * count + place] = cost - lowest
+    smooth = [cost - least for cost in flat]
+    return Costs(data, smooth, weights, 1.0, True)
