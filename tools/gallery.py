@@ -1,121 +1,178 @@
 #!/usr/bin/env python3
-"""Draws the gallery of the README from what the program writes.
+"""Draws the pictures of README.md and docs/IMAGES.md from what the program writes.
 
     gallery.py --gco crates/gco/out/gco examples docs
 
-Reads the pictures of `examples/`, runs `gco restore`, `gco stereo` and `gco segment` on them, and writes
-`restored.png`, `levels.png`, `disparities.png` and `segments.png` into the folder that is named last. Only Python's own library
-is used.
+Reads the pictures of `examples/`, runs `gco restore`, `gco stereo` and `gco segment` on them as the
+pages say, and writes `photo.png`, `room.png`, `man.png`, `restored.png`, `levels.png`,
+`disparities.png` and `segments.png` into the folder that is named last. numpy and Pillow are needed
+(Debian: python3-numpy python3-pil).
 """
 import argparse
-import struct
 import subprocess
-import zlib
+from pathlib import Path
 
-SCALE = 3
+import numpy
+from PIL import Image
+
+SCALE = 3  # of the small pictures
 GAP = 8
+LABEL_COLOURS = {1: (255, 60, 60), 2: (60, 140, 255)}
+BORDER = (255, 210, 0)
+TINT = (20, 70, 127)
 
 
 def read_pgms(data):
-    """The pictures of a P5 file of one byte a sample without comments: width, height, maxval, samples."""
+    """The pictures of a P5 file of one byte a sample without comments: samples by row and
+    column, and their maxval."""
     pictures = []
     while data:
-        words = data.split(None, 4)
-        width, height, maxval = (int(word) for word in words[1:4])
-        start = len(b'P5\n%d %d\n%d\n' % (width, height, maxval))
-        pictures.append((width, height, maxval, data[start:start + width * height]))
-        data = data[start + width * height:]
+        width, height, maxval = (int(word) for word in data.split(None, 4)[1:4])
+        start = len(b"P5\n%d %d\n%d\n" % (width, height, maxval))
+        samples = numpy.frombuffer(data[start : start + width * height], numpy.uint8)
+        pictures.append((samples.reshape(height, width), maxval))
+        data = data[start + width * height :]
     return pictures
 
 
-def run(gco, words, path):
-    """The picture that the program writes for a file."""
-    with open(path, 'rb') as file:
-        done = subprocess.run([gco] + words, stdin=file, capture_output=True, check=True)
-    return read_pgms(done.stdout)[0]
+def pgm(samples, maxval):
+    """A picture as the bytes of a P5 file."""
+    return (
+        b"P5\n%d %d\n%d\n" % (samples.shape[1], samples.shape[0], maxval)
+        + samples.astype(numpy.uint8).tobytes()
+    )
 
 
-def greys(picture):
-    """The rows of a picture in colours."""
-    width, height, maxval, samples = picture
-    return [[(sample * 255 // maxval,) * 3 for sample in samples[y * width:(y + 1) * width]] for y in range(height)]
+def in_depth(samples, old, new):
+    """Samples of one maxval in another, as `pamdepth` rounds them."""
+    return (samples.astype(numpy.int64) * new + old // 2) // old
 
 
-def seeded(picture, seeds):
+def photo(path):
+    """The grey samples of a photograph."""
+    return numpy.asarray(Image.open(path).convert("L"))
+
+
+def run(gco, command, data):
+    """The picture that the program writes for an input: its labels and their maxval."""
+    return read_pgms(
+        subprocess.run([gco, *command.split()], input=data, capture_output=True, check=True).stdout
+    )[0]
+
+
+def grey(picture):
+    """A picture of labels or samples, from black to white."""
+    samples, maxval = picture
+    return in_depth(samples, maxval, 255).astype(numpy.uint8)
+
+
+def coloured(samples):
+    """A grey picture as one of colours, in 32 levels, so that all its colours fit a palette."""
+    few = in_depth(in_depth(samples, 255, 31), 31, 255).astype(numpy.uint8)
+    return numpy.repeat(few[:, :, None], 3, axis=2)
+
+
+def image_of(drawn):
+    """Samples as an image: one byte a pixel, by a palette where they are colours."""
+    if drawn.ndim == 2:
+        return Image.fromarray(drawn)
+    colours, places = numpy.unique(drawn.reshape(-1, 3), axis=0, return_inverse=True)
+    image = Image.fromarray(places.reshape(drawn.shape[:2]).astype(numpy.uint8), "P")
+    image.putpalette(colours.astype(numpy.uint8).tobytes())
+    return image
+
+
+def seeded(samples, seeds):
     """A picture with its seeds in two colours."""
-    rows = greys(picture)
-    width = picture[0]
-    for at, seed in enumerate(seeds[3]):
-        if seed:
-            rows[at // width][at % width] = ((255, 60, 60), (60, 140, 255))[seed - 1]
-    return rows
+    drawn = coloured(samples)
+    for seed, colour in LABEL_COLOURS.items():
+        drawn[seeds == seed] = colour
+    return drawn
 
 
-def cut_out(picture, labels):
-    """A picture, whose sites of label 1 are tinted and whose border between the labels is drawn."""
-    rows = greys(picture)
-    width, height = picture[0], picture[1]
-    at = labels[3]
-    for y in range(height):
-        for x in range(width):
-            place = x + y * width
-            if (x + 1 < width and at[place] != at[place + 1]) or (y + 1 < height and at[place] != at[place + width]):
-                rows[y][x] = (255, 210, 0)
-            elif at[place]:
-                grey = rows[y][x][0]
-                rows[y][x] = (grey // 2 + 20, grey // 2 + 70, grey // 2 + 127)
-    return rows
+def cut_out(samples, labels):
+    """A picture, whose pixels of label 1 are tinted and whose border between the labels is
+    drawn."""
+    drawn = coloured(samples)
+    drawn[labels == 1] = drawn[labels == 1] // 2 + numpy.array(TINT, numpy.uint8)
+    border = numpy.zeros(labels.shape, bool)
+    border[:, :-1] |= labels[:, :-1] != labels[:, 1:]
+    border[:-1] |= labels[:-1] != labels[1:]
+    drawn[border] = BORDER
+    return drawn
 
 
 def beside(pictures):
     """Pictures of one height, side by side on white."""
-    rows = []
-    for y in range(len(pictures[0])):
-        row = []
-        for picture in pictures:
-            row += ([(255, 255, 255)] * GAP if row else []) + [colour for colour in picture[y] for _ in range(SCALE)]
-        rows += [row] * SCALE
-    return rows
+    parts = []
+    for picture in pictures:
+        shape = (picture.shape[0], GAP, *picture.shape[2:])
+        parts += ([numpy.full(shape, 255, numpy.uint8)] if parts else []) + [picture]
+    return numpy.concatenate(parts, axis=1)
 
 
-def write_png(path, rows):
-    """Writes rows of colours as a PNG."""
-    def chunk(name, data):
-        return struct.pack('>I', len(data)) + name + data + struct.pack('>I', zlib.crc32(name + data))
-    raw = b''.join(b'\0' + bytes(part for colour in row for part in colour) for row in rows)
-    with open(path, 'wb') as file:
-        file.write(b'\x89PNG\r\n\x1a\n' + chunk(b'IHDR', struct.pack('>IIBBBBB', len(rows[0]), len(rows), 8, 2, 0, 0, 0))
-                   + chunk(b'IDAT', zlib.compress(raw, 9)) + chunk(b'IEND', b''))
+def write_png(path, pictures, scale=1):
+    """Writes pictures side by side, each pixel as a square of `scale` pixels."""
+    drawn = beside([picture.repeat(scale, axis=0).repeat(scale, axis=1) for picture in pictures])
+    image_of(drawn).save(path, "PNG", optimize=True)
+
+
+def draw_photos(gco, examples, docs):
+    """The photographs: 512 pixels a side, from the files that the pages begin with."""
+    noisy = in_depth(photo(examples / "photo.jpg"), 255, 31)
+    restored = run(gco, "restore --smooth linear --trunc 8", pgm(noisy, 31))
+    write_png(docs / "photo.png", [grey((noisy, 31)), grey(restored)])
+
+    left, right = photo(examples / "left.jpg"), photo(examples / "right.jpg")
+    room = run(
+        gco,
+        "stereo --labels 40 --smooth linear --trunc 4 --weight 8 --cap 30",
+        pgm(left, 255) + pgm(right, 255),
+    )
+    small = [Image.fromarray(view).resize((256, 192), Image.LANCZOS) for view in (left, right)]
+    views = numpy.concatenate([numpy.asarray(view) for view in small])
+    write_png(docs / "room.png", [views, grey(room)])
+
+    camera, seeds = photo(examples / "camera.jpg"), in_depth(
+        photo(examples / "painted.png"), 255, 2
+    )
+    man = run(
+        gco,
+        "segment --low 128 --high 128 --strong 100 --weak 3 --edge 8",
+        pgm(camera, 255) + pgm(seeds, 2),
+    )
+    write_png(docs / "man.png", [seeded(camera, seeds), cut_out(camera, man[0])])
+
+
+def draw_small(gco, examples, docs):
+    """The small examples, each pixel three times as large."""
+    noisy = (examples / "noisy.pgm").read_bytes()
+    first = grey(read_pgms(noisy)[0])
+    potts = grey(run(gco, "restore --weight 4", noisy))
+    linear = grey(run(gco, "restore --smooth linear --trunc 3 --weight 2", noisy))
+    few = grey(run(gco, "restore --weight 4 --label-cost 50", noisy))
+    write_png(docs / "restored.png", [first, potts, linear], SCALE)
+    write_png(docs / "levels.png", [first, potts, few], SCALE)
+
+    dots = (examples / "dots.pgm").read_bytes()
+    disparities = run(gco, "stereo --labels 8 --weight 30 --cap 80", dots)
+    write_png(docs / "disparities.png", [*map(grey, read_pgms(dots)), grey(disparities)], SCALE)
+
+    two = (examples / "seeded.pgm").read_bytes()
+    (picture, _), (seeds, _) = read_pgms(two)
+    labels, _ = run(gco, "segment --low 40 --high 170 --strong 90 --weak 40 --edge 60", two)
+    write_png(docs / "segments.png", [seeded(picture, seeds), cut_out(picture, labels)], SCALE)
 
 
 def main():
     parser = argparse.ArgumentParser(description=__doc__.splitlines()[0])
-    parser.add_argument('--gco', required=True)
-    parser.add_argument('examples')
-    parser.add_argument('docs')
+    parser.add_argument("--gco", required=True)
+    parser.add_argument("examples", type=Path)
+    parser.add_argument("docs", type=Path)
     options = parser.parse_args()
-
-    noisy = options.examples + '/noisy.pgm'
-    potts = run(options.gco, ['restore', '--weight', '4'], noisy)
-    linear = run(options.gco, ['restore', '--smooth', 'linear', '--trunc', '3', '--weight', '2'], noisy)
-    with open(noisy, 'rb') as file:
-        picture = read_pgms(file.read())[0]
-    write_png(options.docs + '/restored.png', beside([greys(picture), greys(potts), greys(linear)]))
-    few = run(options.gco, ['restore', '--weight', '4', '--label-cost', '50'], noisy)
-    write_png(options.docs + '/levels.png', beside([greys(picture), greys(potts), greys(few)]))
-
-    dots = options.examples + '/dots.pgm'
-    disparities = run(options.gco, ['stereo', '--labels', '8', '--weight', '30', '--cap', '80'], dots)
-    with open(dots, 'rb') as file:
-        left, right = read_pgms(file.read())
-    write_png(options.docs + '/disparities.png', beside([greys(left), greys(right), greys(disparities)]))
-
-    two = options.examples + '/seeded.pgm'
-    segments = run(options.gco, ['segment', '--low', '40', '--high', '170', '--strong', '90', '--weak', '40', '--edge', '60'], two)
-    with open(two, 'rb') as file:
-        picture, seeds = read_pgms(file.read())
-    write_png(options.docs + '/segments.png', beside([seeded(picture, seeds), cut_out(picture, segments)]))
+    draw_photos(options.gco, options.examples, options.docs)
+    draw_small(options.gco, options.examples, options.docs)
 
 
-if __name__ == '__main__':
+if __name__ == "__main__":
     main()

@@ -1,0 +1,80 @@
+# The release: the proved program and library, with all that a user wants around them.
+#   make release                   dist/: an archive, a Debian package, the wheel, checksums
+#   make install PREFIX=/usr/local DESTDIR=
+#   make uninstall PREFIX=/usr/local DESTDIR=
+#   make check                     tries the bindings, the release, the manuals, the completions
+#                                  and the pages
+# The program and the library are what `rt run` in crates/gco and `make -C bindings` leave.
+# Others may be named:
+#   GCO=path/of/gco                the built program
+#   CRATE=path/of/gco_c            the folder whose out/ has libgco_c.a
+#   GATE_LOG=path                  what `rt ci` printed: its last line goes into RELEASE.md
+VERSION := $(shell cat VERSION)
+GCO ?= crates/gco/out/gco
+CRATE ?=
+GATE_LOG ?=
+PREFIX ?= /usr/local
+DESTDIR ?=
+PYTHON ?= python3
+NAME := gco-$(VERSION)-linux-x86_64
+STAGE := dist/$(NAME)
+ARCHIVE := dist/$(NAME).tar.gz
+DEB := dist/gco_$(VERSION)_amd64.deb
+PAGES := README.md docs/IMAGES.md docs/LABEL.md docs/ENERGY.md docs/SLOW.md docs/REFUSED.md
+BINDINGS := $(MAKE) -C bindings VERSION=$(VERSION) $(if $(CRATE),CRATE=$(abspath $(CRATE)))
+
+release: $(ARCHIVE) $(DEB)
+	cp $(STAGE)/python/*.whl dist
+	cd dist && sha256sum $(notdir $(ARCHIVE)) $(notdir $(DEB)) *.whl > SHA256SUMS
+
+$(GCO):
+	@echo "$@ is missing: prove the program (rt run in crates/gco), or name one: GCO=path" >&2
+	@exit 1
+
+# The tree of the archive. It is made anew each time, since it is made in seconds.
+$(STAGE)/SHA256SUMS: $(GCO) FORCE
+	rm -rf $(STAGE) dist/*.whl
+	$(BINDINGS) clean
+	$(BINDINGS) all wheel
+	$(BINDINGS) install PREFIX=$(abspath $(STAGE)) DESTDIR=
+	VERSION=$(VERSION) GCO=$(GCO) GATE_LOG=$(GATE_LOG) PYTHON=$(PYTHON) sh release/stage.sh $(STAGE)
+
+$(ARCHIVE): $(STAGE)/SHA256SUMS
+	tar --sort=name --owner=0 --group=0 --numeric-owner --mtime=@$$(git log -1 --format=%ct) \
+		-C dist -cf - $(NAME) | gzip -9n > $@
+
+$(DEB): $(STAGE)/SHA256SUMS
+	VERSION=$(VERSION) PYTHON=$(PYTHON) sh release/make_deb.sh $(STAGE) $@
+
+install: $(STAGE)/SHA256SUMS
+	sh $(STAGE)/install.sh --prefix "$(PREFIX)" --destdir "$(DESTDIR)"
+
+uninstall:
+	sh release/install.sh --uninstall --prefix "$(PREFIX)" --destdir "$(DESTDIR)"
+
+check: check-pages check-bindings release
+	$(PYTHON) tools/try_release.py $(ARCHIVE) $(DEB)
+	$(PYTHON) tools/run_pages.py --release $(STAGE) $(PAGES)
+	@echo "check: all passed"
+
+# What the pages say of the sources and of each other.
+check-pages: check-packages
+	$(PYTHON) tools/check_quotes.py
+	$(PYTHON) tools/check_refused.py
+	$(PYTHON) tools/check_links.py
+
+check-bindings: check-packages
+	$(BINDINGS) test
+
+check-packages:
+	@$(PYTHON) tools/check_packages.py
+
+clean:
+	rm -rf dist
+	$(MAKE) -C bindings clean
+
+FORCE:
+
+.PHONY: release install uninstall check check-pages check-bindings check-packages clean FORCE
+.DELETE_ON_ERROR:
+.NOTPARALLEL:

@@ -1,0 +1,77 @@
+#!/bin/sh
+# Lays out the tree of the release in a folder that has the library already (include, lib):
+#   VERSION=0.2.0 GCO=crates/gco/out/gco GATE_LOG= PYTHON=python3 sh release/stage.sh FOLDER
+set -eu
+
+stage=$1
+date=$(git log -1 --format=%cs)
+commit=$(git rev-parse HEAD)
+[ -z "$(git status --porcelain --untracked-files=no)" ] || commit="$commit, with changes"
+
+# The newest symbols of the C library that the program and the library ask for.
+glibc_wanted() {
+    objdump -T "$stage/bin/gco" "$stage/lib/libgco.so" \
+        | sed -n 's/.*GLIBC_\([0-9][0-9.]*\).*/\1/p' | sort -Vu | tail -1
+}
+
+# The last line of the gate's log, or that there is none.
+gate_said() {
+    if [ -n "$GATE_LOG" ]; then
+        tail -n 1 "$GATE_LOG"
+    else
+        echo "not run for this release"
+    fi
+}
+
+# The kit that stands on the path, by its own words.
+kit_name() {
+    if command -v rt > /dev/null 2>&1; then
+        rt version
+    else
+        echo "the kit that docs/PROVED.md names"
+    fi
+}
+
+put_program() {
+    install -D -m 755 "$GCO" "$stage/bin/gco"
+    $PYTHON tools/make_manuals.py --gco "$GCO" --version "$VERSION" --date "$date" \
+        "$stage/share/man/man1"
+    completions=$(mktemp -d)
+    $PYTHON tools/make_completions.py --gco "$GCO" "$completions"
+    install -D -m 644 "$completions/gco.bash" "$stage/share/bash-completion/completions/gco"
+    install -D -m 644 "$completions/_gco" "$stage/share/zsh/site-functions/_gco"
+    install -D -m 644 "$completions/gco.fish" "$stage/share/fish/vendor_completions.d/gco.fish"
+    rm -r "$completions"
+}
+
+put_pages() {
+    doc=$stage/share/doc/gco
+    mkdir -p "$doc/docs" "$doc/examples" "$doc/tools"
+    cp README.md CONTRIBUTING.md LICENSE-MIT LICENSE-APACHE "$doc"
+    cp docs/* "$doc/docs"
+    cp examples/* "$doc/examples"
+    # What the pages have a user run.
+    cp tools/where_time_goes.py tools/picture_energy.py tools/show_assignment.py "$doc/tools"
+}
+
+put_top() {
+    mkdir -p "$stage/python"
+    cp bindings/dist/gco*-"$VERSION"-*.whl "$stage/python"
+    cp LICENSE-MIT LICENSE-APACHE VERSION release/install.sh "$stage"
+    sed -e "s|@VERSION@|$VERSION|g" -e "s|@COMMIT@|$commit|" -e "s|@DATE@|$date|" \
+        -e "s|@KIT@|$(kit_name)|" \
+        -e "s|@GATE@|$(gate_said)|" -e "s|@GLIBC@|$(glibc_wanted)|" \
+        -e "s|@WHEEL@|$(cd "$stage" && echo python/*.whl)|" \
+        release/RELEASE.md.in > "$stage/RELEASE.md"
+}
+
+put_sums() {
+    cd "$stage"
+    find * -type f ! -name SHA256SUMS | LC_ALL=C sort | xargs sha256sum > SHA256SUMS
+}
+
+put_program
+put_pages
+put_top
+chmod -R u=rwX,go=rX "$stage"
+put_sums
