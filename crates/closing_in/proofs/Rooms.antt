@@ -1,8 +1,7 @@
 -- The border of a site, pair by pair.
-use Rattle.std.proofs.Common.{◌≡◌, ◌<◌, ◌≤◌, ◌+◌, ◌*◌, ◌/◌, ℕ, Bool, List, ℤ, pos, ◌+ℤ◌, unsigned_abs, to_z, of_z, w64, lit<, sym, ap, ◌∙◌, subst, add-one, arith}
+use Rattle.std.proofs.Common.{◌≡◌, ◌<◌, ◌≤◌, ◌+◌, ◌*◌, ℕ, Bool, List, ℤ, pos, ◌+ℤ◌, unsigned_abs, to_z, of_z, w64, lit<, sym, ap, ◌∙◌, subst, add-one, arith}
 use Rattle.std.specs.List.{All}
 use Rattle.std.proofs.lemmas.Int.{ints, to_z-of_z}
-use Rattle.std.proofs.lemmas.List.Elements.{All-get_or}
 use Rattle.sums.specs.Sums.{sum_below}
 use Rattle.sums.proofs.IntegerSumLemmas.{within_fits, abs-add}
 use Rattle.move_energy.specs.declared.by_site.Neighbours.{Neighbours}

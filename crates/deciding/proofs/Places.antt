@@ -1,7 +1,5 @@
 -- The places of a site's part, as the loop over them reads them.
-use Rattle.std.proofs.Common.{◌≡◌, ◌≢◌, ℕ, ◌+◌, ◌-◌, ◌*◌, ◌/◌, ◌<◌, ◌≤◌, Bool, List, length, get_or, All, Some, Contains, Result, Ok, Err, OnOk, [], ◌∷◌, ◌++◌, unsigned_abs, sym, ap, ◌∙◌, inl, inr, subst, arith}
-use Rattle.std.specs.Prelude.{slice_get}
-use Rattle.std.proofs.lemmas.Option.{get_or_from_slice_get}
+use Rattle.std.proofs.Common.{◌≡◌, ◌≢◌, ℕ, ◌+◌, ◌-◌, ◌*◌, ◌<◌, ◌≤◌, Bool, List, All, Some, Contains, Result, Ok, Err, OnOk, [], ◌∷◌, ◌++◌, unsigned_abs, sym, ap, ◌∙◌, inl, inr, subst, arith}
 use Rattle.std.proofs.lemmas.List.Elements.{All-pop, Contains-push_cases}
 use Rattle.move_energy.specs.declared.by_site.Neighbours.{Neighbours}
 use Rattle.grouping.specs.Grouping.{IsGrouped}
@@ -13,14 +11,11 @@ use Rattle.labellings.specs.Energies.{Instance, IsInstance}
 use Rattle.move_energy.specs.declared.choice.Choice.{Choice}
 use Rattle.move_energy.specs.declared.choice.Choice.TheVariants.{Open}
 use Rattle.move_energy.specs.Choices.{bit_of, choice_at}
-use Rattle.move_energy.proofs.Joins.{read_at}
 use Rattle.deciding.specs.declared.bounds.Bounds.{Bounds}
 use Rattle.deciding.specs.Decisions.{put}
 use Rattle.deciding.specs.Working.{bound_at, budget_of, IsWithinRange, IsLooking, IsMarked, AreWaiting, AreWaitingBut, ArePartlyDecided, CanDecide}
-use Rattle.move_energy.proofs.PairEnds.{Touches, end_touches}
 use Rattle.deciding.proofs.Ranges.{range_wider, below_not, tells_same}
 use Rattle.deciding.proofs.Left.{degree_most}
-use Rattle.deciding.proofs.Spreading.{pair_in}
 
 pub meant_pairs : (m : Instance) (pairs : PairList) → m.pairs ≡ pairs.list → m.sites ≡ pairs.sites → IsPairList pairs → IsInstance m
 meant_pairs m pairs same sites list =

@@ -1,6 +1,6 @@
 -- The neighbours of the sites tell the pairs of the list.
 use Rattle.std.proofs.Common.{◌≡◌, ◌≢◌, ℕ, ◌+◌, ◌<◌, Bool, All, ℤ, pos, sym, ap, ◌∙◌, sum_by, arith}
-use Rattle.sums.specs.Sums.{sum_below, counted}
+use Rattle.sums.specs.Sums.{counted}
 use Rattle.sums.specs.IntegerSums.{int_sum_below, int_sum_by}
 use Rattle.sums.proofs.SumLemmas.{sum_below-same}
 use Rattle.sums.proofs.IntegerSumLemmas.{int_sum_below-same}

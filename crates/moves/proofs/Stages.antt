@@ -10,7 +10,7 @@ use Rattle.labellings.specs.declared.change.Move.{Move}
 use Rattle.labellings.specs.declared.change.Move.TheVariants.{Expand}
 use Rattle.labellings.specs.Energies.{Instance, IsInstance, IsMetric, AreLabelsFree, labelling}
 use Rattle.labellings.proofs.Metric.{metric_allows}
-use Rattle.labellings.specs.Moves.{IsAllowed, IsBest, made}
+use Rattle.labellings.specs.Moves.{IsAllowed, IsBest}
 use Rattle.pseudo_bool.specs.Energies.{assignment}
 use Rattle.compile_cut.specs.declared.quadratic.Quadratic.{Quadratic}
 use Rattle.compile_cut.specs.Quadratics.{quadratic_value}

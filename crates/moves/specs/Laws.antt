@@ -1,5 +1,5 @@
 -- What is true of every move and every run over a metric.
-use Rattle.std.specs.Prelude.{ℕ, ◌*◌, ◌≤◌, List, IsTrue, Ok, Err}
+use Rattle.std.specs.Prelude.{ℕ, List, IsTrue, Ok, Err}
 use Rattle.labellings.specs.declared.change.Move.{Move}
 use Rattle.labellings.specs.Energies.{Instance, IsInstance, IsMetric, IsLabelled, labelling}
 use Rattle.labellings.specs.Chains.{expansions}

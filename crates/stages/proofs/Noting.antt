@@ -1,16 +1,16 @@
 -- What is remembered of the moves of a run survives each move that is noted.
-use Rattle.std.proofs.Common.{◌≡◌, ◌≢◌, ◌⊎◌, ℕ, ◌+◌, ◌<◌, ◌≤◌, Bool, true, false, cond, ltb, List, [], length, get_or, refl, sym, ap, ◌∙◌, inl, inr, subst, arith}
-use Rattle.std.specs.Prelude.{slice_index, slice_set, nat_lt}
-use Rattle.std.proofs.lemmas.Bool.{cases_Bool, cases_eq}
+use Rattle.std.proofs.Common.{◌≡◌, ◌≢◌, ℕ, ◌<◌, ◌≤◌, Bool, true, false, cond, List, [], length, refl, sym, ap, ◌∙◌, inl, inr, subst, arith}
+use Rattle.std.specs.Prelude.{slice_index}
+use Rattle.std.proofs.lemmas.Bool.{cases_eq}
 use Rattle.std.proofs.lemmas.Bool.Decides.{nat_tests}
-use Rattle.std.proofs.lemmas.List.{length-set, get_or-set_same, get_or-set_other}
+use Rattle.std.proofs.lemmas.List.{get_or-set_same, get_or-set_other}
 use Rattle.labellings.specs.declared.change.Move.TheVariants.{Expand}
 use Rattle.labellings.specs.Energies.{Instance, AreLabelsFree, labelling}
 use Rattle.labellings.specs.Moves.{IsBest}
 use Rattle.stages.specs.declared.changes.Changes.{Changes}
 use Rattle.stages.specs.Fresh.{WasExpanded}
 use Rattle.stages.specs.Looking.{changed_since}
-use Rattle.stages.specs.Changes.{made_of, changed_after, AreStamped, IsNoted, IsForgotten, IsNotedMove}
+use Rattle.stages.specs.Changes.{made_of, changed_after, AreStamped, IsNoted, IsNotedMove}
 use Rattle.stages.proofs.Ending.{best_is_low}
 
 -- nothing is remembered
