@@ -34,7 +34,7 @@ first_other pair site other (inl ends) apart = absurd (apart ends.0)
 first_other pair site other (inr ends) apart = ends
 
 -- what is asked of a pair is its rise
-asked_rise : (m : Instance) (move : Move) (f : ℕ → ℕ) (site other : ℕ) (x : ℕ → Bool) (pair : Pair) (stays turns label : ℕ)
+pub asked_rise : (m : Instance) (move : Move) (f : ℕ → ℕ) (site other : ℕ) (x : ℕ → Bool) (pair : Pair) (stays turns label : ℕ)
     → AreEnds pair site other → pair.first ≢ pair.second → AreTurned move (f site) stays turns → label ≡ label_in move (f other) (x other)
     → end_rise m pair.weight (pair.first == site) stays turns label ≡ pair_rise m move f site x pair
 asked_rise m move f site other x pair stays turns label ends unequal turned is = elim (cases_eq pair.first site) [

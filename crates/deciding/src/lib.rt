@@ -10,8 +10,10 @@ mod rising;
 mod settling;
 mod sites;
 mod summing;
+mod table;
 mod testing;
 
 pub use bounds::Bounds;
 pub use listing::Lists;
 pub use sites::Deciding;
+pub use table::{EndRises, RiseTable};

@@ -1,5 +1,5 @@
 //! By how much the energy rises where the value of one site turns from 0 to 1, as far as the others are decided.
-ghost use Rattle.std.specs.Prelude.{◌≡◌, ◌<◌, ◌≤◌, ◌+◌, ◌*◌, ◌⊎◌, ℕ, ℤ, pos, ◌-ℤ◌, Bool, true, false, length, unsigned_abs};
+ghost use Rattle.std.specs.Prelude.{◌≡◌, ◌==◌, cond, All, ◌<◌, ◌≤◌, ◌+◌, ◌*◌, ◌⊎◌, ℕ, ℤ, pos, ◌-ℤ◌, Bool, true, false, length, unsigned_abs};
 ghost use Rattle.label_field.specs.Limits.{weight_limit};
 ghost use Rattle.label_field.specs.PairLists.{IsPair};
 ghost use Rattle.move_energy.specs.BySite.{degree, AreBySite};
@@ -9,9 +9,12 @@ ghost use Rattle.cost_store.specs.Limits.{site_cost_limit, pair_cost_limit};
 ghost use Rattle.cost_store.specs.Posed.{IsPosed, IsAsked, Meant};
 ghost use Rattle.deciding.specs.Decisions.{rise};
 ghost use Rattle.deciding.specs.MoveValues.{move_value, pair_rise};
+ghost use Rattle.move_energy.specs.Choices.{bit_of};
+ghost use Rattle.deciding.specs.Rising.{rises_at, table_labels, IsSized, IsTableOf};
 ghost use Rattle.deciding.specs.Working.{AreEnds, AreTurned, end_rise as end_rise_of, valued};
 
 use crate::costs::data_rise;
+use crate::table::{EndRises, RiseTable};
 use cost_store::Problem;
 use label_field::Pair;
 use labellings::Move;
@@ -19,14 +22,14 @@ use move_energy::{Choice, Neighbours, pair_beside};
 
 /// The labels of a site: where its value is 0, and where it is 1.
 #[derive(Clone, Copy)]
-struct Turn {
-    stays: u32,
-    turns: u32,
+pub(crate) struct Turn {
+    pub stays: u32,
+    pub turns: u32,
 }
 
 impl Turn {
     /// The labels that a move gives a site of this label.
-    fn of(change: Move, label: u32) -> Turn
+    pub(crate) fn of(change: Move, label: u32) -> Turn
         ensures { AreTurned change label result.stays result.turns }
     {
         Turn {
@@ -69,7 +72,7 @@ fn label_by(choices: &[Choice], at: &[u8], change: Move, site: u32, value: bool)
 }
 
 /// By how much a pair's cost rises where one of its ends turns, and the other has this label.
-fn end_rise<F: Fn(u32, u32) -> i64 + Sync, V: Fn(u32, u32) -> i64 + Sync>(
+pub(crate) fn end_rise<F: Fn(u32, u32) -> i64 + Sync, V: Fn(u32, u32) -> i64 + Sync>(
     problem: &Problem<F, V>,
     weight: u32,
     first: bool,
@@ -92,9 +95,9 @@ fn end_rise<F: Fn(u32, u32) -> i64 + Sync, V: Fn(u32, u32) -> i64 + Sync>(
     }
 }
 
-/// By how much a pair's cost rises where its end at a site turns. Where both values of the other end's variable make
+/// By how much a pair's cost rises where its end at a site turns, as the costs are asked. Where both values of the other end's variable make
 /// one label, as they do once it is decided, one rise is both.
-fn pair_rises<F: Fn(u32, u32) -> i64 + Sync, V: Fn(u32, u32) -> i64 + Sync>(
+fn asked_rises<F: Fn(u32, u32) -> i64 + Sync, V: Fn(u32, u32) -> i64 + Sync>(
     problem: &Problem<F, V>,
     choices: &[Choice],
     at: &[u8],
@@ -133,10 +136,90 @@ fn pair_rises<F: Fn(u32, u32) -> i64 + Sync, V: Fn(u32, u32) -> i64 + Sync>(
     }
 }
 
+/// The rises of a pair, at least and at most, where this is known of its other end.
+#[inline]
+fn rises_by(rises: EndRises, choice: Choice) -> Rises
+    ensures least { result.least ≡ cond (bit_of choice true) rises.high rises.low }
+    ensures greatest { result.greatest ≡ cond (bit_of choice false) rises.high rises.low }
+{
+    let low = i64::from(rises.low);
+    let high = i64::from(rises.high);
+    match choice {
+        Choice::Open => Rises {
+            least: high,
+            greatest: low,
+        },
+        Choice::Zero => Rises {
+            least: low,
+            greatest: low,
+        },
+        Choice::One => Rises {
+            least: high,
+            greatest: high,
+        },
+    }
+}
+
+/// By how much a pair's cost rises where its end at a site turns, as the table tells it.
+#[inline]
+fn table_rises(table: &RiseTable, choices: &[Choice], at: &[u8], site: u32, pair: Pair) -> Rises
+    requires pair { IsPair (length at.now) pair }
+    requires end { (pair.first ≡ site) ⊎ (pair.second ≡ site) }
+    requires choices { length choices.now ≡ length at.now }
+    requires few { All (λ label. label < table_labels) at.now }
+    requires size { length table.now.entries.items ≡ 8192 }
+    ensures least { (other : ℕ) → AreEnds pair site other → result.least ≡ cond (valued choices.now true other)
+        (rises_at table.now (pair.first == site) (labelling at.now site) (labelling at.now other)).high
+        (rises_at table.now (pair.first == site) (labelling at.now site) (labelling at.now other)).low }
+    ensures greatest { (other : ℕ) → AreEnds pair site other → result.greatest ≡ cond (valued choices.now false other)
+        (rises_at table.now (pair.first == site) (labelling at.now site) (labelling at.now other)).high
+        (rises_at table.now (pair.first == site) (labelling at.now site) (labelling at.now other)).low }
+{
+    let first = pair.first == site;
+    let other = other_end(pair, site);
+    let own = u32::from(at[site as usize]);
+    let beside = u32::from(at[other as usize]);
+    rises_by(table.rises(first, own, beside), choices[other as usize])
+}
+
+/// By how much a pair's cost rises where its end at a site turns.
+#[inline]
+fn pair_rises<F: Fn(u32, u32) -> i64 + Sync, V: Fn(u32, u32) -> i64 + Sync>(
+    problem: &Problem<F, V>,
+    table: &RiseTable,
+    choices: &[Choice],
+    at: &[u8],
+    change: Move,
+    site: u32,
+    turn: Turn,
+    pair: Pair,
+) -> Rises
+    requires posed { IsPosed F.Fn V.Fn problem.now }
+    requires asked { IsAsked problem.now at.now change }
+    requires sized { IsSized problem.now.data_cost.labels table.now }
+    requires table { Meant F.Fn V.Fn problem.now (λ m. IsTableOf m change table.now) }
+    requires choices { length choices.now ≡ length at.now }
+    requires pair { IsPair (length at.now) pair }
+    requires end { (pair.first ≡ site) ⊎ (pair.second ≡ site) }
+    requires turn { AreTurned change (labelling at.now site) turn.stays turn.turns }
+    ensures least { Meant F.Fn V.Fn problem.now (λ m. result.least ≡ pair_rise m change
+        (labelling at.now) site (valued choices.now true) pair) }
+    ensures greatest { Meant F.Fn V.Fn problem.now (λ m. result.greatest ≡ pair_rise m change
+        (labelling at.now) site (valued choices.now false) pair) }
+    ensures range { (unsigned_abs result.least ≤ pair_cost_limit)
+        × (unsigned_abs result.greatest ≤ pair_cost_limit) }
+{
+    if !table.covers(pair.weight) {
+        return asked_rises(problem, choices, at, change, site, turn, pair);
+    }
+    table_rises(table, choices, at, site, pair)
+}
+
 /// By how much the energy rises where a site turns: its own cost's rise and those of its pairs.
 pub(crate) fn site_rises<F: Fn(u32, u32) -> i64 + Sync, V: Fn(u32, u32) -> i64 + Sync>(
     problem: &Problem<F, V>,
     ends: &Neighbours,
+    table: &RiseTable,
     choices: &[Choice],
     at: &[u8],
     change: Move,
@@ -144,6 +227,8 @@ pub(crate) fn site_rises<F: Fn(u32, u32) -> i64 + Sync, V: Fn(u32, u32) -> i64 +
 ) -> Rises
     requires posed { IsPosed F.Fn V.Fn problem.now }
     requires asked { IsAsked problem.now at.now change }
+    requires sized { IsSized problem.now.data_cost.labels table.now }
+    requires table { Meant F.Fn V.Fn problem.now (λ m. IsTableOf m change table.now) }
     requires by_site { AreBySite problem.now.pairs ends.now }
     requires choices { length choices.now ≡ length at.now }
     requires site { site < length at.now }
@@ -161,7 +246,7 @@ pub(crate) fn site_rises<F: Fn(u32, u32) -> i64 + Sync, V: Fn(u32, u32) -> i64 +
     let mut greatest = own;
     for place in ends.starts[site as usize]..ends.starts[site as usize + 1] {
         let pair = pair_beside(&problem.pairs, ends, site, place);
-        let rises = pair_rises(problem, choices, at, change, site, turn, pair);
+        let rises = pair_rises(problem, table, choices, at, change, site, turn, pair);
         least += rises.least;
         greatest += rises.greatest;
     }

@@ -1,5 +1,5 @@
 //! Deciding the sites that wait, one after another.
-ghost use Rattle.std.specs.Prelude.{◌≡◌, ◌≢◌, ◌⊎◌, ◌<◌, ◌≤◌, ◌+◌, ◌*◌, ◌^◌, ℕ, ℤ, pos, ◌≤ℤ◌, ◌<ℤ◌, Bool, true, false, All, length, slice_get, Some, unsigned_abs, OnOk, IsTrue, ◌↔◌, []};
+ghost use Rattle.std.specs.Prelude.{◌≡◌, ◌≢◌, ◌⊎◌, ◌<◌, ◌≤◌, ◌+◌, ◌*◌, ◌^◌, ℕ, ℤ, pos, ◌-ℤ◌, ◌≤ℤ◌, ◌<ℤ◌, Bool, true, false, All, length, slice_get, Some, unsigned_abs, OnOk, IsTrue, ◌↔◌, []};
 ghost use Rattle.grouping.specs.Grouping.{IsGrouped};
 ghost use Rattle.label_field.specs.PairLists.{IsPair, IsPairList};
 ghost use Rattle.move_energy.specs.BySite.{degree, AreBySite};
@@ -11,10 +11,13 @@ ghost use Rattle.move_energy.specs.declared.choice.Choice.TheVariants.{Open};
 ghost use Rattle.move_energy.specs.Choices.{choice_at, bit_of};
 ghost use Rattle.cost_store.specs.Limits.{site_cost_limit};
 ghost use Rattle.move_energy.specs.Limits.{surplus_limit};
+ghost use Rattle.move_energy.specs.Weights.{surplus_of, term_of};
+ghost use Rattle.deciding.specs.Rising.{rises_at, table_labels, IsSized, IsTableOf};
 ghost use Rattle.deciding.specs.Working.{bound_at, summed, CanDecide, TellsValue, IsMarked, IsSummed, IsWithinRange, AreWaiting, AreWaitingBut, ArePartlyDecided, SeesPair, IsLooking, Shifts, least_shift as least_shift_of, greatest_shift as greatest_shift_of, left, budget_of, greatest_total};
 
 use crate::Bounds;
 use crate::rising::other_end;
+use crate::table::RiseTable;
 use cost_store::Problem;
 use label_field::Pair;
 use labellings::Move;
@@ -45,6 +48,46 @@ fn greatest_shift(value: bool, surplus: i64) -> i64
     ensures range { unsigned_abs result ≤ surplus_limit }
 {
     if value { -surplus } else { 0 }
+}
+
+/// What the values of two sites save together, as the table tells it: the difference of the two rises of the first.
+#[inline]
+fn table_surplus(table: &RiseTable, at: &[u8], pair: Pair) -> i64
+    requires pair { IsPair (length at.now) pair }
+    requires few { All (λ label. label < table_labels) at.now }
+    requires size { length table.now.entries.items ≡ 8192 }
+    ensures { result ≡ (rises_at table.now true (labelling at.now pair.first) (labelling at.now pair.second)).low
+        -ℤ (rises_at table.now true (labelling at.now pair.first) (labelling at.now pair.second)).high }
+{
+    let own = u32::from(at[pair.first as usize]);
+    let other = u32::from(at[pair.second as usize]);
+    let rises = table.rises(true, own, other);
+    i64::from(rises.low) - i64::from(rises.high)
+}
+
+/// The surplus of a pair.
+#[inline]
+fn pair_surplus<F: Fn(u32, u32) -> i64 + Sync, V: Fn(u32, u32) -> i64 + Sync>(
+    problem: &Problem<F, V>,
+    table: &RiseTable,
+    at: &[u8],
+    change: Move,
+    pair: Pair,
+) -> i64
+    requires posed { IsPosed F.Fn V.Fn problem.now }
+    requires asked { IsAsked problem.now at.now change }
+    requires pair { IsPair (length at.now) pair }
+    requires labels { IsSized problem.now.data_cost.labels table.now }
+    requires table { Meant F.Fn V.Fn problem.now (λ m. IsTableOf m change table.now) }
+    ensures value { Meant F.Fn V.Fn problem.now
+        (λ m. result ≡ surplus_of (term_of m change (labelling at.now) pair)) }
+    ensures range { unsigned_abs result ≤ surplus_limit }
+{
+    if !table.covers(pair.weight) {
+        let costs = term(problem, at, change, pair);
+        return surplus(&costs);
+    }
+    table_surplus(table, at, pair)
 }
 
 impl Bounds {
@@ -99,6 +142,7 @@ impl Bounds {
     fn see<F: Fn(u32, u32) -> i64 + Sync, V: Fn(u32, u32) -> i64 + Sync>(
         &mut self,
         problem: &Problem<F, V>,
+        table: &RiseTable,
         at: &[u8],
         change: Move,
         pair: Pair,
@@ -106,6 +150,8 @@ impl Bounds {
         value: bool,
     ) -> Result<(), AllocError>
         requires posed { IsPosed F.Fn V.Fn problem.now }
+        requires labels { IsSized problem.now.data_cost.labels table.now }
+        requires table { Meant F.Fn V.Fn problem.now (λ m. IsTableOf m change table.now) }
         requires asked { IsAsked problem.now at.now change }
         requires pair { IsPair (length at.now) pair }
         requires end { (pair.first ≡ site) ⊎ (pair.second ≡ site) }
@@ -121,8 +167,8 @@ impl Bounds {
         if !self.has_bounds(other) {
             return Ok(());
         }
-        let table = term(problem, at, change, pair);
-        self.shift(other, value, surplus(&table))
+        let surplus = pair_surplus(problem, table, at, change, pair);
+        self.shift(other, value, surplus)
     }
 
     /// Gives a site its value.
@@ -138,6 +184,7 @@ impl Bounds {
         &mut self,
         problem: &Problem<F, V>,
         ends: &Neighbours,
+        table: &RiseTable,
         at: &[u8],
         change: Move,
         site: u32,
@@ -146,6 +193,8 @@ impl Bounds {
         requires posed { IsPosed F.Fn V.Fn problem.now }
         requires asked { IsAsked problem.now at.now change }
         requires by_site { AreBySite problem.now.pairs ends.now }
+        requires labels { IsSized problem.now.data_cost.labels table.now }
+        requires table { Meant F.Fn V.Fn problem.now (λ m. IsTableOf m change table.now) }
         requires site { (site < summed self.old) × (choice_at self.old.choices.items site ≡ Open) }
         requires sized { IsSummed (length at.now) self.old }
         requires range { IsWithinRange (2 ^ 59) self.old }
@@ -168,7 +217,7 @@ impl Bounds {
         self.mark(site as usize, value);
         for place in ends.starts[site as usize]..ends.starts[site as usize + 1] {
             let pair = pair_beside(&problem.pairs, ends, site, place);
-            self.see(problem, at, change, pair, site, value)?;
+            self.see(problem, table, at, change, pair, site, value)?;
         }
         Ok(())
     }
@@ -187,6 +236,7 @@ impl Bounds {
         &mut self,
         problem: &Problem<F, V>,
         ends: &Neighbours,
+        table: &RiseTable,
         at: &[u8],
         change: Move,
         site: u32,
@@ -194,6 +244,8 @@ impl Bounds {
         requires posed { IsPosed F.Fn V.Fn problem.now }
         requires asked { IsAsked problem.now at.now change }
         requires by_site { AreBySite problem.now.pairs ends.now }
+        requires labels { IsSized problem.now.data_cost.labels table.now }
+        requires table { Meant F.Fn V.Fn problem.now (λ m. IsTableOf m change table.now) }
         requires site { site < summed self.old }
         requires sized { IsSummed (length at.now) self.old }
         requires left { left ends.now (length at.now) self.old.choices.items ≤ 2 * length
@@ -223,7 +275,7 @@ impl Bounds {
             return Ok(());
         }
         let value = self.told_value(place);
-        self.decide(problem, ends, at, change, site, value)
+        self.decide(problem, ends, table, at, change, site, value)
     }
 
     /// Decides the sites that wait, and those whose values then can be told, until none is left.
@@ -231,12 +283,15 @@ impl Bounds {
         &mut self,
         problem: &Problem<F, V>,
         ends: &Neighbours,
+        table: &RiseTable,
         at: &[u8],
         change: Move,
     ) -> Result<(), AllocError>
         requires posed { IsPosed F.Fn V.Fn problem.now }
         requires asked { IsAsked problem.now at.now change }
         requires by_site { AreBySite problem.now.pairs ends.now }
+        requires labels { IsSized problem.now.data_cost.labels table.now }
+        requires table { Meant F.Fn V.Fn problem.now (λ m. IsTableOf m change table.now) }
         requires sized { IsSummed (length at.now) self.old }
         requires left { left ends.now (length at.now) self.old.choices.items ≤ 2 * length
             problem.now.pairs.list }
@@ -259,7 +314,7 @@ impl Bounds {
             ArePartlyDecided m change (labelling at.now) (summed self.old) self.new)) }
     {
         'settling: while let Some(site) = self.waiting.pop() {
-            self.settle(problem, ends, at, change, site)?;
+            self.settle(problem, ends, table, at, change, site)?;
         }
         Ok(())
     }

@@ -11,6 +11,7 @@ ghost use Rattle.deciding.specs.Decided.{IsDecidedMove};
 ghost use Rattle.deciding.specs.Listed.{AreListed, AreEmpty};
 ghost use Rattle.deciding.specs.Working.{AreOfSites, AreOfNoSites};
 
+use crate::table::RiseTable;
 use crate::testing::test_terms;
 use crate::{Bounds, Lists};
 use cost_store::Problem;
@@ -23,6 +24,7 @@ use std::alloc::{AllocError, Global};
 #[derive(Drop)]
 pub struct Deciding {
     pub ends: Neighbours,
+    pub table: RiseTable,
     pub bounds: Bounds,
     pub lists: Lists,
 }
@@ -37,6 +39,7 @@ impl Deciding {
     {
         Deciding {
             ends: Neighbours::empty(alloc),
+            table: RiseTable::empty(alloc),
             bounds: Bounds::new(alloc),
             lists: Lists::empty(alloc),
         }
@@ -50,6 +53,7 @@ impl Deciding {
     {
         Ok(Deciding {
             ends: group_pairs(alloc, pairs)?,
+            table: RiseTable::empty(alloc),
             bounds: Bounds::new(alloc),
             lists: Lists::empty(alloc),
         })
@@ -88,8 +92,11 @@ impl Deciding {
     {
         self.lists.listed = false;
         test_terms(problem, at, change)?;
+        self.table
+            .make(problem, change, at.len(), self.ends.weight)?;
         self.bounds.open_sites(at, change)?;
-        self.bounds.decide_sites(problem, &self.ends, at, change)?;
+        self.bounds
+            .decide_sites(problem, &self.ends, &self.table, at, change)?;
         self.lists.fill(at, change, &self.bounds.choices)?;
         Ok(())
     }

@@ -8,10 +8,12 @@ ghost use Rattle.labellings.specs.Energies.{labelling};
 ghost use Rattle.cost_store.specs.Posed.{IsPosed, IsAsked, Meant};
 ghost use Rattle.move_energy.specs.declared.choice.Choice.TheVariants.{Open, One};
 ghost use Rattle.move_energy.specs.Choices.{choice_at, Changes};
+ghost use Rattle.deciding.specs.Rising.{IsSized, IsTableOf};
 ghost use Rattle.deciding.specs.Working.{summed, CanDecide, AreOfSites, IsSummed, IsWithinRange, AddsBounds, AreUndecided, AreWaiting, ArePartlyDecided, left, budget_of, greatest_total};
 
 use crate::Bounds;
 use crate::rising::site_rises;
+use crate::table::RiseTable;
 use cost_store::Problem;
 use labellings::Move;
 use move_energy::{Choice, Neighbours};
@@ -83,6 +85,7 @@ impl Bounds {
         &mut self,
         problem: &Problem<F, V>,
         ends: &Neighbours,
+        table: &RiseTable,
         at: &[u8],
         change: Move,
         site: u32,
@@ -90,6 +93,8 @@ impl Bounds {
         requires posed { IsPosed F.Fn V.Fn problem.now }
         requires asked { IsAsked problem.now at.now change }
         requires by_site { AreBySite problem.now.pairs ends.now }
+        requires labels { IsSized problem.now.data_cost.labels table.now }
+        requires table { Meant F.Fn V.Fn problem.now (λ m. IsTableOf m change table.now) }
         requires site { (site < length at.now) × (summed self.old ≡ site) }
         requires sized { IsSummed (length at.now) self.old }
         requires left { left ends.now (length at.now) self.old.choices.items ≤ 2 * length
@@ -111,7 +116,7 @@ impl Bounds {
         if !self.choices[site as usize].is_open() {
             return self.add_bounds(0, 0);
         }
-        let rises = site_rises(problem, ends, &self.choices, at, change, site);
+        let rises = site_rises(problem, ends, table, &self.choices, at, change, site);
         self.add_bounds(rises.least, rises.greatest)?;
         self.call_up(site)
     }
@@ -122,12 +127,15 @@ impl Bounds {
         &mut self,
         problem: &Problem<F, V>,
         ends: &Neighbours,
+        table: &RiseTable,
         at: &[u8],
         change: Move,
     ) -> Result<(), AllocError>
         requires posed { IsPosed F.Fn V.Fn problem.now }
         requires asked { IsAsked problem.now at.now change }
         requires by_site { AreBySite problem.now.pairs ends.now }
+        requires labels { IsSized problem.now.data_cost.labels table.now }
+        requires table { Meant F.Fn V.Fn problem.now (λ m. IsTableOf m change table.now) }
         requires undecided { AreUndecided change at.now self.old }
         ensures sized { OnOk result (AreOfSites (length at.now) self.new) }
         ensures total { OnOk result (greatest_total self.new ≤ weights_limit) }
@@ -137,8 +145,8 @@ impl Bounds {
             (labelling at.now) (length at.now) self.new)) }
     {
         for site in 0..at.len() {
-            self.sum_site(problem, ends, at, change, site as u32)?;
-            self.settle_all(problem, ends, at, change)?;
+            self.sum_site(problem, ends, table, at, change, site as u32)?;
+            self.settle_all(problem, ends, table, at, change)?;
         }
         Ok(())
     }

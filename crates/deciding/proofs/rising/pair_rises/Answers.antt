@@ -1,29 +1,31 @@
-use Rattle.std.proofs.Common.{refl, true, false}
-use Rattle.labellings.specs.Energies.{labelling}
+use Rattle.std.proofs.Common.{true, false}
 use Rattle.deciding.specs.Working.{valued}
-use Rattle.deciding.proofs.SiteSums.{passed_rise}
+use Rattle.deciding.proofs.Tables.{other_of, table_rise, table_small}
 use Rattle.deciding.proofs.rising.pair_rises.Goals as goal
-
-pub returns-then-high-low-clause-least : goal.returns-then-high-low-clause-least
-returns-then-high-low-clause-least g c = λ m answers.
-    let a = c.args in
-    passed_rise m a.change (labelling a.at.now) a.site c.other_end-other.result (valued a.choices.now true) a.pair a.turn.stays a.turn.turns _ _ c.end_rise-greatest.result c.end_rise-greatest.ensures.range
-    (c.end_rise-greatest.ensures.rise m answers) c.other_end-other.ensures c.requires.pair.unequal c.requires.turn c.if-high-low.true c.label_by-high.ensures
-
-pub returns-then-high-low-clause-greatest : goal.returns-then-high-low-clause-greatest
-returns-then-high-low-clause-greatest g c = λ m answers.
-    let a = c.args in
-    passed_rise m a.change (labelling a.at.now) a.site c.other_end-other.result (valued a.choices.now false) a.pair a.turn.stays a.turn.turns _ _ c.end_rise-greatest.result c.end_rise-greatest.ensures.range
-    (c.end_rise-greatest.ensures.rise m answers) c.other_end-other.ensures c.requires.pair.unequal c.requires.turn refl c.label_by-low.ensures
 
 pub returns-clause-least : goal.returns-clause-least
 returns-clause-least g c = λ m answers.
     let a = c.args in
-    passed_rise m a.change (labelling a.at.now) a.site c.other_end-other.result (valued a.choices.now true) a.pair a.turn.stays a.turn.turns _ _ c.end_rise.result c.end_rise.ensures.range
-    (c.end_rise.ensures.rise m answers) c.other_end-other.ensures c.requires.pair.unequal c.requires.turn refl c.label_by-high.ensures
+    let ends = other_of a.pair a.site c.requires.end in
+    let told = c.covers.ensures c.if-not-covers.false in
+    table_rise m a.change a.at.now a.pair a.site ends.0 (valued a.choices.now true) a.table.now a.problem.now.data_cost.labels _ c.requires.asked.labels answers.labels_are
+    c.requires.pair ends.1 told.0 told.1 (c.requires.table m answers) (c.table_rises.ensures.least ends.0 ends.1)
 
 pub returns-clause-greatest : goal.returns-clause-greatest
 returns-clause-greatest g c = λ m answers.
     let a = c.args in
-    passed_rise m a.change (labelling a.at.now) a.site c.other_end-other.result (valued a.choices.now false) a.pair a.turn.stays a.turn.turns _ _ c.end_rise-greatest.result c.end_rise-greatest.ensures.range
-    (c.end_rise-greatest.ensures.rise m answers) c.other_end-other.ensures c.requires.pair.unequal c.requires.turn refl c.label_by-low.ensures
+    let ends = other_of a.pair a.site c.requires.end in
+    let told = c.covers.ensures c.if-not-covers.false in
+    table_rise m a.change a.at.now a.pair a.site ends.0 (valued a.choices.now false) a.table.now a.problem.now.data_cost.labels _ c.requires.asked.labels answers.labels_are
+    c.requires.pair ends.1 told.0 told.1 (c.requires.table m answers) (c.table_rises.ensures.greatest ends.0 ends.1)
+
+pub returns-clause-range : goal.returns-clause-range
+returns-clause-range g c =
+    let a = c.args in
+    let ends = other_of a.pair a.site c.requires.end in
+    let told = c.covers.ensures c.if-not-covers.false in (
+      table_small a.at.now a.pair a.site ends.0 (valued a.choices.now true ends.0) a.table.now a.problem.now.data_cost.labels _ c.requires.asked.labels
+          c.requires.pair ends.1 told.0 c.requires.sized (c.table_rises.ensures.least ends.0 ends.1),
+      table_small a.at.now a.pair a.site ends.0 (valued a.choices.now false ends.0) a.table.now a.problem.now.data_cost.labels _ c.requires.asked.labels
+          c.requires.pair ends.1 told.0 c.requires.sized (c.table_rises.ensures.greatest ends.0 ends.1),
+    )

@@ -36,4 +36,4 @@ returns-clause-sees g c =
     on_ok_weaker c.shift.result (λ shifts m answers.
     sees_open m c.args.change (labelling c.args.at.now) (length c.args.self.now.least.items) c.args.pair c.args.site c.other_end-other.result c.args.value _ c.args.self.now c.shift.new.self
     c.other_end-other.ensures (ends_apart c.args.pair c.args.site c.other_end-other.result c.other_end-other.ensures c.requires.pair.unequal)
-    (passed_on c.surplus.result c.surplus.ensures.range ∙ c.surplus.ensures.value ∙ ap surplus_of (c.term-table.ensures.table m answers)) shifts) c.shift.ensures.shifts
+    (passed_on c.pair_surplus-surplus.result c.pair_surplus-surplus.ensures.range ∙ c.pair_surplus-surplus.ensures.value m answers) shifts) c.shift.ensures.shifts
