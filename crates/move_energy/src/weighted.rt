@@ -60,6 +60,7 @@ fn open_weights(
 }
 
 /// Whether both ends of a pair are open.
+#[inline]
 fn are_both_open(variables: &Variables, pair: Pair) -> bool
     requires { (pair.first < length variables.now.choices.items)
         × (pair.second < length variables.now.choices.items) }
@@ -70,6 +71,7 @@ fn are_both_open(variables: &Variables, pair: Pair) -> bool
 }
 
 /// The surplus of a pair of two open sites, and 0 of any other, which is not asked for its costs.
+#[inline]
 fn open_surplus<F: Fn(u32, u32) -> i64 + Sync, V: Fn(u32, u32) -> i64 + Sync>(
     problem: &Problem<F, V>,
     at: &[u8],
@@ -105,6 +107,7 @@ fn saving(surplus: i64) -> [i64; 4]
 }
 
 /// Adds what two variables save where both are 1.
+#[inline]
 fn add_saving(form: &mut Quadratic, first: u32, second: u32, surplus: i64) -> Result<(), AllocError>
     requires first { first < vec_len form.old.weights }
     requires second { second < vec_len form.old.weights }
@@ -119,6 +122,7 @@ fn add_saving(form: &mut Quadratic, first: u32, second: u32, surplus: i64) -> Re
 }
 
 /// Adds what a pair of two open sites saves where both are at 1, and nothing for any other pair.
+#[inline]
 pub(crate) fn add_surplus<F: Fn(u32, u32) -> i64 + Sync, V: Fn(u32, u32) -> i64 + Sync>(
     problem: &Problem<F, V>,
     form: &mut Quadratic,
