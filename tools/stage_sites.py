@@ -6,20 +6,20 @@ repository:
 
     python3 tools/stage_sites.py
 
-The picture, what a label costs a pixel and the first labelling are those of tools/open_sites.py, but the picture has 128 by
-128 pixels; two pixels that share an edge cost 2 where their labels differ, and 6 in a second run. Each cycle expands the labels 0, 1, 2 and 3 (Boykov, Veksler,
+The picture, what a label costs a pixel and the first labelling are those of tools/open_sites.py; two pixels that share an
+edge cost 2 where their labels differ, and 5 in a second run. Each cycle expands the labels 0, 1, 2 and 3 (Boykov, Veksler,
 Zabih, PAMI 2001, section 5). An expansion is left out, and all after it, where no label changed since the same one of
 the cycle before.
 
 The first expansion of a label is made whole: the pixels that its decisions leave open are cut. So is a later one where a
-64th of all pixels or more have another label and changed since the label's last expansion. Else it is made in
+32nd of all pixels or more have another label and changed since the label's last expansion. Else it is made in
 stages. A pixel that has the label keeps it. Fresh pixels are those that changed since and the neighbours of these. The
 first stage opens the fresh pixels and rings around them; all others count as taking the label. The cut of a stage takes
 the least energy over its open pixels, and of all least values those with the fewest ones. An open pixel that it shows 0
 keeps its label for good. Of those that take the label the parts that hold a fresh pixel are looked at: where no pixel
 beside a part counts as taking the label without being open, the parts are what takes the label. Else the next stage opens
 the parts, the pixels beside them that count so, and rings around these; all else that did not turn 0 counts as taking the
-label again. A move is made whole in place of its next stage where its stages open more than a 16th of all pixels together.
+label again. A move is made whole in place of its next stage where its stages open more than half as many pixels together as there are.
 
 A ring is what is beside the pixels of the ring before and counts as taking the label without being open. There are at
 most five, and a ring is opened only where fewer pixels are listed than twice those that the rings lie around, half of
@@ -30,18 +30,16 @@ Each cut is one of the whole network, in which pixels that are not open are tied
 with is compared with the best labelling that it reaches.
 """
 import open_sites
-from open_sites import LABELS, after, decided, levels_to, neighbours, push_all, residuals_of
+from open_sites import LABELS, SIDE, after, decided, levels_to, neighbours, push_all, residuals_of
 
-SIDE = 128
-open_sites.SIDE = SIDE
 SITES = SIDE * SIDE
 RINGS = 20
 RING_ROOM = 16
 RING_SHARE = 4
-CHANGED_SHARE = 64
-OPENED_SHARE = 16
+CHANGED_SHARE = 32
+OPENED_SHARE = 2
 MOST_CYCLES = 4
-UNLIKE_COSTS = [2, 6]
+UNLIKE_COSTS = [2, 5]
 
 # What is known of a pixel in a stage.
 KEEPS, TAKES, OPEN = range(3)

@@ -1,5 +1,5 @@
 //! How many cuts a run of expansions has whose later expansions look near the changes alone, and how many sites these
-//! have, on the picture of `opened` with 128 by 128 pixels; and that it ends as a run whose moves are all made whole.
+//! have, on the picture of `opened`; and that it ends as a run whose moves are all made whole.
 ghost use Rattle.std.specs.Prelude.{◌≡◌, ◌<◌, ◌≤◌, ◌+◌, ◌*◌, ◌≤ℤ◌, pos, length, IfOk, All};
 ghost use Rattle.cost_store.specs.Limits.{smooth_limit};
 ghost use Rattle.cost_store.specs.Promises.{IsCost, entry_at};
@@ -19,15 +19,15 @@ use std::test::Fail;
 /// What two unlike labels cost, how many cycles are allowed, how many cuts there are, and how many sites these have
 /// together. Made by tools/stage_sites.py, which finds by itself where a later expansion looks.
 const RUNS: &[(i64, u32, usize, usize)] = &[
-    (2, 1, 4, 6823),
-    (2, 2, 8, 7413),
-    (2, 3, 12, 9167),
-    (2, 4, 13, 9275),
-    (6, 4, 20, 125859),
+    (2, 1, 4, 1863),
+    (2, 2, 8, 2193),
+    (2, 3, 12, 2853),
+    (2, 4, 13, 2957),
+    (5, 4, 18, 26265),
 ];
 
 /// What two unlike labels cost in these runs.
-const UNLIKE: &[i64] = &[2, 6];
+const UNLIKE: &[i64] = &[2, 5];
 
 /// As `Alone`, but it counts the nets that it is given, and their nodes.
 #[derive(Drop)]
@@ -74,8 +74,8 @@ fn expands<H: How>(
     how: &H,
 ) -> bool
     requires ready { H.ready how.now }
-    requires pairs { pairs.sites ≡ 16384 }
-    requires sites { (length labelling.old.at ≡ 16384) × (labelling.old.labels ≡ 4) }
+    requires pairs { pairs.sites ≡ 4096 }
+    requires sites { (length labelling.old.at ≡ 4096) × (labelling.old.labels ≡ 4) }
     requires smooth { (length smooth.now ≡ 16) × All (IsCost smooth_limit) smooth.now }
 {
     pairs.keeps();
@@ -83,10 +83,10 @@ fn expands<H: How>(
         pairs,
         data_cost: DataCost::new(
             |site: u32, label: u32| -> i64
-                requires { (site < 16384) × (label < 4) }
+                requires { (site < 4096) × (label < 4) }
                 ensures { (pos 0 ≤ℤ result) × (result ≤ℤ pos 15) }
-            { i64::from(5 * sample(site % 128, site / 128).abs_diff(label)) },
-            16384,
+            { i64::from(5 * sample(site).abs_diff(label)) },
+            4096,
             4,
         ),
         smooth_cost: SmoothCost::stored(
@@ -112,11 +112,11 @@ fn labels_after<H: How>(
 ) -> Result<Option<Vec<u8>>, Fail>
     requires { H.ready how.now }
 {
-    let pairs = Pairs::grid4(alloc, 128, 128, 1)?;
-    let mut labelling = Labelling::new(alloc, 16384, 4)?;
+    let pairs = Pairs::grid4(alloc, 64, 64, 1)?;
+    let mut labelling = Labelling::new(alloc, 4096, 4)?;
     let smooth = smooth_of(rt, alloc, unlike)?;
-    assert!(*rt; pairs.sites() == 16384);
-    assert!(*rt; labelling.sites() == 16384);
+    assert!(*rt; pairs.sites() == 4096);
+    assert!(*rt; labelling.sites() == 4096);
     assert!(*rt; labelling.labels() == 4);
     if !expands(alloc, pairs, &mut labelling, smooth.as_slice(), cycles, how) {
         return Ok(None);

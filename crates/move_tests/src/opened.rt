@@ -18,10 +18,11 @@ use std::test::Fail;
 const FIRST_CYCLE: &[(usize, usize)] = &[(0, 0), (863, 3225), (855, 2191), (145, 1039)];
 
 /// A board of fields of 16 by 16 pixels, some of which have another sample.
-pub fn sample(x: u32, y: u32) -> u32
-    requires { (x < 128) × (y < 128) }
+pub fn sample(site: u32) -> u32
+    requires { site < 4096 }
     ensures { result < 4 }
 {
+    let (x, y) = (site % 64, site / 64);
     let noise = (x * x * 7 + y * 13 + x * y * 5) % 11;
     (x / 16 + y / 16 + if noise < 4 { noise } else { 0 }) % 4
 }
@@ -106,7 +107,7 @@ fn expand_picture(
             |site: u32, label: u32| -> i64
                 requires { (site < 4096) × (label < 4) }
                 ensures { (pos 0 ≤ℤ result) × (result ≤ℤ pos 15) }
-            { i64::from(5 * sample(site % 64, site / 64).abs_diff(label)) },
+            { i64::from(5 * sample(site).abs_diff(label)) },
             4096,
             4,
         ),

@@ -23,13 +23,13 @@ use stages::Changes;
 use std::alloc::{AllocError, Global};
 
 /// A later expansion looks near the changes where less than one in so many sites changed.
-const CHANGED_SHARE: usize = 64;
+const CHANGED_SHARE: usize = 32;
 
 /// The most stages of an expansion: where none of so many is closed, the expansion is made whole.
 const STAGE_LIMIT: u32 = 64;
 
 /// The stages of an expansion open at most one in so many sites together: where they need more, it is made whole.
-const OPENED_SHARE: usize = 16;
+const OPENED_SHARE: usize = 2;
 
 /// Whether few sites that have not the label changed since a move.
 fn are_few(stamps: &[u32], since: u32, at: &[u8], alpha: u32) -> bool
