@@ -147,7 +147,8 @@ def against_program(folder, folders):
             ("restore", pictures["camera64.pgm"], "--cycles", 1, "--weight", 20),
             ("stereo", pictures["dots.pgm"], "--labels", 8, "--weight", 30, "--cap", 80),
             ("stereo", pictures["dots1"], "--smooth", "linear", "--trunc", 3, "--labels", 9, "--weight", 20, "--cap", 60, "--bound"),
-            ("stereo", pictures["dots2"], "--labels", 1), ("stereo", pictures["dots3"], "--labels", 70, "--cycles", 1),
+            ("stereo", pictures["dots2"], "--labels", 1, "--weight", 1),
+            ("stereo", pictures["dots3"], "--labels", 70, "--weight", 1, "--cycles", 1),
             ("segment", pictures["seeded.pgm"], "--low", 40, "--high", 170, "--strong", 90, "--weak", 40, "--edge", 60),
             ("segment", wide, "--low", 10000, "--high", 43690, "--strong", 1000, "--weak", 100, "--edge", 3000, "--neighbours", 8)]
     for command, path, *words in runs:
@@ -170,6 +171,8 @@ def kinds_of_files(folder):
     grey, _ = samples(EXAMPLES / "camera64.pgm")
     Image.fromarray(grey.astype(np.uint8)).save(folder / "grey.png")
     said(0, "restore --like photo: levels 32 smooth linear trunc 8 weight 1", of=("restore", folder / "grey.png", folder / "a.png"))
+    said(0, "stereo --like scene: labels 8 smooth linear trunc 4 weight 8 cap 30",
+         of=("stereo", EXAMPLES / "dots.pgm", folder / "s.pgm", "--labels", 8))
     kept = np.asarray(Image.open(folder / "a.png")).astype(int)
     assert kept.shape == (64, 64) and set(np.unique(kept)) <= {(255 * 2 * level + 31) // 62 for level in range(32)}
     pgm(folder / "levels.pgm", ((grey * 31 + 127) // 255, 31))

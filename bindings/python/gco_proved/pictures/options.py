@@ -127,8 +127,11 @@ def _likes(command: str) -> str:
 
 
 def settled(options: argparse.Namespace) -> str:
-    """Sets the costs that were not given, by --like or its default, and answers its name."""
-    names = OF_COMMAND[options.command]
+    """Sets the costs that were not given, by --like or its default, and answers its name.
+
+    How many labels there are is no cost: it leaves the default as it is.
+    """
+    names = [name for name in OF_COMMAND[options.command] if name not in ("labels", "levels")]
     given = [name for name in names if getattr(options, name) is not None]
     like = options.like or ("plain" if given else USUAL[options.command])
     for name, value in LIKES[options.command][like].items():
