@@ -61,21 +61,34 @@ const ROWS: &[Row] = &[
     ),
 ];
 
-/// Whether a run ends as the row tells, and a worker asked for a turn exactly where workers are asked for.
-fn is_shared(rt: &(impl AllocGlobal + Threads + Wait + Sync), row: &Row) -> bool {
-    let (words, input, written, is_asked) = row;
-    let counter = Counter {
-        turns: AtomicU32::new(0),
-    };
+/// Whether a run of these words with this gate writes what it should.
+fn is_written(
+    rt: &(impl AllocGlobal + Threads + Wait + Sync),
+    words: &[&'static str],
+    input: &str,
+    written: &str,
+    gate: &(dyn Gate + Sync),
+) -> bool {
     let mut reader = SlowReader::new(input.as_bytes(), ROOM, false);
     let mut writer = CutWriter::ample();
     let mut faults = CutWriter::ample();
     let mut source = WatchedReader::new(&mut reader);
     let mut sink = Watched::new(&mut writer);
     let mut fault_sink = Watched::new(&mut faults);
-    let status = run_gated(rt, words, &counter, &mut source, &mut sink, &mut fault_sink);
+    let status = run_gated(rt, words, gate, &mut source, &mut sink, &mut fault_sink);
+    status == 0 && writer.held.as_slice() == written.as_bytes()
+}
+
+/// Whether a run ends as the row tells, and a worker asked for a turn exactly where workers are asked for.
+fn is_shared(rt: &(impl AllocGlobal + Threads + Wait + Sync), row: &Row) -> bool {
+    let (words, input, written, is_asked) = row;
+    let counter = Counter {
+        turns: AtomicU32::new(0),
+    };
+    let gate: &(dyn Gate + Sync) = &counter;
+    let is_right = is_written(rt, words, input, written, gate);
     let turns = counter.turns.load(Ordering::SeqCst);
-    status == 0 && writer.held.as_slice() == written.as_bytes() && (turns > 0) == *is_asked
+    is_right && (turns > 0) == *is_asked
 }
 
 #[test]
