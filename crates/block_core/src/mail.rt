@@ -1,4 +1,6 @@
-ghost use Rattle.std.specs.Prelude.{IfOk, map, ◌≡◌, ◌↔◌, ◌^◌, ◌<◌, ◌≤◌, ℕ, IsTrue, MatchOption, length, slice_index, slice_index_or, [], ◌∷◌, drop};
+ghost use Rattle.std.specs.Prelude.{IfOk, map, ◌≡◌, ◌↔◌, ◌^◌, ◌<◌, ◌≤◌, ℕ, IsTrue, MatchOption};
+ghost use Rattle.std.specs.Prelude.{Some, length, slice_get, slice_index, slice_index_or, [], ◌∷◌};
+ghost use Rattle.std.specs.Prelude.{drop};
 ghost use Rattle.std.specs.VecDeque.{deque_capacity};
 ghost use Rattle.parcel.specs.States.{way_at, put_way, put_message};
 ghost use Rattle.parcel.specs.Soundness.{IsSquare, direction_of};
@@ -11,8 +13,8 @@ use std::alloc::{AllocError, Global};
 use std::collections::VecDeque;
 use std::marker::Model;
 
-/// The messages on the way from each block to each other, in room that was made once: 24 bytes a message, and
-/// of each arc between two blocks two messages each way.
+/// The messages on the way from each block to each other, in room that was made once: 24 bytes a
+/// message, and of each arc between two blocks two messages each way.
 #[derive(Drop)]
 pub struct Mail {
     rows: Vec<Vec<VecDeque<CompactMessage>>>,
@@ -63,6 +65,19 @@ impl Mail {
             ≡ message ∷ drop 1 (way_at self.now.messages from to)) }
     {
         match self.rows[from][to].front() {
+            Some(kept) => Some(kept.message()),
+            None => None,
+        }
+    }
+
+    /// The message at a place of a way: at 0 stands the one that is next to be taken.
+    pub fn message(&self, from: usize, to: usize, place: usize) -> Option<Message>
+        requires from { from < length self.now.messages }
+        requires to { to < length (slice_index_or self.now.messages from []) }
+        ensures { MatchOption result (length (way_at self.now.messages from to) ≤ place)
+            (λ message. slice_get (way_at self.now.messages from to) place ≡ Some message) }
+    {
+        match self.rows[from][to].get(place) {
             Some(kept) => Some(kept.message()),
             None => None,
         }

@@ -1,8 +1,10 @@
-ghost use Rattle.std.specs.Prelude.{IfOk, length, IfSome, IfNone, [], ◌∷◌, drop, ◌≡◌, ◌↔◌, ◌<◌, ◌≤◌, ◌+◌, ℕ, IsTrue, MatchBool};
+ghost use Rattle.std.specs.Prelude.{IfOk, length, slice_get, Some, IfSome, IfNone, [], ◌∷◌, drop};
+ghost use Rattle.std.specs.Prelude.{◌≡◌, ◌↔◌, ◌<◌, ◌≤◌, ◌+◌, ℕ, IsTrue, MatchBool};
 ghost use Rattle.flow_network.specs.Cut.{nodes, IsNet};
 ghost use Rattle.parcel.specs.declared.message.Message.TheVariants.{Parcel, Accepted, Refused};
 ghost use Rattle.parcel.specs.Directions.{IsDirection, far};
-ghost use Rattle.parcel.specs.States.{IsWay, way_at, excess_of, label_of, room_of, residual_of, known_of, flight_of};
+ghost use Rattle.parcel.specs.States.{IsWay, way_at, excess_of, label_of, room_of, residual_of};
+ghost use Rattle.parcel.specs.States.{known_of, flight_of};
 ghost use Rattle.parcel.specs.Reach.{AreExact};
 ghost use Rattle.parcel.specs.Soundness.{IsSound, opened};
 ghost use Rattle.parcel.specs.Events.{Happens, IsActive, IsQuiet, Enabled, effect};
@@ -45,8 +47,9 @@ impl Model for State {
 }
 
 impl State {
-    /// The opening of a net in so many blocks, at least one and at most `BLOCK_LIMIT`, where it has at most
-    /// `ARC_LIMIT` arcs. All room for messages is made here; the only error is that memory runs out.
+    /// The opening of a net in so many blocks, at least one and at most `BLOCK_LIMIT`, where it has
+    /// at most `ARC_LIMIT` arcs. All room for messages is made here; the only error is that memory
+    /// runs out.
     pub fn open(alloc: Global, net: &Net, blocks: usize) -> Result<State, AllocError>
         requires { CanSplit net.now blocks }
         ensures { IfOk result (λ state. state ≡ opened net.now blocks) }
@@ -55,8 +58,8 @@ impl State {
         State::of_net(alloc, net, blocks)
     }
 
-    /// The state that `open` answers, of a net that it takes over in place of a copy: it needs 16 bytes a node and 16
-    /// an arc less. Refused for the same reason.
+    /// The state that `open` answers, of a net that it takes over in place of a copy: it needs 16
+    /// bytes a node and 16 an arc less. Refused for the same reason.
     pub fn of_net(alloc: Global, net: Net, blocks: usize) -> Result<State, AllocError>
         requires { CanSplit net blocks }
         ensures { IfOk result (λ state. state ≡ opened net blocks) }
@@ -193,7 +196,9 @@ impl State {
         self.got
     }
 
-    ghost use Rattle.parcel.specs.declared.event.Event.TheVariants.{PushInner, PushSink, Relabel, Send, Accept, Refuse, Settle, RaiseAll};
+    ghost use Rattle.parcel.specs.declared.event.Event.TheVariants.{PushInner, PushSink, Relabel};
+    ghost use Rattle.parcel.specs.declared.event.Event.TheVariants.{Send, Accept, Refuse, Settle};
+    ghost use Rattle.parcel.specs.declared.event.Event.TheVariants.{RaiseAll};
 
     /// Whether a node has excess and is not cut off.
     fn is_active(&self, v: usize) -> bool
@@ -245,7 +250,8 @@ impl State {
         self.is_active(self.blocks.near(direction)) && self.blocks.may_send(direction)
     }
 
-    /// Excess goes along a direction within a block; no where that is not enabled, and nothing changes.
+    /// Excess goes along a direction within a block; no where that is not enabled, and nothing
+    /// changes.
     fn push_inner(&mut self, direction: Direction) -> bool
         ensures { MatchBool result
             (Enabled self.old (PushInner direction) × (self.new ≡ effect self.old (PushInner direction)))
@@ -258,7 +264,8 @@ impl State {
         true
     }
 
-    /// Excess leaves along a direction to another block; no where that is not enabled, and nothing changes.
+    /// Excess leaves along a direction to another block; no where that is not enabled, and nothing
+    /// changes.
     fn send(&mut self, direction: Direction) -> bool
         ensures { MatchBool result
             (Enabled self.old (Send direction) × (self.new ≡ effect self.old (Send direction)))
@@ -276,7 +283,8 @@ impl State {
         true
     }
 
-    /// A node gets the highest label that it may have; no where that is not enabled, and nothing changes.
+    /// A node gets the highest label that it may have; no where that is not enabled, and nothing
+    /// changes.
     fn relabel(&mut self, v: usize) -> bool
         ensures { MatchBool result
             (Enabled self.old (Relabel v) × (self.new ≡ effect self.old (Relabel v)))
@@ -303,6 +311,20 @@ impl State {
             return None;
         }
         self.ways.front(from, to)
+    }
+
+    /// The message at a place of a way: at 0 stands the one in front. None where there is no such
+    /// way, or no message at the place.
+    pub fn message(&self, from: usize, to: usize, place: usize) -> Option<Message>
+        ensures some { IfSome result (λ m. IsWay self.now from to
+            × (slice_get (way_at self.now.ways from to) place ≡ Some m)) }
+        ensures none { IfNone result (IsWay self.now from to →
+            length (way_at self.now.ways from to) ≤ place) }
+    {
+        if self.blocks.count() <= from || self.blocks.count() <= to {
+            return None;
+        }
+        self.ways.message(from, to, place)
     }
 
     /// The parcel in front of a way is taken.
@@ -388,9 +410,9 @@ impl State {
         true
     }
 
-    /// Each node gets the exact label that is told, and each direction to another block knows that of its far
-    /// end, where no message is on the way: the event that raises all labels, for labels that are at hand. Takes
-    /// no memory.
+    /// Each node gets the exact label that is told, and each direction to another block knows that
+    /// of its far end, where no message is on the way: the event that raises all labels, for labels
+    /// that are at hand. Takes no memory.
     pub fn raise_to(&mut self, labels: &[u32])
         requires quiet { IsQuiet self.old }
         requires exact { AreExact self.old labels.now }
@@ -423,7 +445,8 @@ impl State {
         }
     }
 
-    /// The parcel in front of a way is sent back; no where that is not enabled, and nothing changes.
+    /// The parcel in front of a way is sent back; no where that is not enabled, and nothing
+    /// changes.
     fn refuse(&mut self, from: usize, to: usize) -> bool
         ensures { MatchBool result
             (Enabled self.old (Refuse from to) × (self.new ≡ effect self.old (Refuse from to)))
@@ -447,7 +470,8 @@ impl State {
         }
     }
 
-    /// The answer in front of a way ends its flight; no where that is not enabled, and nothing changes.
+    /// The answer in front of a way ends its flight; no where that is not enabled, and nothing
+    /// changes.
     fn settle(&mut self, from: usize, to: usize) -> bool
         ensures { MatchBool result
             (Enabled self.old (Settle from to) × (self.new ≡ effect self.old (Settle from to)))

@@ -12,7 +12,7 @@ use Rattle.parcel.specs.Reach.{AreExact}
 use Rattle.parcel.specs.Flows.{shown_flow}
 use Rattle.parcel.specs.Soundness.{IsSound, IsFinished}
 use Rattle.parcel.proofs.Finishing.{quiet_preflow, quiet_gets, finished_smallest, finished_full}
-use Rattle.block_cut.proofs.Bridge.{reach_of}
+use Rattle.global_relabel.proofs.Bridge.{reach_of}
 
 -- the answer has the flow that the state shows, the nodes whose exact label is below the top one, and what the
 -- sink got

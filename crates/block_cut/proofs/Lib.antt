@@ -7,13 +7,6 @@ mod Going
 pub mod Opened
 mod Still
 mod Passing
-pub mod Resting
-pub mod Bridge
-pub mod ResidualNet
-pub mod Places
-pub mod Seeing
-pub mod Homing
-pub mod Rooms
 pub mod Residuals
 pub mod Logs
 pub mod Seated

@@ -16,7 +16,7 @@ use Rattle.block_net.specs.Views.{CellsView, lane_in, border_in}
 use Rattle.block_net.specs.Whole.{Whole, no_block, block_at, home, slot, is_outer, whole_of}
 use Rattle.laid_blocks.specs.Views.{blocks_in, IsRow}
 use Rattle.block_core.specs.Parts.{IsIn}
-use Rattle.block_cut.specs.Homes.{AreHomes}
+use Rattle.global_relabel.specs.Homes.{AreHomes}
 use Rattle.laid_blocks.proofs.Steps.{IsAt, lane_below, border_below, inner_read, border_read}
 
 module _ (s : core.State) (p : Parts) (is : IsIn s p) (x : Direction) (l : IsDirection s.net x) (b j : ℕ) (B : CellsView) (here : home (whole_of s.net p) (near s.net x) ≡ b) (at : slot (whole_of s.net p) x ≡ j) (read : B ≡ block_at (whole_of s.net p) b) where

@@ -4,11 +4,6 @@ pub mod Ends
 pub mod Turns
 pub mod Passes
 pub mod Opening
-pub mod Rest
-pub mod Laws
-pub mod Search
-pub mod Workspaces
-pub mod Homes
 pub mod Seats
 pub mod TurnEvents
 pub mod Loose

@@ -6,14 +6,14 @@ ghost use Rattle.parcel.specs.Soundness.{IsFinished};
 ghost use Rattle.parcel.specs.Reach.{AreExact};
 
 use crate::flow::flow_of;
-use crate::workspace::Workspace;
 use block_core::State;
 use flow_network::Solved;
+use global_relabel::Workspace;
 use sink_distances::sink_side;
 use std::alloc::{AllocError, Global};
 
-/// The answer of a finished state whose exact labels are at hand: the nodes that reach the sink, and the flow that the
-/// state shows. Refuses only where memory runs out.
+/// The answer of a finished state whose exact labels are at hand: the nodes that reach the sink,
+/// and the flow that the state shows. Refuses only where memory runs out.
 pub fn answer_of(alloc: Global, state: &State, workspace: Workspace) -> Result<Solved, AllocError>
     requires exact { AreExact state.now workspace.labels.items }
     requires finished { IsFinished state.now }
@@ -32,8 +32,8 @@ pub fn answer_of(alloc: Global, state: &State, workspace: Workspace) -> Result<S
     })
 }
 
-/// The nodes of a finished state that reach the sink, by its exact labels that are at hand, one bit for each node. Refuses
-/// only where memory runs out.
+/// The nodes of a finished state that reach the sink, by its exact labels that are at hand, one bit
+/// for each node. Refuses only where memory runs out.
 pub fn least_side(
     alloc: Global,
     state: &State,

@@ -5,13 +5,24 @@ ghost use Rattle.parcel.specs.Directions.{backward};
 ghost use Rattle.parcel.specs.States.{room_of, residual_of};
 ghost use Rattle.parcel.specs.Soundness.{IsSound};
 ghost use Rattle.parcel.specs.Flows.{shown_flow};
-ghost use Rattle.block_cut.specs.Homes.{AreHomes};
+ghost use Rattle.global_relabel.specs.Homes.{AreHomes};
 
-use crate::homes::{room_at, write_homes};
 use block_core::State;
 use block_net::Parts;
 use flow_network::Net;
+use global_relabel::write_homes;
 use std::alloc::{AllocError, Global};
+
+/// What a node can still give the sink, by the table of blocks.
+fn room_at(state: &State, homes: &[u8], v: usize) -> u64
+    requires homes { AreHomes state.now.net state.now.blocks homes.now }
+    requires node { v < nodes state.now.net }
+    ensures { result ≡ room_of state.now v }
+{
+    let parts = state.parts();
+    let block = homes[v] as usize;
+    parts.blocks[block].room(v - parts.firsts[block])
+}
 
 /// The blocks of the nodes that an arc leads from and to, by the table of blocks.
 fn ends_homes(net: &Net, homes: &[u8], arc: usize) -> (usize, usize)
@@ -116,8 +127,8 @@ fn write_sink_flow(state: &State, homes: &[u8], sink_flow: &mut [u64])
     }
 }
 
-/// The flow that the state shows, where no message is on the way: what each arc carries, and what each node gave the
-/// sink.
+/// The flow that the state shows, where no message is on the way: what each arc carries, and what
+/// each node gave the sink.
 ///
 /// Refuses only where memory runs out.
 pub fn flow_of(alloc: Global, state: &State) -> Result<(Vec<u64>, Vec<u64>), AllocError>

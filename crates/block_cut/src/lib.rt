@@ -1,52 +1,33 @@
 //! The least cut of a net, found over blocks that exchange parcels of flow, on one thread.
 //!
-//! `solve` opens a net in one block, and `finish` goes on from any state of the core (`block_core`) to the end:
-//! whatever the blocks did before, with messages on the way and labels that are not exact, the answer is the
-//! same. `take_in` takes what is on the way. The steps of `finish` that others take too are `push_first`, `is_at_rest`,
-//! `answer_of` and `least_side`.
+//! `solve` opens a net in one block, and `finish` goes on from any state of the core (`block_core`)
+//! to the end: whatever the blocks did before, with messages on the way and labels that are not
+//! exact, the answer is the same. `take_in` takes what is on the way. The steps of `finish` that
+//! others take too are `push_first`, `answer_of` and `least_side`.
 //!
-//! The exact distance of a node is the least number of residual directions that lead from it to the sink, within
-//! blocks and between them, whatever is on the way (Goldberg, Tarjan 1988, section 3). Distances are found by levels
-//! from the sink, straight over what the blocks hold, and labels are raised to them.
-//!
-//! `discharge` says what a block did in the block's own terms: places of its lists, and messages. The laws of
-//! `histories` say the same in terms of the net: events of the core (`parcel`) that the block does by itself, one after
-//! another, and when a turn does at least one. Those of `loose` are of pushes that ask for less than the events do. Those
-//! of `seats` put all blocks together that come back from running workers: with the messages that are left on the way
-//! they are a round, so they show a sound state, and each stands in its seat for the next round.
+//! `discharge` says what a block did in the block's own terms: places of its lists, and messages.
+//! The laws of `histories` say the same in terms of the net: events of the core (`parcel`) that the
+//! block does by itself, one after another, and when a turn does at least one. Those of `loose` are
+//! of pushes that ask for less than the events do. Those of `seats` put all blocks together that
+//! come back from running workers: with the messages that are left on the way they are a round, so
+//! they show a sound state, and each stands in its seat for the next round.
 #![tactic(auto)]
-
-ghost use Rattle.block_cut.specs.Laws.{ExactAreDistances};
 
 mod answers;
 mod ends;
-mod exact;
 mod flow;
 pub mod histories;
-mod homes;
 pub mod loose;
 mod opening;
 mod orders;
 mod passes;
-mod rest;
-mod search;
 pub mod seats;
 mod solver;
 mod takes;
 mod turns;
-mod workspace;
 
 pub use answers::{answer_of, least_side};
-pub use exact::{distances, raise_all, sink_side};
 pub use flow::flow_of;
 pub use opening::push_first;
-pub use rest::is_at_rest;
 pub use solver::{finish, finish_side, solve};
 pub use takes::take_in;
-pub use workspace::Workspace;
-
-/// A law: in a sound state with no message on the way, exact labels are the distances over the flow that the
-/// state shows, and those distances are exact labels.
-pub fn exact_are_distances()
-    ensures { ExactAreDistances }
-{}

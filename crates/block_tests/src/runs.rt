@@ -1,6 +1,7 @@
 use crate::building::{core_of, net_of};
 use crate::rows::expect;
 use block_core::{Core, State};
+use block_cut::finish;
 use parcel::{Direction, Event, Message};
 use std::alloc::AllocError;
 use std::process::Abort;
@@ -19,8 +20,8 @@ fn open(rt: &(impl Abort + AllocGlobal), sources: &[u64]) -> Result<Core, AllocE
     core_of(rt, &net, 2)
 }
 
-/// What a message counts for: four times its amount and label, less 1 for a parcel and 2 for a parcel
-/// that comes back, and 1 for the answer that one was taken.
+/// What a message counts for: four times its amount and label, less 1 for a parcel and 2 for a
+/// parcel that comes back, and 1 for the answer that one was taken.
 fn weight(message: Option<Message>) -> u64 {
     match message {
         Some(Message::Parcel { amount, label, .. }) => amount
@@ -36,9 +37,9 @@ fn weight(message: Option<Message>) -> u64 {
     }
 }
 
-/// The count of a state over the two nodes and the arc between them, whose ends lie in two blocks: how far
-/// labels and known labels can still rise, each step worth more than all excess at the top label, and how
-/// high excess and messages stand. `total` is what the source sends.
+/// The count of a state over the two nodes and the arc between them, whose ends lie in two blocks:
+/// how far labels and known labels can still rise, each step worth more than all excess at the top
+/// label, and how high excess and messages stand. `total` is what the source sends.
 fn count(state: &State, total: u64) -> u64 {
     let mut rise: u64 = 0;
     let mut height: u64 = 0;
@@ -112,7 +113,8 @@ const REACHING: &[Step] = &[
     (Event::Relabel { node: 1 }, Some(284)),
 ];
 
-/// A flow of 3 to the sink; the unit that is left goes over and back until both labels are at the top.
+/// A flow of 3 to the sink; the unit that is left goes over and back until both labels are at the
+/// top. The least cut then has the value 3, and no node is on its sink side.
 #[test]
 fn three_of_four_reach_the_sink(rt: HostRuntime) -> Result<(), Fail> {
     let mut core = open(&rt, &[4, 0])?;
@@ -121,6 +123,8 @@ fn three_of_four_reach_the_sink(rt: HostRuntime) -> Result<(), Fail> {
     assert!(rt; state.got() == 3 && state.is_quiet());
     assert!(rt; stands(&state, [0, 1], [3, 4]));
     assert!(rt; state.nodes() == 2 && state.room(1) == 0);
+    let solved = finish(rt.alloc(), state)?;
+    assert!(rt; solved.value == 3 && solved.sink_side.as_slice() == [false, false].as_slice());
     Ok(())
 }
 

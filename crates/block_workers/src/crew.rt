@@ -8,15 +8,18 @@ use std::snapshot::Snapshot;
 use std::sync::{Mutex, Wait};
 use std::thread;
 use std::thread::{Promise, Threads};
+use thiserror::Error;
 use worker_options::Gate;
 
-/// Why no round came about. Which of the two is told is in no clause: the standard library says of a growth
-/// and of a thread that it may be refused, and not when.
-#[derive(Clone, Copy, PartialEq, Eq, Debug)]
+/// Why no round came about. Which of the two is told is in no clause: the standard library says of
+/// a growth and of a thread that it may be refused, and not when.
+#[derive(Clone, Copy, PartialEq, Eq, Debug, Error)]
 pub enum RoundError {
     /// Memory ran out, before the first worker started.
+    #[error("out of memory")]
     OutOfMemory,
     /// A worker was refused by the system. Those that had started were joined.
+    #[error("a worker could not be started")]
     Workers,
 }
 
@@ -36,8 +39,8 @@ impl<J: Job> Promise<Worker<J>> for WorkedOn<J> {
     ghost kept_by = { λ promise worker. AllWorked promise.0.value.seats.items worker.seats.items };
 }
 
-/// Each worker moved with its blocks into a thread of its own, and back. All growths come before the first
-/// worker starts.
+/// Each worker moved with its blocks into a thread of its own, and back. All growths come before
+/// the first worker starts.
 pub fn all_work<J: Job + Sync, R: Threads + Wait + Sync, G: Gate>(
     rt: &R,
     alloc: Global,

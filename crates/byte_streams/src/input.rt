@@ -7,6 +7,7 @@ ghost use Rattle.byte_streams.specs.Streams.{Stream};
 use std::alloc::Global;
 use std::io;
 use std::io::Read;
+use thiserror::Error;
 
 /// The most bytes that an input may have: 256 MiB.
 pub const INPUT_LIMIT: usize = 268_435_456;
@@ -15,22 +16,27 @@ pub const INPUT_LIMIT: usize = 268_435_456;
 const CHUNK: usize = 4096;
 
 /// Why an input was not read. What was read before is dropped.
-#[derive(Clone, Copy, Debug, PartialEq, Eq, Drop)]
+#[derive(Clone, Copy, Debug, PartialEq, Eq, Drop, Error)]
 pub enum ReadError {
     /// Memory was refused.
+    #[error("out of memory")]
     OutOfMemory,
     /// The source answered a fault.
+    #[error("the source failed")]
     ReadFailed,
     /// The input has more bytes than the limit.
+    #[error("the input is too long")]
     InputTooLong,
 }
 
 /// Bytes to read, which counts the calls that failed.
 pub trait Source {
-    // The bytes that it will give from here on, where they are known, and how many calls answered a fault.
+    // The bytes that it will give from here on, where they are known, and how many calls answered a
+    // fault.
     ghost stream: { Self → Stream };
 
-    // A call gave no byte to a buffer with room: the end. True of a source that does not remember it.
+    // A call gave no byte to a buffer with room: the end. True of a source that does not remember
+    // it.
     ghost has_ended: { Self → Bool } = { λ _. true };
 
     /// Fills the front of the buffer and answers how many bytes it gave.
@@ -74,8 +80,9 @@ impl<R: Read> Source for WatchedReader<'_, R> {
 }
 
 /// Reads to the end, to the first fault, or to the first byte beyond the limit, by at most
-/// `INPUT_LIMIT` + 1 calls of `take`. A fault is told exactly where one of these calls answered it, whatever
-/// failed before; a call that answers `Interrupted` is a fault like any other and is not made again.
+/// `INPUT_LIMIT` + 1 calls of `take`. A fault is told exactly where one of these calls answered it,
+/// whatever failed before; a call that answers `Interrupted` is a fault like any other and is not
+/// made again.
 pub fn read_input<S: Source>(alloc: Global, source: &mut S) -> Result<Vec<u8>, ReadError>
     ensures input { IfSome (S.stream source.old).bytes (λ input. IsReadOr input result) }
     ensures limit { IfOk result (λ input. length input.items ≤ input_limit) }

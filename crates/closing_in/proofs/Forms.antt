@@ -180,8 +180,22 @@ weights_more (suc r) less old x c more =
     let own = int_more (x r) (entry less r) (entry old r) (c r) (more r (omega arith)) in
     add_both (int_sum_below r (λ k. int_counted (x k) (entry less k))) _ (int_counted (x r) (entry less r)) _ (sum_below r (λ k. counted (x k) (c k))) (counted (x r) (c r)) rest own
 
-value_less : (k k' w w' a : ℤ) (s t : ℕ) → k ≡ k' → w +ℤ pos s ≡ w' → s ≡ t → (k +ℤ w +ℤ a) +ℤ pos t ≡ k' +ℤ w' +ℤ a
-value_less k k' w w' a s t h l n = omega (arith, ints, h, l, n)
+value_less : (k k' w w' a : ℤ) (t : ℕ) → k ≡ k' → w +ℤ pos t ≡ w' → (k +ℤ w +ℤ a) +ℤ pos t ≡ k' +ℤ w' +ℤ a
+value_less k k' w w' a t h l = omega (arith, ints, h, l)
+
+-- the same form, each weight less by so much: its value is less by that of the ones
+pub reweighed_value : (q less : Quadratic) (much : ℕ → ℕ) (x : ℕ → Bool) → IsReweighed q less
+    → ((k : ℕ) → k < vec_len q.weights → entry less.weights.items k +ℤ pos (much k) ≡ entry q.weights.items k)
+    → quadratic_value less x +ℤ pos (sum_below (vec_len q.weights) (λ k. counted (x k) (much k))) ≡ quadratic_value q x
+reweighed_value q less much x again lower =
+    let r = vec_len q.weights in
+    let t = sum_below r (λ k. counted (x k) (much k)) in
+    let weights = weights_more r less.weights.items q.weights.items x much lower
+    ∙ ap (λ n. int_sum_below n (λ k. int_counted (x k) (entry q.weights.items k))) q.weights.ok.0 in
+    let size : weights_value less.weights.items x ≡ int_sum_below r (λ k. int_counted (x k) (entry less.weights.items k)) =
+    ap (λ n. int_sum_below n (λ k. int_counted (x k) (entry less.weights.items k))) (sym less.weights.ok.0 ∙ again.nodes) in
+    let carried : pos (arcs_value less.arcs.items x) ≡ pos (arcs_value q.arcs.items x) = ap (λ (v : _). pos (arcs_value v.items x)) again.arcs in
+    (λ j. (less.constant +ℤ size j +ℤ carried j) +ℤ pos t) ∙ value_less less.constant q.constant _ _ (pos (arcs_value q.arcs.items x)) t again.constant weights
 
 pub reweighed_form : (m : Instance) (move : Move) (f : ℕ → ℕ) (choice : ℕ → Choice) (set : ℕ → Bool) (q less : Quadratic) (variable site : ℕ → ℕ) → IsInstance m → IsAllowed m move f
     → StandsFor m move f (others_at Zero set choice) q variable
@@ -189,14 +203,8 @@ pub reweighed_form : (m : Instance) (move : Move) (f : ℕ → ℕ) (choice : �
     → ((k : ℕ) → k < vec_len q.weights → entry less.weights.items k +ℤ pos (border_at m move f choice set (site k)) ≡ entry q.weights.items k)
     → StandsFor m move f (others_at One set choice) less variable
 reweighed_form m move f choice set q less variable site pairs allowed stands one again lower =
-    let r = vec_len q.weights in
+    let b = border_at m move f choice set in
     less_border_form m move f choice set q less variable pairs allowed stands again.nodes
     (λ x.
-    let border = by_variable m.sites (is_inside choice set) r variable site x (border_at m move f choice set) one in
-    let weights = weights_more r less.weights.items q.weights.items x (λ k. border_at m move f choice set (site k)) lower
-    ∙ ap (λ n. int_sum_below n (λ k. int_counted (x k) (entry q.weights.items k))) q.weights.ok.0 in
-    let size : weights_value less.weights.items x ≡ int_sum_below r (λ k. int_counted (x k) (entry less.weights.items k)) =
-    ap (λ n. int_sum_below n (λ k. int_counted (x k) (entry less.weights.items k))) (sym less.weights.ok.0 ∙ again.nodes) in
-    let carried : pos (arcs_value less.arcs.items x) ≡ pos (arcs_value q.arcs.items x) = ap (λ (v : _). pos (arcs_value v.items x)) again.arcs in
-    (λ j. (less.constant +ℤ size j +ℤ carried j) +ℤ pos (border_of m move f choice set (λ p. x (variable p))))
-    ∙ value_less less.constant q.constant _ _ (pos (arcs_value q.arcs.items x)) _ (border_of m move f choice set (λ p. x (variable p))) again.constant weights border)
+    let border = by_variable m.sites (is_inside choice set) (vec_len q.weights) variable site x b one in
+    ap (λ t. quadratic_value less x +ℤ pos t) (sym border) ∙ reweighed_value q less (λ k. b (site k)) x again lower)

@@ -1,8 +1,10 @@
-ghost use Rattle.std.specs.Prelude.{◌≡◌, ℕ, ◌+◌, ◌<◌, ◌≤◌, ◌⊎◌, Bool, All, map, sum, length, pos, ◌+ℤ◌, ◌-ℤ◌, unsigned_abs, vec_len, slice_index, IfOk};
+ghost use Rattle.std.specs.Prelude.{◌≡◌, ℕ, ◌+◌, ◌<◌, ◌≤◌, ◌⊎◌, Bool, All, map, sum, length, pos};
+ghost use Rattle.std.specs.Prelude.{◌+ℤ◌, ◌-ℤ◌, unsigned_abs, vec_len, slice_index, IfOk};
 ghost use Rattle.pseudo_bool.specs.Limits.{term_limit};
-ghost use Rattle.flow_network.specs.Cut.{nodes, capacity_of};
+ghost use Rattle.flow_network.specs.Cut.{nodes, capacity_of, total_capacity, IsNet};
 ghost use Rattle.compile_cut.specs.Limits.{form_nodes, form_size, form_constant, compiled_constant};
-ghost use Rattle.compile_cut.specs.Weights.{weights_size, source_part, sink_part, IsAbove};
+ghost use Rattle.compile_cut.specs.Weights.{weights_size, arcs_size, source_part, sink_part};
+ghost use Rattle.compile_cut.specs.Weights.{IsAbove};
 ghost use Rattle.compile_cut.specs.Quadratics.{quadratic_value, IsBounded};
 
 use crate::Compiled;
@@ -55,8 +57,8 @@ fn less_all(constant: i64, numbers: &[u64]) -> i64
     constant - total as i64
 }
 
-/// The net of a sum of terms, the second half of `compile`: a weight above 0 is a capacity of the source, one below 0 a
-/// capacity of the sink and a constant. Refuses only where memory runs out.
+/// The net of a sum of terms, the second half of `compile`: a weight above 0 is a capacity of the
+/// source, one below 0 a capacity of the sink and a constant. Refuses only where memory runs out.
 pub fn net_of(alloc: Global, form: Quadratic) -> Result<Compiled, AllocError>
     requires bounded { IsBounded term_limit form }
     requires len { vec_len form.weights ≤ form_nodes }
@@ -64,6 +66,9 @@ pub fn net_of(alloc: Global, form: Quadratic) -> Result<Compiled, AllocError>
         ≡ quadratic_value form x) }
     ensures constant { IfOk result (λ c. unsigned_abs c.constant ≤ compiled_constant) }
     ensures nodes { IfOk result (λ c. nodes c.net ≡ vec_len form.weights) }
+    ensures limits { IfOk result (λ c. IsNet c.net) }
+    ensures total { IfOk result (λ c. total_capacity c.net
+        ≡ weights_size form.weights.items + arcs_size form.arcs.items) }
     ensures one_sided { IfOk result (λ c. (v : ℕ) → (slice_index c.net.sources v ≡ 0)
         ⊎ (slice_index c.net.sinks v ≡ 0)) }
     ensures arcs { IfOk result (λ c. All IsAbove c.net.arcs) }

@@ -3,7 +3,7 @@ use Rattle.std.specs.Prelude.{◌≡◌, ℕ, ◌<◌, List, length, ℤ}
 use Rattle.std.specs.Fn.{Shared}
 use Rattle.std.specs.List.{All}
 use Rattle.label_field.specs.LabelFields.{LabelField}
-use Rattle.label_field.specs.PairLists.{IsPairList}
+use Rattle.label_field.specs.PairLists.{PairList, IsPairList}
 use Rattle.labellings.specs.declared.change.Move.{Move}
 use Rattle.labellings.specs.Energies.{Instance}
 use Rattle.labellings.specs.Moves.{IsMoveOf}
@@ -42,6 +42,17 @@ pub record IsMeant {F V : Type 0} (f : Closure F) (v : Closure V) (p : Problem F
   pub data_are : AnswersTable (gives f p.data_cost.f) m.data_cost p.pairs.sites p.data_cost.labels
   pub smooth_are : AnswersTable (gives v p.smooth_cost.v) m.smooth_cost p.data_cost.labels p.data_cost.labels
   pub costs_are : HasCosts m p.label_costs
+
+-- the instance of these pairs and tables, in which no label costs anything by itself
+abbrev pub instance_of_costs : PairList → ℕ → (ℕ → ℕ → ℕ) → (ℕ → ℕ → ℕ) → Instance
+instance_of_costs pairs labels at_sites between = record {
+  sites = pairs.sites;
+  labels = labels;
+  data_cost = at_sites;
+  smooth_cost = between;
+  pairs = pairs.list;
+  label_cost = λ label. 0;
+}
 
 -- this holds of each instance that the problem means
 abbrev pub Meant : {F V : Type 0} → Closure F → Closure V → Problem F V → (Instance → Type 0) → Type 0

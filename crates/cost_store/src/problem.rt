@@ -1,11 +1,17 @@
 //! A problem: sites, labels, pairs, and what they cost.
-ghost use Rattle.std.specs.Prelude.{◌≡◌, ◌*◌, pos, ◌<◌, ◌≤◌, ◌≤ℤ◌, All, length, IsTrue, OnOk, OnErr, IfErr};
+ghost use Rattle.std.specs.Prelude.{◌≡◌, ◌*◌, ℕ, pos, ◌<◌, ◌≤◌, ◌≤ℤ◌, All, length, IsTrue, OnOk};
+ghost use Rattle.std.specs.Prelude.{OnErr, IfErr};
 ghost use Rattle.label_field.specs.Limits.{weight_limit};
 ghost use Rattle.label_field.specs.PairLists.{IsPair};
-ghost use Rattle.labellings.specs.Energies.{IsInstance, IsMetric, labelling as labels_of, energy as energy_of, data_energy as data_of, smooth_energy as smooth_of, label_energy as label_of, pair_cost as cost_of_pair};
-ghost use Rattle.cost_store.specs.Limits.{data_energy_limit, smooth_energy_limit, label_energy_limit, site_cost_limit, pair_cost_limit};
+ghost use Rattle.labellings.specs.Energies.{IsInstance, IsMetric, labelling as labels_of};
+ghost use Rattle.labellings.specs.Energies.{energy as energy_of, data_energy as data_of};
+ghost use Rattle.labellings.specs.Energies.{smooth_energy as smooth_of, label_energy as label_of};
+ghost use Rattle.labellings.specs.Energies.{pair_cost as cost_of_pair};
+ghost use Rattle.cost_store.specs.Limits.{data_limit, data_energy_limit, smooth_energy_limit};
+ghost use Rattle.cost_store.specs.Limits.{label_energy_limit, site_cost_limit, pair_cost_limit};
 ghost use Rattle.cost_store.specs.LabelCosts.{costs_of as costs_in, AreLabelCosts, IsSetRefusal};
-ghost use Rattle.cost_store.specs.Posed.{IsPosed, Meant, FitsProblem};
+ghost use Rattle.cost_store.specs.Posed.{IsPosed, IsMeant, Meant, FitsProblem, instance_of_costs};
+ghost use Rattle.cost_store.specs.Promises.{AnswersTable, Keeps, KeepsSmooth};
 
 use crate::by_label::total_paid;
 use crate::{
@@ -14,8 +20,9 @@ use crate::{
 use label_field::{Labelling, Pair, Pairs};
 use std::alloc::Global;
 
-/// What labels cost sites, what they cost pairs of sites, the pairs, and what labels cost by themselves. The four have the same
-/// sites and labels, and both closures keep their promises: that is `IsPosed`, which each call asks for.
+/// What labels cost sites, what they cost pairs of sites, the pairs, and what labels cost by
+/// themselves. The four have the same sites and labels, and both closures keep their promises: that
+/// is `IsPosed`, which each call asks for.
 #[derive(Drop)]
 pub struct Problem<F, V> {
     pub pairs: Pairs,
@@ -26,8 +33,34 @@ pub struct Problem<F, V> {
 }
 
 impl<F: Fn(u32, u32) -> i64 + Sync, V: Fn(u32, u32) -> i64 + Sync> Problem<F, V> {
-    /// What it means, told to a proof: an instance, whose smooth costs are a metric where they were stored as one. It does
-    /// nothing.
+    /// The problem of these pairs and costs, in which no label costs anything by itself. What it
+    /// means is the instance of the tables that the closures answer: who calls it names them.
+    pub fn new(pairs: Pairs, data_cost: DataCost<F>, smooth_cost: SmoothCost<V>) -> Problem<F, V>
+        requires costs { Keeps (F.pre data_cost.f) (F.post data_cost.f) data_cost.sites data_cost.labels
+            data_limit }
+        requires smooth { KeepsSmooth (V.pre smooth_cost.v) (V.post smooth_cost.v) smooth_cost.labels
+            smooth_cost.by_metric }
+        requires sites { data_cost.sites ≡ pairs.sites }
+        requires labels { smooth_cost.labels ≡ data_cost.labels }
+        ensures posed { IsPosed F.Fn V.Fn result }
+        ensures parts { (result.pairs ≡ pairs) × (result.data_cost ≡ data_cost)
+            × (result.smooth_cost ≡ smooth_cost) }
+        ensures means { (at_sites between : ℕ → ℕ → ℕ) →
+            AnswersTable (F.post data_cost.f) at_sites pairs.sites data_cost.labels →
+            AnswersTable (V.post smooth_cost.v) between data_cost.labels data_cost.labels →
+            IsMeant F.Fn V.Fn result (instance_of_costs pairs data_cost.labels at_sites between) }
+    {
+        pairs.keeps();
+        Problem {
+            pairs,
+            data_cost,
+            smooth_cost,
+            label_costs: None,
+        }
+    }
+
+    /// What it means, told to a proof: an instance, whose smooth costs are a metric where they were
+    /// stored as one. It does nothing.
     pub fn means(&self)
         requires posed { IsPosed F.Fn V.Fn self.now }
         ensures instance { Meant F.Fn V.Fn self.now IsInstance }
@@ -45,8 +78,8 @@ impl<F: Fn(u32, u32) -> i64 + Sync, V: Fn(u32, u32) -> i64 + Sync> Problem<F, V>
         self.data_cost.cost(site, label)
     }
 
-    /// What a pair of this weight costs at two labels: the weight times what the labels cost a pair of weight 1. It takes no
-    /// memory.
+    /// What a pair of this weight costs at two labels: the weight times what the labels cost a pair
+    /// of weight 1. It takes no memory.
     pub fn pair_cost(&self, weight: u32, first: u32, second: u32) -> i64
         requires posed { IsPosed F.Fn V.Fn self.now }
         requires weight { weight ≤ weight_limit }
@@ -140,8 +173,8 @@ impl<F: Fn(u32, u32) -> i64 + Sync, V: Fn(u32, u32) -> i64 + Sync> Problem<F, V>
         plain + self.label_energy(labelling)
     }
 
-    /// Sets what labels cost by themselves, in place of what was set before. Refused, the first that holds: `CostRange` where
-    /// a cost is not from 0 to `LABEL_COST_LIMIT`, `OutOfMemory`.
+    /// Sets what labels cost by themselves, in place of what was set before. Refused, the first
+    /// that holds: `CostRange` where a cost is not from 0 to `LABEL_COST_LIMIT`, `OutOfMemory`.
     pub fn set_label_costs(&mut self, alloc: Global, costs: &[i64]) -> Result<(), LabelCostError>
         requires { length costs.now ≡ self.old.data_cost.labels }
         ensures set { OnOk result ((costs_in self.new.label_costs ≡ costs.now)

@@ -7,8 +7,9 @@ use Rattle.parcel.specs.declared.message.Message.{Message}
 use Rattle.block_net.specs.declared.lanes.Border.{Border}
 use Rattle.block_net.specs.Views.{MayPush, MaySend, CellsView, excess_in, label_in, room_in, lane_in, border_in, no_border, pushed, given, labelled, sent, parcel_of, highest}
 use Rattle.discharge.specs.Seen.{Seen, IsLook, IsPut, add_to}
-use Rattle.discharge.specs.Steps.{Push, Give, Rise, Send, IsOfNode, IsBorderOfNode}
+use Rattle.discharge.specs.Steps.{Push, Give, Rise, Send, IsOfNode, IsBorderOfNode, held}
 use Rattle.discharge.specs.Active.{IsActive}
+use Rattle.discharge.specs.Calls.{Performs}
 use Rattle.discharge.specs.Works.{IsAlike, DoesEvents}
 use Rattle.discharge.proofs.Runs.{does_one, look_sent, look_taken}
 
@@ -24,6 +25,10 @@ to_kept xs j row e i = elim (cases_eq i j) [
 
 -- ---- the sink
 
+pub done_give : (b b' : CellsView) (s : Seen) (v : ℕ) → IsActive b v → 0 < room_in b v → label_in b v ≡ 1 → b' ≡ given b v (min (excess_in b v) (room_in b v))
+    → Performs b s (Give v) b' s
+done_give b b' s v active room label made = record { enabled = (active, room, label); effect = ap (λ (x : CellsView). held x s) made }
+
 pub does_give : (b b' : CellsView) (s : Seen) (v : ℕ) → IsActive b v → 0 < room_in b v → label_in b v ≡ 1 → b' ≡ given b v (min (excess_in b v) (room_in b v))
     → DoesEvents b s 1 b' s
 does_give b b' s v active room label made =
@@ -36,9 +41,14 @@ does_give b b' s v active room label made =
       borders = refl;
       tos = λ i. refl;
     } in
-    subst (λ (x : CellsView). DoesEvents b s 1 x s) (sym made) (does_one b _ s s (Give v) (active, room, label) refl alike)
+    let done = done_give b b' s v active room label made in
+    does_one b b' s s (Give v) done.enabled done.effect (subst (IsAlike b) (sym made) alike)
 
 -- ---- a direction within the block
+
+pub done_push : (b b' : CellsView) (s : Seen) (v j : ℕ) → IsActive b v → IsOfNode b v j → MayPush b v j → b' ≡ pushed b v j (min (excess_in b v) (lane_in b j).residual)
+    → Performs b s (Push v j) b' s
+done_push b b' s v j active lane may made = record { enabled = (active, lane, may); effect = ap (λ (x : CellsView). held x s) made }
 
 pub does_push : (b b' : CellsView) (s : Seen) (v j : ℕ) → IsActive b v → IsOfNode b v j → MayPush b v j → b' ≡ pushed b v j (min (excess_in b v) (lane_in b j).residual)
     → DoesEvents b s 1 b' s
@@ -55,9 +65,18 @@ does_push b b' s v j active lane may made =
       borders = refl;
       tos = λ i. refl;
     } in
-    subst (λ (x : CellsView). DoesEvents b s 1 x s) (sym made) (does_one b _ s s (Push v j) (active, lane, may) refl alike)
+    let done = done_push b b' s v j active lane may made in
+    does_one b b' s s (Push v j) done.enabled done.effect (subst (IsAlike b) (sym made) alike)
 
 -- ---- another block
+
+pub done_send : (b b' : CellsView) (s t u : Seen) (v j : ℕ) (x : Border) (m : Message) → IsActive b v → IsBorderOfNode b v j → MaySend b v j → x ≡ border_in b j → m ≡ parcel_of b v j
+    → b' ≡ sent b v j (min (excess_in b v) (border_in b j).residual) → IsLook s t → IsPut x.to m t u
+    → Performs b s (Send v j) b' u
+done_send b b' s t u v j x m active border may is_x is_m made look put =
+    let sent_is : u.sent ≡ add_to s.sent (border_in b j).to (parcel_of b v j) = fun_ext put.sent ∙ rw (look_sent s t look, is_m, is_x) refl in
+    let taken_is : u.taken ≡ s.taken = fun_ext put.taken ∙ look_taken s t look in
+    record { enabled = (active, border, may); effect = rw (made, sent_is, taken_is) refl }
 
 pub does_send : (b b' : CellsView) (s t u : Seen) (v j : ℕ) (x : Border) (m : Message) → IsActive b v → IsBorderOfNode b v j → MaySend b v j → x ≡ border_in b j → m ≡ parcel_of b v j
     → b' ≡ sent b v j (min (excess_in b v) (border_in b j).residual) → IsLook s t → IsPut x.to m t u
@@ -73,15 +92,18 @@ does_send b b' s t u v j x m active border may is_x is_m made look put =
       borders = length-set b.borders j _;
       tos = to_kept b.borders j _ refl;
     } in
-    let sent_is : u.sent ≡ add_to s.sent (border_in b j).to (parcel_of b v j) = fun_ext put.sent ∙ rw (look_sent s t look, is_m, is_x) refl in
-    let taken_is : u.taken ≡ s.taken = fun_ext put.taken ∙ look_taken s t look in
-    subst (λ (y : CellsView). DoesEvents b s 1 y u) (sym made) (does_one b _ s u (Send v j) (active, border, may) (rw (sent_is, taken_is) refl) alike)
+    let done = done_send b b' s t u v j x m active border may is_x is_m made look put in
+    does_one b b' s u (Send v j) done.enabled done.effect (subst (IsAlike b) (sym made) alike)
 
 -- ---- a label
+
+pub done_rise : (b b' : CellsView) (s : Seen) (v d : ℕ) → IsActive b v → label_in b v < d → d ≡ highest b v → b' ≡ labelled b v d → Performs b s (Rise v) b' s
+done_rise b b' s v d active high is made =
+    record { enabled = (active, omega (arith, high, is)); effect = ap (λ (x : CellsView). held x s) (made ∙ ap (labelled b v) is) }
 
 pub does_rise : (b b' : CellsView) (s : Seen) (v d : ℕ) → IsActive b v → label_in b v < d → d ≡ highest b v → b' ≡ labelled b v d → DoesEvents b s 1 b' s
 does_rise b b' s v d active high is made =
     let at : b' ≡ labelled b v (highest b v) = made ∙ ap (labelled b v) is in
     let alike : IsAlike b (labelled b v (highest b v)) = record { top = refl; count = refl; starts = refl; lanes = refl; border_starts = refl; borders = refl; tos = λ i. refl } in
-    let high' : label_in b v < highest b v = omega (arith, high, is) in
-    subst (λ (x : CellsView). DoesEvents b s 1 x s) (sym at) (does_one b _ s s (Rise v) (active, high') refl alike)
+    let done = done_rise b b' s v d active high is made in
+    does_one b b' s s (Rise v) done.enabled done.effect (subst (IsAlike b) (sym at) alike)

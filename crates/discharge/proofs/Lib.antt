@@ -5,3 +5,4 @@ pub mod Receiving
 pub mod Turning
 pub mod Others
 pub mod Placing
+pub mod Calling

@@ -49,7 +49,7 @@ look_sent s t look = fun_ext look.sent
 pub look_taken : (s t : Seen) → IsLook s t → t.taken ≡ s.taken
 look_taken s t look = fun_ext look.taken
 
-held_look : (b : CellsView) (s t : Seen) → IsLook s t → held b t ≡ held b s
+pub held_look : (b : CellsView) (s t : Seen) → IsLook s t → held b t ≡ held b s
 held_look b s t look =
     ap (λ (f : ℕ → List Message). record { block = b; sent = f; taken = t.taken }) (look_sent s t look)
     ∙ ap (λ (f : ℕ → List Message). record { block = b; sent = s.sent; taken = f }) (look_taken s t look)

@@ -4,3 +4,4 @@ pub mod Works
 pub mod Turns
 pub mod Active
 pub mod Standing
+pub mod Calls

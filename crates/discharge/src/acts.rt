@@ -2,7 +2,8 @@ ghost use Rattle.std.specs.Prelude.{◌≡◌, ◌<◌, ◌≤◌, ℕ, length};
 ghost use Rattle.block_net.specs.Views.{label_in, room_in, MayPush, highest};
 ghost use Rattle.discharge.specs.Seen.{Seen};
 ghost use Rattle.discharge.specs.Active.{IsActive};
-ghost use Rattle.discharge.specs.Steps.{IsOfNode, IsBorderOfNode, IsSure, Send};
+ghost use Rattle.discharge.specs.Steps.{IsOfNode, IsBorderOfNode, IsSure, Push, Give, Rise, Send};
+ghost use Rattle.discharge.specs.Calls.{Performs};
 ghost use Rattle.discharge.specs.Works.{DoesEvents};
 
 use crate::{Bucketed, Letter, Ways};
@@ -13,6 +14,7 @@ pub(crate) fn try_give(cells: &mut Bucketed, v: usize) -> u32
     ensures few { result ≤ 1 }
     ensures still { result ≡ 0 → cells.new ≡ cells.old }
     ensures does { (s : Seen) → DoesEvents cells.old.block s result cells.new.block s }
+    ensures done { 0 < result → (s : Seen) → Performs cells.old.block s (Give v) cells.new.block s }
     ensures idle { result ≡ 0 → ¬ ((0 < room_in cells.old.block v) × (label_in cells.old.block v ≡ 1)) }
 {
     if !cells.cells().may_give(v) {
@@ -30,6 +32,7 @@ pub(crate) fn try_push(cells: &mut Bucketed, v: usize, j: usize) -> u32
     ensures few { result ≤ 1 }
     ensures still { result ≡ 0 → cells.new ≡ cells.old }
     ensures does { (s : Seen) → DoesEvents cells.old.block s result cells.new.block s }
+    ensures done { 0 < result → (s : Seen) → Performs cells.old.block s (Push v j) cells.new.block s }
     ensures idle { result ≡ 0 → ¬ MayPush cells.old.block v j }
 {
     if !cells.cells().may_push(v, j) {
@@ -48,6 +51,8 @@ pub(crate) fn try_send<W: Ways>(cells: &mut Bucketed, ways: &mut W, v: usize, j:
     ensures few { result ≤ 1 }
     ensures still { result ≡ 0 → cells.new ≡ cells.old }
     ensures does { DoesEvents cells.old.block (W.seen ways.old) result cells.new.block (W.seen ways.new) }
+    ensures done { 0 < result
+        → Performs cells.old.block (W.seen ways.old) (Send v j) cells.new.block (W.seen ways.new) }
     ensures idle { result ≡ 0 → ¬ IsSure cells.old.block (W.seen ways.old) (Send v j) }
 {
     if !cells.cells().may_send(v, j) {
@@ -57,14 +62,11 @@ pub(crate) fn try_send<W: Ways>(cells: &mut Bucketed, ways: &mut W, v: usize, j:
     if !ways.room(border.to) {
         return 0;
     }
-    let message = cells.send(v, j);
-    ways.put(
-        border.to,
-        Letter {
-            message,
-            place: border.opposite,
-        },
-    );
+    let letter = Letter {
+        message: cells.send(v, j),
+        place: border.opposite,
+    };
+    ways.put(border.to, letter);
     1
 }
 
@@ -74,6 +76,7 @@ pub(crate) fn try_rise(cells: &mut Bucketed, v: usize) -> u32
     ensures few { result ≤ 1 }
     ensures still { result ≡ 0 → cells.new ≡ cells.old }
     ensures does { (s : Seen) → DoesEvents cells.old.block s result cells.new.block s }
+    ensures done { 0 < result → (s : Seen) → Performs cells.old.block s (Rise v) cells.new.block s }
     ensures idle { result ≡ 0 → ¬ (label_in cells.old.block v < highest cells.old.block v) }
 {
     let label = cells.highest_label(v);

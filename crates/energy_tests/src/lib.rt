@@ -1,4 +1,5 @@
-//! Tests of energies: what is put in, what is refused, costs over named variables, which terms are regular, and minima.
+//! Tests of energies: what is put in, what is refused, costs over named variables, which terms are
+//! regular, and minima.
 #![tactic(auto)]
 
 #[cfg(test)]

@@ -13,7 +13,8 @@ use std::alloc::{AllocError, Global};
 use std::process::Abort;
 use std::test::Fail;
 
-/// Tables over x0, over x1 and over both, the values at 00, 01, 10 and 11, the least and where it stands.
+/// Tables over x0, over x1 and over both, the values at 00, 01, 10 and 11, the least and where it
+/// stands.
 type Case = ([i64; 2], [i64; 2], [i64; 4], [i64; 4], i64, [bool; 2]);
 
 const CASES: &[Case] = &[
@@ -51,7 +52,8 @@ const CASES: &[Case] = &[
     ),
 ];
 
-/// The capacities of the cuts that show 00, 01, 10 and 11 in a net of two nodes, each with the constant added.
+/// The capacities of the cuts that show 00, 01, 10 and 11 in a net of two nodes, each with the
+/// constant added.
 fn shown(rt: &impl Abort, net: &Net, constant: i64) -> [i64; 4] {
     let mut values = [constant; 4];
     for (place, value) in values.iter_mut().enumerate() {

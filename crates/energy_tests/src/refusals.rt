@@ -52,7 +52,8 @@ fn the_first_cause_is_told(rt: HostRuntime) {
     assert!(rt; energy.term(0) == Term::One(1, [3, 4]));
 }
 
-/// A first term and a second, and the place of the first that is not regular with what was fixed there.
+/// A first term and a second, and the place of the first that is not regular with what was fixed
+/// there.
 type Tried = (Term, Term, Option<(usize, Option<(usize, bool)>)>);
 
 const TRIED: &[Tried] = &[

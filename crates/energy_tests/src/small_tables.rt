@@ -1,4 +1,5 @@
-//! The minimum of every table of three variables over -1, 0 and 1, against a search over all assignments.
+//! The minimum of every table of three variables over -1, 0 and 1, against a search over all
+//! assignments.
 use crate::rows::expect;
 use crate::small_answers::ANSWERS;
 use minimum::minimise;
@@ -43,7 +44,8 @@ fn letter_of(bits: &[bool]) -> u8 {
     }
 }
 
-/// The digit of the first failing projection, or the letter of the least assignment, and the least value.
+/// The digit of the first failing projection, or the letter of the least assignment, and the least
+/// value.
 fn answer_of(
     rt: &impl Abort,
     alloc: Global,

@@ -1,4 +1,5 @@
-//! Costs over named variables, each paid by a further variable that an energy is least over. Worked by hand.
+//! Costs over named variables, each paid by a further variable that an energy is least over. Worked
+//! by hand.
 use crate::energies::{VALUES, add_terms};
 use crate::rows::expect;
 use pseudo_bool::{Energy, EnergyError, TERM_LIMIT, Term, VARIABLE_LIMIT};
@@ -6,8 +7,8 @@ use regular::is_regular_table;
 use std::process::Abort;
 use std::test::Fail;
 
-/// Named variables, a cost, whether it is paid unless all of them are 1, else if any is, and at 000, 001 and so on
-/// whether it is paid: 1 says yes.
+/// Named variables, a cost, whether it is paid unless all of them are 1, else if any is, and at
+/// 000, 001 and so on whether it is paid: 1 says yes.
 type Tied = (&'static [u32], i64, bool, &'static [u8; 8]);
 
 const TIED: &[Tied] = &[
@@ -41,7 +42,8 @@ fn tie(
     }
 }
 
-/// Whether the terms from the seventh on are one of variable 3 alone, and of each named variable and it a regular one.
+/// Whether the terms from the seventh on are one of variable 3 alone, and of each named variable
+/// and it a regular one.
 fn are_terms(energy: &Energy, names: &[u32]) -> bool {
     if energy.term_count() != 7 + names.len() || !matches!(energy.term(6), Term::One(3, _)) {
         return false;
@@ -64,8 +66,8 @@ fn are_terms(energy: &Energy, names: &[u32]) -> bool {
     true
 }
 
-/// The least value of an energy of four variables over the last one, where the digits of a number say what the first
-/// three are.
+/// The least value of an energy of four variables over the last one, where the digits of a number
+/// say what the first three are.
 fn least_at(energy: &Energy, place: usize) -> Option<i64> {
     if energy.variables() != 4 {
         return None;
@@ -78,7 +80,8 @@ fn least_at(energy: &Energy, place: usize) -> Option<i64> {
     Some(at_0.min(at_1))
 }
 
-/// Whether at each assignment the least value over variable 3 is the old one, and the cost where it is paid.
+/// Whether at each assignment the least value over variable 3 is the old one, and the cost where it
+/// is paid.
 fn are_least(energy: &Energy, cost: i64, paid: &[u8; 8]) -> bool {
     for (place, value) in VALUES.iter().enumerate() {
         let wanted = if paid[place] == b'1' {
@@ -136,7 +139,8 @@ fn the_first_cause_of_a_cost_is_told(rt: HostRuntime) -> Result<(), Fail> {
         let is_refused = is_refused(&mut energy, names, *cost, *error);
         expect(&rt, "REFUSED", place, is_refused);
     }
-    // With the term that is there, a term of the new variable and one of each name are one too many.
+    // With the term that is there, a term of the new variable and one of each name are one too
+    // many.
     let names = vec![in rt.alloc(); 0u32; TERM_LIMIT - 1]?;
     assert!(rt; is_refused(&mut energy, names.as_slice(), -1, EnergyError::ValueRange));
     assert!(rt; is_refused(&mut energy, names.as_slice(), 0, EnergyError::TooManyTerms));

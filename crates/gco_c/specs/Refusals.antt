@@ -13,7 +13,7 @@ use Rattle.cost_store.specs.declared.error.CostError.TheVariants.{CostRange}
 use Rattle.labellings.specs.declared.change.Move.{Move}
 use Rattle.moves.specs.Runs.{AnswersRun}
 use Rattle.moves.specs.Problems.{IsRefusal, IsRunRefusal}
-use Rattle.moves.specs.declared.error.SolveError.TheVariants.{OutOfMemory as NoMemory}
+use Rattle.solvers.specs.declared.solve_error.SolveError.TheVariants.{OutOfMemory as NoMemory}
 use Rattle.moves.specs.declared.error.MoveError.{MoveError}
 use Rattle.moves.specs.declared.error.MoveError.TheVariants as move_why
 use Rattle.labellings.specs.declared.cycles.Moves.{Moves}

@@ -1,14 +1,16 @@
 //! Runs of moves for C over costs of 32 bits.
-ghost use Rattle.std.specs.Prelude.{◌≡◌, ◌≢◌, ◌↔◌, ◌+◌, ◌*◌, ◌<◌, ◌≤◌, All, length, IsOk, IfOk, IfErr, IsTrue, None, Ok};
+ghost use Rattle.std.specs.Prelude.{◌≡◌, ◌≢◌, ◌↔◌, ◌+◌, ◌*◌, ◌<◌, ◌≤◌, All, length, IsOk, IfOk};
+ghost use Rattle.std.specs.Prelude.{IfErr, IsTrue, None, Ok};
 ghost use Rattle.cost_store.specs.Limits.{data_limit, smooth_limit};
 ghost use Rattle.cost_store.specs.Promises.{IsCost, IsFirstOutside, cost_in, entry_at};
 ghost use Rattle.moves.specs.Instances.{instance_of};
 ghost use Rattle.moves.specs.Runs.{AnswersRun, IsRunInRange};
 ghost use Rattle.cost_store.specs.LabelCosts.{AreLabelCosts, costs_of};
 ghost use Rattle.moves.specs.Problems.{IsRunRefusal};
-ghost use Rattle.moves.specs.declared.error.SolveError.TheVariants.{OutOfMemory};
+ghost use Rattle.solvers.specs.declared.solve_error.SolveError.TheVariants.{OutOfMemory};
 ghost use Rattle.gco_c.specs.Calls.{AreInRange, IsGiven, IsReady, IsRunTold, asked, instance_given};
-ghost use Rattle.gco_c.specs.Refusals.{IsGivenRefusal, IsLabelRefusal, IsRangeRefusal, IsRefusalTold};
+ghost use Rattle.gco_c.specs.Refusals.{IsGivenRefusal, IsLabelRefusal, IsRangeRefusal};
+ghost use Rattle.gco_c.specs.Refusals.{IsRefusalTold};
 
 use crate::checks::check_counts;
 use crate::label::{copy_labels, moves_of};
@@ -23,8 +25,8 @@ use labellings::Moves;
 use moves::{Alone, MoveError, Request, Run, run_with_table};
 use std::alloc::{AllocError, Global};
 
-/// What `gco_label` does, over costs of 32 bits. The data costs are read where they lie; of the smooth costs and of
-/// the label costs a copy of 64 bits is made.
+/// What `gco_label` does, over costs of 32 bits. The data costs are read where they lie; of the
+/// smooth costs and of the label costs a copy of 64 bits is made.
 #[unsafe(no_mangle)]
 pub extern "C" fn gco_label_int32(
     alloc: Global,
@@ -71,7 +73,8 @@ pub extern "C" fn gco_label_int32(
     }
 }
 
-/// Makes the moves that were asked for over the arrays that were given, and answers where they ended.
+/// Makes the moves that were asked for over the arrays that were given, and answers where they
+/// ended.
 fn run_call(
     alloc: Global,
     labels: u32,

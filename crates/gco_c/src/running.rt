@@ -6,7 +6,7 @@ ghost use Rattle.moves.specs.Instances.{instance_of};
 ghost use Rattle.moves.specs.Runs.{AnswersRun, IsRunInRange};
 ghost use Rattle.cost_store.specs.LabelCosts.{AreLabelCosts, costs_of};
 ghost use Rattle.moves.specs.Problems.{IsRunRefusal};
-ghost use Rattle.moves.specs.declared.error.SolveError.TheVariants.{OutOfMemory};
+ghost use Rattle.solvers.specs.declared.solve_error.SolveError.TheVariants.{OutOfMemory};
 ghost use Rattle.gco_c.specs.Refusals.{move_refusal};
 
 use crate::ready::Ready;

@@ -12,8 +12,8 @@ use Rattle.problem_files.specs.declared.label_fault.LabelFault.TheVariants as la
 use Rattle.pgm_image.specs.declared.error.PgmError.{PgmError}
 use Rattle.pgm_image.specs.declared.error.PgmError.TheVariants as image
 use Rattle.pseudo_bool.specs.Energies.{Energy as YesNoEnergy}
-use Rattle.moves.specs.declared.error.SolveError.{SolveError}
-use Rattle.moves.specs.declared.error.SolveError.TheVariants as solve
+use Rattle.solvers.specs.declared.solve_error.SolveError.{SolveError}
+use Rattle.solvers.specs.declared.solve_error.SolveError.TheVariants as solve
 use Rattle.moves.specs.declared.error.MoveError.{MoveError}
 use Rattle.moves.specs.declared.error.MoveError.TheVariants as move
 use Rattle.run_options.specs.declared.options.RestoreOptions.{RestoreOptions}

@@ -11,7 +11,7 @@ use Rattle.problem_files.specs.declared.label_fault.LabelFault.TheVariants.{OutO
 use Rattle.moves.specs.Runs.{AnswersRun}
 use Rattle.moves.specs.Problems.{IsRunRefusal}
 use Rattle.moves.specs.declared.error.MoveError.{MoveError}
-use Rattle.moves.specs.declared.error.SolveError.{SolveError}
+use Rattle.solvers.specs.declared.solve_error.SolveError.{SolveError}
 use Rattle.gco_cli.specs.Instances.{instance_named}
 use Rattle.gco_cli.proofs.InputLemmas.{IsWhole, of_read, of_refusal}
 use Rattle.gco_cli.specs.Label.{HasLabelFault, HasProblemFault, HasReadingFault, HoldsProblem, IsRunFault}

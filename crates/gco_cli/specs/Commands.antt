@@ -4,10 +4,10 @@ use Rattle.byte_streams.specs.Streams.{Stream}
 use Rattle.command_line.specs.declared.task.Request.{Request}
 use Rattle.command_line.specs.declared.task.Task.{Task}
 use Rattle.command_line.specs.declared.task.Task.TheVariants.{Energy, Label, Picture}
-use Rattle.moves.specs.declared.error.SolveError.{SolveError}
-use Rattle.moves.specs.declared.error.SolveError.TheVariants.{OutOfMemory}
+use Rattle.solvers.specs.declared.solve_error.SolveError.{SolveError}
+use Rattle.solvers.specs.declared.solve_error.SolveError.TheVariants.{OutOfMemory}
 use Rattle.worker_options.specs.declared.options.Options.{Options}
-use Rattle.workers.specs.Refusals.{MayRefuse}
+use Rattle.rounds.specs.SolveErrors.{MayRefuse}
 use Rattle.gco_cli.specs.declared.fault.Fault.{Fault}
 use Rattle.gco_cli.specs.Energy.{AnswersInput, HasEnergyFault}
 use Rattle.gco_cli.specs.Label.{AnswersLabels, HasLabelFault}

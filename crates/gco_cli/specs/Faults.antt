@@ -6,8 +6,8 @@ use Rattle.problem_files.specs.declared.energy_fault.EnergyFault.{EnergyFault}
 use Rattle.problem_files.specs.declared.energy_fault.EnergyFault.TheVariants as energy
 use Rattle.problem_files.specs.declared.label_fault.LabelFault.{LabelFault}
 use Rattle.problem_files.specs.declared.label_fault.LabelFault.TheVariants as label
-use Rattle.moves.specs.declared.error.SolveError.{SolveError}
-use Rattle.moves.specs.declared.error.SolveError.TheVariants as solve
+use Rattle.solvers.specs.declared.solve_error.SolveError.{SolveError}
+use Rattle.solvers.specs.declared.solve_error.SolveError.TheVariants as solve
 use Rattle.moves.specs.declared.error.MoveError.{MoveError}
 use Rattle.moves.specs.declared.error.MoveError.TheVariants as move
 use Rattle.vision.specs.declared.error.VisionError.{VisionError}

@@ -8,7 +8,7 @@ use Rattle.problem_files.specs.declared.label_fault.LabelFault.{LabelFault}
 use Rattle.problem_files.specs.declared.label_fault.LabelFault.TheVariants as label
 use Rattle.moves.specs.Problems.{IsRunRefusal}
 use Rattle.moves.specs.declared.error.MoveError.{MoveError}
-use Rattle.moves.specs.declared.error.SolveError.{SolveError}
+use Rattle.solvers.specs.declared.solve_error.SolveError.{SolveError}
 use Rattle.gco_cli.specs.Instances.{instance_named}
 use Rattle.moves.specs.Runs.{AnswersRun}
 use Rattle.moves.specs.declared.tables.Run.{Run}

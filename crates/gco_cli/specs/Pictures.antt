@@ -6,7 +6,7 @@ use Rattle.byte_streams.specs.Input.{IsReadRefusal, input_limit}
 use Rattle.labellings.specs.Energies.{data_energy, energy, label_energy, labelling, smooth_energy}
 use Rattle.moves.specs.Runs.{TellsBound}
 use Rattle.moves.specs.declared.bound.Bound.{Bound}
-use Rattle.moves.specs.declared.error.SolveError.{SolveError}
+use Rattle.solvers.specs.declared.solve_error.SolveError.{SolveError}
 use Rattle.pgm_image.specs.Written.{written}
 use Rattle.vision.specs.Jobs.{EndsAt, Job, picture_of}
 use Rattle.vision.specs.Faults.{HasRestoreError, HasSegmentError, HasStereoError}

@@ -5,10 +5,10 @@ ghost use Rattle.gco_cli.specs.Energy.{IsCutFault};
 
 use crate::fault::Fault;
 use itoa::Buffer;
-use moves::How;
+use minimum::minimise_by;
 use regular::Regular;
+use solvers::How;
 use std::alloc::{AllocError, Global};
-use workers::minimise_by;
 
 /// The text of the answer to an energy. Refused where memory runs out, and as the cut is refused.
 pub fn answer<H: How>(alloc: Global, energy: Regular<'_>, how: &H) -> Result<Vec<u8>, Fault>

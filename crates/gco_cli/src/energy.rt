@@ -11,10 +11,10 @@ use crate::fault::Fault;
 use crate::fault_line::Line;
 use crate::written::Answer;
 use byte_streams::{Source, read_input};
-use moves::How;
 use problem_files::read_energy;
 use pseudo_bool::Energy;
 use regular::check;
+use solvers::How;
 use std::alloc::Global;
 
 /// The answer to the problem file that the input is. Nothing is said beside it.

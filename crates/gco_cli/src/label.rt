@@ -9,7 +9,8 @@ ghost use Rattle.moves.specs.Runs.{AnswersRun, IsRunInRange};
 ghost use Rattle.gco_cli.specs.Instances.{instance_named};
 ghost use Rattle.run_options.specs.Limits.{smooth_limit};
 ghost use Rattle.gco_cli.specs.Commands.{IsDueFor, IsFaultFor};
-ghost use Rattle.gco_cli.specs.Label.{AnswersProblem, HasReadingFault, HoldsProblem, IsRunFault, numbers_text, parts_of, run_text};
+ghost use Rattle.gco_cli.specs.Label.{AnswersProblem, HasReadingFault, HoldsProblem, IsRunFault};
+ghost use Rattle.gco_cli.specs.Label.{numbers_text, parts_of, run_text};
 ghost use Rattle.gco_cli.specs.Run.{TellsRead};
 ghost use Rattle.gco_cli.specs.Inputs.{OfSomeInput};
 
@@ -20,12 +21,13 @@ use crate::lines::{Parts, bound_line, energy_words};
 use crate::written::Answer;
 use byte_streams::{Source, read_input};
 use itoa::Buffer;
-use moves::{How, MoveError, Request, Run, run_tables};
+use moves::{MoveError, Request, Run, run_tables};
 use problem_files::{LabelProblem, read_label};
+use solvers::How;
 use std::alloc::{AllocError, Global};
 
-/// Where the moves of the problem that the input is end, and how near that is to the least energy where it is asked for.
-/// Nothing is said beside it.
+/// Where the moves of the problem that the input is end, and how near that is to the least energy
+/// where it is asked for. Nothing is said beside it.
 pub fn answer_label<H: How, R: Source>(
     alloc: Global,
     bound: bool,
@@ -79,9 +81,9 @@ fn answer_problem<H: How>(
 
 // Makes the moves that a problem asks for, from its start, and answers where they ended.
 //
-// Refused: `LabelCostInSwap`, before any move, exactly where swaps are asked for and some label costs something by itself;
-// `PairNotRegular` where the next move of the chain has a term that is not regular; what `how` refuses; and out of
-// memory.
+// Refused: `LabelCostInSwap`, before any move, exactly where swaps are asked for and some label
+// costs something by itself; `PairNotRegular` where the next move of the chain has a term that is
+// not regular; what `how` refuses; and out of memory.
 fn run_named<H: How>(alloc: Global, problem: LabelProblem, how: &H) -> Result<Run, MoveError>
     requires limits { IsInLimits (told problem) }
     requires ready { H.ready how.now }
@@ -110,7 +112,8 @@ fn run_named<H: How>(alloc: Global, problem: LabelProblem, how: &H) -> Result<Ru
     )
 }
 
-// What is printed of a run: the cost of the labels by themselves where it is to be told, the bound where it is asked for.
+// What is printed of a run: the cost of the labels by themselves where it is to be told, the bound
+// where it is asked for.
 fn run_text(alloc: Global, run: &Run, tells: bool, bound: bool) -> Result<Vec<u8>, AllocError>
     requires sized { (start : LabelField) × IsRunInRange start run.now }
     requires bounded { IfSome run.now.bound (λ bound. bound.vmax ≤ smooth_limit) }

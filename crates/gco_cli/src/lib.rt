@@ -1,4 +1,5 @@
-//! The program `gco`, over its words, a source of input, a sink for the answer and a sink for faults.
+//! The program `gco`, over its words, a source of input, a sink for the answer and a sink for
+//! faults.
 #![tactic(auto)]
 
 mod answers;
@@ -20,5 +21,5 @@ mod written;
 pub use fault::Fault;
 pub use fault_line::{LINE_LIMIT, Line, line_of};
 pub use program::run_program;
-pub use runs::{run_gated, run_streams, run_words};
+pub use runs::{run, run_gated, run_words};
 pub use unread::refuse_unread;

@@ -2,14 +2,16 @@
 ghost use Rattle.std.specs.Prelude.{◌≡◌};
 ghost use Rattle.moves.specs.Problems.{IsRunRefusal};
 ghost use Rattle.vision.specs.Faults.{any_cut};
-ghost use Rattle.gco_cli.specs.Faults.{TellsMove, cut_fault, energy_fault, label_fault, picture_fault, read_fault};
+ghost use Rattle.gco_cli.specs.Faults.{TellsMove, cut_fault, energy_fault, label_fault};
+ghost use Rattle.gco_cli.specs.Faults.{picture_fault, read_fault};
 ghost use Rattle.gco_cli.specs.declared.fault.Fault.TheVariants.{OutOfMemory, TermNotRegular};
 
 use crate::fault::Fault;
 use byte_streams::ReadError;
-use moves::{MoveError, SolveError};
+use moves::MoveError;
 use problem_files::{EnergyFault, LabelFault};
 use regular::NotRegular;
+use solvers::SolveError;
 use std::alloc::AllocError;
 use vision::VisionError;
 

@@ -13,12 +13,12 @@ use crate::fault_line::Line;
 use crate::lines::report_lines;
 use byte_streams::{Sink, Source, read_input};
 use command_line::PictureOptions;
-use moves::How;
+use solvers::How;
 use std::alloc::Global;
 use vision::{Report, VisionError, run_restore, run_segment, run_stereo};
 
-/// Writes the picture that an image command makes of the input, and answers the line of its energy, and that of the bound
-/// where it is asked for.
+/// Writes the picture that an image command makes of the input, and answers the line of its energy,
+/// and that of the bound where it is asked for.
 pub fn picture<H: How, R: Source, W: Sink>(
     alloc: Global,
     options: PictureOptions,

@@ -2,7 +2,7 @@
 ghost use Rattle.std.specs.Prelude.{◌≡◌, IfOk, IfErr, MatchResult, map};
 ghost use Rattle.std.specs.IoError.{error_kind};
 ghost use Rattle.command_line.specs.Task.{FitsRequest, FitsTask};
-ghost use Rattle.workers.specs.Refusals.{MayRefuse};
+ghost use Rattle.rounds.specs.SolveErrors.{MayRefuse};
 ghost use Rattle.gco_cli.specs.Commands.{IsDueFor, IsFaultFor, StandsForAsked};
 ghost use Rattle.gco_cli.specs.Refusals.{IsRefusalFor};
 ghost use Rattle.gco_cli.specs.Run.{IsDue, IsRun, IsUnread, Refuses, TellsRead, Writes, streams};
@@ -15,17 +15,18 @@ use crate::tasks::{end_without_task, run_task};
 use crate::unread::refuse_unread;
 use byte_streams::{Sink, Source};
 use command_line::{Request, Task, parse};
-use moves::Alone;
+use rounds::{Open, Workers};
+use solvers::Alone;
 use std::alloc::Global;
 use std::convert::AsStr;
 use std::io;
 use std::sync::Wait;
 use std::thread::Threads;
 use worker_options::{Gate, Options};
-use workers::{Open, Workers};
 
-/// One whole run of the words that the system gave. Where it gave none, and only an error, that is said, and the
-/// exit status is 2 where the error's kind is `InvalidData`, an argument that is not text, and else 1, memory.
+/// One whole run of the words that the system gave. Where it gave none, and only an error, that is
+/// said, and the exit status is 2 where the error's kind is `InvalidData`, an argument that is not
+/// text, and else 1, memory.
 pub fn run_words<
     A: AllocGlobal + Threads + Wait + Sync,
     S: AsStr + Drop,
@@ -43,17 +44,17 @@ pub fn run_words<
     ensures kept { (W.loan sink.new ≡ W.loan sink.old) × (E.loan faults.new ≡ E.loan faults.old) }
 {
     match words {
-        Ok(given) => run_streams(rt, given.as_slice(), source, sink, faults),
+        Ok(given) => run(rt, given.as_slice(), source, sink, faults),
         Err(error) => refuse_unread(error.kind(), faults),
     }
 }
 
-/// One whole run of these words over a source, a sink and a sink for faults, which count their failures. The
-/// first word is the program's name. Answers the exit status: 0 where the due text was written, 1 where the run was
-/// refused and its line said, 2 where the words were refused. A failed read is told exactly where a call of the
-/// source failed in this run, a write stops only where a call of the sink did, and what is said is whole where none
-/// of its sink failed.
-pub fn run_streams<A: AllocGlobal + Threads + Wait + Sync, S: AsStr, R: Source, W: Sink, E: Sink>(
+/// One whole run of these words over a source, a sink and a sink for faults, which count their
+/// failures. The first word is the program's name. Answers the exit status: 0 where the due text
+/// was written, 1 where the run was refused and its line said, 2 where the words were refused. A
+/// failed read is told exactly where a call of the source failed in this run, a write stops only
+/// where a call of the sink did, and what is said is whole where none of its sink failed.
+pub fn run<A: AllocGlobal + Threads + Wait + Sync, S: AsStr, R: Source, W: Sink, E: Sink>(
     rt: &A,
     words: &[S],
     source: &mut R,
@@ -70,8 +71,8 @@ pub fn run_streams<A: AllocGlobal + Threads + Wait + Sync, S: AsStr, R: Source, 
     run_gated(rt, words, gate, source, sink, faults)
 }
 
-/// The same run, in which a gate lets each turn of a worker pass or not. A run of words that ask for no workers does
-/// not ask it.
+/// The same run, in which a gate lets each turn of a worker pass or not. A run of words that ask
+/// for no workers does not ask it.
 pub fn run_gated<A: AllocGlobal + Threads + Wait + Sync, S: AsStr, R: Source, W: Sink, E: Sink>(
     rt: &A,
     words: &[S],

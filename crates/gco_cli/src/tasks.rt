@@ -14,7 +14,7 @@ use crate::refusal::Refusal;
 use crate::written::write_text;
 use byte_streams::{Sink, Source};
 use command_line::{NoTask, Task};
-use moves::How;
+use solvers::How;
 use std::alloc::Global;
 
 /// One command over its input. Nothing is written before the whole answer is there.
@@ -50,7 +50,8 @@ pub fn run_task<H: How, R: Source, W: Sink>(
 /// Where the words have no task: writes help that was asked for.
 pub fn end_without_task<W: Sink>(no_task: NoTask, sink: &mut W) -> Result<Line, Refusal>
     requires { HasText no_task }
-    ensures done { IfOk result (λ said. ShowsHelp no_task (W.stream sink.old) (W.stream sink.new) said.bytes) }
+    ensures done { IfOk result (λ said.
+        ShowsHelp no_task (W.stream sink.old) (W.stream sink.new) said.bytes) }
     ensures refused { IfErr result (IsRefusalOf no_task (W.stream sink.old) (W.stream sink.new)) }
     ensures kept { W.loan sink.new ≡ W.loan sink.old }
 {
@@ -65,7 +66,8 @@ pub fn end_without_task<W: Sink>(no_task: NoTask, sink: &mut W) -> Result<Line, 
 // Writes help, which is not empty. Nothing is said beside it.
 fn show_help<W: Sink>(sink: &mut W, text: &str) -> Result<Line, Refusal>
     requires { 0 < length text.now }
-    ensures done { IfOk result (λ said. Writes (IsHelp text.now) (W.stream sink.old) (W.stream sink.new) said.bytes) }
+    ensures done { IfOk result (λ said.
+        Writes (IsHelp text.now) (W.stream sink.old) (W.stream sink.new) said.bytes) }
     ensures cut { IfErr result (IsCutHelp text.now (W.stream sink.old) (W.stream sink.new)) }
     ensures kept { W.loan sink.new ≡ W.loan sink.old }
 {

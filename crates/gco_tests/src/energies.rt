@@ -7,7 +7,8 @@ mod answers;
 mod picture;
 mod refusals;
 
-/// Whether a run over this file ends with this status, and writes and says this, whatever workers are asked for.
+/// Whether a run over this file ends with this status, and writes and says this, whatever workers
+/// are asked for.
 fn is_minimised(
     rt: &(impl AllocGlobal + Threads + Wait + Sync),
     file: &[u8],

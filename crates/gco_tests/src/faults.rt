@@ -3,7 +3,6 @@ use crate::images::striped;
 use crate::rows::expect;
 use crate::streams::{CutWriter, ROOM, SlowReader, ends, run};
 use byte_streams::{Watched, WatchedReader};
-use gco_cli::run_streams;
 use std::process::Abort;
 use std::sync::Wait;
 use std::thread::Threads;
@@ -52,8 +51,8 @@ const COMMANDS: &[Command<'static>] = &[
     ),
 ];
 
-/// Whether a run of a command whose writer and fault writer stop after so many bytes, of so many a call, ends
-/// with this status, and writes and says this.
+/// Whether a run of a command whose writer and fault writer stop after so many bytes, of so many a
+/// call, ends with this status, and writes and says this.
 fn is_held(
     rt: &(impl AllocGlobal + Threads + Wait + Sync),
     command: &Command<'_>,
@@ -233,7 +232,8 @@ fn readers_that_fail(rt: HostRuntime) {
     }
 }
 
-/// How many bytes the writer takes, whether the reader fails at its end, the status and what is written.
+/// How many bytes the writer takes, whether the reader fails at its end, the status and what is
+/// written.
 type Remembered = (usize, bool, u8, &'static [u8]);
 
 const REMEMBERED: &[Remembered] = &[
@@ -252,7 +252,7 @@ fn is_remembered(rt: &(impl AllocGlobal + Threads + Wait + Sync), row: &Remember
     let mut sink = Watched::new(&mut writer);
     let mut fault_sink = Watched::new(&mut faults);
     let words = ["gco", "energy"];
-    let ended = run_streams(rt, &words, &mut source, &mut sink, &mut fault_sink);
+    let ended = gco_cli::run(rt, &words, &mut source, &mut sink, &mut fault_sink);
     ended == *status
         && source.failures == u64::from(*is_broken)
         && sink.failures == u64::from(*room < 24)

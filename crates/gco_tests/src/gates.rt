@@ -21,8 +21,8 @@ impl Gate for Counter {
     }
 }
 
-/// The first two variables are best at 01, which costs 2: at 00 and 11 they cost 3, at 10 they cost 8. So are the last two,
-/// whose pair is named the other way round.
+/// The first two variables are best at 01, which costs 2: at 00 and 11 they cost 3, at 10 they cost
+/// 8. So are the last two, whose pair is named the other way round.
 const ENERGY: &str = "variables = 4\nterms = [{ on = [0], values = [0,3] }, \
                       { on = [1], values = [3,0] }, { on = [0,1], values = [0,2,2,0] }, \
                       { on = [2], values = [0,3] }, { on = [3], values = [3,0] }, \
@@ -79,7 +79,8 @@ fn is_written(
     status == 0 && writer.held.as_slice() == written.as_bytes()
 }
 
-/// Whether a run ends as the row tells, and a worker asked for a turn exactly where workers are asked for.
+/// Whether a run ends as the row tells, and a worker asked for a turn exactly where workers are
+/// asked for.
 fn is_shared(rt: &(impl AllocGlobal + Threads + Wait + Sync), row: &Row) -> bool {
     let (words, input, written, is_asked) = row;
     let counter = Counter {

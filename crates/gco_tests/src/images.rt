@@ -50,7 +50,8 @@ const ROWS: &[Row] = &[
         BLACK,
         "energy 3 data 3 smooth 0\n",
     ),
-    // A level costs 1 by itself: three black pixels cost 3 and their level 1, the picture as it is 2 and its two levels 2.
+    // A level costs 1 by itself: three black pixels cost 3 and their level 1, the picture as it is
+    // 2 and its two levels 2.
     (
         &["gco", "restore", "--label-cost", "1"],
         RESTORED,
@@ -96,7 +97,8 @@ const ROWS: &[Row] = &[
         RESTORED,
         "energy 2 data 0 smooth 2 label 0\n",
     ),
-    // The bound of a run that its second cycle did not change, and that of none that is cut off before.
+    // The bound of a run that its second cycle did not change, and that of none that is cut off
+    // before.
     (
         &["gco", "restore", "--bound"],
         RESTORED,

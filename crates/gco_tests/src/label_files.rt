@@ -45,7 +45,8 @@ const ROWS: [Row; 5] = [
         cycles: 100,
         label_costs: None,
     },
-    // A table that is not symmetric, pairs with and without a weight, costs of labels, and fields that are passed over.
+    // A table that is not symmetric, pairs with and without a weight, costs of labels, and fields
+    // that are passed over.
     Row {
         file: "title = 'two'\nsites = 2\nlabels = 3\ndata = [0,9,9,9,9,0]\nsmooth = [0,1,4,2,0,1,10000,3,0]\n\
                pairs = [[0,1],[1,0,1000],[0,1,0]]\nstart = [0,2]\nmoves = 'swap'\ncycles = 0\ntrunc = 7\n\

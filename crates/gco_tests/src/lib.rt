@@ -1,6 +1,7 @@
-//! Tests of whole runs of `gco`, in memory: answers worked by hand, known from an independent program or found over all
-//! labellings, inputs and words that are refused, writers and readers that fail at each byte; and problem files of labels, by
-//! hand: what is read, and the first fault of others.
+//! Tests of whole runs of `gco`, in memory: answers worked by hand, known from an independent
+//! program or found over all labellings, inputs and words that are refused, writers and readers
+//! that fail at each byte; and problem files of labels, by hand: what is read, and the first fault
+//! of others.
 #![tactic(auto)]
 
 #[cfg(test)]

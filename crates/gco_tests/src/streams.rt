@@ -3,7 +3,6 @@ ghost use Rattle.std.specs.Prelude.{Some};
 
 use arrayvec::ArrayVec;
 use byte_streams::{Watched, WatchedReader};
-use gco_cli::run_streams;
 use std::alloc::{AllocError, Global};
 use std::io;
 use std::io::{Error, ErrorKind, Read, Write};
@@ -13,8 +12,8 @@ use std::thread::Threads;
 /// The most bytes that a writer holds.
 pub const ROOM: usize = 8192;
 
-/// A writer that takes `room` bytes, at most `step` a call, and then stops: by a fault if it is to, else by taking
-/// nothing.
+/// A writer that takes `room` bytes, at most `step` a call, and then stops: by a fault if it is to,
+/// else by taking nothing.
 #[derive(Drop)]
 pub struct CutWriter {
     pub held: ArrayVec<u8, ROOM>,
@@ -58,8 +57,8 @@ impl Write for CutWriter {
     }
 }
 
-/// A reader of these bytes and so many more, whatever they are, at most `step` a call, which at the end fails if it
-/// is to.
+/// A reader of these bytes and so many more, whatever they are, at most `step` a call, which at the
+/// end fails if it is to.
 #[derive(Drop)]
 pub struct SlowReader<'a> {
     pub bytes: &'a [u8],
@@ -106,7 +105,7 @@ pub fn run(
     let mut source = WatchedReader::new(reader);
     let mut sink = Watched::new(writer);
     let mut fault_sink = Watched::new(faults);
-    run_streams(rt, words, &mut source, &mut sink, &mut fault_sink)
+    gco_cli::run(rt, words, &mut source, &mut sink, &mut fault_sink)
 }
 
 /// Whether a run with these words ends with this status, and writes and says this.
@@ -144,8 +143,8 @@ pub fn joined<'a>(
     Ok(all)
 }
 
-/// Whether a run with these words and those for workers ends with this status, and writes and says this, whatever
-/// workers are asked for.
+/// Whether a run with these words and those for workers ends with this status, and writes and says
+/// this, whatever workers are asked for.
 pub fn ends_alike(
     rt: &(impl AllocGlobal + Threads + Wait + Sync),
     words: &[&str],

@@ -93,7 +93,7 @@ form_value weights q x is =
     let arcs = ap (λ (ys : List Arc). arcs_value ys x) is.arcs in
     omega (arith, ints, is.constant, ws, arcs)
 
-pub form_bounded : (weights : List ℤ) (q : Quadratic) → weights_size weights ≤ 300000000000000 → IsOfWeights weights q → IsBounded 1048576 q
+pub form_bounded : (weights : List ℤ) (q : Quadratic) → weights_size weights ≤ 500000000000000 → IsOfWeights weights q → IsBounded 1048576 q
 form_bounded weights q small is =
     let ws = ap (λ (ys : List ℤ). weights_size ys) is.weights_are in
     let arcs = ap (λ (ys : List Arc). arcs_size ys) is.arcs in

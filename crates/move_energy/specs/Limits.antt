@@ -14,3 +14,8 @@ surplus_limit = 20000000
 -- each end of 2^22 pairs a cost and a surplus; far below the size of as many terms
 abbrev pub weights_limit : ℕ
 weights_limit = 300000000000000
+
+-- the most that the weights of a form's nodes come to, 5 * 10^14: those of all open sites, and once
+-- more a surplus of each end of 2^22 pairs
+abbrev pub form_weights_limit : ℕ
+form_weights_limit = 500000000000000

@@ -1,14 +1,15 @@
-//! How many cuts a run of expansions has whose later expansions look near the changes alone, and how many sites these
-//! have, on the picture of `opened`; and that it ends as a run whose moves are all made whole.
+//! How many cuts a run of expansions has whose later expansions look near the changes alone, and
+//! how many sites these have, on the picture of `opened`; and that it ends as a run whose moves are
+//! all made whole.
 ghost use Rattle.std.specs.Prelude.{◌≡◌, ◌<◌, ◌≤◌, ◌+◌, ◌*◌, ◌≤ℤ◌, pos, length, IfOk, All};
 ghost use Rattle.cost_store.specs.Limits.{smooth_limit};
 ghost use Rattle.cost_store.specs.Promises.{IsCost, entry_at};
-ghost use Rattle.moves.specs.declared.error.SolveError.TheVariants.{OutOfMemory};
+ghost use Rattle.solvers.specs.declared.solve_error.SolveError.TheVariants.{OutOfMemory};
 
 use crate::opened::sample;
 use crate::random::CutAlone;
 use cost_store::{DataCost, Problem, SMOOTH_LIMIT, SmoothCost, check_table, is_metric};
-use flow_network::Net;
+use flow_network::{Net, Solved};
 use label_field::{Labelling, Pairs};
 use moves::{Alone, How, SolveError, run_expansion};
 use std::alloc::{AllocError, Global};
@@ -16,8 +17,9 @@ use std::process::Abort;
 use std::sync::atomic::{AtomicUsize, Ordering};
 use std::test::Fail;
 
-/// What two unlike labels cost, how many cycles are allowed, how many cuts there are, and how many sites these have
-/// together. Made by tools/stage_sites.py, which finds by itself where a later expansion looks.
+/// What two unlike labels cost, how many cycles are allowed, how many cuts there are, and how many
+/// sites these have together. Made by tools/stage_sites.py, which finds by itself where a later
+/// expansion looks.
 const RUNS: &[(i64, u32, usize, usize)] = &[
     (2, 1, 4, 1863),
     (2, 2, 8, 2193),
@@ -41,7 +43,7 @@ impl How for Counting {
 
     ghost refuses = { λ _ e. e ≡ OutOfMemory };
 
-    fn solve(&self, alloc: Global, net: Net) -> Result<Vec<bool>, SolveError> {
+    fn solve(&self, alloc: Global, net: &Net) -> Result<Solved, SolveError> {
         self.cuts.fetch_add(1, Ordering::SeqCst);
         self.nodes.fetch_add(net.nodes(), Ordering::SeqCst);
         Alone.solve(alloc, net)
@@ -102,7 +104,8 @@ fn expands<H: How>(
     run_expansion(alloc, &problem, labelling, cycles, how).is_ok()
 }
 
-/// The labels where a run of expansions of the picture ends that starts from label 0 everywhere; none where it is refused.
+/// The labels where a run of expansions of the picture ends that starts from label 0 everywhere;
+/// none where it is refused.
 fn labels_after<H: How>(
     rt: &impl Abort,
     alloc: Global,

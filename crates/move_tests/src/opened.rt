@@ -1,4 +1,5 @@
-//! How many sites of the moves of a first cycle are left for a cut, on a picture that a formula gives.
+//! How many sites of the moves of a first cycle are left for a cut, on a picture that a formula
+//! gives.
 ghost use Rattle.std.specs.Prelude.{◌<◌, ◌≤ℤ◌, pos};
 ghost use Rattle.labellings.specs.Moves.{IsMoveOf};
 ghost use Rattle.cost_store.specs.Posed.{IsPosed, FitsProblem};
@@ -68,7 +69,8 @@ pub fn open_in<F: Fn(u32, u32) -> i64 + Sync, V: Fn(u32, u32) -> i64 + Sync>(
     Ok(Some(count_open(deciding.bounds.choices.as_slice())))
 }
 
-/// Expands a label, and answers how many sites are left open, and how many change; none where it was refused.
+/// Expands a label, and answers how many sites are left open, and how many change; none where it
+/// was refused.
 fn expanded<F: Fn(u32, u32) -> i64 + Sync, V: Fn(u32, u32) -> i64 + Sync>(
     alloc: Global,
     problem: &Problem<F, V>,

@@ -1,25 +1,25 @@
-//! Small random moves and runs, with sites decided first and without, against answers worked out over all
-//! labellings.
+//! Small random moves and runs, with sites decided first, without, and strip by strip, against
+//! answers worked out over all labellings.
 ghost use Rattle.std.specs.Prelude.{◌≡◌, ◌≤◌, ◌<◌, ◌+◌, ◌*◌, ◌≤ℤ◌, pos, length};
 ghost use Rattle.cost_store.specs.Posed.{IsPosed, FitsProblem, AreOfOneSize};
-ghost use Rattle.moves.specs.declared.error.SolveError.TheVariants.{OutOfMemory};
+ghost use Rattle.solvers.specs.declared.solve_error.SolveError.TheVariants.{OutOfMemory};
 
 use crate::cases::MOVES;
 use crate::chains::RUNS;
 use cost_store::{DataCost, Problem, SmoothCost};
-use flow_network::Net;
+use flow_network::{Net, Solved};
 use label_field::{Labelling, Pairs};
 use moves::{Alone, How, MoveError, SolveError, expand, run_expansion, run_swap, swap};
 use std::alloc::Global;
 use std::process::Abort;
 
-/// How many bytes a row has: how many sites, labels and pairs; 0 for an expansion, 1 for a swap, 2 for a run
-/// of expansions, 3 for a run of swaps; the cycles that are allowed; the answer: 0 kept or stopped, 1 changed
-/// or settled, 2 not regular, 3 no such label, 4 a swap where a label costs something by itself; how many cycles were
-/// done, or the place of the pair; alpha, beta. Then four
-/// data costs of each of six sites, four smooth costs of each of four labels, the labels of six sites before
-/// and after, seven pairs with their weights, and the data energy and the smooth energy after, each of eight
-/// digits.
+/// How many bytes a row has: how many sites, labels and pairs; 0 for an expansion, 1 for a swap, 2
+/// for a run of expansions, 3 for a run of swaps; the cycles that are allowed; the answer: 0 kept
+/// or stopped, 1 changed or settled, 2 not regular, 3 no such label, 4 a swap where a label costs
+/// something by itself; how many cycles were done, or the place of the pair; alpha, beta. Then four
+/// data costs of each of six sites, four smooth costs of each of four labels, the labels of six
+/// sites before and after, seven pairs with their weights, and the data energy and the smooth
+/// energy after, each of eight digits.
 pub const BYTES: usize = 98;
 
 /// The greatest data cost, smooth cost and weight.
@@ -38,7 +38,7 @@ impl How for CutAlone {
 
     ghost refuses = { λ _ e. e ≡ OutOfMemory };
 
-    fn solve(&self, alloc: Global, net: Net) -> Result<Vec<bool>, SolveError> {
+    fn solve(&self, alloc: Global, net: &Net) -> Result<Solved, SolveError> {
         Alone.solve(alloc, net)
     }
 
@@ -46,6 +46,29 @@ impl How for CutAlone {
         false
     }
 }
+
+/// As `Alone`, but a strip has so many open sites, and what is left goes to its solver.
+#[derive(Clone, Copy)]
+pub struct InStrips {
+    pub sites: usize,
+}
+
+impl How for InStrips {
+    ghost ready = { λ _. Unit {0} };
+
+    ghost refuses = { λ _ e. e ≡ OutOfMemory };
+
+    fn solve(&self, alloc: Global, net: &Net) -> Result<Solved, SolveError> {
+        Alone.solve(alloc, net)
+    }
+
+    fn strip_sites(&self) -> usize {
+        self.sites
+    }
+}
+
+/// So many open sites the strips of a row have that is made once more for each.
+pub const STRIPS: &[usize] = &[1, 2, 3];
 
 /// A number of a row, at most so great.
 pub fn number(row: &[u8; BYTES], place: usize, most: u32) -> u32
@@ -55,8 +78,8 @@ pub fn number(row: &[u8; BYTES], place: usize, most: u32) -> u32
     number_of(row[place], most)
 }
 
-/// The number that a byte stands for, at most so great: a digit is itself, a small letter the limit less its place in the
-/// alphabet from 0, a capital so many parts of 27 of the limit, from 1.
+/// The number that a byte stands for, at most so great: a digit is itself, a small letter the limit
+/// less its place in the alphabet from 0, a capital so many parts of 27 of the limit, from 1.
 pub fn number_of(byte: u8, most: u32) -> u32
     ensures { result ≤ most }
 {
@@ -138,8 +161,8 @@ fn are_labels(labels: &[u8], row: &[u8; BYTES], at: usize) -> bool
     true
 }
 
-/// What a move or a run is to say: whether it changed or is settled, and how many cycles were done, of a move
-/// none.
+/// What a move or a run is to say: whether it changed or is settled, and how many cycles were done,
+/// of a move none.
 fn wanted(row: &[u8; BYTES]) -> Result<(bool, u32), MoveError> {
     let number = digit(row, 6);
     match digit(row, 5) {
@@ -205,9 +228,9 @@ fn is_after<F: Fn(u32, u32) -> i64 + Sync, V: Fn(u32, u32) -> i64 + Sync>(
                 .saturating_add(label_energy)
 }
 
-/// Makes the move or the run of a row; whether what it says, the labels and the energies are those of the row.
-/// Where a growth is refused, the labels are those before or, in a run, stand in its chain, and the move is made
-/// once more.
+/// Makes the move or the run of a row; whether what it says, the labels and the energies are those
+/// of the row. Where a growth is refused, the labels are those before or, in a run, stand in its
+/// chain, and the move is made once more.
 pub fn is_answered<F: Fn(u32, u32) -> i64 + Sync, V: Fn(u32, u32) -> i64 + Sync, H: How>(
     problem: &Problem<F, V>,
     alloc: Global,
@@ -272,7 +295,22 @@ pub fn is_right<H: How>(
     is_answered(&problem, alloc, &mut labelling, row, 0, chain, how)
 }
 
-/// Each row of a table, of which there are so many: with sites decided first, and without.
+/// Whether a row is right that is made strip by strip, for each size of the strips.
+fn is_right_in_strips(
+    rt: &impl Abort,
+    alloc: Global,
+    row: &[u8; BYTES],
+    chain: &[[u8; 4]],
+) -> bool {
+    let mut all = true;
+    for sites in STRIPS {
+        all = is_right(rt, alloc, row, chain, &InStrips { sites: *sites }) && all;
+    }
+    all
+}
+
+/// Each row of a table, of which there are so many: with sites decided first, without, and strip by
+/// strip.
 fn expect_rows(rt: &impl Abort, alloc: Global, table: &[u8], count: usize) {
     assert!(*rt; count <= 500 && table.len() == BYTES * count);
     for place in 0..count {
@@ -280,7 +318,8 @@ fn expect_rows(rt: &impl Abort, alloc: Global, table: &[u8], count: usize) {
         row.copy_from_slice(&table[BYTES * place..BYTES * place + BYTES]);
         let is_known = is_right(rt, alloc, &row, &[], &Alone);
         let is_cut = is_right(rt, alloc, &row, &[], &CutAlone);
-        assert!(*rt; is_known && is_cut, "row {place}");
+        let is_closed = is_right_in_strips(rt, alloc, &row, &[]);
+        assert!(*rt; is_known && is_cut && is_closed, "row {place}");
     }
 }
 

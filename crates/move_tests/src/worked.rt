@@ -3,7 +3,7 @@ ghost use Rattle.std.specs.Prelude.{◌≤◌, ◌<◌, ◌+◌, ◌*◌, ◌≤
 
 use crate::random::{BYTES, is_right};
 use cost_store::{DataCost, SmoothCost};
-use moves::{Alone, How};
+use moves::{Alone, Columns};
 use std::test::Fail;
 
 /// Costs of two labels at two sites, site first, and of each two labels.
@@ -44,7 +44,8 @@ const ROWS: [&[u8; BYTES]; 12] = [
     // A run of no cycles: the energy at the start.
     b"22120000030003000000000000000000001001000000000000000000000000150000000000000000000000000600000000",
     b"22100101030003000000000000000000001001000000000000000001100000150000000000000000000000000000000000",
-    // The squares of the distances of three labels, at two sites: the labels 0 and 2 are best alone.
+    // The squares of the distances of three labels, at two sites: the labels 0 and 2 are best
+    // alone.
     b"23100000009909900000000000000000001401010410000000200000200000110000000000000000000000000000000004",
     // To expand label 1 makes the term 4, 1, 1, 0: 4 + 0 is above 1 + 1.
     b"23100201009909900000000000000000001401010410000000200000200000110000000000000000000000000000000004",

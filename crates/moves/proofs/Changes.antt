@@ -28,7 +28,7 @@ use Rattle.deciding.specs.declared.listing.Lists.{Lists}
 use Rattle.deciding.specs.declared.sites.Deciding.{Deciding}
 use Rattle.deciding.specs.Listed.{AreListed, changes}
 use Rattle.moves.specs.declared.workspace.Workspace.{Workspace}
-use Rattle.moves.specs.Building.{site_values, moves_site, moved_met, HasChanges, AreChangesListed}
+use Rattle.moves.specs.Building.{site_values, moves_site, moved_met, HasChanges, AreChangesListed, IsNear, IsRestListed}
 
 not_false : (b : Bool) → not b ≡ false → b ≡ true
 not_false true is = refl
@@ -59,28 +59,44 @@ bit_of_choice : (b : Bool) → bit_of (choice_of b) false ≡ b
 bit_of_choice true = refl
 bit_of_choice false = refl
 
-has_changes : (move : Move) (f : List ℕ) (old new : List Choice) (bits : List Bool) (lists : Lists) → length old ≡ length f → IsTrue lists.listed
-    → AreListed move (labelling f) old lists → AreSettled old bits new → HasChanges move f new lists.changing.items
-has_changes move f old new bits lists size is_listed listed settled = record {
-  chosen = changes move (labelling f) old;
-  listed = listed.changing is_listed ∙ ap (λ n. listing (changes move (labelling f) old) n) size;
-  each = λ p l moved.
-      let test : Bool → Bool = λ v. not (label_in move (labelling f p) v == labelling f p) in
-      let told : bit_of (choice_at new p) false ≡ value_of old bits p =
-      ap (λ (c : Choice). bit_of c false) (settled.each p (omega (arith, l, size))) ∙ bit_of_choice (value_of old bits p) in
-      change_of (choice_at old p) (assignment bits (rank old p)) test (sym (ap test told) ∙ moved);
+pub near_changes : (pairs : PairList) (move : Move) (f : List ℕ) (before after : Workspace) (bits : List Bool) → length before.built.variables.choices.items ≡ length f
+    → IsRestListed pairs move f before → after.deciding ≡ before.deciding
+    → AreSettled before.built.variables.choices.items bits after.built.variables.choices.items → AreChangesListed pairs move f after
+near_changes pairs move f before after bits size rest same settled =
+    let old = before.built.variables.choices.items in
+    let new = after.built.variables.choices.items in
+    let here : HasChanges move f new before.deciding.lists.changing.items = record {
+      chosen = rest.chosen;
+      listed = rest.listed;
+      each = λ p l moved.
+          let test : Bool → Bool = λ v. not (label_in move (labelling f p) v == labelling f p) in
+          let told : bit_of (choice_at new p) false ≡ value_of old bits p =
+          ap (λ (c : Choice). bit_of c false) (settled.each p (omega (arith, l, size))) ∙ bit_of_choice (value_of old bits p) in
+          rest.each p l (change_of (choice_at old p) (assignment bits (rank old p)) test (sym (ap test told) ∙ moved));
+    } in
+    record {
+      by_site = subst (λ (d : Deciding). AreBySite pairs d.ends) (sym same) rest.by_site;
+      changes = subst (λ (d : Deciding). HasChanges move f new d.lists.changing.items) (sym same) here;
+    }
+
+-- what deciding listed is what is left
+pub near_rest : (pairs : PairList) (move : Move) (f : List ℕ) (space : Workspace) → length space.built.variables.choices.items ≡ length f
+    → IsNear pairs move f space → IsTrue space.deciding.lists.listed → IsRestListed pairs move f space
+near_rest pairs move f space size near is_listed = record {
+  by_site = near.by_site;
+  opened = near.lists.opened is_listed;
+  chosen = changes move (labelling f) space.built.variables.choices.items;
+  listed = near.lists.changing is_listed ∙ ap (λ n. listing (changes move (labelling f) space.built.variables.choices.items) n) size;
+  each = λ p l is. is;
 }
 
-pub near_changes : (pairs : PairList) (move : Move) (f : List ℕ) (before : Deciding) (old : List Choice) (after : Workspace) (bits : List Bool) → length old ≡ length f
-    → AreBySite pairs before.ends → AreListed move (labelling f) old before.lists → after.deciding ≡ before
-    → AreSettled old bits after.built.variables.choices.items → IsTrue after.deciding.lists.listed → AreChangesListed pairs move f after
-near_changes pairs move f before old after bits size by_site listed same settled is_listed =
-    let yes = subst (λ (d : Deciding). IsTrue d.lists.listed) same is_listed in
-    let here = has_changes move f old after.built.variables.choices.items bits before.lists size yes listed settled in
-    record {
-      by_site = subst (λ (d : Deciding). AreBySite pairs d.ends) (sym same) by_site;
-      changes = subst (λ (d : Deciding). HasChanges move f after.built.variables.choices.items d.lists.changing.items) (sym same) here;
-    }
+-- ---- what closing in leaves
+
+pub more_chosen : (start now : Choice) (test : Bool → Bool) → (now ≡ Open → start ≡ Open) → (start ≢ Open → now ≡ start)
+    → (is_open now || test (bit_of now false)) ≡ true → (is_open start || test (bit_of start false)) ≡ true
+more_chosen Open now test opened kept is = refl
+more_chosen DecidedZero now test opened kept is = ap (λ (c : Choice). is_open c || test (bit_of c false)) (sym (kept (λ e. absurd (cc (e))))) ∙ is
+more_chosen DecidedOne now test opened kept is = ap (λ (c : Choice). is_open c || test (bit_of c false)) (sym (kept (λ e. absurd (cc (e))))) ∙ is
 
 -- ---- the list
 

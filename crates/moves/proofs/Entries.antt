@@ -4,6 +4,7 @@ use Rattle.std.proofs.lemmas.Int.{ints}
 use Rattle.std.proofs.lemmas.Nat.{mul-add-lt}
 use Rattle.std.proofs.Math.Nat.{mul_comm}
 use Rattle.cost_store.specs.Promises.{IsCost, IsMetricTable, IsTable, cost_in, entry_at}
+use Rattle.cost_store.proofs.Metrics.{table_of_metric}
 use Rattle.label_field.specs.LabelFields.{LabelField}
 use Rattle.labellings.specs.declared.change.Move.{Move}
 use Rattle.labellings.specs.Energies.{Instance, IsInstance, IsMetric}
@@ -55,27 +56,12 @@ metric_kept k table metric cost entries =
       triangle = λ a b c la lb lc. omega (arith, same a b la lb, same a c la lc, same c b lc lb, m.triangle a b c la lb lc);
     }
 
--- the table of costs that are a metric
-pub metric_table : (k : ℕ) (cost : ℕ → ℕ → ℕ) (table : List ℤ) → 0 < k → IsTable k k cost table → IsMetric k cost → IsMetricTable k table
-metric_table k cost table some is m =
-    let same = λ (a b : ℕ) (la : a < k) (lb : b < k). let number : cost_in k table a b ≡ cost a b = ap unsigned_abs (is.each a b la lb) in number in
-    record {
-      some = some;
-      entries = record { size = is.size; each = λ a b la lb. is.each a b la lb ∙ ap pos (sym (same a b la lb)) };
-      metric = record {
-        equal = λ a la. same a a la la ∙ m.equal a la;
-        unequal = λ a b la lb apart. (let P : ℕ → Type 0 = λ n. 0 < n in subst P (sym (same a b la lb)) (m.unequal a b la lb apart));
-        symmetric = λ a b la lb. same a b la lb ∙ m.symmetric a b la lb ∙ sym (same b a lb la);
-        triangle = λ a b c la lb lc. omega (arith, same a b la lb, same a c la lc, same c b lc lb, m.triangle a b c la lb lc);
-      };
-    }
-
 -- where a closure answers the table's entries, and its costs are a metric, the table is one
 pub table_metric : (m : Instance) (k l : ℕ) (table : List ℤ) → 0 < k → length table ≡ k * k → m.labels ≡ l → l ≡ k
     → ((a b : ℕ) (z : ℤ) → a < l → b < l → z ≡ entry_at k table a b → z ≡ pos (m.smooth_cost a b)) → IsMetric m.labels m.smooth_cost → IsMetricTable k table
 table_metric m k l table some size labels same entries metric =
     let M : ℕ → Type 0 = λ n. IsMetric n m.smooth_cost in
-    metric_table k m.smooth_cost table some
+    table_of_metric k m.smooth_cost table some
     (record { size = size; each = λ a b la lb. entries a b (entry_at k table a b) (below_along a k l la (sym same)) (below_along b k l lb (sym same)) refl })
     (subst M (labels ∙ same) metric)
 

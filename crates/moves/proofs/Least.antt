@@ -23,12 +23,14 @@ use Rattle.move_energy.specs.declared.choice.Choice.{Choice}
 use Rattle.move_energy.specs.declared.choice.Choice.TheVariants.{Open, Zero as DecidedZero, One as DecidedOne}
 use Rattle.move_energy.specs.Choices.{bit_of, choice_at, choice_of, value_of, rank, made_by, AreAllOpen, AreSettled, StandsFor}
 use Rattle.moves.specs.Building.{site_values, made_value}
-use Rattle.deciding.specs.Decisions.{put, IsSmallestLeast, IsRest}
+use Rattle.deciding.specs.Decisions.{IsSmallestLeast}
 use Rattle.deciding.specs.MoveValues.{move_value}
-use Rattle.deciding.specs.Decided.{AreDecided}
-use Rattle.deciding.proofs.Putting.{passed_forced}
-use Rattle.deciding.proofs.Rests.{rest_least}
 use Rattle.deciding.proofs.Rises.{move_falls, move_over}
+use Rattle.closing_in.specs.Fixing.{fixed}
+use Rattle.closing_in.specs.Agreeing.{Agree}
+use Rattle.closing_in.specs.Forms.{bits_by_site}
+use Rattle.closing_in.proofs.Agreeing.{rest_agrees}
+use Rattle.closing_in.proofs.Forms.{form_smallest, open_bit}
 
 is_eqb : (a b : ℕ) → eqb a b ≡ true → a ≡ b
 is_eqb a b h = grind (arith, nat_tests)
@@ -134,12 +136,7 @@ cut_least q net k side count is best = record {
       best.smallest y (least_too net side y best.least (omega (arith, ints, is side, is y, level))) v (omega (arith, count, l)) one;
 }
 
--- ---- where sites were decided
-
-open_of : (c : Choice) → bit_of c true ≡ true → bit_of c false ≡ false → c ≡ Open
-open_of Open h k = refl
-open_of DecidedZero h k = absurd (cc (h))
-open_of DecidedOne h k = absurd (cc (k))
+-- ---- where choices agree
 
 subst_le : (a b c : ℤ) → b ≡ a → a ≤ℤ c → b ≤ℤ c
 subst_le a b c h k = omega (arith, ints, h, k)
@@ -150,23 +147,17 @@ smallest_along n E x y value same least = record {
   smallest = λ z level k l one. least.smallest z (level ∙ value) k l (sym (same k l) ∙ one);
 }
 
--- the least assignment of the open sites and what was decided make the least values of all sites
-pub decided_least : (m : Instance) (move : Move) (f : ℕ → ℕ) (choice : ℕ → Choice) (q : Quadratic) (variable : ℕ → ℕ) (y : ℕ → Bool)
-    → IsInstance m → IsAllowed m move f → AreDecided m move f choice → StandsFor m move f choice q variable → IsSmallestLeast (vec_len q.weights) (quadratic_value q) y
+-- where choices agree, the least assignment of the open sites and what is chosen make the least values of all sites
+pub agreed_least : (m : Instance) (move : Move) (f : ℕ → ℕ) (choice : ℕ → Choice) (q : Quadratic) (variable : ℕ → ℕ) (y : ℕ → Bool)
+    → IsInstance m → IsAllowed m move f → Agree m.sites (move_value m move f) choice → StandsFor m move f choice q variable
+    → IsSmallestLeast (vec_len q.weights) (quadratic_value q) y
     → IsSmallestLeast m.sites (move_value m move f) (λ p. bit_of (choice p) (y (variable p)))
-decided_least m move f choice q variable y pairs allowed decided stands least =
-    let ds = decided.decisions in
-    let over = move_over m move f pairs in
-    let forced = passed_forced (move_value m move f) ds (move_falls m move f pairs allowed) decided.passed in
-    let rest : IsRest m.sites (move_value m move f) ds (vec_len q.weights) (quadratic_value q) variable stands.site = record {
-      offset = stands.rest;
-      value = λ z. stands.value z ∙ sym (over (put ds (λ i. z (variable i))) (λ p. bit_of (choice p) (z (variable p))) (λ p l. decided.shown (λ i. z (variable i)) p l));
-      covers = λ p l free. stands.covers p l (open_of (choice p) (sym (decided.shown (λ i. true) p l) ∙ free (λ i. true)) (sym (decided.shown (λ i. false) p l) ∙ free (λ i. false)));
-    } in
-    let whole = rest_least m.sites (move_value m move f) ds (vec_len q.weights) (quadratic_value q) variable stands.site y over forced rest least in
-    smallest_along m.sites (move_value m move f) (put ds (λ i. y (variable i))) (λ p. bit_of (choice p) (y (variable p)))
-    (over (λ p. bit_of (choice p) (y (variable p))) (put ds (λ i. y (variable i))) (λ p l. sym (decided.shown (λ i. y (variable i)) p l)))
-    (λ p l. sym (decided.shown (λ i. y (variable i)) p l)) whole
+agreed_least m move f choice q variable y pairs allowed agree stands least =
+    let P : (ℕ → Bool) → Type 0 = λ x. IsSmallestLeast m.sites (move_value m move f) x in
+    let same : fixed choice (bits_by_site choice variable y) ≡ (λ p. bit_of (choice p) (y (variable p))) = λ j p. open_bit (choice p) (y (variable p)) j in
+    subst P same
+    (rest_agrees m.sites (move_value m move f) choice (bits_by_site choice variable y) (move_falls m move f pairs allowed) (move_over m move f pairs) agree
+    (form_smallest m move f choice q variable y pairs stands least))
 
 -- the energies depend on the values of the sites alone
 pub made_over : (m : Instance) (move : Move) (f : ℕ → ℕ) → IsInstance m → (x y : ℕ → Bool) → ((k : ℕ) → k < m.sites → x k ≡ y k) → made_value m move f x ≡ made_value m move f y

@@ -9,7 +9,7 @@ use Rattle.compile_cut.specs.Weights.{weights_size}
 use Rattle.move_energy.specs.declared.choice.Choice.{Choice}
 use Rattle.move_energy.specs.declared.building.MoveEnergy.{MoveEnergy}
 use Rattle.move_energy.specs.declared.error.BuildError.{BuildError}
-use Rattle.move_energy.specs.Choices.{bit_of, choice_at, value_of}
+use Rattle.move_energy.specs.Choices.{bit_of, choice_at, value_of, AreOpenSites}
 use Rattle.move_energy.specs.Problems.{IsPrepareRefusal}
 use Rattle.move_energy.specs.Limits.{weights_limit}
 use Rattle.move_energy.specs.Weights.{AreWeights}
@@ -18,7 +18,7 @@ use Rattle.move_energy.specs.declared.by_site.Neighbours.{Neighbours}
 use Rattle.label_field.specs.declared.pair.Pair.{Pair}
 use Rattle.label_field.specs.PairLists.{PairList}
 use Rattle.move_energy.specs.BySite.{AreBySite, IsListing, met_at}
-use Rattle.deciding.specs.Listed.{AreListed}
+use Rattle.deciding.specs.Listed.{AreListed, changes}
 use Rattle.deciding.specs.Decisions.{IsSmallestLeast}
 use Rattle.deciding.specs.MoveValues.{move_value}
 use Rattle.moves.specs.declared.workspace.Workspace.{Workspace}
@@ -35,6 +35,19 @@ pub record IsNear (pairs : PairList) (move : Move) (f : List ℕ) (space : Works
 -- they are, where a move is to look at the listed sites alone
 abbrev pub IsNearWhereListed : PairList → Move → List ℕ → Workspace → Type 0
 IsNearWhereListed pairs move f space = IsTrue space.deciding.lists.listed → IsNear pairs move f space
+
+-- what is left of a move is listed: its open sites, and among the changing ones each whose label can still become another
+pub record IsRestListed (pairs : PairList) (move : Move) (f : List ℕ) (space : Workspace) : Type 0 where
+  pub by_site : AreBySite pairs space.deciding.ends
+  pub opened : AreOpenSites space.built.variables.choices.items space.deciding.lists.opened.items
+  pub chosen : ℕ → Bool
+  pub listed : IsListing chosen (length f) space.deciding.lists.changing.items
+  pub each : (p : ℕ) → p < length f
+      → changes move (labelling f) space.built.variables.choices.items p ≡ true → chosen p ≡ true
+
+-- it is, where a move is to look at the listed sites alone
+abbrev pub IsRestWhereListed : PairList → Move → List ℕ → Workspace → Type 0
+IsRestWhereListed pairs move f space = IsTrue space.deciding.lists.listed → IsRestListed pairs move f space
 
 -- the workspace has a weight for each site, and together they are in their limit
 abbrev pub AreWeightsSized : ℕ → Workspace → Type 0

@@ -1,6 +1,8 @@
--- What a move tells of a refused cut.
-use Rattle.moves.specs.declared.error.SolveError.{SolveError}
-use Rattle.moves.specs.declared.error.SolveError.TheVariants.{OutOfMemory as NoMemory, Workers as NoWorkers, BadOptions as NoOptions}
+-- What a move tells of a refused cut, and what may be refused over a metric.
+use Rattle.std.specs.Prelude.{◌≡◌, ◌⊎◌}
+use Rattle.labellings.specs.Energies.{Instance, IsMetric}
+use Rattle.solvers.specs.declared.solve_error.SolveError.{SolveError}
+use Rattle.solvers.specs.declared.solve_error.SolveError.TheVariants.{OutOfMemory as NoMemory, Workers as NoWorkers, BadOptions as NoOptions}
 use Rattle.moves.specs.declared.error.MoveError.{MoveError}
 use Rattle.moves.specs.declared.error.MoveError.TheVariants.{OutOfMemory, Workers, BadOptions}
 
@@ -9,3 +11,11 @@ abbrev pub cut_told : SolveError → MoveError
 cut_told NoMemory = OutOfMemory
 cut_told NoWorkers = Workers
 cut_told NoOptions = BadOptions
+
+-- memory; or what was refused of a cut, as a move tells it
+abbrev pub IsMemoryOrCut : (SolveError → Type 0) → MoveError → Type 0
+IsMemoryOrCut refuses e = (e ≡ OutOfMemory) ⊎ ((failed : SolveError) × refuses failed × (e ≡ cut_told failed))
+
+-- what may be refused of a problem: where its smooth costs are a metric, memory or a cut alone
+abbrev pub IsRefusalOver : Instance → (SolveError → Type 0) → MoveError → Type 0
+IsRefusalOver m refuses e = IsMetric m.labels m.smooth_cost → IsMemoryOrCut refuses e

@@ -1,5 +1,6 @@
 //! An expansion of a label that was expanded before, which looks only near what changed since.
-ghost use Rattle.std.specs.Prelude.{◌≡◌, ◌≢◌, ◌↔◌, ◌<◌, ℕ, Bool, true, length, OnOk, OnErr, IfOk, IfErr, IfSome, IsTrue, IsFalse, None};
+ghost use Rattle.std.specs.Prelude.{◌≡◌, ◌≢◌, ◌↔◌, ◌<◌, ℕ, Bool, true, length, OnOk, OnErr, IfOk};
+ghost use Rattle.std.specs.Prelude.{IfErr, IfSome, IsTrue, IsFalse, None};
 ghost use Rattle.std.specs.List.{All, Contains};
 ghost use Rattle.labellings.specs.declared.change.Move.TheVariants.{Expand};
 ghost use Rattle.labellings.specs.Energies.{labelling as labelling_of};
@@ -10,7 +11,8 @@ ghost use Rattle.stages.specs.Fresh.{WasExpanded};
 ghost use Rattle.stages.specs.Looking.{marked, AreTaking};
 ghost use Rattle.moves.specs.Building.{IsGroupedFor};
 ghost use Rattle.moves.specs.Problems.{IsMade, IsCutRefusal, IsMoveRefusal};
-ghost use Rattle.moves.specs.Stages.{IsStageReady, AreStageZeros, AreStageFresh, IsTakenLeast, HasTaken, IsLater};
+ghost use Rattle.moves.specs.Stages.{IsStageReady, AreStageZeros, AreStageFresh, IsTakenLeast};
+ghost use Rattle.moves.specs.Stages.{HasTaken, IsLater};
 
 use crate::stage::{Standing, make_stage};
 use crate::taking::relabel_site;
@@ -28,7 +30,8 @@ const CHANGED_SHARE: usize = 32;
 /// The most stages of an expansion: where none of so many is closed, the expansion is made whole.
 const STAGE_LIMIT: u32 = 64;
 
-/// The stages of an expansion open at most one in so many sites together: where they need more, it is made whole.
+/// The stages of an expansion open at most one in so many sites together: where they need more, it
+/// is made whole.
 const OPENED_SHARE: usize = 2;
 
 /// Whether few sites that have not the label changed since a move.
@@ -44,8 +47,8 @@ fn are_few(stamps: &[u32], since: u32, at: &[u8], alpha: u32) -> bool
     changed < stamps.len().div_ceil(CHANGED_SHARE)
 }
 
-/// Whether an expansion looks near the changes alone: its label was expanded before and few sites changed since, the smooth
-/// costs were stored as a metric, and no label costs anything by itself.
+/// Whether an expansion looks near the changes alone: its label was expanded before and few sites
+/// changed since, the smooth costs were stored as a metric, and no label costs anything by itself.
 fn can_look<F: Fn(u32, u32) -> i64 + Sync, V: Fn(u32, u32) -> i64 + Sync>(
     problem: &Problem<F, V>,
     labelling: &Labelling,
@@ -165,9 +168,10 @@ fn take(labelling: &mut Labelling, alpha: u32, sites: &[u32]) -> bool
     changed
 }
 
-/// An expansion of a label that was expanded before, where few sites changed since: it looks at those and at what is near them,
-/// and at more, stage by stage, until nothing that was not looked at can matter. It answers nothing, and changes nothing,
-/// where the expansion is to be made whole. Refused as an expansion is, the labels as they were.
+/// An expansion of a label that was expanded before, where few sites changed since: it looks at
+/// those and at what is near them, and at more, stage by stage, until nothing that was not looked
+/// at can matter. It answers nothing, and changes nothing, where the expansion is to be made whole.
+/// Refused as an expansion is, the labels as they were.
 pub(crate) fn make_later<F: Fn(u32, u32) -> i64 + Sync, V: Fn(u32, u32) -> i64 + Sync, H: How>(
     alloc: Global,
     problem: &Problem<F, V>,

@@ -1,19 +1,27 @@
-//! One stage of an expansion that is made once more: its cut, and what is done with what the cut shows.
-ghost use Rattle.std.specs.Prelude.{◌≡◌, ◌<◌, ℕ, Bool, false, true, length, OnOk, IfOk, IfErr};
+//! One stage of an expansion that is made once more: its cut, and what is done with what the cut
+//! shows.
+ghost use Rattle.std.specs.Prelude.{◌≡◌, ◌+◌, ◌<◌, ◌≤◌, ℕ, Bool, false, true, length, vec_len};
+ghost use Rattle.std.specs.Prelude.{OnOk, IfOk, IfErr};
+ghost use Rattle.label_field.specs.Limits.{site_limit, label_limit};
+ghost use Rattle.pseudo_bool.specs.Energies.{assignment};
+ghost use Rattle.pseudo_bool.specs.Limits.{term_limit};
+ghost use Rattle.compile_cut.specs.Quadratics.{IsBounded, quadratic_value};
+ghost use Rattle.deciding.specs.Decisions.{IsSmallestLeast};
 ghost use Rattle.move_energy.specs.BySite.{AreBySite};
 ghost use Rattle.labellings.specs.declared.change.Move.TheVariants.{Expand};
 ghost use Rattle.labellings.specs.Energies.{labelling};
 ghost use Rattle.labellings.specs.Moves.{IsAllowed};
 ghost use Rattle.cost_store.specs.Posed.{IsPosed, Meant, IsAsked};
 ghost use Rattle.move_energy.specs.declared.choice.Choice.TheVariants.{Zero};
-ghost use Rattle.move_energy.specs.Choices.{choice_at, value_of, open_count, IsNumbering, AreOpenSites};
+ghost use Rattle.move_energy.specs.Choices.{choice_at, value_of, open_count, IsNumbering};
+ghost use Rattle.move_energy.specs.Choices.{AreOpenSites};
 ghost use Rattle.stages.specs.Looking.{marked, IsClosedIn, AreTaking};
 ghost use Rattle.moves.specs.Problems.{IsCutRefusal};
 ghost use Rattle.moves.specs.Stages.{IsStageLeast, IsStageReady, AreStageZeros, EndsMove};
 
 use crate::one_move::minimise;
 use crate::workspace::Workspace;
-use crate::{How, MoveError};
+use crate::{Alone, How, MoveError};
 use compile_cut::Quadratic;
 use cost_store::Problem;
 use label_field::Pairs;
@@ -22,11 +30,34 @@ use move_energy::{MoveEnergy, Neighbours};
 use std::alloc::{AllocError, Global};
 use std::mem::replace;
 
-/// What a stage leaves: the sites that take the label are found, or there are more sites to look at.
+/// What a stage leaves: the sites that take the label are found, or there are more sites to look
+/// at.
 #[derive(Clone, Copy)]
 pub(crate) enum Standing {
     Closed,
     Open,
+}
+
+/// The least assignment of a form with the fewest ones. A form of fewer nodes than a strip has is
+/// cut on the thread of the caller: workers would take longer to share it than one takes to cut it.
+fn cut_small<H: How>(
+    alloc: Global,
+    form: Quadratic,
+    how: &H,
+    cutting: &mut plain_cut::Workspace,
+) -> Result<Vec<bool>, MoveError>
+    requires ready { H.ready how.now }
+    requires bounded { IsBounded term_limit form }
+    requires few { vec_len form.weights ≤ site_limit + label_limit }
+    ensures count { IfOk result (λ bits. length bits.items ≡ vec_len form.weights) }
+    ensures least { IfOk result (λ bits. IsSmallestLeast (vec_len form.weights)
+        (quadratic_value form) (assignment bits.items)) }
+    ensures refused { IfErr result (IsCutRefusal (H.refuses how.now)) }
+{
+    if form.weights.len() < how.strip_sites() {
+        return minimise(alloc, form, &Alone, cutting);
+    }
+    minimise(alloc, form, how, cutting)
 }
 
 /// The cut of a partly fixed move, over the listed open sites: a bit for each.
@@ -58,10 +89,11 @@ fn cut_stage<F: Fn(u32, u32) -> i64 + Sync, V: Fn(u32, u32) -> i64 + Sync, H: Ho
 {
     built.build_listed(alloc, problem, ends, opened, at, change)?;
     let form = replace(&mut built.form, Quadratic::new(alloc));
-    minimise(alloc, form, how, cutting)
+    cut_small(alloc, form, how, cutting)
 }
 
-/// What is done with what a cut showed: where the sites that take the label are not closed in, more sites are opened.
+/// What is done with what a cut showed: where the sites that take the label are not closed in, more
+/// sites are opened.
 fn end_stage(space: &mut Workspace, pairs: &Pairs, bits: &[bool]) -> Result<Standing, AllocError>
     requires ready { IsStageReady pairs.now space.old }
     requires numbering { IsNumbering space.old.built.variables.choices.items

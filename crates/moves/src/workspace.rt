@@ -7,10 +7,13 @@ ghost use Rattle.label_field.specs.Limits.{site_limit, label_limit};
 ghost use Rattle.pseudo_bool.specs.Limits.{term_limit};
 ghost use Rattle.compile_cut.specs.Quadratics.{IsBounded};
 ghost use Rattle.cost_store.specs.Posed.{IsPosed, Meant, IsAsked};
-ghost use Rattle.move_energy.specs.Choices.{AreOpenSites, AreSettled};
+ghost use Rattle.move_energy.specs.Choices.{choice_at, AreOpenSites, AreSettled};
 ghost use Rattle.move_energy.specs.Problems.{Stands};
 ghost use Rattle.deciding.specs.Decided.{IsDecidedMove};
-ghost use Rattle.moves.specs.Building.{IsGroupedFor, IsNear, IsNearWhereListed, AreWeightsSized, KnowsWeights, IsBuiltPlain, IsBuiltMove};
+ghost use Rattle.deciding.specs.MoveValues.{move_value};
+ghost use Rattle.closing_in.specs.Agreeing.{Agree};
+ghost use Rattle.moves.specs.Building.{IsGroupedFor, IsNear, IsNearWhereListed, IsRestWhereListed};
+ghost use Rattle.moves.specs.Building.{AreWeightsSized, KnowsWeights, IsBuiltPlain, IsBuiltMove};
 ghost use Rattle.cost_store.specs.LabelCosts.{costs_of, AreCosts};
 ghost use Rattle.moves.specs.LabelCosts.{IsFreeFor};
 ghost use Rattle.labellings.specs.declared.change.Move.TheVariants.{Expand};
@@ -24,15 +27,17 @@ use move_energy::{BuildError, MoveEnergy, Neighbours, add_label_costs};
 use stages::Stage;
 use std::alloc::{AllocError, Global};
 use std::mem::swap;
+use strips::Strips;
 
-/// The most sites whose bounds and whose variables' numbers keep their memory for the next move. The bounds of more sites,
-/// over 5 MB, and their numbers, over 1 MB, are given back once the energy is built, since the cut comes then: nobody asks
-/// for a bound again, and the cut's values are taken in the order of the sites.
+/// The most sites whose bounds and whose variables' numbers keep their memory for the next move.
+/// The bounds of more sites, over 5 MB, and their numbers, over 1 MB, are given back once the
+/// energy is built, since the cut comes then: nobody asks for a bound again, and the cut's values
+/// are taken in the order of the sites.
 const KEPT_SITES: usize = 1 << 18;
 
-/// The most open sites beside which the pairs stay grouped by their sites. The form, the net and the cut of more take
-/// over 50 MB, so the groups are given back before the form is built, and the next move makes them anew, which takes
-/// less than a twentieth of such a move's time.
+/// The most open sites beside which the pairs stay grouped by their sites. The form, the net and
+/// the cut of more take over 50 MB, so the groups are given back before the form is built, and the
+/// next move makes them anew, which takes less than a twentieth of such a move's time.
 const GROUPED_SITES: usize = 1 << 19;
 
 /// Gives the memory of the bounds of many sites back.
@@ -56,20 +61,23 @@ fn give_groups_back(alloc: Global, grouped: &mut bool, deciding: &mut Deciding)
     }
 }
 
-/// Gives the memory of the numbers of many sites' variables back, but where the open sites are listed.
+/// Gives the memory of the numbers of many sites' variables back, but where the open sites are
+/// listed.
 pub fn give_numbers_back(alloc: Global, listed: bool, of_sites: &mut Vec<u32>) {
     if !listed && of_sites.len() > KEPT_SITES {
         *of_sites = Vec::new(alloc);
     }
 }
 
-/// The workspace of a run: what decides the sites of its moves, once the pairs were grouped by their sites, the energy of its
-/// moves, where its later expansions look, and the lists of its cuts.
+/// The workspace of a run: what decides the sites of its moves, once the pairs were grouped by
+/// their sites, the energy of its moves, the strips in which they are closed in, where its later
+/// expansions look, and the lists of its cuts.
 #[derive(Drop)]
 pub struct Workspace {
     pub grouped: bool,
     pub deciding: Deciding,
     pub built: MoveEnergy,
+    pub strips: Strips,
     pub stage: Stage,
     pub cutting: plain_cut::Workspace,
 }
@@ -83,6 +91,7 @@ impl Workspace {
             grouped: false,
             deciding: Deciding::empty(alloc),
             built: MoveEnergy::new(alloc),
+            strips: Strips::new(alloc),
             stage: Stage::empty(alloc),
             cutting: plain_cut::Workspace::new(alloc),
         }
@@ -135,7 +144,8 @@ fn decide<F: Fn(u32, u32) -> i64 + Sync, V: Fn(u32, u32) -> i64 + Sync>(
     ensures near { OnOk result (IsNear problem.now.pairs change at.now space.new) }
     ensures choices { OnOk result (length space.new.built.variables.choices.items ≡ length at.now) }
     ensures sized { OnOk result (AreWeightsSized (length at.now) space.new) }
-    ensures weights { Meant F.Fn V.Fn problem.now (λ m. OnOk result (KnowsWeights m change at.now space.new)) }
+    ensures weights { Meant F.Fn V.Fn problem.now (λ m.
+        OnOk result (KnowsWeights m change at.now space.new)) }
     ensures decided { Meant F.Fn V.Fn problem.now (λ m. IsDecidedMove m change at.now
         space.new.built.variables.choices.items result) }
 {
@@ -148,7 +158,8 @@ fn decide<F: Fn(u32, u32) -> i64 + Sync, V: Fn(u32, u32) -> i64 + Sync>(
     Ok(())
 }
 
-/// The energy of a move over its listed open sites, from their weights. What was decided is not looked at.
+/// The energy of a move over its listed open sites, from their weights. What was decided is not
+/// looked at.
 fn build_near<F: Fn(u32, u32) -> i64 + Sync, V: Fn(u32, u32) -> i64 + Sync>(
     alloc: Global,
     problem: &Problem<F, V>,
@@ -181,7 +192,8 @@ fn build_near<F: Fn(u32, u32) -> i64 + Sync, V: Fn(u32, u32) -> i64 + Sync>(
     )
 }
 
-/// The energy of a move from the weights of its open sites, for which all sites and pairs are passed.
+/// The energy of a move from the weights of its open sites, for which all sites and pairs are
+/// passed.
 fn build_all<F: Fn(u32, u32) -> i64 + Sync, V: Fn(u32, u32) -> i64 + Sync>(
     alloc: Global,
     problem: &Problem<F, V>,
@@ -243,25 +255,84 @@ fn build_open<F: Fn(u32, u32) -> i64 + Sync, V: Fn(u32, u32) -> i64 + Sync>(
     }
 }
 
-/// The energy of a move whose sites were decided first.
+/// The energy of the last strip of a move whose sites are decided: all strips before it are closed
+/// in, so many sites each, and only its own open sites are left.
+fn build_strips<F: Fn(u32, u32) -> i64 + Sync, V: Fn(u32, u32) -> i64 + Sync>(
+    alloc: Global,
+    problem: &Problem<F, V>,
+    space: &mut Workspace,
+    at: &[u8],
+    change: Move,
+    size: usize,
+) -> Result<(), AllocError>
+    requires asked { IsAsked problem.now at.now change }
+    requires posed { IsPosed F.Fn V.Fn problem.now }
+    requires some { 0 < size }
+    requires choices { length space.old.built.variables.choices.items ≡ length at.now }
+    requires near { IsNear problem.now.pairs change at.now space.old }
+    requires sized { AreWeightsSized (length at.now) space.old }
+    requires weights { Meant F.Fn V.Fn problem.now (λ m. KnowsWeights m change at.now space.old) }
+    requires allowed { Meant F.Fn V.Fn problem.now (λ m. IsAllowed m change (labelling at.now)) }
+    ensures by_site { IsGroupedFor problem.now.pairs space.new }
+    ensures near { OnOk result (IsRestWhereListed problem.now.pairs change at.now space.new) }
+    ensures choices { OnOk result (length space.new.built.variables.choices.items ≡ length at.now) }
+    ensures bounded { OnOk result (IsBounded term_limit space.new.built.form) }
+    ensures few { OnOk result (vec_len space.new.built.form.weights ≤ site_limit) }
+    ensures stands { Meant F.Fn V.Fn problem.now (λ m. OnOk result (Stands m change at.now space.new.built)) }
+    ensures agree { Meant F.Fn V.Fn problem.now (λ m.
+        Agree m.sites (move_value m change (labelling at.now))
+        (choice_at space.old.built.variables.choices.items) →
+        OnOk result (Agree m.sites (move_value m change (labelling at.now))
+        (choice_at space.new.built.variables.choices.items))) }
+{
+    swap(
+        &mut space.deciding.bounds.choices,
+        &mut space.built.variables.choices,
+    );
+    space.strips.close_in(
+        alloc,
+        problem,
+        &space.deciding.ends,
+        &mut space.built,
+        &space.deciding.bounds.choices,
+        &space.deciding.bounds.greatest,
+        size,
+        at,
+        change,
+        &mut space.cutting,
+    )?;
+    if space.deciding.lists.listed {
+        swap(&mut space.deciding.lists.opened, &mut space.strips.opened);
+    }
+    Ok(())
+}
+
+/// The energy of a move whose sites were decided first. Where more are open than a strip has, it is
+/// that of the last strip.
 fn build_decided<F: Fn(u32, u32) -> i64 + Sync, V: Fn(u32, u32) -> i64 + Sync>(
     alloc: Global,
     problem: &Problem<F, V>,
     space: &mut Workspace,
     at: &[u8],
     change: Move,
+    strip: usize,
 ) -> Result<(), BuildError>
     requires asked { IsAsked problem.now at.now change }
     requires posed { IsPosed F.Fn V.Fn problem.now }
     requires by_site { IsGroupedFor problem.now.pairs space.old }
     ensures by_site { IsGroupedFor problem.now.pairs space.new }
-    ensures near { OnOk result (IsNearWhereListed problem.now.pairs change at.now space.new) }
+    ensures near { OnOk result (IsRestWhereListed problem.now.pairs change at.now space.new) }
     ensures choices { OnOk result (length space.new.built.variables.choices.items ≡ length at.now) }
     ensures bounded { OnOk result (IsBounded term_limit space.new.built.form) }
     ensures few { OnOk result (vec_len space.new.built.form.weights ≤ site_limit) }
     ensures built { Meant F.Fn V.Fn problem.now (λ m. IsBuiltPlain m change at.now space.new.built result) }
 {
     decide(alloc, problem, space, at, change)?;
+    let many = strip > 0 && space.deciding.lists.count > strip;
+    if many {
+        build_strips(alloc, problem, space, at, change, strip)?;
+        return Ok(());
+    }
     build_open(alloc, problem, space, at, change)?;
     Ok(())
 }
@@ -278,7 +349,7 @@ fn build_whole<F: Fn(u32, u32) -> i64 + Sync, V: Fn(u32, u32) -> i64 + Sync>(
     requires posed { IsPosed F.Fn V.Fn problem.now }
     requires by_site { IsGroupedFor problem.now.pairs space.old }
     ensures by_site { IsGroupedFor problem.now.pairs space.new }
-    ensures near { OnOk result (IsNearWhereListed problem.now.pairs change at.now space.new) }
+    ensures near { OnOk result (IsRestWhereListed problem.now.pairs change at.now space.new) }
     ensures choices { OnOk result (length space.new.built.variables.choices.items ≡ length at.now) }
     ensures bounded { OnOk result (IsBounded term_limit space.new.built.form) }
     ensures few { OnOk result (vec_len space.new.built.form.weights ≤ site_limit) }
@@ -296,26 +367,27 @@ fn build_plain<F: Fn(u32, u32) -> i64 + Sync, V: Fn(u32, u32) -> i64 + Sync>(
     at: &[u8],
     change: Move,
     decides: bool,
+    strip: usize,
 ) -> Result<(), BuildError>
     requires asked { IsAsked problem.now at.now change }
     requires posed { IsPosed F.Fn V.Fn problem.now }
     requires by_site { IsGroupedFor problem.now.pairs space.old }
     ensures by_site { IsGroupedFor problem.now.pairs space.new }
-    ensures near { OnOk result (IsNearWhereListed problem.now.pairs change at.now space.new) }
+    ensures near { OnOk result (IsRestWhereListed problem.now.pairs change at.now space.new) }
     ensures choices { OnOk result (length space.new.built.variables.choices.items ≡ length at.now) }
     ensures bounded { OnOk result (IsBounded term_limit space.new.built.form) }
     ensures few { OnOk result (vec_len space.new.built.form.weights ≤ site_limit) }
     ensures built { Meant F.Fn V.Fn problem.now (λ m. IsBuiltPlain m change at.now space.new.built result) }
 {
     if decides {
-        build_decided(alloc, problem, space, at, change)
+        build_decided(alloc, problem, space, at, change, strip)
     } else {
         build_whole(alloc, problem, space, at, change)
     }
 }
 
-/// The energy of an expansion where labels cost something by themselves. What a site costs then depends on all sites
-/// of its label, so nothing is decided.
+/// The energy of an expansion where labels cost something by themselves. What a site costs then
+/// depends on all sites of its label, so nothing is decided.
 fn build_costed<F: Fn(u32, u32) -> i64 + Sync, V: Fn(u32, u32) -> i64 + Sync>(
     alloc: Global,
     problem: &Problem<F, V>,
@@ -330,7 +402,7 @@ fn build_costed<F: Fn(u32, u32) -> i64 + Sync, V: Fn(u32, u32) -> i64 + Sync>(
     requires few { problem.now.data_cost.labels ≤ label_limit }
     requires by_site { IsGroupedFor problem.now.pairs space.old }
     ensures by_site { IsGroupedFor problem.now.pairs space.new }
-    ensures near { OnOk result (IsNearWhereListed problem.now.pairs (Expand alpha) at.now space.new) }
+    ensures near { OnOk result (IsRestWhereListed problem.now.pairs (Expand alpha) at.now space.new) }
     ensures choices { OnOk result (length space.new.built.variables.choices.items ≡ length at.now) }
     ensures bounded { OnOk result (IsBounded term_limit space.new.built.form) }
     ensures few { OnOk result (vec_len space.new.built.form.weights ≤ site_limit + label_limit) }
@@ -352,7 +424,8 @@ fn build_costed<F: Fn(u32, u32) -> i64 + Sync, V: Fn(u32, u32) -> i64 + Sync>(
     Ok(())
 }
 
-/// The energy of a move: with label costs nothing is decided, and without them its sites are decided first or not.
+/// The energy of a move: with label costs nothing is decided, and without them its sites are
+/// decided first or not.
 pub(crate) fn build_move<F: Fn(u32, u32) -> i64 + Sync, V: Fn(u32, u32) -> i64 + Sync>(
     alloc: Global,
     problem: &Problem<F, V>,
@@ -360,6 +433,7 @@ pub(crate) fn build_move<F: Fn(u32, u32) -> i64 + Sync, V: Fn(u32, u32) -> i64 +
     at: &[u8],
     change: Move,
     decides: bool,
+    strip: usize,
 ) -> Result<(), BuildError>
     requires asked { IsAsked problem.now at.now change }
     requires posed { IsPosed F.Fn V.Fn problem.now }
@@ -367,7 +441,7 @@ pub(crate) fn build_move<F: Fn(u32, u32) -> i64 + Sync, V: Fn(u32, u32) -> i64 +
     requires free { IsFreeFor change (costs_of problem.now.label_costs) }
     requires by_site { IsGroupedFor problem.now.pairs space.old }
     ensures by_site { IsGroupedFor problem.now.pairs space.new }
-    ensures near { OnOk result (IsNearWhereListed problem.now.pairs change at.now space.new) }
+    ensures near { OnOk result (IsRestWhereListed problem.now.pairs change at.now space.new) }
     ensures choices { OnOk result (length space.new.built.variables.choices.items ≡ length at.now) }
     ensures bounded { OnOk result (IsBounded term_limit space.new.built.form) }
     ensures few { OnOk result (vec_len space.new.built.form.weights ≤ site_limit + label_limit) }
@@ -376,12 +450,12 @@ pub(crate) fn build_move<F: Fn(u32, u32) -> i64 + Sync, V: Fn(u32, u32) -> i64 +
     let costs = costs_of(&problem.label_costs);
     let costly = has_cost(costs);
     match change {
-        Move::Swap(_, _) => build_plain(alloc, problem, space, at, change, decides),
+        Move::Swap(_, _) => build_plain(alloc, problem, space, at, change, decides, strip),
         Move::Expand(alpha) => {
             if costly {
                 return build_costed(alloc, problem, space, at, alpha, costs);
             }
-            build_plain(alloc, problem, space, at, change, decides)
+            build_plain(alloc, problem, space, at, change, decides, strip)
         }
     }
 }

@@ -1,3 +1,5 @@
+pub use Rattle.byte_streams.specs.Streams
+pub use Rattle.byte_streams.specs.Sink
 pub mod Signs
 pub mod Picture
 pub mod Grammar

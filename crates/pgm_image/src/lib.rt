@@ -1,5 +1,5 @@
-//! Grey images in the Netpbm project's PGM format (<https://netpbm.sourceforge.net/doc/pgm.html>), `P5` and
-//! `P2`. docs/PGM.md has the rules.
+//! Grey images in the Netpbm project's PGM format (<https://netpbm.sourceforge.net/doc/pgm.html>),
+//! `P5` and `P2`. docs/PGM.md has the rules.
 #![tactic(auto)]
 
 mod error;
@@ -13,6 +13,7 @@ mod signs;
 mod words;
 mod writing;
 
+pub use byte_streams::{Sink, Watched};
 pub use error::{PgmError, WriteError};
 pub use image::{Image, MAXVAL_LIMIT, SAMPLE_LIMIT, SIDE_LIMIT};
 pub use reading::read_image;

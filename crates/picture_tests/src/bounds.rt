@@ -21,8 +21,8 @@ const COSTLY: RestoreOptions = RestoreOptions {
     ..RESTORE
 };
 
-/// Options of a restoring, the picture of three pixels that it makes of `ROW`, what its labels cost the pixels, the pairs
-/// and by themselves, and the bound that is told.
+/// Options of a restoring, the picture of three pixels that it makes of `ROW`, what its labels cost
+/// the pixels, the pairs and by themselves, and the bound that is told.
 const ROWS: [(RestoreOptions, &[u8], (i64, i64), i64, Option<Bound>); 14] = [
     // The row as it is costs as much, and a move that lowers nothing changes nothing.
     (COSTLY, ZEROS, (3, 0), 1, None),

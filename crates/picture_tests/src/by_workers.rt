@@ -1,6 +1,7 @@
 //! A picture restored by workers.
 use byte_streams::Watched;
 use labellings::Moves;
+use rounds::Workers;
 use run_options::{Neighbours, RestoreOptions, Shape};
 use std::alloc::{AllocError, Global};
 use std::io;
@@ -12,7 +13,6 @@ use std::test::Fail;
 use std::thread::Threads;
 use vision::{Report, run_restore};
 use worker_options::{Gate, Options};
-use workers::Workers;
 
 /// Two threads, and the other options as a command line has them that tells none.
 pub const TWO: Options = Options {
@@ -113,7 +113,8 @@ pub fn is_kept<R: Threads + Wait + Sync + Abort>(
         && writer.bytes.as_slice() == picture
 }
 
-/// How often a gate that always gives this answer is asked, where the picture is restored to itself.
+/// How often a gate that always gives this answer is asked, where the picture is restored to
+/// itself.
 fn asked<R: Threads + Wait + Sync + Abort>(
     rt: &R,
     alloc: Global,
@@ -139,7 +140,8 @@ fn workers_asked(rt: HostRuntime) -> Result<(), Fail> {
     Ok(())
 }
 
-/// The picture is the same whatever the options are and whatever the gate answers. Without rounds the gate is not asked.
+/// The picture is the same whatever the options are and whatever the gate answers. Without rounds
+/// the gate is not asked.
 #[test]
 fn pictures_are_alike(rt: HostRuntime) -> Result<(), Fail> {
     let alloc = rt.alloc();

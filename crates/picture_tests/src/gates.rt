@@ -57,8 +57,8 @@ impl Gate for Until {
     }
 }
 
-/// How many noes a gate gives that says no from a turn on, where the picture is restored to itself, and no block goes
-/// on after a no but from its first turn.
+/// How many noes a gate gives that says no from a turn on, where the picture is restored to itself,
+/// and no block goes on after a no but from its first turn.
 fn noes<R: Threads + Wait + Sync + Abort>(
     rt: &R,
     alloc: Global,

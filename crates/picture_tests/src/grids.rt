@@ -5,12 +5,12 @@ use crate::by_workers::TWO;
 use cost_store::{DataCost, Problem, SmoothCost};
 use label_field::{Labelling, Pairs};
 use moves::{Alone, Ended, How, MoveError, expand, run_expansion};
+use rounds::{Open, Workers};
 use std::alloc::Global;
 use std::sync::Wait;
 use std::test::Fail;
 use std::thread::Threads;
 use worker_options::{Gate, Options};
-use workers::{Open, Workers};
 
 /// Costs of three labels at nine sites, site first.
 const DATA: [u8; 27] = [
@@ -19,7 +19,8 @@ const DATA: [u8; 27] = [
 
 const POTTS: [u8; 9] = [0, 1, 1, 1, 0, 1, 1, 1, 0];
 
-/// What an expansion and a run of expansions after it come to, from the label 0 at each site of a grid of 3 by 3.
+/// What an expansion and a run of expansions after it come to, from the label 0 at each site of a
+/// grid of 3 by 3.
 fn expanded<H: How>(alloc: Global, how: &H) -> Result<(bool, Ended, Vec<u8>), MoveError>
     requires { H.ready how.now }
 {

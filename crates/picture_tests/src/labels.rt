@@ -27,7 +27,8 @@ const SIZES: &[(u32, u32, bool)] = &[
     (0, 0, false),
 ];
 
-/// A site, a label, and what `set_label` says of them, of 3 sites and 256 labels; and the labels then.
+/// A site, a label, and what `set_label` says of them, of 3 sites and 256 labels; and the labels
+/// then.
 const LABELS: &[(u32, u32, &str, [u8; 3])] = &[
     (1, 255, "done", [0, 255, 0]),
     (3, 256, "no such site", [0, 255, 0]),

@@ -5,6 +5,7 @@ use crate::by_workers::{Counter, Kept};
 use byte_streams::Watched;
 use labellings::Moves;
 use moves::{Alone, How};
+use rounds::Workers;
 use run_options::{Neighbours, RestoreOptions, Shape};
 use std::alloc::{AllocError, Global};
 use std::process::Abort;
@@ -14,16 +15,16 @@ use std::test::Fail;
 use std::thread::Threads;
 use vision::{Report, VisionError, run_restore};
 use worker_options::{Gate, Options};
-use workers::Workers;
 
 /// How many pictures are drawn.
 const PICTURES: u32 = 100;
 
-/// How many of them are restored at least: swaps with a cost of labels are refused, which are some 9 of 100, and
-/// quadratic costs that are cut off may be, a third of the expansions at most.
+/// How many of them are restored at least: swaps with a cost of labels are refused, which are some
+/// 9 of 100, and quadratic costs that are cut off may be, a third of the expansions at most.
 const LEAST_RESTORED: u32 = 50;
 
-/// Numbers one after another, by a linear rule (Knuth, TAOCP 2, section 3.3.4, line 16 of its table).
+/// Numbers one after another, by a linear rule (Knuth, TAOCP 2, section 3.3.4, line 16 of its
+/// table).
 #[derive(Drop)]
 struct Dice {
     state: u32,
@@ -146,8 +147,8 @@ fn restored_by<R: Threads + Wait + Sync + Abort>(
     restored(rt, alloc, picture, options, &how)
 }
 
-/// Whether workers restore the next picture as one thread does, and ask the gate only where they make a round; and
-/// whether it was restored.
+/// Whether workers restore the next picture as one thread does, and ask the gate only where they
+/// make a round; and whether it was restored.
 fn is_alike<R: Threads + Wait + Sync + Abort>(
     rt: &R,
     alloc: Global,

@@ -4,7 +4,7 @@ ghost use Rattle.std.specs.Prelude.{◌≤◌, ◌<◌, ◌+◌, ◌*◌, ◌≤
 use crate::by_workers::{Kept, RESTORE};
 use byte_streams::Watched;
 use cost_store::{DataCost, Problem, SmoothCost};
-use flow_network::Net;
+use flow_network::{Net, Solved};
 use label_field::{Labelling, Pairs};
 use moves::{Alone, Ended, How, MoveError, SolveError, run_expansion};
 use std::alloc::Global;
@@ -33,7 +33,7 @@ impl How for Refusing {
 
     ghost refuses = { λ _ _. Unit {0} };
 
-    fn solve(&self, alloc: Global, net: Net) -> Result<Vec<bool>, SolveError> {
+    fn solve(&self, alloc: Global, net: &Net) -> Result<Solved, SolveError> {
         if self.left.load(Ordering::SeqCst) == 0 {
             return Err(self.error);
         }
@@ -56,13 +56,15 @@ const ERRORS: &[(SolveError, MoveError, VisionError)] = &[
     ),
 ];
 
-/// Costs of three labels at three sites in a row, site first. Two neighbours of unlike labels cost 1.
+/// Costs of three labels at three sites in a row, site first. Two neighbours of unlike labels cost
+/// 1.
 const DATA: [u8; 9] = [3, 4, 2, 2, 0, 5, 3, 5, 1];
 
 const POTTS: [u8; 9] = [0, 1, 1, 1, 0, 1, 1, 1, 0];
 
-/// The labels before each move of the run from all 0, and after the last. The moves expand 0, 1, 2 in turn. The third
-/// gives the last site 2 (8 to 7), the fifth the second site 1 (7 to 6), the sixth the first site 2 (6 to 5).
+/// The labels before each move of the run from all 0, and after the last. The moves expand 0, 1, 2
+/// in turn. The third gives the last site 2 (8 to 7), the fifth the second site 1 (7 to 6), the
+/// sixth the first site 2 (6 to 5).
 const CHAIN: [[u8; 3]; 9] = [
     [0, 0, 0],
     [0, 0, 0],
@@ -107,7 +109,8 @@ fn labelled<H: How>(
     Ok((ended, labels))
 }
 
-/// Whether a run that is refused its cut after so many leaves the labels that those gave, and tells this.
+/// Whether a run that is refused its cut after so many leaves the labels that those gave, and tells
+/// this.
 fn is_left(alloc: Global, cuts: u32, error: SolveError, told: MoveError) -> bool {
     let how = Refusing::new(cuts, error);
     let Ok((ended, labels)) = labelled(alloc, &how) else {
@@ -136,8 +139,8 @@ fn refused_cuts_leave_the_moves_before(rt: HostRuntime) {
     }
 }
 
-/// A row of three pixels that is restored to itself, by seven cuts: 0 to 3 are expanded, the last of which changes the
-/// picture, then 0 to 2.
+/// A row of three pixels that is restored to itself, by seven cuts: 0 to 3 are expanded, the last
+/// of which changes the picture, then 0 to 2.
 const ROW: &[u8] = b"P5\n3 1\n3\n\x00\x03\x00";
 
 /// What a restoring whose cut is refused after so many tells, and what it writes.

@@ -1,7 +1,9 @@
-//! Workers share a net as their options tell: in as many blocks, threads, turns and rounds, and with as much room.
+//! Workers share a net as their options tell: in as many blocks, threads, turns and rounds, and
+//! with as much room.
 use crate::by_workers::TWO;
 use flow_network::{Arc, Net};
 use moves::How;
+use rounds::Workers;
 use std::alloc::AllocError;
 use std::hint::spin_loop;
 use std::process::Abort;
@@ -10,13 +12,12 @@ use std::sync::atomic::{AtomicU32, Ordering};
 use std::test::Fail;
 use std::thread::Threads;
 use worker_options::{Gate, Options};
-use workers::Workers;
 
 /// How often a block that waits looks whether another has come.
 const TRIES: u32 = 10_000_000;
 
-/// Counts the calls for turn 0, and those for later turns. Where blocks are to meet it holds each call for turn 0 until
-/// there were two, and counts those that met so.
+/// Counts the calls for turn 0, and those for later turns. Where blocks are to meet it holds each
+/// call for turn 0 until there were two, and counts those that met so.
 #[derive(Drop)]
 struct Counts {
     meets: bool,
@@ -52,7 +53,8 @@ impl Gate for Counts {
     }
 }
 
-/// Ten nodes, of which node 5 gets 5 and can pass 1 to each of the nodes 0 to 4, each of which can give the sink 1.
+/// Ten nodes, of which node 5 gets 5 and can pass 1 to each of the nodes 0 to 4, each of which can
+/// give the sink 1.
 fn fan(rt: &(impl Abort + AllocGlobal)) -> Result<Net, AllocError> {
     let alloc = rt.alloc();
     let sources = Vec::from_slice(alloc, &[0, 0, 0, 0, 0, 5, 0, 0, 0, 0])?;
@@ -69,8 +71,8 @@ fn fan(rt: &(impl Abort + AllocGlobal)) -> Result<Net, AllocError> {
     Ok(Net::new(sources, sinks, arcs))
 }
 
-/// How often the gate is called for turn 0, how often for later turns, and how many calls for turn 0 met another, where
-/// workers cut the fan.
+/// How often the gate is called for turn 0, how often for later turns, and how many calls for turn
+/// 0 met another, where workers cut the fan.
 fn counted<R: Threads + Wait + Abort + AllocGlobal + Sync>(
     rt: &R,
     options: Options,
@@ -89,7 +91,7 @@ fn counted<R: Threads + Wait + Abort + AllocGlobal + Sync>(
         options,
         gate: &gate,
     };
-    assert!(*rt; how.solve(rt.alloc(), net).is_ok());
+    assert!(*rt; how.side(rt.alloc(), net).is_ok());
     Ok((
         counts.first.load(Ordering::SeqCst),
         counts.later.load(Ordering::SeqCst),
@@ -97,7 +99,8 @@ fn counted<R: Threads + Wait + Abort + AllocGlobal + Sync>(
     ))
 }
 
-/// One thread over two blocks of the fan, of which each has its turn 0 alone in a round, first that of block 0.
+/// One thread over two blocks of the fan, of which each has its turn 0 alone in a round, first that
+/// of block 0.
 const ONE: Options = Options {
     threads: 1,
     blocks: 2,
@@ -105,10 +108,11 @@ const ONE: Options = Options {
     ..TWO
 };
 
-/// Options, how often the gate is called for turn 0, and how often for later turns. A round has a turn 0 of each block. In
-/// the first the letters are put; in the second they are given to the sink. A ring of one place takes a letter a round, and one
-/// block does all in its turn 0. With turns to draw block 0 has one for the letters, block 1 one for their answers, and each
-/// a further one, which does nothing.
+/// Options, how often the gate is called for turn 0, and how often for later turns. A round has a
+/// turn 0 of each block. In the first the letters are put; in the second they are given to the
+/// sink. A ring of one place takes a letter a round, and one block does all in its turn 0. With
+/// turns to draw block 0 has one for the letters, block 1 one for their answers, and each a further
+/// one, which does nothing.
 const ROWS: &[(Options, u32, u32)] = &[
     (ONE, 4, 0),
     (Options { ring: 1, ..ONE }, 12, 0),

@@ -3,8 +3,8 @@
 use std::io;
 use std::io::{Error, ErrorKind, Write};
 
-/// A writer that takes `room` bytes, at most `step` a call, and then fails: by a fault if it is to, else by
-/// taking nothing.
+/// A writer that takes `room` bytes, at most `step` a call, and then fails: by a fault if it is to,
+/// else by taking nothing.
 #[derive(Drop)]
 pub struct CutWriter {
     pub held: Vec<u8>,

@@ -73,8 +73,8 @@ pub fn run(
     }
 }
 
-/// The report of labels that cost nothing by themselves, from what they cost the pixels and the pairs, where no bound is
-/// asked for.
+/// The report of labels that cost nothing by themselves, from what they cost the pixels and the
+/// pairs, where no bound is asked for.
 pub fn plain(parts: (i64, i64)) -> Report {
     Report {
         energy: parts.0.saturating_add(parts.1),

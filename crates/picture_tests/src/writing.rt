@@ -27,8 +27,8 @@ const WRITERS: &[(&str, usize, bool)] = &[
     ("none", 0, false),
 ];
 
-/// Whether a writer that takes at most `step` bytes a call and `room` in all gets just these of the image's
-/// written form, and the write tells that.
+/// Whether a writer that takes at most `step` bytes a call and `room` in all gets just these of the
+/// image's written form, and the write tells that.
 fn is_stopped(
     alloc: Global,
     image: &Image,
@@ -76,8 +76,8 @@ struct Even {
     rooms: &'static [usize],
 }
 
-/// A small one, stopped everywhere; and one of more bytes than are made at once, stopped in its header and round
-/// the end of its first piece.
+/// A small one, stopped everywhere; and one of more bytes than are made at once, stopped in its
+/// header and round the end of its first piece.
 const IMAGES: &[Even] = &[
     Even {
         size: (1, 1),

@@ -1,8 +1,8 @@
 //! Nets from tables, and their states in blocks with exact labels.
 use block_core::State;
-use block_cut::raise_all;
 use block_net::{ARC_LIMIT, BLOCK_LIMIT};
 use flow_network::{Arc, Net};
+use global_relabel::raise_all;
 use std::alloc::{AllocError, Global};
 use std::process::Abort;
 
@@ -17,8 +17,8 @@ pub fn net_of(
     Net::new(sources, sinks, arcs)
 }
 
-/// Two nodes that get this much, of which the second can give the sink 3, and an arc of capacity 4 leads from the
-/// first to the second.
+/// Two nodes that get this much, of which the second can give the sink 3, and an arc of capacity 4
+/// leads from the first to the second.
 fn nodes_that_get(rt: &(impl Abort + AllocGlobal), sources: &[u64]) -> Result<Net, AllocError> {
     let alloc = rt.alloc();
     let arc = Arc {
@@ -45,8 +45,9 @@ pub fn idle_nodes(rt: &(impl Abort + AllocGlobal)) -> Result<Net, AllocError> {
 /// How many nodes each half of the long way has.
 const HALF: u32 = 2_048;
 
-/// Two halves of so many nodes and one way that leads from the first to the last over a border of two blocks at each
-/// step: a unit goes from the source to the first node, and from the last to the sink.
+/// Two halves of so many nodes and one way that leads from the first to the last over a border of
+/// two blocks at each step: a unit goes from the source to the first node, and from the last to the
+/// sink.
 fn way_over(rt: &(impl Abort + AllocGlobal), half: u32) -> Result<Net, AllocError> {
     assert!(*rt; 1 <= half);
     assert!(*rt; half <= HALF);
@@ -83,7 +84,8 @@ pub fn short_way(rt: &(impl Abort + AllocGlobal)) -> Result<Net, AllocError> {
     way_over(rt, 32)
 }
 
-/// Ten nodes, of which node 5 gets 5 and can pass 1 to each of the nodes 0 to 4, each of which can give the sink 1.
+/// Ten nodes, of which node 5 gets 5 and can pass 1 to each of the nodes 0 to 4, each of which can
+/// give the sink 1.
 pub fn fan(rt: &(impl Abort + AllocGlobal)) -> Result<Net, AllocError> {
     let alloc = rt.alloc();
     let sources = Vec::from_slice(alloc, &[0, 0, 0, 0, 0, 5, 0, 0, 0, 0])?;
@@ -99,8 +101,8 @@ pub fn fan(rt: &(impl Abort + AllocGlobal)) -> Result<Net, AllocError> {
     Ok(net_of(rt, sources, sinks, arcs))
 }
 
-/// Three nodes: an arc leads from node 0 to each of the others, one from node 2 to node 0, a unit goes from the source to
-/// node 2, and from node 0 to the sink.
+/// Three nodes: an arc leads from node 0 to each of the others, one from node 2 to node 0, a unit
+/// goes from the source to node 2, and from node 0 to the sink.
 pub fn between_two(rt: &(impl Abort + AllocGlobal)) -> Result<Net, AllocError> {
     let alloc = rt.alloc();
     let sources = Vec::from_slice(alloc, &[0, 0, 1])?;
@@ -128,8 +130,9 @@ fn add_way(arcs: &mut Vec<Arc>, first: u32, last: u32) -> Result<(), AllocError>
     Ok(())
 }
 
-/// 128 nodes and two ways from node 0, each of which ends with a unit to the sink: a short one over the nodes 64 to 103,
-/// and a long one over the nodes 1 to 60. A unit goes from the source to node 0, and one to node 103.
+/// 128 nodes and two ways from node 0, each of which ends with a unit to the sink: a short one over
+/// the nodes 64 to 103, and a long one over the nodes 1 to 60. A unit goes from the source to node
+/// 0, and one to node 103.
 pub fn two_ways(rt: &(impl Abort + AllocGlobal)) -> Result<Net, AllocError> {
     let alloc = rt.alloc();
     let mut sources = vec![in alloc; 0; 128]?;

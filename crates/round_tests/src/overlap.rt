@@ -1,5 +1,5 @@
-//! Turns of two blocks overlap, a round goes on while work and turns are left, and a block with nothing to do waits while
-//! another is busy.
+//! Turns of two blocks overlap, a round goes on while work and turns are left, and a block with
+//! nothing to do waits while another is busy.
 use crate::alike::round;
 use crate::building::{idle_nodes, long_way, raised, two_nodes};
 use crate::gates::{Alternate, Closed, Held, Overlap};
@@ -16,8 +16,8 @@ pub const TWO: Options = Options {
     rounds: 64,
 };
 
-/// Each block is held at its turns 0 and 1 until the other has called for the same turn: all four calls meet, which
-/// they do not where one worker works after the other.
+/// Each block is held at its turns 0 and 1 until the other has called for the same turn: all four
+/// calls meet, which they do not where one worker works after the other.
 #[test]
 fn gate_overlap(rt: HostRuntime) -> Result<(), Fail> {
     let net = two_nodes(&rt)?;
@@ -42,8 +42,8 @@ fn is_finished(state: &State, labels: &[u32]) -> bool {
     true
 }
 
-/// A unit of flow crosses the border of two blocks 4,095 times, once a turn at most: the round goes on until the
-/// sink has it, and does not leave it to what comes after the round.
+/// A unit of flow crosses the border of two blocks 4,095 times, once a turn at most: the round goes
+/// on until the sink has it, and does not leave it to what comes after the round.
 #[test]
 fn round_drains(rt: HostRuntime) -> Result<(), Fail> {
     let net = long_way(&rt)?;
@@ -55,14 +55,14 @@ fn round_drains(rt: HostRuntime) -> Result<(), Fail> {
     let gate = Alternate::new();
     let state = round(&rt, state, &options, &gate)?;
     assert!(rt; gate.went_far());
-    let labels = block_cut::distances(rt.alloc(), &state)?;
+    let labels = global_relabel::distances(rt.alloc(), &state)?;
     assert!(rt; is_finished(&state, labels.as_slice()));
     assert!(rt; state.got() == 1);
     Ok(())
 }
 
-/// A block with nothing to do has one turn after another as long as another is marked busy, which block 0 is until its
-/// turn 0 is over. Where no block is, none has a turn beside its turn 0.
+/// A block with nothing to do has one turn after another as long as another is marked busy, which
+/// block 0 is until its turn 0 is over. Where no block is, none has a turn beside its turn 0.
 #[test]
 fn idle_block_waits(rt: HostRuntime) -> Result<(), Fail> {
     let net = idle_nodes(&rt)?;

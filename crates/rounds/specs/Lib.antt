@@ -1,3 +1,6 @@
+pub use Rattle.worker_options.specs.Limits
+pub use Rattle.worker_options.specs.Ranges
+pub use Rattle.block_workers.specs.Book
 pub mod Joined
 pub mod Joining
 pub mod Dealing
@@ -12,3 +15,4 @@ pub mod Together
 pub mod Short
 pub mod Ended
 pub mod Refusals
+pub mod SolveErrors

@@ -4,11 +4,13 @@ ghost use Rattle.flow_network.specs.Cut.{nodes, set_of, IsSmallestLeastCut};
 ghost use Rattle.flow_network.specs.Answer.{side_of, IsRightCut};
 
 use block_core::State;
-use block_cut::{Workspace, answer_of, finish, finish_side, least_side};
+use block_cut::{answer_of, finish, finish_side, least_side};
 use flow_network::Solved;
+use global_relabel::Workspace;
 use std::alloc::{AllocError, Global};
 
-/// A state after its rounds, and lists for its net: where it is known to be finished, they hold its exact labels.
+/// A state after its rounds, and lists for its net: where it is known to be finished, they hold its
+/// exact labels.
 #[derive(Drop)]
 pub(crate) struct Ended {
     pub(crate) state: State,
@@ -19,7 +21,8 @@ pub(crate) struct Ended {
 impl Ended {
     ghost use Rattle.rounds.specs.Ended.{IsEnded};
 
-    /// The least cut that the state comes to, on one thread. The only error is that memory runs out.
+    /// The least cut that the state comes to, on one thread. The only error is that memory runs
+    /// out.
     pub(crate) fn solved(self, alloc: Global) -> Result<Solved, AllocError>
         requires { IsEnded self }
         ensures certified { IfOk result (λ s. IsRightCut self.state.net s) }

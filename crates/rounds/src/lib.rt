@@ -1,17 +1,20 @@
-//! Rounds of running workers over a net in blocks, and the least cut of a net that is found by them.
+//! Rounds of running workers over a net in blocks, and the least cut of a net that is found by
+//! them.
 //!
-//! `run_round` moves the blocks of a state to running workers and takes them back: rings lead between blocks
-//! (`join_all`), the blocks are dealt to workers one after another, as cards, and collected again in their order, and what
-//! is left in the rings goes to the core's ways.
+//! `run_round` moves the blocks of a state to running workers and takes them back: rings lead
+//! between blocks (`join_all`), the blocks are dealt to workers one after another, as cards, and
+//! collected again in their order, and what is left in the rings goes to the core's ways.
 //!
-//! `solve_parallel` opens a net in blocks and makes such rounds, with exact labels before each. What they leave goes on to
-//! the end on one thread (`block_cut`), so that the answer rests on no round.
+//! `solve_parallel` opens a net in blocks and makes such rounds, with exact labels before each.
+//! What they leave goes on to the end on one thread (`block_cut`), so that the answer rests on no
+//! round. `Workers` cuts the nets of moves and of yes-no energies by it.
 #![tactic(auto)]
 
 mod back;
 mod blocks;
 mod ended;
 mod flags;
+mod gates;
 mod hands;
 mod join;
 pub mod laws;
@@ -26,9 +29,13 @@ mod solver;
 mod space;
 mod together;
 mod work;
+mod workers;
 
-pub use block_workers::RoundError;
+pub use block_workers::{Job, Ledgers, RoundError, TurnBook};
+pub use gates::{Lent, Open};
 pub use join::join_all;
 pub use parallel_error::ParallelError;
 pub use round::run_round;
 pub use solver::{side_parallel, solve_parallel};
+pub use worker_options::{BadOptions, Gate, Options};
+pub use workers::Workers;

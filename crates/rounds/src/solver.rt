@@ -11,20 +11,21 @@ ghost use Rattle.rounds.specs.Refusals.{IsRefusal};
 use crate::ended::Ended;
 use crate::{ParallelError, run_round};
 use block_core::State;
-use block_cut::{Workspace, is_at_rest, push_first, take_in};
+use block_cut::{push_first, take_in};
 use block_net::ARC_LIMIT;
 use flow_network::{Net, Solved};
+use global_relabel::{Workspace, is_at_rest};
 use std::alloc::Global;
 use std::sync::Wait;
 use std::thread::Threads;
 use worker_options::{Gate, Options};
 
-/// From so many nodes on, excess goes on within the blocks before the first round. In smaller nets the rounds do all of
-/// it: there it takes less time than the workers' start.
+/// From so many nodes on, excess goes on within the blocks before the first round. In smaller nets
+/// the rounds do all of it: there it takes less time than the workers' start.
 const PUSHED_NODES: usize = 16_384;
 
-/// Accepts options whose numbers are in their ranges, and a net of not too many arcs for blocks, which counts as memory
-/// that runs out.
+/// Accepts options whose numbers are in their ranges, and a net of not too many arcs for blocks,
+/// which counts as memory that runs out.
 fn check(net: &Net, options: &Options) -> Result<(), ParallelError>
     ensures accepted { OnOk result (AreInRange options.now) }
     ensures arcs { OnOk result (length net.now.arcs ≤ arc_limit) }
@@ -52,9 +53,9 @@ fn pushed(state: State) -> State
     push_first(state)
 }
 
-/// The state after at most so many rounds as the options tell. Each begins with exact labels, and is made where by
-/// them a node with excess reaches the sink; what it leaves on the way is taken in. Where a round does not come about,
-/// the state is lost.
+/// The state after at most so many rounds as the options tell. Each begins with exact labels, and
+/// is made where by them a node with excess reaches the sink; what it leaves on the way is taken
+/// in. Where a round does not come about, the state is lost.
 fn rounds<R: Threads + Wait + Sync, G: Gate>(
     rt: &R,
     alloc: Global,
@@ -91,20 +92,22 @@ fn rounds<R: Threads + Wait + Sync, G: Gate>(
     })
 }
 
-/// A least cut of the net, with the preflow that certifies it, found by workers that run side by side over its blocks.
-/// Of all least cuts it is the smallest: its sink side lies within that of every other. Its capacity, `value`, is at
-/// most `CAPACITY_LIMIT`.
+/// A least cut of the net, with the preflow that certifies it, found by workers that run side by
+/// side over its blocks. Of all least cuts it is the smallest: its sink side lies within that of
+/// every other. Its capacity, `value`, is at most `CAPACITY_LIMIT`.
 ///
-/// The net is opened in `blocks` blocks, which may be more than it has nodes, and in a large net excess goes on within
-/// each as far as it can. Then come at most `rounds` rounds. Each begins with exact labels (Goldberg, Tarjan 1988,
-/// sections 2 to 4), is made where by them a node with excess reaches the sink, and waits until all its workers have
-/// ended; what they left on the way is then taken in. After the rounds `finish` goes on to the end on one thread,
-/// whatever they came to. So the cut and its value are the same for all options, whatever the schedule is and whatever
-/// the gate answers; which arc carries what may differ.
+/// The net is opened in `blocks` blocks, which may be more than it has nodes, and in a large net
+/// excess goes on within each as far as it can. Then come at most `rounds` rounds. Each begins with
+/// exact labels (Goldberg, Tarjan 1988, sections 2 to 4), is made where by them a node with excess
+/// reaches the sink, and waits until all its workers have ended; what they left on the way is then
+/// taken in. After the rounds `finish` goes on to the end on one thread, whatever they came to. So
+/// the cut and its value are the same for all options, whatever the schedule is and whatever the
+/// gate answers; which arc carries what may differ.
 ///
-/// Takes every net, also of no nodes, with parallel and opposite arcs, and with arcs from a node to itself. Refuses
-/// with `BadOptions` exactly where a number of the options is out of its range. Else it refuses only where memory runs
-/// out, as which a net of more than `ARC_LIMIT` arcs counts, and where the system does not start a worker of a round.
+/// Takes every net, also of no nodes, with parallel and opposite arcs, and with arcs from a node to
+/// itself. Refuses with `BadOptions` exactly where a number of the options is out of its range.
+/// Else it refuses only where memory runs out, as which a net of more than `ARC_LIMIT` arcs counts,
+/// and where the system does not start a worker of a round.
 pub fn solve_parallel<R: Threads + Wait + Sync, G: Gate>(
     rt: &R,
     alloc: Global,
@@ -124,9 +127,9 @@ pub fn solve_parallel<R: Threads + Wait + Sync, G: Gate>(
     Ok(ended.solved(alloc)?)
 }
 
-/// The sink side of the smallest least cut of the net, one bit for each node: that which `solve_parallel` answers, found
-/// in the same way and refused for the same reasons. It takes the net over, so that no second one is made, and makes no
-/// list of what arcs carry.
+/// The sink side of the smallest least cut of the net, one bit for each node: that which
+/// `solve_parallel` answers, found in the same way and refused for the same reasons. It takes the
+/// net over, so that no second one is made, and makes no list of what arcs carry.
 pub fn side_parallel<R: Threads + Wait + Sync, G: Gate>(
     rt: &R,
     alloc: Global,

@@ -1,8 +1,9 @@
 /// How many nets the table has.
 pub const COUNT: usize = 200;
 
-/// Of each net: nodes, arcs, the source's and the sink's arc of each node and how much more it can send the sink
-/// at the second cut, each arc, both sides as bits. Made by tools/side_nets.py, over all cuts.
+/// Of each net: nodes, arcs, the source's and the sink's arc of each node and how much more it can
+/// send the sink at the second cut, each arc, both sides as bits. Made by tools/side_nets.py, over
+/// all cuts.
 pub const NUMBERS: &[u32] = &[
     0, 0, 0, 0, 1, 2, 0, 0, 0, 0, 0, 2, 0, 0, 1, 0, 0, 2, 2, 2, 2, 10, 0, 0, 0, 1, 0, 0, 0, 0, 1,
     0, 1, 3, 3, 4, 0, 0, 0, 4, 0, 1, 0, 0, 2, 0, 3, 0, 2, 2, 2, 1, 4, 6, 6, 4, 1, 0, 0, 0, 3, 1, 0,

@@ -9,8 +9,8 @@ use std::test::Fail;
 /// The node that an arc leaves, the node that it enters, and its capacity.
 type Row = (u32, u32, u64);
 
-/// What the source can send, what the nodes can send the sink, how much more they can at the second cut, and both sides
-/// as numbers whose bit v is the node v.
+/// What the source can send, what the nodes can send the sink, how much more they can at the second
+/// cut, and both sides as numbers whose bit v is the node v.
 type Case = (&'static [u64], &'static [u64], &'static [u64], u32, u32);
 
 /// The arcs of the net of three nodes: a chain from node 0 over node 1 to node 2.
@@ -18,9 +18,11 @@ const CHAIN: &[Row] = &[(0, 1, 4), (1, 2, 2)];
 
 /// The chain with 5 from the source into node 0, of which the sink takes 1 from node 2 at first.
 const CASES: &[Case] = &[
-    // Node 2 has room left for 1, which the second cut fills: its arc is full then, and only node 2 is within.
+    // Node 2 has room left for 1, which the second cut fills: its arc is full then, and only node 2
+    // is within.
     (&[5, 0, 0], &[0, 0, 1], &[0, 0, 2], 0b000, 0b100),
-    // Node 1 can give the sink all that comes to it, also in place of what node 2 gives: the arc from node 0 is full.
+    // Node 1 can give the sink all that comes to it, also in place of what node 2 gives: the arc
+    // from node 0 is full.
     (&[5, 0, 0], &[0, 0, 1], &[0, 9, 0], 0b000, 0b110),
     // All that the source sends comes to the sink, and room is left.
     (&[5, 0, 0], &[0, 0, 1], &[6, 0, 0], 0b000, 0b111),
@@ -33,7 +35,7 @@ const CASES: &[Case] = &[
 ];
 
 /// The number whose bit v is set where the side has node v.
-fn bits_of(side: &[bool]) -> u32 {
+pub fn bits_of(side: &[bool]) -> u32 {
     let mut bits = 0u32;
     for inside in side.iter().rev() {
         bits = bits.wrapping_mul(2) | u32::from(*inside);

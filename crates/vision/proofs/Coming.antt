@@ -2,7 +2,7 @@
 use Rattle.moves.specs.Problems.{IsRunRefusal}
 use Rattle.moves.specs.declared.error.MoveError.{MoveError}
 use Rattle.moves.specs.declared.error.MoveError.TheVariants as move
-use Rattle.moves.specs.declared.error.SolveError.{SolveError}
+use Rattle.solvers.specs.declared.solve_error.SolveError.{SolveError}
 use Rattle.vision.specs.Faults.{any_cut}
 
 pub any_run : (refuses : SolveError → Type 0) (e : MoveError) → IsRunRefusal refuses e → IsRunRefusal any_cut e

@@ -6,7 +6,7 @@ use Rattle.moves.specs.Runs.{AnswersRun, TellsBound}
 use Rattle.moves.specs.declared.tables.Run.{Run}
 use Rattle.moves.specs.declared.bound.Bound.{Bound}
 use Rattle.moves.specs.declared.error.MoveError.{MoveError}
-use Rattle.moves.specs.declared.error.SolveError.{SolveError}
+use Rattle.solvers.specs.declared.solve_error.SolveError.{SolveError}
 use Rattle.moves.specs.Problems.{IsRunRefusal}
 use Rattle.pgm_image.specs.Picture.{Picture, picture, IsPicture}
 use Rattle.labellings.specs.declared.cycles.Moves.{Moves}

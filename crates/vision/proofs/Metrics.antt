@@ -1,7 +1,7 @@
--- Potts and linear costs are a metric, and nothing but a move tells a pair.
+-- Which named costs are a metric, and nothing but a move tells a pair.
 use Rattle.std.proofs.Common.{◌≡◌, ◌≢◌, ℕ, ◌+◌, ◌<◌, ◌≤◌, ◌==◌, ◌⊎◌, List, ℤ, if◌then◌else◌, inl, inr, refl, subst, arith}
 use Rattle.cost_store.specs.Promises.{IsMetricTable, IsTable}
-use Rattle.moves.proofs.Entries.{metric_table}
+use Rattle.cost_store.proofs.Metrics.{linear_metric, potts_metric, table_of_metric}
 use Rattle.labellings.specs.Energies.{IsMetric}
 use Rattle.moves.specs.Problems.{TellsPairNotRegular}
 use Rattle.moves.specs.declared.error.MoveError.{MoveError}
@@ -17,41 +17,16 @@ use Rattle.vision.specs.Inputs.{RefusesSecond}
 use Rattle.vision.specs.declared.error.VisionError.{VisionError}
 use Rattle.vision.specs.declared.error.VisionError.TheVariants.{OutOfMemory, SizesDiffer, LabelCostInSwap, Workers, BadOptions, Write}
 
-abbrev potts : ℕ → ℕ → ℕ
-potts a b = if a == b then 0 else 1
-
-potts_same : (a : ℕ) → potts a a ≡ 0
-potts_same a = grind arith
-
-potts_apart : (a b : ℕ) → a ≢ b → potts a b ≡ 1
-potts_apart a b apart = grind arith
-
-potts_symmetric : (a b : ℕ) → potts a b ≡ potts b a
-potts_symmetric a b = grind arith
-
-potts_triangle : (a b c : ℕ) → potts a b ≤ potts a c + potts c b
-potts_triangle a b c = grind arith
-
 -- whatever the costs by distance are cut off at, from 1 on
 pub shape_metric : (shape : Shape) (k most : ℕ) → 1 ≤ most → shape ≢ Quadratic → IsMetric k (shape_cost shape most)
-shape_metric Potts k most some apart = record {
-  equal = λ a la. potts_same a;
-  unequal = λ a b la lb differ. omega (arith, potts_apart a b differ);
-  symmetric = λ a b la lb. potts_symmetric a b;
-  triangle = λ a b c la lb lc. potts_triangle a b c;
-}
-shape_metric Linear k most some apart = record {
-  equal = λ a la. omega arith;
-  unequal = λ a b la lb differ. omega (arith, some, differ);
-  symmetric = λ a b la lb. omega arith;
-  triangle = λ a b c la lb lc. omega arith;
-}
+shape_metric Potts k most some apart = potts_metric k
+shape_metric Linear k most some apart = linear_metric k most some
 shape_metric Quadratic k most some apart = absurd (apart refl)
 
 pub shape_metric_table : (shape : Shape) (k most : ℕ) (table : List ℤ) → 0 < k → 1 ≤ most → shape ≢ Quadratic
     → IsTable k k (shape_cost shape most) table → IsMetricTable k table
 shape_metric_table shape k most table some cut apart is =
-    metric_table k (shape_cost shape most) table some is (shape_metric shape k most cut apart)
+    table_of_metric k (shape_cost shape most) table some is (shape_metric shape k most cut apart)
 
 pub potts_metric_table : (k most : ℕ) (table : List ℤ) → 0 < k → 1 ≤ most → IsTable k k (shape_cost Potts most) table → IsMetricTable k table
 potts_metric_table k most table some cut is = shape_metric_table Potts k most table some cut (λ same. cc) is

@@ -5,7 +5,7 @@ use Rattle.byte_streams.specs.Streams.{Stream}
 use Rattle.byte_streams.specs.declared.sink.WriteFailed.{WriteFailed}
 use Rattle.moves.specs.declared.error.MoveError.{MoveError}
 use Rattle.moves.specs.declared.error.MoveError.TheVariants as move
-use Rattle.moves.specs.declared.error.SolveError.{SolveError}
+use Rattle.solvers.specs.declared.solve_error.SolveError.{SolveError}
 use Rattle.moves.specs.Problems.{IsRunRefusal}
 use Rattle.pgm_image.specs.Front.{RefusesFront}
 use Rattle.pgm_image.specs.Picture.{Picture}

@@ -1,3 +1,7 @@
+pub use Rattle.run_options.specs.Limits
+pub use Rattle.run_options.specs.Names
+pub use Rattle.run_options.specs.Ranges
+pub use Rattle.run_options.specs.Shapes
 pub mod Problems
 pub mod Jobs
 pub mod Inputs

@@ -1,5 +1,5 @@
-//! Pictures in, a picture out: restoring a picture, matching two, and parting one in two, each by the moves of a
-//! problem of labels (Boykov, Veksler, Zabih, PAMI 2001, sections 1 and 8).
+//! Pictures in, a picture out: restoring a picture, matching two, and parting one in two, each by
+//! the moves of a problem of labels (Boykov, Veksler, Zabih, PAMI 2001, sections 1 and 8).
 #![tactic(auto)]
 
 mod error;
@@ -14,5 +14,6 @@ mod stereo;
 pub use error::VisionError;
 pub use report::Report;
 pub use restore::run_restore;
+pub use run_options::{Neighbours, RestoreOptions, SegmentOptions, Shape, StereoOptions};
 pub use segment::run_segment;
 pub use stereo::run_stereo;

@@ -32,14 +32,15 @@ const MINIMA: &[(&str, &str)] = &[
          { on = [2,3], values = [0,4,4,0] }]",
         "minimum 2\nassignment 1100\n",
     ),
-    // Terms of three variables, of both kinds: the sum of the entries with an even number of ones less the
-    // others is at least 0, and below 0.
+    // Terms of three variables, of both kinds: the sum of the entries with an even number of ones
+    // less the others is at least 0, and below 0.
     (
         "variables = 3\nterms = [{ on = [0], values = [0,1] }, { on = [1], values = [0,1] }, \
          { on = [2], values = [0,1] }, { on = [0,1,2], values = [0,0,0,0,0,0,0,-4] }]",
         "minimum -1\nassignment 111\n",
     ),
-    // 000 and 111 are both 0: of those that are equally low, the one with the fewest ones is printed.
+    // 000 and 111 are both 0: of those that are equally low, the one with the fewest ones is
+    // printed.
     (
         "variables = 3\nterms = [{ on = [0], values = [0,1] }, { on = [1], values = [0,1] }, \
          { on = [2], values = [0,1] }, { on = [0,1,2], values = [0,0,0,0,0,0,0,-3] }]",
@@ -144,8 +145,8 @@ fn is_parted(written: &[u8]) -> bool {
     digits.len() == 4096 + 1 && ones == 2_753
 }
 
-// A photograph in two parts, dark and light: the minimum, and how many pixels are light, come from an independent
-// program, which is checked against public libraries of maximum flows.
+// A photograph in two parts, dark and light: the minimum, and how many pixels are light, come from
+// an independent program, which is checked against public libraries of maximum flows.
 #[test]
 fn a_picture_in_two_parts(rt: HostRuntime) {
     let file = picture_energy(rt.alloc()).expect(&rt, "memory");
@@ -158,8 +159,8 @@ fn a_picture_in_two_parts(rt: HostRuntime) {
     assert!(rt; is_parted(writer.held.as_slice()));
 }
 
-// A pixel costs its difference from 60 where it is dark and from 170 where it is light, and two neighbours of unlike
-// labels cost 20 where they differ by at most 5, else 5.
+// A pixel costs its difference from 60 where it is dark and from 170 where it is light, and two
+// neighbours of unlike labels cost 20 where they differ by at most 5, else 5.
 fn picture_energy(alloc: Global) -> Result<String, AllocError> {
     let mut file = String::from_str(alloc, "variables = 4096\nterms = [\n")?;
     for (place, pixel) in PICTURE.iter().enumerate() {

@@ -232,7 +232,8 @@ fn is_read_whole(alloc: Global) -> bool {
     input.len() == INPUT_LIMIT && source.failures == 0
 }
 
-// An input of the greatest length is read whole, and one byte more is refused before a fault behind it is met.
+// An input of the greatest length is read whole, and one byte more is refused before a fault behind
+// it is met.
 #[test]
 fn inputs_end_at_the_limit(rt: HostRuntime) {
     for (more, said) in LENGTHS {

@@ -90,7 +90,8 @@ const ROWS: &[Row] = &[
         "energy 24 data 18 smooth 6\nlabels 1 2 0 0\n",
         "",
     ),
-    // Swaps by turns lead to label 2 everywhere, which costs 1 + 4 + 6 + 3; the fourth cycle changes nothing.
+    // Swaps by turns lead to label 2 everywhere, which costs 1 + 4 + 6 + 3; the fourth cycle
+    // changes nothing.
     (
         STREET,
         "cycles = 9",
@@ -317,8 +318,8 @@ const BOUNDS: &[Row] = &[
     (UNLIKE, "pairs = [[1,1]]", 1, "", "refused 12 pair 0\n"),
 ];
 
-/// Whether a run with these words over the two parts of a row's file ends as the row tells, whatever workers are
-/// asked for.
+/// Whether a run with these words over the two parts of a row's file ends as the row tells,
+/// whatever workers are asked for.
 fn is_run(
     rt: &(impl AllocGlobal + Abort + Threads + Wait + Sync),
     words: &[&str],

@@ -1,4 +1,5 @@
-//! The options of each command, their ranges and their defaults: what the tables of docs/IMAGES.md and docs/LABEL.md say.
+//! The options of each command, their ranges and their defaults: what the tables of docs/IMAGES.md
+//! and docs/LABEL.md say.
 use crate::rows::expect;
 use crate::streams::{CutWriter, ROOM, SlowReader, joined, run};
 use std::alloc::{AllocError, Global};
@@ -7,8 +8,8 @@ use std::sync::Wait;
 use std::test::Fail;
 use std::thread::Threads;
 
-/// An option with a number: its name, the number before the least, the least, the most, the one after it, the range in
-/// the words of help, and the default, if it has one.
+/// An option with a number: its name, the number before the least, the least, the most, the one
+/// after it, the range in the words of help, and the default, if it has one.
 type Row = (
     &'static str,
     &'static str,
@@ -104,7 +105,8 @@ const GROUPS: &[Group] = &[
     (&["gco", "label"], "refused 29 sites\n", WORKERS),
 ];
 
-/// Whether a run of these words with the option at this value, over no input, ends with this status and says this first.
+/// Whether a run of these words with the option at this value, over no input, ends with this status
+/// and says this first.
 fn is_told(
     rt: &(impl AllocGlobal + Threads + Wait + Sync),
     words: &[&str],

@@ -3,7 +3,7 @@ use Rattle.std.proofs.lemmas.List.{length-map}
 use Rattle.flow_network.specs.Cut.{Network, set_of}
 use Rattle.flow_network.specs.Progress.{top}
 use Rattle.parcel.proofs.Finishing.{finished_smallest}
-use Rattle.block_cut.proofs.Bridge.{reach_of}
+use Rattle.global_relabel.proofs.Bridge.{reach_of}
 use Rattle.block_cut.proofs.answers.least_side.Goals as goal
 
 pub returns-clause-bits : goal.returns-clause-bits

@@ -1,7 +1,7 @@
 use Rattle.std.proofs.Common.{◌≡◌, length, arith}
 use Rattle.std.proofs.lemmas.List.{with_items_is}
 use Rattle.flow_network.specs.Cut.{nodes}
-use Rattle.block_cut.proofs.Bridge.{flow_shown}
+use Rattle.global_relabel.proofs.Bridge.{flow_shown}
 use Rattle.block_cut.proofs.flow.flow_of.Goals as goal
 
 pub returns : goal.returns

@@ -1,6 +1,6 @@
 use Rattle.std.proofs.Common.{arith}
 use Rattle.block_cut.proofs.Lowering.{raised_after}
-use Rattle.block_cut.proofs.Resting.{unfinished_raised}
+use Rattle.global_relabel.proofs.Resting.{unfinished_raised}
 use Rattle.block_cut.proofs.solver.advance.Goals as goal
 
 pub work-requires-clause-unfinished : goal.work-requires-clause-unfinished

@@ -1,6 +1,6 @@
 use Rattle.std.proofs.Common.{◌≡◌}
 use Rattle.parcel.specs.Soundness.{count}
-use Rattle.block_cut.specs.Workspaces.{Serves}
+use Rattle.global_relabel.specs.Workspaces.{Serves}
 use Rattle.block_cut.proofs.solver.finish.Given as goal
 
 abbrev pub invariant-rounds : goal.invariant-rounds

@@ -31,6 +31,18 @@ returns-clause-value c x =
     rw (constant, passed_is (k -ℤ pos (sum (map sink_part ws))) size, c.new.ensures, c.in_ok-sources.ensures, c.as_slice.ensures.value, c.in_ok-sinks.ensures, c.as_slice-2.ensures.value)
     (compiled_value ws c.args.form.arcs.items k x)
 
+pub returns-clause-limits : goal.returns-clause-limits
+returns-clause-limits c =
+    let ws = c.args.form.weights.items in
+    let len : length ws ≤ 10485760 = omega (arith, c.args.form.weights.ok.0, c.requires.len) in
+    rw (c.new.ensures, c.in_ok-sources.ensures, c.as_slice.ensures.value, c.in_ok-sinks.ensures, c.as_slice-2.ensures.value)
+    (is_net ws c.args.form.arcs.items len (rw c.args.form.weights.ok.0 at c.requires.bounded.arcs) (omega (arith, c.requires.bounded.size)))
+
+pub returns-clause-total : goal.returns-clause-total
+returns-clause-total c =
+    rw (c.new.ensures, c.in_ok-sources.ensures, c.as_slice.ensures.value, c.in_ok-sinks.ensures, c.as_slice-2.ensures.value)
+    (omega (arith, capacities_size c.args.form.weights.items))
+
 pub returns-clause-one_sided : goal.returns-clause-one_sided
 returns-clause-one_sided c v =
     rw (c.new.ensures, c.in_ok-sources.ensures, c.as_slice.ensures.value, c.in_ok-sinks.ensures, c.as_slice-2.ensures.value)

@@ -144,8 +144,8 @@ take_best-requires-clause-changes g c = λ κs lives listed.
     let same = c.settle.ensures.same in
     let yes = subst (λ (d : Deciding). IsTrue d.lists.listed) same.1 listed in
     let near = rw (c.as_slice.ensures.value) at (c.in-Ok.ensures.near yes) in
-    near_changes c.args.problem.now.pairs c.args.change c.args.labelling.now.at _ _ c.settle.new.self _
-    (c.in-Ok.ensures.choices ∙ ap (λ (xs : List ℕ). length xs) c.as_slice.ensures.value) near.by_site near.lists same.1 c.settle.ensures.settled listed
+    near_changes c.args.problem.now.pairs c.args.change c.args.labelling.now.at _ c.settle.new.self _
+    (c.in-Ok.ensures.choices ∙ ap (λ (xs : List ℕ). length xs) c.as_slice.ensures.value) near same.1 c.settle.ensures.settled
 
 pub returns-clause-by_site : goal.returns-clause-by_site
 returns-clause-by_site g c = λ grouped.
@@ -154,7 +154,7 @@ returns-clause-by_site g c = λ grouped.
     subst E (sym same.1) (c.in-Ok.ensures.by_site (sym same.0 ∙ grouped))
 
 pub settle-requires : goal.settle-requires
-settle-requires g c = λ listed. (c.in-Ok.ensures.near listed).lists.opened listed
+settle-requires g c = λ listed. (c.in-Ok.ensures.near listed).opened
 
 pub returns-clause-sizes : goal.returns-clause-sizes
 returns-clause-sizes g c = c.take_best.ensures.sizes

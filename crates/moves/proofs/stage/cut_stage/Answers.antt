@@ -19,4 +19,4 @@ returns-clause-least g c = λ m meant.
     let S : Quadratic → Type 0 = λ q. StandsFor m c.args.change f (choice_at choices) q (rank choices) in
     let stands = subst S (sym c.replace-form.ensures.value) (c.in_ok-build_listed.ensures.built m meant) in
     if_ok_map (λ bits. IsSmallestLeast (vec_len form.weights) (quadratic_value form) (assignment bits.items)) (λ bits. IsStageLeast m c.args.change f choices bits.items)
-    c.minimise.result (λ bits least. stage_least m c.args.change f choices form bits.items pairs stands least) c.minimise.ensures.least
+    c.cut_small.result (λ bits least. stage_least m c.args.change f choices form bits.items pairs stands least) c.cut_small.ensures.least

@@ -1,12 +1,15 @@
-use Rattle.std.proofs.Common.{List, sym, subst}
+use Rattle.std.proofs.Common.{List, length, ap, ◌∙◌, sym, subst}
 use Rattle.std.proofs.lemmas.Result.{err_from_is_err_and}
 use Rattle.pseudo_bool.specs.Energies.{assignment}
 use Rattle.labellings.specs.Energies.{labelling}
 use Rattle.move_energy.specs.declared.choice.Choice.{Choice}
 use Rattle.move_energy.specs.Choices.{choice_at, rank}
 use Rattle.cost_store.proofs.Meaning.{pairs_meant}
-use Rattle.deciding.specs.Decided.{AreDecided}
-use Rattle.moves.proofs.Least.{decided_least}
+use Rattle.deciding.specs.MoveValues.{move_value}
+use Rattle.closing_in.specs.Agreeing.{Agree}
+use Rattle.closing_in.proofs.Borders.{decided_agree}
+use Rattle.moves.proofs.Least.{agreed_least}
+use Rattle.moves.proofs.Changes.{near_rest}
 use Rattle.moves.proofs.workspace.build_decided.Goals as goal
 
 pub returns-in_err-decide-clause-built : goal.returns-in_err-decide-clause-built
@@ -20,13 +23,40 @@ build_open-requires-clause-allowed g c = λ κs lives m meant. (c.in_ok-decide.e
 pub returns-clause-built : goal.returns-clause-built
 returns-clause-built g c = λ m meant.
     let decided = c.in_ok-decide.ensures.decided m meant in
-    let stands = c.in_ok-build_open.ensures.stands m meant in
     let pairs = pairs_meant _ _ _ m c.requires.posed meant in
-    let P : List Choice → Type 0 = λ choices. AreDecided m c.args.change (labelling c.args.at.now) (choice_at choices) in
-    let made = c.build_open.new.space.built in (
+    let move = c.args.change in
+    let f = labelling c.args.at.now in
+    let P : List Choice → Type 0 = λ choices. Agree m.sites (move_value m move f) (choice_at choices) in
+    let made = c.build_open.new.space.built in
+    let agree : P made.variables.choices.items =
+    subst P (sym c.in_ok-build_open.ensures.kept) (decided_agree m move f (choice_at c.decide.new.space.built.variables.choices.items) pairs decided.0 decided.1) in (
       decided.0,
-      λ bits least. decided_least m c.args.change (labelling c.args.at.now) (choice_at made.variables.choices.items) made.form (rank made.variables.choices.items)
-          (assignment bits) pairs decided.0 (subst P (sym c.in_ok-build_open.ensures.kept) decided.1) stands least,
+      λ bits least. agreed_least m move f (choice_at made.variables.choices.items) made.form (rank made.variables.choices.items) (assignment bits) pairs decided.0 agree
+          (c.in_ok-build_open.ensures.stands m meant) least,
+    )
+
+pub returns-clause-near : goal.returns-clause-near
+returns-clause-near g c = λ listed.
+    let same = c.in_ok-build_open.ensures.kept in
+    near_rest c.args.problem.now.pairs c.args.change c.args.at.now c.build_open.new.space
+    (ap (λ (xs : List Choice). length xs) same ∙ c.in_ok-decide.ensures.choices) (c.in_ok-build_open.ensures.near listed) listed
+
+pub build_strips-requires-clause-allowed : goal.build_strips-requires-clause-allowed
+build_strips-requires-clause-allowed g c = λ κs lives m meant. (c.in_ok-decide.ensures.decided m meant).0
+
+pub build_strips-requires-clause-weights : goal.build_strips-requires-clause-weights
+build_strips-requires-clause-weights g c = λ κs lives m meant. c.in_ok-decide.ensures.weights m meant
+
+pub returns-then-many-clause-built : goal.returns-then-many-clause-built
+returns-then-many-clause-built g c = λ m meant.
+    let decided = c.in_ok-decide.ensures.decided m meant in
+    let pairs = pairs_meant _ _ _ m c.requires.posed meant in
+    let made = c.build_strips.new.space.built in
+    let agree = c.in_ok-build_strips.ensures.agree m meant
+    (decided_agree m c.args.change (labelling c.args.at.now) (choice_at c.decide.new.space.built.variables.choices.items) pairs decided.0 decided.1) in (
+      decided.0,
+      λ bits least. agreed_least m c.args.change (labelling c.args.at.now) (choice_at made.variables.choices.items) made.form (rank made.variables.choices.items)
+          (assignment bits) pairs decided.0 agree (c.in_ok-build_strips.ensures.stands m meant) least,
     )
 
 pub build_open-requires-clause-weights : goal.build_open-requires-clause-weights

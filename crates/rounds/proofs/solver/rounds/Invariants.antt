@@ -1,6 +1,6 @@
 use Rattle.std.proofs.Common.{◌≡◌}
 use Rattle.parcel.specs.Events.{IsQuiet}
-use Rattle.block_cut.specs.Workspaces.{Serves}
+use Rattle.global_relabel.specs.Workspaces.{Serves}
 use Rattle.rounds.proofs.solver.rounds.Given as goal
 
 abbrev pub invariant-rounds : goal.invariant-rounds

@@ -1,96 +1,32 @@
-use Rattle.std.proofs.Common.{◌∙◌, ℤ, List, All, length, refl, ap, sym, subst, arith}
-use Rattle.std.proofs.lemmas.Result.{on_ok_weaker}
-use Rattle.cost_store.proofs.Meaning.{pairs_meant}
-use Rattle.label_field.specs.declared.pair.Pair.{Pair}
-use Rattle.labellings.specs.Energies.{labelling}
-use Rattle.labellings.specs.Moves.{IsRegularPair}
-use Rattle.move_energy.specs.declared.choice.Choice.{Choice}
-use Rattle.move_energy.specs.Choices.{choice_at, AreOpenSites}
-use Rattle.move_energy.specs.Weights.{AreWeights, IsOfWeights, open_weights}
-use Rattle.move_energy.proofs.Numbers.{rank_most}
+use Rattle.std.proofs.Common.{◌∙◌, ℤ, List, length, ap, sym, refl, arith}
+use Rattle.std.proofs.lemmas.List.{length-map}
+use Rattle.move_energy.specs.Weights.{weight_at}
+use Rattle.move_energy.specs.Choices.{AreOpenSites}
+use Rattle.compile_cut.specs.Weights.{weights_size}
 use Rattle.move_energy.proofs.Opened.{opened_within}
-use Rattle.move_energy.proofs.Adding.{on_ok_both}
-use Rattle.move_energy.proofs.Weighed.{open_size, form_bounded, form_nodes, weighted_stands, listed_weights_are, listed_savings}
+use Rattle.move_energy.proofs.Weighed.{open_size, listed_weights_are}
 use Rattle.move_energy.proofs.building.MoveEnergy.build_weighted_listed.Goals as goal
 
 pub listed_weights-requires : goal.listed_weights-requires
 listed_weights-requires g c = opened_within c.args.self.now.variables.choices.items c.args.opened.now (length c.args.weights.now) c.requires.listed (c.requires.choices ∙ sym c.requires.count)
 
-pub add_listed_pairs-requires-clause-by_site : goal.add_listed_pairs-requires-clause-by_site
-add_listed_pairs-requires-clause-by_site g c = λ κs lives. c.requires.by_site
+pub add_savings-requires-clause-form : goal.add_savings-requires-clause-form
+add_savings-requires-clause-form g c = λ κs lives. record {
+  constant = c.in_ok-form.ensures.constant;
+  weights_are = refl;
+  arcs = c.in_ok-form.ensures.arcs;
+}
 
-pub add_listed_pairs-requires-clause-choices : goal.add_listed_pairs-requires-clause-choices
-add_listed_pairs-requires-clause-choices g c = λ κs lives. ap (λ (xs : List Choice). length xs) c.number_listed.ensures.kept ∙ c.requires.choices
+pub add_savings-requires-clause-count : goal.add_savings-requires-clause-count
+add_savings-requires-clause-count g c = λ κs lives.
+    ap (λ (ws : List ℤ). length ws) c.in_ok-form.ensures.weights_are ∙ length-map c.args.opened.now (weight_at c.args.weights.now)
 
-pub add_listed_pairs-requires-clause-numbering : goal.add_listed_pairs-requires-clause-numbering
-add_listed_pairs-requires-clause-numbering g c = λ κs lives. c.in_ok-_count.ensures.numbering
-
-pub add_listed_pairs-requires-clause-variables : goal.add_listed_pairs-requires-clause-variables
-add_listed_pairs-requires-clause-variables g c = λ κs lives.
-    let choices = c.number_listed.new.self.choices.items in
-    let O : List Choice → Type 0 = λ xs. AreOpenSites xs c.args.opened.now in
-    let listed = subst O (sym c.number_listed.ensures.kept) c.requires.listed in
-    let F : List ℤ → Type 0 = λ ws. IsOfWeights ws c.in_ok-form.form in
-    form_nodes choices c.args.weights.now c.in_ok-form.form (length choices) refl (subst F (listed_weights_are choices c.args.weights.now c.args.opened.now listed) c.in_ok-form.ensures)
-
-pub add_listed_pairs-requires-clause-listed : goal.add_listed_pairs-requires-clause-listed
-add_listed_pairs-requires-clause-listed g c = λ κs lives.
-    let O : List Choice → Type 0 = λ xs. AreOpenSites xs c.args.opened.now in
-    subst O (sym c.number_listed.ensures.kept) c.requires.listed
-
-pub add_listed_pairs-requires-clause-bounded : goal.add_listed_pairs-requires-clause-bounded
-add_listed_pairs-requires-clause-bounded g c = λ κs lives.
-    let choices = c.number_listed.new.self.choices.items in
-    let size = ap (λ (xs : List Choice). length xs) c.number_listed.ensures.kept ∙ c.requires.choices in
-    let O : List Choice → Type 0 = λ xs. AreOpenSites xs c.args.opened.now in
-    let listed = subst O (sym c.number_listed.ensures.kept) c.requires.listed in
-    let F : List ℤ → Type 0 = λ ws. IsOfWeights ws c.in_ok-form.form in
-    form_bounded (open_weights choices c.args.weights.now (length choices)) c.in_ok-form.form
-    (omega (arith, open_size choices c.args.weights.now (length choices) (c.requires.count ∙ sym size), c.requires.size))
-    (subst F (listed_weights_are choices c.args.weights.now c.args.opened.now listed) c.in_ok-form.ensures)
-
-pub returns-clause-kept : goal.returns-clause-kept
-returns-clause-kept g c = c.number_listed.ensures.kept
-
-pub returns-clause-bounded : goal.returns-clause-bounded
-returns-clause-bounded g c = c.add_listed_pairs.ensures.bounded
-
-pub returns-clause-few : goal.returns-clause-few
-returns-clause-few g c =
-    let choices = c.number_listed.new.self.choices.items in
-    let O : List Choice → Type 0 = λ xs. AreOpenSites xs c.args.opened.now in
-    let listed = subst O (sym c.number_listed.ensures.kept) c.requires.listed in
-    let F : List ℤ → Type 0 = λ ws. IsOfWeights ws c.in_ok-form.form in
-    let nodes = form_nodes choices c.args.weights.now c.in_ok-form.form (length choices) refl (subst F (listed_weights_are choices c.args.weights.now c.args.opened.now listed) c.in_ok-form.ensures) in
-    let size = ap (λ (xs : List Choice). length xs) c.number_listed.ensures.kept ∙ c.requires.choices in
-    on_ok_weaker c.add_listed_pairs.result (λ kept. omega (arith, kept, nodes, rank_most choices (length choices), size, c.requires.asked.sites, c.requires.posed.pairs.sites))
-    c.add_listed_pairs.ensures.nodes
-
-pub returns-clause-variables : goal.returns-clause-variables
-returns-clause-variables g c =
-    let choices = c.number_listed.new.self.choices.items in
-    let O : List Choice → Type 0 = λ xs. AreOpenSites xs c.args.opened.now in
-    let listed = subst O (sym c.number_listed.ensures.kept) c.requires.listed in
-    let F : List ℤ → Type 0 = λ ws. IsOfWeights ws c.in_ok-form.form in
-    let nodes = form_nodes choices c.args.weights.now c.in_ok-form.form (length choices) refl (subst F (listed_weights_are choices c.args.weights.now c.args.opened.now listed) c.in_ok-form.ensures) in
-    on_ok_weaker c.add_listed_pairs.result (λ kept. kept ∙ nodes) c.add_listed_pairs.ensures.nodes
+pub add_savings-requires-clause-size : goal.add_savings-requires-clause-size
+add_savings-requires-clause-size g c = λ κs lives.
+    let choices = c.args.self.now.variables.choices.items in
+    let same = ap (λ (ws : List ℤ). weights_size ws) (c.in_ok-form.ensures.weights_are ∙ listed_weights_are choices c.args.weights.now c.args.opened.now c.requires.listed) in
+    omega (arith, same, open_size choices c.args.weights.now (length choices) (c.requires.count ∙ sym c.requires.choices), c.requires.size)
 
 pub returns-clause-built : goal.returns-clause-built
 returns-clause-built g c = λ m meant.
-    let a = c.args in
-    let choices = c.number_listed.new.self.choices.items in
-    let O : List Choice → Type 0 = λ xs. AreOpenSites xs a.opened.now in
-    let listed = subst O (sym c.number_listed.ensures.kept) c.requires.listed in
-    let F : List ℤ → Type 0 = λ ws. IsOfWeights ws c.in_ok-form.form in
-    let W : List Choice → Type 0 = λ xs. AreWeights m a.change (labelling a.at.now) (choice_at xs) a.weights.now in
-    let weights = subst W (sym c.number_listed.ensures.kept) (c.requires.weights m meant) in
-    let all = pairs_meant _ _ _ m c.requires.posed meant in
-    let size = ap (λ (xs : List Choice). length xs) c.number_listed.ensures.kept ∙ c.requires.choices ∙ c.requires.asked.sites in
-    let allowed = c.requires.allowed m meant in
-    let L : List Pair → Type 0 = λ ps. All (IsRegularPair m a.change (labelling a.at.now)) ps in
-    on_ok_both c.add_listed_pairs.result _ _ _ (λ kept adds.
-    weighted_stands m a.change (labelling a.at.now) choices a.weights.now c.in_ok-form.form c.add_listed_pairs.new.form all (size ∙ sym meant.sites_are) allowed weights
-    (subst F (listed_weights_are choices a.weights.now a.opened.now listed) c.in_ok-form.ensures) kept
-    (listed_savings m a.change (labelling a.at.now) choices a.opened.now a.problem.now.pairs a.ends.now c.in_ok-form.form c.add_listed_pairs.new.form
-    meant.sites_are meant.pairs_are all c.requires.by_site size listed (adds m meant (subst L meant.pairs_are allowed))))
-    c.add_listed_pairs.ensures.nodes c.add_listed_pairs.ensures.adds
+    c.add_savings.ensures.built c.args.weights.now c.in_ok-form.ensures.weights_are m meant (c.requires.weights m meant)

@@ -1,0 +1,6 @@
+pub mod Rest
+pub mod Laws
+pub mod Search
+pub mod Workspaces
+pub mod Homes
+pub mod Local

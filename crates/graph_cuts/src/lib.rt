@@ -1,0 +1,28 @@
+//! Labels and yes-no variables by minimum cuts: all that a caller needs, under one name. The crate
+//! has no code of its own. docs/CALLING.md lists the calls, and what each promises.
+#![tactic(auto)]
+
+pub use compile_cut::{Compiled, compile};
+pub use cost_store::{
+    CostError, DataCost, LabelCostError, Problem, SmoothCost, check_table, is_metric, laws as costs,
+};
+pub use flow_network::{Arc, Net, Solved, check_cut};
+pub use label_field::{LabelFieldError, Labelling, Pair, Pairs};
+pub use labellings::{Move, Moves};
+pub use minimum::{Minimum, minimise, minimise_by};
+pub use moves::{
+    Bound, Columns, Ended, MoveError, Request, Run, expand, expansion_bound, laws, run,
+    run_expansion, run_swap, run_tables, run_with_table, settled_run_is_near, swap,
+};
+pub use pgm_image::{
+    Image, PgmError, Sink, Watched, WriteError, put_image, read_image, write_image,
+};
+pub use plain_cut::solve;
+pub use pseudo_bool::{Energy, EnergyError, Term};
+pub use regular::{Fixed, NotRegular, Regular, check, is_regular_table};
+pub use rounds::{BadOptions, Gate, Open, Options, ParallelError, Workers, solve_parallel};
+pub use solvers::{Alone, How, SolveError};
+pub use vision::{
+    Neighbours, Report, RestoreOptions, SegmentOptions, Shape, StereoOptions, VisionError,
+    run_restore, run_segment, run_stereo,
+};

@@ -1,0 +1,13 @@
+use Rattle.std.proofs.Common.{◌∙◌, sym}
+use Rattle.labellings.specs.declared.change.Move.TheVariants.{Swap}
+use Rattle.cost_store.proofs.Meaning.{pairs_meant}
+use Rattle.moves.proofs.OverMetric.{moved_over_metric}
+use Rattle.moves.proofs.runs.swap.Goals as goal
+
+pub returns-clause-over_metric : goal.returns-clause-over_metric
+returns-clause-over_metric g c = λ m meant first second free.
+    moved_over_metric (g.H.How.refuses c.args.how.now) c.args.labelling.now.labels m (Swap c.args.alpha c.args.beta) c.args.labelling.now.at
+    c.make_move-moved.new.labelling c.make_move-moved.result c.keeps.ensures.below (pairs_meant _ _ _ m c.requires.posed meant)
+    (c.make_move-moved.ensures.sizes.sites ∙ c.requires.fits.sites ∙ sym meant.sites_are)
+    (c.make_move-moved.ensures.sizes.labels ∙ c.requires.fits.labels ∙ sym meant.labels_are)
+    (first, second) (λ swap. free) (c.make_move-moved.ensures.moved m meant) c.make_move-moved.ensures.refused

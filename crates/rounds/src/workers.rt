@@ -1,0 +1,68 @@
+ghost use Rattle.std.specs.Prelude.{◌≡◌};
+ghost use denote.Param.Send.{IsSync};
+ghost use Rattle.flow_network.specs.Cut.{Network};
+ghost use Rattle.worker_options.specs.declared.options.Options.{Options as OptionsOf};
+ghost use Rattle.rounds.specs.Refusals.{IsRefusal};
+ghost use Rattle.rounds.specs.SolveErrors.{MayRefuse, of_parallel};
+
+use crate::gates::Lent;
+use crate::{ParallelError, side_parallel, solve_parallel};
+use flow_network::{Net, Solved};
+use solvers::{Alone, How, SolveError};
+use std::alloc::Global;
+use std::sync::Wait;
+use std::thread::Threads;
+use worker_options::{Gate, Options};
+
+/// By workers that run side by side over the blocks of a net. It refuses where memory runs out,
+/// where the system does not start a worker, and where a number of the options is out of its range.
+#[derive(Drop)]
+pub struct Workers<'a, R, G> {
+    /// What starts threads.
+    pub rt: &'a R,
+    /// How workers share a net.
+    pub options: Options,
+    /// What a worker asks before each turn.
+    pub gate: &'a G,
+}
+
+/// The refusal of a cut, as a way to cut nets has it.
+fn refusal_of(error: ParallelError) -> SolveError
+    ensures told { result ≡ of_parallel error }
+    ensures may { (net : Network) (options : OptionsOf) → IsRefusal net options error →
+        MayRefuse options result }
+{
+    match error {
+        ParallelError::OutOfMemory => SolveError::OutOfMemory,
+        ParallelError::Workers => SolveError::Workers,
+        ParallelError::BadOptions => SolveError::BadOptions,
+    }
+}
+
+impl<'a, R: Threads + Wait + Sync> How for Workers<'a, R, &'a (dyn Gate + Sync)> {
+    ghost ready = { λ _. IsSync R.row };
+
+    ghost refuses = { λ how e. MayRefuse how.options e };
+
+    /// As on one thread: the strips of a move are cut on the caller's thread, and workers share the
+    /// net that is left.
+    fn strip_sites(&self) -> usize {
+        Alone.strip_sites()
+    }
+
+    fn solve(&self, alloc: Global, net: &Net) -> Result<Solved, SolveError> {
+        let gate = Lent { gate: *self.gate };
+        match solve_parallel(self.rt, alloc, net, &self.options, &gate) {
+            Ok(solved) => Ok(solved),
+            Err(error) => Err(refusal_of(error)),
+        }
+    }
+
+    fn side(&self, alloc: Global, net: Net) -> Result<Vec<bool>, SolveError> {
+        let gate = Lent { gate: *self.gate };
+        match side_parallel(self.rt, alloc, net, &self.options, &gate) {
+            Ok(side) => Ok(side),
+            Err(error) => Err(refusal_of(error)),
+        }
+    }
+}

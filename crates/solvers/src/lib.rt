@@ -1,0 +1,8 @@
+//! Ways to cut a net: `How`, which callers choose, and `Alone`, which cuts on the caller's thread.
+#![tactic(auto)]
+
+mod how;
+mod solve_error;
+
+pub use how::{Alone, How};
+pub use solve_error::SolveError;

@@ -1,0 +1,11 @@
+//! A move closed in on strip by strip, in the order of its sites: of a strip only the border above
+//! it is unknown.
+#![tactic(auto)]
+
+mod building;
+mod closing;
+mod opening;
+mod sides;
+
+pub use closing::Strips;
+pub use sides::least_sides;
