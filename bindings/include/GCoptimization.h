@@ -32,6 +32,7 @@
 #include <cstdint>
 #include <cstdio>
 #include <functional>
+#include <limits>
 #include <memory>
 #include <new>
 #include <string>
@@ -96,6 +97,13 @@ public:
         EnergyTermType cost;
     };
 
+    // whether a type has numbers that an int does not hold: fractions are among them
+    template <typename Cost>
+    using IfNarrows = typename std::enable_if<
+        std::is_floating_point<Cost>::value ||
+        (std::is_integral<Cost>::value && std::numeric_limits<Cost>::digits >
+                                              std::numeric_limits<EnergyTermType>::digits)>::type;
+
     GCoptimization(SiteID sites, LabelID labels) : sites_(sites), label_count_(labels) {
         if (sites < 0)
             throw GCException("there is no such number of sites: " + std::to_string(sites));
@@ -128,6 +136,11 @@ public:
         data_[at] = cost;
         if (data_kind_ == DataKind::none) data_kind_ = DataKind::dense;
     }
+    // a cost that an int may not hold, here and below: a fraction is refused by the compiler
+    template <typename Cost, typename = IfNarrows<Cost>>
+    void setDataCost(SiteID site, LabelID label, Cost cost) {
+        setDataCost(site, label, held(cost));
+    }
     void setDataCost(DataCostFn cost) { set_data_function(cost); }
     void setDataCost(DataCostFnExtra cost, void *extra) {
         set_data_function([cost, extra](SiteID s, LabelID l) { return cost(s, l, extra); });
@@ -158,6 +171,10 @@ public:
                 "the smooth costs are set by a function: set all of them by a table instead");
         smooth_[std::size_t(l1) + std::size_t(l2) * label_total()] = cost;
     }
+    template <typename Cost, typename = IfNarrows<Cost>>
+    void setSmoothCost(LabelID l1, LabelID l2, Cost cost) {
+        setSmoothCost(l1, l2, held(cost));
+    }
     // costs of two sites and their labels, where they are a weight of the sites times one table of
     // the labels
     void setSmoothCost(SmoothCostFn cost) { set_smooth_function(cost); }
@@ -175,6 +192,9 @@ public:
     // what a label costs once, where some site has it: the same for each, or one for each
     void setLabelCost(EnergyTermType cost) {
         in_memory([&] { label_costs_.assign(label_total(), cost); });
+    }
+    template <typename Cost, typename = IfNarrows<Cost>> void setLabelCost(Cost cost) {
+        setLabelCost(held(cost));
     }
     void setLabelCost(const EnergyTermType *costs) {
         in_memory([&] { label_costs_.assign(costs, costs + label_count_); });
@@ -270,6 +290,17 @@ public:
     const gco_outcome &outcome() const { return outcome_; }
 
 protected:
+    // a cost as it goes on, in an int
+    template <typename Cost> static EnergyTermType held(Cost cost) {
+        static_assert(!std::is_floating_point<Cost>::value,
+                      "gco counts costs in int: scale the costs and round them first");
+        typedef std::numeric_limits<EnergyTermType> Limits;
+        const std::int64_t wide = static_cast<std::int64_t>(cost);
+        if (wide < Limits::min() || wide > Limits::max() ||
+            (!std::is_signed<Cost>::value && wide < 0))
+            throw GCException("the cost " + std::to_string(cost) + " does not fit an int");
+        return static_cast<EnergyTermType>(wide);
+    }
     void check_neighbours(SiteID p, SiteID q, EnergyTermType weight) const {
         check_site(p);
         check_site(q);
@@ -729,6 +760,10 @@ class GCoptimizationGeneralGraph : public GCoptimization {
 public:
     GCoptimizationGeneralGraph(SiteID sites, LabelID labels) : GCoptimization(sites, labels) {}
     void setNeighbors(SiteID p, SiteID q, EnergyTermType weight = 1) { add_pair(p, q, weight); }
+    template <typename Weight, typename = IfNarrows<Weight>>
+    void setNeighbors(SiteID p, SiteID q, Weight weight) {
+        add_pair(p, q, held(weight));
+    }
     // of each site its neighbours and their weights, so that each pair stands in the lists of both
     // of its sites
     void setAllNeighbors(const SiteID *counts, const SiteID *const *neighbours,

@@ -4,8 +4,8 @@
 // As there: an Energy is a Graph (graph.h), a variable is one of its nodes, 0 on the source's side;
 // terms are over one, two and three variables. Of several least assignments the answer is the one
 // with the fewest ones. Other than there:
-// - A fractional type is refused by the compiler. A number of a term is from -1,000,000,000 to
-//   1,000,000,000.
+// - A fractional type or number is refused by the compiler. A number of a term is from
+//   -1,000,000,000 to 1,000,000,000.
 // - Each call tests what it is given, and names the term by its number, from 0, and its variables.
 //   It throws std::invalid_argument. If a sum does not fit its type, std::overflow_error is thrown:
 //   nothing wraps.
@@ -41,6 +41,11 @@ public:
         constant_ += wide;
     }
 
+    // numbers that Value may not hold, here and below: a fraction is refused by the compiler
+    template <typename A, typename = gco_numbers::IfNarrows<Value, A>> void add_constant(A e) {
+        add_constant(this->template held<Value>(e));
+    }
+
     // A at 0, B at 1
     void add_term1(Var x, Value A, Value B) {
         const std::uint32_t variable = this->number(x, "variable");
@@ -48,6 +53,11 @@ public:
         check_range(numbers, 2, &x, 1);
         this->lean(variable, static_cast<std::int64_t>(A), static_cast<std::int64_t>(B));
         terms_++;
+    }
+
+    template <typename A, typename B, typename = gco_numbers::IfNarrows<Value, A, B>>
+    void add_term1(Var x, A a, B b) {
+        add_term1(x, this->template held<Value>(a), this->template held<Value>(b));
     }
 
     // A at 00, B at 01, C at 10, D at 11
@@ -66,6 +76,13 @@ public:
                          " is not regular: E(0,0) + E(1,1) is above E(0,1) + E(1,0)");
         this->add_two(first, second, at[0], at[1], at[2], at[3]);
         terms_++;
+    }
+
+    template <typename A, typename B, typename C, typename D,
+              typename = gco_numbers::IfNarrows<Value, A, B, C, D>>
+    void add_term2(Var x, Var y, A a, B b, C c, D d) {
+        add_term2(x, y, this->template held<Value>(a), this->template held<Value>(b),
+                  this->template held<Value>(c), this->template held<Value>(d));
     }
 
     // E(0,0,0), E(0,0,1), E(0,1,0), .., E(1,1,1)
@@ -88,6 +105,15 @@ public:
         three.at100 = at[4], three.at101 = at[5], three.at110 = at[6], three.at111 = at[7];
         this->add_three(three);
         terms_++;
+    }
+
+    template <typename A, typename B, typename C, typename D, typename E, typename F, typename G,
+              typename H, typename = gco_numbers::IfNarrows<Value, A, B, C, D, E, F, G, H>>
+    void add_term3(Var x, Var y, Var z, A a, B b, C c, D d, E e, F f, G g, H h) {
+        add_term3(x, y, z, this->template held<Value>(a), this->template held<Value>(b),
+                  this->template held<Value>(c), this->template held<Value>(d),
+                  this->template held<Value>(e), this->template held<Value>(f),
+                  this->template held<Value>(g), this->template held<Value>(h));
     }
 
     TotalValue minimize() { return this->least(constant_, "the least value"); }

@@ -6,7 +6,7 @@
 // up and may be below 0; nodes and edges may be added after maxflow(), and the next maxflow()
 // answers for all of them; mark_node and maxflow(true) are taken. Other than in maxflow-v3:
 // - Each maxflow() starts from scratch.
-// - A fractional type is refused by the compiler, and a capacity is at most 1,000,000,000.
+// - A fractional type or capacity is refused by the compiler. A capacity is at most 1,000,000,000.
 // - What is wrong is told to the error function, if there is one, and then thrown: a
 //   std::invalid_argument by the call that brings it, a std::overflow_error if the flow does not
 //   fit flowtype, a std::bad_alloc if there is no memory. An edge is named by its number, from 0.
@@ -56,6 +56,31 @@ template <typename Number> bool fits(std::int64_t number) {
     return static_cast<std::uint64_t>(number) <= static_cast<std::uint64_t>(Limits::max());
 }
 
+// whether a number of one whole type fits another one
+template <typename Number, typename Given> bool holds(Given given) {
+    if (is_negative(given)) return fits<Number>(static_cast<std::int64_t>(given));
+    return static_cast<std::uint64_t>(given) <=
+           static_cast<std::uint64_t>(std::numeric_limits<Number>::max());
+}
+
+// whether a type has numbers that another one does not hold: fractions are among them
+template <typename Number, typename Given>
+struct Narrows
+    : std::integral_constant<bool, std::is_floating_point<Given>::value ||
+                                       (std::is_integral<Given>::value &&
+                                        (std::numeric_limits<Given>::digits >
+                                             std::numeric_limits<Number>::digits ||
+                                         (std::is_signed<Given>::value &&
+                                          !std::is_signed<Number>::value)))> {};
+
+template <typename Number, typename... Given> struct SomeNarrows : std::false_type {};
+template <typename Number, typename First, typename... Rest>
+struct SomeNarrows<Number, First, Rest...>
+    : std::integral_constant<bool, Narrows<Number, First>::value ||
+                                       SomeNarrows<Number, Rest...>::value> {};
+template <typename Number, typename... Given>
+using IfNarrows = typename std::enable_if<SomeNarrows<Number, Given...>::value>::type;
+
 inline bool sum_fits(std::int64_t a, std::int64_t b) {
     typedef std::numeric_limits<std::int64_t> Limits;
     return b < 0 ? a >= Limits::min() - b : a <= Limits::max() - b;
@@ -94,11 +119,22 @@ public:
         add_two(from, to, 0, static_cast<std::int64_t>(cap), static_cast<std::int64_t>(rev_cap), 0);
     }
 
+    // numbers that captype may not hold: a fraction is refused by the compiler
+    template <typename A, typename B, typename = gco_numbers::IfNarrows<captype, A, B>>
+    void add_edge(node_id i, node_id j, A cap, B rev_cap) {
+        add_edge(i, j, held<captype>(cap), held<captype>(rev_cap));
+    }
+
     void add_tweights(node_id i, tcaptype cap_source, tcaptype cap_sink) {
         const std::uint32_t node = number(i, "node");
         check_terminal(cap_source, i);
         check_terminal(cap_sink, i);
         lean(node, static_cast<std::int64_t>(cap_sink), static_cast<std::int64_t>(cap_source));
+    }
+
+    template <typename A, typename B, typename = gco_numbers::IfNarrows<tcaptype, A, B>>
+    void add_tweights(node_id i, A cap_source, B cap_sink) {
+        add_tweights(i, held<tcaptype>(cap_source), held<tcaptype>(cap_sink));
     }
 
     // the greatest flow; the argument changes nothing
@@ -175,6 +211,16 @@ protected:
     [[noreturn]] void refuse_overflow(const std::string &words) const {
         if (error_function_ != nullptr) error_function_(words.c_str());
         throw std::overflow_error(words);
+    }
+
+    // a number as it goes on, in its own type
+    template <typename Number, typename Given> Number held(Given given) const {
+        static_assert(!std::is_floating_point<Given>::value,
+                      "Graph and Energy count in whole numbers: scale the capacities and round "
+                      "them first");
+        if (!gco_numbers::holds<Number>(given))
+            refuse("the number " + std::to_string(given) + " does not fit its type");
+        return static_cast<Number>(given);
     }
 
     int add_numbered(int count, const char *things) {

@@ -185,6 +185,44 @@ static void graphs() {
                  [&] { large.add_edge(0, 1, ULLONG_MAX, 0); }));
 }
 
+// numbers of wider types than the classes have: what does not fit is no other number
+static void wide_numbers() {
+    const long long far = 4294967297;   // 1 in 32 bits
+    Graph<short, int, int> g(2, 1);
+    g.add_node(2);
+    WANT(invalid("the number 65537 does not fit its type", [&] { g.add_edge(0, 1, 65537, 0); }));
+    WANT(invalid("the number 4294967297 does not fit its type",
+                 [&] { g.add_tweights(0, 0, far); }));
+    g.add_edge(0, 1, 7LL, 0U);
+    g.add_tweights(0, 9LL, 0);
+    g.add_tweights(1, 0, std::int64_t(8));
+    WANT(g.maxflow() == 7);
+    Energy<int, int, long long> e(3, 1);
+    e.add_variable(3);
+    WANT(invalid("the number 4294967297 does not fit its type", [&] { e.add_constant(far); }));
+    WANT(invalid("the number 4294967297 does not fit its type", [&] { e.add_term1(0, 0, far); }));
+    WANT(invalid("the number -4294967297 does not fit its type",
+                 [&] { e.add_term2(0, 1, 0, 0, 0, -far); }));
+    WANT(invalid("the number 4294967295 does not fit its type",
+                 [&] { e.add_term3(0, 1, 2, 0, 0, 0, 0, 0, 0, 0, UINT_MAX); }));
+    e.add_constant(5LL);
+    e.add_term1(0, 3LL, 2);
+    WANT(e.minimize() == 7);
+    Energy<unsigned, unsigned, long long> no_sign(1, 0);
+    WANT(invalid("the number -1 does not fit its type", [&] { no_sign.add_constant(-1); }));
+    GCoptimizationGeneralGraph gc(2, 2);
+    WANT(refused("the cost 4294967297 does not fit an int", [&] { gc.setDataCost(0, 0, far); }));
+    WANT(refused("the cost -4294967297 does not fit an int",
+                 [&] { gc.setSmoothCost(0, 1, -far); }));
+    WANT(refused("the cost 4294967295 does not fit an int", [&] { gc.setLabelCost(UINT_MAX); }));
+    WANT(refused("the cost 18446744073709551615 does not fit an int",
+                 [&] { gc.setNeighbors(0, 1, ULLONG_MAX); }));
+    gc.setDataCost(0, 0, 9LL);
+    gc.setNeighbors(0, 1, 3U);
+    gc.setSmoothCost(0, 1, 1UL);
+    WANT(gc.expansion() == 0 && gc.whatLabel(0) == 1);
+}
+
 static std::string heard;
 static void hear(const char *words) { heard = words; }
 
@@ -239,6 +277,7 @@ int main() {
     costs();
     heavy();
     graphs();
+    wide_numbers();
     energies();
     std::printf("c++: refusals by their words\n");
     return 0;

@@ -1,9 +1,12 @@
 """The package against worked examples, against the definitions tried in every case, and on what is refused."""
 import array
+import contextlib
+import io
 import itertools
 import random
 import sys
 import threading
+import types
 
 if "--without-numpy" in sys.argv:
     sys.modules["numpy"] = None
@@ -165,6 +168,46 @@ def progress():
     assert stopped.cycles == 1 and not stopped.settled and stopped.energy == told[1][3]
 
 
+class Bar:
+    """What stands for a bar of tqdm: how long it is, how far it came, and the last words beside it."""
+    made = []
+
+    def __init__(self, total, **words):
+        self.total, self.n, self.closed = total, 0, False
+        Bar.made.append(self)
+
+    def set_postfix(self, energy, changed, refresh):
+        self.energy = energy
+
+    def update(self):
+        assert not self.closed
+        self.n += 1
+
+    def close(self):
+        self.closed = True
+
+
+def bars():
+    """A bar for each cycle, as long as the cycle has moves, by tqdm; and lines without it."""
+    data, kept = [[*costs, 5] for costs in DATA], sys.modules.get("tqdm")
+    sys.modules["tqdm"] = types.SimpleNamespace(tqdm=Bar)
+    for moves, count in (("expansion", 4), ("swap", 6)):
+        Bar.made.clear()
+        found = gco.label(data, gco.potts(4), PAIRS, moves=moves, progress=True)
+        assert [(bar.total, bar.n, bar.closed) for bar in Bar.made] == [(count, count, True)] * found.cycles and found.cycles > 1
+        assert Bar.made[-1].energy == found.energy
+    sys.modules["tqdm"] = None
+    written = io.StringIO()
+    with contextlib.redirect_stderr(written):
+        found = gco.label(data, gco.potts(4), PAIRS, progress=True)
+    lines = written.getvalue().splitlines()
+    assert lines[0].startswith("cycle 1 label ") and lines[-1].endswith(f"energy {found.energy}") and " 0 sites" not in written.getvalue(), lines
+    if kept is None:
+        del sys.modules["tqdm"]
+    else:
+        sys.modules["tqdm"] = kept
+
+
 def narrow():
     flat = [x for row in DATA for x in row]
     wide, short = (gco.label(array.array(code, flat), gco.potts(3), PAIRS) for code in "qi")
@@ -248,6 +291,7 @@ kinds = by_definition(2000)
 least = assignments(2000)
 bad_input()
 progress()
+bars()
 narrow()
 threads()
 graph()

@@ -189,12 +189,21 @@ def interrupted():
     # long enough to be stoppable by itself, and where it is asked for
     for side, more in ((256, ""), (150, ", moves='swap', stoppable=True")):
         text = LONG.format(side=side, more=more, bare="--without-numpy" in sys.argv)
-        child = subprocess.Popen([sys.executable, "-c", text], stdout=subprocess.PIPE, stderr=subprocess.PIPE, text=True)
-        assert child.stdout.readline() == "ready\n", child.stderr.read()
-        time.sleep(1.5)
-        child.send_signal(signal.SIGINT)
-        said, wrong = child.communicate(timeout=120)
+        # on a busy machine a run may be stopped before its first move: then it gets more time
+        for seconds in (1.5, 3, 6, 12, 24):
+            said, wrong = stopped_after(seconds, text)
+            if said != "partial False False\n":
+                break
         assert said == "partial True True\n", (said, wrong)
+
+
+def stopped_after(seconds, text):
+    """What the program `text` printed that got Ctrl-C so many seconds after it was ready."""
+    child = subprocess.Popen([sys.executable, "-c", text], stdout=subprocess.PIPE, stderr=subprocess.PIPE, text=True)
+    assert child.stdout.readline() == "ready\n", child.stderr.read()
+    time.sleep(seconds)
+    child.send_signal(signal.SIGINT)
+    return child.communicate(timeout=120)
 
 
 def stoppable():
