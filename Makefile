@@ -2,26 +2,31 @@
 #   make release                   dist/: an archive, a Debian package, the wheel, checksums
 #   make install PREFIX=/usr/local DESTDIR=
 #   make uninstall PREFIX=/usr/local DESTDIR=
-#   make check                     tries the bindings, the release, the manuals, the completions
-#                                  and the pages
+#   make check                     tries the program, the bindings, the release, the manuals, the
+#                                  completions and the pages
 # The program and the library are what `rt run` in crates/gco and `make -C bindings` leave.
 # Others may be named:
 #   GCO=path/of/gco                the built program
 #   CRATE=path/of/gco_c            the folder whose out/ has libgco_c.a
 #   GATE_LOG=path                  what `rt ci` printed: its last line goes into RELEASE.md
+#   PYTHON=path                    a Python with numpy and Pillow; else that of the path if it has
+#                                  them, and Debian's if not
 VERSION := $(shell cat VERSION)
 GCO ?= crates/gco/out/gco
 CRATE ?=
 GATE_LOG ?=
 PREFIX ?= /usr/local
 DESTDIR ?=
-PYTHON ?= python3
+ifndef PYTHON
+PYTHON := $(shell python3 -c 'import numpy, PIL' 2> /dev/null && echo python3 || echo /usr/bin/python3)
+endif
 NAME := gco-$(VERSION)-linux-x86_64
 STAGE := dist/$(NAME)
 ARCHIVE := dist/$(NAME).tar.gz
 DEB := dist/gco_$(VERSION)_amd64.deb
 PAGES := README.md docs/IMAGES.md docs/LABEL.md docs/ENERGY.md docs/SLOW.md docs/REFUSED.md
-BINDINGS := $(MAKE) -C bindings VERSION=$(VERSION) $(if $(CRATE),CRATE=$(abspath $(CRATE)))
+BINDINGS := $(MAKE) -C bindings VERSION=$(VERSION) PYTHON=$(PYTHON) \
+	$(if $(CRATE),CRATE=$(abspath $(CRATE)))
 
 release: $(ARCHIVE) $(DEB)
 	cp $(STAGE)/python/*.whl dist
@@ -52,7 +57,7 @@ install: $(STAGE)/SHA256SUMS
 uninstall:
 	sh release/install.sh --uninstall --prefix "$(PREFIX)" --destdir "$(DESTDIR)"
 
-check: check-pages check-bindings release
+check: check-pages check-program check-bindings release
 	$(PYTHON) tools/try_release.py $(ARCHIVE) $(DEB)
 	$(PYTHON) tools/run_pages.py --release $(STAGE) $(PAGES)
 	@echo "check: all passed"
@@ -63,8 +68,15 @@ check-pages: check-packages
 	$(PYTHON) tools/check_refused.py
 	$(PYTHON) tools/check_links.py
 
-check-bindings: check-packages
-	$(BINDINGS) test
+# The built program: against the definitions, on damaged inputs, and with each allocation refused.
+check-program: check-packages $(GCO)
+	$(PYTHON) tools/program_by_definition.py --gco $(GCO)
+	$(PYTHON) tools/hostile.py --gco $(GCO) --count 2000
+	$(PYTHON) tools/refused_growths.py --gco $(GCO)
+
+# The tests of the bindings compare with the program too.
+check-bindings: check-packages $(GCO)
+	GCO_PROGRAM=$(abspath $(GCO)) $(BINDINGS) test
 
 check-packages:
 	@$(PYTHON) tools/check_packages.py
@@ -75,6 +87,7 @@ clean:
 
 FORCE:
 
-.PHONY: release install uninstall check check-pages check-bindings check-packages clean FORCE
+.PHONY: release install uninstall check check-pages check-program check-bindings check-packages \
+	clean FORCE
 .DELETE_ON_ERROR:
 .NOTPARALLEL:

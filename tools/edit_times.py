@@ -9,8 +9,9 @@ proves the crate as it stands, tries its edits over that one after the other, by
 without an edit once more. A crate's one edit is tried from nothing, and its seconds hold a proof of the whole.
 
 The seconds of one check are those by which the finished children of that command grew. They are read from
-/proc while it runs, so this works on Linux alone. The status is 1 where an edit is not refused, or where a
-refusal says little (a proof file names what the edit took away).
+/proc while it runs, so this works on Linux alone. `dear` stands behind an edit that takes more than 30 seconds,
+and behind a crate whose edits take more than 5 minutes together. The status is 1 where an edit is not refused,
+or where a refusal says little (a proof file names what the edit took away).
 """
 
 import os
@@ -22,8 +23,10 @@ import time
 
 PAUSE = 0.05
 LEAST = 1.0
-BUDGET_EDITS = 300
-BUDGET_SECONDS = 18
+# The most processor seconds of an edit, of a crate's edits together, and of all edits.
+EDIT_SECONDS = 30
+CRATE_SECONDS = 5 * 60
+ALL_SECONDS = 75 * 60
 
 
 def edits_of(crate):
@@ -71,8 +74,13 @@ def outcome(text, crate, edit):
     return f"refused at {goal.group(1)}" if goal else "refused"
 
 
+def dear(seconds, most):
+    """What stands behind a row: whether it takes more than it may."""
+    return ", dear" if seconds > most else ""
+
+
 def table(crate, edits):
-    """Prints the rows of a crate. Gives its processor seconds, and whether all is well."""
+    """Prints the rows of a crate. Gives the processor seconds of its edits, and whether all is well."""
     text, spent = watched(["rt", "must-fail", "--anew", crate])
     said = [outcome(text, crate, edit) for edit in edits]
     around = 1 if len(edits) > 1 else 0
@@ -84,13 +92,13 @@ def table(crate, edits):
     mine = spent[-checks:]
     own = mine[around:len(mine) - around]
     for edit, seconds, words in zip(edits, own, said):
-        print(f"{seconds:8.1f}  {crate}/{edit}: {words}", flush=True)
+        print(f"{seconds:8.1f}  {crate}/{edit}: {words}{dear(seconds, EDIT_SECONDS)}", flush=True)
     mean = sum(own) / len(own) if own else 0.0
     most = max(own, default=0.0)
     ground = f", the crate before and after them {mine[0]:.1f} and {mine[-1]:.1f}" if around and mine else ""
     words = f"{len(edits)} edits, mean {mean:.1f}, most {most:.1f}{ground}"
-    print(f"{sum(mine):8.1f}  {crate}: {words}\n", flush=True)
-    return sum(mine), are_refused
+    print(f"{sum(own):8.1f}  {crate}: {words}{dear(sum(own), CRATE_SECONDS)}\n", flush=True)
+    return sum(own), are_refused
 
 
 def main():
@@ -101,8 +109,7 @@ def main():
     found = [(crate, edits) for crate, edits in found if edits]
     ends = [table(crate, edits) for crate, edits in found]
     number, total = sum(len(edits) for _, edits in found), sum(seconds for seconds, _ in ends)
-    budget = f"the budget is {BUDGET_EDITS} edits of {BUDGET_SECONDS} seconds"
-    print(f"{total:8.1f}  {number} edits of {len(found)} crates; {budget}")
+    print(f"{total:8.1f}  {number} edits of {len(found)} crates{dear(total, ALL_SECONDS)}")
     sys.exit(0 if all(well for _, well in ends) else 1)
 
 

@@ -83,16 +83,19 @@ def run_block(block, folder, env):
     """What the block prints, and its status."""
     file = folder / ".block"
     file.write_text(block.text, encoding="utf-8")
-    done = subprocess.run(
-        [*RUNNERS[block.kind], str(file)],
-        cwd=folder,
-        env=env,
-        stdin=subprocess.DEVNULL,
-        text=True,
-        stdout=subprocess.PIPE,
-        stderr=subprocess.STDOUT,
-        timeout=LIMIT_SECONDS,
-    )
+    try:
+        done = subprocess.run(
+            [*RUNNERS[block.kind], str(file)],
+            cwd=folder,
+            env=env,
+            stdin=subprocess.DEVNULL,
+            text=True,
+            stdout=subprocess.PIPE,
+            stderr=subprocess.STDOUT,
+            timeout=LIMIT_SECONDS,
+        )
+    except subprocess.TimeoutExpired:
+        return f"no end after {LIMIT_SECONDS} s\n", "none"
     return done.stdout, done.returncode
 
 

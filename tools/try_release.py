@@ -5,7 +5,8 @@
 
 Unpacks it, tests its sums, installs it, runs the program on the examples, compiles the programs of
 docs/BINDINGS.md by pkg-config and by CMake, imports the wheel, reads the manuals, loads the
-completions, and takes all of it away again. Each step prints what it took; the first that fails
+completions, and takes all of it away again. Then dpkg installs the Debian package into a root of
+its own, where it is tried and taken away. Each step prints what it took; the first that fails
 ends the run in status 1.
 """
 import os
@@ -42,8 +43,9 @@ target_link_libraries(shared gco::shared)
 class Trial:
     """A folder of its own, and the environment of a user without a toolchain."""
 
-    def __init__(self, folder):
+    def __init__(self, folder, package):
         self.folder = folder
+        self.package = package
         self.prefix = folder / "prefix"
         self.env = {
             "PATH": f"{self.prefix}/bin:/usr/bin:/bin",
@@ -60,7 +62,7 @@ class Trial:
         done = subprocess.run(
             [str(word) for word in words],
             cwd=more.pop("cwd", self.folder),
-            env=self.env,
+            env=more.pop("env", self.env),
             text=True,
             stdout=subprocess.PIPE,
             stderr=subprocess.STDOUT,
@@ -235,32 +237,70 @@ def uninstall(trial, tree):
     wants(left, [], "left after uninstall")
 
 
-def try_deb(trial, package):
-    """What the package holds, laid out as dpkg would, and its program run."""
-    root = trial.folder / "root"
-    trial.run(["dpkg-deb", "-x", package, root])
-    trial.run(["dpkg-deb", "-e", package, root / "DEBIAN"])
-    trial.run(["md5sum", "--quiet", "-c", "DEBIAN/md5sums"], cwd=root)
+def by_dpkg(trial, root, *words):
+    """A call of dpkg on a root of its own, whose scripts run outside it."""
+    env = {**trial.env, "PATH": f"{trial.env['PATH']}:/usr/sbin:/sbin"}
+    asked = ["dpkg", f"--root={root}", "--force-script-chrootless", "--force-depends", *words]
+    if os.geteuid() != 0:
+        asked = ["fakeroot", *asked]
+    return trial.run(asked, env=env)
+
+
+def files_below(root):
+    """All files that are not dpkg's own."""
+    kept = root / "var/lib/dpkg"
+    return [
+        str(path.relative_to(root))
+        for path in root.rglob("*")
+        if not path.is_dir() and kept not in path.parents and path.parent != root / "var/log"
+    ]
+
+
+def try_package_program(root):
     with open(root / "usr/share/doc/gco/examples/districts.toml", "rb") as file:
         told = subprocess.run(
             [root / "usr/bin/gco", "label"], stdin=file, capture_output=True, check=True
         ).stdout
     wants(told.decode(), "energy 27 data 23 smooth 4\nlabels 1 1 1 2 2\n", "the package's program")
-    module = f"import site; site.addsitedir('{root}/usr/lib/python3/dist-packages'); import gco; "
-    told = trial.run(
-        [
-            sys.executable,
-            "-c",
-            module + "print(gco.label([[0, 3], [3, 0]], gco.potts(2), [(0, 1, 3)]).energy)",
-        ]
+
+
+def try_package_module(trial, root, version):
+    """The module and its command, by a Python that keeps what it compiled beside the module."""
+    modules = root / "usr/lib/python3/dist-packages"
+    env = {**trial.env, "PYTHONPATH": str(modules)}
+    del env["PYTHONDONTWRITEBYTECODE"]
+    program = f"import site; site.addsitedir('{modules}'); import gco; " + (
+        "print(gco.label([[0, 3], [3, 0]], gco.potts(2), [(0, 1, 3)]).energy)"
     )
-    wants(told, "3\n", "the package's module")
+    wants(trial.run([sys.executable, "-c", program], env=env), "3\n", "the package's module")
+    told = trial.run([sys.executable, root / "usr/bin/gco-picture", "--version"], env=env)
+    wants(told, f"gco {version}\n", "the package's gco-picture")
+    if not any(modules.rglob("__pycache__")):
+        sys.exit("Python kept nothing beside the package's module, so removal is not tried")
+
+
+def try_deb(trial, tree):
+    """The package, put into a root of its own by dpkg, tried there and taken away again."""
+    if os.geteuid() != 0 and shutil.which("fakeroot") is None:
+        print("the package is not tried: fakeroot is missing (Debian: apt-get install fakeroot)")
+        return
+    root = trial.folder / "root"
+    for folder in ("info", "updates", "triggers"):
+        (root / "var/lib/dpkg" / folder).mkdir(parents=True)
+    for name in ("status", "available"):
+        (root / "var/lib/dpkg" / name).touch()
+    by_dpkg(trial, root, "--install", trial.package)
+    wants(by_dpkg(trial, root, "--verify", "gco"), "", "files that are not the package's own")
+    try_package_program(root)
+    try_package_module(trial, root, (tree / "VERSION").read_text().strip())
+    by_dpkg(trial, root, "--purge", "gco")
+    wants(files_below(root), [], "left after the package was taken away")
 
 
 def main():
     archive, package = (Path(word).resolve() for word in sys.argv[1:])
     with tempfile.TemporaryDirectory() as name:
-        trial = Trial(Path(name))
+        trial = Trial(Path(name), package)
         tree = unpack(trial, archive)
         for step in (
             install,
@@ -271,11 +311,11 @@ def main():
             read_manuals,
             load_completions,
             uninstall,
+            try_deb,
         ):
             begun = time.monotonic()
             step(trial, tree)
             print(f"{step.__name__}: {time.monotonic() - begun:.1f} s", flush=True)
-        try_deb(trial, package)
     print("release: all steps passed")
 
 

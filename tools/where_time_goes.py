@@ -27,11 +27,14 @@ PARTS = [
     ("pairs", ("label_field", "grouping")),
     ("costs", ("cost_store", "vision", "run_options", "labellings", "rayon")),
     ("deciding", ("deciding", "stages", "closing_in")),
-    ("building", ("move_energy", "pseudo_bool", "regular", "compile_cut", "sums")),
-    ("cutting", ("plain_cut", "sink_distances", "flow_network", "side_tests")),
+    ("building", ("move_energy", "strips", "pseudo_bool", "regular", "compile_cut", "sums")),
+    ("cutting", ("plain_cut", "solvers", "sink_distances", "flow_network", "side_tests")),
     (
         "cutting by workers",
-        ("rounds", "block_", "laid_blocks", "discharge", "parcel", "worker", "rtrb"),
+        (
+            "rounds", "block_", "laid_blocks", "discharge", "parcel", "global_relabel", "worker",
+            "rtrb",
+        ),
     ),
     ("moves", ("moves", "minimum")),
     ("writing", ("gco_cli", "itoa", "arrayvec")),
