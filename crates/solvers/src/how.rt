@@ -2,7 +2,7 @@ ghost use Rattle.std.specs.Prelude.{◌≡◌, ◌<◌, ◌≤◌, All, IfOk, If
 ghost use Rattle.flow_network.specs.Answer.{side_of, IsRightCut};
 ghost use Rattle.flow_network.specs.Cut.{nodes, set_of, IsSmallestLeastCut};
 ghost use Rattle.flow_network.specs.Limits.{capacity_limit};
-ghost use Rattle.solvers.specs.Jobs.{CanCut, AreCut};
+ghost use Rattle.solvers.specs.Jobs.{CanCut, AreCutTwice};
 ghost use Rattle.solvers.specs.declared.solve_error.SolveError.{SolveError};
 ghost use Rattle.solvers.specs.declared.solve_error.SolveError.TheVariants.{OutOfMemory};
 
@@ -84,7 +84,7 @@ pub trait How {
     fn sides(&self, alloc: Global, jobs: &mut [SidesJob])
         requires ready { ready self.now }
         requires jobs { All CanCut jobs.old }
-        ensures { AreCut jobs.old jobs.new }
+        ensures { AreCutTwice jobs.old jobs.new }
     {
         cut_jobs(alloc, jobs);
     }

@@ -1,7 +1,7 @@
 //! Nets that are cut twice, each as a job: who has threads does several side by side.
 ghost use Rattle.std.specs.Prelude.{◌≡◌, ◌<◌, ℕ, All, length, slice_index_or};
 ghost use Rattle.flow_network.specs.Cut.{nodes};
-ghost use Rattle.solvers.specs.Jobs.{CanCut, IsCut, AreCut};
+ghost use Rattle.solvers.specs.Jobs.{CanCut, IsCutTwice, AreCutTwice};
 
 use flow_network::Net;
 use plain_cut::{BothSides, Workspace, both_sides_in};
@@ -39,7 +39,7 @@ impl SidesJob {
 /// the answer that memory was refused.
 pub fn cut_job(alloc: Global, job: &mut SidesJob)
     requires { CanCut job.old }
-    ensures { IsCut job.old job.new }
+    ensures { IsCutTwice job.old job.new }
 {
     if let Some(net) = job.net.take() {
         job.sides = Some(both_sides_in(alloc, net, &job.more, &mut job.space));
@@ -49,7 +49,7 @@ pub fn cut_job(alloc: Global, job: &mut SidesJob)
 /// Cuts the nets of the jobs one after another, on the thread of the caller.
 pub fn cut_jobs(alloc: Global, jobs: &mut [SidesJob])
     requires { All CanCut jobs.old }
-    ensures { AreCut jobs.old jobs.new }
+    ensures { AreCutTwice jobs.old jobs.new }
 {
     for place in 0..jobs.len() {
         cut_job(alloc, &mut jobs[place]);
