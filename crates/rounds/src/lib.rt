@@ -25,6 +25,7 @@ mod rings;
 mod round;
 mod seat_work;
 mod seats;
+mod side_jobs;
 mod solver;
 mod space;
 mod together;

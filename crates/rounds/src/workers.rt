@@ -6,9 +6,10 @@ ghost use Rattle.rounds.specs.Refusals.{IsRefusal};
 ghost use Rattle.rounds.specs.SolveErrors.{MayRefuse, of_parallel};
 
 use crate::gates::Lent;
+use crate::side_jobs::cut_by_threads;
 use crate::{ParallelError, side_parallel, solve_parallel};
 use flow_network::{Net, Solved};
-use solvers::{Alone, How, SolveError};
+use solvers::{Alone, How, SidesJob, SolveError};
 use std::alloc::Global;
 use std::sync::Wait;
 use std::thread::Threads;
@@ -44,10 +45,21 @@ impl<'a, R: Threads + Wait + Sync> How for Workers<'a, R, &'a (dyn Gate + Sync)>
 
     ghost refuses = { λ how e. MayRefuse how.options e };
 
-    /// As on one thread: the strips of a move are cut on the caller's thread, and workers share the
-    /// net that is left.
+    /// As on one thread. Workers share the net that the strips of a move leave.
     fn strip_sites(&self) -> usize {
         Alone.strip_sites()
+    }
+
+    /// As many strips as threads.
+    fn sides_at_once(&self) -> usize {
+        (self.options.threads as usize).max(1)
+    }
+
+    /// The jobs go to at most so many threads as the options say, that of the caller among them. If
+    /// the system does not start a thread, its jobs are done all the same.
+    fn sides(&self, alloc: Global, jobs: &mut [SidesJob]) {
+        let threads = self.sides_at_once();
+        cut_by_threads(self.rt, threads, alloc, jobs);
     }
 
     fn solve(&self, alloc: Global, net: &Net) -> Result<Solved, SolveError> {
