@@ -11,7 +11,7 @@ use Rattle.move_energy.specs.declared.error.BuildError.{BuildError}
 use Rattle.move_energy.specs.Problems.{IsPrepareRefusal}
 use Rattle.move_energy.specs.declared.choice.Choice.{Choice}
 use Rattle.move_energy.specs.declared.choice.Choice.TheVariants.{Open}
-use Rattle.move_energy.specs.BySite.{degree}
+use Rattle.move_energy.specs.BySite.{degree, start_at, pair_beside}
 use Rattle.move_energy.specs.Choices.{bit_of, choice_at, is_open, AreAllOpen}
 use Rattle.move_energy.specs.Limits.{surplus_limit}
 use Rattle.deciding.specs.Limits.{bound_limit}
@@ -23,6 +23,16 @@ use Rattle.deciding.specs.declared.bounds.Bounds.{Bounds}
 abbrev pub AreEnds : Pair → ℕ → ℕ → Type 0
 AreEnds pair site other =
     ((pair.first ≡ site) × (pair.second ≡ other)) ⊎ ((pair.first ≡ other) × (pair.second ≡ site))
+
+-- the site is no end of the pair
+abbrev pub AvoidsSite : ℕ → Pair → Type 0
+AvoidsSite u pair = (pair.first ≢ u) × (pair.second ≢ u)
+
+-- no open site before this one has a pair with it
+abbrev pub HasNoneBefore : List Choice → Neighbours → ℕ → Type 0
+HasNoneBefore choices ends site =
+    (place u : ℕ) → start_at ends site ≤ place → place < start_at ends (site + 1) → u < site
+    → choice_at choices u ≡ Open → AvoidsSite u (pair_beside ends site place)
 
 -- the bound of a site
 abbrev pub bound_at : List ℤ → ℕ → ℤ
@@ -182,6 +192,13 @@ pub record CallsUp (site : ℕ) (old new : Bounds) : Type 0 where
   pub called : CanDecide old site → Contains new.waiting.items site
   pub sites : (n : ℕ) → site < n → All (λ u. u < n) old.waiting.items → All (λ u. u < n) new.waiting.items
   pub more : length new.waiting.items ≤ length old.waiting.items + 1
+
+-- a site waits if its bounds tell its value; or it has that value at once, where no open site before it is beside it
+abbrev pub IsAnswered : ℕ → Bool → Bounds → Bounds → Type 0
+IsAnswered site beside old new =
+    (CallsUp site old new × (new.choices ≡ old.choices) × (new.least ≡ old.least)
+    × (new.greatest ≡ old.greatest))
+    ⊎ ((value : Bool) × IsMarked site value old new × TellsValue old site value × (beside ≡ false))
 
 -- the choices stay, no bound grows by more than a surplus for each, nor all greatest ones together, and at most so
 -- many sites more wait

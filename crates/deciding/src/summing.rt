@@ -9,7 +9,7 @@ ghost use Rattle.cost_store.specs.Posed.{IsPosed, IsAsked, Meant};
 ghost use Rattle.move_energy.specs.declared.choice.Choice.TheVariants.{Open, One};
 ghost use Rattle.move_energy.specs.Choices.{choice_at, Changes};
 ghost use Rattle.deciding.specs.Rising.{IsSized, IsTableOf};
-ghost use Rattle.deciding.specs.Working.{summed, CanDecide, AreOfSites, IsSummed, IsWithinRange, AddsBounds, AreUndecided, AreWaiting, ArePartlyDecided, left, budget_of, greatest_total};
+ghost use Rattle.deciding.specs.Working.{summed, CanDecide, AreOfSites, IsSummed, IsWithinRange, IsAnswered, AddsBounds, AreUndecided, AreWaiting, ArePartlyDecided, left, budget_of, greatest_total};
 
 use crate::Bounds;
 use crate::rising::site_rises;
@@ -80,7 +80,25 @@ impl Bounds {
         Ok(())
     }
 
-    /// Sums the next site, if it is open, and lets it wait if its bounds tell its value.
+    /// Decides the site that was summed last if its bounds tell its value and no open site before it is beside it: then none has to
+    /// be told. Else it waits, if they tell it.
+    fn answer(&mut self, site: u32, beside: bool) -> Result<(), AllocError>
+        requires bounds { (site < length self.old.least.items) × (site < length self.old.greatest.items) }
+        requires choice { site < length self.old.choices.items }
+        ensures { OnOk result (IsAnswered site beside self.old self.new) }
+    {
+        if beside {
+            return self.call_up(site);
+        }
+        if !self.can_decide(site as usize) {
+            return Ok(());
+        }
+        let value = self.told_value(site as usize);
+        self.mark(site as usize, value);
+        Ok(())
+    }
+
+    /// Sums the next site, if it is open, and decides it or lets it wait if its bounds tell its value.
     fn sum_site<F: Fn(u32, u32) -> i64 + Sync, V: Fn(u32, u32) -> i64 + Sync>(
         &mut self,
         problem: &Problem<F, V>,
@@ -102,7 +120,8 @@ impl Bounds {
         requires range { IsWithinRange
             (budget_of (left ends.now (length at.now) self.old.choices.items)) self.old }
         requires waiting { AreWaiting site self.old }
-        ensures same { self.new.choices ≡ self.old.choices }
+        ensures left { OnOk result (left ends.now (length at.now) self.new.choices.items ≤
+            left ends.now (length at.now) self.old.choices.items) }
         ensures summed { OnOk result (summed self.new ≡ site + 1) }
         ensures sized { OnOk result (IsSummed (length at.now) self.new) }
         ensures range { OnOk result (IsWithinRange
@@ -118,7 +137,7 @@ impl Bounds {
         }
         let rises = site_rises(problem, ends, table, &self.choices, at, change, site);
         self.add_bounds(rises.least, rises.greatest)?;
-        self.call_up(site)
+        self.answer(site, rises.beside)
     }
 
     /// Sums the sites one after another. Each whose bounds tell its value is decided at once, and so are those whose values

@@ -1,12 +1,12 @@
-use Rattle.std.proofs.Common.{◌≡◌, ◌<◌, ◌≤◌, ◌*◌, ◌∙◌, ℕ, ap, sym, subst, length, arith}
+use Rattle.std.proofs.Common.{◌≡◌, ◌<◌, ◌≤◌, ◌*◌, ◌∙◌, ℕ, sym, subst, length, arith}
 use Rattle.std.proofs.lemmas.Result.{err_from_is_err_and}
 use Rattle.labellings.specs.Energies.{labelling}
-use Rattle.deciding.specs.Working.{AreWaiting, ArePartlyDecided, IsWithinRange, left, budget_of}
+use Rattle.deciding.specs.Working.{AreWaiting, ArePartlyDecided, left, budget_of}
 use Rattle.move_energy.proofs.Parts.{starts_rise, starts_within}
 use Rattle.move_energy.proofs.PairEnds.{ends_len}
 use Rattle.deciding.proofs.Left.{left_most}
 use Rattle.deciding.proofs.Places.{none_waits}
-use Rattle.deciding.proofs.Ranges.{empty_list, empty_range, total_none}
+use Rattle.deciding.proofs.Ranges.{empty_list, empty_range, range_wider, total_none}
 use Rattle.deciding.proofs.Whole.{partly_first}
 use Rattle.deciding.proofs.bounds.Bounds.decide_sites.Goals as goal
 
@@ -53,16 +53,15 @@ settle_all-requires-clause-sized g c = λ κs lives. c.in_ok-sum_site.ensures.si
 
 pub settle_all-requires-clause-left : goal.settle_all-requires-clause-left
 settle_all-requires-clause-left g c = λ κs lives.
-    let a = c.args in
-    let same = ap (λ (v : _). left a.ends.now (length a.at.now) v.items) c.in_ok-sum_site.ensures.same in
-    omega (arith, same, c.loop-site.invariant.few)
+    omega (arith, c.in_ok-sum_site.ensures.left, c.loop-site.invariant.few)
 
 pub settle_all-requires-clause-range : goal.settle_all-requires-clause-range
 settle_all-requires-clause-range g c = λ κs lives.
     let a = c.args in
-    let same = ap (λ (v : _). left a.ends.now (length a.at.now) v.items) c.in_ok-sum_site.ensures.same in
-    let R : ℕ → Type 0 = λ n. IsWithinRange (budget_of n) c.sum_site.new.self in
-    subst R (sym same) c.in_ok-sum_site.ensures.range
+    let was = left a.ends.now (length a.at.now) c.loop-site.self.choices.items in
+    let now = left a.ends.now (length a.at.now) c.sum_site.new.self.choices.items in
+    let few : now ≤ was = c.in_ok-sum_site.ensures.left in
+    range_wider (budget_of was) (budget_of now) c.sum_site.new.self (omega (arith, few)) c.in_ok-sum_site.ensures.range
 
 pub settle_all-requires-clause-waiting : goal.settle_all-requires-clause-waiting
 settle_all-requires-clause-waiting g c = λ κs lives.
@@ -84,8 +83,7 @@ loop-site-preserved g c =
       range = e.range;
       total = (let inside : c.loop-site.site < a.problem.now.pairs.sites = omega (arith, c.loop-site-test.true, c.requires.asked.sites) in
           let ordered = starts_rise a.problem.now.pairs a.ends.now c.loop-site.site c.requires.by_site inside in
-          let same = ap (λ (v : _). left a.ends.now (length a.at.now) v.items) one.same in
-          omega (arith, e.total, one.total, same, ordered, c.loop-site.invariant.total));
+          omega (arith, e.total, one.total, one.left, ordered, c.loop-site.invariant.total));
       decided = λ m answers.
           let D : ℕ → Type 0 = λ k. ArePartlyDecided m a.change (labelling a.at.now) k c.sum_site.new.self in
           let E : ℕ → Type 0 = λ k. ArePartlyDecided m a.change (labelling a.at.now) k c.settle_all.new.self in
