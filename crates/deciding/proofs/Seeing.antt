@@ -91,7 +91,7 @@ pair_rise-same m move f u x y pair unequal first second = elim (cases_eq pair.fi
   ]
 ]
 
-ends_not : (pair : Pair) (site other u : ℕ) → AreEnds pair site other → u ≢ site → u ≢ other
+pub ends_not : (pair : Pair) (site other u : ℕ) → AreEnds pair site other → u ≢ site → u ≢ other
     → (pair.first ≢ u) × (pair.second ≢ u)
 ends_not pair site other u (inl ends) ns off = ((λ same. ns (sym same ∙ ends.0)), λ same. off (sym same ∙ ends.1))
 ends_not pair site other u (inr ends) ns off = ((λ same. off (sym same ∙ ends.0)), λ same. ns (sym same ∙ ends.1))

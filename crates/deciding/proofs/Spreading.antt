@@ -153,7 +153,7 @@ all_seen m move f site value u x seen are none =
           (sym (set_other x site (pair_in m.pairs k).first value apart.0)) (sym (set_other x site (pair_in m.pairs k).second value apart.1))
     ])
 
-passes_of : (m : Instance) (move : Move) (f : ℕ → ℕ) (n site : ℕ) (value : Bool) (old : Bounds) → (decided : ArePartlyDecided m move f n old) → site < n
+pub passes_of : (m : Instance) (move : Move) (f : ℕ → ℕ) (n site : ℕ) (value : Bool) (old : Bounds) → (decided : ArePartlyDecided m move f n old) → site < n
     → choice_at old.choices.items site ≡ Open → TellsValue old site value → Passes (move_value m move f) decided.decisions site value
 passes_of m move f n site false old decided l opened tells = (let e = decided.least site l opened in let P : ℤ → Type 0 = λ z. pos 0 ≤ℤ z in subst P e tells)
 passes_of m move f n site true old decided l opened tells = (let e = decided.greatest site l opened in let P : ℤ → Type 0 = λ z. z <ℤ pos 0 in subst P e tells)

@@ -1,5 +1,5 @@
 -- What is kept while sites are decided.
-use Rattle.std.specs.Prelude.{◌≡◌, ◌≢◌, ◌⊎◌, ℕ, ◌+◌, ◌-◌, ◌*◌, ◌<◌, ◌≤◌, Bool, true, false, List, [], ◌∷◌, ◌++◌, length, slice_index_or, unsigned_abs, ℤ, pos, ◌+ℤ◌, ◌-ℤ◌, ◌≤ℤ◌, ◌<ℤ◌, Result, Ok, Err}
+use Rattle.std.specs.Prelude.{◌≡◌, ◌≢◌, ◌⊎◌, ℕ, ◌+◌, ◌-◌, ◌*◌, ◌<◌, ◌≤◌, Bool, true, false, List, [], ◌∷◌, ◌++◌, length, replicate, slice_index_or, unsigned_abs, ℤ, pos, ◌+ℤ◌, ◌-ℤ◌, ◌≤ℤ◌, ◌<ℤ◌, Result, Ok, Err}
 use Rattle.std.specs.List.{All, Contains, sum_by}
 use Rattle.sums.specs.Sums.{sum_below, counted}
 use Rattle.move_energy.specs.declared.by_site.Neighbours.{Neighbours}
@@ -11,7 +11,7 @@ use Rattle.move_energy.specs.declared.error.BuildError.{BuildError}
 use Rattle.move_energy.specs.Problems.{IsPrepareRefusal}
 use Rattle.move_energy.specs.declared.choice.Choice.{Choice}
 use Rattle.move_energy.specs.declared.choice.Choice.TheVariants.{Open}
-use Rattle.move_energy.specs.BySite.{degree}
+use Rattle.move_energy.specs.BySite.{degree, start_at, pair_beside}
 use Rattle.move_energy.specs.Choices.{bit_of, choice_at, is_open, AreAllOpen}
 use Rattle.move_energy.specs.Limits.{surplus_limit}
 use Rattle.deciding.specs.Limits.{bound_limit}
@@ -23,6 +23,16 @@ use Rattle.deciding.specs.declared.bounds.Bounds.{Bounds}
 abbrev pub AreEnds : Pair → ℕ → ℕ → Type 0
 AreEnds pair site other =
     ((pair.first ≡ site) × (pair.second ≡ other)) ⊎ ((pair.first ≡ other) × (pair.second ≡ site))
+
+-- the site is no end of the pair
+abbrev pub AvoidsSite : ℕ → Pair → Type 0
+AvoidsSite u pair = (pair.first ≢ u) × (pair.second ≢ u)
+
+-- no open site before this one has a pair with it
+abbrev pub HasNoneBefore : List Choice → Neighbours → ℕ → Type 0
+HasNoneBefore choices ends site =
+    (place u : ℕ) → start_at ends site ≤ place → place < start_at ends (site + 1) → u < site
+    → choice_at choices u ≡ Open → AvoidsSite u (pair_beside ends site place)
 
 -- the bound of a site
 abbrev pub bound_at : List ℤ → ℕ → ℤ
@@ -133,6 +143,17 @@ pub record AddsBounds (low high : ℤ) (old new : Bounds) : Type 0 where
   pub choices : new.choices ≡ old.choices
   pub waiting : new.waiting ≡ old.waiting
 
+-- the sites from one on, before another, are closed and have the bounds 0; the other one is open, if it is a site
+pub record PassesClosed (from to : ℕ) (old new : Bounds) : Type 0 where
+  pub on : from ≤ to
+  pub within : to ≤ length old.choices.items
+  pub closed : (u : ℕ) → from ≤ u → u < to → choice_at old.choices.items u ≢ Open
+  pub opened : to < length old.choices.items → choice_at old.choices.items to ≡ Open
+  pub least : new.least.items ≡ old.least.items ++ replicate (to - from) (pos 0)
+  pub greatest : new.greatest.items ≡ old.greatest.items ++ replicate (to - from) (pos 0)
+  pub choices : new.choices ≡ old.choices
+  pub waiting : new.waiting ≡ old.waiting
+
 -- the site has this value, and nothing else changes
 pub record IsMarked (site : ℕ) (value : Bool) (old new : Bounds) : Type 0 where
   pub count : length new.choices.items ≡ length old.choices.items
@@ -182,6 +203,13 @@ pub record CallsUp (site : ℕ) (old new : Bounds) : Type 0 where
   pub called : CanDecide old site → Contains new.waiting.items site
   pub sites : (n : ℕ) → site < n → All (λ u. u < n) old.waiting.items → All (λ u. u < n) new.waiting.items
   pub more : length new.waiting.items ≤ length old.waiting.items + 1
+
+-- a site waits if its bounds tell its value; or it has that value at once, where no open site before it is beside it
+abbrev pub IsAnswered : ℕ → Bool → Bounds → Bounds → Type 0
+IsAnswered site beside old new =
+    (CallsUp site old new × (new.choices ≡ old.choices) × (new.least ≡ old.least)
+    × (new.greatest ≡ old.greatest))
+    ⊎ ((value : Bool) × IsMarked site value old new × TellsValue old site value × (beside ≡ false))
 
 -- the choices stay, no bound grows by more than a surplus for each, nor all greatest ones together, and at most so
 -- many sites more wait

@@ -9,9 +9,10 @@ ghost use Rattle.cost_store.specs.Limits.{site_cost_limit, pair_cost_limit};
 ghost use Rattle.cost_store.specs.Posed.{IsPosed, IsAsked, Meant};
 ghost use Rattle.deciding.specs.Decisions.{rise};
 ghost use Rattle.deciding.specs.MoveValues.{move_value, pair_rise};
-ghost use Rattle.move_energy.specs.Choices.{bit_of};
+ghost use Rattle.move_energy.specs.declared.choice.Choice.TheVariants.{Open};
+ghost use Rattle.move_energy.specs.Choices.{bit_of, choice_at};
 ghost use Rattle.deciding.specs.Rising.{rises_at, table_labels, IsSized, IsTableOf};
-ghost use Rattle.deciding.specs.Working.{AreEnds, AreTurned, end_rise as end_rise_of, valued};
+ghost use Rattle.deciding.specs.Working.{AreEnds, AreTurned, AvoidsSite, HasNoneBefore, end_rise as end_rise_of, valued};
 
 use crate::costs::data_rise;
 use crate::table::{EndRises, RiseTable};
@@ -45,6 +46,14 @@ impl Turn {
 pub struct Rises {
     pub least: i64,
     pub greatest: i64,
+}
+
+/// The rises of a site, at least and at most, and whether an open site before it has a pair with it.
+#[derive(Clone, Copy)]
+pub struct SiteRises {
+    pub least: i64,
+    pub greatest: i64,
+    pub beside: bool,
 }
 
 /// The other end of a pair.
@@ -215,7 +224,28 @@ fn pair_rises<F: Fn(u32, u32) -> i64 + Sync, V: Fn(u32, u32) -> i64 + Sync>(
     table_rises(table, choices, at, site, pair)
 }
 
-/// By how much the energy rises where a site turns: its own cost's rise and those of its pairs.
+/// Whether the other end of a site's pair is before the site, and open.
+#[inline]
+fn meets_open(choices: &[Choice], site: u32, pair: Pair) -> bool
+    requires pair { IsPair (length choices.now) pair }
+    requires end { (pair.first ≡ site) ⊎ (pair.second ≡ site) }
+    ensures { result ≡ false → (u : ℕ) → u < site → choice_at choices.now u ≡ Open →
+        AvoidsSite u pair }
+{
+    let other = other_end(pair, site);
+    other < site && choices[other as usize].is_open()
+}
+
+/// Whether one of the two holds.
+#[inline]
+fn either(one: bool, other: bool) -> bool
+    ensures { result ≡ false → (one ≡ false) × (other ≡ false) }
+{
+    one || other
+}
+
+/// By how much the energy rises where a site turns: its own cost's rise and those of its pairs. And whether a site before it
+/// that is open has a pair with it.
 pub(crate) fn site_rises<F: Fn(u32, u32) -> i64 + Sync, V: Fn(u32, u32) -> i64 + Sync>(
     problem: &Problem<F, V>,
     ends: &Neighbours,
@@ -224,7 +254,7 @@ pub(crate) fn site_rises<F: Fn(u32, u32) -> i64 + Sync, V: Fn(u32, u32) -> i64 +
     at: &[u8],
     change: Move,
     site: u32,
-) -> Rises
+) -> SiteRises
     requires posed { IsPosed F.Fn V.Fn problem.now }
     requires asked { IsAsked problem.now at.now change }
     requires sized { IsSized problem.now.data_cost.labels table.now }
@@ -238,17 +268,24 @@ pub(crate) fn site_rises<F: Fn(u32, u32) -> i64 + Sync, V: Fn(u32, u32) -> i64 +
         (labelling at.now)) site (valued choices.now false)) }
     ensures range { (unsigned_abs result.least ≤ site_cost_limit + pair_cost_limit * degree ends.now site)
         × (unsigned_abs result.greatest ≤ site_cost_limit + pair_cost_limit * degree ends.now site) }
+    ensures alone { result.beside ≡ false → HasNoneBefore choices.now ends.now site }
 {
     let label = u32::from(at[site as usize]);
     let turn = Turn::of(change, label);
     let own = data_rise(problem, change, site, label);
     let mut least = own;
     let mut greatest = own;
+    let mut beside = false;
     for place in ends.starts[site as usize]..ends.starts[site as usize + 1] {
         let pair = pair_beside(&problem.pairs, ends, site, place);
         let rises = pair_rises(problem, table, choices, at, change, site, turn, pair);
         least += rises.least;
         greatest += rises.greatest;
+        beside = either(beside, meets_open(choices, site, pair));
     }
-    Rises { least, greatest }
+    SiteRises {
+        least,
+        greatest,
+        beside,
+    }
 }

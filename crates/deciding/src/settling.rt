@@ -172,7 +172,7 @@ impl Bounds {
     }
 
     /// Gives a site its value.
-    fn mark(&mut self, site: usize, value: bool)
+    pub(crate) fn mark(&mut self, site: usize, value: bool)
         requires { site < length self.old.choices.items }
         ensures { IsMarked site value self.old self.new }
     {
@@ -223,7 +223,7 @@ impl Bounds {
     }
 
     /// The value that the bounds of a site tell: 0 where they tell both.
-    fn told_value(&self, site: usize) -> bool
+    pub(crate) fn told_value(&self, site: usize) -> bool
         requires site { (site < length self.now.least.items) × (site < length self.now.greatest.items) }
         requires told { CanDecide self.now site }
         ensures { TellsValue self.now site result }

@@ -1,5 +1,5 @@
 //! The sites of a move one after another: each is summed, and decided at once where its bounds tell its value.
-ghost use Rattle.std.specs.Prelude.{◌≡◌, ◌≢◌, ◌<◌, ◌≤◌, ◌*◌, ◌+◌, ◌↔◌, ◌++◌, ◌∷◌, [], ℕ, length, OnOk};
+ghost use Rattle.std.specs.Prelude.{◌≡◌, ◌≢◌, ◌<◌, ◌≤◌, ◌*◌, ◌+◌, ◌-◌, ◌↔◌, ◌++◌, ◌∷◌, [], ℕ, pos, replicate, length, OnOk, IfOk};
 ghost use Rattle.label_field.specs.Limits.{site_limit};
 ghost use Rattle.move_energy.specs.BySite.{AreBySite, degree};
 ghost use Rattle.move_energy.specs.Limits.{weights_limit};
@@ -9,7 +9,7 @@ ghost use Rattle.cost_store.specs.Posed.{IsPosed, IsAsked, Meant};
 ghost use Rattle.move_energy.specs.declared.choice.Choice.TheVariants.{Open, One};
 ghost use Rattle.move_energy.specs.Choices.{choice_at, Changes};
 ghost use Rattle.deciding.specs.Rising.{IsSized, IsTableOf};
-ghost use Rattle.deciding.specs.Working.{summed, CanDecide, AreOfSites, IsSummed, IsWithinRange, AddsBounds, AreUndecided, AreWaiting, ArePartlyDecided, left, budget_of, greatest_total};
+ghost use Rattle.deciding.specs.Working.{summed, CanDecide, AreOfSites, IsSummed, IsWithinRange, IsAnswered, AddsBounds, PassesClosed, AreUndecided, AreWaiting, ArePartlyDecided, left, budget_of, greatest_total};
 
 use crate::Bounds;
 use crate::rising::site_rises;
@@ -32,6 +32,42 @@ fn first_choice(change: Move, label: u32) -> Choice
     }
 }
 
+/// What is known of each site before anything is summed.
+fn choose_each(choices: &mut [Choice], at: &[u8], change: Move)
+    requires { length choices.old ≡ length at.now }
+    ensures opened { (p : ℕ) → p < length at.now →
+        (choice_at choices.new p ≡ Open ↔ Changes change (labelling at.now p)) }
+    ensures none { (p : ℕ) → p < length at.now → choice_at choices.new p ≢ One }
+{
+    for site in 0..at.len() {
+        choices[site] = first_choice(change, u32::from(at[site]));
+    }
+}
+
+/// The next open site from one on, or how many sites there are where none is.
+fn next_open(choices: &[Choice], from: usize) -> usize
+    requires { from ≤ length choices.now }
+    ensures within { (from ≤ result) × (result ≤ length choices.now) }
+    ensures closed { (u : ℕ) → from ≤ u → u < result → choice_at choices.now u ≢ Open }
+    ensures opened { result < length choices.now → choice_at choices.now result ≡ Open }
+{
+    let mut site = from;
+    while site < choices.len() && !choices[site].is_open() {
+        site += 1;
+    }
+    site
+}
+
+/// Fills a list up with 0, until it has so many numbers.
+fn fill_up(numbers: &mut Vec<i64>, count: usize) -> Result<(), AllocError>
+    requires { length numbers.old.items ≤ count }
+    ensures { OnOk result (numbers.new.items ≡ numbers.old.items
+        ++ replicate (count - length numbers.old.items) (pos 0)) }
+{
+    numbers.resize(count, 0)?;
+    Ok(())
+}
+
 impl Bounds {
     /// Makes room for so many sites, and forgets what was known.
     fn clear(&mut self, sites: usize) -> Result<(), AllocError>
@@ -39,7 +75,6 @@ impl Bounds {
             × (length self.new.greatest.items ≡ 0) × (length self.new.waiting.items ≡ 0)) }
     {
         self.choices.clear();
-        self.choices.reserve(sites)?;
         self.least.clear();
         self.least.reserve(sites)?;
         self.greatest.clear();
@@ -48,26 +83,26 @@ impl Bounds {
         Ok(())
     }
 
-    /// Adds what is known of the next site.
-    fn add_choice(&mut self, choice: Choice) -> Result<(), AllocError>
-        ensures choices { OnOk result (self.new.choices.items ≡ self.old.choices.items ++ choice ∷ []) }
-        ensures same { (self.new.least ≡ self.old.least) × (self.new.greatest ≡ self.old.greatest)
-            × (self.new.waiting ≡ self.old.waiting) }
-    {
-        self.choices.push(choice)?;
-        Ok(())
-    }
-
     /// Opens the sites that the move can change. The others are at 0, and none is summed.
     pub(crate) fn open_sites(&mut self, at: &[u8], change: Move) -> Result<(), AllocError>
         ensures undecided { OnOk result (AreUndecided change at.now self.new) }
     {
         self.clear(at.len())?;
-        for site in 0..at.len() {
-            let label = u32::from(at[site]);
-            self.add_choice(first_choice(change, label))?;
-        }
+        self.choices.resize(at.len(), Choice::Zero)?;
+        choose_each(self.choices.as_mut_slice(), at, change);
         Ok(())
+    }
+
+    /// Passes over the closed sites from one on: their bounds are 0. It answers which site is the next, or how many there are.
+    fn pass_closed(&mut self, from: usize) -> Result<usize, AllocError>
+        requires from { from ≤ length self.old.choices.items }
+        requires summed { (length self.old.least.items ≡ from) × (length self.old.greatest.items ≡ from) }
+        ensures { IfOk result (λ to. PassesClosed from to self.old self.new) }
+    {
+        let next = next_open(&self.choices, from);
+        fill_up(&mut self.least, next)?;
+        fill_up(&mut self.greatest, next)?;
+        Ok(next)
     }
 
     /// Adds the bounds of the next site.
@@ -80,7 +115,25 @@ impl Bounds {
         Ok(())
     }
 
-    /// Sums the next site, if it is open, and lets it wait if its bounds tell its value.
+    /// Decides the site that was summed last if its bounds tell its value and no open site before it is beside it: then none has to
+    /// be told. Else it waits, if they tell it.
+    fn answer(&mut self, site: u32, beside: bool) -> Result<(), AllocError>
+        requires bounds { (site < length self.old.least.items) × (site < length self.old.greatest.items) }
+        requires choice { site < length self.old.choices.items }
+        ensures { OnOk result (IsAnswered site beside self.old self.new) }
+    {
+        if beside {
+            return self.call_up(site);
+        }
+        if !self.can_decide(site as usize) {
+            return Ok(());
+        }
+        let value = self.told_value(site as usize);
+        self.mark(site as usize, value);
+        Ok(())
+    }
+
+    /// Sums the next site, which is open, and decides it or lets it wait if its bounds tell its value.
     fn sum_site<F: Fn(u32, u32) -> i64 + Sync, V: Fn(u32, u32) -> i64 + Sync>(
         &mut self,
         problem: &Problem<F, V>,
@@ -96,13 +149,15 @@ impl Bounds {
         requires labels { IsSized problem.now.data_cost.labels table.now }
         requires table { Meant F.Fn V.Fn problem.now (λ m. IsTableOf m change table.now) }
         requires site { (site < length at.now) × (summed self.old ≡ site) }
+        requires opened { choice_at self.old.choices.items site ≡ Open }
         requires sized { IsSummed (length at.now) self.old }
         requires left { left ends.now (length at.now) self.old.choices.items ≤ 2 * length
             problem.now.pairs.list }
         requires range { IsWithinRange
             (budget_of (left ends.now (length at.now) self.old.choices.items)) self.old }
         requires waiting { AreWaiting site self.old }
-        ensures same { self.new.choices ≡ self.old.choices }
+        ensures left { OnOk result (left ends.now (length at.now) self.new.choices.items ≤
+            left ends.now (length at.now) self.old.choices.items) }
         ensures summed { OnOk result (summed self.new ≡ site + 1) }
         ensures sized { OnOk result (IsSummed (length at.now) self.new) }
         ensures range { OnOk result (IsWithinRange
@@ -113,12 +168,9 @@ impl Bounds {
         ensures decided { OnOk result (Meant F.Fn V.Fn problem.now (λ m. ArePartlyDecided m change (labelling
             at.now) site self.old → ArePartlyDecided m change (labelling at.now) (site + 1) self.new)) }
     {
-        if !self.choices[site as usize].is_open() {
-            return self.add_bounds(0, 0);
-        }
         let rises = site_rises(problem, ends, table, &self.choices, at, change, site);
         self.add_bounds(rises.least, rises.greatest)?;
-        self.call_up(site)
+        self.answer(site, rises.beside)
     }
 
     /// Sums the sites one after another. Each whose bounds tell its value is decided at once, and so are those whose values
@@ -144,9 +196,15 @@ impl Bounds {
         ensures decided { OnOk result (Meant F.Fn V.Fn problem.now (λ m. ArePartlyDecided m change
             (labelling at.now) (length at.now) self.new)) }
     {
-        for site in 0..at.len() {
-            self.sum_site(problem, ends, table, at, change, site as u32)?;
+        let mut site = 0usize;
+        while site < at.len() {
+            let next = self.pass_closed(site)?;
+            if next == at.len() {
+                return Ok(());
+            }
+            self.sum_site(problem, ends, table, at, change, next as u32)?;
             self.settle_all(problem, ends, table, at, change)?;
+            site = next + 1;
         }
         Ok(())
     }

@@ -4,6 +4,5 @@ pub mod Marks
 pub mod Around
 pub mod Scanning
 pub mod Opens
-pub mod Listing
 pub mod Seen
 pub mod Noting

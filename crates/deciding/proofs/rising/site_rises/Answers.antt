@@ -1,8 +1,10 @@
-use Rattle.std.proofs.Common.{◌≡◌, ◌<◌, ◌≤◌, ◌+◌, ◌-◌, ◌∙◌, pos, ◌-ℤ◌, w64, to_z, true, false, ap, sym, arith}
-use Rattle.move_energy.specs.BySite.{degree, start_at}
+use Rattle.std.proofs.Common.{◌≡◌, ◌<◌, ◌≤◌, ◌+◌, ◌-◌, ◌∙◌, pos, ◌-ℤ◌, w64, to_z, true, false, ap, sym, subst, inl, inr, arith}
+use Rattle.std.proofs.lemmas.Bool.{cases_eq}
+use Rattle.label_field.specs.declared.pair.Pair.{Pair}
+use Rattle.move_energy.specs.BySite.{degree, start_at, pair_beside}
 use Rattle.labellings.specs.Energies.{labelling}
 use Rattle.labellings.specs.Moves.{label_in}
-use Rattle.deciding.specs.Working.{valued}
+use Rattle.deciding.specs.Working.{valued, AvoidsSite}
 use Rattle.deciding.proofs.Numbers.{passed_on, passed_range}
 use Rattle.deciding.proofs.SiteSums.{risen, risen_none, risen_more, risen_all, sum_fits, range_more, added_is}
 use Rattle.deciding.proofs.Left.{degree_most}
@@ -42,6 +44,7 @@ loop-place-init g c =
           risen_none m a.change (labelling a.at.now) a.ends.now a.site (valued a.choices.now false) _ _
           (passed_on own.result (omega (arith, own.ensures.range)) ∙ own.ensures.rise m answers
           ∙ ap (λ l. pos (m.data_cost a.site (label_in a.change l true)) -ℤ pos (m.data_cost a.site (label_in a.change l false))) c.from-label.ensures) start;
+      alone = λ none p u from before below opened. absurd (omega (arith, start, from, before));
     }
 
 pub overflow_add-least : goal.overflow_add-least
@@ -93,6 +96,14 @@ loop-place-preserved g c =
           risen_more m a.change (labelling a.at.now) a.ends.now a.site (valued a.choices.now false) c.loop-place.place c.pair_beside-pair.result (to_z w64 c.loop-place.greatest-bits) c.pair_rises-rises.result.greatest _ from
           (sym c.pair_beside-pair.ensures.value)
           (e.greatest m answers) high (i.greatest m answers);
+      alone = λ none p u lower before below opened.
+          let both = c.either-beside.ensures none in
+          elim (cases_eq p c.loop-place.place) [
+            | inl same ↦
+                let P : Pair → Type 0 = λ pair. AvoidsSite u pair in
+                subst P (c.pair_beside-pair.ensures.value ∙ ap (pair_beside a.ends.now a.site) (sym same)) (c.meets_open.ensures both.1 u below opened)
+            | inr other ↦ i.alone both.0 p u lower (omega (arith, before, other)) below opened
+          ];
     }
 
 pub returns-clause-least : goal.returns-clause-least
@@ -130,3 +141,13 @@ returns-clause-range g c =
     let last : c.loop-place.place - start_at a.ends.now a.site ≡ degree a.ends.now a.site =
     omega (arith, start, end, starts_rise a.problem.now.pairs a.ends.now a.site c.requires.by_site inside, c.loop-place.auto.place-end, c.loop-place-test.false) in
     (omega (arith, last, c.loop-place.invariant.least_small), omega (arith, last, c.loop-place.invariant.greatest_small))
+
+pub returns-clause-alone : goal.returns-clause-alone
+returns-clause-alone g c = λ none p u lower before below opened.
+    let a = c.args in
+    let inside : a.site < a.problem.now.pairs.sites = omega (arith, c.requires.site, c.requires.asked.sites) in
+    let end = start_read a.problem.now.pairs a.ends.now (a.site + 1) _ c.requires.by_site (omega (arith, inside)) c.index-place-end.ensures in
+    c.loop-place.invariant.alone none p u lower (omega (arith, end, before, c.loop-place-test.false)) below opened
+
+pub meets_open-requires-clause-end : goal.meets_open-requires-clause-end
+meets_open-requires-clause-end g c = c.pair_beside-pair.ensures.end

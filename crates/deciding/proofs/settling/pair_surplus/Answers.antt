@@ -1,4 +1,4 @@
-use Rattle.std.proofs.Common.{◌≤◌, ◌∙◌, unsigned_abs, arith}
+use Rattle.std.proofs.Common.{◌∙◌, arith}
 use Rattle.deciding.proofs.Numbers.{passed_on, passed_range}
 use Rattle.deciding.proofs.Tables.{table_surplus, surplus_small}
 use Rattle.deciding.proofs.settling.pair_surplus.Goals as goal

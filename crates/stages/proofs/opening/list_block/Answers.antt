@@ -1,5 +1,5 @@
 use Rattle.move_energy.specs.Choices.{open_at}
-use Rattle.stages.proofs.Listing.{skipped}
+use Rattle.deciding.proofs.Skipping.{skipped}
 use Rattle.stages.proofs.opening.list_block.Goals as goal
 
 pub returns-then-not-has_open : goal.returns-then-not-has_open

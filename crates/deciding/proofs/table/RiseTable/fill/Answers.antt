@@ -1,5 +1,4 @@
-use Rattle.std.proofs.Common.{◌≡◌, ◌<◌, ◌≤◌, ◌∙◌, ℕ, Bool, true, false, subst, arith}
-use Rattle.labellings.specs.Energies.{Instance}
+use Rattle.std.proofs.Common.{◌<◌, ◌∙◌, ℕ, Bool, true, false, subst, arith}
 use Rattle.deciding.specs.declared.table.EndRises.{EndRises}
 use Rattle.deciding.specs.Rising.{rises_at, AreRises, AreSmall}
 use Rattle.deciding.proofs.Tables.{rows_more}

@@ -1,4 +1,4 @@
-use Rattle.std.proofs.Common.{◌≡◌, ◌+◌, ◌*◌, ◌<◌, ◌≤◌, ℕ, cond, length, ◌∙◌, arith}
+use Rattle.std.proofs.Common.{◌≡◌, ◌+◌, ◌*◌, ◌<◌, ℕ, cond, length, ◌∙◌, arith}
 use Rattle.deciding.specs.declared.table.EndRises.{EndRises}
 use Rattle.deciding.specs.Rising.{AreRises, AreSmall}
 use Rattle.std.proofs.lemmas.List.{length-set}
