@@ -32,7 +32,7 @@ PARTS = [
     (
         "cutting by workers",
         (
-            "rounds", "block_", "laid_blocks", "discharge", "parcel", "global_relabel", "worker",
+            "rounds", "block_", "laid_blocks", "global_relabel", "worker",
             "rtrb",
         ),
     ),

@@ -4,16 +4,16 @@ use Rattle.std.proofs.lemmas.List.{map-set, same_lists, length-map, length-set, 
 use Rattle.std.proofs.lemmas.Bool.{cases_eq, eqb-true}
 use Rattle.sums.specs.Sums.{counted}
 use Rattle.sums.proofs.SumLemmas.{counted-le}
-use Rattle.parcel.specs.Soundness.{joins}
-use Rattle.parcel.specs.Directions.{forward, backward}
-use Rattle.parcel.specs.States.{near_block, far_block}
+use Rattle.block_events.specs.Soundness.{joins}
+use Rattle.block_events.specs.Directions.{forward, backward}
+use Rattle.block_events.specs.States.{near_block, far_block}
 use Rattle.flow_network.specs.Cut.{Network, IsNet}
-use Rattle.parcel.specs.declared.message.Message.{Message}
-use Rattle.parcel.specs.Soundness.{opened}
-use Rattle.parcel.proofs.Opening.{map_at, opened_sound}
+use Rattle.block_events.specs.declared.message.Message.{Message}
+use Rattle.block_events.specs.Soundness.{opened}
+use Rattle.block_events.proofs.Opening.{map_at, opened_sound}
 use Rattle.block_net.specs.Split.{CanSplit}
 use Rattle.block_core.specs.Mails.{room_at, IsHeld}
-use Rattle.parcel.specs.Effects.{BlocksView, state_of}
+use Rattle.block_events.specs.Effects.{BlocksView, state_of}
 use Rattle.laid_blocks.specs.Views.{first_of}
 use Rattle.block_core.specs.Counting.{put_room, IsSquareOf, joined, IsCounted}
 

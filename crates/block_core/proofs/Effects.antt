@@ -2,21 +2,21 @@
 use Rattle.std.proofs.Common.{◌≡◌, ℕ, ◌<◌, ◌≤◌, min, not, true, List, [], ◌∷◌, ◌++◌, length, slice_index, refl, sym, ◌∙◌, ap, arith}
 use Rattle.std.proofs.lemmas.List.{length_push}
 use Rattle.std.proofs.lemmas.Bool.{eq-eqb, false≢true}
-use Rattle.parcel.specs.declared.lane.Lane.{Lane}
-use Rattle.parcel.specs.declared.direction.Direction.{Direction}
-use Rattle.parcel.specs.declared.message.Message.{Message}
-use Rattle.parcel.specs.declared.message.Message.TheVariants.{Parcel}
-use Rattle.parcel.specs.declared.event.Event.{Event}
-use Rattle.parcel.specs.declared.event.Event.TheVariants.{PushInner, Send}
-use Rattle.parcel.specs.Directions.{near, far}
-use Rattle.parcel.specs.States as core
-use Rattle.parcel.specs.Events.{Enabled, effect}
-use Rattle.parcel.specs.Soundness.{IsSquare}
-use Rattle.parcel.proofs.Ends.{near_block_in, far_block_in}
-use Rattle.parcel.proofs.Fitting.{way_fits}
-use Rattle.parcel.proofs.Kept.{effect_kept}
-use Rattle.parcel.proofs.Ways.{way_same}
-use Rattle.parcel.specs.Effects.{BlocksView, state_of, pushed, sent}
+use Rattle.block_events.specs.declared.lane.Lane.{Lane}
+use Rattle.block_events.specs.declared.direction.Direction.{Direction}
+use Rattle.block_events.specs.declared.message.Message.{Message}
+use Rattle.block_events.specs.declared.message.Message.TheVariants.{Parcel}
+use Rattle.block_events.specs.declared.event.Event.{Event}
+use Rattle.block_events.specs.declared.event.Event.TheVariants.{PushInner, Send}
+use Rattle.block_events.specs.Directions.{near, far}
+use Rattle.block_events.specs.States as core
+use Rattle.block_events.specs.Events.{Enabled, effect}
+use Rattle.block_events.specs.Soundness.{IsSquare}
+use Rattle.block_events.proofs.Ends.{near_block_in, far_block_in}
+use Rattle.block_events.proofs.Fitting.{way_fits}
+use Rattle.block_events.proofs.Kept.{effect_kept}
+use Rattle.block_events.proofs.Ways.{way_same}
+use Rattle.block_events.specs.Effects.{BlocksView, state_of, pushed, sent}
 use Rattle.block_core.specs.Mails.{IsHeld, room_at}
 use Rattle.block_core.proofs.Keeping.{effect_net}
 

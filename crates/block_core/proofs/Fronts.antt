@@ -2,19 +2,19 @@
 use Rattle.std.proofs.Common.{◌≡◌, ℕ, ◌+◌, ◌<◌, ◌^◌, ◌≤◌, List, ◌∷◌, length, slice_index, sym, ◌∙◌, ap, subst, arith}
 use Rattle.flow_network.specs.Progress.{top}
 use Rattle.flow_network.specs.Preflow.{arc_at}
-use Rattle.parcel.specs.declared.direction.Direction.{Direction}
-use Rattle.parcel.specs.declared.message.Message.{Message}
-use Rattle.parcel.specs.declared.message.Message.TheVariants.{Parcel, Accepted, Refused}
-use Rattle.parcel.specs.declared.event.Event.TheVariants.{Accept, Refuse, Settle}
-use Rattle.parcel.specs.Directions.{far, opposite}
-use Rattle.parcel.specs.States as core
-use Rattle.parcel.specs.Events as events
-use Rattle.parcel.specs.Soundness.{IsOut, amount_out}
-use Rattle.parcel.proofs.Ends.{far_in}
-use Rattle.parcel.proofs.Owning.{accept_fits}
-use Rattle.parcel.proofs.Replies.{front_out}
-use Rattle.parcel.proofs.Ways.{square_put}
-use Rattle.parcel.specs.Effects.{BlocksView, state_of, accepted, settled, returned}
+use Rattle.block_events.specs.declared.direction.Direction.{Direction}
+use Rattle.block_events.specs.declared.message.Message.{Message}
+use Rattle.block_events.specs.declared.message.Message.TheVariants.{Parcel, Accepted, Refused}
+use Rattle.block_events.specs.declared.event.Event.TheVariants.{Accept, Refuse, Settle}
+use Rattle.block_events.specs.Directions.{far, opposite}
+use Rattle.block_events.specs.States as core
+use Rattle.block_events.specs.Events as events
+use Rattle.block_events.specs.Soundness.{IsOut, amount_out}
+use Rattle.block_events.proofs.Ends.{far_in}
+use Rattle.block_events.proofs.Owning.{accept_fits}
+use Rattle.block_events.proofs.Replies.{front_out}
+use Rattle.block_events.proofs.Ways.{square_put}
+use Rattle.block_events.specs.Effects.{BlocksView, state_of, accepted, settled, returned}
 use Rattle.block_core.specs.Mails.{IsHeld, room_at}
 use Rattle.block_core.proofs.Effects.{room_after, border_apart}
 

@@ -1,12 +1,12 @@
 -- What an event leaves is held again.
 use Rattle.std.proofs.Common.{◌≡◌, ◌≤◌, ℕ, List, length, [], ◌∷◌, refl, sym, subst, arith}
-use Rattle.parcel.specs.declared.message.Message.{Message}
-use Rattle.parcel.specs.declared.message.Message.TheVariants.{Parcel, Accepted, Refused}
-use Rattle.parcel.specs.declared.event.Event.{Event}
-use Rattle.parcel.specs.declared.event.Event.TheVariants.{PushInner, PushSink, Relabel, Send, Accept, Refuse, Settle, RaiseAll}
-use Rattle.parcel.specs.States.{State, way_at}
-use Rattle.parcel.specs.Events.{Enabled, effect, accepted, refused, settled}
-use Rattle.parcel.proofs.Kept.{effect_kept}
+use Rattle.block_events.specs.declared.message.Message.{Message}
+use Rattle.block_events.specs.declared.message.Message.TheVariants.{Parcel, Accepted, Refused}
+use Rattle.block_events.specs.declared.event.Event.{Event}
+use Rattle.block_events.specs.declared.event.Event.TheVariants.{PushInner, PushSink, Relabel, Send, Accept, Refuse, Settle, RaiseAll}
+use Rattle.block_events.specs.States.{State, way_at}
+use Rattle.block_events.specs.Events.{Enabled, effect, accepted, refused, settled}
+use Rattle.block_events.proofs.Kept.{effect_kept}
 use Rattle.block_net.specs.Limits.{arc_limit}
 use Rattle.block_core.specs.Mails.{HasRooms, IsHeld}
 

@@ -1,14 +1,14 @@
 -- What raising the labels of the blocks leaves is the effect of raising all labels.
 use Rattle.std.proofs.Common.{◌≡◌, ℕ, zero, suc, List, inl, inr, refl, sym, ap, subst}
-use Rattle.parcel.specs.declared.message.Message.{Message}
-use Rattle.parcel.specs.declared.event.Event.TheVariants.{RaiseAll}
-use Rattle.parcel.specs.Reach.{ReachesIn, IsExact, AreExact}
-use Rattle.parcel.specs.States as core
-use Rattle.parcel.specs.Events.{IsQuiet, Happens, raised}
-use Rattle.parcel.proofs.Kept.{kept}
-use Rattle.parcel.specs.Effects.{BlocksView, state_of}
+use Rattle.block_events.specs.declared.message.Message.{Message}
+use Rattle.block_events.specs.declared.event.Event.TheVariants.{RaiseAll}
+use Rattle.block_events.specs.Reach.{ReachesIn, IsExact, AreExact}
+use Rattle.block_events.specs.States as core
+use Rattle.block_events.specs.Events.{IsQuiet, Happens, raised}
+use Rattle.block_events.proofs.Kept.{kept}
+use Rattle.block_events.specs.Effects.{BlocksView, state_of}
 use Rattle.block_core.specs.Mails.{IsHeld}
-use Rattle.parcel.specs.Effects.{told}
+use Rattle.block_events.specs.Effects.{told}
 use Rattle.laid_blocks.specs.Raising.{bare}
 
 module _ (b : BlocksView) (ways : List (List (List Message))) (got : ℕ) where

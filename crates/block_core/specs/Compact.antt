@@ -1,8 +1,8 @@
 -- A message from what a way keeps of it.
 use Rattle.std.specs.Prelude.{ℕ}
-use Rattle.parcel.specs.declared.direction.Direction.{Direction}
-use Rattle.parcel.specs.declared.message.Message.{Message}
-use Rattle.parcel.specs.declared.message.Message.TheVariants.{Parcel, Accepted, Refused}
+use Rattle.block_events.specs.declared.direction.Direction.{Direction}
+use Rattle.block_events.specs.declared.message.Message.{Message}
+use Rattle.block_events.specs.declared.message.Message.TheVariants.{Parcel, Accepted, Refused}
 use Rattle.block_core.specs.declared.compact.Kind.{Kind}
 use Rattle.block_core.specs.declared.compact.Kind.TheVariants.{Offer, Taken, Returned}
 

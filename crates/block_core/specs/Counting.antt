@@ -1,10 +1,10 @@
 -- Rooms on the ways, counted over the arcs.
 use Rattle.std.specs.Prelude.{◌≡◌, ℕ, ◌+◌, ◌<◌, ◌≤◌, List, [], length, slice_index_or, slice_set}
 use Rattle.sums.specs.Sums.{sum_below, counted}
-use Rattle.parcel.specs.Directions.{forward, backward}
-use Rattle.parcel.specs.Soundness.{joins}
+use Rattle.block_events.specs.Directions.{forward, backward}
+use Rattle.block_events.specs.Soundness.{joins}
 use Rattle.block_core.specs.Mails.{room_at}
-use Rattle.parcel.specs.Effects.{BlocksView}
+use Rattle.block_events.specs.Effects.{BlocksView}
 
 abbrev pub put_room : List (List ℕ) → ℕ → ℕ → ℕ → List (List ℕ)
 put_room rooms b c y = slice_set rooms b (slice_set (slice_index_or rooms b []) c y)

@@ -1,9 +1,9 @@
 -- The ways between blocks, and for how many messages each has room.
 use Rattle.std.specs.Prelude.{ℕ, ◌≡◌, ◌<◌, ◌≤◌, List, [], length, slice_index, slice_index_or}
 use Rattle.flow_network.specs.Cut.{Network}
-use Rattle.parcel.specs.declared.message.Message.{Message}
-use Rattle.parcel.specs.States.{State}
-use Rattle.parcel.specs.Soundness.{IsSound, room_between}
+use Rattle.block_events.specs.declared.message.Message.{Message}
+use Rattle.block_events.specs.States.{State}
+use Rattle.block_events.specs.Soundness.{IsSound, room_between}
 use Rattle.block_net.specs.Limits.{arc_limit, block_limit}
 
 pub record MailView : Type 0 where

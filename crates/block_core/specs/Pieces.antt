@@ -2,10 +2,10 @@
 use Rattle.std.specs.Prelude.{ℕ, ◌-◌, ◌==◌, slice_index}
 use Rattle.sums.specs.Sums.{sum_below, counted}
 use Rattle.flow_network.specs.Cut.{nodes}
-use Rattle.parcel.specs.States as core
+use Rattle.block_events.specs.States as core
 use Rattle.block_net.specs.Whole.{Whole, home, whole_of}
 use Rattle.block_core.specs.declared.pieces.Pieces.{Pieces}
-use Rattle.parcel.specs.Effects.{state_of}
+use Rattle.block_events.specs.Effects.{state_of}
 use Rattle.laid_blocks.specs.Views.{blocks_in}
 
 -- the state that the pieces make

@@ -1,11 +1,11 @@
 ghost use Rattle.std.specs.Prelude.{◌≡◌, ◌≤◌, IfOk, OnOk, OnErr};
-ghost use Rattle.parcel.specs.Events.{Enabled, Happens};
-ghost use Rattle.parcel.specs.Soundness.{opened};
+ghost use Rattle.block_events.specs.Events.{Enabled, Happens};
+ghost use Rattle.block_events.specs.Soundness.{opened};
 ghost use Rattle.block_net.specs.Split.{CanSplit};
 
 use crate::state::State;
+use block_events::Event;
 use flow_network::Net;
-use parcel::Event;
 use std::alloc::{AllocError, Global};
 use std::marker::Model;
 use thiserror::Error;
@@ -25,7 +25,7 @@ pub struct Core {
 }
 
 impl Model for Core {
-    ghost use Rattle.parcel.specs.States as core;
+    ghost use Rattle.block_events.specs.States as core;
 
     ghost Value = { core.State };
 

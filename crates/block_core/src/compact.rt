@@ -1,8 +1,8 @@
 ghost use Rattle.std.specs.Prelude.{◌≡◌, ◌<◌, ◌^◌};
-ghost use Rattle.parcel.specs.Soundness.{direction_of};
+ghost use Rattle.block_events.specs.Soundness.{direction_of};
 ghost use Rattle.block_core.specs.Compact.{message_of};
 
-use parcel::{Direction, Message};
+use block_events::{Direction, Message};
 use std::marker::Model;
 
 /// What a message says of an amount.
@@ -30,7 +30,7 @@ pub struct CompactMessage {
 const _: () = prove!(size_of::<CompactMessage>() == 24);
 
 impl Model for CompactMessage {
-    ghost use Rattle.parcel.specs.declared.message.Message.{Message};
+    ghost use Rattle.block_events.specs.declared.message.Message.{Message};
 
     ghost Value = { Message };
 

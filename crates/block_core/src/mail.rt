@@ -2,13 +2,13 @@ ghost use Rattle.std.specs.Prelude.{IfOk, map, ◌≡◌, ◌↔◌, ◌^◌, �
 ghost use Rattle.std.specs.Prelude.{Some, length, slice_get, slice_index, slice_index_or, [], ◌∷◌};
 ghost use Rattle.std.specs.Prelude.{drop};
 ghost use Rattle.std.specs.VecDeque.{deque_capacity};
-ghost use Rattle.parcel.specs.States.{way_at, put_way, put_message};
-ghost use Rattle.parcel.specs.Soundness.{IsSquare, direction_of};
+ghost use Rattle.block_events.specs.States.{way_at, put_way, put_message};
+ghost use Rattle.block_events.specs.Soundness.{IsSquare, direction_of};
 ghost use Rattle.block_core.specs.Mails.{MailView, room_at};
 
 use crate::compact::CompactMessage;
 use crate::rooms::Rooms;
-use parcel::Message;
+use block_events::Message;
 use std::alloc::{AllocError, Global};
 use std::collections::VecDeque;
 use std::marker::Model;

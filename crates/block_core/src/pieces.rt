@@ -1,6 +1,6 @@
 ghost use Rattle.std.specs.Prelude.{◌≡◌, ◌+◌, ◌<◌, ◌≤◌, ℕ, length, slice_index, sum};
 ghost use Rattle.flow_network.specs.Cut.{nodes};
-ghost use Rattle.parcel.specs.States.{room_of};
+ghost use Rattle.block_events.specs.States.{room_of};
 ghost use Rattle.laid_blocks.specs.Views.{blocks_in, IsLaid};
 ghost use Rattle.block_core.specs.Mails.{IsHeld};
 ghost use Rattle.block_net.specs.Whole.{whole_of};

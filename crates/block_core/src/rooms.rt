@@ -1,12 +1,12 @@
 ghost use Rattle.std.specs.Prelude.{◌≡◌, ◌+◌, ◌<◌, ◌≤◌, IfOk, OnOk, length, replicate, slice_index_or, []};
 ghost use Rattle.flow_network.specs.Cut.{nodes};
-ghost use Rattle.parcel.specs.States.{block_of};
+ghost use Rattle.block_events.specs.States.{block_of};
 ghost use Rattle.block_net.specs.Split.{homes_made};
 ghost use Rattle.block_core.specs.Mails.{room_at};
 ghost use Rattle.block_core.specs.Counting.{put_room, IsCounted};
 
+use block_events::Direction;
 use laid_blocks::Blocks;
-use parcel::Direction;
 use std::alloc::{AllocError, Global};
 use std::marker::Model;
 

@@ -1,13 +1,13 @@
 ghost use Rattle.std.specs.Prelude.{IfOk, length, slice_get, Some, IfSome, IfNone, [], ◌∷◌, drop};
 ghost use Rattle.std.specs.Prelude.{◌≡◌, ◌↔◌, ◌<◌, ◌≤◌, ◌+◌, ℕ, IsTrue, MatchBool};
 ghost use Rattle.flow_network.specs.Cut.{nodes, IsNet};
-ghost use Rattle.parcel.specs.declared.message.Message.TheVariants.{Parcel, Accepted, Refused};
-ghost use Rattle.parcel.specs.Directions.{IsDirection, far};
-ghost use Rattle.parcel.specs.States.{IsWay, way_at, excess_of, label_of, room_of, residual_of};
-ghost use Rattle.parcel.specs.States.{known_of, flight_of};
-ghost use Rattle.parcel.specs.Reach.{AreExact};
-ghost use Rattle.parcel.specs.Soundness.{IsSound, opened};
-ghost use Rattle.parcel.specs.Events.{Happens, IsActive, IsQuiet, Enabled, effect};
+ghost use Rattle.block_events.specs.declared.message.Message.TheVariants.{Parcel, Accepted, Refused};
+ghost use Rattle.block_events.specs.Directions.{IsDirection, far};
+ghost use Rattle.block_events.specs.States.{IsWay, way_at, excess_of, label_of, room_of, residual_of};
+ghost use Rattle.block_events.specs.States.{known_of, flight_of};
+ghost use Rattle.block_events.specs.Reach.{AreExact};
+ghost use Rattle.block_events.specs.Soundness.{IsSound, opened};
+ghost use Rattle.block_events.specs.Events.{Happens, IsActive, IsQuiet, Enabled, effect};
 ghost use Rattle.block_net.specs.Limits.{block_limit};
 ghost use Rattle.block_net.specs.Split.{CanSplit};
 ghost use Rattle.laid_blocks.specs.Views.{IsLaid};
@@ -19,10 +19,10 @@ ghost use Rattle.block_core.specs.Pieces.{state_in};
 use crate::mail::Mail;
 use crate::pieces::Pieces;
 use crate::rooms::Rooms;
+use block_events::{Direction, Event, Flight, Message};
 use block_net::Parts;
 use flow_network::Net;
 use laid_blocks::{Blocks, copy_of};
-use parcel::{Direction, Event, Flight, Message};
 use std::alloc::{AllocError, Global};
 use std::marker::Model;
 
@@ -35,8 +35,8 @@ pub struct State {
 }
 
 impl Model for State {
-    ghost use Rattle.parcel.specs.States as core;
-    ghost use Rattle.parcel.specs.Effects.{state_of};
+    ghost use Rattle.block_events.specs.States as core;
+    ghost use Rattle.block_events.specs.Effects.{state_of};
     ghost use Rattle.block_core.specs.Mails.{IsHeld};
 
     ghost Value = { core.State };
@@ -196,9 +196,9 @@ impl State {
         self.got
     }
 
-    ghost use Rattle.parcel.specs.declared.event.Event.TheVariants.{PushInner, PushSink, Relabel};
-    ghost use Rattle.parcel.specs.declared.event.Event.TheVariants.{Send, Accept, Refuse, Settle};
-    ghost use Rattle.parcel.specs.declared.event.Event.TheVariants.{RaiseAll};
+    ghost use Rattle.block_events.specs.declared.event.Event.TheVariants.{PushInner, PushSink, Relabel};
+    ghost use Rattle.block_events.specs.declared.event.Event.TheVariants.{Send, Accept, Refuse, Settle};
+    ghost use Rattle.block_events.specs.declared.event.Event.TheVariants.{RaiseAll};
 
     /// Whether a node has excess and is not cut off.
     fn is_active(&self, v: usize) -> bool

@@ -2,25 +2,25 @@
 use Rattle.std.proofs.Common.{◌≡◌, ℕ, ◌+◌, ◌-◌, ◌<◌, true, min, None, List, length, set, slice_index, refl, sym, ◌∙◌, ap, inl, inr, arith}
 use Rattle.std.proofs.lemmas.List.{length-set, get_or_past}
 use Rattle.std.proofs.lemmas.Bool.{cases_lt}
-use Rattle.parcel.specs.declared.lane.Lane.{Lane}
-use Rattle.parcel.specs.declared.direction.Direction.{Direction}
-use Rattle.parcel.specs.declared.message.Message.TheVariants.{Parcel}
-use Rattle.parcel.specs.declared.event.Event.TheVariants.{PushInner, PushSink, Relabel, Send}
-use Rattle.parcel.specs.Directions.{near, far}
-use Rattle.parcel.specs.States as core
-use Rattle.parcel.specs.Events as events
-use Rattle.parcel.proofs.Ends.{far_in}
+use Rattle.block_events.specs.declared.lane.Lane.{Lane}
+use Rattle.block_events.specs.declared.direction.Direction.{Direction}
+use Rattle.block_events.specs.declared.message.Message.TheVariants.{Parcel}
+use Rattle.block_events.specs.declared.event.Event.TheVariants.{PushInner, PushSink, Relabel, Send}
+use Rattle.block_events.specs.Directions.{near, far}
+use Rattle.block_events.specs.States as core
+use Rattle.block_events.specs.Events as events
+use Rattle.block_events.proofs.Ends.{far_in}
 use Rattle.block_net.specs.declared.lanes.Border.{Border}
 use Rattle.block_net.specs.Views as block
 use Rattle.block_net.specs.Views.{CellsView, count, excess_in, label_in, room_in, lane_in, border_in, parcel_of, highest}
 use Rattle.block_net.specs.Whole.{Whole, block_at, home, slot, put_block, border_of}
-use Rattle.parcel.specs.Effects.{BlocksView, state_of, given, labelled}
+use Rattle.block_events.specs.Effects.{BlocksView, state_of, given, labelled}
 use Rattle.laid_blocks.specs.Views.{IsRow}
 use Rattle.laid_blocks.proofs.Allowing.{highest_is}
 use Rattle.block_core.proofs.Effects.{pushed_is, sent_is}
 use Rattle.laid_blocks.proofs.Steps.{IsAt, excess_read, label_read, room_read, inner_read, border_read, far_spot, back_row, gave_at, labelled_at, pushed_at, sent_at}
-use Rattle.discharge.specs.Steps as steps
-use Rattle.discharge.specs.Steps.{Held, after}
+use Rattle.block_turns.specs.Steps as steps
+use Rattle.block_turns.specs.Steps.{Held, after}
 use Rattle.block_cut.specs.Seats.{IsSeated, logs_of}
 use Rattle.block_cut.proofs.Logs.{sent_log}
 use Rattle.block_cut.proofs.Seated.{view_with, at_seat, node_seat, Goes, view_after, seat_after, active_is, lane_found, border_found}

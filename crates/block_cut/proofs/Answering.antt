@@ -7,11 +7,11 @@ use Rattle.flow_network.specs.Answer.{flow_of, side_of, IsRightCut}
 use Rattle.flow_network.specs.Preflow.{Flow, IsCertified}
 use Rattle.flow_network.specs.Limits.{capacity_limit}
 use Rattle.flow_network.specs.Progress.{top}
-use Rattle.parcel.specs.States.{State}
-use Rattle.parcel.specs.Reach.{AreExact}
-use Rattle.parcel.specs.Flows.{shown_flow}
-use Rattle.parcel.specs.Soundness.{IsSound, IsFinished}
-use Rattle.parcel.proofs.Finishing.{quiet_preflow, quiet_gets, finished_smallest, finished_full}
+use Rattle.block_events.specs.States.{State}
+use Rattle.block_events.specs.Reach.{AreExact}
+use Rattle.block_events.specs.Flows.{shown_flow}
+use Rattle.block_events.specs.Soundness.{IsSound, IsFinished}
+use Rattle.block_events.proofs.Finishing.{quiet_preflow, quiet_gets, finished_smallest, finished_full}
 use Rattle.global_relabel.proofs.Bridge.{reach_of}
 
 -- the answer has the flow that the state shows, the nodes whose exact label is below the top one, and what the

@@ -2,9 +2,9 @@
 -- block is the same.
 use Rattle.std.proofs.Common.{◌≡◌, ℕ, ◌-◌, ◌*◌, ◌/◌, ◌<◌, cond, List, length, slice_index, sym, ◌∙◌, ap}
 use Rattle.flow_network.specs.Cut.{nodes}
-use Rattle.parcel.specs.declared.direction.Direction.{Direction}
-use Rattle.parcel.specs.Directions.{near}
-use Rattle.parcel.specs.States as core
+use Rattle.block_events.specs.declared.direction.Direction.{Direction}
+use Rattle.block_events.specs.Directions.{near}
+use Rattle.block_events.specs.States as core
 use Rattle.block_net.specs.declared.lanes.InnerLane.{InnerLane}
 use Rattle.block_net.specs.declared.lanes.Border.{Border}
 use Rattle.block_net.specs.Views.{CellsView, lane_in, border_in}

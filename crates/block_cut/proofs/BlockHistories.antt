@@ -1,7 +1,7 @@
 -- Steps, one after another, are a history.
 use Rattle.std.proofs.Common.{ℕ, List, [], ◌∷◌, length, refl, sym, ap, subst, arith}
 use Rattle.block_net.specs.Whole.{Whole}
-use Rattle.discharge.specs.Steps.{Step, Push, Give, Rise, Send, Accept, Refuse, Settle, Held, Enabled, after, Run, DoesMany}
+use Rattle.block_turns.specs.Steps.{Step, Push, Give, Rise, Send, Accept, Refuse, Settle, Held, Enabled, after, Run, DoesMany}
 use Rattle.block_cut.specs.Seats.{IsSeated, shown_by}
 use Rattle.block_cut.specs.TurnEvents.{IsLed}
 use Rattle.block_cut.proofs.Seated.{Goes}

@@ -5,11 +5,11 @@ use Rattle.std.proofs.lemmas.List.Elements.{All-get_or}
 use Rattle.sums.specs.Sums.{sum_below, counted}
 use Rattle.sums.proofs.SumLemmas.{sum_below-same, sum_below-swap, sum_below-pick, sum_below-counted, sum_by-sum_below, counted-other, counted-true, counted-zero}
 use Rattle.flow_network.specs.Cut.{nodes}
-use Rattle.parcel.specs.Soundness.{IsSound}
+use Rattle.block_events.specs.Soundness.{IsSound}
 use Rattle.block_net.specs.Views.{CellsView, count}
 use Rattle.block_net.specs.Whole.{Whole, no_block, block_at, block_with, home, place}
 use Rattle.block_net.proofs.Tables.{length_table, table_at}
-use Rattle.parcel.specs.Effects.{state_of}
+use Rattle.block_events.specs.Effects.{state_of}
 use Rattle.laid_blocks.specs.Views.{IsLaid, blocks_in}
 use Rattle.block_cut.proofs.Laid.{seated}
 use Rattle.laid_blocks.proofs.Writing.{numbers, same_spot}

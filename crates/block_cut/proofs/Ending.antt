@@ -3,14 +3,14 @@ use Rattle.std.proofs.Common.{◌≡◌, ◌≢◌, ℕ, ◌-◌, ◌<◌, Bool,
 use Rattle.std.proofs.lemmas.Bool.{cases_eq, cases_Bool, and_parts, ltb-true, not-true, eq-eqb, true≢false}
 use Rattle.std.proofs.lemmas.List.{length-append, append_assoc}
 use Rattle.std.proofs.Math.Seq.{drop-append_seam, take-append_seam}
-use Rattle.parcel.specs.declared.message.Message.{Message}
-use Rattle.parcel.specs.States.{way_at, put_way, put_message}
-use Rattle.parcel.specs.Soundness.{IsSquare}
-use Rattle.parcel.proofs.Ways.{square_put, way_same, way_other}
-use Rattle.parcel.proofs.Words.{put_here, put_other}
+use Rattle.block_events.specs.declared.message.Message.{Message}
+use Rattle.block_events.specs.States.{way_at, put_way, put_message}
+use Rattle.block_events.specs.Soundness.{IsSquare}
+use Rattle.block_events.proofs.Ways.{square_put, way_same, way_other}
+use Rattle.block_events.proofs.Words.{put_here, put_other}
 use Rattle.block_core.specs.Mails.{MailView, room_at}
-use Rattle.discharge.specs.declared.letter.Letter.{Letter}
-use Rattle.discharge.specs.Seen.{IsPut, IsTake, add_to}
+use Rattle.block_turns.specs.declared.letter.Letter.{Letter}
+use Rattle.block_turns.specs.Seen.{IsPut, IsTake, add_to}
 use Rattle.block_cut.proofs.Logs.{added, not_added}
 use Rattle.block_cut.specs.Ends.{EndsView, ends_view, first_to, now_to, first_from, now_from, is_other, letter_of, seen_by, IsEnds}
 

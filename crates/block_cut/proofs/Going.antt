@@ -2,12 +2,12 @@
 use Rattle.std.proofs.Common.{◌≡◌, ℕ, ◌+◌, ◌<◌, ◌≤◌, List, length, slice_set, slice_index_or, sum, refl, sym, ◌∙◌, ap, subst, arith}
 use Rattle.std.proofs.lemmas.List.{length-set, get_or_read_under}
 use Rattle.flow_network.specs.Cut.{Network}
-use Rattle.parcel.specs.States.{State}
-use Rattle.parcel.specs.Events.{IsQuiet}
-use Rattle.parcel.specs.Soundness.{IsSound, IsFinished, count}
+use Rattle.block_events.specs.States.{State}
+use Rattle.block_events.specs.Events.{IsQuiet}
+use Rattle.block_events.specs.Soundness.{IsSound, IsFinished, count}
 use Rattle.block_net.specs.Views.{CellsView}
 use Rattle.block_net.specs.Whole.{Whole, no_block, block_at, whole_of, with_blocks}
-use Rattle.parcel.specs.Effects.{state_of}
+use Rattle.block_events.specs.Effects.{state_of}
 use Rattle.laid_blocks.specs.Views.{IsLaid, blocks_in}
 use Rattle.block_core.specs.Mails.{MailView, HasRooms, IsHeld}
 use Rattle.block_core.specs.declared.pieces.Pieces.{Pieces}

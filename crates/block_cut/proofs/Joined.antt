@@ -2,16 +2,16 @@
 use Rattle.std.proofs.Common.{◌≡◌, ℕ, ◌+◌, ◌-◌, ◌<◌, List, length, slice_index, refl, sym, ◌∙◌}
 use Rattle.sums.specs.Sums.{sum_below}
 use Rattle.flow_network.specs.Cut.{nodes}
-use Rattle.parcel.specs.declared.direction.Direction.{Direction}
-use Rattle.parcel.specs.declared.message.Message.{Message}
-use Rattle.parcel.specs.Directions.{IsDirection, forward, backward, near}
-use Rattle.parcel.specs.States as core
-use Rattle.parcel.proofs.Ends.{near_in}
-use Rattle.parcel.specs.Rounds.{IsJoined}
+use Rattle.block_events.specs.declared.direction.Direction.{Direction}
+use Rattle.block_events.specs.declared.message.Message.{Message}
+use Rattle.block_events.specs.Directions.{IsDirection, forward, backward, near}
+use Rattle.block_events.specs.States as core
+use Rattle.block_events.proofs.Ends.{near_in}
+use Rattle.block_events.specs.Rounds.{IsJoined}
 use Rattle.block_net.specs.Views.{CellsView}
 use Rattle.block_net.specs.Whole.{Whole, block_with, home, place, shown_of, with_blocks}
 use Rattle.block_net.proofs.Tables.{length_table, table_at}
-use Rattle.parcel.specs.Effects.{state_of}
+use Rattle.block_events.specs.Effects.{state_of}
 use Rattle.laid_blocks.specs.Views.{IsLaid, blocks_in}
 use Rattle.laid_blocks.proofs.Writing.{numbers, lane_read}
 use Rattle.block_cut.specs.Rounds.{quiet_state}

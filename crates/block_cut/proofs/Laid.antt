@@ -2,8 +2,8 @@
 use Rattle.std.proofs.Common.{◌≡◌, ℕ, ◌*◌, ◌/◌, ◌-◌, ◌<◌, List, length, slice_index, sym, ◌∙◌, ap, subst, arith}
 use Rattle.std.proofs.lemmas.List.{set-get_or, length-set}
 use Rattle.flow_network.specs.Cut.{nodes}
-use Rattle.parcel.specs.Directions.{near}
-use Rattle.parcel.specs.States as core
+use Rattle.block_events.specs.Directions.{near}
+use Rattle.block_events.specs.States as core
 use Rattle.block_net.specs.Views.{CellsView, count}
 use Rattle.block_net.specs.Whole.{Whole, no_block, block_at, put_block, home, IsFilled}
 use Rattle.laid_blocks.specs.Views.{IsLaid}

@@ -2,11 +2,11 @@
 use Rattle.std.proofs.Common.{◌≡◌, ℕ, ◌<◌, Bool, cond, eqb, List, [], ◌∷◌, ◌++◌, set, get_or, refl, sym, ◌∙◌, ap, inl, inr, arith, get_or-set_same, get_or-set_other}
 use Rattle.std.proofs.lemmas.List.{length-set}
 use Rattle.std.proofs.lemmas.Bool.{cases_eq, eq-eqb, ne_eqb}
-use Rattle.parcel.specs.declared.message.Message.{Message}
-use Rattle.parcel.specs.States.{way_at, put_message}
+use Rattle.block_events.specs.declared.message.Message.{Message}
+use Rattle.block_events.specs.States.{way_at, put_message}
 use Rattle.block_net.specs.Whole.{table}
 use Rattle.block_net.proofs.Tables.{length_table, table_at, table_is}
-use Rattle.discharge.specs.Seen.{add_to}
+use Rattle.block_turns.specs.Seen.{add_to}
 use Rattle.block_cut.specs.Seats.{log_at, logs_of}
 
 table_set : {A : Type 0} (n : ℕ) (f g : ℕ → A) (v : ℕ) (y : A) → v < n → g v ≡ y → ((i : ℕ) → i < n → (i ≡ v → ⊥) → g i ≡ f i)

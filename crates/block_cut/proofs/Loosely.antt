@@ -1,18 +1,18 @@
 -- Pushes that ask for less than the events do keep a block in a sound state.
 use Rattle.std.proofs.Common.{ℕ, ◌+◌, ◌-◌, ◌<◌, ◌≤◌, List, length, set, refl, sym, ◌∙◌, ap, subst, arith}
 use Rattle.std.proofs.lemmas.List.{length-set}
-use Rattle.parcel.specs.declared.lane.Lane.{Lane}
-use Rattle.parcel.specs.declared.message.Message.{Message}
-use Rattle.parcel.specs.Directions.{near, far}
-use Rattle.parcel.specs.States as core
-use Rattle.parcel.specs.Soundness.{IsSound}
-use Rattle.parcel.proofs.Inside.{pushed_kept, given_kept}
+use Rattle.block_events.specs.declared.lane.Lane.{Lane}
+use Rattle.block_events.specs.declared.message.Message.{Message}
+use Rattle.block_events.specs.Directions.{near, far}
+use Rattle.block_events.specs.States as core
+use Rattle.block_events.specs.Soundness.{IsSound}
+use Rattle.block_events.proofs.Inside.{pushed_kept, given_kept}
 use Rattle.block_net.specs.Views as block
 use Rattle.block_net.specs.Views.{CellsView, count, excess_in, label_in, room_in, lane_in}
 use Rattle.block_net.specs.Whole.{Whole, put_block}
-use Rattle.parcel.specs.Effects.{BlocksView, state_of, given}
+use Rattle.block_events.specs.Effects.{BlocksView, state_of, given}
 use Rattle.laid_blocks.proofs.Steps.{excess_read, label_read, room_read, inner_read, far_spot, back_row, gave_at, pushed_at}
-use Rattle.discharge.specs.Steps.{IsOfNode}
+use Rattle.block_turns.specs.Steps.{IsOfNode}
 use Rattle.block_cut.specs.Loose.{IsStanding}
 use Rattle.block_cut.proofs.Seated.{view_with, at_seat, node_seat, view_after, seat_after, lane_found}
 

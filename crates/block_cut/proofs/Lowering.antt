@@ -1,16 +1,16 @@
 -- Fewer and fewer events lead on, until the state is finished.
 use Rattle.std.proofs.Common.{◌≡◌, ℕ, ◌<◌, ◌≤◌, Bool, true, false, ◌||◌, MatchBool, List, [], refl, sym, ◌∙◌, ap, subst, inl, inr, arith}
 use Rattle.std.proofs.lemmas.Bool.{false≢true, true≢false}
-use Rattle.parcel.specs.declared.message.Message.{Message}
-use Rattle.parcel.specs.declared.event.Event.{Event}
-use Rattle.parcel.specs.declared.event.Event.TheVariants.{PushInner, PushSink, Relabel, Send, Accept, Refuse, Settle, RaiseAll}
-use Rattle.parcel.specs.States.{State, way_at, block_of, near_block}
-use Rattle.parcel.specs.Events.{IsQuiet, Enabled, Happens, MayAccept, MayRefuse, MaySettle}
-use Rattle.parcel.specs.Soundness.{IsSound, IsFinished, count}
-use Rattle.parcel.proofs.Lists.{lowers, never_raises}
-use Rattle.parcel.proofs.Ends.{block_in, near_block_in}
-use Rattle.parcel.proofs.Progress.{progress}
-use Rattle.parcel.specs.Workers.{MayStart}
+use Rattle.block_events.specs.declared.message.Message.{Message}
+use Rattle.block_events.specs.declared.event.Event.{Event}
+use Rattle.block_events.specs.declared.event.Event.TheVariants.{PushInner, PushSink, Relabel, Send, Accept, Refuse, Settle, RaiseAll}
+use Rattle.block_events.specs.States.{State, way_at, block_of, near_block}
+use Rattle.block_events.specs.Events.{IsQuiet, Enabled, Happens, MayAccept, MayRefuse, MaySettle}
+use Rattle.block_events.specs.Soundness.{IsSound, IsFinished, count}
+use Rattle.block_events.proofs.Lists.{lowers, never_raises}
+use Rattle.block_events.proofs.Ends.{block_in, near_block_in}
+use Rattle.block_events.proofs.Progress.{progress}
+use Rattle.block_events.specs.Workers.{MayStart}
 use Rattle.block_core.proofs.Keeping.{effect_net}
 use Rattle.block_cut.specs.Lowers.{IsAfter, Lowers}
 

@@ -3,13 +3,13 @@ use Rattle.std.proofs.Common.{◌≡◌, ℕ, ◌+◌, ◌-◌, ◌<◌, ◌≤�
 use Rattle.std.proofs.lemmas.Bool.{cases_eq}
 use Rattle.std.proofs.lemmas.List.{length-set, get_or_read_under, get_or-replicate}
 use Rattle.flow_network.specs.Cut.{Network, nodes}
-use Rattle.parcel.specs.declared.message.Message.{Message}
-use Rattle.parcel.specs.States.{State, label_of}
-use Rattle.parcel.specs.Soundness.{IsSound, opened}
+use Rattle.block_events.specs.declared.message.Message.{Message}
+use Rattle.block_events.specs.States.{State, label_of}
+use Rattle.block_events.specs.Soundness.{IsSound, opened}
 use Rattle.block_net.specs.declared.parts.Parts.{Parts}
 use Rattle.block_net.specs.Views.{CellsView, count, excess_in, label_in, room_in, lane_in, pushed, given}
 use Rattle.block_net.specs.Whole.{Whole, no_block, block_at, home, place, whole_of, with_blocks}
-use Rattle.parcel.specs.Effects.{state_of}
+use Rattle.block_events.specs.Effects.{state_of}
 use Rattle.laid_blocks.specs.Views.{IsLaid, IsSpot, blocks_in}
 use Rattle.block_core.specs.Mails.{HasRooms, IsHeld}
 use Rattle.block_core.specs.declared.pieces.Pieces.{Pieces}
@@ -17,7 +17,7 @@ use Rattle.block_core.specs.Parts.{IsIn}
 use Rattle.block_core.specs.Pieces.{state_in}
 use Rattle.laid_blocks.proofs.Steps.{label_read}
 use Rattle.laid_blocks.proofs.Writing.{block_same}
-use Rattle.discharge.specs.Steps.{IsOfNode}
+use Rattle.block_turns.specs.Steps.{IsOfNode}
 use Rattle.block_cut.specs.Loose.{IsStanding}
 use Rattle.block_cut.proofs.Laid.{put_own, seated}
 use Rattle.block_cut.proofs.Loosely.{loose_push_keeps, loose_give_keeps}

@@ -4,14 +4,14 @@ use Rattle.std.proofs.lemmas.Bool.{true≢false, lt-ltb, cases_lt}
 use Rattle.std.proofs.lemmas.List.{get_or_read_under}
 use Rattle.sums.specs.Sums.{counted}
 use Rattle.sums.proofs.SumLemmas.{counted-le}
-use Rattle.parcel.specs.States.{State}
-use Rattle.parcel.specs.Soundness.{IsFinished, count}
+use Rattle.block_events.specs.States.{State}
+use Rattle.block_events.specs.Soundness.{IsFinished, count}
 use Rattle.block_net.specs.Views.{CellsView}
 use Rattle.block_net.specs.Whole.{no_block, block_at, whole_of, with_blocks}
 use Rattle.block_core.specs.Mails.{MailView}
 use Rattle.block_core.specs.declared.pieces.Pieces.{Pieces}
 use Rattle.block_core.specs.Pieces.{state_in}
-use Rattle.discharge.specs.Steps.{Step, IsSure}
+use Rattle.block_turns.specs.Steps.{Step, IsSure}
 use Rattle.block_cut.specs.Ends.{ends_view, seen_by}
 use Rattle.block_cut.specs.Turns.{ReachesFrom}
 use Rattle.block_cut.specs.Passes.{IsGoing, IsReady, IsStill}

@@ -1,14 +1,14 @@
 -- A sound and quiet state of blocks is one before a round, and the state after it is held.
 use Rattle.std.proofs.Common.{◌≡◌, ◌≢◌, ℕ, ◌<◌, ◌≤◌, List, length, ap, sym, subst, arith}
-use Rattle.parcel.specs.Events.{IsQuiet}
-use Rattle.parcel.specs.States.{way_at}
-use Rattle.parcel.specs.Soundness.{IsSound, room_between}
-use Rattle.parcel.proofs.Fitting.{way_fits}
-use Rattle.parcel.proofs.Quiet.{quiet_empty}
+use Rattle.block_events.specs.Events.{IsQuiet}
+use Rattle.block_events.specs.States.{way_at}
+use Rattle.block_events.specs.Soundness.{IsSound, room_between}
+use Rattle.block_events.proofs.Fitting.{way_fits}
+use Rattle.block_events.proofs.Quiet.{quiet_empty}
 use Rattle.block_net.specs.Views.{CellsView}
 use Rattle.block_net.specs.Whole.{Whole}
 use Rattle.block_core.specs.Mails.{HasRooms, IsHeld, room_at}
-use Rattle.parcel.specs.Effects.{state_of}
+use Rattle.block_events.specs.Effects.{state_of}
 use Rattle.laid_blocks.specs.Views.{blocks_in}
 use Rattle.block_cut.specs.Rounds.{Ways, IsRound, quiet_state, state_after}
 

@@ -5,12 +5,12 @@ use Rattle.std.proofs.lemmas.Bool.Decides.{eqb_tells}
 use Rattle.std.proofs.lemmas.List.{get_or_read}
 use Rattle.flow_network.specs.Cut.{Network, nodes}
 use Rattle.flow_network.specs.Preflow.{arc_at}
-use Rattle.parcel.specs.declared.lane.Lane.{Lane}
-use Rattle.parcel.specs.declared.direction.Direction.{Direction}
-use Rattle.parcel.specs.Directions.{IsDirection, near, far, backward}
-use Rattle.parcel.specs.States as core
-use Rattle.parcel.proofs.Ends.{near_in, far_in}
-use Rattle.parcel.specs.States.{residual_of, is_border, block_of}
+use Rattle.block_events.specs.declared.lane.Lane.{Lane}
+use Rattle.block_events.specs.declared.direction.Direction.{Direction}
+use Rattle.block_events.specs.Directions.{IsDirection, near, far, backward}
+use Rattle.block_events.specs.States as core
+use Rattle.block_events.proofs.Ends.{near_in, far_in}
+use Rattle.block_events.specs.States.{residual_of, is_border, block_of}
 use Rattle.block_net.specs.declared.parts.Parts.{Parts}
 use Rattle.block_net.specs.Views.{CellsView, lane_in, border_in}
 use Rattle.block_net.specs.Whole.{Whole, no_block, block_at, home, slot, is_outer, whole_of}

@@ -3,20 +3,20 @@ use Rattle.std.proofs.Common.{◌≡◌, ℕ, ◌+◌, ◌-◌, ◌<◌, ◌≤�
 use Rattle.std.proofs.lemmas.Bool.{cases_eq, cases_lt, eq-eqb, ne_eqb}
 use Rattle.std.proofs.lemmas.List.{append-nil}
 use Rattle.sums.specs.Sums.{sum_below}
-use Rattle.parcel.specs.declared.event.Event.{Event}
-use Rattle.parcel.specs.declared.message.Message.{Message}
-use Rattle.parcel.specs.States.{State, way_at}
-use Rattle.parcel.specs.Soundness.{IsSound}
-use Rattle.parcel.specs.Workers.{IsHistory}
-use Rattle.parcel.specs.Rounds.{RoundOf}
-use Rattle.parcel.proofs.Gathering.{gathered}
-use Rattle.parcel.proofs.Keeping.{round_kept}
+use Rattle.block_events.specs.declared.event.Event.{Event}
+use Rattle.block_events.specs.declared.message.Message.{Message}
+use Rattle.block_events.specs.States.{State, way_at}
+use Rattle.block_events.specs.Soundness.{IsSound}
+use Rattle.block_events.specs.Workers.{IsHistory}
+use Rattle.block_events.specs.Rounds.{RoundOf}
+use Rattle.block_events.proofs.Gathering.{gathered}
+use Rattle.block_events.proofs.Keeping.{round_kept}
 use Rattle.block_net.specs.Views.{CellsView}
 use Rattle.block_net.specs.Whole.{Whole, table, block_at, with_blocks}
 use Rattle.block_net.proofs.Tables.{table_at}
-use Rattle.parcel.specs.Effects.{state_of}
+use Rattle.block_events.specs.Effects.{state_of}
 use Rattle.laid_blocks.specs.Views.{IsLaid, blocks_in}
-use Rattle.discharge.specs.Steps.{Held}
+use Rattle.block_turns.specs.Steps.{Held}
 use Rattle.block_cut.specs.Seats.{log_at, logs_of, shown_by}
 use Rattle.block_cut.specs.TurnEvents.{IsLed}
 use Rattle.block_cut.proofs.BlockHistories.{turn_is_history}

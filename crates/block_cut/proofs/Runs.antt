@@ -2,20 +2,20 @@
 use Rattle.std.proofs.Common.{◌≡◌, ◌≢◌, ℕ, ◌+◌, ◌<◌, ◌≤◌, Bool, cond, set, List, [], ◌∷◌, ◌++◌, length, get_or, replicate, refl, sym, ◌∙◌, ap, subst, inl, inr, arith}
 use Rattle.std.proofs.lemmas.Bool.{cases_eq, cases_lt, ne_eqb}
 use Rattle.std.proofs.lemmas.List.{length-set, length-replicate, get_or-replicate, get_or_past, append_cancel_left, ext_get_or}
-use Rattle.parcel.specs.declared.message.Message.{Message}
-use Rattle.parcel.specs.declared.event.Event.{Event}
-use Rattle.parcel.specs.declared.event.Event.TheVariants.{PushInner, PushSink, Relabel, Send, Accept, Refuse, Settle, RaiseAll}
-use Rattle.parcel.specs.States.{State, way_at}
-use Rattle.parcel.specs.Events.{steps}
-use Rattle.parcel.specs.Soundness.{IsSound, IsSquare}
-use Rattle.parcel.proofs.Kept.{run_kept}
-use Rattle.parcel.proofs.Lists.{run_lowers}
-use Rattle.parcel.specs.Workers.{DoesOwn, IsHistory}
-use Rattle.parcel.specs.RoundLaws.{no_messages}
-use Rattle.parcel.proofs.Running.{history_runs}
+use Rattle.block_events.specs.declared.message.Message.{Message}
+use Rattle.block_events.specs.declared.event.Event.{Event}
+use Rattle.block_events.specs.declared.event.Event.TheVariants.{PushInner, PushSink, Relabel, Send, Accept, Refuse, Settle, RaiseAll}
+use Rattle.block_events.specs.States.{State, way_at}
+use Rattle.block_events.specs.Events.{steps}
+use Rattle.block_events.specs.Soundness.{IsSound, IsSquare}
+use Rattle.block_events.proofs.Kept.{run_kept}
+use Rattle.block_events.proofs.Lists.{run_lowers}
+use Rattle.block_events.specs.Workers.{DoesOwn, IsHistory}
+use Rattle.block_events.specs.RoundLaws.{no_messages}
+use Rattle.block_events.proofs.Running.{history_runs}
 use Rattle.block_net.specs.Whole.{Whole, table}
 use Rattle.block_net.proofs.Tables.{length_table, table_at, table_is}
-use Rattle.discharge.specs.Steps.{Held, DoesMany}
+use Rattle.block_turns.specs.Steps.{Held, DoesMany}
 use Rattle.block_cut.specs.Seats.{IsSeated, log_at, logs_of, state_with}
 use Rattle.block_cut.specs.TurnEvents.{IsTurned, IsTurnRun}
 use Rattle.block_cut.proofs.Logs.{own_row, own_column, other_row}

@@ -2,22 +2,22 @@
 use Rattle.std.proofs.Common.{◌≡◌, ℕ, ◌+◌, ◌<◌, Bool, true, false, List, length, slice_index, refl, sym, ◌∙◌, ap, subst, arith}
 use Rattle.std.proofs.lemmas.List.{length-set, set-set}
 use Rattle.flow_network.specs.Cut.{nodes}
-use Rattle.parcel.specs.declared.direction.Direction.{Direction}
-use Rattle.parcel.specs.declared.message.Message.{Message}
-use Rattle.parcel.specs.declared.event.Event.{Event}
-use Rattle.parcel.specs.Directions.{near}
-use Rattle.parcel.specs.States as core
-use Rattle.parcel.specs.Events as events
-use Rattle.parcel.specs.Workers.{DoesOwn}
+use Rattle.block_events.specs.declared.direction.Direction.{Direction}
+use Rattle.block_events.specs.declared.message.Message.{Message}
+use Rattle.block_events.specs.declared.event.Event.{Event}
+use Rattle.block_events.specs.Directions.{near}
+use Rattle.block_events.specs.States as core
+use Rattle.block_events.specs.Events as events
+use Rattle.block_events.specs.Workers.{DoesOwn}
 use Rattle.block_net.specs.Views.{CellsView, count}
 use Rattle.block_net.specs.Whole.{Whole, block_at, block_with, home, place, StandsAt, put_block}
-use Rattle.parcel.specs.Effects.{BlocksView, state_of}
+use Rattle.block_events.specs.Effects.{BlocksView, state_of}
 use Rattle.laid_blocks.specs.Views.{blocks_in, IsSpot, IsRow}
 use Rattle.laid_blocks.proofs.Writing.{spot_put, row_put, block_same}
 use Rattle.laid_blocks.proofs.Steps.{IsAt, excess_read, label_read, top_read}
-use Rattle.discharge.specs.Active as standing
-use Rattle.discharge.specs.Steps as steps
-use Rattle.discharge.specs.Steps.{Held}
+use Rattle.block_turns.specs.Active as standing
+use Rattle.block_turns.specs.Steps as steps
+use Rattle.block_turns.specs.Steps.{Held}
 use Rattle.block_cut.specs.Seats.{IsSeated, shown_by}
 
 -- what the whole shows with the block in its place

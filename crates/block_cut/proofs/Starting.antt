@@ -1,18 +1,18 @@
 -- A block that has put and taken nothing shows what all blocks show.
 use Rattle.std.proofs.Common.{◌≡◌, ℕ, ◌<◌, Bool, true, false, cond, eqb, List, [], length, get_or, replicate, refl, sym, ◌∙◌, ap, subst}
 use Rattle.std.proofs.lemmas.List.{length-replicate, get_or-replicate, set-get_or}
-use Rattle.parcel.specs.declared.event.Event.{Event}
-use Rattle.parcel.specs.declared.message.Message.{Message}
-use Rattle.parcel.specs.States.{State}
-use Rattle.parcel.specs.Events.{IsQuiet}
-use Rattle.parcel.specs.Workers.{MayStart}
-use Rattle.parcel.specs.RoundLaws.{no_messages}
+use Rattle.block_events.specs.declared.event.Event.{Event}
+use Rattle.block_events.specs.declared.message.Message.{Message}
+use Rattle.block_events.specs.States.{State}
+use Rattle.block_events.specs.Events.{IsQuiet}
+use Rattle.block_events.specs.Workers.{MayStart}
+use Rattle.block_events.specs.RoundLaws.{no_messages}
 use Rattle.block_net.specs.Whole.{Whole, table, no_block, block_at, put_block}
 use Rattle.block_net.proofs.Tables.{table_is}
-use Rattle.parcel.specs.Effects.{state_of}
+use Rattle.block_events.specs.Effects.{state_of}
 use Rattle.laid_blocks.specs.Views.{IsLaid, blocks_in}
-use Rattle.discharge.specs.Seen.{Seen}
-use Rattle.discharge.specs.Steps.{Step, IsSure}
+use Rattle.block_turns.specs.Seen.{Seen}
+use Rattle.block_turns.specs.Steps.{Step, IsSure}
 use Rattle.block_cut.specs.TurnEvents.{HasRoom}
 use Rattle.block_cut.specs.Seats.{log_at, logs_of, shown_by}
 use Rattle.block_cut.proofs.Laid.{seated}

@@ -1,25 +1,25 @@
 -- An event that takes no message, where the block may do it, is a step that is sure.
 use Rattle.std.proofs.Common.{◌≡◌, ℕ, ◌+◌, ◌<◌, true, false, List, length, refl, ◌∙◌, ap, arith}
 use Rattle.std.proofs.lemmas.List.{length-set}
-use Rattle.parcel.specs.declared.lane.Lane.{Lane}
-use Rattle.parcel.specs.declared.direction.Direction.{Direction}
-use Rattle.parcel.specs.declared.message.Message.{Message}
-use Rattle.parcel.specs.declared.event.Event.{Event}
-use Rattle.parcel.specs.declared.event.Event.TheVariants.{PushInner, PushSink, Relabel, Send, Accept, Refuse, Settle, RaiseAll}
-use Rattle.parcel.specs.Directions.{near, far}
-use Rattle.parcel.specs.States as core
-use Rattle.parcel.specs.Events as events
-use Rattle.parcel.specs.Workers.{MayStart}
+use Rattle.block_events.specs.declared.lane.Lane.{Lane}
+use Rattle.block_events.specs.declared.direction.Direction.{Direction}
+use Rattle.block_events.specs.declared.message.Message.{Message}
+use Rattle.block_events.specs.declared.event.Event.{Event}
+use Rattle.block_events.specs.declared.event.Event.TheVariants.{PushInner, PushSink, Relabel, Send, Accept, Refuse, Settle, RaiseAll}
+use Rattle.block_events.specs.Directions.{near, far}
+use Rattle.block_events.specs.States as core
+use Rattle.block_events.specs.Events as events
+use Rattle.block_events.specs.Workers.{MayStart}
 use Rattle.block_net.specs.Views.{CellsView, label_in, room_in, lane_in, MayPush, MaySend, highest}
 use Rattle.block_net.specs.Whole.{Whole, place, slot, put_block}
-use Rattle.parcel.specs.Effects.{BlocksView, state_of}
+use Rattle.block_events.specs.Effects.{BlocksView, state_of}
 use Rattle.laid_blocks.specs.Views.{IsSpot, IsRow}
 use Rattle.laid_blocks.proofs.Allowing.{highest_is}
 use Rattle.laid_blocks.proofs.Steps.{IsAt, node_below, excess_read, label_read, room_read, top_read, inner_read, border_read, far_spot}
-use Rattle.discharge.specs.Seen.{Seen}
-use Rattle.discharge.specs.Active as standing
-use Rattle.discharge.specs.Steps as steps
-use Rattle.discharge.specs.Steps.{Step, Held, IsSure}
+use Rattle.block_turns.specs.Seen.{Seen}
+use Rattle.block_turns.specs.Active as standing
+use Rattle.block_turns.specs.Steps as steps
+use Rattle.block_turns.specs.Steps.{Step, Held, IsSure}
 use Rattle.block_cut.specs.TurnEvents.{HasRoom}
 use Rattle.block_cut.specs.Seats.{IsSeated, logs_of, shown_by}
 use Rattle.block_cut.proofs.Seated.{view_with, at_seat, with_is, read_at}

@@ -5,24 +5,24 @@ use Rattle.std.proofs.lemmas.Bool.Decides.{eqb_tells}
 use Rattle.sums.specs.Sums.{counted}
 use Rattle.sums.proofs.SumLemmas.{term-le-sum_below, counted-true}
 use Rattle.flow_network.specs.Cut.{Network}
-use Rattle.parcel.specs.declared.direction.Direction.{Direction}
-use Rattle.parcel.specs.declared.event.Event.{Event}
-use Rattle.parcel.specs.declared.event.Event.TheVariants.{PushInner, PushSink, Relabel, Send, Accept, Refuse, Settle, RaiseAll}
-use Rattle.parcel.specs.declared.message.Message.{Message}
-use Rattle.parcel.specs.Directions.{IsDirection, forward, backward, far, over_directions}
-use Rattle.parcel.specs.States.{State, way_at, near_block, far_block}
-use Rattle.parcel.specs.Soundness.{IsSound, joins, room_between}
-use Rattle.parcel.specs.Events.{IsActive, Run}
-use Rattle.parcel.proofs.Ends.{far_in, block_in}
-use Rattle.parcel.specs.Workers.{MayStart}
+use Rattle.block_events.specs.declared.direction.Direction.{Direction}
+use Rattle.block_events.specs.declared.event.Event.{Event}
+use Rattle.block_events.specs.declared.event.Event.TheVariants.{PushInner, PushSink, Relabel, Send, Accept, Refuse, Settle, RaiseAll}
+use Rattle.block_events.specs.declared.message.Message.{Message}
+use Rattle.block_events.specs.Directions.{IsDirection, forward, backward, far, over_directions}
+use Rattle.block_events.specs.States.{State, way_at, near_block, far_block}
+use Rattle.block_events.specs.Soundness.{IsSound, joins, room_between}
+use Rattle.block_events.specs.Events.{IsActive, Run}
+use Rattle.block_events.proofs.Ends.{far_in, block_in}
+use Rattle.block_events.specs.Workers.{MayStart}
 use Rattle.block_net.specs.Views.{CellsView, border_in}
 use Rattle.block_net.specs.Whole.{Whole, block_at, home, whole_of, with_blocks}
-use Rattle.parcel.specs.Effects.{BlocksView, state_of}
+use Rattle.block_events.specs.Effects.{BlocksView, state_of}
 use Rattle.laid_blocks.specs.Views.{IsLaid, blocks_in}
 use Rattle.block_core.specs.Mails.{MailView, HasRooms, room_at}
 use Rattle.block_core.specs.declared.pieces.Pieces.{Pieces}
 use Rattle.block_core.specs.Pieces.{state_in}
-use Rattle.discharge.specs.Steps.{Step, IsSure, held}
+use Rattle.block_turns.specs.Steps.{Step, IsSure, held}
 use Rattle.block_cut.specs.TurnEvents.{HasRoom}
 use Rattle.block_cut.specs.Seats.{logs_of}
 use Rattle.block_cut.proofs.Laid.{put_own, seated}

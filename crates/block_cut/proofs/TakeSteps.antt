@@ -3,28 +3,28 @@ use Rattle.std.proofs.Common.{◌≡◌, ℕ, ◌+◌, ◌<◌, ◌≤◌, true,
 use Rattle.std.proofs.lemmas.List.{length-set}
 use Rattle.flow_network.specs.Preflow.{arc_at}
 use Rattle.flow_network.specs.Progress.{top}
-use Rattle.parcel.specs.declared.lane.Lane.{Lane}
-use Rattle.parcel.specs.declared.direction.Direction.{Direction}
-use Rattle.parcel.specs.declared.message.Message.{Message}
-use Rattle.parcel.specs.declared.message.Message.TheVariants.{Parcel, Accepted, Refused}
-use Rattle.parcel.specs.declared.event.Event.TheVariants.{Accept, Refuse, Settle}
-use Rattle.parcel.specs.Directions.{far, opposite}
-use Rattle.parcel.specs.States as core
-use Rattle.parcel.specs.Soundness.{amount_out}
-use Rattle.parcel.proofs.Ends.{far_in}
-use Rattle.parcel.proofs.Lanes.{opposite_twice, near_opposite, far_opposite, border_opposite}
-use Rattle.parcel.specs.Workers.{IsBetween}
+use Rattle.block_events.specs.declared.lane.Lane.{Lane}
+use Rattle.block_events.specs.declared.direction.Direction.{Direction}
+use Rattle.block_events.specs.declared.message.Message.{Message}
+use Rattle.block_events.specs.declared.message.Message.TheVariants.{Parcel, Accepted, Refused}
+use Rattle.block_events.specs.declared.event.Event.TheVariants.{Accept, Refuse, Settle}
+use Rattle.block_events.specs.Directions.{far, opposite}
+use Rattle.block_events.specs.States as core
+use Rattle.block_events.specs.Soundness.{amount_out}
+use Rattle.block_events.proofs.Ends.{far_in}
+use Rattle.block_events.proofs.Lanes.{opposite_twice, near_opposite, far_opposite, border_opposite}
+use Rattle.block_events.specs.Workers.{IsBetween}
 use Rattle.block_net.specs.declared.lanes.Border.{Border}
 use Rattle.block_net.specs.Views as block
 use Rattle.block_net.specs.Views.{CellsView, label_in, border_in}
 use Rattle.block_net.specs.Whole.{Whole, home, put_block}
-use Rattle.parcel.specs.Effects.{BlocksView, state_of, accepted, settled, returned}
+use Rattle.block_events.specs.Effects.{BlocksView, state_of, accepted, settled, returned}
 use Rattle.laid_blocks.specs.Views.{IsRow}
 use Rattle.block_core.proofs.Effects.{border_apart}
 use Rattle.laid_blocks.proofs.Steps.{label_read, top_read, border_read, border_capacity, border_spot, back_spot, out_same, accepted_at, settled_at, returned_at}
-use Rattle.discharge.specs.Seen.{add_to}
-use Rattle.discharge.specs.Steps as steps
-use Rattle.discharge.specs.Steps.{Held, accepting, refusing, settling}
+use Rattle.block_turns.specs.Seen.{add_to}
+use Rattle.block_turns.specs.Steps as steps
+use Rattle.block_turns.specs.Steps.{Held, accepting, refusing, settling}
 use Rattle.block_cut.specs.Seats.{IsSeated, logs_of}
 use Rattle.block_cut.proofs.Logs.{sent_log, taken_log}
 use Rattle.block_cut.proofs.Seated.{view_with, at_seat, border_seat, Goes, view_after, seat_after}

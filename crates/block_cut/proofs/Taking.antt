@@ -2,16 +2,16 @@
 use Rattle.std.proofs.Common.{◌≡◌, ℕ, ◌+◌, ◌<◌, Bool, true, false, IsFalse, List, [], ◌∷◌, ◌++◌, refl, sym, ◌∙◌, ap, subst, inl, inr, ◌⊎◌, arith}
 use Rattle.std.proofs.lemmas.Bool.{cases_lt, true≢false}
 use Rattle.std.proofs.lemmas.List.Elements.{All-append, All-cons, All-nil}
-use Rattle.parcel.specs.declared.message.Message.{Message}
-use Rattle.parcel.specs.declared.message.Message.TheVariants.{Parcel, Accepted, Refused}
-use Rattle.parcel.specs.declared.event.Event.{Event}
-use Rattle.parcel.specs.declared.event.Event.TheVariants.{Accept, Refuse, Settle, RaiseAll}
-use Rattle.parcel.specs.Directions.{far}
-use Rattle.parcel.specs.States.{State, way_at, label_of, IsWay}
-use Rattle.parcel.specs.Events.{Enabled, Happens, Run, MayAccept, MayRefuse, accepted, refused, settled, effect}
-use Rattle.parcel.specs.Soundness.{IsSound}
-use Rattle.parcel.proofs.Kept.{kept}
-use Rattle.parcel.proofs.Replies.{front_out}
+use Rattle.block_events.specs.declared.message.Message.{Message}
+use Rattle.block_events.specs.declared.message.Message.TheVariants.{Parcel, Accepted, Refused}
+use Rattle.block_events.specs.declared.event.Event.{Event}
+use Rattle.block_events.specs.declared.event.Event.TheVariants.{Accept, Refuse, Settle, RaiseAll}
+use Rattle.block_events.specs.Directions.{far}
+use Rattle.block_events.specs.States.{State, way_at, label_of, IsWay}
+use Rattle.block_events.specs.Events.{Enabled, Happens, Run, MayAccept, MayRefuse, accepted, refused, settled, effect}
+use Rattle.block_events.specs.Soundness.{IsSound}
+use Rattle.block_events.proofs.Kept.{kept}
+use Rattle.block_events.proofs.Replies.{front_out}
 use Rattle.block_core.proofs.Keeping.{effect_net}
 use Rattle.block_cut.specs.Takes.{IsTaking, TookIn, Taken, IsRowEmpty}
 use Rattle.block_cut.proofs.Lowering.{lowers_one, lowers_same, lowers_then, Performed}

@@ -1,9 +1,9 @@
 -- What is kept of each block by itself is kept of all.
 use Rattle.std.proofs.Common.{◌≡◌, ℕ, ◌+◌, ◌<◌, Bool, true, false, List, length, slice_index, refl, sym, ◌∙◌, ap, arith}
 use Rattle.std.proofs.lemmas.List.{length-set}
-use Rattle.parcel.specs.declared.direction.Direction.{Direction}
-use Rattle.parcel.specs.Directions.{IsDirection, near, far}
-use Rattle.parcel.proofs.Ends.{near_in}
+use Rattle.block_events.specs.declared.direction.Direction.{Direction}
+use Rattle.block_events.specs.Directions.{IsDirection, near, far}
+use Rattle.block_events.proofs.Ends.{near_in}
 use Rattle.block_net.specs.declared.lanes.InnerLane.{InnerLane}
 use Rattle.block_net.specs.declared.lanes.Border.{Border}
 use Rattle.block_net.specs.Views.{CellsView, count}

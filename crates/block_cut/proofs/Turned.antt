@@ -1,10 +1,10 @@
 -- A turn over the core's ways is a run of the core.
 use Rattle.std.proofs.Common.{◌≡◌, ℕ, List, [], length, refl, sym, ap, subst, arith}
 use Rattle.std.proofs.lemmas.List.{append-nil}
-use Rattle.parcel.specs.declared.message.Message.{Message}
+use Rattle.block_events.specs.declared.message.Message.{Message}
 use Rattle.block_net.specs.Views.{CellsView}
 use Rattle.block_core.specs.Mails.{MailView}
-use Rattle.discharge.specs.Steps.{held, DoesMany}
+use Rattle.block_turns.specs.Steps.{held, DoesMany}
 use Rattle.block_cut.specs.TurnEvents.{IsTurned}
 use Rattle.block_cut.proofs.Runs.{turn_is_run, turned_ways}
 use Rattle.block_cut.specs.Ends.{EndsView, first_to, first_from, now_from, seen_by, IsEnds}

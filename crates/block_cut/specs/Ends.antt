@@ -1,14 +1,14 @@
 -- One block's ends of the core's ways.
 use Rattle.std.specs.Prelude.{◌≡◌, ◌≢◌, ℕ, ◌+◌, ◌*◌, ◌-◌, ◌<◌, ◌≤◌, Bool, not, cond, ◌==◌, ◌&&◌, nat_lt, List, [], ◌∷◌, ◌++◌, length, take, drop, slice_index, Option, Some, None}
-use Rattle.parcel.specs.declared.direction.Direction.{Direction}
-use Rattle.parcel.specs.declared.message.Message.{Message}
-use Rattle.parcel.specs.declared.message.Message.TheVariants.{Parcel, Accepted, Refused}
-use Rattle.parcel.specs.Directions.{opposite}
-use Rattle.parcel.specs.States.{way_at}
+use Rattle.block_events.specs.declared.direction.Direction.{Direction}
+use Rattle.block_events.specs.declared.message.Message.{Message}
+use Rattle.block_events.specs.declared.message.Message.TheVariants.{Parcel, Accepted, Refused}
+use Rattle.block_events.specs.Directions.{opposite}
+use Rattle.block_events.specs.States.{way_at}
 use Rattle.block_net.specs.Limits.{arc_limit}
 use Rattle.block_core.specs.Mails.{MailView, room_at}
-use Rattle.discharge.specs.declared.letter.Letter.{Letter}
-use Rattle.discharge.specs.Seen.{Seen}
+use Rattle.block_turns.specs.declared.letter.Letter.{Letter}
+use Rattle.block_turns.specs.Seen.{Seen}
 use Rattle.block_cut.specs.TurnEvents.{IsTurned}
 
 -- which of how many blocks the ends are of, the ways when they were made and now, and of each direction of so

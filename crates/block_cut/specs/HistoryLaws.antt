@@ -1,17 +1,17 @@
 -- The laws of seats, over the definitions alone.
 use Rattle.std.specs.Prelude.{◌≡◌, ◌≢◌, ℕ, ◌+◌, ◌<◌, ◌≤◌, List, length, sum, sum_by, All}
-use Rattle.parcel.specs.declared.event.Event.{Event}
-use Rattle.parcel.specs.States.{way_at}
-use Rattle.parcel.specs.Events.{IsQuiet}
-use Rattle.parcel.specs.Soundness.{IsSound}
-use Rattle.parcel.specs.Workers.{MayStart}
+use Rattle.block_events.specs.declared.event.Event.{Event}
+use Rattle.block_events.specs.States.{way_at}
+use Rattle.block_events.specs.Events.{IsQuiet}
+use Rattle.block_events.specs.Soundness.{IsSound}
+use Rattle.block_events.specs.Workers.{MayStart}
 use Rattle.block_net.specs.Views.{CellsView, count}
 use Rattle.block_net.specs.Whole.{Whole, block_at}
-use Rattle.parcel.specs.Effects.{state_of}
+use Rattle.block_events.specs.Effects.{state_of}
 use Rattle.laid_blocks.specs.Views.{IsLaid, blocks_in}
 use Rattle.block_core.specs.Mails.{HasRooms, IsHeld, room_at}
-use Rattle.discharge.specs.Seen.{Seen}
-use Rattle.discharge.specs.Steps.{Step, IsSure}
+use Rattle.block_turns.specs.Seen.{Seen}
+use Rattle.block_turns.specs.Steps.{Step, IsSure}
 use Rattle.block_cut.specs.TurnEvents.{HasRoom}
 use Rattle.block_cut.specs.Rounds.{Ways, AreBack, IsRound, quiet_state, state_after}
 

@@ -1,10 +1,10 @@
 -- Pushes that ask for less than the events do: an amount goes on wherever the labels stay valid.
 use Rattle.std.specs.Prelude.{ℕ, ◌+◌, ◌<◌, ◌≤◌, List, length}
-use Rattle.parcel.specs.declared.message.Message.{Message}
-use Rattle.parcel.specs.Soundness.{IsSound}
+use Rattle.block_events.specs.declared.message.Message.{Message}
+use Rattle.block_events.specs.Soundness.{IsSound}
 use Rattle.block_net.specs.Views.{CellsView, count, excess_in, label_in, room_in, lane_in, pushed, given}
 use Rattle.block_net.specs.Whole.{Whole}
-use Rattle.discharge.specs.Steps.{IsOfNode}
+use Rattle.block_turns.specs.Steps.{IsOfNode}
 use Rattle.block_cut.specs.Seats.{IsSeated, state_with}
 
 -- the block stands in its place among the others, in a sound state

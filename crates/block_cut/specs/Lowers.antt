@@ -1,7 +1,7 @@
 -- What a part of the work does to a state.
 use Rattle.std.specs.Prelude.{◌≡◌, ◌<◌, ◌≤◌, Bool, true, false}
-use Rattle.parcel.specs.States.{State}
-use Rattle.parcel.specs.Soundness.{count}
+use Rattle.block_events.specs.States.{State}
+use Rattle.block_events.specs.Soundness.{count}
 
 -- a state of the same net whose count is no higher
 pub record IsAfter (old new : State) : Type 0 where

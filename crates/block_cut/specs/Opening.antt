@@ -1,8 +1,8 @@
 -- What the first pushes make of the blocks.
 use Rattle.std.specs.Prelude.{◌≡◌, ℕ, ◌<◌, List, length}
-use Rattle.parcel.specs.declared.message.Message.{Message}
-use Rattle.parcel.specs.States.{State, label_of}
-use Rattle.parcel.specs.Soundness.{IsSound}
+use Rattle.block_events.specs.declared.message.Message.{Message}
+use Rattle.block_events.specs.States.{State, label_of}
+use Rattle.block_events.specs.Soundness.{IsSound}
 use Rattle.flow_network.specs.Cut.{nodes}
 use Rattle.block_net.specs.Views.{CellsView, count, label_in}
 use Rattle.block_net.specs.Whole.{Whole, block_at, whole_of, with_blocks}

@@ -1,14 +1,14 @@
 -- What passes over the blocks make of the pieces of a state.
 use Rattle.std.specs.Prelude.{◌≡◌, ℕ, ◌+◌, ◌<◌, ◌≤◌, List, length}
-use Rattle.parcel.specs.declared.event.Event.{Event}
-use Rattle.parcel.specs.declared.message.Message.{Message}
-use Rattle.parcel.specs.States.{State}
-use Rattle.parcel.specs.Events.{IsQuiet}
-use Rattle.parcel.specs.Workers.{MayStart}
-use Rattle.parcel.specs.Soundness.{IsSound, count}
+use Rattle.block_events.specs.declared.event.Event.{Event}
+use Rattle.block_events.specs.declared.message.Message.{Message}
+use Rattle.block_events.specs.States.{State}
+use Rattle.block_events.specs.Events.{IsQuiet}
+use Rattle.block_events.specs.Workers.{MayStart}
+use Rattle.block_events.specs.Soundness.{IsSound, count}
 use Rattle.block_net.specs.Views.{CellsView}
 use Rattle.block_net.specs.Whole.{whole_of, with_blocks}
-use Rattle.parcel.specs.Effects.{state_of}
+use Rattle.block_events.specs.Effects.{state_of}
 use Rattle.laid_blocks.specs.Views.{IsLaid, blocks_in}
 use Rattle.block_core.specs.Mails.{MailView, IsHeld}
 use Rattle.block_core.specs.declared.pieces.Pieces.{Pieces}

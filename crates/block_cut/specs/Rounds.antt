@@ -1,17 +1,17 @@
 -- Blocks before a round, and as they come back from the workers that held them.
 use Rattle.std.specs.Prelude.{◌≡◌, ◌≢◌, ℕ, ◌-◌, ◌<◌, List, [], ◌++◌, length, slice_index_or, sum}
-use Rattle.parcel.specs.declared.event.Event.{Event}
-use Rattle.parcel.specs.declared.message.Message.{Message}
-use Rattle.parcel.specs.States.{State, way_at}
-use Rattle.parcel.specs.Soundness.{IsSound, IsSquare}
-use Rattle.parcel.specs.Workers.{MayStart}
-use Rattle.parcel.specs.Rounds.{RoundOf}
-use Rattle.parcel.specs.RoundLaws.{no_messages}
+use Rattle.block_events.specs.declared.event.Event.{Event}
+use Rattle.block_events.specs.declared.message.Message.{Message}
+use Rattle.block_events.specs.States.{State, way_at}
+use Rattle.block_events.specs.Soundness.{IsSound, IsSquare}
+use Rattle.block_events.specs.Workers.{MayStart}
+use Rattle.block_events.specs.Rounds.{RoundOf}
+use Rattle.block_events.specs.RoundLaws.{no_messages}
 use Rattle.block_net.specs.Views.{CellsView}
 use Rattle.block_net.specs.Whole.{Whole, block_at, with_blocks}
-use Rattle.parcel.specs.Effects.{state_of}
+use Rattle.block_events.specs.Effects.{state_of}
 use Rattle.laid_blocks.specs.Views.{IsLaid, blocks_in}
-use Rattle.discharge.specs.Steps.{Held, DoesMany}
+use Rattle.block_turns.specs.Steps.{Held, DoesMany}
 
 -- of each block and each block, the messages on the way from the one to the other
 abbrev pub Ways : Type 0

@@ -1,13 +1,13 @@
 -- A block in its place among the others, and the state that it shows there.
 use Rattle.std.specs.Prelude.{◌≡◌, ℕ, ◌<◌, true, cond, ◌==◌, List, [], length}
-use Rattle.parcel.specs.declared.direction.Direction.{Direction}
-use Rattle.parcel.specs.declared.message.Message.{Message}
-use Rattle.parcel.specs.States.{State}
+use Rattle.block_events.specs.declared.direction.Direction.{Direction}
+use Rattle.block_events.specs.declared.message.Message.{Message}
+use Rattle.block_events.specs.States.{State}
 use Rattle.block_net.specs.Views.{CellsView, count}
 use Rattle.block_net.specs.Whole.{Whole, table, put_block}
-use Rattle.parcel.specs.Effects.{state_of}
+use Rattle.block_events.specs.Effects.{state_of}
 use Rattle.laid_blocks.specs.Views.{IsLaid, IsSpot, IsRow, blocks_in}
-use Rattle.discharge.specs.Steps.{Held}
+use Rattle.block_turns.specs.Steps.{Held}
 
 -- what went through the ends of the ways of block b: on the way from b to j what it put for j, and on the way
 -- from i to b what it took from i

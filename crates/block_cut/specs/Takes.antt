@@ -1,10 +1,10 @@
 -- Messages that are taken.
 use Rattle.std.specs.Prelude.{◌≡◌, ℕ, ◌<◌, Bool, List, [], All}
-use Rattle.parcel.specs.declared.event.Event.{Event}
-use Rattle.parcel.specs.declared.event.Event.TheVariants.{PushInner, PushSink, Relabel, Send, Accept, Refuse, Settle, RaiseAll}
-use Rattle.parcel.specs.States.{State, way_at}
-use Rattle.parcel.specs.Events.{Run}
-use Rattle.parcel.specs.Soundness.{IsSound}
+use Rattle.block_events.specs.declared.event.Event.{Event}
+use Rattle.block_events.specs.declared.event.Event.TheVariants.{PushInner, PushSink, Relabel, Send, Accept, Refuse, Settle, RaiseAll}
+use Rattle.block_events.specs.States.{State, way_at}
+use Rattle.block_events.specs.Events.{Run}
+use Rattle.block_events.specs.Soundness.{IsSound}
 use Rattle.block_cut.specs.Lowers.{Lowers}
 
 -- the event takes a message

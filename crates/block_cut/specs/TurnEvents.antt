@@ -1,15 +1,15 @@
 -- The laws of turns, over the definitions alone.
 use Rattle.std.specs.Prelude.{◌≡◌, ◌≢◌, ℕ, ◌+◌, ◌<◌, ◌≤◌, true, List, [], ◌++◌, length}
-use Rattle.parcel.specs.declared.event.Event.{Event}
-use Rattle.parcel.specs.declared.message.Message.{Message}
-use Rattle.parcel.specs.States.{way_at}
-use Rattle.parcel.specs.Events.{Run}
-use Rattle.parcel.specs.Soundness.{IsSound, IsSquare, count}
-use Rattle.parcel.specs.Workers.{IsHistory, MayStart}
+use Rattle.block_events.specs.declared.event.Event.{Event}
+use Rattle.block_events.specs.declared.message.Message.{Message}
+use Rattle.block_events.specs.States.{way_at}
+use Rattle.block_events.specs.Events.{Run}
+use Rattle.block_events.specs.Soundness.{IsSound, IsSquare, count}
+use Rattle.block_events.specs.Workers.{IsHistory, MayStart}
 use Rattle.block_net.specs.Views.{CellsView, border_in}
 use Rattle.block_net.specs.Whole.{Whole}
-use Rattle.discharge.specs.Seen.{Seen}
-use Rattle.discharge.specs.Steps.{Step, Held, DoesMany, IsSure}
+use Rattle.block_turns.specs.Seen.{Seen}
+use Rattle.block_turns.specs.Steps.{Step, Held, DoesMany, IsSure}
 use Rattle.block_cut.specs.Seats.{IsSeated, state_with, shown_by}
 
 -- n events of block b lead from what it shows to what it shows afterwards

@@ -1,9 +1,9 @@
 -- One turn of a block over the core's ways.
 use Rattle.std.specs.Prelude.{◌≡◌, ℕ, ◌+◌, ◌≤◌, List, length}
-use Rattle.parcel.specs.declared.event.Event.{Event}
-use Rattle.parcel.specs.declared.message.Message.{Message}
-use Rattle.parcel.specs.Events.{Run}
-use Rattle.parcel.specs.Soundness.{IsSound, count}
+use Rattle.block_events.specs.declared.event.Event.{Event}
+use Rattle.block_events.specs.declared.message.Message.{Message}
+use Rattle.block_events.specs.Events.{Run}
+use Rattle.block_events.specs.Soundness.{IsSound, count}
 use Rattle.block_net.specs.Views.{CellsView}
 use Rattle.block_net.specs.Whole.{Whole}
 use Rattle.block_cut.specs.Seats.{IsSeated, state_with}

@@ -2,8 +2,8 @@ ghost use Rattle.std.specs.Prelude.{◌≡◌, ◌≤◌, IfOk, length};
 ghost use Rattle.flow_network.specs.Limits.{capacity_limit};
 ghost use Rattle.flow_network.specs.Cut.{nodes, set_of, IsSmallestLeastCut};
 ghost use Rattle.flow_network.specs.Answer.{side_of, IsRightCut};
-ghost use Rattle.parcel.specs.Soundness.{IsFinished};
-ghost use Rattle.parcel.specs.Reach.{AreExact};
+ghost use Rattle.block_events.specs.Soundness.{IsFinished};
+ghost use Rattle.block_events.specs.Reach.{AreExact};
 
 use crate::flow::flow_of;
 use block_core::State;

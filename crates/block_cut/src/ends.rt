@@ -1,11 +1,11 @@
 ghost use Rattle.std.specs.Prelude.{◌≡◌, ◌*◌, ◌≤◌, ◌<◌, ◌↔◌, IsTrue, true, length};
-ghost use Rattle.parcel.specs.Soundness.{IsSquare};
+ghost use Rattle.block_events.specs.Soundness.{IsSquare};
 ghost use Rattle.block_net.specs.Limits.{arc_limit};
 ghost use Rattle.block_cut.specs.Ends.{IsEnds, seen_by, is_other, place_in, leaving, ends_view};
 
 use block_core::Mail;
-use discharge::{Letter, Ways};
-use parcel::{Direction, Message};
+use block_events::{Direction, Message};
+use block_turns::{Letter, Ways};
 use std::marker::Model;
 use std::snapshot::Snapshot;
 

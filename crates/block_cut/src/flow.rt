@@ -1,10 +1,10 @@
 ghost use Rattle.std.specs.Prelude.{◌≡◌, ◌+◌, ◌-◌, ◌*◌, ◌<◌, ℕ, IfOk, length, slice_index};
 ghost use Rattle.flow_network.specs.Cut.{nodes};
 ghost use Rattle.flow_network.specs.Preflow.{flow_by, arc_at};
-ghost use Rattle.parcel.specs.Directions.{backward};
-ghost use Rattle.parcel.specs.States.{room_of, residual_of};
-ghost use Rattle.parcel.specs.Soundness.{IsSound};
-ghost use Rattle.parcel.specs.Flows.{shown_flow};
+ghost use Rattle.block_events.specs.Directions.{backward};
+ghost use Rattle.block_events.specs.States.{room_of, residual_of};
+ghost use Rattle.block_events.specs.Soundness.{IsSound};
+ghost use Rattle.block_events.specs.Flows.{shown_flow};
 ghost use Rattle.global_relabel.specs.Homes.{AreHomes};
 
 use block_core::State;

@@ -1,11 +1,11 @@
 ghost use Rattle.std.specs.Prelude.{◌≡◌, ◌<◌, IsTrue, length};
-ghost use Rattle.parcel.specs.Events.{IsQuiet};
+ghost use Rattle.block_events.specs.Events.{IsQuiet};
 ghost use Rattle.block_core.specs.Mails.{IsHeld};
 ghost use Rattle.block_core.specs.Pieces.{state_in};
 ghost use Rattle.laid_blocks.specs.Views.{IsLaid};
 ghost use Rattle.block_net.specs.Views.{count};
 ghost use Rattle.block_net.specs.Whole.{whole_of};
-ghost use Rattle.discharge.specs.Steps.{IsOfNode};
+ghost use Rattle.block_turns.specs.Steps.{IsOfNode};
 ghost use Rattle.block_cut.specs.Opening.{Opens, AreOpening, AreLabelsZero, IsFlat};
 
 use crate::takes::take_in;

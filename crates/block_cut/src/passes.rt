@@ -1,7 +1,7 @@
 ghost use Rattle.std.specs.Prelude.{◌≡◌, ◌+◌, ◌<◌, ◌≤◌, ℕ, IfOk, IsFalse, length};
 ghost use Rattle.sums.specs.Sums.{counted};
-ghost use Rattle.parcel.specs.Events.{IsQuiet};
-ghost use Rattle.parcel.specs.Soundness.{IsFinished, count};
+ghost use Rattle.block_events.specs.Events.{IsQuiet};
+ghost use Rattle.block_events.specs.Soundness.{IsFinished, count};
 ghost use Rattle.block_core.specs.Pieces.{state_in};
 ghost use Rattle.block_cut.specs.Passes.{IsGoing, IsReady, IsStill};
 
@@ -9,7 +9,7 @@ use crate::orders::orders_of;
 use crate::turns::turn_of;
 use block_core::{Mail, Pieces, State};
 use block_net::{Cells, Parts};
-use discharge::Block;
+use block_turns::Block;
 use flow_network::Net;
 use std::alloc::{AllocError, Global};
 use std::snapshot::Snapshot;

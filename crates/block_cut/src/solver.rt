@@ -2,9 +2,9 @@ ghost use Rattle.std.specs.Prelude.{◌≡◌, ◌<◌, ◌≤◌, IfOk, length}
 ghost use Rattle.flow_network.specs.Limits.{capacity_limit};
 ghost use Rattle.flow_network.specs.Cut.{nodes, set_of, IsSmallestLeastCut};
 ghost use Rattle.flow_network.specs.Answer.{side_of, IsRightCut};
-ghost use Rattle.parcel.specs.Reach.{AreExact};
-ghost use Rattle.parcel.specs.Events.{IsQuiet};
-ghost use Rattle.parcel.specs.Soundness.{IsSound, IsFinished, count};
+ghost use Rattle.block_events.specs.Reach.{AreExact};
+ghost use Rattle.block_events.specs.Events.{IsQuiet};
+ghost use Rattle.block_events.specs.Soundness.{IsSound, IsFinished, count};
 
 use crate::answers::{answer_of, least_side};
 use crate::opening::open_if_new;

@@ -1,12 +1,12 @@
 ghost use Rattle.std.specs.Prelude.{◌≡◌, ◌<◌, IsFalse, [], ℕ};
-ghost use Rattle.parcel.specs.States.{IsWay, way_at};
-ghost use Rattle.parcel.specs.Events.{IsQuiet};
-ghost use Rattle.parcel.specs.Soundness.{IsSound};
+ghost use Rattle.block_events.specs.States.{IsWay, way_at};
+ghost use Rattle.block_events.specs.Events.{IsQuiet};
+ghost use Rattle.block_events.specs.Soundness.{IsSound};
 ghost use Rattle.block_cut.specs.Lowers.{IsAfter};
 ghost use Rattle.block_cut.specs.Takes.{Taken, TookIn, IsRowEmpty};
 
 use block_core::State;
-use parcel::Event;
+use block_events::Event;
 
 /// The message in front of a way is taken; no where none is there, and nothing changes.
 fn take_front(state: &mut State, from: u32, to: u32) -> bool

@@ -1,13 +1,13 @@
 ghost use Rattle.std.specs.Prelude.{◌≡◌, ◌*◌, ◌<◌, ◌≤◌, length};
-ghost use Rattle.parcel.specs.Soundness.{IsSquare};
+ghost use Rattle.block_events.specs.Soundness.{IsSquare};
 ghost use Rattle.block_net.specs.Limits.{arc_limit};
-ghost use Rattle.discharge.specs.Steps.{Step, IsSure};
+ghost use Rattle.block_turns.specs.Steps.{Step, IsSure};
 ghost use Rattle.block_cut.specs.Ends.{seen_by, ends_view};
 ghost use Rattle.block_cut.specs.Turns.{ReachesFrom};
 
 use crate::ends::Ends;
 use block_core::Mail;
-use discharge::{Block, turn};
+use block_turns::{Block, turn};
 
 /// One turn of a block over the core's ways, by ends that were just made: it does a list of at most `limit` events,
 /// which is a run of the core, and answers how many. Takes no memory.

@@ -7,10 +7,10 @@ use Rattle.std.proofs.lemmas.List.{length-set, length-map, length-replicate, get
 use Rattle.std.proofs.lemmas.List.{drop-drop}
 use Rattle.flow_network.specs.Cut.{Network, nodes, IsNet}
 use Rattle.flow_network.specs.Progress.{top}
-use Rattle.parcel.specs.declared.direction.Direction.{Direction}
-use Rattle.parcel.specs.Directions.{IsDirection, forward, backward, near, far}
-use Rattle.parcel.specs.States.{block_of, is_border}
-use Rattle.parcel.proofs.Ends.{near_in, far_in}
+use Rattle.block_events.specs.declared.direction.Direction.{Direction}
+use Rattle.block_events.specs.Directions.{IsDirection, forward, backward, near, far}
+use Rattle.block_events.specs.States.{block_of, is_border}
+use Rattle.block_events.proofs.Ends.{near_in, far_in}
 use Rattle.block_net.specs.declared.lanes.InnerLane.{InnerLane}
 use Rattle.block_net.specs.declared.lanes.Border.{Border}
 use Rattle.block_net.specs.Views.{CellsView, IsBlock, no_row, no_border}

@@ -9,12 +9,12 @@ use Rattle.sums.proofs.SumLemmas.{sum_below-same, sum_below-zero, sum_by-sum_bel
 use Rattle.flow_network.specs.Cut.{Network, nodes, IsNet}
 use Rattle.flow_network.specs.declared.arc.Arc.{Arc}
 use Rattle.flow_network.specs.Preflow.{arc_at}
-use Rattle.parcel.specs.declared.direction.Direction.{Direction}
-use Rattle.parcel.specs.Directions.{near, far, opposite}
-use Rattle.parcel.specs.States.{block_of, is_border}
-use Rattle.parcel.specs.Soundness.{first_residual}
-use Rattle.parcel.proofs.Ends.{far_in}
-use Rattle.parcel.proofs.Lanes.{near_opposite, border_opposite}
+use Rattle.block_events.specs.declared.direction.Direction.{Direction}
+use Rattle.block_events.specs.Directions.{near, far, opposite}
+use Rattle.block_events.specs.States.{block_of, is_border}
+use Rattle.block_events.specs.Soundness.{first_residual}
+use Rattle.block_events.proofs.Ends.{far_in}
+use Rattle.block_events.proofs.Lanes.{near_opposite, border_opposite}
 use Rattle.block_net.specs.declared.lanes.InnerLane.{InnerLane}
 use Rattle.block_net.specs.Views.{IsBlock, IsLane, IsBorder, spare}
 use Rattle.block_net.specs.Split.{ByNode, Rows, inner_rows, outer_rows, CanSplit, directions, direction_in, AreRows, AreGrouped, first_of, span, lane_made, border_made, lanes_made, borders_made, block_from, base_of}

@@ -4,10 +4,10 @@ use Rattle.std.proofs.lemmas.Bool.{cases_lt}
 use Rattle.std.proofs.lemmas.List.{get_or-drop, get_or-take, length-take, length-drop}
 use Rattle.std.proofs.lemmas.List.Elements.{All-from_get_or}
 use Rattle.flow_network.specs.Cut.{Network, nodes, IsNet}
-use Rattle.parcel.specs.declared.direction.Direction.{Direction}
-use Rattle.parcel.specs.Directions.{IsDirection, near}
-use Rattle.parcel.specs.States.{block_of, is_border}
-use Rattle.parcel.proofs.Ends.{near_in}
+use Rattle.block_events.specs.declared.direction.Direction.{Direction}
+use Rattle.block_events.specs.Directions.{IsDirection, near}
+use Rattle.block_events.specs.States.{block_of, is_border}
+use Rattle.block_events.proofs.Ends.{near_in}
 use Rattle.block_net.specs.Whole.{index_of}
 use Rattle.block_net.specs.Split.{Rows, directions, direction_in, AreRows, HasSlots, first_of, base_of, span}
 use Rattle.block_net.proofs.Numbers.{index_is, first_low}

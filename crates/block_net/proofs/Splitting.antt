@@ -3,14 +3,14 @@ use Rattle.std.proofs.Common.{◌≡◌, ℕ, ◌+◌, ◌-◌, ◌*◌, ◌/◌
 use Rattle.std.proofs.lemmas.List.{length-map, length-replicate, get_or-map, get_or-replicate}
 use Rattle.std.proofs.lemmas.List.FromFn.{fill_by_all}
 use Rattle.flow_network.specs.Cut.{Network, nodes, IsNet}
-use Rattle.parcel.specs.declared.lane.Lane.{Lane}
-use Rattle.parcel.specs.declared.direction.Direction.{Direction}
-use Rattle.parcel.specs.declared.message.Message.{Message}
-use Rattle.parcel.specs.Directions.{IsDirection, forward, backward, near, far}
-use Rattle.parcel.specs.States as core
-use Rattle.parcel.specs.Soundness.{first_residual, opened}
-use Rattle.parcel.proofs.Ends.{near_in, far_in}
-use Rattle.parcel.proofs.Opening.{opened_is}
+use Rattle.block_events.specs.declared.lane.Lane.{Lane}
+use Rattle.block_events.specs.declared.direction.Direction.{Direction}
+use Rattle.block_events.specs.declared.message.Message.{Message}
+use Rattle.block_events.specs.Directions.{IsDirection, forward, backward, near, far}
+use Rattle.block_events.specs.States as core
+use Rattle.block_events.specs.Soundness.{first_residual, opened}
+use Rattle.block_events.proofs.Ends.{near_in, far_in}
+use Rattle.block_events.proofs.Opening.{opened_is}
 use Rattle.block_net.specs.declared.lanes.InnerLane.{InnerLane}
 use Rattle.block_net.specs.declared.lanes.Border.{Border}
 use Rattle.block_net.specs.Views.{CellsView, count, excess_in, label_in, room_in, lane_in, border_in, no_row, no_border, first_lane, first_border}

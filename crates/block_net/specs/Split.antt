@@ -5,10 +5,10 @@ use Rattle.flow_network.specs.Cut.{Network, nodes}
 use Rattle.flow_network.specs.Preflow.{arc_at}
 use Rattle.flow_network.specs.Progress.{top}
 use Rattle.grouping.specs.Grouping.{count_below, rank}
-use Rattle.parcel.specs.declared.direction.Direction.{Direction}
-use Rattle.parcel.specs.Directions.{IsDirection, near, far, opposite}
-use Rattle.parcel.specs.States.{block_of, is_border}
-use Rattle.parcel.specs.Soundness.{first_residual, opened}
+use Rattle.block_events.specs.declared.direction.Direction.{Direction}
+use Rattle.block_events.specs.Directions.{IsDirection, near, far, opposite}
+use Rattle.block_events.specs.States.{block_of, is_border}
+use Rattle.block_events.specs.Soundness.{first_residual, opened}
 use Rattle.block_net.specs.declared.lanes.InnerLane.{InnerLane}
 use Rattle.block_net.specs.declared.lanes.Border.{Border}
 use Rattle.block_net.specs.Limits.{arc_limit, block_limit}

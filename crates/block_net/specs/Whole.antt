@@ -4,11 +4,11 @@ use Rattle.std.specs.List.{range_with_len}
 use Rattle.flow_network.specs.Cut.{Network, nodes}
 use Rattle.flow_network.specs.Preflow.{arc_at}
 use Rattle.flow_network.specs.Progress.{top}
-use Rattle.parcel.specs.declared.lane.Lane.{Lane}
-use Rattle.parcel.specs.declared.direction.Direction.{Direction}
-use Rattle.parcel.specs.declared.message.Message.{Message}
-use Rattle.parcel.specs.Directions.{IsDirection, forward, backward, near, far, opposite}
-use Rattle.parcel.specs.States as core
+use Rattle.block_events.specs.declared.lane.Lane.{Lane}
+use Rattle.block_events.specs.declared.direction.Direction.{Direction}
+use Rattle.block_events.specs.declared.message.Message.{Message}
+use Rattle.block_events.specs.Directions.{IsDirection, forward, backward, near, far, opposite}
+use Rattle.block_events.specs.States as core
 use Rattle.block_net.specs.declared.parts.Parts.{Parts}
 use Rattle.block_net.specs.declared.lanes.InnerLane.{InnerLane}
 use Rattle.block_net.specs.declared.lanes.Border.{Border}

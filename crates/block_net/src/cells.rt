@@ -1,8 +1,8 @@
 ghost use Rattle.std.specs.Prelude.{◌≡◌, ◌≢◌, ◌↔◌, IsTrue, ◌+◌, ◌^◌, ◌<◌, ◌≤◌, min, All, IfOk, None, length};
 ghost use Rattle.flow_network.specs.Limits.{node_limit};
 ghost use Rattle.flow_network.specs.Progress.{top_label};
-ghost use Rattle.parcel.specs.declared.message.Message.TheVariants.{Accepted, Refused};
-ghost use Rattle.parcel.specs.Directions.{opposite};
+ghost use Rattle.block_events.specs.declared.message.Message.TheVariants.{Accepted, Refused};
+ghost use Rattle.block_events.specs.Directions.{opposite};
 ghost use Rattle.block_net.specs.Split.{CanSplit, starts_made, rows_made, block_rows, block_made};
 ghost use Rattle.block_net.specs.Views.{CellsView, count, excess_in, label_in, room_in, lane_in, border_in, first_lane, first_border, out_of, MayPush, MaySend, pushed, given, labelled, sent, accepted, settled, returned, informed, parcel_of, lane_allows, border_allows, highest};
 
@@ -14,8 +14,8 @@ use crate::leaving::Leaving;
 use crate::make::starts_from;
 use crate::opening::nodes_from;
 use crate::{Border, InnerLane, opposite_of};
+use block_events::{Flight, Message};
 use flow_network::Net;
-use parcel::{Flight, Message};
 use std::alloc::{AllocError, Global};
 use std::marker::Model;
 

@@ -2,7 +2,7 @@ ghost use Rattle.std.specs.Prelude.{◌≡◌, ◌<◌, ◌^◌};
 ghost use Rattle.block_net.specs.Limits.{block_limit};
 
 use crate::Border;
-use parcel::{Direction, Flight};
+use block_events::{Direction, Flight};
 use std::marker::Model;
 
 /// A direction to another block as a block keeps it, in 48 bytes: an arc's place is below `ARC_LIMIT`, and a

@@ -1,13 +1,13 @@
 ghost use Rattle.std.specs.Prelude.{◌≡◌, ◌+◌, ◌*◌, ◌<◌, ◌≤◌, length};
 ghost use Rattle.flow_network.specs.Limits.{node_limit};
 ghost use Rattle.flow_network.specs.Cut.{nodes, IsNet};
-ghost use Rattle.parcel.specs.Directions.{IsDirection, near, far};
-ghost use Rattle.parcel.specs.States.{is_border};
+ghost use Rattle.block_events.specs.Directions.{IsDirection, near, far};
+ghost use Rattle.block_events.specs.States.{is_border};
 ghost use Rattle.block_net.specs.Limits.{block_limit};
 ghost use Rattle.block_net.specs.Split.{CanSplit, first_of, homes_made};
 
+use block_events::Direction;
 use flow_network::Net;
-use parcel::Direction;
 
 /// The node that a direction leaves.
 pub(crate) fn near(net: &Net, direction: Direction) -> u32

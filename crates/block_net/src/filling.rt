@@ -1,8 +1,8 @@
 ghost use Rattle.std.specs.Prelude.{◌≡◌, ◌+◌, ◌-◌, ◌<◌, ◌≤◌, IfOk, length, slice_index, slice_set};
 ghost use Rattle.flow_network.specs.Cut.{nodes, IsNet};
-ghost use Rattle.parcel.specs.Directions.{IsDirection, near, far};
-ghost use Rattle.parcel.specs.States.{block_of};
-ghost use Rattle.parcel.specs.Soundness.{first_residual};
+ghost use Rattle.block_events.specs.Directions.{IsDirection, near, far};
+ghost use Rattle.block_events.specs.States.{block_of};
+ghost use Rattle.block_events.specs.Soundness.{first_residual};
 ghost use Rattle.block_net.specs.Limits.{arc_limit, block_limit};
 ghost use Rattle.block_net.specs.Whole.{table};
 ghost use Rattle.block_net.specs.Split.{CanSplit, homes_made, firsts_made, rows_made, ranks_made, starts_made, lane_by, border_by, all_rows, blank_rows, AreHeld, AreWritten};
@@ -13,9 +13,9 @@ use crate::homes::homes_of;
 use crate::leaving::Leaving;
 use crate::make::blanks;
 use crate::{Border, InnerLane};
+use block_events::Direction;
 use flow_network::Net;
 use grouping::Ranked;
-use parcel::Direction;
 use std::alloc::{AllocError, Global};
 
 /// The block of a node, by the block of each.

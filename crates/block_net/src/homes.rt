@@ -1,7 +1,7 @@
 ghost use Rattle.std.specs.Prelude.{◌≡◌, ◌+◌, ◌<◌, IfOk};
 ghost use Rattle.std.specs.Vec.{vec_len, vec_capacity};
 ghost use Rattle.flow_network.specs.Cut.{nodes};
-ghost use Rattle.parcel.specs.States.{block_of};
+ghost use Rattle.block_events.specs.States.{block_of};
 ghost use Rattle.block_net.specs.Whole.{table};
 ghost use Rattle.block_net.specs.Split.{CanSplit, first_of, homes_made};
 

@@ -4,7 +4,7 @@ ghost use Rattle.block_net.specs.Views.{no_row, no_border};
 
 use crate::compact::CompactBorder;
 use crate::{Border, InnerLane};
-use parcel::Direction;
+use block_events::Direction;
 use std::alloc::{AllocError, Global};
 use std::marker::Model;
 

@@ -2,17 +2,17 @@
 use Rattle.std.proofs.Common.{◌≡◌, ◌≢◌, ℕ, zero, suc, ◌+◌, ◌<◌, ◌≤◌, Bool, true, false, cond, eqb, List, [], ◌∷◌, ◌++◌, length, get_or, slice_index, refl, sym, arith}
 use Rattle.std.proofs.lemmas.Bool.{false≢true}
 use Rattle.flow_network.specs.Cut.{IsNet, IsArc}
-use Rattle.parcel.specs.declared.direction.Direction.{Direction}
-use Rattle.parcel.specs.declared.message.Message.{Message}
-use Rattle.parcel.specs.declared.message.Message.TheVariants.{Parcel}
-use Rattle.parcel.specs.Directions.{forward, backward, near}
-use Rattle.parcel.specs.States.{way_at}
+use Rattle.block_events.specs.declared.direction.Direction.{Direction}
+use Rattle.block_events.specs.declared.message.Message.{Message}
+use Rattle.block_events.specs.declared.message.Message.TheVariants.{Parcel}
+use Rattle.block_events.specs.Directions.{forward, backward, near}
+use Rattle.block_events.specs.States.{way_at}
 use Rattle.block_tests.specs.Runs.{two_source_net}
-use Rattle.parcel.proofs.Opening.{opened_sound}
+use Rattle.block_events.proofs.Opening.{opened_sound}
 use Rattle.block_net.specs.Views.{count, first_lane, first_border}
 use Rattle.block_net.specs.Whole.{block_at, block_with, home, place, near_home, slot, is_outer, IsInnerAt, IsBorderAt, StandsAt, LiesAt, IsPlaced, IsFilled, with_blocks}
 use Rattle.laid_blocks.specs.Views.{IsLaid}
-use Rattle.discharge.specs.Steps.{Held, Rise, Send, DoesMany}
+use Rattle.block_turns.specs.Steps.{Held, Rise, Send, DoesMany}
 use Rattle.block_cut.specs.Rounds.{fresh}
 use Rattle.block_tests.specs.Seats.{whole_before, blocks_after, left_on_the_way, BlocksComeBack}
 

@@ -4,7 +4,7 @@ ghost use Rattle.block_net.specs.Standing.{nodes};
 
 use crate::building::net_of;
 use block_net::{ARC_LIMIT, Buckets, Cells, Parts};
-use discharge::Bucketed;
+use block_turns::Bucketed;
 use std::alloc::AllocError;
 use std::process::Abort;
 use std::test::Fail;

@@ -2,7 +2,7 @@ use crate::building::{core_of, net_of};
 use crate::rows::expect;
 use block_core::{Core, State};
 use block_cut::finish;
-use parcel::{Direction, Event, Message};
+use block_events::{Direction, Event, Message};
 use std::alloc::AllocError;
 use std::process::Abort;
 use std::test::Fail;

@@ -5,9 +5,9 @@ use Rattle.std.proofs.lemmas.Bool.{cases_eq, eq-eqb, ne_eqb}
 use Rattle.std.proofs.lemmas.List.{length-set, map-append}
 use Rattle.std.proofs.lemmas.Grind.{common_steps}
 use Rattle.std.proofs.lemmas.Slice.Zip.{AllZip-long}
-use Rattle.parcel.specs.declared.message.Message.{Message}
-use Rattle.discharge.specs.declared.letter.Letter.{Letter}
-use Rattle.discharge.specs.Seen.{IsLook, IsPut, IsTake, add_to}
+use Rattle.block_events.specs.declared.message.Message.{Message}
+use Rattle.block_turns.specs.declared.letter.Letter.{Letter}
+use Rattle.block_turns.specs.Seen.{IsLook, IsPut, IsTake, add_to}
 use Rattle.block_workers.specs.declared.port.Port.{Port}
 use Rattle.block_workers.specs.Ports.{other, put, taken, free, first, IsSamePort, Looks, PutsLetter, TakesLetter}
 use Rattle.block_workers.specs.Seeing.{messages, others, read_at, seen, AreSame, AreFound, IsPlace}

@@ -1,9 +1,9 @@
 -- What a block sees of its ports.
 use Rattle.std.specs.Prelude.{◌≡◌, ℕ, ◌<◌, ◌==◌, nat_lt, false, cond, List, [], ◌∷◌, length, map, slice_index, slice_get, Some, None}
 use Rattle.std.specs.List.{AllZip}
-use Rattle.parcel.specs.declared.message.Message.{Message}
-use Rattle.discharge.specs.declared.letter.Letter.{Letter}
-use Rattle.discharge.specs.Seen.{Seen}
+use Rattle.block_events.specs.declared.message.Message.{Message}
+use Rattle.block_turns.specs.declared.letter.Letter.{Letter}
+use Rattle.block_turns.specs.Seen.{Seen}
 use Rattle.block_workers.specs.declared.port.Port.{Port}
 use Rattle.block_workers.specs.Ports.{other, put, taken, free, first, IsSamePort}
 

@@ -1,9 +1,9 @@
 ghost use Rattle.std.specs.Prelude.{◌≡◌, ◌≤◌, ◌<◌, ◌^◌, length, All, IfOk, MatchOption};
-ghost use Rattle.discharge.specs.Seen.{IsLook};
+ghost use Rattle.block_turns.specs.Seen.{IsLook};
 ghost use Rattle.block_workers.specs.Seeing.{AreFound, AreRising, AreSame, IsPlace, LeadNotTo, seen};
 
 use crate::Port;
-use discharge::Letter;
+use block_turns::Letter;
 use std::alloc::{AllocError, Global};
 use std::mem::replace;
 
@@ -61,9 +61,9 @@ fn has_letter(ports: &mut Vec<Port>) -> bool
 
 impl Ends {
     ghost use Rattle.std.specs.Prelude.{Option, Some, is_some, true};
-    ghost use Rattle.parcel.specs.Workers.{IsFair};
-    ghost use Rattle.discharge.specs.declared.letter.Letter.{Letter};
-    ghost use Rattle.discharge.specs.Seen.{IsPut, IsTake};
+    ghost use Rattle.block_events.specs.Workers.{IsFair};
+    ghost use Rattle.block_turns.specs.declared.letter.Letter.{Letter};
+    ghost use Rattle.block_turns.specs.Seen.{IsPut, IsTake};
     ghost use Rattle.block_workers.specs.Ends.{ports};
 
     /// The ends with these ports, which lead to blocks below `blocks` by rising numbers. The only error is that

@@ -3,7 +3,7 @@ ghost use Rattle.block_workers.specs.Ports.{IsNewPort, LeadsTo, Looks, TakesAll,
 
 use crate::port::Port;
 use crate::rule::Fair;
-use discharge::Letter;
+use block_turns::Letter;
 use rtrb::RingBuffer;
 use std::alloc::{AllocError, Global};
 

@@ -1,8 +1,8 @@
 ghost use Rattle.std.specs.Prelude.{◌≡◌, ◌<◌, ◌↔◌, IsSome, IsTrue};
-ghost use Rattle.parcel.specs.Workers.{IsFair};
+ghost use Rattle.block_events.specs.Workers.{IsFair};
 
 use crate::rule::Fair;
-use discharge::Letter;
+use block_turns::Letter;
 use rtrb::{Consumer, Producer};
 use std::alloc::Global;
 

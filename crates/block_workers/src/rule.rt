@@ -1,6 +1,6 @@
-ghost use Rattle.parcel.specs.Workers.{IsFair};
+ghost use Rattle.block_events.specs.Workers.{IsFair};
 
-use discharge::Letter;
+use block_turns::Letter;
 use rtrb::Protocol;
 
 /// The rule of the rings: who takes a letter knows that its message is fair, since none other may be put.

@@ -4,7 +4,7 @@ ghost use Rattle.block_net.specs.Views.{count};
 
 use crate::turn_ends::turn_with;
 use crate::{Ends, Job, TurnBook};
-use discharge::Block;
+use block_turns::Block;
 use std::sync::{Mutex, Wait};
 use worker_options::Gate;
 
@@ -28,7 +28,7 @@ pub struct Seat {
 
 impl Seat {
     ghost use Rattle.std.specs.Prelude.{◌<◌, ◌^◌};
-    ghost use Rattle.discharge.specs.Steps.{IsSure, Step};
+    ghost use Rattle.block_turns.specs.Steps.{IsSure, Step};
     ghost use Rattle.block_workers.specs.Ends.{ports};
     ghost use Rattle.block_workers.specs.Seeing.{seen};
     ghost use Rattle.block_workers.specs.Turns.{IsNewSeat, Went, WentOn, Worked, most};

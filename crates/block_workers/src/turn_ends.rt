@@ -1,11 +1,11 @@
 ghost use Rattle.std.specs.Prelude.{◌≡◌, ◌<◌, ◌≤◌, true};
 ghost use Rattle.block_net.specs.Views.{count};
-ghost use Rattle.discharge.specs.Steps.{DoesMany, IsSure, Step, held};
+ghost use Rattle.block_turns.specs.Steps.{DoesMany, IsSure, Step, held};
 ghost use Rattle.block_workers.specs.Ends.{ports};
 ghost use Rattle.block_workers.specs.Seeing.{AreSame, seen};
 
 use crate::Ends;
-use discharge::{Block, Letter, Ways, turn};
+use block_turns::{Block, Letter, Ways, turn};
 use std::marker::{Brand, Model, PhantomData};
 
 /// The ports with which a turn begins.

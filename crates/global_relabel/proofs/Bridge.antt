@@ -8,15 +8,15 @@ use Rattle.flow_network.specs.Preflow.{Flow, flow_by, given, AreRooms}
 use Rattle.flow_network.specs.Progress.{top}
 use Rattle.flow_network.proofs.Given.{length-given, given_at}
 use Rattle.sink_distances.specs.Distances.{IsExactLabel, AreDistances}
-use Rattle.parcel.specs.Directions.{backward}
-use Rattle.parcel.specs.States.{State, residual_of, room_of}
-use Rattle.parcel.specs.Reach.{IsExact, AreExact, IsReachOf}
-use Rattle.parcel.specs.Flows.{shown_flow}
-use Rattle.parcel.specs.Events.{IsQuiet}
-use Rattle.parcel.specs.Soundness.{IsSound}
-use Rattle.parcel.proofs.Showing.{IsShown, leads_reaches, reaches_leads}
-use Rattle.parcel.proofs.Finishing.{flow_arc, flow_sink, quiet_shown}
-use Rattle.parcel.proofs.Opening.{map_at}
+use Rattle.block_events.specs.Directions.{backward}
+use Rattle.block_events.specs.States.{State, residual_of, room_of}
+use Rattle.block_events.specs.Reach.{IsExact, AreExact, IsReachOf}
+use Rattle.block_events.specs.Flows.{shown_flow}
+use Rattle.block_events.specs.Events.{IsQuiet}
+use Rattle.block_events.specs.Soundness.{IsSound}
+use Rattle.block_events.proofs.Showing.{IsShown, leads_reaches, reaches_leads}
+use Rattle.block_events.proofs.Finishing.{flow_arc, flow_sink, quiet_shown}
+use Rattle.block_events.proofs.Opening.{map_at}
 
 module _ (s : State) (net : Network) (flow : Flow) (shown : IsShown s net flow) where
   to_distance : (v label : ℕ) → IsExact s v label → IsExactLabel net flow v label

@@ -2,10 +2,10 @@
 use Rattle.std.proofs.Common.{◌≡◌, ℕ, zero, suc, ◌+◌, ◌<◌, ◌≤◌, ◌⊎◌, List, slice_index, inl, inr, refl, sym, ◌∙◌, ap, subst, arith}
 use Rattle.flow_network.specs.Cut.{nodes, IsNet}
 use Rattle.flow_network.specs.Progress.{top}
-use Rattle.parcel.specs.Directions.{far}
-use Rattle.parcel.specs.States.{State}
-use Rattle.parcel.specs.Reach.{ReachesIn, IsExact, AreExact}
-use Rattle.parcel.proofs.Ends.{near_in, far_in}
+use Rattle.block_events.specs.Directions.{far}
+use Rattle.block_events.specs.States.{State}
+use Rattle.block_events.specs.Reach.{ReachesIn, IsExact, AreExact}
+use Rattle.block_events.proofs.Ends.{near_in, far_in}
 use Rattle.global_relabel.specs.Local.{AreLocallyExact, IsLocallyExact}
 
 module _ (s : State) (labels : List ℕ) (net : IsNet s.net) (local : AreLocallyExact s labels) where

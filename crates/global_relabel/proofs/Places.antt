@@ -2,12 +2,12 @@
 -- can still carry.
 use Rattle.std.proofs.Common.{◌≡◌, ℕ, ◌+◌, ◌<◌, ◌≤◌, Bool, true, false, List, length, slice_index, refl, sym, ◌∙◌, ap, subst, arith}
 use Rattle.flow_network.specs.Cut.{nodes}
-use Rattle.parcel.specs.declared.lane.Lane.{Lane}
-use Rattle.parcel.specs.declared.direction.Direction.{Direction}
-use Rattle.parcel.specs.Directions.{IsDirection, near, far, opposite}
-use Rattle.parcel.specs.States as core
-use Rattle.parcel.proofs.Ends.{far_in}
-use Rattle.parcel.proofs.Lanes.{near_opposite, border_opposite}
+use Rattle.block_events.specs.declared.lane.Lane.{Lane}
+use Rattle.block_events.specs.declared.direction.Direction.{Direction}
+use Rattle.block_events.specs.Directions.{IsDirection, near, far, opposite}
+use Rattle.block_events.specs.States as core
+use Rattle.block_events.proofs.Ends.{far_in}
+use Rattle.block_events.proofs.Lanes.{near_opposite, border_opposite}
 use Rattle.block_net.specs.declared.lanes.Border.{Border}
 use Rattle.block_net.specs.Views.{CellsView, lane_in, border_in, first_lane, first_border}
 use Rattle.block_net.specs.Whole.{Whole, block_at, block_with, home, place, slot, is_outer, border_of, shown, StandsAt}

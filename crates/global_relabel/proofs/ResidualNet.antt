@@ -13,11 +13,11 @@ use Rattle.flow_network.specs.Preflow.{Flow, flow_by, given, arc_at, IsResidual}
 use Rattle.flow_network.proofs.Bounds.{sum-le-sum}
 use Rattle.flow_network.proofs.Duality.{arc_is}
 use Rattle.flow_network.proofs.Given.{given_none, sinks_rooms}
-use Rattle.parcel.specs.Directions.{forward, backward, near, far}
-use Rattle.parcel.specs.States.{State, residual_of, room_of}
-use Rattle.parcel.specs.Soundness.{IsSound}
-use Rattle.parcel.proofs.Showing.{IsShown}
-use Rattle.parcel.specs.Reach.{AreExact}
+use Rattle.block_events.specs.Directions.{forward, backward, near, far}
+use Rattle.block_events.specs.States.{State, residual_of, room_of}
+use Rattle.block_events.specs.Soundness.{IsSound}
+use Rattle.block_events.proofs.Showing.{IsShown}
+use Rattle.block_events.specs.Reach.{AreExact}
 use Rattle.sink_distances.specs.Search.{Found, label_of, node_at, AreStarts, Grows}
 use Rattle.sink_distances.proofs.Searching.{IsSearched, searched_begins, searched_more, searched_exact}
 use Rattle.block_net.specs.declared.parts.Parts.{Parts}

@@ -3,14 +3,14 @@ use Rattle.std.proofs.Common.{◌≡◌, ℕ, zero, suc, ◌+◌, ◌<◌, ◌�
 use Rattle.std.proofs.lemmas.Bool.{cases_lt}
 use Rattle.flow_network.specs.Cut.{nodes}
 use Rattle.flow_network.specs.Progress.{top}
-use Rattle.parcel.specs.declared.event.Event.TheVariants.{RaiseAll}
-use Rattle.parcel.specs.declared.lane.Lane.{Lane}
-use Rattle.parcel.specs.States.{State, excess_of}
-use Rattle.parcel.specs.Directions.{far}
-use Rattle.parcel.specs.Reach.{ReachesIn, Reaches, AreExact}
-use Rattle.parcel.specs.Events.{IsQuiet, Happens, raised}
-use Rattle.parcel.specs.Soundness.{IsFinished}
-use Rattle.parcel.proofs.Raising.{told_is}
+use Rattle.block_events.specs.declared.event.Event.TheVariants.{RaiseAll}
+use Rattle.block_events.specs.declared.lane.Lane.{Lane}
+use Rattle.block_events.specs.States.{State, excess_of}
+use Rattle.block_events.specs.Directions.{far}
+use Rattle.block_events.specs.Reach.{ReachesIn, Reaches, AreExact}
+use Rattle.block_events.specs.Events.{IsQuiet, Happens, raised}
+use Rattle.block_events.specs.Soundness.{IsFinished}
+use Rattle.block_events.proofs.Raising.{told_is}
 use Rattle.block_net.specs.declared.parts.Parts.{Parts}
 use Rattle.block_net.specs.Views.{count, excess_in}
 use Rattle.block_net.specs.Whole.{Whole, LiesAt, block_at, home, place, whole_of}

@@ -4,7 +4,7 @@ use Rattle.std.proofs.lemmas.Bool.{cases_lt}
 use Rattle.flow_network.specs.Cut.{nodes}
 use Rattle.sink_distances.specs.Search.{Found, label_of, Grows, AreStarts}
 use Rattle.sink_distances.proofs.Order.{grows_falls}
-use Rattle.parcel.specs.States.{State, room_of}
+use Rattle.block_events.specs.States.{State, room_of}
 use Rattle.block_net.specs.declared.parts.Parts.{Parts}
 use Rattle.block_net.specs.Views.{CellsView, count, room_in}
 use Rattle.block_net.specs.Whole.{Whole, LiesAt, block_at, home, place, whole_of}

@@ -4,10 +4,10 @@ use Rattle.std.proofs.lemmas.Bool.{cases_lt, cases_Bool}
 use Rattle.flow_network.specs.Progress.{top_label}
 use Rattle.sink_distances.specs.Search.{Found, label_of, IsReady, Grows}
 use Rattle.sink_distances.proofs.Order.{grows_more, grows_falls}
-use Rattle.parcel.specs.declared.direction.Direction.{Direction}
-use Rattle.parcel.specs.Directions.{IsDirection, near, far, opposite}
-use Rattle.parcel.specs.States.{lane_at}
-use Rattle.parcel.proofs.Lanes.{near_opposite, far_opposite, opposite_twice, border_opposite}
+use Rattle.block_events.specs.declared.direction.Direction.{Direction}
+use Rattle.block_events.specs.Directions.{IsDirection, near, far, opposite}
+use Rattle.block_events.specs.States.{lane_at}
+use Rattle.block_events.proofs.Lanes.{near_opposite, far_opposite, opposite_twice, border_opposite}
 use Rattle.block_net.specs.Whole.{Whole, home, slot, is_outer, shown, StandsAt, IsPlaced}
 use Rattle.global_relabel.specs.Search.{LeadsTo, AreMarked}
 

@@ -1,7 +1,7 @@
 -- The block of each node.
 use Rattle.std.specs.Prelude.{◌≡◌, ℕ, ◌<◌, List, length, slice_index}
 use Rattle.flow_network.specs.Cut.{Network, nodes}
-use Rattle.parcel.specs.States.{block_of}
+use Rattle.block_events.specs.States.{block_of}
 
 -- the numbers are those of the blocks that the nodes lie in, of so many blocks
 pub record AreHomes (net : Network) (blocks : ℕ) (homes : List ℕ) : Type 0 where

@@ -1,11 +1,11 @@
 use Rattle.std.specs.Prelude.{◌↔◌, ℕ, List}
 use Rattle.flow_network.specs.Cut.{IsNet}
 use Rattle.sink_distances.specs.Distances.{AreDistances}
-use Rattle.parcel.specs.States.{State}
-use Rattle.parcel.specs.Reach.{AreExact}
-use Rattle.parcel.specs.Flows.{shown_flow}
-use Rattle.parcel.specs.Events.{IsQuiet}
-use Rattle.parcel.specs.Soundness.{IsSound}
+use Rattle.block_events.specs.States.{State}
+use Rattle.block_events.specs.Reach.{AreExact}
+use Rattle.block_events.specs.Flows.{shown_flow}
+use Rattle.block_events.specs.Events.{IsQuiet}
+use Rattle.block_events.specs.Soundness.{IsSound}
 use Rattle.global_relabel.specs.Local.{AreLocallyExact}
 
 -- exact labels are the distances over the flow that the state shows

@@ -1,9 +1,9 @@
 -- The nodes that a search by levels begins at, and the directions that it goes against.
 use Rattle.std.specs.Prelude.{◌≡◌, ℕ, ◌+◌, ◌<◌, ◌≤◌, Bool, List, slice_index}
 use Rattle.flow_network.specs.Cut.{Network}
-use Rattle.parcel.specs.declared.direction.Direction.{Direction}
-use Rattle.parcel.specs.Directions.{IsDirection, near, far}
-use Rattle.parcel.specs.States.{Lanes, lane_at}
+use Rattle.block_events.specs.declared.direction.Direction.{Direction}
+use Rattle.block_events.specs.Directions.{IsDirection, near, far}
+use Rattle.block_events.specs.States.{Lanes, lane_at}
 use Rattle.block_net.specs.Views.{CellsView, count, room_in}
 use Rattle.block_net.specs.Whole.{Whole, is_outer, shown}
 

@@ -1,8 +1,8 @@
 ghost use Rattle.std.specs.Prelude.{◌≡◌, IfOk, OnOk, OnErr, length};
 ghost use Rattle.flow_network.specs.Cut.{nodes, set_of};
-ghost use Rattle.parcel.specs.declared.event.Event.TheVariants.{RaiseAll};
-ghost use Rattle.parcel.specs.Reach.{AreExact, IsReachOf};
-ghost use Rattle.parcel.specs.Events.{IsQuiet, Happens};
+ghost use Rattle.block_events.specs.declared.event.Event.TheVariants.{RaiseAll};
+ghost use Rattle.block_events.specs.Reach.{AreExact, IsReachOf};
+ghost use Rattle.block_events.specs.Events.{IsQuiet, Happens};
 
 use crate::workspace::Workspace;
 use block_core::State;

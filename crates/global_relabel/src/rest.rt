@@ -1,7 +1,7 @@
 ghost use Rattle.std.specs.Prelude.{◌↔◌, ◌+◌, ◌<◌, ℕ, IsTrue, length};
-ghost use Rattle.parcel.specs.Events.{IsQuiet};
-ghost use Rattle.parcel.specs.Reach.{AreExact};
-ghost use Rattle.parcel.specs.Soundness.{IsFinished};
+ghost use Rattle.block_events.specs.Events.{IsQuiet};
+ghost use Rattle.block_events.specs.Reach.{AreExact};
+ghost use Rattle.block_events.specs.Soundness.{IsFinished};
 ghost use Rattle.block_net.specs.Views.{count};
 ghost use Rattle.global_relabel.specs.Rest.{IsAtRest};
 

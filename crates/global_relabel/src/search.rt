@@ -2,7 +2,7 @@ ghost use Rattle.std.specs.Prelude.{◌≡◌, ◌+◌, ◌<◌, ◌≤◌, ℕ,
 ghost use Rattle.flow_network.specs.Limits.{node_limit};
 ghost use Rattle.flow_network.specs.Cut.{nodes, IsNet};
 ghost use Rattle.sink_distances.specs.Search.{found_of, AreStarts, IsReady, Grows};
-ghost use Rattle.parcel.specs.Reach.{AreExact};
+ghost use Rattle.block_events.specs.Reach.{AreExact};
 ghost use Rattle.block_net.specs.Views.{lane_in, border_in};
 ghost use Rattle.block_net.specs.Whole.{shown, whole_of};
 ghost use Rattle.laid_blocks.specs.Views.{IsLaid, IsSpot};

@@ -1,7 +1,7 @@
 ghost use Rattle.std.specs.Prelude.{IfOk};
-ghost use Rattle.parcel.specs.declared.event.Event.TheVariants.{RaiseAll};
-ghost use Rattle.parcel.specs.Reach.{AreExact};
-ghost use Rattle.parcel.specs.Events.{IsQuiet, Happens};
+ghost use Rattle.block_events.specs.declared.event.Event.TheVariants.{RaiseAll};
+ghost use Rattle.block_events.specs.Reach.{AreExact};
+ghost use Rattle.block_events.specs.Events.{IsQuiet, Happens};
 ghost use Rattle.global_relabel.specs.Homes.{AreHomes};
 ghost use Rattle.global_relabel.specs.Workspaces.{IsListed, Serves};
 

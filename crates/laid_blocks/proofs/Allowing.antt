@@ -3,15 +3,15 @@ use Rattle.std.proofs.Common.{◌≡◌, ℕ, zero, suc, ◌+◌, ◌-◌, ◌<�
 use Rattle.std.specs.Option.{is_some}
 use Rattle.std.proofs.lemmas.Bool.{cases_eq, cases_lt, cases_Bool, eq-eqb, ne_eqb}
 use Rattle.flow_network.specs.Progress.{top}
-use Rattle.parcel.specs.declared.lane.Lane.{Lane}
-use Rattle.parcel.specs.declared.direction.Direction.{Direction}
-use Rattle.parcel.specs.Directions.{IsDirection, forward, backward, near, far}
-use Rattle.parcel.specs.States as core
-use Rattle.parcel.specs.Events.{least_below, is_open, allowed, highest_label}
-use Rattle.parcel.proofs.Inside.{least-le-start, least-le}
+use Rattle.block_events.specs.declared.lane.Lane.{Lane}
+use Rattle.block_events.specs.declared.direction.Direction.{Direction}
+use Rattle.block_events.specs.Directions.{IsDirection, forward, backward, near, far}
+use Rattle.block_events.specs.States as core
+use Rattle.block_events.specs.Events.{least_below, is_open, allowed, highest_label}
+use Rattle.block_events.proofs.Inside.{least-le-start, least-le}
 use Rattle.block_net.specs.Views.{CellsView, lane_in, label_in, room_in, first_lane, first_border, least_span, lane_allows, border_allows, highest}
 use Rattle.block_net.specs.Whole.{Whole, block_at, block_with, home, place, slot, is_outer, StandsAt}
-use Rattle.parcel.specs.Effects.{BlocksView, state_of}
+use Rattle.block_events.specs.Effects.{BlocksView, state_of}
 use Rattle.laid_blocks.specs.Views.{IsSpot, IsRow}
 use Rattle.laid_blocks.proofs.Steps.{IsAt, label_read, room_read, top_read, inner_read, border_read, far_spot}
 

@@ -5,21 +5,21 @@ use Rattle.std.proofs.lemmas.List.FromFn.{get_or-map-range_with_len, length-map-
 use Rattle.std.specs.List.{range_with_len}
 use Rattle.std.proofs.lemmas.Bool.{cases_eq, cases_Bool, false≢true}
 use Rattle.flow_network.specs.Cut.{Network, nodes, IsNet}
-use Rattle.parcel.specs.declared.lane.Lane.{Lane}
-use Rattle.parcel.specs.declared.direction.Direction.{Direction}
-use Rattle.parcel.specs.Directions.{IsDirection, near, far, forward, backward}
-use Rattle.parcel.specs.States as core
-use Rattle.parcel.proofs.Ends.{near_in, far_in, block_in}
-use Rattle.parcel.proofs.Lanes.{cases_direction, lane_same, lane_other, IsLong as IsLongOf}
+use Rattle.block_events.specs.declared.lane.Lane.{Lane}
+use Rattle.block_events.specs.declared.direction.Direction.{Direction}
+use Rattle.block_events.specs.Directions.{IsDirection, near, far, forward, backward}
+use Rattle.block_events.specs.States as core
+use Rattle.block_events.proofs.Ends.{near_in, far_in, block_in}
+use Rattle.block_events.proofs.Lanes.{cases_direction, lane_same, lane_other, IsLong as IsLongOf}
 use Rattle.block_net.specs.declared.lanes.Border.{Border}
 use Rattle.block_net.specs.Views as block
 use Rattle.block_net.specs.Views.{CellsView, border_in, count}
 use Rattle.block_net.specs.Whole.{Whole, block_at, block_with, home, place, near_home, slot, is_outer, border_of, put_block, no_block}
 use Rattle.block_net.proofs.Tables.{table_at}
 use Rattle.block_net.proofs.Spans.{length_range, range_at}
-use Rattle.parcel.specs.Effects.{BlocksView}
+use Rattle.block_events.specs.Effects.{BlocksView}
 use Rattle.laid_blocks.specs.Views.{blocks_in, IsLaid, IsSpot, IsRow}
-use Rattle.parcel.specs.Effects.{told, told_lane}
+use Rattle.block_events.specs.Effects.{told, told_lane}
 use Rattle.laid_blocks.specs.Raising.{told_one}
 use Rattle.laid_blocks.specs.ByBlock.{direction_at, told_at, IsTelling, IsLabelled, IsToldFrom, IsRelabelled}
 use Rattle.laid_blocks.proofs.Writing.{IsLike, laid_put, home_put, place_put, block_same, block_other, numbers_same, lanes_keep}

@@ -7,12 +7,12 @@ use Rattle.sums.specs.Sums.{sum_below, counted}
 use Rattle.sums.proofs.SumLemmas.{sum_below-le, sum_below-swap, sum_below-pick, sum_below-none, term-le-sum_below, counted-other, counted-same}
 use Rattle.flow_network.specs.Cut.{nodes, IsNet}
 use Rattle.flow_network.specs.Progress.{top}
-use Rattle.parcel.specs.declared.direction.Direction.{Direction}
-use Rattle.parcel.specs.Directions.{IsDirection, near, far}
-use Rattle.parcel.specs.Reach.{ReachesIn, IsExact, AreExact}
-use Rattle.parcel.specs.States as core
-use Rattle.parcel.proofs.Ends.{near_in, far_in}
-use Rattle.parcel.specs.Effects.{BlocksView, labelled}
+use Rattle.block_events.specs.declared.direction.Direction.{Direction}
+use Rattle.block_events.specs.Directions.{IsDirection, near, far}
+use Rattle.block_events.specs.Reach.{ReachesIn, IsExact, AreExact}
+use Rattle.block_events.specs.States as core
+use Rattle.block_events.proofs.Ends.{near_in, far_in}
+use Rattle.block_events.specs.Effects.{BlocksView, labelled}
 use Rattle.laid_blocks.specs.Raising.{bare, AreLengths, IsLowered, IsStableAlong, IsStable}
 
 -- ---- as many levels as nodes

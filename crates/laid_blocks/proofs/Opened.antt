@@ -1,12 +1,12 @@
 -- The blocks of a net, as they are made.
 use Rattle.std.proofs.Common.{◌≡◌, ℕ, length, ap, subst, arith}
 use Rattle.flow_network.specs.Cut.{Network, nodes, IsNet}
-use Rattle.parcel.specs.States as core
+use Rattle.block_events.specs.States as core
 use Rattle.block_net.specs.Whole.{Whole, whole_of}
 use Rattle.block_net.specs.declared.parts.Parts.{Parts}
 use Rattle.block_net.specs.Split.{CanSplit, IsSplit}
 use Rattle.block_net.proofs.Tables.{length_table}
-use Rattle.parcel.specs.Effects.{BlocksView}
+use Rattle.block_events.specs.Effects.{BlocksView}
 use Rattle.laid_blocks.specs.Views.{blocks_in, IsLaid, IsLong, first_of}
 
 -- what a state shows of its blocks

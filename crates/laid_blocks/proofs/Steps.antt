@@ -6,22 +6,22 @@ use Rattle.std.proofs.lemmas.Bool.{eqb-true}
 use Rattle.flow_network.specs.Cut.{Network, nodes}
 use Rattle.flow_network.specs.Preflow.{arc_at}
 use Rattle.flow_network.specs.Progress.{top}
-use Rattle.parcel.specs.declared.lane.Lane.{Lane}
-use Rattle.parcel.specs.declared.direction.Direction.{Direction}
-use Rattle.parcel.specs.declared.flight.Flight.{Flight}
-use Rattle.parcel.specs.declared.message.Message.TheVariants.{Parcel}
-use Rattle.parcel.specs.Directions.{near, far, opposite}
-use Rattle.parcel.specs.States as core
-use Rattle.parcel.specs.Soundness.{amount_out}
-use Rattle.parcel.proofs.Ends.{near_in, far_in}
-use Rattle.parcel.proofs.Lanes.{near_opposite, border_opposite, opposite_twice}
+use Rattle.block_events.specs.declared.lane.Lane.{Lane}
+use Rattle.block_events.specs.declared.direction.Direction.{Direction}
+use Rattle.block_events.specs.declared.flight.Flight.{Flight}
+use Rattle.block_events.specs.declared.message.Message.TheVariants.{Parcel}
+use Rattle.block_events.specs.Directions.{near, far, opposite}
+use Rattle.block_events.specs.States as core
+use Rattle.block_events.specs.Soundness.{amount_out}
+use Rattle.block_events.proofs.Ends.{near_in, far_in}
+use Rattle.block_events.proofs.Lanes.{near_opposite, border_opposite, opposite_twice}
 use Rattle.block_net.specs.declared.lanes.InnerLane.{InnerLane}
 use Rattle.block_net.specs.declared.lanes.Border.{Border}
 use Rattle.block_net.specs.Views as block
 use Rattle.block_net.specs.Views.{CellsView, no_row, no_border, count, excess_in, label_in, room_in, lane_in, border_in, out_of, parcel_of}
 use Rattle.block_net.specs.Whole.{Whole, no_block, block_at, block_with, home, place, slot, is_outer, lane_of, border_of, shown_lane, shown_border, put_block}
 use Rattle.block_net.proofs.Tables.{table_at}
-use Rattle.parcel.specs.Effects.{BlocksView, given, labelled, pushed, sent, accepted, settled, returned}
+use Rattle.block_events.specs.Effects.{BlocksView, given, labelled, pushed, sent, accepted, settled, returned}
 use Rattle.laid_blocks.specs.Views.{blocks_in, IsLaid, IsSpot, IsRow}
 use Rattle.laid_blocks.proofs.Writing.{IsLike, spot_put, row_put, numbers_same, numbers_set, numbers, lanes_keep, lane_shown, border_shown, lane_read, inner_shown, outer_shown, same_spot, laid_put, set_other, block_same}
 

@@ -1,11 +1,11 @@
 -- Labels that are written block by block.
 use Rattle.std.specs.Prelude.{◌≡◌, ℕ, ◌<◌, ◌≤◌, true, List, [], length, slice_index}
 use Rattle.flow_network.specs.Cut.{nodes, IsNet}
-use Rattle.parcel.specs.declared.lane.Lane.{Lane}
-use Rattle.parcel.specs.declared.direction.Direction.{Direction}
-use Rattle.parcel.specs.Directions.{IsDirection, near, far}
-use Rattle.parcel.specs.States as core
-use Rattle.parcel.specs.Effects.{BlocksView, told_lane}
+use Rattle.block_events.specs.declared.lane.Lane.{Lane}
+use Rattle.block_events.specs.declared.direction.Direction.{Direction}
+use Rattle.block_events.specs.Directions.{IsDirection, near, far}
+use Rattle.block_events.specs.States as core
+use Rattle.block_events.specs.Effects.{BlocksView, told_lane}
 use Rattle.block_net.specs.Views.{border_in, informed}
 use Rattle.block_net.specs.Whole.{Whole, block_at, home, near_home, slot, is_outer, put_block}
 use Rattle.laid_blocks.specs.Views.{blocks_in, IsLaid}

@@ -2,11 +2,11 @@
 use Rattle.std.specs.Prelude.{◌≡◌, ℕ, ◌+◌, ◌<◌, ◌≤◌, ◌⊎◌, Bool, true, false, [], length, slice_index, sum}
 use Rattle.flow_network.specs.Cut.{nodes}
 use Rattle.flow_network.specs.Progress.{top}
-use Rattle.parcel.specs.declared.direction.Direction.{Direction}
-use Rattle.parcel.specs.Directions.{near, far, forward, backward}
-use Rattle.parcel.specs.Reach.{ReachesIn}
-use Rattle.parcel.specs.States as core
-use Rattle.parcel.specs.Effects.{BlocksView, state_of, told_lane}
+use Rattle.block_events.specs.declared.direction.Direction.{Direction}
+use Rattle.block_events.specs.Directions.{near, far, forward, backward}
+use Rattle.block_events.specs.Reach.{ReachesIn}
+use Rattle.block_events.specs.States as core
+use Rattle.block_events.specs.Effects.{BlocksView, state_of, told_lane}
 
 -- the state with no label and nothing on the way: paths to the sink do not depend on these
 abbrev pub bare : BlocksView → core.State

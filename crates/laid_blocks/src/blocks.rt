@@ -3,22 +3,22 @@ ghost use Rattle.flow_network.specs.Limits.{node_limit};
 ghost use Rattle.flow_network.specs.Cut.{nodes, IsNet};
 ghost use Rattle.flow_network.specs.Preflow.{arc_at};
 ghost use Rattle.flow_network.specs.Progress.{top};
-ghost use Rattle.parcel.specs.declared.message.Message.TheVariants.{Parcel, Accepted, Refused};
-ghost use Rattle.parcel.specs.Directions.{IsDirection, near, far, opposite};
-ghost use Rattle.parcel.specs.States.{lane_at, put_lane, block_of, is_border};
-ghost use Rattle.parcel.specs.Soundness.{amount_out};
-ghost use Rattle.parcel.specs.Events.{highest_label};
+ghost use Rattle.block_events.specs.declared.message.Message.TheVariants.{Parcel, Accepted, Refused};
+ghost use Rattle.block_events.specs.Directions.{IsDirection, near, far, opposite};
+ghost use Rattle.block_events.specs.States.{lane_at, put_lane, block_of, is_border};
+ghost use Rattle.block_events.specs.Soundness.{amount_out};
+ghost use Rattle.block_events.specs.Events.{highest_label};
 ghost use Rattle.block_net.specs.Limits.{arc_limit, block_limit};
 ghost use Rattle.block_net.specs.Split.{CanSplit, homes_made};
 ghost use Rattle.block_net.specs.Whole.{index_of, is_outer, whole_of};
-ghost use Rattle.parcel.specs.Effects.{state_of, given, labelled, pushed, sent, accepted, settled, returned};
+ghost use Rattle.block_events.specs.Effects.{state_of, given, labelled, pushed, sent, accepted, settled, returned};
 ghost use Rattle.laid_blocks.specs.Views.{blocks_in, IsLaid, IsLong, IsSpot, IsRow, first_of};
 ghost use Rattle.laid_blocks.specs.ByBlock.{IsToldFrom, IsRelabelled};
 
 use crate::by_block::{label_block, tell_block};
+use block_events::{Direction, Lane, Message};
 use block_net::{Parts, homes_of, opposite_of};
 use flow_network::Net;
-use parcel::{Direction, Lane, Message};
 use std::alloc::{AllocError, Global};
 use std::marker::Model;
 
@@ -35,7 +35,7 @@ pub struct Blocks {
 
 impl Model for Blocks {
     ghost use Rattle.block_net.specs.Whole.{whole_of};
-    ghost use Rattle.parcel.specs.Effects.{BlocksView};
+    ghost use Rattle.block_events.specs.Effects.{BlocksView};
     ghost use Rattle.laid_blocks.specs.Views.{blocks_in, IsLaid};
 
     ghost Value = { BlocksView };

@@ -1,7 +1,7 @@
 ghost use Rattle.std.specs.Prelude.{◌≡◌, ◌<◌, ◌≤◌, ℕ, true, length, slice_index};
 ghost use Rattle.flow_network.specs.Cut.{nodes};
 ghost use Rattle.flow_network.specs.Progress.{top};
-ghost use Rattle.parcel.specs.Directions.{far};
+ghost use Rattle.block_events.specs.Directions.{far};
 ghost use Rattle.block_net.specs.Whole.{block_at, whole_of};
 ghost use Rattle.laid_blocks.specs.Views.{blocks_in, IsLaid, IsRow};
 ghost use Rattle.laid_blocks.specs.ByBlock.{direction_at, told_at, IsTelling, IsLabelled};

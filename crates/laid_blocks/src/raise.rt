@@ -1,16 +1,16 @@
 ghost use Rattle.std.specs.Prelude.{◌≡◌, ◌+◌, ◌<◌, ◌≤◌, ℕ, false, List, length, slice_index};
 ghost use Rattle.flow_network.specs.Cut.{nodes};
 ghost use Rattle.flow_network.specs.Progress.{top};
-ghost use Rattle.parcel.specs.Reach.{AreExact};
-ghost use Rattle.parcel.specs.Directions.{IsDirection, forward, backward};
-ghost use Rattle.parcel.specs.States.{lane_at};
-ghost use Rattle.parcel.specs.Effects.{told};
+ghost use Rattle.block_events.specs.Reach.{AreExact};
+ghost use Rattle.block_events.specs.Directions.{IsDirection, forward, backward};
+ghost use Rattle.block_events.specs.States.{lane_at};
+ghost use Rattle.block_events.specs.Effects.{told};
 ghost use Rattle.laid_blocks.specs.Raising.{bare, AreLengths, IsLowered, IsStableAt, IsStableAlong, IsStable};
-ghost use Rattle.parcel.specs.Effects.{BlocksView};
+ghost use Rattle.block_events.specs.Effects.{BlocksView};
 ghost use Rattle.laid_blocks.specs.Views.{IsLong};
 
 use crate::blocks::Blocks;
-use parcel::Direction;
+use block_events::Direction;
 
 impl Blocks {
     /// A node that can give the sink gets the label 1, where its label is above; whether it was.

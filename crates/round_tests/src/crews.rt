@@ -3,8 +3,8 @@ ghost use Rattle.block_workers.specs.Workers.{AreNew};
 
 use crate::gates::Open;
 use block_net::{ARC_LIMIT, Cells, Parts};
+use block_turns::Block;
 use block_workers::{Ends, Job, Ledgers, RoundError, Seat, TurnBook, Worker, all_work};
-use discharge::Block;
 use flow_network::{Arc, Net};
 use rounds::join_all;
 use std::alloc::{AllocError, Global};

@@ -1,10 +1,10 @@
 ghost use Rattle.std.specs.Prelude.{◌≤◌};
-ghost use Rattle.parcel.specs.Workers.{IsFair};
+ghost use Rattle.block_events.specs.Workers.{IsFair};
 ghost use Rattle.block_workers.specs.Ports.{IsSamePort};
 
+use block_events::{Direction, Message};
+use block_turns::Letter;
 use block_workers::{Port, join_blocks, take_left};
-use discharge::Letter;
-use parcel::{Direction, Message};
 use std::alloc::{AllocError, Global};
 use std::process::Abort;
 use std::sync::Wait;

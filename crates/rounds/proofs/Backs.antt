@@ -3,16 +3,16 @@ use Rattle.std.proofs.Common.{◌≡◌, ◌≢◌, ℕ, ◌+◌, ◌*◌, ◌<�
 use mathlib.Core.Path.{fun_ext}
 use Rattle.std.proofs.lemmas.Bool.{cases_lt, lt-ltb}
 use Rattle.std.proofs.lemmas.List.{length-map, get_or-map, get_or_past}
-use Rattle.parcel.specs.declared.event.Event.{Event}
-use Rattle.parcel.specs.declared.message.Message.{Message}
-use Rattle.parcel.specs.States.{way_at}
-use Rattle.parcel.specs.Soundness.{IsSquare}
-use Rattle.parcel.specs.Workers.{MayStart}
+use Rattle.block_events.specs.declared.event.Event.{Event}
+use Rattle.block_events.specs.declared.message.Message.{Message}
+use Rattle.block_events.specs.States.{way_at}
+use Rattle.block_events.specs.Soundness.{IsSquare}
+use Rattle.block_events.specs.Workers.{MayStart}
 use Rattle.block_net.specs.Views.{CellsView, border_in, count}
 use Rattle.block_net.specs.Whole.{Whole, no_block, block_at}
 use Rattle.laid_blocks.specs.Views.{IsLaid}
-use Rattle.discharge.specs.Seen.{Seen}
-use Rattle.discharge.specs.Steps.{Held, DoesMany, IsSure, held}
+use Rattle.block_turns.specs.Seen.{Seen}
+use Rattle.block_turns.specs.Steps.{Held, DoesMany, IsSure, held}
 use Rattle.block_cut.specs.TurnEvents.{HasRoom}
 use Rattle.block_cut.specs.Rounds.{Ways, fresh, quiet_state}
 use Rattle.block_cut.proofs.Starting.{start_is_sure}

@@ -3,8 +3,8 @@ use Rattle.std.proofs.Common.{◌≡◌, ◌≢◌, ℕ, ◌-◌, ◌<◌, ◌�
 use Rattle.std.proofs.lemmas.Bool.{cases_lt}
 use Rattle.flow_network.specs.Cut.{nodes}
 use Rattle.std.proofs.lemmas.List.{get_or_default}
-use Rattle.parcel.specs.Directions.{far}
-use Rattle.parcel.proofs.Ends.{far_in}
+use Rattle.block_events.specs.Directions.{far}
+use Rattle.block_events.proofs.Ends.{far_in}
 use Rattle.block_net.specs.Views.{CellsView, count, border_in}
 use Rattle.block_net.specs.Whole.{Whole, no_block, block_at, home, slot, shown}
 use Rattle.laid_blocks.specs.Views.{IsLaid}

@@ -5,7 +5,7 @@ use Rattle.std.proofs.lemmas.Bool.{cases_lt, eq-eqb}
 use Rattle.sums.specs.Sums.{sum_below, counted}
 use Rattle.sums.proofs.SumLemmas.{sum_below-le-longer, sum_by-sum_below}
 use Rattle.flow_network.specs.Cut.{nodes}
-use Rattle.parcel.specs.declared.event.Event.{Event}
+use Rattle.block_events.specs.declared.event.Event.{Event}
 use Rattle.block_net.specs.Views.{count}
 use Rattle.block_net.specs.Whole.{Whole, block_at, home}
 use Rattle.laid_blocks.specs.Views.{IsLaid}

@@ -1,10 +1,10 @@
 -- The rings of a link more are drained.
 use Rattle.std.proofs.Common.{◌≡◌, ◌≢◌, ℕ, ◌+◌, ◌<◌, ◌≤◌, ◌^◌, List, [], ◌∷◌, ◌++◌, length, Some, None, refl, sym, ◌∙◌, ap, subst, arith}
 use Rattle.std.proofs.lemmas.List.{append-nil, length-append, get_or-append-add}
-use Rattle.parcel.specs.declared.message.Message.{Message}
-use Rattle.parcel.specs.States.{way_at, put_way}
-use Rattle.parcel.specs.Soundness.{IsSquare, direction_of}
-use Rattle.parcel.proofs.Ways.{way_same, way_other, square_put}
+use Rattle.block_events.specs.declared.message.Message.{Message}
+use Rattle.block_events.specs.States.{way_at, put_way}
+use Rattle.block_events.specs.Soundness.{IsSquare, direction_of}
+use Rattle.block_events.proofs.Ways.{way_same, way_other, square_put}
 use Rattle.block_core.specs.Mails.{room_at}
 use Rattle.rounds.specs.Left.{AreEmpty, AreFitting, AreKept, AreLeft, rest_of}
 use Rattle.rounds.specs.Links.{Traffic, Link, RingsView, link_in, left_in, AreLinks, down, up, sent_in, taken_in}

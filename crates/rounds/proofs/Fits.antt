@@ -1,9 +1,9 @@
 -- What is left after a round fits the ways.
 use Rattle.std.proofs.Common.{ℕ, ◌^◌, ◌<◌, ◌≤◌, List, length, arith}
 use Rattle.std.proofs.lemmas.List.Elements.{All-weaker}
-use Rattle.parcel.specs.States.{way_at}
-use Rattle.parcel.specs.Soundness.{Belongs, direction_of}
-use Rattle.parcel.proofs.Local.{belongs_direction}
+use Rattle.block_events.specs.States.{way_at}
+use Rattle.block_events.specs.Soundness.{Belongs, direction_of}
+use Rattle.block_events.proofs.Local.{belongs_direction}
 use Rattle.block_net.specs.Views.{CellsView}
 use Rattle.block_net.specs.Whole.{Whole}
 use Rattle.block_core.specs.Mails.{HasRooms}

@@ -2,10 +2,10 @@
 use Rattle.std.proofs.Common.{◌≡◌, ℕ, zero, suc, ◌+◌, ◌<◌, ◌≤◌, true, false, List, [], ◌∷◌, ◌++◌, length, get_or, drop, All, Option, Some, None, refl, sym, ◌∙◌, ap, inl, inr, arith}
 use Rattle.std.proofs.lemmas.Bool.{cases_eq, eq-eqb, ne_eqb}
 use Rattle.std.proofs.lemmas.List.{map-append, drop_at, length-append, length-map}
-use Rattle.parcel.specs.declared.message.Message.{Message}
-use Rattle.parcel.specs.States.{way_at}
-use Rattle.parcel.specs.Soundness.{IsSquare}
-use Rattle.discharge.specs.declared.letter.Letter.{Letter}
+use Rattle.block_events.specs.declared.message.Message.{Message}
+use Rattle.block_events.specs.States.{way_at}
+use Rattle.block_events.specs.Soundness.{IsSquare}
+use Rattle.block_turns.specs.declared.letter.Letter.{Letter}
 use Rattle.block_workers.specs.Seeing.{messages}
 use Rattle.rounds.specs.Left.{AreLeft, HaveRoomFor, rest_of}
 use Rattle.rounds.specs.Links.{Traffic, Link, traffic_of, link_in, left_in, down, up, joins, AreLinks, IsSeen, RingsView, sent_in, taken_in, room_in, AreWithin}

@@ -1,11 +1,11 @@
 -- A message more leaves a ring for its way.
 use Rattle.std.proofs.Common.{◌≡◌, ℕ, suc, ◌+◌, ◌<◌, List, [], ◌∷◌, ◌++◌, length, set, get_or, sym, ◌∙◌, ap, subst, arith, get_or-set_same}
 use Rattle.std.proofs.lemmas.List.{append-nil, map-append, nil_from_length, set-set, append_assoc, length_push}
-use Rattle.parcel.specs.declared.message.Message.{Message}
-use Rattle.parcel.specs.States.{way_at, put_way, put_message}
-use Rattle.parcel.specs.Soundness.{IsSquare}
-use Rattle.parcel.proofs.Ways.{way_same, way_other, square_put}
-use Rattle.discharge.specs.declared.letter.Letter.{Letter}
+use Rattle.block_events.specs.declared.message.Message.{Message}
+use Rattle.block_events.specs.States.{way_at, put_way, put_message}
+use Rattle.block_events.specs.Soundness.{IsSquare}
+use Rattle.block_events.proofs.Ways.{way_same, way_other, square_put}
+use Rattle.block_turns.specs.declared.letter.Letter.{Letter}
 use Rattle.block_workers.specs.Seeing.{messages}
 use Rattle.rounds.specs.Left.{AreKept, rest_of}
 use Rattle.rounds.proofs.Leaving.{rest_is}

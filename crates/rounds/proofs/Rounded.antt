@@ -1,11 +1,11 @@
 -- From the pieces of a quiet state to those after a round.
 use Rattle.std.proofs.Common.{◌≡◌, ℕ, ◌<◌, ◌≤◌, List, [], length, refl, sym, ap, subst, arith}
-use Rattle.parcel.specs.States.{State, way_at}
-use Rattle.parcel.specs.Events.{IsQuiet}
-use Rattle.parcel.specs.Soundness.{IsSound, IsSquare}
+use Rattle.block_events.specs.States.{State, way_at}
+use Rattle.block_events.specs.Events.{IsQuiet}
+use Rattle.block_events.specs.Soundness.{IsSound, IsSquare}
 use Rattle.block_net.specs.Views.{CellsView}
 use Rattle.block_net.specs.Whole.{Whole, with_blocks}
-use Rattle.parcel.specs.Effects.{state_of}
+use Rattle.block_events.specs.Effects.{state_of}
 use Rattle.laid_blocks.specs.Views.{IsLaid, blocks_in}
 use Rattle.block_core.specs.Mails.{IsHeld}
 use Rattle.block_cut.specs.Rounds.{Ways, AreBack, IsRound, quiet_state, state_after}

@@ -2,8 +2,8 @@
 use Rattle.std.proofs.Common.{◌≡◌, ℕ, ◌<◌, ◌≤◌, List, [], ◌++◌, length, get_or, sym, ◌∙◌, ap, subst, arith}
 use Rattle.sums.specs.Sums.{sum_below}
 use Rattle.sums.proofs.SumLemmas.{sum_by-sum_below}
-use Rattle.parcel.specs.States.{way_at}
-use Rattle.parcel.specs.Soundness.{IsSquare}
+use Rattle.block_events.specs.States.{way_at}
+use Rattle.block_events.specs.Soundness.{IsSquare}
 use Rattle.block_net.specs.Views.{CellsView}
 use Rattle.block_workers.specs.declared.port.Port.{Port}
 use Rattle.block_workers.specs.declared.seat.Seat.{Seat}

@@ -1,8 +1,8 @@
 -- What is left in rings goes to ways.
 use Rattle.std.specs.Prelude.{◌≡◌, ◌≢◌, ℕ, ◌+◌, ◌<◌, ◌≤◌, List, ◌++◌, length}
-use Rattle.parcel.specs.declared.message.Message.{Message}
-use Rattle.parcel.specs.States.{way_at, put_way}
-use Rattle.parcel.specs.Soundness.{IsSquare}
+use Rattle.block_events.specs.declared.message.Message.{Message}
+use Rattle.block_events.specs.States.{way_at, put_way}
+use Rattle.block_events.specs.Soundness.{IsSquare}
 use Rattle.block_core.specs.Mails.{room_at}
 use Rattle.rounds.specs.Left.{AreKept}
 use Rattle.rounds.specs.Links.{Link, AreLinks, down, up, left_in}

@@ -1,7 +1,7 @@
 -- What is known after rounds.
 use Rattle.std.specs.Prelude.{IsTrue}
-use Rattle.parcel.specs.Soundness.{IsFinished}
-use Rattle.parcel.specs.Reach.{AreExact}
+use Rattle.block_events.specs.Soundness.{IsFinished}
+use Rattle.block_events.specs.Reach.{AreExact}
 use Rattle.rounds.specs.declared.ended.Ended.{Ended}
 
 -- where the state is told to be finished it is, and the labels at hand are the exact ones

@@ -1,8 +1,8 @@
 -- What blocks left in the rings between them.
 use Rattle.std.specs.Prelude.{◌≡◌, ◌≢◌, ℕ, ◌<◌, ◌≤◌, ◌^◌, List, [], ◌++◌, length, drop, All}
-use Rattle.parcel.specs.declared.message.Message.{Message}
-use Rattle.parcel.specs.States.{way_at}
-use Rattle.parcel.specs.Soundness.{IsSquare, direction_of}
+use Rattle.block_events.specs.declared.message.Message.{Message}
+use Rattle.block_events.specs.States.{way_at}
+use Rattle.block_events.specs.Soundness.{IsSquare, direction_of}
 use Rattle.block_core.specs.Mails.{room_at}
 
 -- what one block put for another is what the other took from it, followed by what is left on the way

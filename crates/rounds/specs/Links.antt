@@ -1,7 +1,7 @@
 -- What is seen of the rings between blocks.
 use Rattle.std.specs.Prelude.{◌≡◌, ℕ, ◌+◌, ◌<◌, ◌≤◌, ◌==◌, ◌&&◌, Bool, cond, List, [], ◌∷◌, ◌++◌, length, map}
 use Rattle.std.specs.Prelude.{Option, Some, None}
-use Rattle.parcel.specs.declared.message.Message.{Message}
+use Rattle.block_events.specs.declared.message.Message.{Message}
 use Rattle.block_workers.specs.declared.port.Port.{Port}
 use Rattle.block_workers.specs.Ports.{other, put, taken, capacity}
 use Rattle.block_workers.specs.Seeing.{messages}

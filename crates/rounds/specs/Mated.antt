@@ -1,6 +1,6 @@
 -- Ports of blocks to one another, after a round.
 use Rattle.std.specs.Prelude.{◌≡◌, ℕ, List, [], length, slice_index_or, sum_by, Some, None}
-use Rattle.parcel.specs.declared.message.Message.{Message}
+use Rattle.block_events.specs.declared.message.Message.{Message}
 use Rattle.block_workers.specs.declared.port.Port.{Port}
 use Rattle.block_workers.specs.Ports.{capacity}
 use Rattle.block_workers.specs.Seeing.{seen, read_at, AreRising}

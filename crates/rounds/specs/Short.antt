@@ -2,8 +2,8 @@
 use Rattle.std.specs.Prelude.{ℕ, ◌+◌, ◌*◌, ◌<◌, ◌≤◌, ◌==◌, length, sum_by}
 use Rattle.sums.specs.Sums.{sum_below, counted}
 use Rattle.flow_network.specs.Cut.{nodes}
-use Rattle.parcel.specs.States.{State, way_at}
-use Rattle.parcel.specs.Rounds.{RoundOf, home}
+use Rattle.block_events.specs.States.{State, way_at}
+use Rattle.block_events.specs.Rounds.{RoundOf, home}
 
 -- how many nodes lie in block b
 abbrev pub nodes_in : State → ℕ → ℕ

@@ -2,11 +2,11 @@
 use Rattle.std.specs.Prelude.{◌≡◌, ℕ, ◌+◌, ◌*◌, ◌<◌, ◌≤◌, List, length}
 use Rattle.sums.specs.Sums.{sum_below}
 use Rattle.flow_network.specs.Cut.{Network}
-use Rattle.parcel.specs.States.{State}
+use Rattle.block_events.specs.States.{State}
 use Rattle.block_net.specs.Views.{CellsView, count}
 use Rattle.block_net.specs.Whole.{Whole, block_at, whole_of}
 use Rattle.block_net.specs.declared.parts.Parts.{Parts}
-use Rattle.parcel.specs.Effects.{state_of}
+use Rattle.block_events.specs.Effects.{state_of}
 use Rattle.laid_blocks.specs.Views.{IsLaid, blocks_in}
 use Rattle.block_cut.specs.Rounds.{Ways, AreBack, lacking}
 use Rattle.rounds.specs.Links.{RingsView, sent_in, taken_in}

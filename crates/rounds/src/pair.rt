@@ -1,6 +1,6 @@
 ghost use Rattle.std.specs.Prelude.{◌≡◌, ◌+◌, ◌<◌, ◌≤◌, ◌++◌, length};
-ghost use Rattle.parcel.specs.States.{way_at, put_way};
-ghost use Rattle.parcel.specs.Soundness.{IsSquare};
+ghost use Rattle.block_events.specs.States.{way_at, put_way};
+ghost use Rattle.block_events.specs.Soundness.{IsSquare};
 ghost use Rattle.block_core.specs.Mails.{room_at};
 ghost use Rattle.block_workers.specs.Ports.{IsSamePort, LeadsTo, Looks, put, taken};
 ghost use Rattle.block_workers.specs.Seeing.{messages};

@@ -1,5 +1,5 @@
 ghost use Rattle.std.specs.Prelude.{◌≡◌, ◌≤◌, ◌*◌, ℕ, [], All, length, map, vec_len, vec_capacity};
-ghost use Rattle.parcel.specs.Soundness.{IsSquare};
+ghost use Rattle.block_events.specs.Soundness.{IsSquare};
 ghost use Rattle.rounds.specs.Mated.{AreMated, ports_in, room_to, sent, taken};
 ghost use Rattle.rounds.specs.Left.{AreEmpty, AreFitting, AreLeft, HaveRoomFor};
 ghost use Rattle.rounds.specs.Links.{AreLinks, AreWithin, IsSeen, links_of, room_in, sent_in, taken_in};

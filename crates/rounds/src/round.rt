@@ -1,5 +1,5 @@
 ghost use Rattle.std.specs.Prelude.{◌≡◌, ◌<◌, IfOk};
-ghost use Rattle.parcel.specs.Events.{IsQuiet};
+ghost use Rattle.block_events.specs.Events.{IsQuiet};
 ghost use Rattle.laid_blocks.specs.Views.{IsLaid};
 ghost use Rattle.block_core.specs.Mails.{IsHeld};
 ghost use Rattle.block_net.specs.Whole.{whole_of};

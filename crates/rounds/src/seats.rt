@@ -6,8 +6,8 @@ ghost use Rattle.block_workers.specs.Turns.{IsNewSeat};
 ghost use Rattle.rounds.specs.Seated.{AreSeated, AreSmall, blocks_of, ends_of, ports_of};
 
 use block_net::Cells;
+use block_turns::Block;
 use block_workers::{Ends, Port, Seat};
-use discharge::Block;
 use std::alloc::{AllocError, Global};
 
 /// A round makes one new label for so many nodes, and each block its part of them. In a round no labels become exact,

@@ -2,7 +2,7 @@ ghost use Rattle.std.specs.Prelude.{◌≡◌, ◌≤◌, IfErr, IfOk, OnOk, len
 ghost use Rattle.flow_network.specs.Limits.{capacity_limit};
 ghost use Rattle.flow_network.specs.Cut.{nodes, set_of, IsSmallestLeastCut};
 ghost use Rattle.flow_network.specs.Answer.{side_of, IsRightCut};
-ghost use Rattle.parcel.specs.Events.{IsQuiet};
+ghost use Rattle.block_events.specs.Events.{IsQuiet};
 ghost use Rattle.block_net.specs.Limits.{arc_limit};
 ghost use Rattle.worker_options.specs.Ranges.{AreInRange};
 ghost use Rattle.rounds.specs.Ended.{IsEnded};

@@ -1,11 +1,13 @@
-ghost use Rattle.std.specs.Prelude.{◌≡◌, ◌≤◌, IfOk, IfErr, length};
+ghost use Rattle.std.specs.Prelude.{◌≡◌, ◌<◌, ◌≤◌, All, IfOk, IfErr, length};
 ghost use Rattle.flow_network.specs.Answer.{side_of, IsRightCut};
 ghost use Rattle.flow_network.specs.Cut.{nodes, set_of, IsSmallestLeastCut};
 ghost use Rattle.flow_network.specs.Limits.{capacity_limit};
+ghost use Rattle.solvers.specs.Jobs.{CanCut, AreCutTwice};
 ghost use Rattle.solvers.specs.declared.solve_error.SolveError.{SolveError};
 ghost use Rattle.solvers.specs.declared.solve_error.SolveError.TheVariants.{OutOfMemory};
 
 use crate::SolveError;
+use crate::jobs::{SidesJob, cut_jobs};
 use flow_network::{Net, Solved};
 use plain_cut::Workspace;
 use std::alloc::Global;
@@ -68,6 +70,23 @@ pub trait How {
     /// are the same, whatever the number.
     fn strip_sites(&self) -> usize {
         0
+    }
+
+    /// How many strips a move closes in side by side: on the thread of the caller one.
+    fn sides_at_once(&self) -> usize
+        ensures { 0 < result }
+    {
+        1
+    }
+
+    /// Cuts the net of each job twice. It refuses nothing: a job that was refused memory says so
+    /// itself.
+    fn sides(&self, alloc: Global, jobs: &mut [SidesJob])
+        requires ready { ready self.now }
+        requires jobs { All CanCut jobs.old }
+        ensures { AreCutTwice jobs.old jobs.new }
+    {
+        cut_jobs(alloc, jobs);
     }
 }
 

@@ -2,7 +2,9 @@
 #![tactic(auto)]
 
 mod how;
+mod jobs;
 mod solve_error;
 
 pub use how::{Alone, How};
+pub use jobs::{SidesJob, cut_job, cut_jobs};
 pub use solve_error::SolveError;

@@ -1,7 +1,7 @@
 use Rattle.std.proofs.Common.{◌≡◌, ◌∙◌, ◌<◌, ℕ, List, length, slice_index, ap, sym, subst, arith}
 use Rattle.flow_network.specs.Cut.{nodes}
-use Rattle.parcel.specs.States.{block_of}
-use Rattle.parcel.proofs.Ends.{block_in}
+use Rattle.block_events.specs.States.{block_of}
+use Rattle.block_events.proofs.Ends.{block_in}
 use Rattle.block_net.proofs.Tables.{length_table, table_at}
 use Rattle.block_core.proofs.rooms.home_in.Goals as goal
 

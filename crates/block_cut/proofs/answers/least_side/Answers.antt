@@ -2,7 +2,7 @@ use Rattle.std.proofs.Common.{◌≡◌, ℕ, Bool, List, length, map, nat_lt, �
 use Rattle.std.proofs.lemmas.List.{length-map}
 use Rattle.flow_network.specs.Cut.{Network, set_of}
 use Rattle.flow_network.specs.Progress.{top}
-use Rattle.parcel.proofs.Finishing.{finished_smallest}
+use Rattle.block_events.proofs.Finishing.{finished_smallest}
 use Rattle.global_relabel.proofs.Bridge.{reach_of}
 use Rattle.block_cut.proofs.answers.least_side.Goals as goal
 

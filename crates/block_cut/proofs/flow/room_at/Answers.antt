@@ -1,6 +1,6 @@
 use Rattle.std.proofs.Common.{◌≡◌, ◌<◌, ◌∙◌, length, slice_index, refl, sym, ap, subst, arith}
 use Rattle.std.proofs.lemmas.List.{get_or_read}
-use Rattle.parcel.specs.States.{State, room_of}
+use Rattle.block_events.specs.States.{State, room_of}
 use Rattle.laid_blocks.specs.Views.{blocks_in}
 use Rattle.block_net.specs.Whole.{whole_of}
 use Rattle.laid_blocks.proofs.Steps.{at_read, room_read}

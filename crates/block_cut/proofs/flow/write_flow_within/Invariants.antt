@@ -1,6 +1,6 @@
 use Rattle.std.proofs.Common.{◌≡◌, ℕ, ◌<◌, slice_index}
-use Rattle.parcel.specs.Directions.{backward}
-use Rattle.parcel.specs.States.{residual_of}
+use Rattle.block_events.specs.Directions.{backward}
+use Rattle.block_events.specs.States.{residual_of}
 use Rattle.block_cut.proofs.flow.write_flow_within.Given as goal
 
 abbrev pub invariant-arcs : goal.invariant-arcs

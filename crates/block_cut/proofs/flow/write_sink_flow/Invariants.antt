@@ -1,5 +1,5 @@
 use Rattle.std.proofs.Common.{◌≡◌, ℕ, ◌-◌, ◌<◌, slice_index}
-use Rattle.parcel.specs.States.{room_of}
+use Rattle.block_events.specs.States.{room_of}
 use Rattle.block_cut.proofs.flow.write_sink_flow.Given as goal
 
 abbrev pub invariant-nodes : goal.invariant-nodes

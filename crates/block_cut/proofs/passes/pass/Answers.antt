@@ -1,5 +1,5 @@
 use Rattle.std.proofs.Common.{◌≡◌, length, ◌∙◌, subst, arith}
-use Rattle.parcel.specs.Soundness.{IsSquare}
+use Rattle.block_events.specs.Soundness.{IsSquare}
 use Rattle.block_cut.proofs.Passing.{turn_goes, turn_still}
 use Rattle.block_cut.proofs.passes.pass.Goals as goal
 

@@ -1,6 +1,6 @@
 use Rattle.std.proofs.Common.{◌+◌, ◌≤◌, sym, subst}
-use Rattle.parcel.specs.States.{State}
-use Rattle.parcel.specs.Soundness.{count}
+use Rattle.block_events.specs.States.{State}
+use Rattle.block_events.specs.Soundness.{count}
 use Rattle.block_core.specs.Pieces.{state_in}
 use Rattle.block_cut.proofs.Going.{held_again, lower_all}
 use Rattle.block_cut.proofs.passes.state_of.Goals as goal

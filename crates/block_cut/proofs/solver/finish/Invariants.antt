@@ -1,5 +1,5 @@
 use Rattle.std.proofs.Common.{◌≡◌}
-use Rattle.parcel.specs.Soundness.{count}
+use Rattle.block_events.specs.Soundness.{count}
 use Rattle.global_relabel.specs.Workspaces.{Serves}
 use Rattle.block_cut.proofs.solver.finish.Given as goal
 

@@ -1,5 +1,5 @@
 use Rattle.std.proofs.Common.{Bool}
-use Rattle.parcel.specs.Soundness.{count}
+use Rattle.block_events.specs.Soundness.{count}
 use Rattle.block_cut.specs.Takes.{Taken}
 use Rattle.block_cut.proofs.takes.take_in.Given as goal
 

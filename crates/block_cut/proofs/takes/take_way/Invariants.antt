@@ -1,4 +1,4 @@
-use Rattle.parcel.specs.Soundness.{count}
+use Rattle.block_events.specs.Soundness.{count}
 use Rattle.block_cut.specs.Takes.{Taken}
 use Rattle.block_cut.proofs.takes.take_way.Given as goal
 

@@ -1,8 +1,8 @@
 use Rattle.std.proofs.Common.{◌≡◌, ◌∙◌, ℕ, List, not, eqb, length, slice_index, sym, ap, arith}
 use Rattle.flow_network.specs.Cut.{nodes}
-use Rattle.parcel.specs.Directions.{near, far}
-use Rattle.parcel.specs.States.{block_of}
-use Rattle.parcel.proofs.Ends.{block_in}
+use Rattle.block_events.specs.Directions.{near, far}
+use Rattle.block_events.specs.States.{block_of}
+use Rattle.block_events.proofs.Ends.{block_in}
 use Rattle.block_net.proofs.Tables.{length_table, table_at}
 use Rattle.block_net.proofs.ends.leads_out.Goals as goal
 

@@ -1,6 +1,6 @@
 use Rattle.std.proofs.Common.{ℕ, List, length, slice_index, ◌∙◌, ap, arith}
 use Rattle.flow_network.specs.Cut.{nodes}
-use Rattle.parcel.specs.States.{block_of}
+use Rattle.block_events.specs.States.{block_of}
 use Rattle.block_net.proofs.Numbers.{home_below}
 use Rattle.block_net.proofs.Tables.{length_table, table_at}
 use Rattle.block_net.proofs.filling.home_of.Goals as goal

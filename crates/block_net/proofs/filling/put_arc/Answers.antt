@@ -1,9 +1,9 @@
 use Rattle.std.proofs.Common.{◌≡◌, ◌+◌, ◌<◌, ◌⊎◌, ℕ, true, false, length, set, slice_index, sym, ◌∙◌, ap, subst, arith}
 use Rattle.std.proofs.lemmas.List.{get_or_default}
 use Rattle.flow_network.specs.Cut.{nodes}
-use Rattle.parcel.specs.declared.direction.Direction.{Direction}
-use Rattle.parcel.specs.Directions.{forward, backward, near}
-use Rattle.parcel.specs.States.{block_of}
+use Rattle.block_events.specs.declared.direction.Direction.{Direction}
+use Rattle.block_events.specs.Directions.{forward, backward, near}
+use Rattle.block_events.specs.States.{block_of}
 use Rattle.block_net.specs.Whole.{index_of}
 use Rattle.block_net.specs.Split.{BlockRows, no_rows, first_of, rows_made, ranks_made, lane_by, border_by, AreWritten}
 use Rattle.block_net.proofs.Tables.{length_table}

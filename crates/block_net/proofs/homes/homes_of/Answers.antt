@@ -1,7 +1,7 @@
 use Rattle.std.proofs.lemmas.Grind.{common_steps}
 use Rattle.std.proofs.Common.{◌≡◌, ◌∙◌, ℕ, sym, ap, arith}
 use Rattle.flow_network.specs.Cut.{nodes}
-use Rattle.parcel.specs.States.{block_of}
+use Rattle.block_events.specs.States.{block_of}
 use Rattle.block_net.specs.Whole.{table}
 use Rattle.block_net.specs.Split.{first_of}
 use Rattle.block_net.proofs.Numbers.{first_zero, first_last}

@@ -1,7 +1,7 @@
 use Rattle.std.proofs.Common.{◌≡◌}
 use Rattle.std.specs.Vec.{vec_len, vec_capacity}
 use Rattle.flow_network.specs.Cut.{nodes}
-use Rattle.parcel.specs.States.{block_of}
+use Rattle.block_events.specs.States.{block_of}
 use Rattle.block_net.specs.Whole.{table}
 use Rattle.block_net.specs.Split.{first_of}
 use Rattle.block_net.proofs.homes.homes_of.Given as goal

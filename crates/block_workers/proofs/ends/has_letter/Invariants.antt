@@ -1,4 +1,4 @@
-use Rattle.discharge.specs.Seen.{IsLook}
+use Rattle.block_turns.specs.Seen.{IsLook}
 use Rattle.block_workers.specs.Seeing.{AreSame, seen}
 use Rattle.block_workers.proofs.ends.has_letter.Given as goal
 

@@ -1,7 +1,7 @@
 use Rattle.std.proofs.Common.{◌≡◌, ℕ, ◌+◌, ◌<◌, length, slice_index, refl, sym, ap, subst, arith}
 use Rattle.std.proofs.lemmas.List.{get_or_read}
 use Rattle.flow_network.specs.Cut.{nodes}
-use Rattle.parcel.specs.States.{State, block_of}
+use Rattle.block_events.specs.States.{State, block_of}
 use Rattle.block_net.specs.Views.{CellsView, count}
 use Rattle.block_net.specs.Whole.{block_at, whole_of}
 use Rattle.laid_blocks.specs.Views.{blocks_in}

@@ -1,6 +1,6 @@
 use Rattle.std.proofs.Common.{◌≡◌, ℕ, ◌<◌, length, slice_index}
 use Rattle.flow_network.specs.Cut.{nodes}
-use Rattle.parcel.specs.States.{block_of}
+use Rattle.block_events.specs.States.{block_of}
 use Rattle.global_relabel.proofs.homes.write_homes.Given as goal
 
 abbrev pub invariant-each : goal.invariant-each

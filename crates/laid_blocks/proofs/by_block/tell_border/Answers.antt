@@ -1,5 +1,5 @@
 use Rattle.std.proofs.Common.{◌≡◌, sym, ◌∙◌, ap, subst, refl, slice_index}
-use Rattle.parcel.specs.Directions.{far}
+use Rattle.block_events.specs.Directions.{far}
 use Rattle.block_net.specs.Views.{CellsView, informed}
 use Rattle.block_net.specs.Whole.{Whole, block_at, put_block, whole_of}
 use Rattle.laid_blocks.specs.Views.{IsLaid, blocks_in}

@@ -1,6 +1,6 @@
 use Rattle.std.proofs.Common.{◌≡◌, ◌+◌, ◌≤◌, ◌++◌, length}
-use Rattle.parcel.specs.States.{way_at, put_way}
-use Rattle.parcel.specs.Soundness.{IsSquare}
+use Rattle.block_events.specs.States.{way_at, put_way}
+use Rattle.block_events.specs.Soundness.{IsSquare}
 use Rattle.block_core.specs.Mails.{room_at}
 use Rattle.block_workers.specs.Ports.{IsSamePort, put, waiting}
 use Rattle.block_workers.specs.Seeing.{messages}

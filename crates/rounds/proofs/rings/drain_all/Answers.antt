@@ -1,6 +1,6 @@
 use Rattle.std.proofs.Common.{List, length, map, sym, ◌∙◌, subst}
 use Rattle.std.specs.Vec.Iter.{into_iter_items}
-use Rattle.parcel.specs.declared.message.Message.{Message}
+use Rattle.block_events.specs.declared.message.Message.{Message}
 use Rattle.rounds.specs.declared.pair.Pair.{Pair}
 use Rattle.rounds.specs.Links.{link}
 use Rattle.rounds.specs.Draining.{AreDraining, HaveRoom}

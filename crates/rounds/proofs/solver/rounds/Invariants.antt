@@ -1,5 +1,5 @@
 use Rattle.std.proofs.Common.{◌≡◌}
-use Rattle.parcel.specs.Events.{IsQuiet}
+use Rattle.block_events.specs.Events.{IsQuiet}
 use Rattle.global_relabel.specs.Workspaces.{Serves}
 use Rattle.rounds.proofs.solver.rounds.Given as goal
 

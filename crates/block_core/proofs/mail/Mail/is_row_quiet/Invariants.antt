@@ -1,5 +1,5 @@
 use Rattle.std.proofs.Common.{◌≡◌, ℕ, ◌<◌, []}
-use Rattle.parcel.specs.States.{way_at}
+use Rattle.block_events.specs.States.{way_at}
 use Rattle.block_core.proofs.mail.Mail.is_row_quiet.Given as goal
 
 abbrev pub invariant-loop-to : goal.invariant-loop-to

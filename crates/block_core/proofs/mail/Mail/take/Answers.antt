@@ -2,7 +2,7 @@ use Rattle.std.proofs.lemmas.Grind.{common_steps}
 use Rattle.std.proofs.Common.{drop, List, [], refl, ◌∙◌, ap, arith}
 use Rattle.std.specs.Vec.{with_item}
 use Rattle.std.specs.VecDeque.{deque_capacity}
-use Rattle.parcel.specs.declared.message.Message.{Message}
+use Rattle.block_events.specs.declared.message.Message.{Message}
 use Rattle.block_core.specs.Mails.{MailView}
 use Rattle.block_core.proofs.Nested.{IsWritten, written, unwritten}
 use Rattle.block_core.proofs.mail.Mail.take.Goals as goal

@@ -1,9 +1,9 @@
 use Rattle.std.proofs.Common.{◌≡◌, ◌∷◌, drop, sym, subst, arith, rules}
 use Rattle.std.proofs.lemmas.Grind.{common_steps}
-use Rattle.parcel.specs.declared.message.Message.{Message}
-use Rattle.parcel.specs.declared.message.Message.TheVariants.{Parcel}
-use Rattle.parcel.specs.States as core
-use Rattle.parcel.specs.Effects.{state_of}
+use Rattle.block_events.specs.declared.message.Message.{Message}
+use Rattle.block_events.specs.declared.message.Message.TheVariants.{Parcel}
+use Rattle.block_events.specs.States as core
+use Rattle.block_events.specs.Effects.{state_of}
 use Rattle.block_core.proofs.Fronts.{parcel_out}
 use Rattle.block_core.proofs.state.State.accept.Goals as goal
 

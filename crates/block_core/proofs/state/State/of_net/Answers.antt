@@ -1,5 +1,5 @@
 use Rattle.std.proofs.Common.{length, subst}
-use Rattle.parcel.specs.Effects.{BlocksView}
+use Rattle.block_events.specs.Effects.{BlocksView}
 use Rattle.block_core.specs.Counting.{IsCounted}
 use Rattle.block_core.proofs.Counts.{opened_held, opened_is}
 use Rattle.block_core.proofs.state.State.of_net.Goals as goal

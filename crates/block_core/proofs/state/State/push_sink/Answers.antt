@@ -1,8 +1,8 @@
 use Rattle.std.proofs.Common.{◌≡◌, ◌+◌, refl, sym, subst}
-use Rattle.parcel.specs.States as core
-use Rattle.parcel.specs.declared.event.Event.TheVariants.{PushSink}
-use Rattle.parcel.specs.Events.{Enabled, effect}
-use Rattle.parcel.specs.Effects.{state_of}
+use Rattle.block_events.specs.States as core
+use Rattle.block_events.specs.declared.event.Event.TheVariants.{PushSink}
+use Rattle.block_events.specs.Events.{Enabled, effect}
+use Rattle.block_events.specs.Effects.{state_of}
 use Rattle.block_core.proofs.Keeping.{held_next}
 use Rattle.block_core.proofs.state.State.push_sink.Goals as goal
 

@@ -1,8 +1,8 @@
 use Rattle.std.proofs.Common.{sym, subst}
-use Rattle.parcel.specs.declared.event.Event.TheVariants.{RaiseAll}
-use Rattle.parcel.specs.States as core
-use Rattle.parcel.specs.Events.{IsQuiet, Happens}
-use Rattle.parcel.specs.Effects.{state_of}
+use Rattle.block_events.specs.declared.event.Event.TheVariants.{RaiseAll}
+use Rattle.block_events.specs.States as core
+use Rattle.block_events.specs.Events.{IsQuiet, Happens}
+use Rattle.block_events.specs.Effects.{state_of}
 use Rattle.block_core.proofs.Raised.{raise_happens, held_raised}
 use Rattle.block_core.proofs.state.State.raise_all.Goals as goal
 

@@ -1,10 +1,10 @@
 use Rattle.std.proofs.Common.{slice_index, sym, subst}
-use Rattle.parcel.specs.declared.event.Event.TheVariants.{RaiseAll}
-use Rattle.parcel.specs.States as core
-use Rattle.parcel.specs.Reach.{AreExact}
-use Rattle.parcel.specs.Events.{IsQuiet, Happens}
-use Rattle.parcel.specs.Effects.{state_of}
-use Rattle.parcel.proofs.Raising.{exact-le-top}
+use Rattle.block_events.specs.declared.event.Event.TheVariants.{RaiseAll}
+use Rattle.block_events.specs.States as core
+use Rattle.block_events.specs.Reach.{AreExact}
+use Rattle.block_events.specs.Events.{IsQuiet, Happens}
+use Rattle.block_events.specs.Effects.{state_of}
+use Rattle.block_events.proofs.Raising.{exact-le-top}
 use Rattle.block_core.proofs.Raised.{told_happens, held_raised}
 use Rattle.block_core.proofs.state.State.raise_to.Goals as goal
 

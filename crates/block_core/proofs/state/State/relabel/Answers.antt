@@ -1,8 +1,8 @@
 use Rattle.std.proofs.Common.{◌≡◌, refl, sym, subst, arith}
-use Rattle.parcel.specs.States as core
-use Rattle.parcel.specs.declared.event.Event.TheVariants.{Relabel}
-use Rattle.parcel.specs.Events.{IsActive, Enabled, effect, highest_label}
-use Rattle.parcel.specs.Effects.{state_of}
+use Rattle.block_events.specs.States as core
+use Rattle.block_events.specs.declared.event.Event.TheVariants.{Relabel}
+use Rattle.block_events.specs.Events.{IsActive, Enabled, effect, highest_label}
+use Rattle.block_events.specs.Effects.{state_of}
 use Rattle.block_core.proofs.Keeping.{held_next}
 use Rattle.block_core.proofs.state.State.relabel.Goals as goal
 

@@ -1,11 +1,11 @@
 use Rattle.std.proofs.Common.{◌≡◌, ◌≤◌, ◌∷◌, drop, sym, ◌∙◌, ap, subst, arith}
-use Rattle.parcel.specs.declared.message.Message.{Message}
-use Rattle.parcel.specs.declared.message.Message.TheVariants.{Parcel}
-use Rattle.parcel.specs.declared.event.Event.TheVariants.{Refuse}
-use Rattle.parcel.specs.Directions.{far}
-use Rattle.parcel.specs.States as core
-use Rattle.parcel.specs.Soundness.{direction_of}
-use Rattle.parcel.specs.Effects.{state_of}
+use Rattle.block_events.specs.declared.message.Message.{Message}
+use Rattle.block_events.specs.declared.message.Message.TheVariants.{Parcel}
+use Rattle.block_events.specs.declared.event.Event.TheVariants.{Refuse}
+use Rattle.block_events.specs.Directions.{far}
+use Rattle.block_events.specs.States as core
+use Rattle.block_events.specs.Soundness.{direction_of}
+use Rattle.block_events.specs.Effects.{state_of}
 use Rattle.block_core.proofs.Keeping.{held_next}
 use Rattle.block_core.proofs.Fronts.{parcel_out, parcel_arc, may_refuse, refuse_room, refuse_is}
 use Rattle.block_core.proofs.state.State.return_parcel.Goals as goal

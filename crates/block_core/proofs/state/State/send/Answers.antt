@@ -1,8 +1,8 @@
 use Rattle.std.proofs.Common.{◌≡◌, slice_index, refl, sym, ◌∙◌, ap, subst}
-use Rattle.parcel.specs.States as core
-use Rattle.parcel.specs.declared.event.Event.TheVariants.{Send}
-use Rattle.parcel.specs.Events.{Enabled}
-use Rattle.parcel.specs.Effects.{state_of}
+use Rattle.block_events.specs.States as core
+use Rattle.block_events.specs.declared.event.Event.TheVariants.{Send}
+use Rattle.block_events.specs.Events.{Enabled}
+use Rattle.block_events.specs.Effects.{state_of}
 use Rattle.block_core.proofs.Keeping.{held_next}
 use Rattle.block_core.proofs.Effects.{send_room, sent_is}
 use Rattle.block_core.proofs.state.State.send.Goals as goal

@@ -1,8 +1,8 @@
 use Rattle.std.proofs.Common.{◌≡◌, ◌∷◌, drop, sym, subst}
-use Rattle.parcel.specs.declared.message.Message.TheVariants.{Refused}
-use Rattle.parcel.specs.declared.event.Event.TheVariants.{Settle}
-use Rattle.parcel.specs.States as core
-use Rattle.parcel.specs.Effects.{state_of}
+use Rattle.block_events.specs.declared.message.Message.TheVariants.{Refused}
+use Rattle.block_events.specs.declared.event.Event.TheVariants.{Settle}
+use Rattle.block_events.specs.States as core
+use Rattle.block_events.specs.Effects.{state_of}
 use Rattle.block_core.proofs.Keeping.{held_next}
 use Rattle.block_core.proofs.Fronts.{refused_out, refused_amount, refused_label, may_settle, return_is}
 use Rattle.block_core.proofs.state.State.take_back.Goals as goal

@@ -1,9 +1,9 @@
 use Rattle.std.proofs.Common.{◌≡◌, ◌+◌, ◌∷◌, drop, sym, ◌∙◌, ap, subst}
-use Rattle.parcel.specs.declared.message.Message.TheVariants.{Parcel}
-use Rattle.parcel.specs.declared.event.Event.TheVariants.{Accept}
-use Rattle.parcel.specs.Directions.{far}
-use Rattle.parcel.specs.States as core
-use Rattle.parcel.specs.Effects.{state_of}
+use Rattle.block_events.specs.declared.message.Message.TheVariants.{Parcel}
+use Rattle.block_events.specs.declared.event.Event.TheVariants.{Accept}
+use Rattle.block_events.specs.Directions.{far}
+use Rattle.block_events.specs.States as core
+use Rattle.block_events.specs.Effects.{state_of}
 use Rattle.block_core.proofs.Keeping.{held_next}
 use Rattle.block_core.proofs.Fronts.{parcel_out, parcel_arc, may_accept, accept_room, accept_amount, accept_label, accept_is}
 use Rattle.block_core.proofs.state.State.take_parcel.Goals as goal

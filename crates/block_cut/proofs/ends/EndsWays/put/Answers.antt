@@ -1,7 +1,7 @@
 use Rattle.std.proofs.Common.{◌≡◌, true, nat_lt, length, sym, subst}
 use Rattle.std.proofs.lemmas.Bool.{and_parts}
 use Rattle.block_core.specs.Mails.{room_at}
-use Rattle.discharge.specs.Seen.{IsPut}
+use Rattle.block_turns.specs.Seen.{IsPut}
 use Rattle.block_cut.specs.Ends.{EndsView, ends_view, seen_by, is_other, now_to}
 use Rattle.block_cut.proofs.Ending.{put_kept, put_is}
 use Rattle.block_cut.proofs.ends.EndsWays.put.Goals as goal

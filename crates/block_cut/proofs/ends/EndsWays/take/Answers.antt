@@ -1,6 +1,6 @@
 use Rattle.std.proofs.Common.{◌≡◌, true, Some, is_some, sym, subst}
-use Rattle.discharge.specs.declared.letter.Letter.{Letter}
-use Rattle.discharge.specs.Seen.{IsTake}
+use Rattle.block_turns.specs.declared.letter.Letter.{Letter}
+use Rattle.block_turns.specs.Seen.{IsTake}
 use Rattle.block_cut.specs.Ends.{EndsView, ends_view, seen_by}
 use Rattle.block_cut.proofs.Ending.{front_is, front_some, take_kept, take_is}
 use Rattle.block_cut.proofs.ends.EndsWays.take.Goals as goal

@@ -1,5 +1,5 @@
 use Rattle.std.proofs.Common.{refl}
-use Rattle.discharge.proofs.Runs.{look_same}
+use Rattle.block_turns.proofs.Runs.{look_same}
 use Rattle.block_workers.specs.Ends.{ports}
 use Rattle.block_workers.specs.Seeing.{seen}
 use Rattle.block_workers.proofs.Looking.{same_ports}

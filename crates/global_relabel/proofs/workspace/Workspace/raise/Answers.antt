@@ -1,6 +1,6 @@
 use Rattle.std.proofs.Common.{sym, ap, subst}
 use Rattle.flow_network.specs.Cut.{Network}
-use Rattle.parcel.specs.States.{State}
+use Rattle.block_events.specs.States.{State}
 use Rattle.global_relabel.specs.Workspaces.{Serves}
 use Rattle.global_relabel.proofs.workspace.Workspace.raise.Goals as goal
 

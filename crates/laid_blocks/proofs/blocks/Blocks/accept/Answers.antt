@@ -1,15 +1,15 @@
 use Rattle.std.proofs.lemmas.Grind.{common_steps}
 use Rattle.std.proofs.Common.{◌≡◌, true, sym, ◌∙◌, ap, subst, arith}
-use Rattle.parcel.specs.declared.lane.Lane.{Lane}
-use Rattle.parcel.specs.declared.direction.Direction.{Direction}
-use Rattle.parcel.specs.declared.message.Message.TheVariants.{Accepted}
-use Rattle.parcel.specs.Directions.{opposite}
-use Rattle.parcel.specs.States as core
-use Rattle.parcel.specs.Soundness.{amount_out}
-use Rattle.parcel.proofs.Lanes.{border_opposite}
+use Rattle.block_events.specs.declared.lane.Lane.{Lane}
+use Rattle.block_events.specs.declared.direction.Direction.{Direction}
+use Rattle.block_events.specs.declared.message.Message.TheVariants.{Accepted}
+use Rattle.block_events.specs.Directions.{opposite}
+use Rattle.block_events.specs.States as core
+use Rattle.block_events.specs.Soundness.{amount_out}
+use Rattle.block_events.proofs.Lanes.{border_opposite}
 use Rattle.block_net.specs.Views.{CellsView, border_in}
 use Rattle.block_net.specs.Whole.{Whole, put_block, is_outer, whole_of}
-use Rattle.parcel.specs.Effects.{accepted}
+use Rattle.block_events.specs.Effects.{accepted}
 use Rattle.laid_blocks.specs.Views.{blocks_in, IsLaid, IsRow}
 use Rattle.laid_blocks.proofs.Steps.{at_read, border_read, border_capacity, row_as, back_spot, back_names, out_same, accepted_at}
 use Rattle.laid_blocks.proofs.blocks.Blocks.accept.Goals as goal

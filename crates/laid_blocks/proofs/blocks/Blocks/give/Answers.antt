@@ -1,7 +1,7 @@
 use Rattle.std.proofs.Common.{◌≡◌, min, slice_index, sym, ◌∙◌, ap, subst}
 use Rattle.block_net.specs.Views.{CellsView, excess_in, room_in}
 use Rattle.block_net.specs.Whole.{Whole, put_block, whole_of}
-use Rattle.parcel.specs.Effects.{given}
+use Rattle.block_events.specs.Effects.{given}
 use Rattle.laid_blocks.specs.Views.{blocks_in, IsLaid}
 use Rattle.laid_blocks.proofs.Steps.{at_read, given_amount, gave_at}
 use Rattle.laid_blocks.proofs.blocks.Blocks.give.Goals as goal

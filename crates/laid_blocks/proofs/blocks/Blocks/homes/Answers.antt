@@ -2,7 +2,7 @@ use Rattle.std.proofs.lemmas.Grind.{common_steps}
 use Rattle.std.proofs.Common.{◌≡◌, ℕ, length, subst, arith}
 use Rattle.std.specs.Prelude.{IfOk}
 use Rattle.block_net.specs.Split.{homes_made}
-use Rattle.parcel.specs.Effects.{BlocksView}
+use Rattle.block_events.specs.Effects.{BlocksView}
 use Rattle.laid_blocks.proofs.blocks.Blocks.homes.Goals as goal
 
 pub homes_of-requires : goal.homes_of-requires

@@ -1,5 +1,5 @@
 use Rattle.std.proofs.Common.{ℕ, ◌<◌}
-use Rattle.parcel.specs.Directions.{forward, backward}
+use Rattle.block_events.specs.Directions.{forward, backward}
 use Rattle.laid_blocks.specs.Raising.{IsStableAlong}
 use Rattle.laid_blocks.proofs.Lowering.{IsPass}
 use Rattle.laid_blocks.proofs.blocks.Blocks.lower_arcs.Given as goal

@@ -1,7 +1,7 @@
 use Rattle.std.proofs.Common.{true, ◌∙◌, subst, arith}
-use Rattle.parcel.specs.declared.direction.Direction.{Direction}
-use Rattle.parcel.specs.Directions.{opposite}
-use Rattle.parcel.proofs.Lanes.{border_opposite}
+use Rattle.block_events.specs.declared.direction.Direction.{Direction}
+use Rattle.block_events.specs.Directions.{opposite}
+use Rattle.block_events.proofs.Lanes.{border_opposite}
 use Rattle.block_net.specs.Views.{border_in}
 use Rattle.block_net.specs.Whole.{Whole, is_outer, whole_of}
 use Rattle.laid_blocks.specs.Views.{IsRow}

@@ -1,7 +1,7 @@
 use Rattle.std.proofs.Common.{◌≡◌, sym, subst}
 use Rattle.block_net.specs.Views.{CellsView}
 use Rattle.block_net.specs.Whole.{Whole, put_block, whole_of}
-use Rattle.parcel.specs.Effects.{labelled}
+use Rattle.block_events.specs.Effects.{labelled}
 use Rattle.laid_blocks.specs.Views.{blocks_in, IsLaid}
 use Rattle.laid_blocks.proofs.Steps.{at_read, labelled_at}
 use Rattle.laid_blocks.proofs.blocks.Blocks.relabel.Goals as goal

@@ -1,11 +1,11 @@
 use Rattle.std.proofs.lemmas.Grind.{common_steps}
 use Rattle.std.proofs.Common.{◌≡◌, true, min, slice_index, sym, ◌∙◌, ap, subst, arith}
-use Rattle.parcel.specs.declared.lane.Lane.{Lane}
-use Rattle.parcel.specs.Directions.{near}
-use Rattle.parcel.specs.States as core
+use Rattle.block_events.specs.declared.lane.Lane.{Lane}
+use Rattle.block_events.specs.Directions.{near}
+use Rattle.block_events.specs.States as core
 use Rattle.block_net.specs.Views.{CellsView, excess_in, border_in}
 use Rattle.block_net.specs.Whole.{Whole, put_block, whole_of}
-use Rattle.parcel.specs.Effects.{sent}
+use Rattle.block_events.specs.Effects.{sent}
 use Rattle.laid_blocks.specs.Views.{blocks_in, IsLaid}
 use Rattle.laid_blocks.proofs.Steps.{at_read, border_read, row_as, spot_as, sent_amount, sent_parcel, sent_at}
 use Rattle.laid_blocks.proofs.blocks.Blocks.send.Goals as goal

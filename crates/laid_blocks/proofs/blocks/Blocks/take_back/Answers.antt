@@ -1,11 +1,11 @@
 use Rattle.std.proofs.lemmas.Grind.{common_steps}
 use Rattle.std.proofs.Common.{◌≡◌, true, sym, ap, subst, arith}
-use Rattle.parcel.specs.declared.lane.Lane.{Lane}
-use Rattle.parcel.specs.States as core
-use Rattle.parcel.specs.Soundness.{amount_out}
+use Rattle.block_events.specs.declared.lane.Lane.{Lane}
+use Rattle.block_events.specs.States as core
+use Rattle.block_events.specs.Soundness.{amount_out}
 use Rattle.block_net.specs.Views.{CellsView, border_in}
 use Rattle.block_net.specs.Whole.{Whole, put_block, whole_of}
-use Rattle.parcel.specs.Effects.{returned}
+use Rattle.block_events.specs.Effects.{returned}
 use Rattle.laid_blocks.specs.Views.{blocks_in, IsLaid}
 use Rattle.laid_blocks.proofs.Steps.{at_read, top_read, border_read, row_as, border_spot, out_same, returned_at}
 use Rattle.laid_blocks.proofs.blocks.Blocks.take_back.Goals as goal

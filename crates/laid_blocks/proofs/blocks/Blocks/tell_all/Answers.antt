@@ -1,5 +1,5 @@
 use Rattle.std.proofs.Common.{◌≡◌, subst, arith, ap}
-use Rattle.parcel.specs.Effects.{BlocksView}
+use Rattle.block_events.specs.Effects.{BlocksView}
 use Rattle.laid_blocks.proofs.ByBlock.{IsToldBelow, told_none, told_more, told_done}
 use Rattle.laid_blocks.proofs.blocks.Blocks.tell_all.Goals as goal
 

@@ -1,5 +1,5 @@
 use Rattle.std.proofs.Common.{List, sym, ap, subst}
-use Rattle.discharge.specs.declared.letter.Letter.{Letter}
+use Rattle.block_turns.specs.declared.letter.Letter.{Letter}
 use Rattle.block_workers.specs.Ports.{put, taken}
 use Rattle.block_workers.specs.Seeing.{messages}
 use Rattle.rounds.specs.Left.{AreKept, rest_of}

@@ -1,0 +1,96 @@
+-- The events of one block, as a worker that holds the block sees them.
+--
+-- A state stands here for one block: of nodes and lanes only the block's own are read and written, and the
+-- ways are what went through the block's ends of them. The way from b to c is what b put for c so far, and
+-- the way from c to b is what b took from c so far: both only grow.
+use Rattle.std.specs.Prelude.{◌≡◌, ℕ, ◌+◌, ◌≤◌, true, List, [], ◌∷◌, ◌++◌, Some}
+use Rattle.flow_network.specs.Cut.{Network}
+use Rattle.flow_network.specs.Preflow.{arc_at}
+use Rattle.flow_network.specs.Progress.{top}
+use Rattle.block_events.specs.declared.direction.Direction.{Direction}
+use Rattle.block_events.specs.declared.message.Message.{Message}
+use Rattle.block_events.specs.declared.message.Message.TheVariants.{Parcel, Accepted, Refused}
+use Rattle.block_events.specs.declared.event.Event.{Event}
+use Rattle.block_events.specs.declared.event.Event.TheVariants.{PushInner, PushSink, Relabel, Send, Accept, Refuse, Settle, RaiseAll}
+use Rattle.block_events.specs.Directions.{IsDirection, opposite}
+use Rattle.block_events.specs.States.{State, way_at, residual_of, flight_of, block_of, near_block, far_block, is_border}
+use Rattle.block_events.specs.Events.{Enabled, MayAccept, MayRefuse, effect, accepted, refused, settled}
+use Rattle.block_events.specs.Soundness.{amount_out}
+
+-- ---- messages
+
+-- the rule that every message obeys when it is put
+abbrev pub IsFair : Message → Type 0
+IsFair (Parcel x a d) = (1 ≤ a) × (1 ≤ d)
+IsFair (Accepted x a) = 1 ≤ a
+IsFair (Refused x a d told) = (1 ≤ a) × (1 ≤ d) × (d ≤ told)
+
+-- a border direction from block b to block c
+pub record IsBetween (net : Network) (blocks : ℕ) (x : Direction) (b c : ℕ) : Type 0 where
+  pub direction : IsDirection net x
+  pub border : is_border net blocks x ≡ true
+  pub near : near_block net blocks x ≡ b
+  pub far : far_block net blocks x ≡ c
+
+-- a message that block b may put for block c: a parcel goes with its direction, an answer against it
+abbrev pub IsAddressed : Network → ℕ → ℕ → ℕ → Message → Type 0
+IsAddressed net blocks b c (Parcel x a d) = IsBetween net blocks x b c
+IsAddressed net blocks b c (Accepted x a) = IsBetween net blocks x c b
+IsAddressed net blocks b c (Refused x a d told) = IsBetween net blocks x c b
+
+-- block b may take the message from block c
+pub record MayTake (s : State) (b c : ℕ) (m : Message) : Type 0 where
+  pub addressed : IsAddressed s.net s.blocks c b m
+  pub fair : IsFair m
+
+-- a parcel fits within the labels and its arc, by what the block of its far end holds
+abbrev pub FitsArc : State → Message → Type 0
+FitsArc s (Parcel x a d) =
+    (d ≤ top s.net)
+    × (residual_of s (opposite x) + amount_out (flight_of s (opposite x)) + a ≤ (arc_at s.net x.arc).capacity)
+FitsArc s (Accepted x a) = ⊥
+FitsArc s (Refused x a d told) = ⊥
+
+-- an answer fits the parcel that is out
+abbrev pub FitsFlight : State → Message → Type 0
+FitsFlight s (Parcel x a d) = ⊥
+FitsFlight s (Accepted x a) = (d : ℕ) × (flight_of s x ≡ Some (record { amount = a; label = d }))
+FitsFlight s (Refused x a d told) =
+    (flight_of s x ≡ Some (record { amount = a; label = d })) × (told ≤ top s.net)
+
+-- ---- events
+
+-- what b took from c so far, with one more message, which also stands in front, where an event looks for it:
+-- the event drops it there, and what is left is what b took
+abbrev pub noted : State → ℕ → ℕ → Message → List Message
+noted s b c m = m ∷ (way_at s.ways c b ++ m ∷ [])
+
+-- block b does an event of its own, enabled in its own terms, and that leads from s to t
+abbrev pub DoesOwn : ℕ → State → Event → State → Type 0
+DoesOwn b s (PushInner x) t =
+    (near_block s.net s.blocks x ≡ b) × Enabled s (PushInner x) × (t ≡ effect s (PushInner x))
+DoesOwn b s (PushSink v) t =
+    (block_of s.net s.blocks v ≡ b) × Enabled s (PushSink v) × (t ≡ effect s (PushSink v))
+DoesOwn b s (Relabel v) t = (block_of s.net s.blocks v ≡ b) × Enabled s (Relabel v) × (t ≡ effect s (Relabel v))
+DoesOwn b s (Send x) t = (near_block s.net s.blocks x ≡ b) × Enabled s (Send x) × (t ≡ effect s (Send x))
+DoesOwn b s (Accept c to) t =
+    (to ≡ b) × (m : Message) × MayTake s b c m × MayAccept s (m ∷ []) × FitsArc s m
+    × (t ≡ accepted s c b (noted s b c m))
+DoesOwn b s (Refuse c to) t =
+    (to ≡ b) × (m : Message) × MayTake s b c m × MayRefuse s (m ∷ []) × (t ≡ refused s c b (noted s b c m))
+DoesOwn b s (Settle c to) t =
+    (to ≡ b) × (m : Message) × MayTake s b c m × FitsFlight s m × (t ≡ settled s c b (noted s b c m))
+DoesOwn b s RaiseAll t = ⊥
+
+-- events of block b, one after another, lead from s to t
+abbrev pub IsHistory : ℕ → State → List Event → State → Type 0
+IsHistory b s [] t = t ≡ s
+IsHistory b s (e ∷ es) t = (mid : State) × DoesOwn b s e mid × IsHistory b mid es t
+
+-- an event of block b that takes no message is enabled
+abbrev pub MayStart : ℕ → State → Event → Type 0
+MayStart b s (PushInner x) = (near_block s.net s.blocks x ≡ b) × Enabled s (PushInner x)
+MayStart b s (PushSink v) = (block_of s.net s.blocks v ≡ b) × Enabled s (PushSink v)
+MayStart b s (Relabel v) = (block_of s.net s.blocks v ≡ b) × Enabled s (Relabel v)
+MayStart b s (Send x) = (near_block s.net s.blocks x ≡ b) × Enabled s (Send x)
+MayStart b s e = ⊥

@@ -1,0 +1,14 @@
+use Rattle.std.proofs.Common.{◌≡◌, ◌⊎◌, ℕ, ◌<◌}
+use Rattle.block_turns.specs.Standing.{IsAside, waiting}
+use Rattle.block_turns.specs.Works.{DoesEvents, IsIdle}
+use Rattle.block_turns.proofs.passes.pass.Given as goal
+
+abbrev pub decreases-nodes : goal.decreases-nodes
+decreases-nodes g l = waiting l.cells
+
+abbrev pub invariant-nodes : goal.invariant-nodes
+invariant-nodes g l = record {
+  fixed : g.W.Ways.fixed l.ways ≡ g.W.Ways.fixed l.fn.ways;
+  does : DoesEvents l.fn.cells.block (g.W.Ways.seen l.fn.ways) 0 l.cells.block (g.W.Ways.seen l.ways);
+  idle : 0 < l.limit → (v : ℕ) → IsAside l.cells v → IsAside l.fn.cells v ⊎ IsIdle l.fn.cells.block (g.W.Ways.seen l.fn.ways) v;
+}
