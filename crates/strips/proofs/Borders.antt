@@ -29,7 +29,7 @@ use Rattle.closing_in.specs.Agreeing.{joined}
 use Rattle.closing_in.specs.Borders.{range_of, not_ones, is_beyond, leads_beyond, pair_border, border_at}
 use Rattle.closing_in.proofs.Borders.{strip_weights, weights_go_on}
 use Rattle.closing_in.proofs.Rooms.{total_more}
-use Rattle.strips.specs.Views.{view_of, GoesOn, weight_now}
+use Rattle.strips.specs.Views.{strip_view, KeepsChosen, weight_now}
 use Rattle.strips.proofs.Views.{weights_same, view_is, goes_on_joined}
 
 -- ---- the pair of a site and a neighbour
@@ -213,8 +213,8 @@ back w b = omega (arith, ints)
 
 -- the weights by now are those of the strip with the others at 0
 pub weights_now : (m : Instance) (move : Move) (f : ℕ → ℕ) (start known : List Choice) (from to : ℕ) (weights : List ℤ) → IsInstance m → IsAllowed m move f
-    → m.sites ≡ length known → GoesOn start known → AreWeights m move f (choice_at start) weights
-    → AreWeights m move f (choice_at (view_of known from to)) (list_of (weight_now m move f (choice_at start) (choice_at known) weights) m.sites)
+    → m.sites ≡ length known → KeepsChosen start known → AreWeights m move f (choice_at start) weights
+    → AreWeights m move f (choice_at (strip_view known from to)) (list_of (weight_now m move f (choice_at start) (choice_at known) weights) m.sites)
 weights_now m move f start known from to weights pairs allowed size on are =
     let now = choice_at known in
     let less = list_of (weight_now m move f (choice_at start) now weights) m.sites in

@@ -32,7 +32,7 @@ use Rattle.closing_in.specs.Forms.{bits_by_site, IsOneToOne}
 use Rattle.closing_in.specs.Telling.{IsListed}
 use Rattle.closing_in.proofs.Forms.{form_least, form_smallest, reweighed_form}
 use Rattle.closing_in.proofs.Strips.{strip_agrees}
-use Rattle.strips.specs.Views.{view_of, GoesOn}
+use Rattle.strips.specs.Views.{strip_view, KeepsChosen}
 use Rattle.strips.specs.Sides.{IsLessBorder}
 use Rattle.strips.proofs.Views.{first_of, view_length, view_at, open_is, seen_in, open_inside, inside_open}
 use Rattle.strips.proofs.Listing.{listing_left}
@@ -40,7 +40,7 @@ use Rattle.strips.proofs.Listing.{listing_left}
 -- ---- a strip is the set of its open sites
 
 -- an open site of the strip is open
-pub open_now : (known : List Choice) (from to p : ℕ) → open_at (view_of known from to) p ≡ true → choice_at known p ≡ Open
+pub open_now : (known : List Choice) (from to p : ℕ) → open_at (strip_view known from to) p ≡ true → choice_at known p ≡ Open
 open_now known from to p opened = true_open (choice_at known p) (open_inside known from to p opened).1
 
 inside_length : (view : List Choice) (p : ℕ) → open_at view p ≡ true → p < length view
@@ -58,7 +58,7 @@ others_seen false Open = refl
 others_seen false Zero = refl
 others_seen false One = refl
 
-pub seen_same : (known : List Choice) (from to : ℕ) → choice_at (view_of known from to) ≡ others_at Zero (open_at (view_of known from to)) (choice_at known)
+pub seen_same : (known : List Choice) (from to : ℕ) → choice_at (strip_view known from to) ≡ others_at Zero (open_at (strip_view known from to)) (choice_at known)
 seen_same known from to = λ j p. (
     view_at known from to p ∙ sym (others_seen (range_of from to p) (choice_at known p))
     ∙ ap (λ (b : Bool). cond b (choice_at known p) (or_else (choice_at known p) Zero)) (sym (open_is known from to p))) j
@@ -72,12 +72,12 @@ beyond_by false Zero = refl
 beyond_by false One = refl
 
 -- beyond the range lies what lies beyond its open sites
-beyond_same : (known : List Choice) (from to p : ℕ) → is_beyond (choice_at known) (range_of from to) p ≡ is_beyond (choice_at known) (open_at (view_of known from to)) p
+beyond_same : (known : List Choice) (from to p : ℕ) → is_beyond (choice_at known) (range_of from to) p ≡ is_beyond (choice_at known) (open_at (strip_view known from to)) p
 beyond_same known from to p =
     beyond_by (range_of from to p) (choice_at known p) ∙ ap (λ (b : Bool). is_open (choice_at known p) && not b) (sym (open_is known from to p))
 
 pub border_same : (m : Instance) (move : Move) (f : ℕ → ℕ) (known : List Choice) (from to p : ℕ)
-    → border_at m move f (choice_at known) (range_of from to) p ≡ border_at m move f (choice_at known) (open_at (view_of known from to)) p
+    → border_at m move f (choice_at known) (range_of from to) p ≡ border_at m move f (choice_at known) (open_at (strip_view known from to)) p
 border_same m move f known from to p j =
     sum_by
     (λ (pair : Pair). counted
@@ -95,10 +95,10 @@ and_both : (a b : Bool) → a ≡ true → b ≡ true → (a && b) ≡ true
 and_both true b h k = k
 and_both false b h k = absurd (cc (h))
 
-pub one_to_one : (known : List Choice) (from to n : ℕ) (opened : List ℕ) (r : ℕ) → length known ≡ n → AreOpenSites (view_of known from to) opened
-    → r ≡ length opened → IsOneToOne n (is_inside (choice_at known) (open_at (view_of known from to))) r (rank (view_of known from to)) (slice_index opened)
+pub one_to_one : (known : List Choice) (from to n : ℕ) (opened : List ℕ) (r : ℕ) → length known ≡ n → AreOpenSites (strip_view known from to) opened
+    → r ≡ length opened → IsOneToOne n (is_inside (choice_at known) (open_at (strip_view known from to))) r (rank (strip_view known from to)) (slice_index opened)
 one_to_one known from to n opened r sites listed count =
-    let view = view_of known from to in
+    let view = strip_view known from to in
     let size = view_length known from to in
     record {
       there = λ p l inside.
@@ -120,9 +120,9 @@ one_to_one known from to n opened r sites listed count =
 -- what the bits of both cuts tell of its sites
 abbrev pub strip_of : List Choice → ℕ → ℕ → List Bool → List Bool → Strip
 strip_of known from to lower upper = record {
-  set = open_at (view_of known from to);
-  lower = bits_by_site (choice_at (view_of known from to)) (rank (view_of known from to)) (assignment lower);
-  upper = bits_by_site (others_at One (open_at (view_of known from to)) (choice_at known)) (rank (view_of known from to)) (assignment upper);
+  set = open_at (strip_view known from to);
+  lower = bits_by_site (choice_at (strip_view known from to)) (rank (strip_view known from to)) (assignment lower);
+  upper = bits_by_site (others_at One (open_at (strip_view known from to)) (choice_at known)) (rank (strip_view known from to)) (assignment upper);
 }
 
 first_bit : (c : Choice) (x y : Bool) → c ≡ Open → x ≡ y → (is_open c && x) ≡ y
@@ -131,10 +131,10 @@ first_bit c x y h k = ap (λ (d : Choice). is_open d && x) h ∙ k
 default_is : (sites : List ℕ) (i p : ℕ) → i < length sites → get_or sites i 0 ≡ get_or sites i p
 default_is sites i p l = sym (get_or_default_zero sites i p l)
 
-pub strip_listed : (known : List Choice) (from to : ℕ) (opened : List ℕ) (lower upper : List Bool) → AreOpenSites (view_of known from to) opened
+pub strip_listed : (known : List Choice) (from to : ℕ) (opened : List ℕ) (lower upper : List Bool) → AreOpenSites (strip_view known from to) opened
     → IsListed opened lower upper (strip_of known from to lower upper)
 strip_listed known from to opened lower upper listed =
-    let view = view_of known from to in
+    let view = strip_view known from to in
     record {
       set = λ p. (
         (λ opened_is.
@@ -161,15 +161,15 @@ strip_listed known from to opened lower upper listed =
     }
 
 pub strip_bounded : (m : Instance) (move : Move) (f : ℕ → ℕ) (known : List Choice) (from to : ℕ) (opened borders : List ℕ) (q less : Quadratic) (lower upper : List Bool)
-    → IsInstance m → IsAllowed m move f → length known ≡ m.sites → AreOpenSites (view_of known from to) opened
-    → StandsFor m move f (choice_at (view_of known from to)) q (rank (view_of known from to)) → vec_len q.weights ≡ length opened
+    → IsInstance m → IsAllowed m move f → length known ≡ m.sites → AreOpenSites (strip_view known from to) opened
+    → StandsFor m move f (choice_at (strip_view known from to)) q (rank (strip_view known from to)) → vec_len q.weights ≡ length opened
     → ((k : ℕ) → k < length opened → slice_index borders k ≡ border_at m move f (choice_at known) (range_of from to) (slice_index opened k))
     → IsSmallestLeast (vec_len q.weights) (quadratic_value q) (assignment lower)
     → IsLessBorder borders q less → IsSmallestLeast (vec_len q.weights) (quadratic_value less) (assignment upper)
     → IsBounded m.sites (move_value m move f) (choice_at known) (strip_of known from to lower upper)
 strip_bounded m move f known from to opened borders q less lower upper pairs allowed sites listed stands count border low lower_by up =
     let E = move_value m move f in
-    let view = view_of known from to in
+    let view = strip_view known from to in
     let set = open_at view in
     let same = seen_same known from to in
     let L : (ℕ → Choice) → Type 0 = λ choice. IsSmallestLeast m.sites (fixed_value E choice) (bits_by_site (choice_at view) (rank view) (assignment lower)) in
@@ -198,8 +198,8 @@ open_first Zero d h = absurd (cc (h))
 open_first One d h = absurd (cc (h))
 
 -- what was chosen stays
-pub told_goes_on : (start known new : List Choice) (tells : ℕ → Choice) → length new ≡ length known → GoesOn start known
-    → ((p : ℕ) → p < length known → choice_at new p ≡ joined (choice_at known) tells p) → GoesOn start new
+pub told_goes_on : (start known new : List Choice) (tells : ℕ → Choice) → length new ≡ length known → KeepsChosen start known
+    → ((p : ℕ) → p < length known → choice_at new p ≡ joined (choice_at known) tells p) → KeepsChosen start new
 told_goes_on start known new tells count on each p inside shuts =
     let l : p < length known = omega (arith, inside, count) in
     let was = on p l shuts in
@@ -208,10 +208,10 @@ told_goes_on start known new tells count on each p inside shuts =
 -- the listed sites that are still open are those of the range
 pub told_left : (known new : List Choice) (from to : ℕ) (opened : List ℕ) (tells : ℕ → Choice) → length new ≡ length known
     → ((p : ℕ) → p < length known → choice_at new p ≡ joined (choice_at known) tells p)
-    → AreOpenSites (view_of known from to) opened → AreOpenSites (view_of new from to) (filter (open_at new) opened)
+    → AreOpenSites (strip_view known from to) opened → AreOpenSites (strip_view new from to) (filter (open_at new) opened)
 told_left known new from to opened tells count each listed =
-    let v = view_of known from to in
-    let w = view_of new from to in
+    let v = strip_view known from to in
+    let w = strip_view new from to in
     ap (filter (open_at new)) listed
     ∙ listing_left (open_at v) (open_at w) (open_at new) (length v)
     (λ p l is.

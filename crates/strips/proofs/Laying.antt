@@ -27,7 +27,7 @@ use Rattle.move_energy.specs.Choices.{choice_at, open_at, rank, AreOpenSites, St
 use Rattle.move_energy.specs.Weights.{AreWeights, IsOfWeights, unsaved, weight_at, open_weights}
 use Rattle.move_energy.proofs.Opened.{opened_within}
 use Rattle.move_energy.proofs.Weighed.{form_value, weighted_stands, listed_weights_are, listed_savings}
-use Rattle.strips.specs.Views.{view_of, GoesOn, weight_now}
+use Rattle.strips.specs.Views.{strip_view, KeepsChosen, weight_now}
 use Rattle.strips.proofs.Views.{view_length}
 use Rattle.strips.proofs.Borders.{list_of, map_now, weights_now}
 
@@ -129,13 +129,13 @@ laid_adds nodes zero_form old new list cost none adds laid = record {
 pub rows_stand : (m : Instance) (move : Move) (f : ℕ → ℕ) (start known : List Choice) (from to : ℕ) (weights : List ℤ) (opened : List ℕ) (pairs : PairList) (ends : Neighbours)
     (nodes : ℕ) (zero_form old new : Quadratic) (list : Vec ℤ)
     → m.sites ≡ pairs.sites → m.pairs ≡ pairs.list → IsInstance m → IsAllowed m move f → AreBySite pairs ends → length known ≡ m.sites
-    → GoesOn start known → AreOpenSites (view_of known from to) opened → AreWeights m move f (choice_at start) weights
+    → KeepsChosen start known → AreOpenSites (strip_view known from to) opened → AreWeights m move f (choice_at start) weights
     → IsConstant (pos 0) nodes zero_form → nodes ≡ length opened → vec_len old.weights ≡ vec_len zero_form.weights → IsLaid list.items old new
     → list.items ≡ map (weight_now m move f (choice_at start) (choice_at known) weights) opened
-    → AddsCost zero_form old (λ x. sum_by (met_at ends (open_at (view_of known from to)) (unsaved m move f (choice_at (view_of known from to)) (rank (view_of known from to)) x)) opened)
-    → StandsFor m move f (choice_at (view_of known from to)) new (rank (view_of known from to))
+    → AddsCost zero_form old (λ x. sum_by (met_at ends (open_at (strip_view known from to)) (unsaved m move f (choice_at (strip_view known from to)) (rank (strip_view known from to)) x)) opened)
+    → StandsFor m move f (choice_at (strip_view known from to)) new (rank (strip_view known from to))
 rows_stand m move f start known from to weights opened pairs ends nodes zero_form old new list sites_are pairs_are all allowed by_site size on listed are none count kept laid is adds =
-    let v = view_of known from to in
+    let v = strip_view known from to in
     let long = view_length known from to in
     let weight : ℕ → ℤ = weight_now m move f (choice_at start) (choice_at known) weights in
     let less = list_of weight m.sites in

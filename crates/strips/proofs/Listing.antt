@@ -11,7 +11,7 @@ use Rattle.move_energy.specs.Choices.{choice_at, is_open, open_at, AreOpenSites}
 use Rattle.move_energy.proofs.Opened.{open_true, true_open}
 use Rattle.closing_in.specs.Agreeing.{or_else}
 use Rattle.closing_in.specs.Borders.{range_of}
-use Rattle.strips.specs.Views.{seen, view_of}
+use Rattle.strips.specs.Views.{seen, strip_view}
 use Rattle.strips.proofs.Views.{in_range, above_range, below_range, range_more, view_length, view_is, open_is, seen_in, seen_out, open_inside, inside_open, whole_is}
 
 -- ---- lists of sites
@@ -56,22 +56,22 @@ listing_left a b q (suc n) within is =
 
 -- ---- the sites of a range
 
-none_from : (known : List Choice) (from to p : ℕ) → to ≤ p → open_at (view_of known from to) p ≡ false
+none_from : (known : List Choice) (from to p : ℕ) → to ≤ p → open_at (strip_view known from to) p ≡ false
 none_from known from to p l = open_is known from to p ∙ seen_out known from to p (above_range from to p l)
 
 -- the list of the open sites of a range is that of those before its end
 before_end : (known : List Choice) (from to : ℕ) → to ≤ length known
-    → listing (open_at (view_of known from to)) (length (view_of known from to)) ≡ listing (open_at (view_of known from to)) to
+    → listing (open_at (strip_view known from to)) (length (strip_view known from to)) ≡ listing (open_at (strip_view known from to)) to
 before_end known from to l =
-    listing_from (open_at (view_of known from to)) to (length (view_of known from to)) (omega (arith, l, view_length known from to)) (λ p past small. none_from known from to p past)
+    listing_from (open_at (strip_view known from to)) to (length (strip_view known from to)) (omega (arith, l, view_length known from to)) (λ p past small. none_from known from to p past)
 
-pub none_listed : (known : List Choice) (from : ℕ) (opened : List ℕ) → opened ≡ [] → AreOpenSites (view_of known from from) opened
+pub none_listed : (known : List Choice) (from : ℕ) (opened : List ℕ) → opened ≡ [] → AreOpenSites (strip_view known from from) opened
 none_listed known from opened none =
-    let v = view_of known from from in
+    let v = strip_view known from from in
     none ∙ sym (listing_from (open_at v) 0 (length v) (omega arith)
     (λ p past small. open_is known from from p ∙ seen_out known from from p (elim (cases_lt p from) [ inl l ↦ below_range from from p l | inr h ↦ above_range from from p (omega (arith, h)) ])))
 
-same_open : (known : List Choice) (from s p : ℕ) → p ≢ s → open_at (view_of known from (s + 1)) p ≡ open_at (view_of known from s) p
+same_open : (known : List Choice) (from s p : ℕ) → p ≢ s → open_at (strip_view known from (s + 1)) p ≡ open_at (strip_view known from s) p
 same_open known from s p other =
     open_is known from (s + 1) p ∙ ap (λ (b : Bool). is_open (cond b (choice_at known p) (or_else (choice_at known p) Zero))) (range_more from s p other)
     ∙ sym (open_is known from s p)
@@ -83,18 +83,18 @@ not_open false Zero h = refl
 not_open true One h = refl
 not_open false One h = refl
 
-still_shut : (known : List Choice) (from s p : ℕ) → p ≡ s → choice_at known s ≢ Open → open_at (view_of known from (s + 1)) p ≡ open_at (view_of known from s) p
+still_shut : (known : List Choice) (from s p : ℕ) → p ≡ s → choice_at known s ≢ Open → open_at (strip_view known from (s + 1)) p ≡ open_at (strip_view known from s) p
 still_shut known from s p here shuts =
     let is : choice_at known p ≢ Open = λ o. shuts (ap (choice_at known) (sym here) ∙ o) in
     open_is known from (s + 1) p ∙ not_open (range_of from (s + 1) p) (choice_at known p) is
     ∙ sym (not_open (range_of from s p) (choice_at known p) is) ∙ sym (open_is known from s p)
 
 -- a site that is not open
-pub next_shut : (known : List Choice) (from s : ℕ) (opened : List ℕ) → choice_at known s ≢ Open → AreOpenSites (view_of known from s) opened
-    → AreOpenSites (view_of known from (s + 1)) opened
+pub next_shut : (known : List Choice) (from s : ℕ) (opened : List ℕ) → choice_at known s ≢ Open → AreOpenSites (strip_view known from s) opened
+    → AreOpenSites (strip_view known from (s + 1)) opened
 next_shut known from s opened shuts listed =
-    listed ∙ ap (listing (open_at (view_of known from s))) (view_length known from s ∙ sym (view_length known from (s + 1)))
-    ∙ sym (listing_same (open_at (view_of known from (s + 1))) (open_at (view_of known from s)) (length (view_of known from (s + 1)))
+    listed ∙ ap (listing (open_at (strip_view known from s))) (view_length known from s ∙ sym (view_length known from (s + 1)))
+    ∙ sym (listing_same (open_at (strip_view known from (s + 1))) (open_at (strip_view known from s)) (length (strip_view known from (s + 1)))
     (λ p l. elim (cases_eq p s) [
       | inl here ↦ still_shut known from s p here shuts
       | inr other ↦ same_open known from s p other
@@ -102,10 +102,10 @@ next_shut known from s opened shuts listed =
 
 -- a site that is
 pub next_open : (known : List Choice) (from s : ℕ) (opened more : List ℕ) → from ≤ s → s < length known → choice_at known s ≡ Open → more ≡ opened ++ s ∷ []
-    → AreOpenSites (view_of known from s) opened → AreOpenSites (view_of known from (s + 1)) more
+    → AreOpenSites (strip_view known from s) opened → AreOpenSites (strip_view known from (s + 1)) more
 next_open known from s opened more after inside is adds listed =
-    let v = view_of known from s in
-    let w = view_of known from (s + 1) in
+    let v = strip_view known from s in
+    let w = strip_view known from (s + 1) in
     let here : open_at w s ≡ true = inside_open known from (s + 1) s (in_range from (s + 1) s after (omega arith)) (open_true (choice_at known s) is) in
     let below : listing (open_at v) s ≡ listing (open_at w) s = listing_same (open_at v) (open_at w) s (λ p l. sym (same_open known from s p (λ e. (omega (arith, l, e))))) in
     adds ∙ ap (λ (xs : List ℕ). xs ++ s ∷ []) (listed ∙ before_end known from s (omega (arith, inside)) ∙ below)
@@ -114,6 +114,6 @@ next_open known from s opened more after inside is adds listed =
 
 -- ---- the whole
 
-pub whole_listed : (known : List Choice) (to : ℕ) (opened : List ℕ) → length known ≤ to → AreOpenSites (view_of known 0 to) opened → AreOpenSites known opened
+pub whole_listed : (known : List Choice) (to : ℕ) (opened : List ℕ) → length known ≤ to → AreOpenSites (strip_view known 0 to) opened → AreOpenSites known opened
 whole_listed known to opened all listed =
     listed ∙ (λ j. listing (λ p. is_open (whole_is known to all j p)) (view_length known 0 to j))

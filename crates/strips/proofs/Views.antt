@@ -16,7 +16,7 @@ use Rattle.deciding.proofs.Rises.{move_over}
 use Rattle.closing_in.specs.Fixing.{fixed}
 use Rattle.closing_in.specs.Agreeing.{or_else, joined}
 use Rattle.closing_in.specs.Borders.{range_of, is_inside}
-use Rattle.strips.specs.Views.{seen, view_of, GoesOn}
+use Rattle.strips.specs.Views.{seen, strip_view, KeepsChosen}
 
 -- ---- choices that are the same at the sites
 
@@ -62,23 +62,23 @@ none_or : (b : Bool) → cond b Zero (or_else Zero Zero) ≡ Zero
 none_or true = refl
 none_or false = refl
 
-pub view_length : (known : List Choice) (from to : ℕ) → length (view_of known from to) ≡ length known
-unfolding view_of
+pub view_length : (known : List Choice) (from to : ℕ) → length (strip_view known from to) ≡ length known
+unfolding strip_view
 view_length known from to = length-map-range_with_len (seen known from to) 0 (length known)
 
-pub view_at : (known : List Choice) (from to p : ℕ) → choice_at (view_of known from to) p ≡ seen known from to p
-unfolding view_of
+pub view_at : (known : List Choice) (from to p : ℕ) → choice_at (strip_view known from to) p ≡ seen known from to p
+unfolding strip_view
 view_at known from to p = elim (cases_lt p (length known)) [
   | inl l ↦ get_or-map-range_with_len (seen known from to) 0 (length known) p p Zero l (omega arith)
   | inr past ↦
-      get_or_past (view_of known from to) p Zero (omega (arith, past, length-map-range_with_len (seen known from to) 0 (length known)))
+      get_or_past (strip_view known from to) p Zero (omega (arith, past, length-map-range_with_len (seen known from to) 0 (length known)))
       ∙ sym (ap (λ (c : Choice). cond (range_of from to p) c (or_else c Zero)) (get_or_past known p Zero (omega (arith, past))) ∙ none_or (range_of from to p))
 ]
 
-pub view_is : (known : List Choice) (from to : ℕ) → choice_at (view_of known from to) ≡ seen known from to
+pub view_is : (known : List Choice) (from to : ℕ) → choice_at (strip_view known from to) ≡ seen known from to
 view_is known from to = λ j p. view_at known from to p j
 
-pub open_is : (known : List Choice) (from to p : ℕ) → open_at (view_of known from to) p ≡ is_open (seen known from to p)
+pub open_is : (known : List Choice) (from to p : ℕ) → open_at (strip_view known from to) p ≡ is_open (seen known from to p)
 open_is known from to p = ap is_open (view_at known from to p)
 
 -- inside the range it is what is known, and outside it nothing is open
@@ -99,10 +99,10 @@ both_open true c h = (refl, h)
 both_open false c h = absurd (let e = sym h ∙ shut c in cc (e))
 
 -- an open site of the strip
-pub open_inside : (known : List Choice) (from to p : ℕ) → open_at (view_of known from to) p ≡ true → (range_of from to p ≡ true) × (is_open (choice_at known p) ≡ true)
+pub open_inside : (known : List Choice) (from to p : ℕ) → open_at (strip_view known from to) p ≡ true → (range_of from to p ≡ true) × (is_open (choice_at known p) ≡ true)
 open_inside known from to p h = both_open (range_of from to p) (choice_at known p) (sym (open_is known from to p) ∙ h)
 
-pub inside_open : (known : List Choice) (from to p : ℕ) → range_of from to p ≡ true → is_open (choice_at known p) ≡ true → open_at (view_of known from to) p ≡ true
+pub inside_open : (known : List Choice) (from to p : ℕ) → range_of from to p ≡ true → is_open (choice_at known p) ≡ true → open_at (strip_view known from to) p ≡ true
 inside_open known from to p within is = open_is known from to p ∙ ap is_open (seen_in known from to p within) ∙ is
 
 inside_by : (b : Bool) (c : Choice) → (is_open c && b) ≡ is_open (cond b c (or_else c Zero))
@@ -113,7 +113,7 @@ inside_by false Open = refl
 inside_by false Zero = refl
 inside_by false One = refl
 
-pub inside_is : (known : List Choice) (from to p : ℕ) → is_inside (choice_at known) (range_of from to) p ≡ open_at (view_of known from to) p
+pub inside_is : (known : List Choice) (from to p : ℕ) → is_inside (choice_at known) (range_of from to) p ≡ open_at (strip_view known from to) p
 inside_is known from to p = inside_by (range_of from to p) (choice_at known p) ∙ sym (open_is known from to p)
 
 -- ---- the whole
@@ -126,13 +126,13 @@ whole_at known to p all = elim (cases_lt p to) [
       ap (λ (c : Choice). cond (range_of 0 to p) c (or_else c Zero)) none ∙ none_or (range_of 0 to p) ∙ sym none
 ]
 
-pub whole_is : (known : List Choice) (to : ℕ) → length known ≤ to → choice_at (view_of known 0 to) ≡ choice_at known
+pub whole_is : (known : List Choice) (to : ℕ) → length known ≤ to → choice_at (strip_view known 0 to) ≡ choice_at known
 whole_is known to all = λ j p. (view_at known 0 to p ∙ whole_at known to p all) j
 
 abbrev rank_by : (ℕ → Choice) → ℕ → ℕ
 rank_by choice n = sum_below n (λ p. openness (choice p))
 
-pub whole_rank : (known : List Choice) (to : ℕ) → length known ≤ to → rank (view_of known 0 to) ≡ rank known
+pub whole_rank : (known : List Choice) (to : ℕ) → length known ≤ to → rank (strip_view known 0 to) ≡ rank known
 whole_rank known to all = λ j n. rank_by (whole_is known to all j) n
 
 -- ---- what is known goes on from the start
@@ -142,5 +142,5 @@ joined_at Open v h = refl
 joined_at Zero v h = sym (h (λ e. absurd (cc (e))))
 joined_at One v h = sym (h (λ e. absurd (cc (e))))
 
-pub goes_on_joined : (start known : List Choice) (p : ℕ) → GoesOn start known → p < length known → joined (choice_at start) (choice_at known) p ≡ choice_at known p
+pub goes_on_joined : (start known : List Choice) (p : ℕ) → KeepsChosen start known → p < length known → joined (choice_at start) (choice_at known) p ≡ choice_at known p
 goes_on_joined start known p on l = joined_at (choice_at start p) (choice_at known p) (on p l)

@@ -20,8 +20,8 @@ pub record IsView (start view : List Choice) (to : ℕ) : Type 0 where
       → choice_at view p ≡ or_else (choice_at start p) Zero
 
 -- more is known than at the start: what was chosen then stays
-abbrev pub GoesOn : List Choice → List Choice → Type 0
-GoesOn start known = (p : ℕ) → p < length known → choice_at start p ≢ Open
+abbrev pub KeepsChosen : List Choice → List Choice → Type 0
+KeepsChosen start known = (p : ℕ) → p < length known → choice_at start p ≢ Open
     → choice_at known p ≡ choice_at start p
 
 -- what a strip sees that is a range of sites: what is known, and each open site outside it at 0
@@ -29,8 +29,8 @@ abbrev pub seen : List Choice → ℕ → ℕ → ℕ → Choice
 seen known from to = others_at Zero (range_of from to) (choice_at known)
 
 -- the same in a list
-unfoldable pub view_of : List Choice → ℕ → ℕ → List Choice
-view_of known from to = map (seen known from to) (range_with_len 0 (length known))
+unfoldable pub strip_view : List Choice → ℕ → ℕ → List Choice
+strip_view known from to = map (seen known from to) (range_with_len 0 (length known))
 
 -- the weight of a site by now: less by the surplus of its pairs to sites that were open at the
 -- start and are at 1

@@ -18,7 +18,7 @@ ghost use Rattle.move_energy.specs.Weights.{AreWeights};
 ghost use Rattle.deciding.specs.Rising.{IsSized, IsTableOf};
 ghost use Rattle.closing_in.specs.Borders.{border_at, range_of};
 ghost use Rattle.strips.specs.Limits.{borders_limit};
-ghost use Rattle.strips.specs.Views.{GoesOn, view_of};
+ghost use Rattle.strips.specs.Views.{KeepsChosen, strip_view};
 
 use crate::rows::add_rows;
 use compile_cut::Quadratic;
@@ -102,8 +102,9 @@ pub fn build_strip<F: Fn(u32, u32) -> i64 + Sync, V: Fn(u32, u32) -> i64 + Sync>
     requires choices { length built.old.variables.choices.items ≡ length at.now }
     requires starts { length start.now ≡ length at.now }
     requires count { length weights.now ≡ length at.now }
-    requires goes_on { GoesOn start.now built.old.variables.choices.items }
-    requires opened { AreOpenSites (view_of built.old.variables.choices.items from to) opened.now }
+    requires goes_on { KeepsChosen start.now built.old.variables.choices.items }
+    requires opened { AreOpenSites (strip_view built.old.variables.choices.items from to)
+        opened.now }
     requires size { weights_size weights.now ≤ weights_limit }
     requires weights { Meant F.Fn V.Fn problem.now (λ m. AreWeights m change (labelling at.now)
         (choice_at start.now) weights.now) }
@@ -113,8 +114,8 @@ pub fn build_strip<F: Fn(u32, u32) -> i64 + Sync, V: Fn(u32, u32) -> i64 + Sync>
     ensures nodes { OnOk result (vec_len built.new.form.weights ≡ length opened.now) }
     ensures few { OnOk result (vec_len built.new.form.weights ≤ site_limit) }
     ensures built { Meant F.Fn V.Fn problem.now (λ m. OnOk result (StandsFor m change
-        (labelling at.now) (choice_at (view_of built.old.variables.choices.items from to))
-        built.new.form (rank (view_of built.old.variables.choices.items from to)))) }
+        (labelling at.now) (choice_at (strip_view built.old.variables.choices.items from to))
+        built.new.form (rank (strip_view built.old.variables.choices.items from to)))) }
     ensures count { OnOk result (length borders.new.items ≡ length opened.now) }
     ensures small { OnOk result (sum borders.new.items ≤ borders_limit) }
     ensures borders { Meant F.Fn V.Fn problem.now (λ m. OnOk result ((k : ℕ) →

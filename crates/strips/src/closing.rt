@@ -18,7 +18,7 @@ ghost use Rattle.deciding.specs.Rising.{IsSized, IsTableOf};
 ghost use Rattle.closing_in.specs.Agreeing.{Agree, joined};
 ghost use Rattle.closing_in.specs.Strips.{Strip, told_by};
 ghost use Rattle.closing_in.specs.Telling.{IsListed};
-ghost use Rattle.strips.specs.Views.{IsView, GoesOn, view_of};
+ghost use Rattle.strips.specs.Views.{IsView, KeepsChosen, strip_view};
 
 use crate::building::build_strip;
 use crate::opening::{list_left, list_next};
@@ -107,8 +107,8 @@ impl Strips {
         requires table { Meant F.Fn V.Fn problem.now (λ m. IsTableOf m change table.now) }
         requires count { (length start.now ≡ length at.now) × (length weights.now ≡ length at.now) }
         requires choices { length built.old.variables.choices.items ≡ length at.now }
-        requires goes_on { GoesOn start.now built.old.variables.choices.items }
-        requires opened { AreOpenSites (view_of built.old.variables.choices.items 0 to)
+        requires goes_on { KeepsChosen start.now built.old.variables.choices.items }
+        requires opened { AreOpenSites (strip_view built.old.variables.choices.items 0 to)
             self.old.opened.items }
         requires size { weights_size weights.now ≤ weights_limit }
         requires weights { Meant F.Fn V.Fn problem.now (λ m. AreWeights m change (labelling at.now)
@@ -116,9 +116,9 @@ impl Strips {
         requires allowed { Meant F.Fn V.Fn problem.now
             (λ m. IsAllowed m change (labelling at.now)) }
         ensures choices { OnOk result (length built.new.variables.choices.items ≡ length at.now) }
-        ensures goes_on { OnOk result (GoesOn start.now built.new.variables.choices.items) }
+        ensures goes_on { OnOk result (KeepsChosen start.now built.new.variables.choices.items) }
         ensures opened { OnOk result (AreOpenSites
-            (view_of built.new.variables.choices.items 0 to) self.new.opened.items) }
+            (strip_view built.new.variables.choices.items 0 to) self.new.opened.items) }
         ensures agree { Meant F.Fn V.Fn problem.now (λ m.
             Agree m.sites (move_value m change (labelling at.now))
             (choice_at built.old.variables.choices.items) →

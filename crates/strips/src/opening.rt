@@ -2,7 +2,7 @@
 ghost use Rattle.std.specs.Prelude.{◌≡◌, ◌<◌, ◌≤◌, All, filter, length, IfOk, OnOk};
 ghost use Rattle.label_field.specs.Limits.{site_limit};
 ghost use Rattle.move_energy.specs.Choices.{open_at, AreOpenSites};
-ghost use Rattle.strips.specs.Views.{view_of};
+ghost use Rattle.strips.specs.Views.{strip_view};
 
 use move_energy::Choice;
 use std::alloc::AllocError;
@@ -20,11 +20,12 @@ pub(crate) fn list_next(
     requires sites { length known.now ≤ site_limit }
     requires some { 0 < size }
     requires from { (first ≤ from) × (from ≤ length known.now) }
-    requires opened { AreOpenSites (view_of known.now first from) opened.old.items }
+    requires opened { AreOpenSites (strip_view known.now first from) opened.old.items }
     ensures inside { IfOk result (λ to. to ≤ length known.now) }
     ensures later { IfOk result (λ to. from ≤ to) }
     ensures further { IfOk result (λ to. from < length known.now → from < to) }
-    ensures opened { IfOk result (λ to. AreOpenSites (view_of known.now first to) opened.new.items) }
+    ensures opened { IfOk result (λ to.
+        AreOpenSites (strip_view known.now first to) opened.new.items) }
 {
     let mut more = 0;
     for site in from as usize..known.len() {

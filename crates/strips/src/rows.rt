@@ -13,8 +13,8 @@ ghost use Rattle.regular.specs.Regularity.{IsRegularTable};
 ghost use Rattle.compile_cut.specs.Quadratics.{IsBounded};
 ghost use Rattle.compile_cut.specs.Weights.{weights_size};
 ghost use Rattle.cost_store.specs.Posed.{IsPosed, IsAsked, Meant};
-ghost use Rattle.move_energy.specs.BySite.{AreBySite, degree, start_at, head_at, is_counted, met_at};
-ghost use Rattle.move_energy.specs.BySite.{pair_beside as beside_at};
+ghost use Rattle.move_energy.specs.BySite.{AreBySite, degree, start_at, head_at, is_counted};
+ghost use Rattle.move_energy.specs.BySite.{met_at, pair_beside as beside_at};
 ghost use Rattle.move_energy.specs.Built.{AddsCost, IsLonger};
 ghost use Rattle.move_energy.specs.Choices.{choice_at, open_at, rank, open_count, IsNumbering};
 ghost use Rattle.move_energy.specs.Choices.{AreOpenSites};
@@ -24,7 +24,7 @@ ghost use Rattle.deciding.specs.Rising.{IsSized, IsTableOf};
 ghost use Rattle.closing_in.specs.Borders.{border_at, is_beyond as beyond_of, not_ones, range_of};
 ghost use Rattle.closing_in.specs.Borders.{is_inside as inside_of};
 ghost use Rattle.strips.specs.Limits.{borders_limit};
-ghost use Rattle.strips.specs.Views.{view_of, weight_now};
+ghost use Rattle.strips.specs.Views.{strip_view, weight_now};
 
 use compile_cut::Quadratic;
 use cost_store::Problem;
@@ -144,19 +144,20 @@ fn add_inside<F: Fn(u32, u32) -> i64 + Sync, V: Fn(u32, u32) -> i64 + Sync>(
     requires labels { IsSized problem.now.data_cost.labels table.now }
     requires table { Meant F.Fn V.Fn problem.now (λ m. IsTableOf m change table.now) }
     requires known { length known.now ≡ length at.now }
-    requires numbering { IsNumbering (view_of known.now from to) numbers.now }
-    requires nodes { vec_len form.old.weights ≡ open_count (view_of known.now from to) }
-    requires site { (site < length at.now) × (open_at (view_of known.now from to) site ≡ true) }
+    requires numbering { IsNumbering (strip_view known.now from to) numbers.now }
+    requires nodes { vec_len form.old.weights ≡ open_count (strip_view known.now from to) }
+    requires site { (site < length at.now) × (open_at (strip_view known.now from to) site ≡ true) }
     requires place { (start_at ends.now site ≤ place) × (place < start_at ends.now (site + 1)) }
     requires head { (head ≡ head_at ends.now place) × (head < length at.now) }
     requires bounded { IsBounded term_limit form.old }
-    ensures longer { OnOk result (IsLonger (counted (is_counted (open_at (view_of known.now from to))
-        site (beside_at ends.now site place)) 1) form.old form.new) }
+    ensures longer { OnOk result (IsLonger (counted
+        (is_counted (open_at (strip_view known.now from to)) site
+        (beside_at ends.now site place)) 1) form.old form.new) }
     ensures adds { Meant F.Fn V.Fn problem.now (λ m. IsAllowed m change (labelling at.now) →
         OnOk result (AddsCost form.old form.new (λ x. counted
-        (is_counted (open_at (view_of known.now from to)) site (beside_at ends.now site place))
-        (unsaved m change (labelling at.now) (choice_at (view_of known.now from to))
-        (rank (view_of known.now from to)) x (beside_at ends.now site place))))) }
+        (is_counted (open_at (strip_view known.now from to)) site (beside_at ends.now site place))
+        (unsaved m change (labelling at.now) (choice_at (strip_view known.now from to))
+        (rank (strip_view known.now from to)) x (beside_at ends.now site place))))) }
 {
     if !is_inside(known, from, to, head) {
         return Ok(());
@@ -205,13 +206,13 @@ fn add_row<F: Fn(u32, u32) -> i64 + Sync, V: Fn(u32, u32) -> i64 + Sync>(
     requires labels { IsSized problem.now.data_cost.labels table.now }
     requires table { Meant F.Fn V.Fn problem.now (λ m. IsTableOf m change table.now) }
     requires sizes { (length start.now ≡ length at.now) × (length known.now ≡ length at.now) }
-    requires numbering { IsNumbering (view_of known.now from to) numbers.now }
-    requires nodes { vec_len form.old.weights ≡ open_count (view_of known.now from to) }
-    requires site { (site < length at.now) × (open_at (view_of known.now from to) site ≡ true) }
-    requires met { met_at ends.now (open_at (view_of known.now from to)) (λ pair. 1) site
+    requires numbering { IsNumbering (strip_view known.now from to) numbers.now }
+    requires nodes { vec_len form.old.weights ≡ open_count (strip_view known.now from to) }
+    requires site { (site < length at.now) × (open_at (strip_view known.now from to) site ≡ true) }
+    requires met { met_at ends.now (open_at (strip_view known.now from to)) (λ pair. 1) site
         ≤ term_limit }
     requires bounded { IsBounded (term_limit - met_at ends.now
-        (open_at (view_of known.now from to)) (λ pair. 1) site) form.old }
+        (open_at (strip_view known.now from to)) (λ pair. 1) site) form.old }
     ensures ones { Meant F.Fn V.Fn problem.now (λ m. IsAllowed m change (labelling at.now) →
         IfOk result (λ found. found.ones ≡ pos (border_at m change (labelling at.now)
         (choice_at start.now) (not_ones (choice_at known.now)) site))) }
@@ -221,12 +222,13 @@ fn add_row<F: Fn(u32, u32) -> i64 + Sync, V: Fn(u32, u32) -> i64 + Sync>(
     ensures range { IfOk result (λ found.
         (unsigned_abs found.ones ≤ surplus_limit * degree ends.now site)
         × (unsigned_abs found.beyond ≤ surplus_limit * degree ends.now site)) }
-    ensures longer { OnOk result (IsLonger (met_at ends.now (open_at (view_of known.now from to))
+    ensures longer { OnOk result (IsLonger (met_at ends.now (open_at (strip_view known.now from to))
         (λ pair. 1) site) form.old form.new) }
     ensures adds { Meant F.Fn V.Fn problem.now (λ m. IsAllowed m change (labelling at.now) →
         OnOk result (AddsCost form.old form.new (λ x. met_at ends.now
-        (open_at (view_of known.now from to)) (unsaved m change (labelling at.now)
-        (choice_at (view_of known.now from to)) (rank (view_of known.now from to)) x) site))) }
+        (open_at (strip_view known.now from to)) (unsaved m change (labelling at.now)
+        (choice_at (strip_view known.now from to)) (rank (strip_view known.now from to)) x)
+        site))) }
 {
     let mut ones = 0i64;
     let mut beyond = 0i64;
@@ -270,9 +272,9 @@ pub(crate) fn add_rows<F: Fn(u32, u32) -> i64 + Sync, V: Fn(u32, u32) -> i64 + S
     requires sizes { (length start.now ≡ length at.now) × (length known.now ≡ length at.now) }
     requires count { length weights.now ≡ length at.now }
     requires size { weights_size weights.now ≤ weights_limit }
-    requires opened { AreOpenSites (view_of known.now from to) opened.now }
-    requires numbering { IsNumbering (view_of known.now from to) numbers.now }
-    requires nodes { vec_len form.old.weights ≡ open_count (view_of known.now from to) }
+    requires opened { AreOpenSites (strip_view known.now from to) opened.now }
+    requires numbering { IsNumbering (strip_view known.now from to) numbers.now }
+    requires nodes { vec_len form.old.weights ≡ open_count (strip_view known.now from to) }
     requires bounded { IsBounded 0 form.old }
     ensures count { OnOk result ((length list.new.items ≡ length opened.now)
         × (length borders.new.items ≡ length opened.now)) }
@@ -288,8 +290,8 @@ pub(crate) fn add_rows<F: Fn(u32, u32) -> i64 + Sync, V: Fn(u32, u32) -> i64 + S
         (choice_at known.now) (range_of from to)) opened.now)) }
     ensures adds { Meant F.Fn V.Fn problem.now (λ m. IsAllowed m change (labelling at.now) →
         OnOk result (AddsCost form.old form.new (λ x. sum_by (met_at ends.now
-        (open_at (view_of known.now from to)) (unsaved m change (labelling at.now)
-        (choice_at (view_of known.now from to)) (rank (view_of known.now from to)) x))
+        (open_at (strip_view known.now from to)) (unsaved m change (labelling at.now)
+        (choice_at (strip_view known.now from to)) (rank (strip_view known.now from to)) x))
         opened.now))) }
 {
     list.clear();

@@ -10,7 +10,7 @@ use Rattle.move_energy.specs.Choices.{choice_at, open_at, open_count, rank, IsNu
 use Rattle.move_energy.specs.Weights.{unsaved}
 use Rattle.move_energy.proofs.Opened.{opened_within, opened_few, opened_count}
 use Rattle.compile_cut.proofs.TermLemmas.{constant_nodes}
-use Rattle.strips.specs.Views.{view_of, weight_now}
+use Rattle.strips.specs.Views.{strip_view, weight_now}
 use Rattle.strips.proofs.Views.{view_length}
 use Rattle.strips.proofs.Laying.{IsLaid, rows_stand}
 use Rattle.strips.proofs.building.build_strip.Goals as goal
@@ -20,7 +20,7 @@ number_sites-requires-clause-few g c =
     let known = c.args.built.now.variables.choices.items in
     omega (
       arith,
-      opened_few (view_of known c.args.from c.args.to) c.args.opened.now c.requires.opened,
+      opened_few (strip_view known c.args.from c.args.to) c.args.opened.now c.requires.opened,
       view_length known c.args.from c.args.to,
       c.requires.choices,
       c.requires.asked.sites,
@@ -31,27 +31,27 @@ pub number_sites-requires-clause-inside : goal.number_sites-requires-clause-insi
 number_sites-requires-clause-inside g c =
     let known = c.args.built.now.variables.choices.items in
     let e : length known ≡ c.len-sites.result = omega (arith, c.len-sites.ensures, c.args.built.now.variables.choices.ok.0) in
-    opened_within (view_of known c.args.from c.args.to) c.args.opened.now c.len-sites.result c.requires.opened (view_length known c.args.from c.args.to ∙ e)
+    opened_within (strip_view known c.args.from c.args.to) c.args.opened.now c.len-sites.result c.requires.opened (view_length known c.args.from c.args.to ∙ e)
 
 pub add_rows-requires-clause-numbering : goal.add_rows-requires-clause-numbering
 add_rows-requires-clause-numbering g c = λ κs lives.
     let a = c.args in
     let known = a.built.now.variables.choices.items in
     let e : length known ≡ c.len-sites.result = omega (arith, c.len-sites.ensures, a.built.now.variables.choices.ok.0) in
-    let N : List Choice → List ℕ → Type 0 = λ ks ns. IsNumbering (view_of ks a.from a.to) ns in
+    let N : List Choice → List ℕ → Type 0 = λ ks ns. IsNumbering (strip_view ks a.from a.to) ns in
     let P : List Choice → Type 0 = λ ks. N ks c.deref-2.result.now in
     let Q : List ℕ → Type 0 = λ ns. N known ns in
     subst P (sym c.deref.ensures.value)
     (subst Q (sym c.deref-2.ensures.value)
-    (c.in_ok-number_sites.ensures (view_of known a.from a.to) (view_length known a.from a.to ∙ e) c.requires.opened))
+    (c.in_ok-number_sites.ensures (strip_view known a.from a.to) (view_length known a.from a.to ∙ e) c.requires.opened))
 
 pub add_rows-requires-clause-nodes : goal.add_rows-requires-clause-nodes
 add_rows-requires-clause-nodes g c = λ κs lives.
     let a = c.args in
     let known = a.built.now.variables.choices.items in
     constant_nodes (pos 0) (length a.opened.now) c.clear_form.new.form c.in_ok-clear_form.ensures
-    ∙ opened_count (view_of known a.from a.to) a.opened.now c.requires.opened
-    ∙ ap (λ (ks : List Choice). open_count (view_of ks a.from a.to)) (sym c.deref.ensures.value)
+    ∙ opened_count (strip_view known a.from a.to) a.opened.now c.requires.opened
+    ∙ ap (λ (ks : List Choice). open_count (strip_view ks a.from a.to)) (sym c.deref.ensures.value)
 
 pub returns-clause-few : goal.returns-clause-few
 returns-clause-few g c =
@@ -61,7 +61,7 @@ returns-clause-few g c =
       c.add_weights.ensures.len,
       c.in_ok-add_rows.ensures.nodes,
       constant_nodes (pos 0) (length c.args.opened.now) c.clear_form.new.form c.in_ok-clear_form.ensures,
-      opened_few (view_of known c.args.from c.args.to) c.args.opened.now c.requires.opened,
+      opened_few (strip_view known c.args.from c.args.to) c.args.opened.now c.requires.opened,
       view_length known c.args.from c.args.to,
       c.requires.choices,
       c.requires.asked.sites,
@@ -78,8 +78,8 @@ returns-clause-built g c = λ m meant.
     let list = c.add_rows.new.list in
     let allowed = c.requires.allowed m meant in
     let T : List Choice → Type 0 = λ ks. list.items ≡ map (weight_now m a.change f (choice_at a.start.now) (choice_at ks) a.weights.now) a.opened.now in
-    let D : List Choice → Type 0 = λ ks. AddsCost c.clear_form.new.form old (λ x. sum_by (met_at a.ends.now (open_at (view_of ks a.from a.to))
-    (unsaved m a.change f (choice_at (view_of ks a.from a.to)) (rank (view_of ks a.from a.to)) x)) a.opened.now) in
+    let D : List Choice → Type 0 = λ ks. AddsCost c.clear_form.new.form old (λ x. sum_by (met_at a.ends.now (open_at (strip_view ks a.from a.to))
+    (unsaved m a.change f (choice_at (strip_view ks a.from a.to)) (rank (strip_view ks a.from a.to)) x)) a.opened.now) in
     let S : List ℤ → Type 0 = λ ys. weights_size c.add_weights.new.weights.items ≤ weights_size old.weights.items + weights_size ys in
     let laid : IsLaid list.items old new = (
       refl,

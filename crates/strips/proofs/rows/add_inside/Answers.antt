@@ -12,7 +12,7 @@ use Rattle.move_energy.specs.Weights.{are_open, unsaved}
 use Rattle.move_energy.proofs.Numbers.{rank_below}
 use Rattle.move_energy.proofs.Adding.{counted_longer, uncounted_longer, counted_adds, uncounted_adds}
 use Rattle.move_energy.proofs.Weighed.{surplus_counted, surplus_adds, surplus_none, surplus_passed, number_read, first_open, second_open}
-use Rattle.strips.specs.Views.{view_of}
+use Rattle.strips.specs.Views.{strip_view}
 use Rattle.strips.proofs.Views.{view_length, inside_is}
 use Rattle.strips.proofs.Borders.{regular_beside}
 use Rattle.strips.proofs.Inside.{open_beside, shut_beside, nothing_longer, nothing_adds, counted_first, uncounted_second}
@@ -21,12 +21,12 @@ use Rattle.strips.proofs.rows.add_inside.Goals as goal
 pub returns-then-not-is_inside-clause-longer : goal.returns-then-not-is_inside-clause-longer
 returns-then-not-is_inside-clause-longer g c =
     let a = c.args in
-    nothing_longer a.form.now (is_counted (open_at (view_of a.known.now a.from a.to)) a.site (pair_beside a.ends.now a.site a.place))
+    nothing_longer a.form.now (is_counted (open_at (strip_view a.known.now a.from a.to)) a.site (pair_beside a.ends.now a.site a.place))
 
 pub returns-then-not-is_inside-clause-adds : goal.returns-then-not-is_inside-clause-adds
 returns-then-not-is_inside-clause-adds g c = λ m answers allowed.
     let a = c.args in
-    let v = view_of a.known.now a.from a.to in
+    let v = strip_view a.known.now a.from a.to in
     let shuts : open_at v a.head ≡ false = sym (inside_is a.known.now a.from a.to a.head) ∙ sym c.is_inside.ensures ∙ c.if-not-is_inside.true in
     nothing_adds m a.change (labelling a.at.now) (choice_at v) (rank v) a.form.now (pair_beside a.ends.now a.site a.place)
     (is_counted (open_at v) a.site (pair_beside a.ends.now a.site a.place)) (shut_beside (choice_at v) a.ends.now a.site a.place a.head c.requires.head.0 shuts)
@@ -34,7 +34,7 @@ returns-then-not-is_inside-clause-adds g c = λ m answers allowed.
 pub returns-then-pair-site-clause-adds : goal.returns-then-pair-site-clause-adds
 returns-then-pair-site-clause-adds g c = λ m answers allowed.
     let a = c.args in
-    let v = view_of a.known.now a.from a.to in
+    let v = strip_view a.known.now a.from a.to in
     let pair = c.pair_beside-pair.result in
     let is = c.pair_beside-pair.ensures.value in
     let opened_head : open_at v a.head ≡ true = sym (inside_is a.known.now a.from a.to a.head) ∙ sym c.is_inside.ensures ∙ c.if-not-is_inside.false in
@@ -46,7 +46,7 @@ returns-then-pair-site-clause-adds g c = λ m answers allowed.
 pub returns-then-surplus-le0-clause-adds : goal.returns-then-surplus-le0-clause-adds
 returns-then-surplus-le0-clause-adds g c = λ m answers allowed.
     let a = c.args in
-    let v = view_of a.known.now a.from a.to in
+    let v = strip_view a.known.now a.from a.to in
     let pair = c.pair_beside-pair.result in
     let is = c.pair_beside-pair.ensures.value in
     let opened_head : open_at v a.head ≡ true = sym (inside_is a.known.now a.from a.to a.head) ∙ sym c.is_inside.ensures ∙ c.if-not-is_inside.false in
@@ -70,7 +70,7 @@ bounds-numbers-pair-2 g c =
 pub add_saving-requires-clause-first : goal.add_saving-requires-clause-first
 add_saving-requires-clause-first g c =
     let a = c.args in
-    let v = view_of a.known.now a.from a.to in
+    let v = strip_view a.known.now a.from a.to in
     let pair = c.pair_beside-pair.result in
     let is = c.pair_beside-pair.ensures.value in
     let opened_head : open_at v a.head ≡ true = sym (inside_is a.known.now a.from a.to a.head) ∙ sym c.is_inside.ensures ∙ c.if-not-is_inside.false in
@@ -83,7 +83,7 @@ add_saving-requires-clause-first g c =
 pub add_saving-requires-clause-second : goal.add_saving-requires-clause-second
 add_saving-requires-clause-second g c =
     let a = c.args in
-    let v = view_of a.known.now a.from a.to in
+    let v = strip_view a.known.now a.from a.to in
     let pair = c.pair_beside-pair.result in
     let is = c.pair_beside-pair.ensures.value in
     let opened_head : open_at v a.head ≡ true = sym (inside_is a.known.now a.from a.to a.head) ∙ sym c.is_inside.ensures ∙ c.if-not-is_inside.false in
@@ -96,7 +96,7 @@ add_saving-requires-clause-second g c =
 pub returns-clause-adds : goal.returns-clause-adds
 returns-clause-adds g c = λ m answers allowed.
     let a = c.args in
-    let v = view_of a.known.now a.from a.to in
+    let v = strip_view a.known.now a.from a.to in
     let pair = c.pair_beside-pair.result in
     let is = c.pair_beside-pair.ensures.value in
     let opened_head : open_at v a.head ≡ true = sym (inside_is a.known.now a.from a.to a.head) ∙ sym c.is_inside.ensures ∙ c.if-not-is_inside.false in

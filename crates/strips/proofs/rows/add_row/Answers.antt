@@ -11,7 +11,7 @@ use Rattle.move_energy.proofs.Adding.{cost_none, met_longer, met_adds, met_room}
 use Rattle.deciding.proofs.Left.{degree_most}
 use Rattle.closing_in.specs.Borders.{not_ones, range_of}
 use Rattle.closing_in.proofs.Rooms.{total_is, total_all}
-use Rattle.strips.specs.Views.{view_of}
+use Rattle.strips.specs.Views.{strip_view}
 use Rattle.strips.proofs.Borders.{border_none, border_more, border_small, head_inside}
 use Rattle.strips.proofs.Inside.{row_longer, row_adds, row_none, row_longer_all, row_adds_all, nothing_adds_yet}
 use Rattle.strips.proofs.rows.add_row.Goals as goal
@@ -74,7 +74,7 @@ add_inside-requires-clause-bounded g c =
     let from : start_at a.ends.now a.site ≤ p = omega (arith, start, c.loop-place.auto.place) in
     let to : p < start_at a.ends.now (a.site + 1) = omega (arith, end, c.loop-place-test.true) in
     λ κs lives.
-    met_room a.ends.now (open_at (view_of a.known.now a.from a.to)) a.site (p - start_at a.ends.now a.site) a.form.now c.loop-place.form
+    met_room a.ends.now (open_at (strip_view a.known.now a.from a.to)) a.site (p - start_at a.ends.now a.site) a.form.now c.loop-place.form
     (omega (arith, from, to)) c.requires.met c.requires.bounded c.loop-place.invariant.longer
 
 pub loop-place-init : goal.loop-place-init
@@ -82,7 +82,7 @@ loop-place-init g c =
     let a = c.args in
     let inside : a.site < a.problem.now.pairs.sites = omega (arith, c.requires.site.0, c.requires.asked.sites) in
     let start = start_read a.problem.now.pairs a.ends.now a.site _ c.requires.by_site (omega (arith, inside)) c.index-place.ensures in
-    let v = view_of a.known.now a.from a.to in
+    let v = strip_view a.known.now a.from a.to in
     record {
       ones_small = omega arith;
       beyond_small = omega arith;
@@ -106,7 +106,7 @@ loop-place-preserved g c =
     omega (arith, degree_most a.problem.now.pairs a.ends.now a.site c.requires.by_site inside, from, to, c.requires.posed.pairs.count) in
     let head = head_read a.problem.now.pairs a.ends.now a.site p _ c.requires.by_site inside to c.index-head.ensures in
     let i = c.loop-place.invariant in
-    let v = view_of a.known.now a.from a.to in
+    let v = strip_view a.known.now a.from a.to in
     let one = c.counted_surplus-ones in
     let past = c.counted_surplus-beyond in
     let ones_is = total_is (to_z w64 c.loop-place.ones-bits) one.result (p - start_at a.ends.now a.site) i.ones_small one.ensures.range few in
@@ -170,7 +170,7 @@ returns-clause-longer g c =
     let end = start_read a.problem.now.pairs a.ends.now (a.site + 1) _ c.requires.by_site (omega (arith, inside)) c.index-place-end.ensures in
     let last : c.loop-place.place - start_at a.ends.now a.site ≡ degree a.ends.now a.site =
     omega (arith, start, end, starts_rise a.problem.now.pairs a.ends.now a.site c.requires.by_site inside, c.loop-place.auto.place-end, c.loop-place-test.false) in
-    row_longer_all a.ends.now (open_at (view_of a.known.now a.from a.to)) a.site _ a.form.now c.loop-place.form last c.loop-place.invariant.longer
+    row_longer_all a.ends.now (open_at (strip_view a.known.now a.from a.to)) a.site _ a.form.now c.loop-place.form last c.loop-place.invariant.longer
 
 pub returns-clause-adds : goal.returns-clause-adds
 returns-clause-adds g c =
@@ -181,6 +181,6 @@ returns-clause-adds g c =
     let end = start_read a.problem.now.pairs a.ends.now (a.site + 1) _ c.requires.by_site (omega (arith, inside)) c.index-place-end.ensures in
     let last : c.loop-place.place - start_at a.ends.now a.site ≡ degree a.ends.now a.site =
     omega (arith, start, end, starts_rise a.problem.now.pairs a.ends.now a.site c.requires.by_site inside, c.loop-place.auto.place-end, c.loop-place-test.false) in
-    let v = view_of a.known.now a.from a.to in
+    let v = strip_view a.known.now a.from a.to in
     row_adds_all a.ends.now (open_at v) (λ (x : ℕ → Bool) (pair : Pair). unsaved m a.change (labelling a.at.now) (choice_at v) (rank v) x pair) a.site _
     a.form.now c.loop-place.form last (c.loop-place.invariant.adds m answers allowed)

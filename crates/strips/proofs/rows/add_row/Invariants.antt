@@ -8,7 +8,7 @@ use Rattle.move_energy.specs.Built.{AddsCost, IsLonger}
 use Rattle.move_energy.specs.Choices.{choice_at, open_at, rank}
 use Rattle.move_energy.specs.Weights.{unsaved}
 use Rattle.closing_in.specs.Borders.{not_ones, range_of, pair_border}
-use Rattle.strips.specs.Views.{view_of}
+use Rattle.strips.specs.Views.{strip_view}
 use Rattle.strips.proofs.rows.add_row.Given as goal
 
 abbrev pub invariant-loop-place : goal.invariant-loop-place
@@ -21,8 +21,8 @@ invariant-loop-place g l = record {
   beyond : (m : Instance) → IsMeant g.F.Fn g.V.Fn l.problem m → IsAllowed m l.change (labelling l.at)
       → l.beyond ≡ pos (sum_below (l.place - start_at l.ends l.site) (λ i. pair_border m l.change (labelling l.at)
       (choice_at l.known) (range_of l.from l.to) l.site (pair_of l.ends l.site i)));
-  longer : IsLonger (met_below l.ends (open_at (view_of l.known l.from l.to)) (λ pair. 1) l.site (l.place - start_at l.ends l.site)) l.fn.form l.form;
+  longer : IsLonger (met_below l.ends (open_at (strip_view l.known l.from l.to)) (λ pair. 1) l.site (l.place - start_at l.ends l.site)) l.fn.form l.form;
   adds : (m : Instance) → IsMeant g.F.Fn g.V.Fn l.problem m → IsAllowed m l.change (labelling l.at)
-      → AddsCost l.fn.form l.form (λ x. met_below l.ends (open_at (view_of l.known l.from l.to))
-      (unsaved m l.change (labelling l.at) (choice_at (view_of l.known l.from l.to)) (rank (view_of l.known l.from l.to)) x) l.site (l.place - start_at l.ends l.site));
+      → AddsCost l.fn.form l.form (λ x. met_below l.ends (open_at (strip_view l.known l.from l.to))
+      (unsaved m l.change (labelling l.at) (choice_at (strip_view l.known l.from l.to)) (rank (strip_view l.known l.from l.to)) x) l.site (l.place - start_at l.ends l.site));
 }

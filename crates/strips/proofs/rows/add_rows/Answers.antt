@@ -11,7 +11,7 @@ use Rattle.move_energy.proofs.Steps.{longer_none}
 use Rattle.move_energy.proofs.Adding.{cost_none, site_more, site_all, met_few, sum_longer}
 use Rattle.deciding.proofs.Left.{degree_most}
 use Rattle.closing_in.specs.Borders.{border_at, range_of}
-use Rattle.strips.specs.Views.{view_of, weight_now}
+use Rattle.strips.specs.Views.{strip_view, weight_now}
 use Rattle.strips.proofs.Views.{view_length}
 use Rattle.strips.proofs.Borders.{weight_fits, weight_is, weight_few, border_passed, size_more, borders_more, size_all, borders_all, list_more}
 use Rattle.strips.proofs.Laying.{rows_room, rows_bounded}
@@ -45,7 +45,7 @@ add_row-requires-clause-nodes g c =
 pub add_row-requires-clause-site : goal.add_row-requires-clause-site
 add_row-requires-clause-site g c =
     let a = c.args in
-    let v = view_of a.known.now a.from a.to in
+    let v = strip_view a.known.now a.from a.to in
     let i = c.loop-index.index in
     let l : i < length a.opened.now = c.loop-index-test.true in
     let has = opened_has v a.opened.now i c.requires.opened l in
@@ -56,7 +56,7 @@ add_row-requires-clause-site g c =
 pub add_row-requires-clause-met : goal.add_row-requires-clause-met
 add_row-requires-clause-met g c =
     let a = c.args in
-    let v = view_of a.known.now a.from a.to in
+    let v = strip_view a.known.now a.from a.to in
     let i = c.loop-index.index in
     let l : i < length a.opened.now = c.loop-index-test.true in
     let has = opened_has v a.opened.now i c.requires.opened l in
@@ -71,7 +71,7 @@ add_row-requires-clause-met g c =
 pub add_row-requires-clause-bounded : goal.add_row-requires-clause-bounded
 add_row-requires-clause-bounded g c =
     let a = c.args in
-    let v = view_of a.known.now a.from a.to in
+    let v = strip_view a.known.now a.from a.to in
     let i = c.loop-index.index in
     let l : i < length a.opened.now = c.loop-index-test.true in
     let has = opened_has v a.opened.now i c.requires.opened l in
@@ -86,7 +86,7 @@ add_row-requires-clause-bounded g c =
 pub bounds-weights-site : goal.bounds-weights-site
 bounds-weights-site g c =
     let a = c.args in
-    let v = view_of a.known.now a.from a.to in
+    let v = strip_view a.known.now a.from a.to in
     let i = c.loop-index.index in
     let l : i < length a.opened.now = c.loop-index-test.true in
     let has = opened_has v a.opened.now i c.requires.opened l in
@@ -96,7 +96,7 @@ bounds-weights-site g c =
 pub overflow_sub-weights : goal.overflow_sub-weights
 overflow_sub-weights g c =
     let a = c.args in
-    let v = view_of a.known.now a.from a.to in
+    let v = strip_view a.known.now a.from a.to in
     let i = c.loop-index.index in
     let l : i < length a.opened.now = c.loop-index-test.true in
     let has = opened_has v a.opened.now i c.requires.opened l in
@@ -111,7 +111,7 @@ overflow_sub-weights g c =
 pub loop-index-preserved : goal.loop-index-preserved
 loop-index-preserved g c =
     let a = c.args in
-    let v = view_of a.known.now a.from a.to in
+    let v = strip_view a.known.now a.from a.to in
     let i = c.loop-index.index in
     let l : i < length a.opened.now = c.loop-index-test.true in
     let has = opened_has v a.opened.now i c.requires.opened l in
@@ -150,7 +150,7 @@ loop-index-preserved g c =
 pub returns-clause-size : goal.returns-clause-size
 returns-clause-size g c =
     let a = c.args in
-    let v = view_of a.known.now a.from a.to in
+    let v = strip_view a.known.now a.from a.to in
     let long = view_length a.known.now a.from a.to in
     size_all a.problem.now.pairs a.ends.now v a.weights.now c.loop-index.list.items a.opened.now c.loop-index.index c.requires.posed.pairs c.requires.by_site
     (long ∙ c.requires.sizes.1 ∙ c.requires.asked.sites) (c.requires.count ∙ sym (long ∙ c.requires.sizes.1)) c.requires.opened c.requires.size c.loop-index-test.false c.loop-index.invariant.size
@@ -158,7 +158,7 @@ returns-clause-size g c =
 pub returns-clause-small : goal.returns-clause-small
 returns-clause-small g c =
     let a = c.args in
-    let v = view_of a.known.now a.from a.to in
+    let v = strip_view a.known.now a.from a.to in
     let long = view_length a.known.now a.from a.to in
     borders_all a.problem.now.pairs a.ends.now v c.loop-index.borders.items a.opened.now c.loop-index.index c.requires.posed.pairs c.requires.by_site
     (long ∙ c.requires.sizes.1 ∙ c.requires.asked.sites) c.requires.opened c.loop-index-test.false c.loop-index.invariant.small
@@ -166,7 +166,7 @@ returns-clause-small g c =
 pub returns-clause-bounded : goal.returns-clause-bounded
 returns-clause-bounded g c =
     let a = c.args in
-    let v = view_of a.known.now a.from a.to in
+    let v = strip_view a.known.now a.from a.to in
     let few : sum_by (met_at a.ends.now (open_at v) (λ pair. 1)) a.opened.now ≤ length a.problem.now.pairs.list =
     met_few a.problem.now.pairs a.ends.now v a.opened.now (length a.at.now) c.requires.by_site c.requires.posed.pairs.each
     c.requires.asked.sites (view_length a.known.now a.from a.to ∙ c.requires.sizes.1) c.requires.opened in
@@ -176,7 +176,7 @@ returns-clause-bounded g c =
 pub returns-clause-adds : goal.returns-clause-adds
 returns-clause-adds g c = λ m answers allowed.
     let a = c.args in
-    let v = view_of a.known.now a.from a.to in
+    let v = strip_view a.known.now a.from a.to in
     site_all a.form.now c.loop-index.form
     (λ (x : ℕ → Bool). met_at a.ends.now (open_at v) (unsaved m a.change (labelling a.at.now) (choice_at v) (rank v) x))
     a.opened.now c.loop-index.index (omega (arith, c.loop-index-test.false)) (c.loop-index.invariant.adds m answers allowed)

@@ -9,7 +9,7 @@ use Rattle.move_energy.specs.Built.{AddsCost, IsLonger}
 use Rattle.move_energy.specs.Choices.{choice_at, open_at, rank}
 use Rattle.move_energy.specs.Weights.{weight_at, unsaved}
 use Rattle.closing_in.specs.Borders.{border_at, range_of}
-use Rattle.strips.specs.Views.{view_of, weight_now}
+use Rattle.strips.specs.Views.{strip_view, weight_now}
 use Rattle.strips.proofs.rows.add_rows.Given as goal
 
 abbrev pub invariant-loop-index : goal.invariant-loop-index
@@ -25,8 +25,8 @@ invariant-loop-index g l = record {
       → l.list.items ≡ map (weight_now m l.change (labelling l.at) (choice_at l.start) (choice_at l.known) l.weights) (take l.index l.opened);
   borders : (m : Instance) → IsMeant g.F.Fn g.V.Fn l.problem m → IsAllowed m l.change (labelling l.at)
       → l.borders.items ≡ map (border_at m l.change (labelling l.at) (choice_at l.known) (range_of l.from l.to)) (take l.index l.opened);
-  longer : IsLonger (sum_by (met_at l.ends (open_at (view_of l.known l.from l.to)) (λ pair. 1)) (take l.index l.opened)) l.fn.form l.form;
+  longer : IsLonger (sum_by (met_at l.ends (open_at (strip_view l.known l.from l.to)) (λ pair. 1)) (take l.index l.opened)) l.fn.form l.form;
   adds : (m : Instance) → IsMeant g.F.Fn g.V.Fn l.problem m → IsAllowed m l.change (labelling l.at)
-      → AddsCost l.fn.form l.form (λ x. sum_by (met_at l.ends (open_at (view_of l.known l.from l.to))
-      (unsaved m l.change (labelling l.at) (choice_at (view_of l.known l.from l.to)) (rank (view_of l.known l.from l.to)) x)) (take l.index l.opened));
+      → AddsCost l.fn.form l.form (λ x. sum_by (met_at l.ends (open_at (strip_view l.known l.from l.to))
+      (unsaved m l.change (labelling l.at) (choice_at (strip_view l.known l.from l.to)) (rank (strip_view l.known l.from l.to)) x)) (take l.index l.opened));
 }

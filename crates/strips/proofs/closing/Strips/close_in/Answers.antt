@@ -5,7 +5,7 @@ use Rattle.move_energy.specs.declared.choice.Choice.{Choice}
 use Rattle.move_energy.specs.Choices.{choice_at, AreOpenSites, StandsFor, rank}
 use Rattle.deciding.specs.MoveValues.{move_value}
 use Rattle.closing_in.specs.Agreeing.{Agree}
-use Rattle.strips.specs.Views.{GoesOn, IsView, view_of}
+use Rattle.strips.specs.Views.{KeepsChosen, IsView, strip_view}
 use Rattle.strips.proofs.Views.{whole_is, whole_rank}
 use Rattle.strips.proofs.Listing.{none_listed, whole_listed}
 use Rattle.strips.proofs.closing.Strips.close_in.Goals as goal
@@ -16,7 +16,7 @@ list_next-requires-clause-opened g c = none_listed c.deref.result.now 0 _ c.clea
 pub strips-init : goal.strips-init
 strips-init g c =
     let same = c.in_ok-know_start.ensures in
-    let O : List Choice → Type 0 = λ known. AreOpenSites (view_of known 0 c.in_ok-to.to) c.list_next.new.opened.items in
+    let O : List Choice → Type 0 = λ known. AreOpenSites (strip_view known 0 c.in_ok-to.to) c.list_next.new.opened.items in
     record {
       inside =
           let known = ap (λ (xs : List Choice). length xs) c.deref.ensures.value in
@@ -42,7 +42,7 @@ returns-clause-stands g c = λ m meant.
     let known = c.strips.built.variables.choices.items in
     let all : length known ≤ c.strips.to = omega (arith, c.strips.invariant.count, c.strips-test.false) in
     let S : (ℕ → Choice) → (ℕ → ℕ) → Type 0 = λ choice variable. StandsFor m c.args.change (labelling c.args.at.now) choice c.build_strip.new.built.form variable in
-    let P : (ℕ → Choice) → Type 0 = λ choice. S choice (rank (view_of known 0 c.strips.to)) in
+    let P : (ℕ → Choice) → Type 0 = λ choice. S choice (rank (strip_view known 0 c.strips.to)) in
     let Q : (ℕ → ℕ) → Type 0 = λ variable. S (choice_at known) variable in
     let R : List Choice → Type 0 = λ xs. S (choice_at xs) (rank xs) in
     subst R (sym c.in_ok-build_strip.ensures.kept)

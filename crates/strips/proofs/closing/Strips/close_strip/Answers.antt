@@ -13,7 +13,7 @@ use Rattle.closing_in.specs.Agreeing.{joined}
 use Rattle.closing_in.specs.Strips.{told_by}
 use Rattle.closing_in.specs.Borders.{border_at, range_of}
 use Rattle.closing_in.specs.Telling.{IsListed}
-use Rattle.strips.specs.Views.{view_of}
+use Rattle.strips.specs.Views.{strip_view}
 use Rattle.strips.specs.Sides.{IsLessBorder}
 use Rattle.strips.proofs.Views.{view_length}
 use Rattle.strips.proofs.Lessening.{less_exists}
@@ -31,7 +31,7 @@ add_told-requires-clause-sites g c =
     let P : List ℕ → Type 0 = λ sites. All (λ site. site < length c.build_strip.new.built.variables.choices.items) sites in
     let kept = c.in_ok-build_strip.ensures.kept in
     subst P (sym c.deref-3.ensures.value)
-    (opened_within (view_of old 0 c.args.to) c.args.self.now.opened.items (length c.build_strip.new.built.variables.choices.items) c.requires.opened
+    (opened_within (strip_view old 0 c.args.to) c.args.self.now.opened.items (length c.build_strip.new.built.variables.choices.items) c.requires.opened
     (view_length old 0 c.args.to ∙ sym (ap (λ (xs : List Choice). length xs) kept)))
 
 pub add_told-requires-clause-lower : goal.add_told-requires-clause-lower
@@ -49,7 +49,7 @@ abbrev Tells : List Choice → ℕ → List Bool → List Bool → List Choice �
 Tells known to lower upper new =
     (p : ℕ) → p < length known → choice_at new p ≡ joined (choice_at known) (told_by (strip_of known 0 to lower upper)) p
 
-tells_of : (old known new : List Choice) (to : ℕ) (opened sites : List ℕ) (lower upper : List Bool) → known ≡ old → sites ≡ opened → AreOpenSites (view_of old 0 to) opened
+tells_of : (old known new : List Choice) (to : ℕ) (opened sites : List ℕ) (lower upper : List Bool) → known ≡ old → sites ≡ opened → AreOpenSites (strip_view old 0 to) opened
     → (IsListed sites lower upper (strip_of old 0 to lower upper) → (p : ℕ) → p < length known
     → choice_at new p ≡ joined (choice_at known) (told_by (strip_of old 0 to lower upper)) p)
     → Tells old to lower upper new
@@ -78,7 +78,7 @@ returns-clause-opened g c =
     let upper = c.in_ok-sides.sides.upper.items in
     let kept = c.in_ok-build_strip.ensures.kept in
     let each = tells_of old _ new to _ _ lower upper kept c.deref-3.ensures.value c.requires.opened (c.add_told.ensures.told (strip_of old 0 to lower upper)) in
-    let A : List ℕ → Type 0 = λ sites. AreOpenSites (view_of new 0 to) sites in
+    let A : List ℕ → Type 0 = λ sites. AreOpenSites (strip_view new 0 to) sites in
     subst A
     (sym (ap (λ (v : _). v.items) c.swap.ensures.x_after ∙ c.in_ok-add_told.ensures.left ∙ ap (λ (xs : List ℕ). filter (open_at new) xs) c.deref-3.ensures.value))
     (told_left old new 0 to c.args.self.now.opened.items (told_by (strip_of old 0 to lower upper))
