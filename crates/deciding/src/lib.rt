@@ -15,5 +15,6 @@ mod testing;
 
 pub use bounds::Bounds;
 pub use listing::Lists;
+pub use settling::pair_surplus;
 pub use sites::Deciding;
 pub use table::{EndRises, RiseTable};

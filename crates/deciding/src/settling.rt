@@ -65,9 +65,9 @@ fn table_surplus(table: &RiseTable, at: &[u8], pair: Pair) -> i64
     i64::from(rises.low) - i64::from(rises.high)
 }
 
-/// The surplus of a pair.
+/// The surplus of a pair. The table tells it where it has the pair's weight; else costs are asked.
 #[inline]
-fn pair_surplus<F: Fn(u32, u32) -> i64 + Sync, V: Fn(u32, u32) -> i64 + Sync>(
+pub fn pair_surplus<F: Fn(u32, u32) -> i64 + Sync, V: Fn(u32, u32) -> i64 + Sync>(
     problem: &Problem<F, V>,
     table: &RiseTable,
     at: &[u8],

@@ -9,6 +9,7 @@ ghost use Rattle.labellings.specs.Energies.{labelling};
 ghost use Rattle.cost_store.specs.Posed.{IsPosed, IsAsked, Meant};
 ghost use Rattle.deciding.specs.Decided.{IsDecidedMove};
 ghost use Rattle.deciding.specs.Listed.{AreListed, AreEmpty};
+ghost use Rattle.deciding.specs.Rising.{IsSized, IsTableOf};
 ghost use Rattle.deciding.specs.Working.{AreOfSites, AreOfNoSites};
 
 use crate::table::RiseTable;
@@ -69,7 +70,8 @@ impl Deciding {
     /// once more where it decides the site (Iyer, Jegelka, Bilmes, ICML 2013). A site that it decides as soon as it is summed is not
     /// looked at again if none of its neighbours before it is open. Then `bounds.greatest` says of each open site by
     /// how much the energy rises where it turns to 1 while every other open site is at 0; `lists` has how many sites are open,
-    /// and lists them where they are few. Where it refuses, nothing is listed, and no more is said of `bounds` and `lists`.
+    /// and lists them where they are few. `table` has the move's rises, if it stands. Where it refuses, nothing is listed, and no
+    /// more is said of `bounds`, `lists` and `table`.
     pub fn decide<F: Fn(u32, u32) -> i64 + Sync, V: Fn(u32, u32) -> i64 + Sync>(
         &mut self,
         problem: &Problem<F, V>,
@@ -87,6 +89,9 @@ impl Deciding {
         ensures small { OnOk result (weights_size self.new.bounds.greatest.items ≤ weights_limit) }
         ensures decided { Meant F.Fn V.Fn problem.now (λ m. IsDecidedMove m change at.now
             self.new.bounds.choices.items result) }
+        ensures table { OnOk result (IsSized problem.now.data_cost.labels self.new.table) }
+        ensures rises { Meant F.Fn V.Fn problem.now (λ m.
+            OnOk result (IsTableOf m change self.new.table)) }
         ensures listed { OnOk result (AreListed change (labelling at.now) self.new.bounds.choices.items
             self.new.lists) }
         ensures refused { OnErr result (self.new.lists.listed ≡ false) }

@@ -11,6 +11,7 @@ ghost use Rattle.move_energy.specs.Choices.{choice_at, AreOpenSites, AreSettled}
 ghost use Rattle.move_energy.specs.Problems.{Stands};
 ghost use Rattle.deciding.specs.Decided.{IsDecidedMove};
 ghost use Rattle.deciding.specs.MoveValues.{move_value};
+ghost use Rattle.deciding.specs.Rising.{IsSized, IsTableOf};
 ghost use Rattle.closing_in.specs.Agreeing.{Agree};
 ghost use Rattle.moves.specs.Building.{IsGroupedFor, IsNear, IsNearWhereListed, IsRestWhereListed};
 ghost use Rattle.moves.specs.Building.{AreWeightsSized, KnowsWeights, IsBuiltPlain, IsBuiltMove};
@@ -148,6 +149,9 @@ fn decide<F: Fn(u32, u32) -> i64 + Sync, V: Fn(u32, u32) -> i64 + Sync>(
         OnOk result (KnowsWeights m change at.now space.new)) }
     ensures decided { Meant F.Fn V.Fn problem.now (λ m. IsDecidedMove m change at.now
         space.new.built.variables.choices.items result) }
+    ensures table { OnOk result (IsSized problem.now.data_cost.labels space.new.deciding.table) }
+    ensures rises { Meant F.Fn V.Fn problem.now (λ m.
+        OnOk result (IsTableOf m change space.new.deciding.table)) }
 {
     space.group(alloc, &problem.pairs)?;
     space.deciding.decide(problem, at, change)?;
@@ -270,6 +274,9 @@ fn build_strips<F: Fn(u32, u32) -> i64 + Sync, V: Fn(u32, u32) -> i64 + Sync>(
     requires some { 0 < size }
     requires choices { length space.old.built.variables.choices.items ≡ length at.now }
     requires near { IsNear problem.now.pairs change at.now space.old }
+    requires table { IsSized problem.now.data_cost.labels space.old.deciding.table }
+    requires rises { Meant F.Fn V.Fn problem.now (λ m.
+        IsTableOf m change space.old.deciding.table) }
     requires sized { AreWeightsSized (length at.now) space.old }
     requires weights { Meant F.Fn V.Fn problem.now (λ m. KnowsWeights m change at.now space.old) }
     requires allowed { Meant F.Fn V.Fn problem.now (λ m. IsAllowed m change (labelling at.now)) }
@@ -293,6 +300,7 @@ fn build_strips<F: Fn(u32, u32) -> i64 + Sync, V: Fn(u32, u32) -> i64 + Sync>(
         alloc,
         problem,
         &space.deciding.ends,
+        &space.deciding.table,
         &mut space.built,
         &space.deciding.bounds.choices,
         &space.deciding.bounds.greatest,

@@ -18,7 +18,6 @@ use Rattle.labellings.specs.Moves.{IsRegularPair, IsAllowed}
 use Rattle.compile_cut.specs.Weights.{weights_size}
 use Rattle.move_energy.specs.declared.by_site.Neighbours.{Neighbours}
 use Rattle.move_energy.specs.declared.choice.Choice.{Choice}
-use Rattle.move_energy.specs.declared.choice.Choice.TheVariants.{Zero}
 use Rattle.move_energy.specs.BySite.{AreBySite, degree, start_at, head_at, is_first, weight_at as pair_weight, pair_of, pair_from, pair_beside, listing}
 use Rattle.move_energy.specs.Choices.{choice_at, open_at, AreOpenSites}
 use Rattle.move_energy.specs.Weights.{weight_at, pair_surplus, AreWeights}
@@ -27,12 +26,11 @@ use Rattle.move_energy.proofs.Listings.{listed_sites_are_summed}
 use Rattle.move_energy.proofs.Weighed.{open_size, listed_weights_are}
 use Rattle.deciding.proofs.Left.{left_most}
 use Rattle.closing_in.specs.Agreeing.{joined}
-use Rattle.closing_in.specs.Strips.{others_at}
-use Rattle.closing_in.specs.Borders.{not_ones, is_beyond, leads_beyond, pair_border, border_at}
+use Rattle.closing_in.specs.Borders.{range_of, not_ones, is_beyond, leads_beyond, pair_border, border_at}
 use Rattle.closing_in.proofs.Borders.{strip_weights, weights_go_on}
 use Rattle.closing_in.proofs.Rooms.{total_more}
-use Rattle.strips.specs.Views.{below, reached, IsView, weight_now}
-use Rattle.strips.proofs.Views.{weights_same, view_is, reached_goes_on}
+use Rattle.strips.specs.Views.{strip_view, KeepsChosen, weight_now}
+use Rattle.strips.proofs.Views.{weights_same, view_is, goes_on_joined}
 
 -- ---- the pair of a site and a neighbour
 
@@ -213,20 +211,20 @@ list_of_at g n p l = get_or-map-range_with_len g 0 n p p (pos 0) l (omega arith)
 back : (w b : ℤ) → w ≡ (w -ℤ b) +ℤ b
 back w b = omega (arith, ints)
 
--- the weights by now are those of the strip with the others at 0, and so of the view
-pub weights_now : (m : Instance) (move : Move) (f : ℕ → ℕ) (start view : List Choice) (to : ℕ) (weights : List ℤ) → IsInstance m → IsAllowed m move f → m.sites ≡ length view
-    → IsView start view to → AreWeights m move f (choice_at start) weights
-    → AreWeights m move f (choice_at view) (list_of (weight_now m move f (choice_at start) (reached to (choice_at view) (choice_at start)) weights) m.sites)
-weights_now m move f start view to weights pairs allowed size is are =
-    let now = reached to (choice_at view) (choice_at start) in
+-- the weights by now are those of the strip with the others at 0
+pub weights_now : (m : Instance) (move : Move) (f : ℕ → ℕ) (start known : List Choice) (from to : ℕ) (weights : List ℤ) → IsInstance m → IsAllowed m move f
+    → m.sites ≡ length known → KeepsChosen start known → AreWeights m move f (choice_at start) weights
+    → AreWeights m move f (choice_at (strip_view known from to)) (list_of (weight_now m move f (choice_at start) (choice_at known) weights) m.sites)
+weights_now m move f start known from to weights pairs allowed size on are =
+    let now = choice_at known in
     let less = list_of (weight_now m move f (choice_at start) now weights) m.sites in
-    let on = weights_go_on m move f (choice_at start) now weights less pairs allowed are
+    let W : (ℕ → Choice) → Type 0 = λ choice. AreWeights m move f choice less in
+    let later = weights_go_on m move f (choice_at start) now weights less pairs allowed are
     (λ p l opened still. back (weight_at weights p) (pos (border_at m move f (choice_at start) (not_ones now) p))
     ∙ ap (λ z. z +ℤ pos (border_at m move f (choice_at start) (not_ones now) p)) (sym (list_of_at (weight_now m move f (choice_at start) now weights) m.sites p l))) in
-    weights_same m move f (others_at Zero (below to) now) (choice_at view) less pairs
-    (λ p l. view_is start view to p is (omega (arith, l, size)))
-    (strip_weights m move f now (below to) less
-    (weights_same m move f (joined (choice_at start) now) now less pairs (λ p l. reached_goes_on start view to p is (omega (arith, l, size))) on))
+    subst W (sym (view_is known from to))
+    (strip_weights m move f now (range_of from to) less
+    (weights_same m move f (joined (choice_at start) now) now less pairs (λ p l. goes_on_joined start known p on (omega (arith, l, size))) later))
 
 pub map_now : (g : ℕ → ℤ) (n : ℕ) (opened : List ℕ) → All (λ p. p < n) opened → map g opened ≡ map (weight_at (list_of g n)) opened
 map_now g n [] all = refl

@@ -1,6 +1,8 @@
 pub mod Borders
 pub mod Bounding
 pub mod Cuts
+pub mod Inside
+pub mod Laying
 pub mod Lessening
-pub mod Reached
+pub mod Listing
 pub mod Views

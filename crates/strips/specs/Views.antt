@@ -1,5 +1,6 @@
--- What a strip sees of a move that is closed in on strip by strip, in the order of its sites.
-use Rattle.std.specs.Prelude.{◌≡◌, ◌≢◌, ℕ, ◌<◌, ◌≤◌, Bool, nat_lt, cond, List, length, ℤ, pos, ◌-ℤ◌}
+-- What is known of a move that is closed in on strip by strip, and what a strip sees of it.
+use Rattle.std.specs.Prelude.{◌≡◌, ◌≢◌, ℕ, ◌<◌, ◌≤◌, List, length, map, ℤ, pos, ◌-ℤ◌}
+use Rattle.std.specs.List.{range_with_len}
 use Rattle.labellings.specs.declared.change.Move.{Move}
 use Rattle.labellings.specs.Energies.{Instance}
 use Rattle.move_energy.specs.declared.choice.Choice.{Choice}
@@ -7,23 +8,29 @@ use Rattle.move_energy.specs.declared.choice.Choice.TheVariants.{Open, Zero}
 use Rattle.move_energy.specs.Choices.{choice_at}
 use Rattle.move_energy.specs.Weights.{weight_at}
 use Rattle.closing_in.specs.Agreeing.{or_else}
-use Rattle.closing_in.specs.Borders.{border_at, not_ones}
+use Rattle.closing_in.specs.Strips.{others_at}
+use Rattle.closing_in.specs.Borders.{range_of, border_at, not_ones}
 
--- the sites below the end of a strip
-abbrev pub below : ℕ → ℕ → Bool
-below to p = nat_lt p to
-
--- the choices so far: the view's below the strip's end, and from there on those of the start
-abbrev pub reached : ℕ → (ℕ → Choice) → (ℕ → Choice) → ℕ → Choice
-reached to view start p = cond (nat_lt p to) (view p) (start p)
-
--- the view of a strip: below its end what was chosen at the start stays, and from there on each
--- site that was open is at 0
+-- the view of a strip that ends at a site: below its end what was chosen at the start stays, and
+-- from there on each site that was open is at 0
 pub record IsView (start view : List Choice) (to : ℕ) : Type 0 where
   pub kept : (p : ℕ) → p < length view → p < to → choice_at start p ≢ Open
       → choice_at view p ≡ choice_at start p
   pub above : (p : ℕ) → p < length view → to ≤ p
       → choice_at view p ≡ or_else (choice_at start p) Zero
+
+-- more is known than at the start: what was chosen then stays
+abbrev pub KeepsChosen : List Choice → List Choice → Type 0
+KeepsChosen start known = (p : ℕ) → p < length known → choice_at start p ≢ Open
+    → choice_at known p ≡ choice_at start p
+
+-- what a strip sees that is a range of sites: what is known, and each open site outside it at 0
+abbrev pub seen : List Choice → ℕ → ℕ → ℕ → Choice
+seen known from to = others_at Zero (range_of from to) (choice_at known)
+
+-- the same in a list
+unfoldable pub strip_view : List Choice → ℕ → ℕ → List Choice
+strip_view known from to = map (seen known from to) (range_with_len 0 (length known))
 
 -- the weight of a site by now: less by the surplus of its pairs to sites that were open at the
 -- start and are at 1

@@ -1,4 +1,5 @@
-//! Closing in on the least assignment of a move, strip by strip.
+//! Strip by strip: each is built with what is known by then, cut, and what its two sides tell is
+//! known from then on.
 ghost use Rattle.std.specs.Prelude.{◌≡◌, ◌<◌, ◌≤◌, ℕ, All, filter, length, vec_len, OnOk};
 ghost use Rattle.label_field.specs.Limits.{site_limit};
 ghost use Rattle.labellings.specs.Energies.{labelling};
@@ -13,51 +14,63 @@ ghost use Rattle.move_energy.specs.Problems.{Stands};
 ghost use Rattle.move_energy.specs.Limits.{weights_limit};
 ghost use Rattle.move_energy.specs.Weights.{AreWeights};
 ghost use Rattle.deciding.specs.MoveValues.{move_value};
+ghost use Rattle.deciding.specs.Rising.{IsSized, IsTableOf};
 ghost use Rattle.closing_in.specs.Agreeing.{Agree, joined};
 ghost use Rattle.closing_in.specs.Strips.{Strip, told_by};
 ghost use Rattle.closing_in.specs.Telling.{IsListed};
-ghost use Rattle.strips.specs.Views.{IsView, reached};
+ghost use Rattle.strips.specs.Views.{IsView, KeepsChosen, strip_view};
 
 use crate::building::build_strip;
-use crate::opening::{hide_open, list_left, open_next};
+use crate::opening::{list_left, list_next};
 use crate::sides::least_sides;
 use closing_in::add_strip;
 use compile_cut::Quadratic;
 use cost_store::Problem;
+use deciding::RiseTable;
 use labellings::Move;
 use move_energy::{Choice, MoveEnergy, Neighbours};
 use plain_cut::{BothSides, Workspace};
 use std::alloc::{AllocError, Global};
 use std::mem::{replace, swap};
 
-/// The open sites of a strip, and what its border adds to the room of each to the sink. The lists
-/// keep their memory from strip to strip and from move to move.
+/// The open sites of a strip, what they weigh by now, and what its border adds to the room of each
+/// to the sink. The lists keep their memory from strip to strip and from move to move.
 #[derive(Drop)]
 pub struct Strips {
     pub opened: Vec<u32>,
     left: Vec<u32>,
+    list: Vec<i64>,
     borders: Vec<u64>,
 }
 
 /// Adds what both bounds of a strip tell of its listed sites, and lists those that are still open.
 fn add_told(
-    view: &mut Vec<Choice>,
+    known: &mut Vec<Choice>,
     opened: &[u32],
     left: &mut Vec<u32>,
     sides: &BothSides,
 ) -> Result<(), AllocError>
-    requires sites { All (λ site. site < length view.old.items) opened.now }
+    requires sites { All (λ site. site < length known.old.items) opened.now }
     requires lower { length sides.now.lower.items ≡ length opened.now }
     requires upper { length sides.now.upper.items ≡ length opened.now }
-    ensures count { length view.new.items ≡ length view.old.items }
+    ensures count { length known.new.items ≡ length known.old.items }
     ensures told { (strip : Strip)
         → IsListed opened.now sides.now.lower.items sides.now.upper.items strip →
-        (p : ℕ) → p < length view.old.items →
-        choice_at view.new.items p ≡ joined (choice_at view.old.items) (told_by strip) p }
-    ensures left { OnOk result (left.new.items ≡ filter (open_at view.new.items) opened.now) }
+        (p : ℕ) → p < length known.old.items →
+        choice_at known.new.items p ≡ joined (choice_at known.old.items) (told_by strip) p }
+    ensures left { OnOk result (left.new.items ≡ filter (open_at known.new.items) opened.now) }
 {
-    add_strip(view.as_mut_slice(), opened, &sides.lower, &sides.upper);
-    list_left(left, opened, view)
+    add_strip(known.as_mut_slice(), opened, &sides.lower, &sides.upper);
+    list_left(left, opened, known)
+}
+
+/// What is known at the start: what was decided.
+fn know_start(known: &mut Vec<Choice>, start: &[Choice]) -> Result<(), AllocError>
+    ensures { OnOk result (known.new.items ≡ start.now) }
+{
+    known.clear();
+    known.extend_from_slice(start)?;
+    Ok(())
 }
 
 impl Strips {
@@ -66,17 +79,19 @@ impl Strips {
         Strips {
             opened: Vec::new(alloc),
             left: Vec::new(alloc),
+            list: Vec::new(alloc),
             borders: Vec::new(alloc),
         }
     }
 
-    /// Closes in the sites of a strip that ends at a site: what both of its bounds tell is written
-    /// into the view, and the sites that are still open are listed.
+    /// Closes in the sites of the strip that ends at a site: what both of its bounds tell is known
+    /// from then on, and the sites that are still open are listed.
     fn close_strip<F: Fn(u32, u32) -> i64 + Sync, V: Fn(u32, u32) -> i64 + Sync>(
         &mut self,
         alloc: Global,
         problem: &Problem<F, V>,
         ends: &Neighbours,
+        table: &RiseTable,
         built: &mut MoveEnergy,
         start: &[Choice],
         weights: &[i64],
@@ -88,42 +103,49 @@ impl Strips {
         requires posed { IsPosed F.Fn V.Fn problem.now }
         requires asked { IsAsked problem.now at.now change }
         requires by_site { AreBySite problem.now.pairs ends.now }
+        requires labels { IsSized problem.now.data_cost.labels table.now }
+        requires table { Meant F.Fn V.Fn problem.now (λ m. IsTableOf m change table.now) }
         requires count { (length start.now ≡ length at.now) × (length weights.now ≡ length at.now) }
         requires choices { length built.old.variables.choices.items ≡ length at.now }
-        requires view { IsView start.now built.old.variables.choices.items to }
-        requires opened { AreOpenSites built.old.variables.choices.items self.old.opened.items }
+        requires goes_on { KeepsChosen start.now built.old.variables.choices.items }
+        requires opened { AreOpenSites (strip_view built.old.variables.choices.items 0 to)
+            self.old.opened.items }
         requires size { weights_size weights.now ≤ weights_limit }
         requires weights { Meant F.Fn V.Fn problem.now (λ m. AreWeights m change (labelling at.now)
             (choice_at start.now) weights.now) }
         requires allowed { Meant F.Fn V.Fn problem.now
             (λ m. IsAllowed m change (labelling at.now)) }
         ensures choices { OnOk result (length built.new.variables.choices.items ≡ length at.now) }
-        ensures view { OnOk result (IsView start.now built.new.variables.choices.items to) }
-        ensures opened { OnOk result
-            (AreOpenSites built.new.variables.choices.items self.new.opened.items) }
+        ensures goes_on { OnOk result (KeepsChosen start.now built.new.variables.choices.items) }
+        ensures opened { OnOk result (AreOpenSites
+            (strip_view built.new.variables.choices.items 0 to) self.new.opened.items) }
         ensures agree { Meant F.Fn V.Fn problem.now (λ m.
             Agree m.sites (move_value m change (labelling at.now))
-            (reached to (choice_at built.old.variables.choices.items) (choice_at start.now)) →
+            (choice_at built.old.variables.choices.items) →
             OnOk result (Agree m.sites (move_value m change (labelling at.now))
-            (reached to (choice_at built.new.variables.choices.items) (choice_at start.now)))) }
+            (choice_at built.new.variables.choices.items))) }
     {
+        let list = &mut self.list;
         let borders = &mut self.borders;
         build_strip(
             problem,
             ends,
+            table,
             built,
             start,
             weights,
             &self.opened,
+            0,
             to,
             at,
             change,
+            list,
             borders,
         )?;
         let form = replace(&mut built.form, Quadratic::new(alloc));
         let sides = least_sides(alloc, form, &self.borders, cutting)?;
-        let view = &mut built.variables.choices;
-        add_told(view, &self.opened, &mut self.left, &sides)?;
+        let known = &mut built.variables.choices;
+        add_told(known, &self.opened, &mut self.left, &sides)?;
         swap(&mut self.opened, &mut self.left);
         Ok(())
     }
@@ -136,6 +158,7 @@ impl Strips {
         alloc: Global,
         problem: &Problem<F, V>,
         ends: &Neighbours,
+        table: &RiseTable,
         built: &mut MoveEnergy,
         start: &[Choice],
         weights: &[i64],
@@ -147,6 +170,8 @@ impl Strips {
         requires posed { IsPosed F.Fn V.Fn problem.now }
         requires asked { IsAsked problem.now at.now change }
         requires by_site { AreBySite problem.now.pairs ends.now }
+        requires labels { IsSized problem.now.data_cost.labels table.now }
+        requires table { Meant F.Fn V.Fn problem.now (λ m. IsTableOf m change table.now) }
         requires count { (length start.now ≡ length at.now) × (length weights.now ≡ length at.now) }
         requires some { 0 < size }
         requires size { weights_size weights.now ≤ weights_limit }
@@ -168,39 +193,31 @@ impl Strips {
             OnOk result (Agree m.sites (move_value m change (labelling at.now))
             (choice_at built.new.variables.choices.items))) }
     {
-        hide_open(&mut built.variables.choices, start)?;
+        know_start(&mut built.variables.choices, start)?;
         self.opened.clear();
-        let mut to = open_next(
-            &mut built.variables.choices,
-            &mut self.opened,
-            start,
-            0,
-            size,
-        )?;
+        let mut to = list_next(&built.variables.choices, &mut self.opened, 0, 0, size)?;
         'strips: while (to as usize) < start.len() {
             self.close_strip(
-                alloc, problem, ends, built, start, weights, to, at, change, cutting,
+                alloc, problem, ends, table, built, start, weights, to, at, change, cutting,
             )?;
             let more = size.max(self.opened.len());
-            to = open_next(
-                &mut built.variables.choices,
-                &mut self.opened,
-                start,
-                to,
-                more,
-            )?;
+            to = list_next(&built.variables.choices, &mut self.opened, 0, to, more)?;
         }
+        let list = &mut self.list;
         let borders = &mut self.borders;
         build_strip(
             problem,
             ends,
+            table,
             built,
             start,
             weights,
             &self.opened,
+            0,
             to,
             at,
             change,
+            list,
             borders,
         )?;
         Ok(())

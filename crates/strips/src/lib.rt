@@ -5,6 +5,7 @@
 mod building;
 mod closing;
 mod opening;
+mod rows;
 mod sides;
 
 pub use closing::Strips;

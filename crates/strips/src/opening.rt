@@ -1,100 +1,58 @@
 //! Which sites a strip has: those that the strips before left open, and the next ones.
-ghost use Rattle.std.specs.Prelude.{◌≡◌, ◌<◌, ◌≤◌, ◌++◌, ◌∷◌, [], ℕ, All, filter, length};
-ghost use Rattle.std.specs.Prelude.{slice_set, IfOk, OnOk};
+ghost use Rattle.std.specs.Prelude.{◌≡◌, ◌<◌, ◌≤◌, All, filter, length, IfOk, OnOk};
 ghost use Rattle.label_field.specs.Limits.{site_limit};
-ghost use Rattle.move_energy.specs.Choices.{choice_at, open_at, AreOpenSites};
-ghost use Rattle.closing_in.specs.Agreeing.{or_else};
-ghost use Rattle.move_energy.specs.declared.choice.Choice.TheVariants.{Open, Zero as Hidden};
-ghost use Rattle.strips.specs.Views.{IsView, reached};
+ghost use Rattle.move_energy.specs.Choices.{open_at, AreOpenSites};
+ghost use Rattle.strips.specs.Views.{strip_view};
 
 use move_energy::Choice;
 use std::alloc::AllocError;
 
-/// What is seen of a site beyond the strip: an open one is at 0.
-fn hidden(choice: Choice) -> Choice
-    ensures { result ≡ or_else choice Hidden }
-{
-    match choice {
-        Choice::Open => Choice::Zero,
-        Choice::Zero | Choice::One => choice,
-    }
-}
-
-/// The view of a strip of no site: each open site is at 0.
-pub(crate) fn hide_open(view: &mut Vec<Choice>, start: &[Choice]) -> Result<(), AllocError>
-    ensures count { OnOk result (length view.new.items ≡ length start.now) }
-    ensures view { OnOk result (IsView start.now view.new.items 0) }
-{
-    view.clear();
-    view.reserve(start.len())?;
-    for site in 0..start.len() {
-        view.push_reserved(hidden(start[site]));
-    }
-    Ok(())
-}
-
-/// Opens a site, and lists it behind those that are open.
-#[inline]
-fn open_site(view: &mut Vec<Choice>, opened: &mut Vec<u32>, site: u32) -> Result<(), AllocError>
-    requires { site < length view.old.items }
-    ensures view { view.new.items ≡ slice_set view.old.items site Open }
-    ensures opened { OnOk result (opened.new.items ≡ opened.old.items ++ site ∷ []) }
-{
-    view[site as usize] = Choice::Open;
-    opened.push(site)?;
-    Ok(())
-}
-
-/// Opens the next sites that were open at the start, from one on, and lists them behind those that
-/// are open: so many, or all that are left. It answers where the strip ends.
-pub(crate) fn open_next(
-    view: &mut Vec<Choice>,
+/// Lists the next open sites, from one on, behind those that are listed: so many, or all that are
+/// left. The listed sites are the open ones of a range that ends there. It answers where the range
+/// ends then.
+pub(crate) fn list_next(
+    known: &[Choice],
     opened: &mut Vec<u32>,
-    start: &[Choice],
+    first: u32,
     from: u32,
     size: usize,
 ) -> Result<u32, AllocError>
-    requires sites { length start.now ≤ site_limit }
+    requires sites { length known.now ≤ site_limit }
     requires some { 0 < size }
-    requires from { from ≤ length start.now }
-    requires count { length view.old.items ≡ length start.now }
-    requires view { IsView start.now view.old.items from }
-    requires opened { AreOpenSites view.old.items opened.old.items }
-    ensures count { OnOk result (length view.new.items ≡ length view.old.items) }
-    ensures inside { IfOk result (λ to. to ≤ length start.now) }
-    ensures further { IfOk result (λ to. from < length start.now → from < to) }
-    ensures view { IfOk result (λ to. IsView start.now view.new.items to) }
-    ensures known { IfOk result (λ to. (p : ℕ) →
-        reached to (choice_at view.new.items) (choice_at start.now) p
-        ≡ reached from (choice_at view.old.items) (choice_at start.now) p) }
-    ensures opened { OnOk result (AreOpenSites view.new.items opened.new.items) }
+    requires from { (first ≤ from) × (from ≤ length known.now) }
+    requires opened { AreOpenSites (strip_view known.now first from) opened.old.items }
+    ensures inside { IfOk result (λ to. to ≤ length known.now) }
+    ensures later { IfOk result (λ to. from ≤ to) }
+    ensures further { IfOk result (λ to. from < length known.now → from < to) }
+    ensures opened { IfOk result (λ to.
+        AreOpenSites (strip_view known.now first to) opened.new.items) }
 {
     let mut more = 0;
-    for site in from as usize..start.len() {
+    for site in from as usize..known.len() {
         if more == size {
             return Ok(site as u32);
         }
-        if start[site].is_open() {
-            open_site(view, opened, site as u32)?;
+        if known[site].is_open() {
+            opened.push(site as u32)?;
             more += 1;
         }
     }
-    Ok(start.len() as u32)
+    Ok(known.len() as u32)
 }
 
 /// Lists those of the sites that are still open.
 pub(crate) fn list_left(
     left: &mut Vec<u32>,
     opened: &[u32],
-    view: &[Choice],
+    known: &[Choice],
 ) -> Result<(), AllocError>
-    requires { All (λ site. site < length view.now) opened.now }
-    ensures { OnOk result (left.new.items ≡ filter (open_at view.now) opened.now) }
+    requires { All (λ site. site < length known.now) opened.now }
+    ensures { OnOk result (left.new.items ≡ filter (open_at known.now) opened.now) }
 {
     left.clear();
     for place in 0..opened.len() {
         let site = opened[place];
-        if view[site as usize].is_open() {
+        if known[site as usize].is_open() {
             left.push(site)?;
         }
     }

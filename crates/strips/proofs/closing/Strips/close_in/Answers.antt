@@ -1,46 +1,49 @@
-use Rattle.std.proofs.Common.{List, ℕ, ◌≡◌, ◌<◌, ◌≤◌, ◌∙◌, length, refl, sym, ap, subst, arith}
-use Rattle.labellings.specs.Energies.{Instance, labelling}
+use Rattle.std.proofs.Common.{◌≡◌, ◌<◌, ◌≤◌, ◌∙◌, ℕ, List, length, refl, sym, ap, subst, arith}
+use Rattle.labellings.specs.Energies.{labelling}
+use Rattle.compile_cut.specs.declared.quadratic.Quadratic.{Quadratic}
 use Rattle.move_energy.specs.declared.choice.Choice.{Choice}
-use Rattle.move_energy.specs.Choices.{choice_at, AreOpenSites}
+use Rattle.move_energy.specs.Choices.{choice_at, AreOpenSites, StandsFor, rank}
 use Rattle.deciding.specs.MoveValues.{move_value}
 use Rattle.closing_in.specs.Agreeing.{Agree}
-use Rattle.strips.specs.Views.{IsView, reached}
-use Rattle.strips.proofs.Reached.{none_listed, known_first, known_last}
-use Rattle.strips.proofs.Bounding.{agree_same}
+use Rattle.strips.specs.Views.{KeepsChosen, IsView, strip_view}
+use Rattle.strips.proofs.Views.{whole_is, whole_rank}
+use Rattle.strips.proofs.Listing.{none_listed, whole_listed}
 use Rattle.strips.proofs.closing.Strips.close_in.Goals as goal
 
-pub open_next-requires-clause-opened : goal.open_next-requires-clause-opened
-open_next-requires-clause-opened g c =
-    none_listed c.args.start.now c.hide_open.new.view.items _ c.in_ok-hide_open.ensures.count c.in_ok-hide_open.ensures.view c.clear.ensures.items
+pub list_next-requires-clause-opened : goal.list_next-requires-clause-opened
+list_next-requires-clause-opened g c = none_listed c.deref.result.now 0 _ c.clear.ensures.items
 
 pub strips-init : goal.strips-init
-strips-init g c = record {
-  inside = c.in_ok-to.ensures.inside;
-  count = c.in_ok-to.ensures.count ∙ c.in_ok-hide_open.ensures.count;
-  view = c.in_ok-to.ensures.view;
-  opened = c.in_ok-to.ensures.opened;
-  agree = λ m meant agree.
-      agree_same m.sites (move_value m c.args.change (labelling c.args.at.now)) (choice_at c.args.start.now) _
-      (λ p. c.in_ok-to.ensures.known p ∙ known_first c.args.start.now c.hide_open.new.view.items p) agree;
-}
+strips-init g c =
+    let same = c.in_ok-know_start.ensures in
+    let O : List Choice → Type 0 = λ known. AreOpenSites (strip_view known 0 c.in_ok-to.to) c.list_next.new.opened.items in
+    record {
+      inside =
+          let known = ap (λ (xs : List Choice). length xs) c.deref.ensures.value in
+          let start = ap (λ (xs : List Choice). length xs) same in
+          omega (arith, c.in_ok-to.ensures.inside, known, start);
+      count = ap (λ (xs : List Choice). length xs) same;
+      goes_on = λ p l shuts. ap (λ (xs : List Choice). choice_at xs p) same;
+      opened = subst O c.deref.ensures.value c.in_ok-to.ensures.opened;
+      agree = λ m meant agree.
+          let A : List Choice → Type 0 = λ known. Agree m.sites (move_value m c.args.change (labelling c.args.at.now)) (choice_at known) in
+          subst A (sym same) agree;
+    }
 
-pub strips-preserved : goal.strips-preserved
-strips-preserved g c = record {
-  inside = c.in_ok-to-2.ensures.inside;
-  count = c.in_ok-to-2.ensures.count ∙ c.in_ok-close_strip.ensures.choices ∙ sym c.requires.count.0;
-  view = c.in_ok-to-2.ensures.view;
-  opened = c.in_ok-to-2.ensures.opened;
-  agree = λ m meant agree.
-      agree_same m.sites (move_value m c.args.change (labelling c.args.at.now)) _ _
-      (λ p. c.in_ok-to-2.ensures.known p) (c.in_ok-close_strip.ensures.agree m meant (c.strips.invariant.agree m meant agree));
-}
+pub returns-clause-opened : goal.returns-clause-opened
+returns-clause-opened g c =
+    let known = c.strips.built.variables.choices.items in
+    let O : List Choice → Type 0 = λ xs. AreOpenSites xs c.strips.self.opened.items in
+    subst O (sym c.in_ok-build_strip.ensures.kept)
+    (whole_listed known c.strips.to c.strips.self.opened.items (omega (arith, c.strips.invariant.count, c.strips-test.false)) c.strips.invariant.opened)
 
-pub returns-clause-agree : goal.returns-clause-agree
-returns-clause-agree g c = λ m meant agree.
-    let kept = c.in_ok-build_strip.ensures.kept in
-    let view = c.strips.built.variables.choices.items in
-    let A : List Choice → Type 0 = λ choices. Agree m.sites (move_value m c.args.change (labelling c.args.at.now)) (choice_at choices) in
-    subst A (sym kept)
-    (agree_same m.sites (move_value m c.args.change (labelling c.args.at.now)) _ (choice_at view)
-    (λ p. sym (known_last c.args.start.now view c.strips.to p c.strips.invariant.count (omega (arith, c.strips-test.false))))
-    (c.strips.invariant.agree m meant agree))
+pub returns-clause-stands : goal.returns-clause-stands
+returns-clause-stands g c = λ m meant.
+    let known = c.strips.built.variables.choices.items in
+    let all : length known ≤ c.strips.to = omega (arith, c.strips.invariant.count, c.strips-test.false) in
+    let S : (ℕ → Choice) → (ℕ → ℕ) → Type 0 = λ choice variable. StandsFor m c.args.change (labelling c.args.at.now) choice c.build_strip.new.built.form variable in
+    let P : (ℕ → Choice) → Type 0 = λ choice. S choice (rank (strip_view known 0 c.strips.to)) in
+    let Q : (ℕ → ℕ) → Type 0 = λ variable. S (choice_at known) variable in
+    let R : List Choice → Type 0 = λ xs. S (choice_at xs) (rank xs) in
+    subst R (sym c.in_ok-build_strip.ensures.kept)
+    (subst Q (whole_rank known c.strips.to all) (subst P (whole_is known c.strips.to all) (c.in_ok-build_strip.ensures.built m meant)))

@@ -1,0 +1,120 @@
+use Rattle.std.proofs.Common.{◌≡◌, ◌<◌, ◌∙◌, ℕ, Bool, true, false, pos, ◌<ℤ◌, ◌≤ℤ◌, length, unsigned_abs, ap, subst, sym, arith}
+use Rattle.std.proofs.lemmas.Int.{ints}
+use Rattle.std.proofs.lemmas.Result.{on_ok_weaker}
+use Rattle.label_field.specs.declared.pair.Pair.{Pair}
+use Rattle.label_field.specs.PairLists.{IsPair}
+use Rattle.labellings.specs.Energies.{labelling}
+use Rattle.sums.specs.Sums.{counted}
+use Rattle.move_energy.specs.BySite.{is_counted, pair_beside}
+use Rattle.move_energy.specs.Built.{AddsCost, IsLonger}
+use Rattle.move_energy.specs.Choices.{choice_at, open_at, rank}
+use Rattle.move_energy.specs.Weights.{are_open, unsaved}
+use Rattle.move_energy.proofs.Numbers.{rank_below}
+use Rattle.move_energy.proofs.Adding.{counted_longer, uncounted_longer, counted_adds, uncounted_adds}
+use Rattle.move_energy.proofs.Weighed.{surplus_counted, surplus_adds, surplus_none, surplus_passed, number_read, first_open, second_open}
+use Rattle.strips.specs.Views.{strip_view}
+use Rattle.strips.proofs.Views.{view_length, inside_is}
+use Rattle.strips.proofs.Borders.{regular_beside}
+use Rattle.strips.proofs.Inside.{open_beside, shut_beside, nothing_longer, nothing_adds, counted_first, uncounted_second}
+use Rattle.strips.proofs.rows.add_inside.Goals as goal
+
+pub returns-then-not-is_inside-clause-longer : goal.returns-then-not-is_inside-clause-longer
+returns-then-not-is_inside-clause-longer g c =
+    let a = c.args in
+    nothing_longer a.form.now (is_counted (open_at (strip_view a.known.now a.from a.to)) a.site (pair_beside a.ends.now a.site a.place))
+
+pub returns-then-not-is_inside-clause-adds : goal.returns-then-not-is_inside-clause-adds
+returns-then-not-is_inside-clause-adds g c = λ m answers allowed.
+    let a = c.args in
+    let v = strip_view a.known.now a.from a.to in
+    let shuts : open_at v a.head ≡ false = sym (inside_is a.known.now a.from a.to a.head) ∙ sym c.is_inside.ensures ∙ c.if-not-is_inside.true in
+    nothing_adds m a.change (labelling a.at.now) (choice_at v) (rank v) a.form.now (pair_beside a.ends.now a.site a.place)
+    (is_counted (open_at v) a.site (pair_beside a.ends.now a.site a.place)) (shut_beside (choice_at v) a.ends.now a.site a.place a.head c.requires.head.0 shuts)
+
+pub returns-then-pair-site-clause-adds : goal.returns-then-pair-site-clause-adds
+returns-then-pair-site-clause-adds g c = λ m answers allowed.
+    let a = c.args in
+    let v = strip_view a.known.now a.from a.to in
+    let pair = c.pair_beside-pair.result in
+    let is = c.pair_beside-pair.ensures.value in
+    let opened_head : open_at v a.head ≡ true = sym (inside_is a.known.now a.from a.to a.head) ∙ sym c.is_inside.ensures ∙ c.if-not-is_inside.false in
+    let both : are_open (choice_at v) pair ≡ true = open_beside (choice_at v) a.ends.now a.site a.place a.head pair is c.requires.head.0 c.requires.site.1 opened_head in
+    let b : Bool = is_counted (open_at v) a.site (pair_beside a.ends.now a.site a.place) in
+    uncounted_adds a.form.now (λ x. unsaved m a.change (labelling a.at.now) (choice_at v) (rank v) x (pair_beside a.ends.now a.site a.place)) b
+    (ap (is_counted (open_at v) a.site) (sym is) ∙ uncounted_second (choice_at v) a.site pair c.if-pair-site.true both)
+
+pub returns-then-surplus-le0-clause-adds : goal.returns-then-surplus-le0-clause-adds
+returns-then-surplus-le0-clause-adds g c = λ m answers allowed.
+    let a = c.args in
+    let v = strip_view a.known.now a.from a.to in
+    let pair = c.pair_beside-pair.result in
+    let is = c.pair_beside-pair.ensures.value in
+    let opened_head : open_at v a.head ≡ true = sym (inside_is a.known.now a.from a.to a.head) ∙ sym c.is_inside.ensures ∙ c.if-not-is_inside.false in
+    let both : are_open (choice_at v) pair ≡ true = open_beside (choice_at v) a.ends.now a.site a.place a.head pair is c.requires.head.0 c.requires.site.1 opened_head in
+    let inside : a.site < a.problem.now.pairs.sites = omega (arith, c.requires.site.0, c.requires.asked.sites) in
+    let f = labelling a.at.now in
+    let regular = regular_beside m a.change f a.problem.now.pairs a.ends.now a.site a.place pair c.requires.by_site inside c.requires.place.0 c.requires.place.1 answers.pairs_are is allowed in
+    let worth = surplus_counted m a.change f pair (are_open (choice_at v) pair) c.pair_surplus-surplus.result both regular (c.pair_surplus-surplus.ensures.value m answers) in
+    let counts : is_counted (open_at v) a.site pair ≡ true = counted_first (choice_at v) a.site pair c.if-pair-site.false in
+    let none : c.pair_surplus-surplus.result ≤ℤ pos 0 = omega (arith, ints, c.pair_surplus-surplus.ensures.range) in
+    let P : Pair → Type 0 = λ p. AddsCost a.form.now a.form.now (λ x. counted (is_counted (open_at v) a.site p) (unsaved m a.change f (choice_at v) (rank v) x p)) in
+    subst P is
+    (counted_adds a.form.now a.form.now (λ x. unsaved m a.change f (choice_at v) (rank v) x pair) (is_counted (open_at v) a.site pair) counts
+    (surplus_none m a.change f (choice_at v) (rank v) a.form.now pair c.pair_surplus-surplus.result worth none))
+
+pub bounds-numbers-pair-2 : goal.bounds-numbers-pair-2
+bounds-numbers-pair-2 g c =
+    let a = c.args in
+    omega (arith, c.pair_beside-pair.ensures.pair.second, c.requires.numbering.count, view_length a.known.now a.from a.to, c.requires.known, c.requires.asked.sites)
+
+pub add_saving-requires-clause-first : goal.add_saving-requires-clause-first
+add_saving-requires-clause-first g c =
+    let a = c.args in
+    let v = strip_view a.known.now a.from a.to in
+    let pair = c.pair_beside-pair.result in
+    let is = c.pair_beside-pair.ensures.value in
+    let opened_head : open_at v a.head ≡ true = sym (inside_is a.known.now a.from a.to a.head) ∙ sym c.is_inside.ensures ∙ c.if-not-is_inside.false in
+    let both : are_open (choice_at v) pair ≡ true = open_beside (choice_at v) a.ends.now a.site a.place a.head pair is c.requires.head.0 c.requires.site.1 opened_head in
+    let long = view_length a.known.now a.from a.to in
+    let within : pair.first < length v = omega (arith, c.pair_beside-pair.ensures.pair.first, long, c.requires.known, c.requires.asked.sites) in
+    let opened = first_open (choice_at v) pair both in
+    omega (arith, c.requires.numbering.each pair.first within opened, rank_below v pair.first (length v) within opened, c.requires.nodes)
+
+pub add_saving-requires-clause-second : goal.add_saving-requires-clause-second
+add_saving-requires-clause-second g c =
+    let a = c.args in
+    let v = strip_view a.known.now a.from a.to in
+    let pair = c.pair_beside-pair.result in
+    let is = c.pair_beside-pair.ensures.value in
+    let opened_head : open_at v a.head ≡ true = sym (inside_is a.known.now a.from a.to a.head) ∙ sym c.is_inside.ensures ∙ c.if-not-is_inside.false in
+    let both : are_open (choice_at v) pair ≡ true = open_beside (choice_at v) a.ends.now a.site a.place a.head pair is c.requires.head.0 c.requires.site.1 opened_head in
+    let long = view_length a.known.now a.from a.to in
+    let within : pair.second < length v = omega (arith, c.pair_beside-pair.ensures.pair.second, long, c.requires.known, c.requires.asked.sites) in
+    let opened = second_open (choice_at v) pair both in
+    omega (arith, c.requires.numbering.each pair.second within opened, rank_below v pair.second (length v) within opened, c.requires.nodes)
+
+pub returns-clause-adds : goal.returns-clause-adds
+returns-clause-adds g c = λ m answers allowed.
+    let a = c.args in
+    let v = strip_view a.known.now a.from a.to in
+    let pair = c.pair_beside-pair.result in
+    let is = c.pair_beside-pair.ensures.value in
+    let opened_head : open_at v a.head ≡ true = sym (inside_is a.known.now a.from a.to a.head) ∙ sym c.is_inside.ensures ∙ c.if-not-is_inside.false in
+    let both : are_open (choice_at v) pair ≡ true = open_beside (choice_at v) a.ends.now a.site a.place a.head pair is c.requires.head.0 c.requires.site.1 opened_head in
+    let long = view_length a.known.now a.from a.to in
+    let inside : a.site < a.problem.now.pairs.sites = omega (arith, c.requires.site.0, c.requires.asked.sites) in
+    let f = labelling a.at.now in
+    let regular = regular_beside m a.change f a.problem.now.pairs a.ends.now a.site a.place pair c.requires.by_site inside c.requires.place.0 c.requires.place.1 answers.pairs_are is allowed in
+    let worth = surplus_counted m a.change f pair (are_open (choice_at v) pair) c.pair_surplus-surplus.result both regular (c.pair_surplus-surplus.ensures.value m answers) in
+    let counts : is_counted (open_at v) a.site pair ≡ true = counted_first (choice_at v) a.site pair c.if-pair-site.false in
+    let first_within : pair.first < length v = omega (arith, c.pair_beside-pair.ensures.pair.first, long, c.requires.known, c.requires.asked.sites) in
+    let second_within : pair.second < length v = omega (arith, c.pair_beside-pair.ensures.pair.second, long, c.requires.known, c.requires.asked.sites) in
+    let first = c.requires.numbering.each pair.first first_within (first_open (choice_at v) pair both) in
+    let second = c.requires.numbering.each pair.second second_within (second_open (choice_at v) pair both) in
+    let size = ap unsigned_abs (surplus_passed c.pair_surplus-surplus.result c.pair_surplus-surplus.ensures.range) in
+    let P : Pair → Type 0 = λ p. AddsCost a.form.now c.add_saving.new.form (λ x. counted (is_counted (open_at v) a.site p) (unsaved m a.change f (choice_at v) (rank v) x p)) in
+    on_ok_weaker c.add_saving.result (λ adds.
+    subst P is
+    (counted_adds a.form.now c.add_saving.new.form (λ x. unsaved m a.change f (choice_at v) (rank v) x pair) (is_counted (open_at v) a.site pair) counts
+    (surplus_adds m a.change f (choice_at v) (rank v) a.form.now c.add_saving.new.form pair _ _ _ c.pair_surplus-surplus.result
+    first second both worth size adds))) c.add_saving.ensures.adds
