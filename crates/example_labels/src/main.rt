@@ -13,8 +13,10 @@ ghost use Rattle.graph_cuts.specs.Problems.{IsRunOfCycles};
 ghost use Rattle.example_labels.specs.Pictures.{problem_of};
 
 use graph_cuts::costs::potts_is_metric;
+use graph_cuts::laws::alone_refuses_memory;
 use graph_cuts::{
-    Alone, DataCost, Ended, Labelling, MoveError, Pairs, Problem, SmoothCost, run_expansion,
+    Alone, DataCost, Ended, Labelling, MoveError, Pairs, Problem, SmoothCost, potts_run_is_near,
+    run_expansion,
 };
 use std::alloc::Global;
 
@@ -66,7 +68,9 @@ fn restore(alloc: Global, samples: &[u8], cycles: u32) -> Result<Restored, MoveE
     );
     let problem = Problem::new(pairs, data_cost, smooth_cost);
     let mut labelling = Labelling::new(alloc, WIDTH * HEIGHT, LEVELS)?;
+    alone_refuses_memory();
     let ended = run_expansion(alloc, &problem, &mut labelling, cycles, &Alone)?;
+    potts_run_is_near();
     let energy = problem.energy(&labelling);
     Ok(Restored {
         labelling,

@@ -68,14 +68,12 @@ run_over_metric refuses m kind moves allowed f g (Err e) below pairs sites count
     run_refused refuses m moves allowed f g e below pairs sites count metric (λ costs. swaps_free m kind (own costs) make) run may
 
 -- a run of expansions that settled is within each bound of every labelling
-pub settled_within : (m : Instance) (k allowed : ℕ) (f : List ℕ) (g : LabelField) (r : Result Ended MoveError)
-    → All (λ label. label < g.labels) g.at → IsInstance m → length g.at ≡ m.sites → g.labels ≡ m.labels → k ≡ m.labels
-    → IsRunOfCycles m (expansions k) allowed f g.at r → IfOk r (λ ended. IsTrue ended.settled → IsWithinBound m g.at)
-settled_within m k allowed f g (Err e) below pairs sites count same run = tt
-settled_within m k allowed f g (Ok ended) below pairs sites count same run = λ settled bound known h lh.
-    let C : Bool → ℕ → Type 0 = λ b n. IsChain m (expansions n) allowed f g.at ended.cycles b in
-    let E : ℕ → Type 0 = λ n. C ended.settled n in
-    let S : Bool → Type 0 = λ b. C b m.labels in
+pub settled_within : (m : Instance) (allowed : ℕ) (f : List ℕ) (g : LabelField) (r : Result Ended MoveError)
+    → All (λ label. label < g.labels) g.at → IsInstance m → length g.at ≡ m.sites → g.labels ≡ m.labels
+    → IsRunOfCycles m (expansions m.labels) allowed f g.at r → IfOk r (λ ended. IsTrue ended.settled → IsWithinBound m g.at)
+settled_within m allowed f g (Err e) below pairs sites count run = tt
+settled_within m allowed f g (Ok ended) below pairs sites count run = λ settled bound known h lh.
+    let S : Bool → Type 0 = λ b. IsChain m (expansions m.labels) allowed f g.at ended.cycles b in
     let labelled : IsLabelled m (labelling g.at) = λ p l. (let one = below p 0 (omega (arith, l, sites)) in omega (arith, one, count)) in
     expansion_bound m (labelling g.at) h bound.vmin bound.vmax pairs known.metric known.ratio known.free labelled lh
-    (settled_is_local m allowed f g.at ended.cycles (subst S settled (subst E same run)))
+    (settled_is_local m allowed f g.at ended.cycles (subst S settled run))

@@ -1,15 +1,19 @@
--- What is true of every move and every run over a metric.
-use Rattle.std.specs.Prelude.{ℕ, List, IsTrue, Ok, Err}
+-- What is true of every move and every run over a metric, and of every refusal of one thread.
+use Rattle.std.specs.Prelude.{◌≡◌, ◌*◌, ℕ, List, pos, ◌≤ℤ◌, IsTrue, Ok, Err}
 use Rattle.labellings.specs.declared.change.Move.{Move}
-use Rattle.labellings.specs.Energies.{Instance, IsInstance, IsMetric, IsLabelled, labelling}
+use Rattle.labellings.specs.Energies.{Instance, IsInstance, IsMetric, IsLabelled, AreLabelsFree, labelling, energy}
 use Rattle.labellings.specs.Chains.{expansions}
 use Rattle.labellings.specs.Laws.{IsWithinTwice}
 use Rattle.label_field.specs.LabelFields.{LabelField}
+use Rattle.cost_store.specs.Metrics.{potts}
+use Rattle.solvers.specs.declared.solve_error.SolveError.TheVariants.{OutOfMemory as NoMemory}
 use Rattle.moves.specs.declared.bound.Bound.{Bound}
 use Rattle.moves.specs.declared.error.MoveError.{MoveError}
+use Rattle.moves.specs.declared.error.MoveError.TheVariants.{OutOfMemory}
 use Rattle.moves.specs.declared.runs.Ended.{Ended}
-use Rattle.moves.specs.Bounds.{IsBoundOf}
+use Rattle.moves.specs.Bounds.{IsBoundOf, IsWithinBound}
 use Rattle.moves.specs.Problems.{IsMoved, IsRunOfCycles, IsLabelledBy, TellsPairNotRegular}
+use Rattle.moves.specs.Refusals.{IsMemoryOrCut}
 
 -- a run of expansions that ended settled is within twice its bound of every labelling (Boykov, Veksler, Zabih,
 -- PAMI 2001, theorem 6.1)
@@ -18,6 +22,17 @@ SettledRunIsNear =
     (m : Instance) (allowed : ℕ) (f g : List ℕ) (ended : Ended) (bound : Bound) → IsInstance m → IsBoundOf m bound
     → IsRunOfCycles m (expansions m.labels) allowed f g (Ok ended) → IsTrue ended.settled
     → IsLabelled m (labelling g) → IsWithinTwice m bound.vmin bound.vmax g
+
+-- over Potts costs, where no label costs anything by itself, labels within the bound have at most twice
+-- the energy of any labelling
+abbrev pub PottsRunIsNear : Type 0
+PottsRunIsNear =
+    (m : Instance) (g : List ℕ) (h : ℕ → ℕ) → m.smooth_cost ≡ potts → AreLabelsFree m → IsWithinBound m g
+    → IsLabelled m h → pos (energy m (labelling g)) ≤ℤ pos (2 * energy m h)
+
+-- where a cut is refused for memory alone, memory is all that is refused of a metric
+abbrev pub AloneRefusesMemory : Type 0
+AloneRefusesMemory = (e : MoveError) → IsMemoryOrCut (λ failed. failed ≡ NoMemory) e → e ≡ OutOfMemory
 
 -- no move over a metric is refused for a pair whose term is not regular
 abbrev pub MetricMoveHasRegularPairs : Type 0

@@ -3,7 +3,7 @@ ghost use Rattle.std.specs.Prelude.{◌≡◌, ◌↔◌, IsTrue, IsOk, IfOk, If
 ghost use Rattle.cost_store.specs.Posed.{IsPosed, Meant};
 ghost use Rattle.moves.specs.Bounds.{IsBoundOf};
 ghost use Rattle.cost_store.specs.LabelCosts.{costs_of as costs_in, AreFree};
-ghost use Rattle.moves.specs.Laws.{SettledRunIsNear};
+ghost use Rattle.moves.specs.Laws.{PottsRunIsNear, SettledRunIsNear};
 
 use crate::MoveError;
 use cost_store::{Problem, costs_of, has_cost};
@@ -43,4 +43,10 @@ pub fn expansion_bound<F: Fn(u32, u32) -> i64 + Sync, V: Fn(u32, u32) -> i64 + S
 /// A settled run of expansions is within its bound of every labelling.
 pub fn settled_run_is_near()
     ensures { SettledRunIsNear }
+{}
+
+/// Over Potts costs, where no label costs anything by itself, labels within the bound have at most
+/// twice the energy of any labelling (Boykov, Veksler, Zabih, PAMI 2001, theorem 6.1).
+pub fn potts_run_is_near()
+    ensures { PottsRunIsNear }
 {}

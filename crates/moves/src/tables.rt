@@ -9,7 +9,8 @@ ghost use Rattle.cost_store.specs.Promises.{IsCost, IsMetricTable, Keeps, entry_
 ghost use Rattle.moves.specs.Bounds.{IsBoundOf};
 ghost use Rattle.moves.specs.Instances.{IsInstanceOf, data_entry, instance_of};
 ghost use Rattle.moves.specs.Problems.{IsRunRefusal, TellsPairNotRegular};
-ghost use Rattle.moves.specs.Runs.{AnswersRun, IsRunInRange};
+ghost use Rattle.moves.specs.Refusals.{IsRefusalOver};
+ghost use Rattle.moves.specs.Runs.{AnswersRun, IsRunInRange, MayMake};
 
 use crate::{Bound, Ended, How, MoveError, expansion_bound, run};
 use cost_store::{DataCost, Problem, SmoothCost, is_metric};
@@ -78,6 +79,10 @@ pub fn run_with_table<F: Fn(u32, u32) -> i64 + Sync, H: How>(
     ensures metric { IsMetricTable request.start.labels smooth.now → (m : Instance) → IsInstanceOf (F.post
         data_cost.f) pairs request.start.labels smooth.now m → HasCosts m label_costs → IfErr result (λ e. ¬
         TellsPairNotRegular e) }
+    ensures over_metric { (m : Instance) →
+        IsInstanceOf (F.post data_cost.f) pairs request.start.labels smooth.now m →
+        HasCosts m label_costs → MayMake m request.moves →
+        IfErr result (IsRefusalOver m (H.refuses how.now)) }
     ensures bounded { (m : Instance) → IsInstanceOf (F.post data_cost.f) pairs request.start.labels smooth.now
         m → HasCosts m label_costs → IfOk result (λ run. IfSome run.bound (λ bound. pos bound.vmax ≤ℤ
         smooth_limit)) }
@@ -98,8 +103,10 @@ pub fn run_with_table<F: Fn(u32, u32) -> i64 + Sync, H: How>(
     run_problem(alloc, &problem, request, how)
 }
 
-/// Makes the moves of a request over a table of data costs, as `run_with_table` does over any data costs: the costs of the first
-/// site, label by label, then those of the next, each from 0 to `DATA_LIMIT`.
+/// Makes the moves of a request over a table of data costs, as `run_with_table` does over any data
+/// costs: the costs of the first site, label by label, then those of the next, each from 0 to
+/// `DATA_LIMIT`. Over a metric, moves that may be made are refused for memory or a cut alone
+/// (`over_metric`).
 pub fn run_tables<H: How>(
     alloc: Global,
     pairs: Pairs,
@@ -119,6 +126,9 @@ pub fn run_tables<H: How>(
     ensures run { AnswersRun (instance_of pairs request.start.labels (data_entry request.start.labels data.now)
         smooth.now (costs_of label_costs)) request.moves request.cycles request.start.at result }
     ensures refused { IfErr result (IsRunRefusal (H.refuses how.now)) }
+    ensures over_metric { let labels = request.start.labels in
+        let m = instance_of pairs labels (data_entry labels data.now) smooth.now (costs_of label_costs) in
+        MayMake m request.moves → IfErr result (IsRefusalOver m (H.refuses how.now)) }
     ensures sized { IfOk result (IsRunInRange request.start) }
     ensures bounded { IfOk result (λ run. IfSome run.bound (λ bound. pos bound.vmax ≤ℤ smooth_limit)) }
 {
@@ -162,6 +172,8 @@ fn run_problem<F: Fn(u32, u32) -> i64 + Sync, V: Fn(u32, u32) -> i64 + Sync, H: 
     ensures refused { IfErr result (IsRunRefusal (H.refuses how.now)) }
     ensures metric { IsTrue problem.now.smooth_cost.by_metric →
         Meant F.Fn V.Fn problem.now (λ m. IfErr result (λ e. ¬ TellsPairNotRegular e)) }
+    ensures over_metric { Meant F.Fn V.Fn problem.now
+        (λ m. MayMake m request.moves → IfErr result (IsRefusalOver m (H.refuses how.now))) }
     ensures sized { IfOk result (IsRunInRange request.start) }
 {
     let mut labelling = request.start;
@@ -178,7 +190,6 @@ fn run_problem<F: Fn(u32, u32) -> i64 + Sync, V: Fn(u32, u32) -> i64 + Sync, H: 
             let smooth = problem.smooth_energy(&labelling);
             let label = problem.label_energy(&labelling);
             let bound = bound_of(problem, request.moves, ended);
-            labelling.keeps();
             Ok(Run {
                 labelling,
                 ended,
@@ -188,10 +199,7 @@ fn run_problem<F: Fn(u32, u32) -> i64 + Sync, V: Fn(u32, u32) -> i64 + Sync, H: 
                 bound,
             })
         }
-        Err(error) => {
-            labelling.keeps();
-            Err(error)
-        }
+        Err(error) => Err(error),
     }
 }
 

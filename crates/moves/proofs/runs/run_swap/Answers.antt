@@ -1,14 +1,4 @@
-use Rattle.std.proofs.Common.{◌∙◌, sym, refl}
-use Rattle.labellings.specs.declared.cycles.Moves.TheVariants.{Swap}
-use Rattle.labellings.specs.Chains.{swaps}
-use Rattle.cost_store.proofs.Meaning.{pairs_meant}
-use Rattle.moves.proofs.OverMetric.{run_over_metric}
 use Rattle.moves.proofs.runs.run_swap.Goals as goal
 
 pub returns-clause-over_metric : goal.returns-clause-over_metric
-returns-clause-over_metric g c = λ m meant free.
-    run_over_metric (g.H.How.refuses c.args.how.now) m Swap (swaps c.args.problem.now.data_cost.labels) c.args.cycles c.args.labelling.now.at
-    c.run-ended.new.labelling c.run-ended.result c.keeps.ensures.below (pairs_meant _ _ _ m c.requires.posed meant)
-    (c.run-ended.ensures.sizes.sites ∙ c.requires.fits.sites ∙ sym meant.sites_are)
-    (c.run-ended.ensures.sizes.labels ∙ c.requires.fits.labels ∙ sym meant.labels_are)
-    free c.run-ended.ensures.own (c.run-ended.ensures.run m meant) c.run-ended.ensures.refused
+returns-clause-over_metric g c = λ m meant free. c.run.ensures.over_metric m meant free

@@ -36,3 +36,15 @@ returns-clause-bounded g c =
       smooth_are = table_of_costs (pos 10000) c.args.smooth.now c.args.request.start.labels c.requires.smooth.0 c.requires.smooth.1;
     })
     (record { each = λ label below. refl })
+
+pub returns-clause-over_metric : goal.returns-clause-over_metric
+returns-clause-over_metric g c =
+    c.run_with_table.ensures.over_metric (instance_of c.args.pairs c.args.request.start.labels (data_entry c.args.request.start.labels c.args.data.now) c.args.smooth.now (costs_of c.args.label_costs))
+    (record {
+      sites_are = refl;
+      labels_are = refl;
+      pairs_are = refl;
+      data_are = rw c.new-data_cost.ensures.stored (λ a b z la lb is. data_along c.args.data.now a b z _ _ c.labels-labels.ensures.value is);
+      smooth_are = table_of_costs (pos 10000) c.args.smooth.now c.args.request.start.labels c.requires.smooth.0 c.requires.smooth.1;
+    })
+    (record { each = λ label below. refl })

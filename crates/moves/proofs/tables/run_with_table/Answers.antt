@@ -69,6 +69,20 @@ returns-clause-metric g c = λ metric m is has.
       costs_are = has;
     }))
 
+pub returns-clause-over_metric : goal.returns-clause-over_metric
+returns-clause-over_metric g c = λ m is has.
+    let labels = c.labels-labels.ensures.value in
+    c.run_problem.ensures.over_metric m
+    (rw c.stored.ensures.stored (record {
+      sites_are = is.sites_are;
+      labels_are = is.labels_are ∙ sym c.requires.labels;
+      pairs_are = is.pairs_are;
+      data_are = λ a b z la lb ans. is.data_are a b z la (below_along b _ _ lb c.requires.labels) ans;
+      smooth_are = λ a b z la lb ans. smooth_along c.args.smooth.now a b z _ _ labels ans
+          ∙ is.smooth_are.each a b (below_along a _ _ la c.requires.labels) (below_along b _ _ lb c.requires.labels);
+      costs_are = has;
+    }))
+
 pub returns-clause-bounded : goal.returns-clause-bounded
 returns-clause-bounded g c = λ m is has.
     bound_small m (pos 10000) c.args.request.start.labels c.args.smooth.now c.args.request.moves c.args.request.cycles c.args.request.start.at c.run_problem.result
