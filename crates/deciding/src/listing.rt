@@ -1,15 +1,18 @@
 //! The sites that a move has left to look at, listed where they are few.
-ghost use Rattle.std.specs.Prelude.{◌≡◌, ◌↔◌, ◌==◌, ◌||◌, ◌<◌, ◌≤◌, ◌++◌, ◌∷◌, [], cond, not, false, length, IsTrue, OnOk, OnErr};
+ghost use Rattle.std.specs.Prelude.{◌≡◌, ◌↔◌, ◌==◌, ◌||◌, ◌<◌, ◌≤◌, ◌++◌, ◌∷◌, [], ℕ, cond, not, false, length, IsTrue, OnOk, OnErr};
 ghost use Rattle.move_energy.specs.BySite.{IsListing};
 ghost use Rattle.labellings.specs.Energies.{labelling};
 ghost use Rattle.labellings.specs.Moves.{label_in};
 ghost use Rattle.label_field.specs.Limits.{site_limit};
-ghost use Rattle.move_energy.specs.Choices.{bit_of, open_count, is_open, AreOpenSites};
+ghost use Rattle.move_energy.specs.Choices.{bit_of, open_count, is_open, open_at, AreOpenSites};
 ghost use Rattle.deciding.specs.Listed.{changes, AreListed, AreEmpty};
 
 use labellings::Move;
 use move_energy::Choice;
 use std::alloc::{AllocError, Global};
+
+/// So many sites are looked over at once for one to list.
+const BLOCK: usize = 32;
 
 /// The sites are listed where at most one in so many is open.
 const LISTED_SHARE: usize = 8;
@@ -44,6 +47,21 @@ fn can_change(choice: Choice, change: Move, label: u32) -> bool
     ensures { result ≡ (is_open choice || not (label_in change label (bit_of choice false) == label)) }
 {
     choice.is_open() || change.label(label, choice.bit(false)) != label
+}
+
+/// Whether the label of one of the sites from one on, before another, can still become another.
+fn has_change(at: &[u8], change: Move, choices: &[Choice], from: usize, to: usize) -> bool
+    requires { (to ≤ length at.now) × (length choices.now ≡ length at.now) }
+    ensures { result ≡ false → (p : ℕ) → from ≤ p → p < to →
+        changes change (labelling at.now) choices.now p ≡ false }
+{
+    let mut any = false;
+    for site in from..to {
+        if can_change(choices[site], change, u32::from(at[site])) {
+            any = true;
+        }
+    }
+    any
 }
 
 /// Adds a site to a list where it is chosen.
@@ -87,7 +105,36 @@ impl Lists {
         add_chosen(&mut self.changing, site, can_change(choice, change, label))
     }
 
-    /// Lists the open sites, and those whose labels can still change.
+    /// Adds the sites from one on, before another, to the lists of those before these.
+    fn list_block(
+        &mut self,
+        at: &[u8],
+        change: Move,
+        choices: &[Choice],
+        from: usize,
+        to: usize,
+    ) -> Result<(), AllocError>
+        requires sites { (length choices.now ≡ length at.now) × (length at.now ≤ site_limit) }
+        requires block { (from ≤ to) × (to ≤ length at.now) }
+        requires opened { IsListing (open_at choices.now) from self.old.opened.items }
+        requires changing { IsListing (changes change (labelling at.now) choices.now) from
+            self.old.changing.items }
+        ensures opened { OnOk result (IsListing (open_at choices.now) to self.new.opened.items) }
+        ensures changing { OnOk result (IsListing (changes change (labelling at.now) choices.now) to
+            self.new.changing.items) }
+        ensures same { (self.new.count ≡ self.old.count) × (self.new.listed ≡ self.old.listed) }
+    {
+        if !has_change(at, change, choices, from, to) {
+            return Ok(());
+        }
+        for site in from..to {
+            self.add_site(site as u32, choices[site], change, u32::from(at[site]))?;
+        }
+        Ok(())
+    }
+
+    /// Lists the open sites, and those whose labels can still change. They are few, so that many blocks of sites are passed
+    /// over at once.
     fn list(&mut self, at: &[u8], change: Move, choices: &[Choice]) -> Result<(), AllocError>
         requires sites { (length choices.now ≡ length at.now) × (length at.now ≤ site_limit) }
         ensures opened { OnOk result (AreOpenSites choices.now self.new.opened.items) }
@@ -98,8 +145,11 @@ impl Lists {
         self.opened.clear();
         self.opened.reserve(self.count)?;
         self.changing.clear();
-        for site in 0..at.len() {
-            self.add_site(site as u32, choices[site], change, u32::from(at[site]))?;
+        let mut from = 0;
+        while from < at.len() {
+            let to = at.len().min(from + BLOCK);
+            self.list_block(at, change, choices, from, to)?;
+            from = to;
         }
         Ok(())
     }

@@ -32,6 +32,18 @@ fn first_choice(change: Move, label: u32) -> Choice
     }
 }
 
+/// What is known of each site before anything is summed.
+fn choose_each(choices: &mut [Choice], at: &[u8], change: Move)
+    requires { length choices.old ≡ length at.now }
+    ensures opened { (p : ℕ) → p < length at.now →
+        (choice_at choices.new p ≡ Open ↔ Changes change (labelling at.now p)) }
+    ensures none { (p : ℕ) → p < length at.now → choice_at choices.new p ≢ One }
+{
+    for site in 0..at.len() {
+        choices[site] = first_choice(change, u32::from(at[site]));
+    }
+}
+
 impl Bounds {
     /// Makes room for so many sites, and forgets what was known.
     fn clear(&mut self, sites: usize) -> Result<(), AllocError>
@@ -39,7 +51,6 @@ impl Bounds {
             × (length self.new.greatest.items ≡ 0) × (length self.new.waiting.items ≡ 0)) }
     {
         self.choices.clear();
-        self.choices.reserve(sites)?;
         self.least.clear();
         self.least.reserve(sites)?;
         self.greatest.clear();
@@ -48,25 +59,13 @@ impl Bounds {
         Ok(())
     }
 
-    /// Adds what is known of the next site.
-    fn add_choice(&mut self, choice: Choice) -> Result<(), AllocError>
-        ensures choices { OnOk result (self.new.choices.items ≡ self.old.choices.items ++ choice ∷ []) }
-        ensures same { (self.new.least ≡ self.old.least) × (self.new.greatest ≡ self.old.greatest)
-            × (self.new.waiting ≡ self.old.waiting) }
-    {
-        self.choices.push(choice)?;
-        Ok(())
-    }
-
     /// Opens the sites that the move can change. The others are at 0, and none is summed.
     pub(crate) fn open_sites(&mut self, at: &[u8], change: Move) -> Result<(), AllocError>
         ensures undecided { OnOk result (AreUndecided change at.now self.new) }
     {
         self.clear(at.len())?;
-        for site in 0..at.len() {
-            let label = u32::from(at[site]);
-            self.add_choice(first_choice(change, label))?;
-        }
+        self.choices.resize(at.len(), Choice::Zero)?;
+        choose_each(self.choices.as_mut_slice(), at, change);
         Ok(())
     }
 

@@ -1,14 +1,18 @@
-use Rattle.std.proofs.Common.{◌≡◌}
+use Rattle.std.proofs.Common.{◌≡◌, ◌-◌, ◌≤◌, length}
 use Rattle.labellings.specs.Energies.{labelling}
 use Rattle.move_energy.specs.BySite.{IsListing}
 use Rattle.move_energy.specs.Choices.{open_at}
 use Rattle.deciding.specs.Listed.{changes}
 use Rattle.deciding.proofs.listing.Lists.list.Given as goal
 
-abbrev pub invariant-loop-site : goal.invariant-loop-site
-invariant-loop-site l = record {
-  opened : IsListing (open_at l.choices) l.site l.self.opened.items;
-  changing : IsListing (changes l.change (labelling l.at) l.choices) l.site l.self.changing.items;
+abbrev pub invariant-loop-from : goal.invariant-loop-from
+invariant-loop-from l = record {
+  within : l.from ≤ length l.at;
+  opened : IsListing (open_at l.choices) l.from l.self.opened.items;
+  changing : IsListing (changes l.change (labelling l.at) l.choices) l.from l.self.changing.items;
   count : l.self.count ≡ l.fn.self.count;
   listed : l.self.listed ≡ l.fn.self.listed;
 }
+
+abbrev pub decreases-loop-from : goal.decreases-loop-from
+decreases-loop-from l = length l.at - l.from
