@@ -1,5 +1,5 @@
 -- The ends that are left to look at.
-use Rattle.std.proofs.Common.{◌≡◌, ◌≢◌, ℕ, zero, suc, ◌+◌, ◌*◌, ◌<◌, ◌≤◌, false, List, length, refl, sym, ap, arith}
+use Rattle.std.proofs.Common.{◌≡◌, ◌≢◌, ℕ, zero, suc, ◌+◌, ◌-◌, ◌*◌, ◌<◌, ◌≤◌, false, List, length, refl, sym, ap, arith}
 use Rattle.sums.specs.Sums.{sum_below, counted}
 use Rattle.sums.proofs.SumLemmas.{sum_below-change, sum_below-le, counted-le}
 use Rattle.move_energy.specs.declared.by_site.Neighbours.{Neighbours}
@@ -51,3 +51,20 @@ pub degree_most : (pairs : PairList) (ends : Neighbours) (site : ℕ) → AreByS
 degree_most pairs ends site by_site l =
     let most = starts_within pairs ends (site + 1) by_site (omega (arith, l)) in
     omega (arith, most, ends_len pairs.list)
+
+climbs : (pairs : PairList) (ends : Neighbours) (v k : ℕ) → AreBySite pairs ends → v + k ≤ pairs.sites → start_at ends v ≤ start_at ends (v + k)
+climbs pairs ends v zero b l =
+    let same : v + zero ≡ v = omega arith in
+    omega (arith, ap (start_at ends) same)
+climbs pairs ends v (suc k) b l =
+    let before = climbs pairs ends v k b (omega (arith, l)) in
+    let here = starts_rise pairs ends (v + k) b (omega (arith, l)) in
+    let same : v + k + 1 ≡ v + suc k = omega arith in
+    omega (arith, before, here, ap (start_at ends) same)
+
+-- the neighbours of a later site begin no earlier
+pub starts_climb : (pairs : PairList) (ends : Neighbours) (v w : ℕ) → AreBySite pairs ends → v ≤ w → w ≤ pairs.sites → start_at ends v ≤ start_at ends w
+starts_climb pairs ends v w b l most =
+    let same : v + (w - v) ≡ w = omega (arith, l) in
+    let up = climbs pairs ends v (w - v) b (omega (arith, same, most)) in
+    omega (arith, up, ap (start_at ends) same)

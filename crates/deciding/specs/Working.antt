@@ -1,5 +1,5 @@
 -- What is kept while sites are decided.
-use Rattle.std.specs.Prelude.{◌≡◌, ◌≢◌, ◌⊎◌, ℕ, ◌+◌, ◌-◌, ◌*◌, ◌<◌, ◌≤◌, Bool, true, false, List, [], ◌∷◌, ◌++◌, length, slice_index_or, unsigned_abs, ℤ, pos, ◌+ℤ◌, ◌-ℤ◌, ◌≤ℤ◌, ◌<ℤ◌, Result, Ok, Err}
+use Rattle.std.specs.Prelude.{◌≡◌, ◌≢◌, ◌⊎◌, ℕ, ◌+◌, ◌-◌, ◌*◌, ◌<◌, ◌≤◌, Bool, true, false, List, [], ◌∷◌, ◌++◌, length, replicate, slice_index_or, unsigned_abs, ℤ, pos, ◌+ℤ◌, ◌-ℤ◌, ◌≤ℤ◌, ◌<ℤ◌, Result, Ok, Err}
 use Rattle.std.specs.List.{All, Contains, sum_by}
 use Rattle.sums.specs.Sums.{sum_below, counted}
 use Rattle.move_energy.specs.declared.by_site.Neighbours.{Neighbours}
@@ -140,6 +140,17 @@ pub record ArePartlyDecided (m : Instance) (move : Move) (f : ℕ → ℕ) (k : 
 pub record AddsBounds (low high : ℤ) (old new : Bounds) : Type 0 where
   pub least : new.least.items ≡ old.least.items ++ low ∷ []
   pub greatest : new.greatest.items ≡ old.greatest.items ++ high ∷ []
+  pub choices : new.choices ≡ old.choices
+  pub waiting : new.waiting ≡ old.waiting
+
+-- the sites from one on, before another, are closed and have the bounds 0; the other one is open, if it is a site
+pub record PassesClosed (from to : ℕ) (old new : Bounds) : Type 0 where
+  pub on : from ≤ to
+  pub within : to ≤ length old.choices.items
+  pub closed : (u : ℕ) → from ≤ u → u < to → choice_at old.choices.items u ≢ Open
+  pub opened : to < length old.choices.items → choice_at old.choices.items to ≡ Open
+  pub least : new.least.items ≡ old.least.items ++ replicate (to - from) (pos 0)
+  pub greatest : new.greatest.items ≡ old.greatest.items ++ replicate (to - from) (pos 0)
   pub choices : new.choices ≡ old.choices
   pub waiting : new.waiting ≡ old.waiting
 

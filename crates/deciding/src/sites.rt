@@ -66,7 +66,8 @@ impl Deciding {
     /// tested, since a metric makes no other term.
     ///
     /// Sites that the move cannot change are `Zero` from the beginning. It looks at the pairs of each other site once, and
-    /// once more where it decides the site (Iyer, Jegelka, Bilmes, ICML 2013). Then `bounds.greatest` says of each open site by
+    /// once more where it decides the site (Iyer, Jegelka, Bilmes, ICML 2013). A site that it decides as soon as it is summed is not
+    /// looked at again if none of its neighbours before it is open. Then `bounds.greatest` says of each open site by
     /// how much the energy rises where it turns to 1 while every other open site is at 0; `lists` has how many sites are open,
     /// and lists them where they are few. Where it refuses, nothing is listed, and no more is said of `bounds` and `lists`.
     pub fn decide<F: Fn(u32, u32) -> i64 + Sync, V: Fn(u32, u32) -> i64 + Sync>(

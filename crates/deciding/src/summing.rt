@@ -1,5 +1,5 @@
 //! The sites of a move one after another: each is summed, and decided at once where its bounds tell its value.
-ghost use Rattle.std.specs.Prelude.{◌≡◌, ◌≢◌, ◌<◌, ◌≤◌, ◌*◌, ◌+◌, ◌↔◌, ◌++◌, ◌∷◌, [], ℕ, length, OnOk};
+ghost use Rattle.std.specs.Prelude.{◌≡◌, ◌≢◌, ◌<◌, ◌≤◌, ◌*◌, ◌+◌, ◌-◌, ◌↔◌, ◌++◌, ◌∷◌, [], ℕ, pos, replicate, length, OnOk, IfOk};
 ghost use Rattle.label_field.specs.Limits.{site_limit};
 ghost use Rattle.move_energy.specs.BySite.{AreBySite, degree};
 ghost use Rattle.move_energy.specs.Limits.{weights_limit};
@@ -9,7 +9,7 @@ ghost use Rattle.cost_store.specs.Posed.{IsPosed, IsAsked, Meant};
 ghost use Rattle.move_energy.specs.declared.choice.Choice.TheVariants.{Open, One};
 ghost use Rattle.move_energy.specs.Choices.{choice_at, Changes};
 ghost use Rattle.deciding.specs.Rising.{IsSized, IsTableOf};
-ghost use Rattle.deciding.specs.Working.{summed, CanDecide, AreOfSites, IsSummed, IsWithinRange, IsAnswered, AddsBounds, AreUndecided, AreWaiting, ArePartlyDecided, left, budget_of, greatest_total};
+ghost use Rattle.deciding.specs.Working.{summed, CanDecide, AreOfSites, IsSummed, IsWithinRange, IsAnswered, AddsBounds, PassesClosed, AreUndecided, AreWaiting, ArePartlyDecided, left, budget_of, greatest_total};
 
 use crate::Bounds;
 use crate::rising::site_rises;
@@ -44,6 +44,30 @@ fn choose_each(choices: &mut [Choice], at: &[u8], change: Move)
     }
 }
 
+/// The next open site from one on, or how many sites there are where none is.
+fn next_open(choices: &[Choice], from: usize) -> usize
+    requires { from ≤ length choices.now }
+    ensures within { (from ≤ result) × (result ≤ length choices.now) }
+    ensures closed { (u : ℕ) → from ≤ u → u < result → choice_at choices.now u ≢ Open }
+    ensures opened { result < length choices.now → choice_at choices.now result ≡ Open }
+{
+    let mut site = from;
+    while site < choices.len() && !choices[site].is_open() {
+        site += 1;
+    }
+    site
+}
+
+/// Fills a list up with 0, until it has so many numbers.
+fn fill_up(numbers: &mut Vec<i64>, count: usize) -> Result<(), AllocError>
+    requires { length numbers.old.items ≤ count }
+    ensures { OnOk result (numbers.new.items ≡ numbers.old.items
+        ++ replicate (count - length numbers.old.items) (pos 0)) }
+{
+    numbers.resize(count, 0)?;
+    Ok(())
+}
+
 impl Bounds {
     /// Makes room for so many sites, and forgets what was known.
     fn clear(&mut self, sites: usize) -> Result<(), AllocError>
@@ -67,6 +91,18 @@ impl Bounds {
         self.choices.resize(at.len(), Choice::Zero)?;
         choose_each(self.choices.as_mut_slice(), at, change);
         Ok(())
+    }
+
+    /// Passes over the closed sites from one on: their bounds are 0. It answers which site is the next, or how many there are.
+    fn pass_closed(&mut self, from: usize) -> Result<usize, AllocError>
+        requires from { from ≤ length self.old.choices.items }
+        requires summed { (length self.old.least.items ≡ from) × (length self.old.greatest.items ≡ from) }
+        ensures { IfOk result (λ to. PassesClosed from to self.old self.new) }
+    {
+        let next = next_open(&self.choices, from);
+        fill_up(&mut self.least, next)?;
+        fill_up(&mut self.greatest, next)?;
+        Ok(next)
     }
 
     /// Adds the bounds of the next site.
@@ -97,7 +133,7 @@ impl Bounds {
         Ok(())
     }
 
-    /// Sums the next site, if it is open, and decides it or lets it wait if its bounds tell its value.
+    /// Sums the next site, which is open, and decides it or lets it wait if its bounds tell its value.
     fn sum_site<F: Fn(u32, u32) -> i64 + Sync, V: Fn(u32, u32) -> i64 + Sync>(
         &mut self,
         problem: &Problem<F, V>,
@@ -113,6 +149,7 @@ impl Bounds {
         requires labels { IsSized problem.now.data_cost.labels table.now }
         requires table { Meant F.Fn V.Fn problem.now (λ m. IsTableOf m change table.now) }
         requires site { (site < length at.now) × (summed self.old ≡ site) }
+        requires opened { choice_at self.old.choices.items site ≡ Open }
         requires sized { IsSummed (length at.now) self.old }
         requires left { left ends.now (length at.now) self.old.choices.items ≤ 2 * length
             problem.now.pairs.list }
@@ -131,9 +168,6 @@ impl Bounds {
         ensures decided { OnOk result (Meant F.Fn V.Fn problem.now (λ m. ArePartlyDecided m change (labelling
             at.now) site self.old → ArePartlyDecided m change (labelling at.now) (site + 1) self.new)) }
     {
-        if !self.choices[site as usize].is_open() {
-            return self.add_bounds(0, 0);
-        }
         let rises = site_rises(problem, ends, table, &self.choices, at, change, site);
         self.add_bounds(rises.least, rises.greatest)?;
         self.answer(site, rises.beside)
@@ -162,9 +196,15 @@ impl Bounds {
         ensures decided { OnOk result (Meant F.Fn V.Fn problem.now (λ m. ArePartlyDecided m change
             (labelling at.now) (length at.now) self.new)) }
     {
-        for site in 0..at.len() {
-            self.sum_site(problem, ends, table, at, change, site as u32)?;
+        let mut site = 0usize;
+        while site < at.len() {
+            let next = self.pass_closed(site)?;
+            if next == at.len() {
+                return Ok(());
+            }
+            self.sum_site(problem, ends, table, at, change, next as u32)?;
             self.settle_all(problem, ends, table, at, change)?;
+            site = next + 1;
         }
         Ok(())
     }

@@ -1,4 +1,4 @@
-use Rattle.std.proofs.Common.{◌≡◌, ◌+◌, ◌*◌, ◌≤◌, [], length}
+use Rattle.std.proofs.Common.{◌≡◌, ◌+◌, ◌-◌, ◌*◌, ◌≤◌, [], length}
 use Rattle.cost_store.specs.Posed.{IsMeant}
 use Rattle.move_energy.specs.BySite.{start_at}
 use Rattle.labellings.specs.Energies.{Instance, labelling}
@@ -7,6 +7,7 @@ use Rattle.deciding.proofs.bounds.Bounds.decide_sites.Given as goal
 
 abbrev pub invariant-loop-site : goal.invariant-loop-site
 invariant-loop-site g l = record {
+  within : l.site ≤ length l.at;
   sized : IsSummed (length l.at) l.self;
   same : length l.self.least.items ≡ l.site;
   waiting : AreWaiting l.site l.self;
@@ -17,3 +18,6 @@ invariant-loop-site g l = record {
       ≤ 40000000 * length l.problem.pairs.list + 10000000 * l.site + 10000000 * start_at l.ends l.site;
   decided : (m : Instance) → IsMeant g.F.Fn g.V.Fn l.problem m → ArePartlyDecided m l.change (labelling l.at) l.site l.self;
 }
+
+abbrev pub decreases-loop-site : goal.decreases-loop-site
+decreases-loop-site g l = length l.at - l.site

@@ -1,10 +1,8 @@
-use Rattle.std.proofs.Common.{◌≡◌, ◌<◌, ◌≤◌, ◌+◌, ◌*◌, ◌∙◌, List, true, false, unsigned_abs, ap, sym, subst, length, arith}
+use Rattle.std.proofs.Common.{◌<◌, ◌≤◌, ◌+◌, ◌*◌, ◌∙◌, List, true, false, unsigned_abs, ap, sym, subst, length, arith}
 use Rattle.std.proofs.lemmas.Result.{on_ok_weaker}
 use Rattle.move_energy.specs.BySite.{degree}
 use Rattle.labellings.specs.Energies.{labelling}
-use Rattle.move_energy.specs.declared.choice.Choice.TheVariants.{Open, Zero}
 use Rattle.move_energy.specs.Choices.{choice_at}
-use Rattle.move_energy.proofs.Joins.{read_at}
 use Rattle.move_energy.specs.declared.choice.Choice.{Choice}
 use Rattle.deciding.specs.Decisions.{rise}
 use Rattle.deciding.specs.MoveValues.{move_value}
@@ -12,123 +10,90 @@ use Rattle.deciding.specs.Working.{valued, left, budget_of, HasNoneBefore}
 use Rattle.deciding.proofs.Answering.{answered_bounds, answered_summed, answered_waits, answered_left, answered_decides}
 use Rattle.deciding.proofs.Left.{degree_most}
 use Rattle.deciding.proofs.Places.{meant_pairs, meant_beside}
-use Rattle.deciding.proofs.Ranges.{added_of, added_summed, added_range, added_waits, closed_waits, range_same, added_total, total_same}
+use Rattle.deciding.proofs.Ranges.{added_of, added_summed, added_range, added_waits, range_same, added_total, total_same}
 use Rattle.deciding.proofs.SiteSums.{sum_passed, sum_room}
 use Rattle.deciding.proofs.Whole.{partly_more}
 use Rattle.deciding.proofs.bounds.Bounds.sum_site.Goals as goal
 
-pub returns-then-not-is_open-clause-summed : goal.returns-then-not-is_open-clause-summed
-returns-then-not-is_open-clause-summed g c =
-    let a = c.args in
-    on_ok_weaker c.add_bounds.result (λ adds. (added_summed (length a.at.now) a.site _ _ a.self.now c.add_bounds.new.self (added_of a.site _ _ a.self.now c.add_bounds.new.self c.requires.site.1 c.requires.sized.greatest adds) c.requires.site.0 c.requires.sized.choices).0) c.add_bounds.ensures.adds
-
-pub returns-then-not-is_open-clause-sized : goal.returns-then-not-is_open-clause-sized
-returns-then-not-is_open-clause-sized g c =
-    let a = c.args in
-    on_ok_weaker c.add_bounds.result (λ adds. (added_summed (length a.at.now) a.site _ _ a.self.now c.add_bounds.new.self (added_of a.site _ _ a.self.now c.add_bounds.new.self c.requires.site.1 c.requires.sized.greatest adds) c.requires.site.0 c.requires.sized.choices).1) c.add_bounds.ensures.adds
-
-pub returns-then-not-is_open-clause-range : goal.returns-then-not-is_open-clause-range
-returns-then-not-is_open-clause-range g c =
-    let a = c.args in
-    on_ok_weaker c.add_bounds.result (λ adds. added_range a.site (budget_of (left a.ends.now (length a.at.now) a.self.now.choices.items)) _ _ a.self.now c.add_bounds.new.self (added_of a.site _ _ a.self.now c.add_bounds.new.self c.requires.site.1 c.requires.sized.greatest adds) (omega arith) (omega arith) c.requires.range) c.add_bounds.ensures.adds
-
-pub returns-then-not-is_open-clause-waiting : goal.returns-then-not-is_open-clause-waiting
-returns-then-not-is_open-clause-waiting g c =
-    let a = c.args in
-    on_ok_weaker c.add_bounds.result (λ adds. closed_waits a.site c.add_bounds.new.self (λ opened.
-    (let read = read_at a.self.now.choices.items a.site _ Zero (omega (arith, c.requires.site.0, c.requires.sized.choices)) c.index.ensures in
-    let yes = c.is_open.ensures.1 (read ∙ ap (λ (v : _). choice_at v.items a.site) (sym adds.choices) ∙ opened) in let no = c.if-not-is_open.true in absurd (cc (yes, no)))) (added_waits a.site _ _ a.self.now c.add_bounds.new.self (added_of a.site _ _ a.self.now c.add_bounds.new.self c.requires.site.1 c.requires.sized.greatest adds) c.requires.waiting)) c.add_bounds.ensures.adds
-
-pub returns-then-not-is_open-clause-decided : goal.returns-then-not-is_open-clause-decided
-returns-then-not-is_open-clause-decided g c =
-    let a = c.args in
-    on_ok_weaker c.add_bounds.result (λ adds. λ m answers decided. partly_more m a.change (labelling a.at.now) a.site _ _ a.self.now c.add_bounds.new.self (meant_pairs m a.problem.now.pairs answers.pairs_are answers.sites_are c.requires.posed.pairs) (added_of a.site _ _ a.self.now c.add_bounds.new.self c.requires.site.1 c.requires.sized.greatest adds) (λ opened.
-    (let read = read_at a.self.now.choices.items a.site _ Zero (omega (arith, c.requires.site.0, c.requires.sized.choices)) c.index.ensures in
-    let yes = c.is_open.ensures.1 (read ∙ opened) in let no = c.if-not-is_open.true in absurd (cc (yes, no)))) decided) c.add_bounds.ensures.adds
-
 pub answer-requires-clause-bounds : goal.answer-requires-clause-bounds
 answer-requires-clause-bounds g c =
     let a = c.args in
-    let added = added_of a.site _ _ a.self.now c.add_bounds-2.new.self c.requires.site.1 c.requires.sized.greatest c.in_ok-add_bounds.ensures.adds in
-    let one = added_summed (length a.at.now) a.site _ _ a.self.now c.add_bounds-2.new.self added c.requires.site.0 c.requires.sized.choices in
+    let added = added_of a.site _ _ a.self.now c.add_bounds.new.self c.requires.site.1 c.requires.sized.greatest c.in_ok-add_bounds.ensures.adds in
+    let one = added_summed (length a.at.now) a.site _ _ a.self.now c.add_bounds.new.self added c.requires.site.0 c.requires.sized.choices in
     (omega (arith, one.0), omega (arith, one.0, one.1.greatest))
 
 pub answer-requires-clause-choice : goal.answer-requires-clause-choice
 answer-requires-clause-choice g c =
     let a = c.args in
-    let added = added_of a.site _ _ a.self.now c.add_bounds-2.new.self c.requires.site.1 c.requires.sized.greatest c.in_ok-add_bounds.ensures.adds in
+    let added = added_of a.site _ _ a.self.now c.add_bounds.new.self c.requires.site.1 c.requires.sized.greatest c.in_ok-add_bounds.ensures.adds in
     let count = ap (λ (v : _). length v.items) added.choices in
     omega (arith, count, c.requires.site.0, c.requires.sized.choices)
 
 pub returns-clause-left : goal.returns-clause-left
 returns-clause-left g c =
     let a = c.args in
-    let added = added_of a.site _ _ a.self.now c.add_bounds-2.new.self c.requires.site.1 c.requires.sized.greatest c.in_ok-add_bounds.ensures.adds in
-    let read = read_at a.self.now.choices.items a.site _ Zero (omega (arith, c.requires.site.0, c.requires.sized.choices)) c.index.ensures in
-    let was : choice_at a.self.now.choices.items a.site ≡ Open = sym read ∙ c.is_open.ensures.0 c.if-not-is_open.false in
-    let opened = ap (λ (v : _). choice_at v.items a.site) added.choices ∙ was in
+    let added = added_of a.site _ _ a.self.now c.add_bounds.new.self c.requires.site.1 c.requires.sized.greatest c.in_ok-add_bounds.ensures.adds in
+    let opened = ap (λ (v : _). choice_at v.items a.site) added.choices ∙ c.requires.opened in
     let same = ap (λ (v : _). left a.ends.now (length a.at.now) v.items) added.choices in
     on_ok_weaker c.answer.result (λ told.
-    (let less = answered_left a.ends.now (length a.at.now) a.site _ c.add_bounds-2.new.self c.answer.new.self c.requires.site.0 opened told in
+    (let less = answered_left a.ends.now (length a.at.now) a.site _ c.add_bounds.new.self c.answer.new.self c.requires.site.0 opened told in
     omega (arith, less, same))) c.answer.ensures
 
 pub returns-clause-summed : goal.returns-clause-summed
 returns-clause-summed g c =
     let a = c.args in
-    let added = added_of a.site _ _ a.self.now c.add_bounds-2.new.self c.requires.site.1 c.requires.sized.greatest c.in_ok-add_bounds.ensures.adds in
+    let added = added_of a.site _ _ a.self.now c.add_bounds.new.self c.requires.site.1 c.requires.sized.greatest c.in_ok-add_bounds.ensures.adds in
     on_ok_weaker c.answer.result (λ told.
-    ap (λ (v : _). length v.items) (answered_bounds a.site _ c.add_bounds-2.new.self c.answer.new.self told).0
-    ∙ (added_summed (length a.at.now) a.site _ _ a.self.now c.add_bounds-2.new.self added c.requires.site.0 c.requires.sized.choices).0) c.answer.ensures
+    ap (λ (v : _). length v.items) (answered_bounds a.site _ c.add_bounds.new.self c.answer.new.self told).0
+    ∙ (added_summed (length a.at.now) a.site _ _ a.self.now c.add_bounds.new.self added c.requires.site.0 c.requires.sized.choices).0) c.answer.ensures
 
 pub returns-clause-sized : goal.returns-clause-sized
 returns-clause-sized g c =
     let a = c.args in
-    let added = added_of a.site _ _ a.self.now c.add_bounds-2.new.self c.requires.site.1 c.requires.sized.greatest c.in_ok-add_bounds.ensures.adds in
+    let added = added_of a.site _ _ a.self.now c.add_bounds.new.self c.requires.site.1 c.requires.sized.greatest c.in_ok-add_bounds.ensures.adds in
     on_ok_weaker c.answer.result (λ told.
-    answered_summed (length a.at.now) a.site _ c.add_bounds-2.new.self c.answer.new.self told
-    (added_summed (length a.at.now) a.site _ _ a.self.now c.add_bounds-2.new.self added c.requires.site.0 c.requires.sized.choices).1) c.answer.ensures
+    answered_summed (length a.at.now) a.site _ c.add_bounds.new.self c.answer.new.self told
+    (added_summed (length a.at.now) a.site _ _ a.self.now c.add_bounds.new.self added c.requires.site.0 c.requires.sized.choices).1) c.answer.ensures
 
 pub returns-clause-range : goal.returns-clause-range
 returns-clause-range g c =
     let a = c.args in
-    let added = added_of a.site _ _ a.self.now c.add_bounds-2.new.self c.requires.site.1 c.requires.sized.greatest c.in_ok-add_bounds.ensures.adds in
+    let added = added_of a.site _ _ a.self.now c.add_bounds.new.self c.requires.site.1 c.requires.sized.greatest c.in_ok-add_bounds.ensures.adds in
     let inside : a.site < a.problem.now.pairs.sites = omega (arith, c.requires.site.0, c.requires.asked.sites) in
     let few : degree a.ends.now a.site ≤ 8388608 = omega (arith, degree_most a.problem.now.pairs a.ends.now a.site c.requires.by_site inside, c.requires.posed.pairs.count) in
     let rises = c.site_rises-rises in
     on_ok_weaker c.answer.result (λ told.
-    (let same = answered_bounds a.site _ c.add_bounds-2.new.self c.answer.new.self told in
-    range_same c.add_bounds-2.new.self c.answer.new.self _ same.0 same.1
-    (added_range a.site (budget_of (left a.ends.now (length a.at.now) a.self.now.choices.items)) _ _ a.self.now c.add_bounds-2.new.self added
+    (let same = answered_bounds a.site _ c.add_bounds.new.self c.answer.new.self told in
+    range_same c.add_bounds.new.self c.answer.new.self _ same.0 same.1
+    (added_range a.site (budget_of (left a.ends.now (length a.at.now) a.self.now.choices.items)) _ _ a.self.now c.add_bounds.new.self added
     (sum_room rises.result.least (degree a.ends.now a.site) _ rises.ensures.range.0 few (omega (arith, c.requires.left, c.requires.posed.pairs.count)))
     (sum_room rises.result.greatest (degree a.ends.now a.site) _ rises.ensures.range.1 few (omega (arith, c.requires.left, c.requires.posed.pairs.count))) c.requires.range))) c.answer.ensures
 
 pub returns-clause-waiting : goal.returns-clause-waiting
 returns-clause-waiting g c =
     let a = c.args in
-    let added = added_of a.site _ _ a.self.now c.add_bounds-2.new.self c.requires.site.1 c.requires.sized.greatest c.in_ok-add_bounds.ensures.adds in
+    let added = added_of a.site _ _ a.self.now c.add_bounds.new.self c.requires.site.1 c.requires.sized.greatest c.in_ok-add_bounds.ensures.adds in
     on_ok_weaker c.answer.result (λ told.
-    answered_waits (a.site + 1) a.site _ c.add_bounds-2.new.self c.answer.new.self (omega arith) told
-    (added_waits a.site _ _ a.self.now c.add_bounds-2.new.self added c.requires.waiting)) c.answer.ensures
+    answered_waits (a.site + 1) a.site _ c.add_bounds.new.self c.answer.new.self (omega arith) told
+    (added_waits a.site _ _ a.self.now c.add_bounds.new.self added c.requires.waiting)) c.answer.ensures
 
 pub returns-clause-decided : goal.returns-clause-decided
 returns-clause-decided g c =
     let a = c.args in
-    let added = added_of a.site _ _ a.self.now c.add_bounds-2.new.self c.requires.site.1 c.requires.sized.greatest c.in_ok-add_bounds.ensures.adds in
+    let added = added_of a.site _ _ a.self.now c.add_bounds.new.self c.requires.site.1 c.requires.sized.greatest c.in_ok-add_bounds.ensures.adds in
     let inside : a.site < a.problem.now.pairs.sites = omega (arith, c.requires.site.0, c.requires.asked.sites) in
     let few : degree a.ends.now a.site ≤ 8388608 = omega (arith, degree_most a.problem.now.pairs a.ends.now a.site c.requires.by_site inside, c.requires.posed.pairs.count) in
     let rises = c.site_rises-rises in
-    let read = read_at a.self.now.choices.items a.site _ Zero (omega (arith, c.requires.site.0, c.requires.sized.choices)) c.index.ensures in
-    let was : choice_at a.self.now.choices.items a.site ≡ Open = sym read ∙ c.is_open.ensures.0 c.if-not-is_open.false in
-    let opened = ap (λ (v : _). choice_at v.items a.site) added.choices ∙ was in
+    let opened = ap (λ (v : _). choice_at v.items a.site) added.choices ∙ c.requires.opened in
     let N : List Choice → Type 0 = λ cs. HasNoneBefore cs a.ends.now a.site in
     on_ok_weaker c.answer.result (λ told.
     λ m answers decided.
-    answered_decides m a.change (labelling a.at.now) a.ends.now a.site _ c.add_bounds-2.new.self c.answer.new.self
+    answered_decides m a.change (labelling a.at.now) a.ends.now a.site _ c.add_bounds.new.self c.answer.new.self
     (meant_pairs m a.problem.now.pairs answers.pairs_are answers.sites_are c.requires.posed.pairs)
     (meant_beside m a.problem.now.pairs a.ends.now answers.pairs_are answers.sites_are c.requires.by_site)
     (omega (arith, inside, answers.sites_are))
     (λ none. subst N (sym (ap (λ (v : _). v.items) added.choices)) (subst N c.deref.ensures.value (rises.ensures.alone none))) opened told
-    (partly_more m a.change (labelling a.at.now) a.site _ _ a.self.now c.add_bounds-2.new.self (meant_pairs m a.problem.now.pairs answers.pairs_are answers.sites_are c.requires.posed.pairs) added
+    (partly_more m a.change (labelling a.at.now) a.site _ _ a.self.now c.add_bounds.new.self (meant_pairs m a.problem.now.pairs answers.pairs_are answers.sites_are c.requires.posed.pairs) added
     (λ here. (
       sum_passed rises.result.least (degree a.ends.now a.site) rises.ensures.range.0 few ∙ rises.ensures.least m answers
           ∙ ap (λ (cs : List Choice). rise (move_value m a.change (labelling a.at.now)) a.site (valued cs true)) c.deref.ensures.value,
@@ -136,26 +101,15 @@ returns-clause-decided g c =
           ∙ ap (λ (cs : List Choice). rise (move_value m a.change (labelling a.at.now)) a.site (valued cs false)) c.deref.ensures.value,
     )) decided)) c.answer.ensures
 
-pub returns-then-not-is_open-clause-left : goal.returns-then-not-is_open-clause-left
-returns-then-not-is_open-clause-left g c =
-    let a = c.args in
-    on_ok_weaker c.add_bounds.result (λ adds. (let same = ap (λ (v : _). left a.ends.now (length a.at.now) v.items) adds.choices in omega (arith, same))) c.add_bounds.ensures.adds
-
-pub returns-then-not-is_open-clause-total : goal.returns-then-not-is_open-clause-total
-returns-then-not-is_open-clause-total g c =
-    let a = c.args in
-    on_ok_weaker c.add_bounds.result (λ adds. (let more = added_total a.site 0 _ _ a.self.now c.add_bounds.new.self (added_of a.site _ _ a.self.now c.add_bounds.new.self c.requires.site.1 c.requires.sized.greatest adds) (omega arith) in
-    omega (arith, more))) c.add_bounds.ensures.adds
-
 pub returns-clause-total : goal.returns-clause-total
 returns-clause-total g c =
     let a = c.args in
-    let added = added_of a.site _ _ a.self.now c.add_bounds-2.new.self c.requires.site.1 c.requires.sized.greatest c.in_ok-add_bounds.ensures.adds in
+    let added = added_of a.site _ _ a.self.now c.add_bounds.new.self c.requires.site.1 c.requires.sized.greatest c.in_ok-add_bounds.ensures.adds in
     let inside : a.site < a.problem.now.pairs.sites = omega (arith, c.requires.site.0, c.requires.asked.sites) in
     let few : degree a.ends.now a.site ≤ 8388608 = omega (arith, degree_most a.problem.now.pairs a.ends.now a.site c.requires.by_site inside, c.requires.posed.pairs.count) in
     let rises = c.site_rises-rises in
     let size = ap unsigned_abs (sum_passed rises.result.greatest (degree a.ends.now a.site) rises.ensures.range.1 few) in
-    let more = added_total a.site (10000000 + 10000000 * degree a.ends.now a.site) _ _ a.self.now c.add_bounds-2.new.self added (omega (arith, size, rises.ensures.range.1)) in
+    let more = added_total a.site (10000000 + 10000000 * degree a.ends.now a.site) _ _ a.self.now c.add_bounds.new.self added (omega (arith, size, rises.ensures.range.1)) in
     on_ok_weaker c.answer.result (λ told.
-    (let same = answered_bounds a.site _ c.add_bounds-2.new.self c.answer.new.self told in
-    omega (arith, more, total_same c.add_bounds-2.new.self c.answer.new.self same.1))) c.answer.ensures
+    (let same = answered_bounds a.site _ c.add_bounds.new.self c.answer.new.self told in
+    omega (arith, more, total_same c.add_bounds.new.self c.answer.new.self same.1))) c.answer.ensures
