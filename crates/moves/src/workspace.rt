@@ -150,8 +150,8 @@ fn decide<F: Fn(u32, u32) -> i64 + Sync, V: Fn(u32, u32) -> i64 + Sync>(
     ensures decided { Meant F.Fn V.Fn problem.now (λ m. IsDecidedMove m change at.now
         space.new.built.variables.choices.items result) }
     ensures table { OnOk result (IsSized problem.now.data_cost.labels space.new.deciding.table) }
-    ensures rises { Meant F.Fn V.Fn problem.now (λ m.
-        OnOk result (IsTableOf m change space.new.deciding.table)) }
+    ensures rises { OnOk result (Meant F.Fn V.Fn problem.now (λ m.
+        IsTableOf m change space.new.deciding.table)) }
 {
     space.group(alloc, &problem.pairs)?;
     space.deciding.decide(problem, at, change)?;

@@ -47,6 +47,12 @@ build_strips-requires-clause-allowed g c = λ κs lives m meant. (c.in_ok-decide
 pub build_strips-requires-clause-weights : goal.build_strips-requires-clause-weights
 build_strips-requires-clause-weights g c = λ κs lives m meant. c.in_ok-decide.ensures.weights m meant
 
+pub build_strips-requires-clause-table : goal.build_strips-requires-clause-table
+build_strips-requires-clause-table g c = λ κs lives. c.in_ok-decide.ensures.table
+
+pub build_strips-requires-clause-rises : goal.build_strips-requires-clause-rises
+build_strips-requires-clause-rises g c = λ κs lives m meant. c.in_ok-decide.ensures.rises m meant
+
 pub returns-then-many-clause-built : goal.returns-then-many-clause-built
 returns-then-many-clause-built g c = λ m meant.
     let decided = c.in_ok-decide.ensures.decided m meant in
