@@ -1,0 +1,11 @@
+//! Networks in blocks that exchange parcels of flow: states, events, and their laws. The crate has
+//! no code of its own.
+//!
+//! `Core` does one event at a time, exactly where it is enabled. `laws` says what each state keeps,
+//! and what a finished one answers. `rounds` says what workers give back. `Ways` are a block's ends
+//! of its ways to other blocks, which carry each message in a `Letter`.
+#![tactic(auto)]
+
+pub use block_core::{Core, NotEnabled, State};
+pub use block_events::{Direction, Event, Flight, Lane, Message, laws, rounds};
+pub use block_turns::{Letter, Ways};
