@@ -1,0 +1,103 @@
+#!/usr/bin/env python3
+"""Tests that each must-fail edit of the crates can be applied. The gate's script runs it before `rt ci`.
+
+    python3 tools/check_edits.py            lists what is wrong; the status is then 1
+
+An edit is a file crates/NAME/must-fail/FUNCTION-what_is_wrong.edit. A line `file: PATH` names a source of
+the crate, and pairs of lines `old: TEXT` and `new: TEXT` change it; a further `file:` line names another
+source. Each old text stands exactly once in what the pairs before it made, and each new text is another
+one. A function of that name stands in the crate. Nothing is compiled and nothing is proved here:
+`rt must-fail NAME` does that.
+"""
+
+import re
+import sys
+from pathlib import Path
+
+TOP = Path(__file__).resolve().parent.parent
+NAMED = re.compile(r"([a-z0-9_]+)-[a-z0-9_]+\.edit")
+
+
+class Fault(Exception):
+    """What is wrong with an edit."""
+
+
+def words_of(path):
+    """The lines of an edit, each as its number, its word and its text."""
+    for number, line in enumerate(path.read_text(encoding="utf-8").split("\n"), 1):
+        word, _, text = line.partition(":")
+        if line.strip():
+            yield number, word, text.removeprefix(" ")
+
+
+def source_of(crate, number, name):
+    """The text of the source that a line names."""
+    path = crate / name.strip()
+    if not name.startswith("src/") or path.suffix != ".rt" or not path.is_file():
+        raise Fault(f"line {number}: {name} is no source of {crate.name}")
+    return path.read_text(encoding="utf-8")
+
+
+def changed(text, number, old, new):
+    """The text of a source after a pair."""
+    found = text.count(old) if old.strip() else 0
+    if found != 1:
+        raise Fault(f"line {number}: the old text stands {found} times there, in place of once")
+    if old == new:
+        raise Fault(f"line {number}: the new text is the old one")
+    return text.replace(old, new)
+
+
+def apply(path):
+    """Applies an edit to the texts of the sources that it names."""
+    crate, first, texts, source, old = path.parent.parent, {}, {}, None, None
+    for number, word, text in words_of(path):
+        if word == "file" and old is None:
+            source = text.strip()
+            first[source] = source_of(crate, number, text)
+            texts.setdefault(source, first[source])
+        elif word == "old" and source and old is None:
+            old = (number, text)
+        elif word == "new" and old is not None:
+            texts[source] = changed(texts[source], *old, text)
+            old = None
+        else:
+            raise Fault(f"line {number}: `{word}` is out of order: a file, and then pairs of old and new")
+    if old is not None or texts == first:
+        raise Fault("a file and at least one whole pair of an old and a new text are due")
+
+
+def has_function(crate, name):
+    """Whether a function of that name stands in the crate."""
+    function = re.compile(rf"\bfn {name}\b")
+    sources = (crate / "src").rglob("*.rt")
+    return any(function.search(path.read_text(encoding="utf-8")) for path in sources)
+
+
+def fault_of(path):
+    """What is wrong with an edit, if anything is."""
+    try:
+        apply(path)
+    except Fault as fault:
+        return str(fault)
+    named = NAMED.fullmatch(path.name)
+    if named is None:
+        return "its name is not FUNCTION-what_is_wrong.edit"
+    if not has_function(path.parent.parent, named.group(1)):
+        return f"no function {named.group(1)} stands in the crate"
+    return None
+
+
+def main():
+    if sys.argv[1:]:
+        sys.exit(__doc__)
+    edits = sorted((TOP / "crates").glob("*/must-fail/*"))
+    faults = [(path.relative_to(TOP), fault_of(path)) for path in edits]
+    faults = [f"{path}: {fault}" for path, fault in faults if fault]
+    for fault in faults:
+        print(fault)
+    sys.exit(1 if faults else 0)
+
+
+if __name__ == "__main__":
+    main()
