@@ -310,6 +310,8 @@ fn pictures(rt: HostRuntime) {
 /// How the striped picture is restored.
 const SHARED: &[&[&str]] = &[
     &["gco", "restore"],
+    &["gco", "restore", "--threads", "1"],
+    &["gco", "restore", "--threads", "8"],
     &["gco", "restore", "--ring", "1", "--threads", "2"],
     &["gco", "restore", "--blocks", "256", "--threads", "2"],
     &["gco", "restore", "--turns", "16", "--threads", "8"],
