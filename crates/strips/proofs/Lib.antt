@@ -5,4 +5,5 @@ pub mod Inside
 pub mod Laying
 pub mod Lessening
 pub mod Listing
+pub mod Rounds
 pub mod Views

@@ -22,7 +22,7 @@ listing_same a b (suc n) same =
     ap (λ (xs : List ℕ). xs ++ cond (a n) (n ∷ []) []) (listing_same a b n (λ p l. same p (omega (arith, l))))
     ∙ ap (λ (c : Bool). listing b n ++ cond c (n ∷ []) []) (same n (omega arith))
 
-none_more : (xs : List ℕ) (n : ℕ) (b : Bool) → b ≡ false → xs ++ cond b (n ∷ []) [] ≡ xs
+pub none_more : (xs : List ℕ) (n : ℕ) (b : Bool) → b ≡ false → xs ++ cond b (n ∷ []) [] ≡ xs
 none_more xs n true h = absurd (cc (h))
 none_more xs n false h = append-nil xs
 

@@ -85,7 +85,7 @@ open_is known from to p = ap is_open (view_at known from to p)
 pub seen_in : (known : List Choice) (from to p : ℕ) → range_of from to p ≡ true → seen known from to p ≡ choice_at known p
 seen_in known from to p h = first_of (range_of from to p) (choice_at known p) (or_else (choice_at known p) Zero) h
 
-shut : (c : Choice) → is_open (or_else c Zero) ≡ false
+pub shut : (c : Choice) → is_open (or_else c Zero) ≡ false
 shut Open = refl
 shut Zero = refl
 shut One = refl

@@ -1,6 +1,6 @@
-//! Strip by strip: each is built with what is known by then, cut, and what its two sides tell is
-//! known from then on.
-ghost use Rattle.std.specs.Prelude.{◌≡◌, ◌<◌, ◌≤◌, ℕ, All, filter, length, vec_len, OnOk};
+//! Round after round of strips: all strips of a round are built with what was known when it began,
+//! their nets are cut side by side, and what all of them tell is known from then on.
+ghost use Rattle.std.specs.Prelude.{◌≡◌, ◌<◌, ◌≤◌, ◌∷◌, [], ℕ, length, vec_len, IfOk, OnOk};
 ghost use Rattle.label_field.specs.Limits.{site_limit};
 ghost use Rattle.labellings.specs.Energies.{labelling};
 ghost use Rattle.labellings.specs.Moves.{IsAllowed};
@@ -9,59 +9,43 @@ ghost use Rattle.compile_cut.specs.Quadratics.{IsBounded};
 ghost use Rattle.compile_cut.specs.Weights.{weights_size};
 ghost use Rattle.cost_store.specs.Posed.{IsPosed, IsAsked, Meant};
 ghost use Rattle.move_energy.specs.BySite.{AreBySite};
-ghost use Rattle.move_energy.specs.Choices.{choice_at, open_at, AreOpenSites};
+ghost use Rattle.move_energy.specs.Choices.{choice_at, AreOpenSites};
 ghost use Rattle.move_energy.specs.Problems.{Stands};
 ghost use Rattle.move_energy.specs.Limits.{weights_limit};
 ghost use Rattle.move_energy.specs.Weights.{AreWeights};
 ghost use Rattle.deciding.specs.MoveValues.{move_value};
 ghost use Rattle.deciding.specs.Rising.{IsSized, IsTableOf};
-ghost use Rattle.closing_in.specs.Agreeing.{Agree, joined};
-ghost use Rattle.closing_in.specs.Strips.{Strip, told_by};
-ghost use Rattle.closing_in.specs.Telling.{IsListed};
+ghost use Rattle.closing_in.specs.Agreeing.{Agree};
+ghost use Rattle.strips.specs.Rounds.{AreRanges, AreLaidOut, AllWillTell};
 ghost use Rattle.strips.specs.Views.{IsView, KeepsChosen, strip_view};
 
 use crate::building::build_strip;
-use crate::opening::{list_left, list_next};
-use crate::sides::least_sides;
-use closing_in::add_strip;
-use compile_cut::Quadratic;
+use crate::opening::list_next;
+use crate::rounds::{lay_strip, tell_round};
 use cost_store::Problem;
 use deciding::RiseTable;
 use labellings::Move;
 use move_energy::{Choice, MoveEnergy, Neighbours};
-use plain_cut::{BothSides, Workspace};
+use solvers::{How, SidesJob};
 use std::alloc::{AllocError, Global};
-use std::mem::{replace, swap};
+use std::mem::replace;
 
-/// The open sites of a strip, what they weigh by now, and what its border adds to the room of each
-/// to the sink. The lists keep their memory from strip to strip and from move to move.
+/// The strips of a round: where they end, from the first site on, and of each its open sites and the
+/// job that cuts its net.
+#[derive(Drop)]
+struct Round {
+    bounds: Vec<u32>,
+    lists: Vec<Vec<u32>>,
+    jobs: Vec<SidesJob>,
+}
+
+/// The open sites of a strip, what they weigh by now, and jobs whose lists keep their memory from
+/// strip to strip and from move to move.
 #[derive(Drop)]
 pub struct Strips {
     pub opened: Vec<u32>,
-    left: Vec<u32>,
     list: Vec<i64>,
-    borders: Vec<u64>,
-}
-
-/// Adds what both bounds of a strip tell of its listed sites, and lists those that are still open.
-fn add_told(
-    known: &mut Vec<Choice>,
-    opened: &[u32],
-    left: &mut Vec<u32>,
-    sides: &BothSides,
-) -> Result<(), AllocError>
-    requires sites { All (λ site. site < length known.old.items) opened.now }
-    requires lower { length sides.now.lower.items ≡ length opened.now }
-    requires upper { length sides.now.upper.items ≡ length opened.now }
-    ensures count { length known.new.items ≡ length known.old.items }
-    ensures told { (strip : Strip)
-        → IsListed opened.now sides.now.lower.items sides.now.upper.items strip →
-        (p : ℕ) → p < length known.old.items →
-        choice_at known.new.items p ≡ joined (choice_at known.old.items) (told_by strip) p }
-    ensures left { OnOk result (left.new.items ≡ filter (open_at known.new.items) opened.now) }
-{
-    add_strip(known.as_mut_slice(), opened, &sides.lower, &sides.upper);
-    list_left(left, opened, known)
+    spare: Vec<SidesJob>,
 }
 
 /// What is known at the start: what was decided.
@@ -73,20 +57,112 @@ fn know_start(known: &mut Vec<Choice>, start: &[Choice]) -> Result<(), AllocErro
     Ok(())
 }
 
+impl Round {
+    /// Of no strip.
+    fn new(alloc: Global) -> Result<Round, AllocError>
+        ensures { IfOk result (λ round. (round.bounds.items ≡ 0 ∷ [])
+            × (round.lists.items ≡ []) × (round.jobs.items ≡ [])) }
+    {
+        let mut bounds = Vec::new(alloc);
+        bounds.push(0u32)?;
+        Ok(Round {
+            bounds,
+            lists: Vec::new(alloc),
+            jobs: Vec::new(alloc),
+        })
+    }
+}
+
 impl Strips {
     /// Of no strip. It takes no memory.
     pub fn new(alloc: Global) -> Strips {
         Strips {
             opened: Vec::new(alloc),
-            left: Vec::new(alloc),
             list: Vec::new(alloc),
-            borders: Vec::new(alloc),
+            spare: Vec::new(alloc),
         }
     }
 
-    /// Closes in the sites of the strip that ends at a site: what both of its bounds tell is known
-    /// from then on, and the sites that are still open are listed.
-    fn close_strip<F: Fn(u32, u32) -> i64 + Sync, V: Fn(u32, u32) -> i64 + Sync>(
+    /// A job of no net.
+    fn spare_job(&mut self, alloc: Global) -> SidesJob {
+        match self.spare.pop() {
+            Some(job) => job,
+            None => SidesJob::new(alloc),
+        }
+    }
+
+    /// Keeps the memory of jobs that are done.
+    fn keep_jobs(&mut self, jobs: Vec<SidesJob>) -> Result<(), AllocError>
+        ensures { self.new.opened ≡ self.old.opened }
+    {
+        for job in jobs {
+            self.spare.push(job)?;
+        }
+        Ok(())
+    }
+
+    /// Lays out one strip more of a round, behind the others: the open sites of a range.
+    fn lay_next<F: Fn(u32, u32) -> i64 + Sync, V: Fn(u32, u32) -> i64 + Sync>(
+        &mut self,
+        alloc: Global,
+        problem: &Problem<F, V>,
+        ends: &Neighbours,
+        table: &RiseTable,
+        built: &mut MoveEnergy,
+        start: &[Choice],
+        weights: &[i64],
+        from: u32,
+        to: u32,
+        opened: Vec<u32>,
+        at: &[u8],
+        change: Move,
+        round: &mut Round,
+    ) -> Result<(), AllocError>
+        requires posed { IsPosed F.Fn V.Fn problem.now }
+        requires asked { IsAsked problem.now at.now change }
+        requires by_site { AreBySite problem.now.pairs ends.now }
+        requires labels { IsSized problem.now.data_cost.labels table.now }
+        requires table { Meant F.Fn V.Fn problem.now (λ m. IsTableOf m change table.now) }
+        requires count { (length start.now ≡ length at.now) × (length weights.now ≡ length at.now) }
+        requires size { weights_size weights.now ≤ weights_limit }
+        requires weights { Meant F.Fn V.Fn problem.now (λ m. AreWeights m change (labelling at.now)
+            (choice_at start.now) weights.now) }
+        requires allowed { Meant F.Fn V.Fn problem.now
+            (λ m. IsAllowed m change (labelling at.now)) }
+        requires choices { length built.old.variables.choices.items ≡ length at.now }
+        requires goes_on { KeepsChosen start.now built.old.variables.choices.items }
+        requires order { from ≤ to }
+        requires opened { AreOpenSites (strip_view built.old.variables.choices.items from to)
+            opened.items }
+        requires ranges { AreRanges built.old.variables.choices.items round.old.bounds.items
+            round.old.lists.items from }
+        requires laid { AreLaidOut round.old.lists.items round.old.jobs.items }
+        ensures kept { built.new.variables.choices.items ≡ built.old.variables.choices.items }
+        ensures ranges { OnOk result (AreRanges built.old.variables.choices.items
+            round.new.bounds.items round.new.lists.items to) }
+        ensures laid { OnOk result (AreLaidOut round.new.lists.items round.new.jobs.items) }
+        ensures tells { Meant F.Fn V.Fn problem.now (λ m.
+            AllWillTell m change (labelling at.now) built.old.variables.choices.items
+            round.old.lists.items round.old.jobs.items → OnOk result
+            (AllWillTell m change (labelling at.now) built.old.variables.choices.items
+            round.new.lists.items round.new.jobs.items)) }
+    {
+        let mut job = self.spare_job(alloc);
+        let list = &mut self.list;
+        lay_strip(
+            alloc, problem, ends, table, built, start, weights, &opened, from, to, at, change, list,
+            &mut job,
+        )?;
+        round.bounds.push(to)?;
+        round.lists.push(opened)?;
+        round.jobs.push(job)?;
+        Ok(())
+    }
+
+    /// Lays out a round: the strip that ends at a site, whose open sites are listed, and as many
+    /// more as are closed in side by side, each behind the one before. It answers where the last of
+    /// them ends.
+    fn lay_round<F: Fn(u32, u32) -> i64 + Sync, V: Fn(u32, u32) -> i64 + Sync>(
         &mut self,
         alloc: Global,
         problem: &Problem<F, V>,
@@ -96,64 +172,122 @@ impl Strips {
         start: &[Choice],
         weights: &[i64],
         to: u32,
+        size: usize,
+        many: usize,
         at: &[u8],
         change: Move,
-        cutting: &mut Workspace,
-    ) -> Result<(), AllocError>
+        round: &mut Round,
+    ) -> Result<u32, AllocError>
         requires posed { IsPosed F.Fn V.Fn problem.now }
         requires asked { IsAsked problem.now at.now change }
         requires by_site { AreBySite problem.now.pairs ends.now }
         requires labels { IsSized problem.now.data_cost.labels table.now }
         requires table { Meant F.Fn V.Fn problem.now (λ m. IsTableOf m change table.now) }
         requires count { (length start.now ≡ length at.now) × (length weights.now ≡ length at.now) }
-        requires choices { length built.old.variables.choices.items ≡ length at.now }
-        requires goes_on { KeepsChosen start.now built.old.variables.choices.items }
-        requires opened { AreOpenSites (strip_view built.old.variables.choices.items 0 to)
-            self.old.opened.items }
         requires size { weights_size weights.now ≤ weights_limit }
         requires weights { Meant F.Fn V.Fn problem.now (λ m. AreWeights m change (labelling at.now)
             (choice_at start.now) weights.now) }
         requires allowed { Meant F.Fn V.Fn problem.now
             (λ m. IsAllowed m change (labelling at.now)) }
+        requires choices { length built.old.variables.choices.items ≡ length at.now }
+        requires goes_on { KeepsChosen start.now built.old.variables.choices.items }
+        requires some { 0 < size }
+        requires inside { to ≤ length at.now }
+        requires opened { AreOpenSites (strip_view built.old.variables.choices.items 0 to)
+            self.old.opened.items }
+        requires none { (round.old.bounds.items ≡ 0 ∷ []) × (round.old.lists.items ≡ [])
+            × (round.old.jobs.items ≡ []) }
+        ensures kept { built.new.variables.choices.items ≡ built.old.variables.choices.items }
+        ensures inside { IfOk result (λ end. (to ≤ end) × (end ≤ length at.now)) }
+        ensures ranges { IfOk result (AreRanges built.old.variables.choices.items
+            round.new.bounds.items round.new.lists.items) }
+        ensures laid { OnOk result (AreLaidOut round.new.lists.items round.new.jobs.items) }
+        ensures tells { Meant F.Fn V.Fn problem.now (λ m. OnOk result
+            (AllWillTell m change (labelling at.now) built.old.variables.choices.items
+            round.new.lists.items round.new.jobs.items)) }
+    {
+        let opened = replace(&mut self.opened, Vec::new(alloc));
+        self.lay_next(
+            alloc, problem, ends, table, built, start, weights, 0, to, opened, at, change, round,
+        )?;
+        let mut end = to;
+        'strips: while (end as usize) < start.len() && round.lists.len() < many {
+            let mut opened = Vec::new(alloc);
+            let next = list_next(&built.variables.choices, &mut opened, end, end, size)?;
+            self.lay_next(
+                alloc, problem, ends, table, built, start, weights, end, next, opened, at, change,
+                round,
+            )?;
+            end = next;
+        }
+        Ok(end)
+    }
+
+    /// Closes in the strips of a round: the one that ends at a site, whose open sites are listed,
+    /// and as many more as are cut side by side. It answers where the last of them ends, and lists
+    /// the sites before that are still open.
+    fn close_round<F: Fn(u32, u32) -> i64 + Sync, V: Fn(u32, u32) -> i64 + Sync, H: How>(
+        &mut self,
+        alloc: Global,
+        problem: &Problem<F, V>,
+        ends: &Neighbours,
+        table: &RiseTable,
+        built: &mut MoveEnergy,
+        start: &[Choice],
+        weights: &[i64],
+        to: u32,
+        size: usize,
+        at: &[u8],
+        change: Move,
+        how: &H,
+    ) -> Result<u32, AllocError>
+        requires ready { H.ready how.now }
+        requires posed { IsPosed F.Fn V.Fn problem.now }
+        requires asked { IsAsked problem.now at.now change }
+        requires by_site { AreBySite problem.now.pairs ends.now }
+        requires labels { IsSized problem.now.data_cost.labels table.now }
+        requires table { Meant F.Fn V.Fn problem.now (λ m. IsTableOf m change table.now) }
+        requires count { (length start.now ≡ length at.now) × (length weights.now ≡ length at.now) }
+        requires size { weights_size weights.now ≤ weights_limit }
+        requires weights { Meant F.Fn V.Fn problem.now (λ m. AreWeights m change (labelling at.now)
+            (choice_at start.now) weights.now) }
+        requires allowed { Meant F.Fn V.Fn problem.now
+            (λ m. IsAllowed m change (labelling at.now)) }
+        requires choices { length built.old.variables.choices.items ≡ length at.now }
+        requires goes_on { KeepsChosen start.now built.old.variables.choices.items }
+        requires some { 0 < size }
+        requires inside { to ≤ length at.now }
+        requires opened { AreOpenSites (strip_view built.old.variables.choices.items 0 to)
+            self.old.opened.items }
         ensures choices { OnOk result (length built.new.variables.choices.items ≡ length at.now) }
         ensures goes_on { OnOk result (KeepsChosen start.now built.new.variables.choices.items) }
-        ensures opened { OnOk result (AreOpenSites
-            (strip_view built.new.variables.choices.items 0 to) self.new.opened.items) }
+        ensures inside { IfOk result (λ end. (to ≤ end) × (end ≤ length at.now)) }
+        ensures opened { IfOk result (λ end. AreOpenSites
+            (strip_view built.new.variables.choices.items 0 end) self.new.opened.items) }
         ensures agree { Meant F.Fn V.Fn problem.now (λ m.
             Agree m.sites (move_value m change (labelling at.now))
             (choice_at built.old.variables.choices.items) →
             OnOk result (Agree m.sites (move_value m change (labelling at.now))
             (choice_at built.new.variables.choices.items))) }
     {
-        let list = &mut self.list;
-        let borders = &mut self.borders;
-        build_strip(
-            problem,
-            ends,
-            table,
-            built,
-            start,
-            weights,
-            &self.opened,
-            0,
-            to,
-            at,
-            change,
-            list,
-            borders,
+        let many = how.sides_at_once();
+        let mut round = Round::new(alloc)?;
+        let end = self.lay_round(
+            alloc, problem, ends, table, built, start, weights, to, size, many, at, change,
+            &mut round,
         )?;
-        let form = replace(&mut built.form, Quadratic::new(alloc));
-        let sides = least_sides(alloc, form, &self.borders, cutting)?;
+        how.sides(alloc, round.jobs.as_mut_slice());
         let known = &mut built.variables.choices;
-        add_told(known, &self.opened, &mut self.left, &sides)?;
-        swap(&mut self.opened, &mut self.left);
-        Ok(())
+        tell_round(known, &round.bounds, &round.lists, &round.jobs, &mut self.opened, end)?;
+        self.keep_jobs(round.jobs)?;
+        Ok(end)
     }
 
-    /// Closes in all strips but the last, so many sites each and what the strips before left open.
+    /// Closes in all strips but the last, so many sites each, and the first of a round also what the
+    /// round before left open. A round has as many strips as are cut side by side.
     /// It leaves the choices that are known then, and the form of the last strip, whose open sites
     /// are listed: its least assignment is what is left to be found.
-    pub fn close_in<F: Fn(u32, u32) -> i64 + Sync, V: Fn(u32, u32) -> i64 + Sync>(
+    pub fn close_in<F: Fn(u32, u32) -> i64 + Sync, V: Fn(u32, u32) -> i64 + Sync, H: How>(
         &mut self,
         alloc: Global,
         problem: &Problem<F, V>,
@@ -165,8 +299,9 @@ impl Strips {
         size: usize,
         at: &[u8],
         change: Move,
-        cutting: &mut Workspace,
+        how: &H,
     ) -> Result<(), AllocError>
+        requires ready { H.ready how.now }
         requires posed { IsPosed F.Fn V.Fn problem.now }
         requires asked { IsAsked problem.now at.now change }
         requires by_site { AreBySite problem.now.pairs ends.now }
@@ -197,14 +332,14 @@ impl Strips {
         self.opened.clear();
         let mut to = list_next(&built.variables.choices, &mut self.opened, 0, 0, size)?;
         'strips: while (to as usize) < start.len() {
-            self.close_strip(
-                alloc, problem, ends, table, built, start, weights, to, at, change, cutting,
+            to = self.close_round(
+                alloc, problem, ends, table, built, start, weights, to, size, at, change, how,
             )?;
             let more = size.max(self.opened.len());
             to = list_next(&built.variables.choices, &mut self.opened, 0, to, more)?;
         }
+        let mut borders = Vec::new(alloc);
         let list = &mut self.list;
-        let borders = &mut self.borders;
         build_strip(
             problem,
             ends,
@@ -218,7 +353,7 @@ impl Strips {
             at,
             change,
             list,
-            borders,
+            &mut borders,
         )?;
         Ok(())
     }

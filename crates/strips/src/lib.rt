@@ -5,6 +5,7 @@
 mod building;
 mod closing;
 mod opening;
+mod rounds;
 mod rows;
 mod sides;
 

@@ -1,5 +1,5 @@
 //! Which sites a strip has: those that the strips before left open, and the next ones.
-ghost use Rattle.std.specs.Prelude.{◌≡◌, ◌<◌, ◌≤◌, All, filter, length, IfOk, OnOk};
+ghost use Rattle.std.specs.Prelude.{◌≡◌, ◌<◌, ◌≤◌, ◌++◌, All, filter, length, IfOk, OnOk};
 ghost use Rattle.label_field.specs.Limits.{site_limit};
 ghost use Rattle.move_energy.specs.Choices.{open_at, AreOpenSites};
 ghost use Rattle.strips.specs.Views.{strip_view};
@@ -40,16 +40,16 @@ pub(crate) fn list_next(
     Ok(known.len() as u32)
 }
 
-/// Lists those of the sites that are still open.
+/// Lists those of the sites that are still open, behind the ones that are listed.
 pub(crate) fn list_left(
     left: &mut Vec<u32>,
     opened: &[u32],
     known: &[Choice],
 ) -> Result<(), AllocError>
     requires { All (λ site. site < length known.now) opened.now }
-    ensures { OnOk result (left.new.items ≡ filter (open_at known.now) opened.now) }
+    ensures { OnOk result (left.new.items
+        ≡ left.old.items ++ filter (open_at known.now) opened.now) }
 {
-    left.clear();
     for place in 0..opened.len() {
         let site = opened[place];
         if known[site as usize].is_open() {
