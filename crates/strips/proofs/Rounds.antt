@@ -20,7 +20,7 @@ use Rattle.labellings.specs.Energies.{Instance}
 use Rattle.flow_network.specs.Cut.{Network, nodes}
 use Rattle.plain_cut.specs.declared.both.BothSides.{BothSides}
 use Rattle.solvers.specs.declared.jobs.SidesJob.{SidesJob}
-use Rattle.solvers.specs.Jobs.{AreSides, IsCut, AreCut}
+use Rattle.solvers.specs.Jobs.{AreSides, IsCutTwice, AreCutTwice}
 use Rattle.closing_in.specs.Strips.{Strip, told, told_by}
 use Rattle.closing_in.specs.Telling.{IsListed}
 use Rattle.strips.specs.Rounds.{AreBounds, IsLaidOut, WillTell, IsAnswered, Tells, AreRanges, AreLaidOut, AllWillTell, AreAnswered, AllTell}
@@ -183,7 +183,7 @@ some_by : (net : Option Network) (answer : Option (Result BothSides AllocError))
 some_by (Some n) answer some is = is
 some_by None answer some is = absurd some
 
-pub answered_of : (sites : ℕ) (before after : SidesJob) → IsLaidOut sites before → IsCut before after → IsAnswered sites after
+pub answered_of : (sites : ℕ) (before after : SidesJob) → IsLaidOut sites before → IsCutTwice before after → IsAnswered sites after
 answered_of sites before after laid cut = record {
   some = some_by before.net after.sides laid.some cut.answered;
   bits = bits_by sites before.net after.sides before.more.items laid.some laid.nodes_are cut.sides;
@@ -197,12 +197,12 @@ tells_by B (Some n) (Some (Err e)) more some will cut = tt
 tells_by B (Some n) None more some will cut = tt
 tells_by B None answer more some will cut = absurd some
 
-pub tells_of : (m : Instance) (move : Move) (f : ℕ → ℕ) (known : List Choice) (opened : List ℕ) (before after : SidesJob) (sites : ℕ) → IsLaidOut sites before → IsCut before after
+pub tells_of : (m : Instance) (move : Move) (f : ℕ → ℕ) (known : List Choice) (opened : List ℕ) (before after : SidesJob) (sites : ℕ) → IsLaidOut sites before → IsCutTwice before after
     → WillTell m move f known opened before → Tells m move f known opened after
 tells_of m move f known opened before after sites laid cut will =
     tells_by (AreBounds m move f known opened) before.net after.sides before.more.items laid.some will cut.sides
 
-pub all_answered : (lists : List (Vec ℕ)) (before after : List SidesJob) → AreLaidOut lists before → length after ≡ length before → AreCut before after → AreAnswered lists after
+pub all_answered : (lists : List (Vec ℕ)) (before after : List SidesJob) → AreLaidOut lists before → length after ≡ length before → AreCutTwice before after → AreAnswered lists after
 all_answered lists before after laid same cut = record {
   count = same ∙ laid.count;
   each = λ k list job l.
@@ -210,7 +210,7 @@ all_answered lists before after laid same cut = record {
       (cut k job (omega (arith, l, laid.count)));
 }
 
-pub all_tell : (m : Instance) (move : Move) (f : ℕ → ℕ) (known : List Choice) (lists : List (Vec ℕ)) (before after : List SidesJob) → AreLaidOut lists before → AreCut before after
+pub all_tell : (m : Instance) (move : Move) (f : ℕ → ℕ) (known : List Choice) (lists : List (Vec ℕ)) (before after : List SidesJob) → AreLaidOut lists before → AreCutTwice before after
     → AllWillTell m move f known lists before → AllTell m move f known lists after
 all_tell m move f known lists before after laid cut will k list job l =
     tells_of m move f known (slice_index_or lists k list).items (slice_index_or before k job) (slice_index_or after k job) (length (slice_index_or lists k list).items)
