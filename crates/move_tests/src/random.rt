@@ -47,10 +47,12 @@ impl How for CutAlone {
     }
 }
 
-/// As `Alone`, but a strip has so many open sites, and what is left goes to its solver.
+/// As `Alone`, but a strip has so many open sites, so many strips are laid out at once, and what is
+/// left goes to its solver.
 #[derive(Clone, Copy)]
 pub struct InStrips {
     pub sites: usize,
+    pub at_once: usize,
 }
 
 impl How for InStrips {
@@ -65,10 +67,17 @@ impl How for InStrips {
     fn strip_sites(&self) -> usize {
         self.sites
     }
+
+    fn sides_at_once(&self) -> usize {
+        self.at_once.max(1)
+    }
 }
 
-/// So many open sites the strips of a row have that is made once more for each.
+/// So many open sites the strips of a row have that is made once more for each, and for each so
+/// many of them are cut side by side.
 pub const STRIPS: &[usize] = &[1, 2, 3];
+
+pub const AT_ONCE: &[usize] = &[1, 2, 3];
 
 /// A number of a row, at most so great.
 pub fn number(row: &[u8; BYTES], place: usize, most: u32) -> u32
@@ -295,7 +304,8 @@ pub fn is_right<H: How>(
     is_answered(&problem, alloc, &mut labelling, row, 0, chain, how)
 }
 
-/// Whether a row is right that is made strip by strip, for each size of the strips.
+/// Whether a row is right that is made strip by strip, for each size of the strips, and for each
+/// number of strips at once.
 fn is_right_in_strips(
     rt: &impl Abort,
     alloc: Global,
@@ -304,7 +314,13 @@ fn is_right_in_strips(
 ) -> bool {
     let mut all = true;
     for sites in STRIPS {
-        all = is_right(rt, alloc, row, chain, &InStrips { sites: *sites }) && all;
+        for at_once in AT_ONCE {
+            let how = InStrips {
+                sites: *sites,
+                at_once: *at_once,
+            };
+            all = is_right(rt, alloc, row, chain, &how) && all;
+        }
     }
     all
 }

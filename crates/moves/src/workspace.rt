@@ -20,11 +20,13 @@ ghost use Rattle.moves.specs.LabelCosts.{IsFreeFor};
 ghost use Rattle.labellings.specs.declared.change.Move.TheVariants.{Expand};
 ghost use Rattle.move_energy.specs.LabelCosts.{AreCostsOf};
 
+use crate::strip_size::strip_size;
 use cost_store::{Problem, costs_of, has_cost};
 use deciding::{Bounds, Deciding, Lists};
 use label_field::Pairs;
 use labellings::Move;
 use move_energy::{BuildError, MoveEnergy, Neighbours, add_label_costs};
+use solvers::How;
 use stages::Stage;
 use std::alloc::{AllocError, Global};
 use std::mem::swap;
@@ -261,14 +263,16 @@ fn build_open<F: Fn(u32, u32) -> i64 + Sync, V: Fn(u32, u32) -> i64 + Sync>(
 
 /// The energy of the last strip of a move whose sites are decided: all strips before it are closed
 /// in, so many sites each, and only its own open sites are left.
-fn build_strips<F: Fn(u32, u32) -> i64 + Sync, V: Fn(u32, u32) -> i64 + Sync>(
+fn build_strips<F: Fn(u32, u32) -> i64 + Sync, V: Fn(u32, u32) -> i64 + Sync, H: How>(
     alloc: Global,
     problem: &Problem<F, V>,
     space: &mut Workspace,
     at: &[u8],
     change: Move,
     size: usize,
+    how: &H,
 ) -> Result<(), AllocError>
+    requires ready { H.ready how.now }
     requires asked { IsAsked problem.now at.now change }
     requires posed { IsPosed F.Fn V.Fn problem.now }
     requires some { 0 < size }
@@ -307,7 +311,7 @@ fn build_strips<F: Fn(u32, u32) -> i64 + Sync, V: Fn(u32, u32) -> i64 + Sync>(
         size,
         at,
         change,
-        &mut space.cutting,
+        how,
     )?;
     if space.deciding.lists.listed {
         swap(&mut space.deciding.lists.opened, &mut space.strips.opened);
@@ -315,16 +319,17 @@ fn build_strips<F: Fn(u32, u32) -> i64 + Sync, V: Fn(u32, u32) -> i64 + Sync>(
     Ok(())
 }
 
-/// The energy of a move whose sites were decided first. Where more are open than a strip has, it is
-/// that of the last strip.
-fn build_decided<F: Fn(u32, u32) -> i64 + Sync, V: Fn(u32, u32) -> i64 + Sync>(
+/// The energy of a move whose sites were decided first. Where more are open than one net takes, it
+/// is that of the last strip.
+fn build_decided<F: Fn(u32, u32) -> i64 + Sync, V: Fn(u32, u32) -> i64 + Sync, H: How>(
     alloc: Global,
     problem: &Problem<F, V>,
     space: &mut Workspace,
     at: &[u8],
     change: Move,
-    strip: usize,
+    how: &H,
 ) -> Result<(), BuildError>
+    requires ready { H.ready how.now }
     requires asked { IsAsked problem.now at.now change }
     requires posed { IsPosed F.Fn V.Fn problem.now }
     requires by_site { IsGroupedFor problem.now.pairs space.old }
@@ -336,9 +341,10 @@ fn build_decided<F: Fn(u32, u32) -> i64 + Sync, V: Fn(u32, u32) -> i64 + Sync>(
     ensures built { Meant F.Fn V.Fn problem.now (λ m. IsBuiltPlain m change at.now space.new.built result) }
 {
     decide(alloc, problem, space, at, change)?;
-    let many = strip > 0 && space.deciding.lists.count > strip;
-    if many {
-        build_strips(alloc, problem, space, at, change, strip)?;
+    let opened = space.deciding.lists.count;
+    let strip = strip_size(how.strip_sites(), how.sides_at_once(), opened);
+    if let Some(size) = strip {
+        build_strips(alloc, problem, space, at, change, size, how)?;
         return Ok(());
     }
     build_open(alloc, problem, space, at, change)?;
@@ -368,15 +374,15 @@ fn build_whole<F: Fn(u32, u32) -> i64 + Sync, V: Fn(u32, u32) -> i64 + Sync>(
 }
 
 /// The energy of a move where no label costs anything by itself, its sites decided first or not.
-fn build_plain<F: Fn(u32, u32) -> i64 + Sync, V: Fn(u32, u32) -> i64 + Sync>(
+fn build_plain<F: Fn(u32, u32) -> i64 + Sync, V: Fn(u32, u32) -> i64 + Sync, H: How>(
     alloc: Global,
     problem: &Problem<F, V>,
     space: &mut Workspace,
     at: &[u8],
     change: Move,
-    decides: bool,
-    strip: usize,
+    how: &H,
 ) -> Result<(), BuildError>
+    requires ready { H.ready how.now }
     requires asked { IsAsked problem.now at.now change }
     requires posed { IsPosed F.Fn V.Fn problem.now }
     requires by_site { IsGroupedFor problem.now.pairs space.old }
@@ -387,8 +393,8 @@ fn build_plain<F: Fn(u32, u32) -> i64 + Sync, V: Fn(u32, u32) -> i64 + Sync>(
     ensures few { OnOk result (vec_len space.new.built.form.weights ≤ site_limit) }
     ensures built { Meant F.Fn V.Fn problem.now (λ m. IsBuiltPlain m change at.now space.new.built result) }
 {
-    if decides {
-        build_decided(alloc, problem, space, at, change, strip)
+    if how.decides_first() {
+        build_decided(alloc, problem, space, at, change, how)
     } else {
         build_whole(alloc, problem, space, at, change)
     }
@@ -434,15 +440,15 @@ fn build_costed<F: Fn(u32, u32) -> i64 + Sync, V: Fn(u32, u32) -> i64 + Sync>(
 
 /// The energy of a move: with label costs nothing is decided, and without them its sites are
 /// decided first or not.
-pub(crate) fn build_move<F: Fn(u32, u32) -> i64 + Sync, V: Fn(u32, u32) -> i64 + Sync>(
+pub(crate) fn build_move<F: Fn(u32, u32) -> i64 + Sync, V: Fn(u32, u32) -> i64 + Sync, H: How>(
     alloc: Global,
     problem: &Problem<F, V>,
     space: &mut Workspace,
     at: &[u8],
     change: Move,
-    decides: bool,
-    strip: usize,
+    how: &H,
 ) -> Result<(), BuildError>
+    requires ready { H.ready how.now }
     requires asked { IsAsked problem.now at.now change }
     requires posed { IsPosed F.Fn V.Fn problem.now }
     requires few { problem.now.data_cost.labels ≤ label_limit }
@@ -458,12 +464,12 @@ pub(crate) fn build_move<F: Fn(u32, u32) -> i64 + Sync, V: Fn(u32, u32) -> i64 +
     let costs = costs_of(&problem.label_costs);
     let costly = has_cost(costs);
     match change {
-        Move::Swap(_, _) => build_plain(alloc, problem, space, at, change, decides, strip),
+        Move::Swap(_, _) => build_plain(alloc, problem, space, at, change, how),
         Move::Expand(alpha) => {
             if costly {
                 return build_costed(alloc, problem, space, at, alpha, costs);
             }
-            build_plain(alloc, problem, space, at, change, decides, strip)
+            build_plain(alloc, problem, space, at, change, how)
         }
     }
 }
