@@ -53,8 +53,8 @@ build_strips-requires-clause-table g c = λ κs lives. c.in_ok-decide.ensures.ta
 pub build_strips-requires-clause-rises : goal.build_strips-requires-clause-rises
 build_strips-requires-clause-rises g c = λ κs lives m meant. c.in_ok-decide.ensures.rises m meant
 
-pub returns-then-many-clause-built : goal.returns-then-many-clause-built
-returns-then-many-clause-built g c = λ m meant.
+pub returns-in-Some-clause-built : goal.returns-in-Some-clause-built
+returns-in-Some-clause-built g c = λ m meant.
     let decided = c.in_ok-decide.ensures.decided m meant in
     let pairs = pairs_meant _ _ _ m c.requires.posed meant in
     let made = c.build_strips.new.space.built in
