@@ -1,4 +1,4 @@
-use Rattle.std.proofs.Common.{◌≡◌, ◌≤◌, ◌∙◌, List, ℕ, length, vec_len, refl, sym, ap, subst, arith}
+use Rattle.std.proofs.Common.{◌≡◌, ◌∙◌, length, vec_len, refl, sym, ap, subst, arith}
 use Rattle.cost_store.proofs.Meaning.{pairs_meant}
 use Rattle.labellings.specs.Energies.{labelling}
 use Rattle.flow_network.specs.Cut.{set_of}

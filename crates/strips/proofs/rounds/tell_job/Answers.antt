@@ -1,17 +1,14 @@
-use Rattle.std.proofs.Common.{◌≡◌, ◌∙◌, ℕ, List, Result, Ok, ap, subst}
+use Rattle.std.proofs.Common.{◌≡◌, ◌∙◌, ℕ, Result, Ok, ap, subst}
 use Rattle.std.specs.Prelude.{Option, Some, IfSome, IfOk, filter}
 use Rattle.std.specs.declared.alloc.AllocError.{AllocError}
-use Rattle.labellings.specs.declared.change.Move.{Move}
-use Rattle.labellings.specs.Energies.{Instance}
 use Rattle.plain_cut.specs.declared.both.BothSides.{BothSides}
-use Rattle.move_energy.specs.declared.choice.Choice.{Choice}
 use Rattle.move_energy.specs.Choices.{choice_at, open_at, AreOpenSites}
 use Rattle.deciding.specs.MoveValues.{move_value}
 use Rattle.deciding.proofs.Rises.{move_falls, move_over}
 use Rattle.closing_in.specs.Agreeing.{Agree, ChooseMore}
 use Rattle.strips.specs.Rounds.{AreBounds}
 use Rattle.strips.specs.Views.{strip_view}
-use Rattle.strips.proofs.Ranges.{HasTold, told_keeps, told_opened, told_others, on_ok}
+use Rattle.strips.proofs.Ranges.{told_keeps, told_opened, told_others, on_ok}
 use Rattle.strips.proofs.rounds.tell_job.Goals as goal
 
 pub returns-in-Ok-clause-goes_on : goal.returns-in-Ok-clause-goes_on
