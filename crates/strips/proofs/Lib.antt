@@ -5,5 +5,5 @@ pub mod Inside
 pub mod Laying
 pub mod Lessening
 pub mod Listing
-pub mod Rounds
+pub mod Ranges
 pub mod Views

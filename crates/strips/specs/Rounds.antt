@@ -45,7 +45,8 @@ Tells m move f known opened job =
     IfSome job.sides (λ answer. IfOk answer (AreBounds m move f known opened))
 
 -- range after range from the first site to this one, each with its open sites in a list
-pub record AreRanges (known : List Choice) (bounds : List ℕ) (lists : List (Vec ℕ)) (to : ℕ) : Type 0 where
+pub record AreRanges (known : List Choice) (bounds : List ℕ) (lists : List (Vec ℕ)) (to : ℕ)
+    : Type 0 where
   pub count : length bounds ≡ length lists + 1
   pub first : slice_index bounds 0 ≡ 0
   pub last : slice_index bounds (length lists) ≡ to
@@ -60,7 +61,8 @@ pub record AreLaidOut (lists : List (Vec ℕ)) (jobs : List SidesJob) : Type 0 w
   pub each : (k : ℕ) (list : Vec ℕ) (job : SidesJob) → k < length lists
       → IsLaidOut (length (slice_index_or lists k list).items) (slice_index_or jobs k job)
 
-abbrev pub AllWillTell : Instance → Move → (ℕ → ℕ) → List Choice → List (Vec ℕ) → List SidesJob → Type 0
+abbrev pub AllWillTell : Instance → Move → (ℕ → ℕ) → List Choice → List (Vec ℕ) → List SidesJob
+    → Type 0
 AllWillTell m move f known lists jobs = (k : ℕ) (list : Vec ℕ) (job : SidesJob) → k < length lists
     → WillTell m move f known (slice_index_or lists k list).items (slice_index_or jobs k job)
 

@@ -1,7 +1,6 @@
 //! A round of strips: laid out one after another, cut together, and told one after another.
-ghost use Rattle.std.specs.Prelude.{◌≡◌, ◌<◌, ◌≤◌, ◌++◌, [], ℕ, ℤ, Bool, List, All, filter, length};
-ghost use Rattle.std.specs.Prelude.{IsSome, IfSome, IfOk, OnOk};
-ghost use Rattle.label_field.specs.Limits.{site_limit};
+ghost use Rattle.std.specs.Prelude.{◌≡◌, ◌<◌, ◌≤◌, ◌++◌, ℕ, ℤ, Bool, false, List, All, filter};
+ghost use Rattle.std.specs.Prelude.{length, OnOk};
 ghost use Rattle.labellings.specs.declared.change.Move.{Move as AnyMove};
 ghost use Rattle.labellings.specs.Energies.{Instance, IsInstance, labelling};
 ghost use Rattle.labellings.specs.Moves.{IsAllowed};
@@ -131,9 +130,10 @@ fn tell_job(
         choice_at known.new.items p ≡ choice_at known.old.items p }
     ensures left { OnOk result (left.new.items
         ≡ left.old.items ++ filter (open_at known.new.items) opened.now) }
-    ensures opened { (from to : ℕ) → AreOpenSites (strip_view known.old.items from to) opened.now →
+    ensures opened { OnOk result ((from to : ℕ) →
+        AreOpenSites (strip_view known.old.items from to) opened.now →
         AreOpenSites (strip_view known.new.items from to)
-        (filter (open_at known.new.items) opened.now) }
+        (filter (open_at known.new.items) opened.now)) }
     ensures agree { (m : Instance) (move : AnyMove) (f : ℕ → ℕ) (first : List AnyChoice) →
         IsInstance m → IsAllowed m move f → m.sites ≤ length known.old.items →
         Tells m move f first opened.now job.now →
@@ -144,8 +144,10 @@ fn tell_job(
         × ChooseMore m.sites (choice_at first) (choice_at known.new.items)) }
 {
     match &job.sides {
-        Some(Ok(sides)) => tell_strip(known, opened, left, sides),
-        Some(Err(error)) => Err(*error),
+        Some(answer) => match answer {
+            Ok(sides) => tell_strip(known, opened, left, sides),
+            Err(error) => Err(*error),
+        },
         None => Ok(()),
     }
 }

@@ -1,4 +1,4 @@
-use Rattle.std.proofs.Common.{◌≡◌, ◌<◌, ◌≤◌, ◌+◌, ◌∙◌, ℕ, ℤ, ◌+ℤ◌, pos, List, length, map, sum_by, ap, refl, sym, subst, arith}
+use Rattle.std.proofs.Common.{◌≡◌, ◌≤◌, ◌+◌, ◌∙◌, ℕ, ℤ, ◌+ℤ◌, pos, List, length, map, sum_by, ap, refl, sym, subst, arith}
 use Rattle.cost_store.proofs.Meaning.{pairs_meant}
 use Rattle.labellings.specs.Energies.{labelling}
 use Rattle.move_energy.specs.declared.choice.Choice.{Choice}

@@ -1,4 +1,4 @@
-use Rattle.std.proofs.Common.{◌≡◌, ◌<◌, ◌≤◌}
+use Rattle.std.proofs.Common.{◌<◌, ◌≤◌}
 use Rattle.move_energy.specs.Choices.{AreOpenSites}
 use Rattle.strips.specs.Views.{strip_view}
 use Rattle.strips.proofs.opening.list_next.Given as goal

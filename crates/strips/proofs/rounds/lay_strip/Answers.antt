@@ -1,4 +1,4 @@
-use Rattle.std.proofs.Common.{◌≡◌, ◌≤◌, ◌∙◌, List, ℕ, length, vec_len, sym, ap, subst, arith}
+use Rattle.std.proofs.Common.{◌≡◌, ◌∙◌, length, vec_len, refl, sym, ap, subst, arith}
 use Rattle.cost_store.proofs.Meaning.{pairs_meant}
 use Rattle.labellings.specs.Energies.{labelling}
 use Rattle.flow_network.specs.Cut.{set_of}
@@ -26,7 +26,7 @@ returns-clause-laid g c =
     let bounded = subst P (sym c.replace-form.ensures.value) c.in_ok-build_strip.ensures.bounded in
     let nodes = made.nodes ∙ ap (λ (form : Quadratic). vec_len form.weights) c.replace-form.ensures.value ∙ c.in_ok-build_strip.ensures.nodes in
     record {
-      some = tt;
+      some = refl;
       nodes_are = nodes;
       can_cut = widened_net net c.build_strip.new.borders.items made.limits (c.in_ok-build_strip.ensures.count ∙ sym nodes)
           (omega (arith, made.total, bounded.size, c.in_ok-build_strip.ensures.small));

@@ -1,17 +1,16 @@
-use Rattle.std.proofs.Common.{◌≡◌, ◌<◌, ◌∙◌, ℕ, Bool, true, false, pos, ◌<ℤ◌, ◌≤ℤ◌, length, unsigned_abs, ap, subst, sym, arith}
+use Rattle.std.proofs.Common.{◌≡◌, ◌<◌, ◌∙◌, Bool, true, false, pos, ◌≤ℤ◌, length, unsigned_abs, ap, subst, sym, arith}
 use Rattle.std.proofs.lemmas.Int.{ints}
 use Rattle.std.proofs.lemmas.Result.{on_ok_weaker}
 use Rattle.label_field.specs.declared.pair.Pair.{Pair}
-use Rattle.label_field.specs.PairLists.{IsPair}
 use Rattle.labellings.specs.Energies.{labelling}
 use Rattle.sums.specs.Sums.{counted}
 use Rattle.move_energy.specs.BySite.{is_counted, pair_beside}
-use Rattle.move_energy.specs.Built.{AddsCost, IsLonger}
+use Rattle.move_energy.specs.Built.{AddsCost}
 use Rattle.move_energy.specs.Choices.{choice_at, open_at, rank}
 use Rattle.move_energy.specs.Weights.{are_open, unsaved}
 use Rattle.move_energy.proofs.Numbers.{rank_below}
-use Rattle.move_energy.proofs.Adding.{counted_longer, uncounted_longer, counted_adds, uncounted_adds}
-use Rattle.move_energy.proofs.Weighed.{surplus_counted, surplus_adds, surplus_none, surplus_passed, number_read, first_open, second_open}
+use Rattle.move_energy.proofs.Adding.{counted_adds, uncounted_adds}
+use Rattle.move_energy.proofs.Weighed.{surplus_counted, surplus_adds, surplus_none, surplus_passed, first_open, second_open}
 use Rattle.strips.specs.Views.{strip_view}
 use Rattle.strips.proofs.Views.{view_length, inside_is}
 use Rattle.strips.proofs.Borders.{regular_beside}

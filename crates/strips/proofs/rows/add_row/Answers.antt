@@ -1,13 +1,11 @@
-use Rattle.std.proofs.Common.{◌≡◌, ◌<◌, ◌≤◌, ◌+◌, ◌-◌, ◌∙◌, ℕ, Bool, subst, sym, arith, w64, to_z}
+use Rattle.std.proofs.Common.{◌≡◌, ◌<◌, ◌≤◌, ◌+◌, ◌-◌, ◌∙◌, ℕ, Bool, arith, w64, to_z}
 use Rattle.label_field.specs.declared.pair.Pair.{Pair}
 use Rattle.labellings.specs.Energies.{labelling}
-use Rattle.move_energy.specs.BySite.{degree, start_at, met_below, pair_beside}
-use Rattle.move_energy.specs.Built.{AddsCost, IsLonger}
+use Rattle.move_energy.specs.BySite.{degree, start_at}
 use Rattle.move_energy.specs.Choices.{choice_at, open_at, rank}
 use Rattle.move_energy.specs.Weights.{unsaved}
 use Rattle.move_energy.proofs.Parts.{start_read, starts_rise, head_read}
-use Rattle.move_energy.proofs.Steps.{longer_none}
-use Rattle.move_energy.proofs.Adding.{cost_none, met_longer, met_adds, met_room}
+use Rattle.move_energy.proofs.Adding.{met_room}
 use Rattle.deciding.proofs.Left.{degree_most}
 use Rattle.closing_in.specs.Borders.{not_ones, range_of}
 use Rattle.closing_in.proofs.Rooms.{total_is, total_all}

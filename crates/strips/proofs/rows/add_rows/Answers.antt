@@ -1,6 +1,5 @@
 use Rattle.std.proofs.Common.{◌<◌, ◌≤◌, ◌-ℤ◌, ◌∙◌, ℕ, ℤ, Bool, List, get_or, unsigned_abs, ap, sym, refl, length, sum, sum_by, arith}
 use Rattle.std.proofs.lemmas.Grind.{common_steps}
-use Rattle.label_field.specs.declared.pair.Pair.{Pair}
 use Rattle.labellings.specs.Energies.{labelling}
 use Rattle.compile_cut.specs.Weights.{weights_size}
 use Rattle.move_energy.specs.BySite.{degree, met_at}

@@ -1,6 +1,6 @@
 -- Ranges of sites told one after another: the sites that are left open, in their order.
 use Rattle.std.proofs.Common.{◌≡◌, ◌<◌, ◌≤◌, ◌++◌, ◌∷◌, [], ℕ, zero, suc, Bool, true, false, cond, List, length, Result, Ok, Err, refl, sym, ap, subst, ◌+◌, ◌∙◌, inl, inr, append_assoc, arith}
-use Rattle.std.specs.Prelude.{Option, Some, None, IsSome, IfSome, IfOk, slice_index, slice_index_or}
+use Rattle.std.specs.Prelude.{Option, Some, None, IsSome, IfSome, IfOk, OnOk, slice_index, slice_index_or}
 use Rattle.std.specs.Global.{Vec}
 use Rattle.std.specs.declared.alloc.AllocError.{AllocError}
 use Rattle.std.proofs.lemmas.Bool.{cases_lt}
@@ -177,11 +177,11 @@ bits_by : (sites : ℕ) (net : Option Network) (answer : Option (Result BothSide
 bits_by sites (Some n) (Some (Ok sides)) more some count cut = (cut.lower_bits ∙ count, cut.upper_bits ∙ count)
 bits_by sites (Some n) (Some (Err e)) more some count cut = tt
 bits_by sites (Some n) None more some count cut = tt
-bits_by sites None answer more some count cut = absurd some
+bits_by sites None answer more some count cut = absurd (cc (some))
 
 some_by : (net : Option Network) (answer : Option (Result BothSides AllocError)) → IsSome net → IfSome net (λ n. IsSome answer) → IsSome answer
 some_by (Some n) answer some is = is
-some_by None answer some is = absurd some
+some_by None answer some is = absurd (cc (some))
 
 pub answered_of : (sites : ℕ) (before after : SidesJob) → IsLaidOut sites before → IsCutTwice before after → IsAnswered sites after
 answered_of sites before after laid cut = record {
@@ -195,7 +195,7 @@ tells_by : (B : BothSides → Type 0) (net : Option Network) (answer : Option (R
 tells_by B (Some n) (Some (Ok sides)) more some will cut = will sides cut
 tells_by B (Some n) (Some (Err e)) more some will cut = tt
 tells_by B (Some n) None more some will cut = tt
-tells_by B None answer more some will cut = absurd some
+tells_by B None answer more some will cut = absurd (cc (some))
 
 pub tells_of : (m : Instance) (move : Move) (f : ℕ → ℕ) (known : List Choice) (opened : List ℕ) (before after : SidesJob) (sites : ℕ) → IsLaidOut sites before → IsCutTwice before after
     → WillTell m move f known opened before → Tells m move f known opened after
@@ -292,3 +292,25 @@ ranges_more known bounds lists from to list are order listed =
             subst Q (sym one) (subst S (sym begin) (subst T (sym end) listed))
       ];
     }
+
+-- ---- what holds anyway holds where it is answered
+
+pub on_ok : {A B : Type 0} (r : Result A B) (P : Type 0) → P → OnOk r P
+on_ok (Ok a) P holds = holds
+on_ok (Err e) P holds = tt
+
+-- ---- the range whose turn it is
+
+pub first_listed : (first : List Choice) (bounds : List ℕ) (lists : List (Vec ℕ)) (to place : ℕ) (list : Vec ℕ) (opened : List ℕ) → AreRanges first bounds lists to
+    → place < length lists → opened ≡ (slice_index_or lists place list).items
+    → AreOpenSites (strip_view first (slice_index bounds place) (slice_index bounds (place + 1))) opened
+first_listed first bounds lists to place list opened are l same =
+    let O : List ℕ → Type 0 = λ xs. AreOpenSites (strip_view first (slice_index bounds place) (slice_index bounds (place + 1))) xs in
+    subst O (sym same) (are.listed place list l)
+
+pub now_listed : (first known : List Choice) (bounds : List ℕ) (lists : List (Vec ℕ)) (to place : ℕ) (list : Vec ℕ) (opened : List ℕ) → AreRanges first bounds lists to
+    → place < length lists → opened ≡ (slice_index_or lists place list).items → length known ≡ length first
+    → ((p : ℕ) → slice_index bounds place ≤ p → choice_at known p ≡ choice_at first p)
+    → AreOpenSites (strip_view known (slice_index bounds place) (slice_index bounds (place + 1))) opened
+now_listed first known bounds lists to place list opened are l same count ahead =
+    still_listed first known (slice_index bounds place) (slice_index bounds (place + 1)) opened count (first_listed first bounds lists to place list opened are l same) ahead
