@@ -1,8 +1,8 @@
 -- From the form of a strip to what it tells.
-use Rattle.std.proofs.Common.{◌≡◌, ◌≢◌, ◌==◌, ◌&&◌, ◌||◌, ◌<◌, ◌≤◌, ◌+◌, ℕ, Bool, true, false, not, cond, List, length, get_or, nat_lt, ℤ, pos, ◌+ℤ◌, vec_len, refl, sym, ap, ◌∙◌, inl, inr, subst, arith}
-use Rattle.std.specs.Prelude.{◌↔◌, filter, slice_index, slice_index_or}
+use Rattle.std.proofs.Common.{◌≡◌, ◌≢◌, ◌==◌, ◌&&◌, ◌||◌, ◌<◌, ℕ, Bool, true, false, not, cond, List, length, get_or, ℤ, pos, ◌+ℤ◌, vec_len, refl, sym, ap, ◌∙◌, inl, inr, subst, arith}
+use Rattle.std.specs.Prelude.{filter, slice_index, slice_index_or}
 use Rattle.std.specs.List.{sum_by, Contains}
-use Rattle.std.proofs.lemmas.Bool.{cases_eq, cases_lt, cases_Bool}
+use Rattle.std.proofs.lemmas.Bool.{cases_lt}
 use Rattle.std.proofs.lemmas.List.{get_or_past}
 use Rattle.std.proofs.lemmas.List.Elements.{Contains-get_or}
 use Rattle.std.proofs.lemmas.Grind.{get_or_default_zero}
@@ -17,16 +17,16 @@ use Rattle.compile_cut.specs.Quadratics.{quadratic_value}
 use Rattle.move_energy.specs.declared.choice.Choice.{Choice}
 use Rattle.move_energy.specs.declared.choice.Choice.TheVariants.{Open, Zero, One}
 use Rattle.move_energy.specs.BySite.{listing}
-use Rattle.move_energy.specs.Choices.{choice_at, is_open, open_at, open_count, rank, AreOpenSites, StandsFor}
+use Rattle.move_energy.specs.Choices.{choice_at, is_open, open_at, rank, AreOpenSites, StandsFor}
 use Rattle.move_energy.specs.Weights.{pair_surplus}
 use Rattle.move_energy.proofs.Numbers.{rank_below}
 use Rattle.move_energy.proofs.Opened.{opened_has, opened_place, opened_count, true_open, open_true}
-use Rattle.deciding.specs.Decisions.{IsSmallestLeast, IsSubmodular, IsOver}
+use Rattle.deciding.specs.Decisions.{IsSmallestLeast}
 use Rattle.deciding.specs.MoveValues.{move_value}
 use Rattle.deciding.proofs.Rises.{move_falls, move_over}
-use Rattle.closing_in.specs.Fixing.{fixed_value, IsLeast}
+use Rattle.closing_in.specs.Fixing.{fixed_value}
 use Rattle.closing_in.specs.Agreeing.{Agree, or_else, joined}
-use Rattle.closing_in.specs.Strips.{Strip, others_at, lower_value, upper_value, IsBounded, told, told_by}
+use Rattle.closing_in.specs.Strips.{Strip, others_at, IsBounded, told_by}
 use Rattle.closing_in.specs.Borders.{range_of, is_inside, is_beyond, border_at}
 use Rattle.closing_in.specs.Forms.{bits_by_site, IsOneToOne}
 use Rattle.closing_in.specs.Telling.{IsListed}

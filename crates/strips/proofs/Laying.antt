@@ -1,13 +1,12 @@
 -- The weights of a strip laid on the form of what its pairs save, and what that stands for then.
-use Rattle.std.proofs.Common.{◌≡◌, ℕ, ◌+◌, ◌-◌, ◌*◌, ◌<◌, ◌≤◌, ◌++◌, ◌∷◌, [], Bool, List, length, vec_len, take, set, get_or, All, map, sum_by, ℤ, pos, ◌+ℤ◌, unsigned_abs, w64, to_z, of_z, lit<, refl, sym, ap, ◌∙◌, subst, arith}
+use Rattle.std.proofs.Common.{◌≡◌, ℕ, ◌+◌, ◌-◌, ◌*◌, ◌<◌, ◌≤◌, Bool, List, length, vec_len, take, set, get_or, All, map, sum_by, ℤ, pos, ◌+ℤ◌, unsigned_abs, w64, to_z, of_z, lit<, refl, sym, ap, ◌∙◌, subst, arith}
 use Rattle.std.specs.Global.{Vec}
 use Rattle.std.proofs.lemmas.Int.{ints, to_z-of_z}
 use Rattle.std.proofs.lemmas.List.{take_more, take_all, length-take-le, length-map}
 use Rattle.std.proofs.lemmas.List.Sums.{sum_by-set, sum_by_more, sum_by-take-le, get_or-le-sum_by}
 use Rattle.sums.proofs.IntegerSumLemmas.{within_fits, abs-add}
 use Rattle.sums.specs.IntegerSums.{int_counted}
-use Rattle.label_field.specs.declared.pair.Pair.{Pair}
-use Rattle.label_field.specs.PairLists.{IsPair, IsPairList, PairList}
+use Rattle.label_field.specs.PairLists.{PairList}
 use Rattle.labellings.specs.declared.change.Move.{Move}
 use Rattle.labellings.specs.Energies.{Instance, IsInstance}
 use Rattle.labellings.specs.Moves.{IsAllowed}
@@ -15,7 +14,7 @@ use Rattle.pseudo_bool.specs.Energies.{entry}
 use Rattle.flow_network.specs.Cut.{IsArc}
 use Rattle.flow_network.specs.declared.arc.Arc.{Arc}
 use Rattle.compile_cut.specs.declared.quadratic.Quadratic.{Quadratic}
-use Rattle.compile_cut.specs.Quadratics.{quadratic_value, IsBounded, IsConstant}
+use Rattle.compile_cut.specs.Quadratics.{IsBounded, IsConstant}
 use Rattle.compile_cut.specs.Weights.{weights_value, weights_size, arcs_value, arcs_size, IsAbove}
 use Rattle.compile_cut.proofs.TermLemmas.{bounded-weaker, constant_value, constant_nodes}
 use Rattle.compile_cut.proofs.WeightLemmas.{weights_value-add, weights_value-push}
@@ -24,7 +23,7 @@ use Rattle.move_energy.specs.declared.choice.Choice.{Choice}
 use Rattle.move_energy.specs.BySite.{AreBySite, met_at}
 use Rattle.move_energy.specs.Built.{AddsCost, IsLonger}
 use Rattle.move_energy.specs.Choices.{choice_at, open_at, rank, AreOpenSites, StandsFor}
-use Rattle.move_energy.specs.Weights.{AreWeights, IsOfWeights, unsaved, weight_at, open_weights}
+use Rattle.move_energy.specs.Weights.{AreWeights, IsOfWeights, unsaved, open_weights}
 use Rattle.move_energy.proofs.Opened.{opened_within}
 use Rattle.move_energy.proofs.Weighed.{form_value, weighted_stands, listed_weights_are, listed_savings}
 use Rattle.strips.specs.Views.{strip_view, KeepsChosen, weight_now}

@@ -1,18 +1,18 @@
 -- The open sites of a strip, one after another.
-use Rattle.std.proofs.Common.{◌≡◌, ◌≢◌, ◌<◌, ◌≤◌, ◌+◌, ◌++◌, ◌∷◌, [], ℕ, zero, suc, Bool, true, false, cond, List, length, refl, sym, ap, ◌∙◌, inl, inr, subst, add-one, arith}
+use Rattle.std.proofs.Common.{◌≡◌, ◌≢◌, ◌<◌, ◌≤◌, ◌+◌, ◌++◌, ◌∷◌, [], ℕ, zero, suc, Bool, true, false, cond, List, length, refl, sym, ap, ◌∙◌, inl, inr, add-one, arith}
 use Rattle.std.specs.Prelude.{filter}
-use Rattle.std.proofs.lemmas.Bool.{cases_eq, cases_lt, cases_Bool}
+use Rattle.std.proofs.lemmas.Bool.{cases_eq, cases_lt}
 use Rattle.std.proofs.lemmas.List.{append-nil}
 use Rattle.std.proofs.lemmas.List.Elements.{filter-append}
 use Rattle.move_energy.specs.declared.choice.Choice.{Choice}
 use Rattle.move_energy.specs.declared.choice.Choice.TheVariants.{Open, Zero, One}
 use Rattle.move_energy.specs.BySite.{listing}
 use Rattle.move_energy.specs.Choices.{choice_at, is_open, open_at, AreOpenSites}
-use Rattle.move_energy.proofs.Opened.{open_true, true_open}
+use Rattle.move_energy.proofs.Opened.{open_true}
 use Rattle.closing_in.specs.Agreeing.{or_else}
 use Rattle.closing_in.specs.Borders.{range_of}
-use Rattle.strips.specs.Views.{seen, strip_view}
-use Rattle.strips.proofs.Views.{in_range, above_range, below_range, range_more, view_length, view_is, open_is, seen_in, seen_out, open_inside, inside_open, whole_is}
+use Rattle.strips.specs.Views.{strip_view}
+use Rattle.strips.proofs.Views.{in_range, above_range, below_range, range_more, view_length, open_is, seen_out, inside_open, whole_is}
 
 -- ---- lists of sites
 

@@ -23,7 +23,7 @@ use Rattle.solvers.specs.declared.jobs.SidesJob.{SidesJob}
 use Rattle.solvers.specs.Jobs.{AreSides, IsCutTwice, AreCutTwice}
 use Rattle.closing_in.specs.Strips.{Strip, told, told_by}
 use Rattle.closing_in.specs.Telling.{IsListed}
-use Rattle.strips.specs.Rounds.{AreBounds, IsLaidOut, WillTell, IsAnswered, Tells, AreRanges, AreLaidOut, AllWillTell, AreAnswered, AllTell}
+use Rattle.strips.specs.Rounds.{AreBounds, IsLaidOut, WillTell, HasSides, Tells, AreRanges, AreLaidOut, AllWillTell, AreAnswered, AllTell}
 use Rattle.strips.specs.Views.{KeepsChosen, strip_view}
 use Rattle.strips.proofs.Views.{in_range, above_range, below_range, second_of, view_length, open_is, seen_in, seen_out, shut}
 use Rattle.strips.proofs.Bounding.{strip_of, strip_listed, told_goes_on, told_left}
@@ -183,7 +183,7 @@ some_by : (net : Option Network) (answer : Option (Result BothSides AllocError))
 some_by (Some n) answer some is = is
 some_by None answer some is = absurd (cc (some))
 
-pub answered_of : (sites : ℕ) (before after : SidesJob) → IsLaidOut sites before → IsCutTwice before after → IsAnswered sites after
+pub answered_of : (sites : ℕ) (before after : SidesJob) → IsLaidOut sites before → IsCutTwice before after → HasSides sites after
 answered_of sites before after laid cut = record {
   some = some_by before.net after.sides laid.some cut.answered;
   bits = bits_by sites before.net after.sides before.more.items laid.some laid.nodes_are cut.sides;

@@ -34,7 +34,7 @@ WillTell m move f known opened job = IfSome job.net (λ net. (sides : BothSides)
     → AreSides net job.more.items sides → AreBounds m move f known opened sides)
 
 -- the job was cut, and its sides have a bit for each of so many sites, unless memory was refused
-pub record IsAnswered (sites : ℕ) (job : SidesJob) : Type 0 where
+pub record HasSides (sites : ℕ) (job : SidesJob) : Type 0 where
   pub some : IsSome job.sides
   pub bits : IfSome job.sides (λ answer. IfOk answer (λ sides.
       (length sides.lower.items ≡ sites) × (length sides.upper.items ≡ sites)))
@@ -61,8 +61,8 @@ pub record AreLaidOut (lists : List (Vec ℕ)) (jobs : List SidesJob) : Type 0 w
   pub each : (k : ℕ) (list : Vec ℕ) (job : SidesJob) → k < length lists
       → IsLaidOut (length (slice_index_or lists k list).items) (slice_index_or jobs k job)
 
-abbrev pub AllWillTell : Instance → Move → (ℕ → ℕ) → List Choice → List (Vec ℕ) → List SidesJob
-    → Type 0
+abbrev pub AllWillTell : Instance → Move → (ℕ → ℕ) → List Choice → List (Vec ℕ)
+    → List SidesJob → Type 0
 AllWillTell m move f known lists jobs = (k : ℕ) (list : Vec ℕ) (job : SidesJob) → k < length lists
     → WillTell m move f known (slice_index_or lists k list).items (slice_index_or jobs k job)
 
@@ -70,7 +70,7 @@ AllWillTell m move f known lists jobs = (k : ℕ) (list : Vec ℕ) (job : SidesJ
 pub record AreAnswered (lists : List (Vec ℕ)) (jobs : List SidesJob) : Type 0 where
   pub count : length jobs ≡ length lists
   pub each : (k : ℕ) (list : Vec ℕ) (job : SidesJob) → k < length lists
-      → IsAnswered (length (slice_index_or lists k list).items) (slice_index_or jobs k job)
+      → HasSides (length (slice_index_or lists k list).items) (slice_index_or jobs k job)
 
 abbrev pub AllTell : Instance → Move → (ℕ → ℕ) → List Choice → List (Vec ℕ) → List SidesJob → Type 0
 AllTell m move f known lists jobs = (k : ℕ) (list : Vec ℕ) (job : SidesJob) → k < length lists

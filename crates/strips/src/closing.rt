@@ -30,8 +30,8 @@ use solvers::{How, SidesJob};
 use std::alloc::{AllocError, Global};
 use std::mem::replace;
 
-/// The strips of a round: where they end, from the first site on, and of each its open sites and the
-/// job that cuts its net.
+/// The strips of a round: where they end, from the first site on, and of each its open sites and
+/// the job that cuts its net.
 #[derive(Drop)]
 struct Round {
     bounds: Vec<u32>,
@@ -283,8 +283,8 @@ impl Strips {
         Ok(end)
     }
 
-    /// Closes in all strips but the last, so many sites each, and the first of a round also what the
-    /// round before left open. A round has as many strips as are cut side by side.
+    /// Closes in all strips but the last, so many sites each, and the first of a round also what
+    /// the round before left open. A round has as many strips as are cut side by side.
     /// It leaves the choices that are known then, and the form of the last strip, whose open sites
     /// are listed: its least assignment is what is left to be found.
     pub fn close_in<F: Fn(u32, u32) -> i64 + Sync, V: Fn(u32, u32) -> i64 + Sync, H: How>(

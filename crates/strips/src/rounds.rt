@@ -18,7 +18,7 @@ ghost use Rattle.closing_in.specs.Agreeing.{Agree, ChooseMore, joined};
 ghost use Rattle.closing_in.specs.Borders.{range_of};
 ghost use Rattle.closing_in.specs.Strips.{Strip, IsBounded, told_by};
 ghost use Rattle.closing_in.specs.Telling.{IsListed};
-ghost use Rattle.strips.specs.Rounds.{IsLaidOut, WillTell, IsAnswered, Tells};
+ghost use Rattle.strips.specs.Rounds.{IsLaidOut, WillTell, HasSides, Tells};
 ghost use Rattle.strips.specs.Rounds.{AreRanges, AreAnswered, AllTell};
 ghost use Rattle.strips.specs.Views.{KeepsChosen, strip_view};
 
@@ -120,7 +120,7 @@ fn tell_job(
     job: &SidesJob,
 ) -> Result<(), AllocError>
     requires sites { All (λ site. site < length known.old.items) opened.now }
-    requires answered { IsAnswered (length opened.now) job.now }
+    requires answered { HasSides (length opened.now) job.now }
     ensures count { length known.new.items ≡ length known.old.items }
     ensures goes_on { (start : List AnyChoice) (from to : ℕ) →
         AreOpenSites (strip_view known.old.items from to) opened.now →

@@ -4,7 +4,7 @@ use Rattle.std.specs.Prelude.{slice_index, slice_index_or}
 use Rattle.solvers.specs.declared.jobs.SidesJob.{SidesJob}
 use Rattle.move_energy.specs.Choices.{AreOpenSites}
 use Rattle.move_energy.proofs.Opened.{opened_within}
-use Rattle.strips.specs.Rounds.{IsAnswered, Tells}
+use Rattle.strips.specs.Rounds.{HasSides, Tells}
 use Rattle.strips.specs.Views.{strip_view}
 use Rattle.strips.proofs.Views.{above_range, view_length}
 use Rattle.strips.proofs.Listing.{none_listed}
@@ -42,8 +42,8 @@ tell_job-requires-clause-answered c =
     let list = c.index-lists-place.result in
     let job = c.index-jobs-place.result in
     let same = c.deref.ensures.value ∙ ap (λ (v : Vec ℕ). v.items) c.index-lists-place.is in
-    let L : List ℕ → Type 0 = λ opened. IsAnswered (length opened) (slice_index_or c.args.jobs.now place job) in
-    let J : SidesJob → Type 0 = λ j. IsAnswered (length c.deref.result.now) j in
+    let L : List ℕ → Type 0 = λ opened. HasSides (length opened) (slice_index_or c.args.jobs.now place job) in
+    let J : SidesJob → Type 0 = λ j. HasSides (length c.deref.result.now) j in
     subst J (sym c.index-jobs-place.is) (subst L (sym same) (c.requires.answered.each place list job c.loop-place-test.true))
 
 pub returns-in_err-tell_job-clause-goes_on : goal.returns-in_err-tell_job-clause-goes_on

@@ -1,11 +1,10 @@
-use Rattle.std.proofs.Common.{◌≡◌, ◌<◌, ◌≤◌, ◌∙◌, ℕ, List, length, refl, sym, ap, subst, arith}
+use Rattle.std.proofs.Common.{◌≤◌, ℕ, List, length, sym, ap, subst, arith}
 use Rattle.labellings.specs.Energies.{labelling}
-use Rattle.compile_cut.specs.declared.quadratic.Quadratic.{Quadratic}
 use Rattle.move_energy.specs.declared.choice.Choice.{Choice}
 use Rattle.move_energy.specs.Choices.{choice_at, AreOpenSites, StandsFor, rank}
 use Rattle.deciding.specs.MoveValues.{move_value}
 use Rattle.closing_in.specs.Agreeing.{Agree}
-use Rattle.strips.specs.Views.{KeepsChosen, IsView, strip_view}
+use Rattle.strips.specs.Views.{strip_view}
 use Rattle.strips.proofs.Views.{whole_is, whole_rank}
 use Rattle.strips.proofs.Listing.{none_listed, whole_listed}
 use Rattle.strips.proofs.closing.Strips.close_in.Goals as goal
