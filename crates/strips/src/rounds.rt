@@ -1,6 +1,7 @@
 //! A round of strips: laid out one after another, cut together, and told one after another.
-ghost use Rattle.std.specs.Prelude.{◌≡◌, ◌<◌, ◌≤◌, ◌++◌, ℕ, ℤ, Bool, false, List, All, filter};
-ghost use Rattle.std.specs.Prelude.{length, OnOk};
+ghost use Rattle.std.specs.Prelude.{◌≡◌, ◌<◌, ◌≤◌, ◌++◌, ℕ, ℤ, Bool, false, List, All, filter, length};
+ghost use Rattle.std.specs.Prelude.{IsSome, IfSome, IfOk, OnOk};
+ghost use Rattle.label_field.specs.Limits.{site_limit};
 ghost use Rattle.labellings.specs.declared.change.Move.{Move as AnyMove};
 ghost use Rattle.labellings.specs.Energies.{Instance, IsInstance, labelling};
 ghost use Rattle.labellings.specs.Moves.{IsAllowed};
