@@ -150,8 +150,8 @@ impl Strips {
         let mut job = self.spare_job(alloc);
         let list = &mut self.list;
         lay_strip(
-            alloc, problem, ends, table, built, start, weights, &opened, from, to, at, change, list,
-            &mut job,
+            alloc, problem, ends, table, built, start, weights, &opened, from, to, at, change,
+            list, &mut job,
         )?;
         round.bounds.push(to)?;
         round.lists.push(opened)?;
@@ -278,7 +278,14 @@ impl Strips {
         )?;
         how.sides(alloc, round.jobs.as_mut_slice());
         let known = &mut built.variables.choices;
-        tell_round(known, &round.bounds, &round.lists, &round.jobs, &mut self.opened, end)?;
+        tell_round(
+            known,
+            &round.bounds,
+            &round.lists,
+            &round.jobs,
+            &mut self.opened,
+            end,
+        )?;
         self.keep_jobs(round.jobs)?;
         Ok(end)
     }

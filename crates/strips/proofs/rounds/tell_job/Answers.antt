@@ -15,13 +15,13 @@ pub returns-in-Ok-clause-goes_on : goal.returns-in-Ok-clause-goes_on
 returns-in-Ok-clause-goes_on c = λ start from to listed on.
     let sides = c.in-Ok.sides in
     told_keeps start c.args.known.now.items c.tell_strip.new.known.items from to c.args.opened.now sides.lower.items sides.upper.items
-    record { count = c.tell_strip.ensures.count; each = c.tell_strip.ensures.told; } listed on
+    record { count = c.tell_strip.ensures.count; each = c.tell_strip.ensures.told } listed on
 
 pub returns-in-Ok-clause-others : goal.returns-in-Ok-clause-others
 returns-in-Ok-clause-others c = λ from to listed p out.
     let sides = c.in-Ok.sides in
     told_others c.args.known.now.items c.tell_strip.new.known.items from to c.args.opened.now sides.lower.items sides.upper.items
-    record { count = c.tell_strip.ensures.count; each = c.tell_strip.ensures.told; } listed p out
+    record { count = c.tell_strip.ensures.count; each = c.tell_strip.ensures.told } listed p out
 
 pub returns-in-Ok-clause-opened : goal.returns-in-Ok-clause-opened
 returns-in-Ok-clause-opened c =
@@ -32,7 +32,7 @@ returns-in-Ok-clause-opened c =
     on_ok c.tell_strip.result
     ((from to : ℕ) → AreOpenSites (strip_view known from to) opened → AreOpenSites (strip_view new from to) (filter (open_at new) opened))
     (λ from to listed. told_opened known new from to opened sides.lower.items sides.upper.items
-    record { count = c.tell_strip.ensures.count; each = c.tell_strip.ensures.told; } listed)
+    record { count = c.tell_strip.ensures.count; each = c.tell_strip.ensures.told } listed)
 
 pub returns-in-Ok-clause-agree : goal.returns-in-Ok-clause-agree
 returns-in-Ok-clause-agree c = λ m move f first pairs allowed few tells start before more.
