@@ -62,8 +62,8 @@ With `--bound` the line `bound A B` comes after it: A times the energy is at mos
 picture. It is `bound none` where no such numbers are known: after swaps, where the last cycle still
 changed something, with a label cost above 0, and for costs that are no metric, as quadratic ones mostly.
 
-`--threads` has workers share the cuts; the picture is the same. Most of a large move is cut strip by
-strip on one thread, and workers cut what is left. A run takes about as long as without workers.
+`--threads` has threads share the cuts; the picture is the same. They cut the strips of a large move
+side by side, and workers cut what is left. Small pictures gain nothing by it.
 
 Exit status: 0 answered, 1 refused (standard error has one line `refused N ..`), 2 not understood.
 
@@ -102,8 +102,8 @@ With `--bound` the line `bound A B` comes after it: A times the energy is at mos
 labels. It is `bound none` where no such numbers are known: after swaps, where the last cycle still
 changed something, and for costs that are no metric, as quadratic ones mostly are.
 
-`--threads` has workers share the cuts; the picture is the same. Most of a large move is cut strip by
-strip on one thread, and workers cut what is left. A run takes about as long as without workers.
+`--threads` has threads share the cuts; the picture is the same. They cut the strips of a large move
+side by side, and workers cut what is left. Small pictures gain nothing by it.
 
 Exit status: 0 answered, 1 refused (standard error has one line `refused N ..`), 2 not understood.
 
@@ -136,8 +136,8 @@ an image with the label of each pixel. A free pixel's label costs its difference
 0) or the high one (label 1), a seed's other label 10000000. Two neighbours of unlike labels cost `strong`,
 or `weak` where an edge runs between them. Then standard error has the line `energy E data D smooth S`.
 
-`--threads` has workers share the cuts; the picture is the same. Most of a large move is cut strip by
-strip on one thread, and workers cut what is left. A run takes about as long as without workers.
+`--threads` has threads share the cuts; the picture is the same. They cut the strips of a large move
+side by side, and workers cut what is left. Small pictures gain nothing by it.
 
 Exit status: 0 answered, 1 refused (standard error has one line `refused N ..`), 2 not understood.
 
@@ -204,8 +204,8 @@ With `--bound` a third line is `bound A B`: A times the energy is at most B time
 It is `bound none` where no such numbers are known: after swaps, where the last cycle still changed
 something, with a label cost above 0, and where smooth is no metric, as quadratic costs mostly are none.
 
-`--threads` has workers share the cuts; the labels are the same. Most of a large move is cut strip by
-strip on one thread, and workers cut what is left. A run takes about as long as without workers.
+`--threads` has threads share the cuts; the labels are the same. They cut the strips of a large move
+side by side, and workers cut what is left. Small problems gain nothing by it.
 
 Exit status: 0 answered, 1 refused (standard error has one line `refused N ..`), 2 not understood.
 
