@@ -1,7 +1,8 @@
 use crate::building::{core_of, net_of};
 use crate::rows::expect;
-use discharge::finish;
-use parcel::{Core, Direction, Event, Message, State};
+use block_core::{Core, State};
+use block_cut::finish;
+use block_events::{Direction, Event, Message};
 use std::alloc::AllocError;
 use std::process::Abort;
 use std::test::Fail;
