@@ -2,11 +2,9 @@
 use Rattle.std.proofs.Common.{◌≡◌, ◌≢◌, ℕ, zero, suc, ◌+◌, ◌<◌, ◌≤◌, Bool, true, false, cond, eqb, List, [], ◌∷◌, ◌++◌, length, get_or, slice_index, refl, sym, arith}
 use Rattle.std.proofs.lemmas.Bool.{false≢true}
 use Rattle.flow_network.specs.Cut.{IsNet, IsArc}
-use Rattle.block_events.specs.declared.direction.Direction.{Direction}
-use Rattle.block_events.specs.declared.message.Message.{Message}
-use Rattle.block_events.specs.declared.message.Message.TheVariants.{Parcel}
-use Rattle.block_events.specs.Directions.{forward, backward, near}
-use Rattle.block_events.specs.States.{way_at}
+use Rattle.parcel.specs.Types.{Direction, Message, Parcel}
+use Rattle.parcel.specs.Directions.{forward, backward, near}
+use Rattle.parcel.specs.States.{way_at}
 use Rattle.block_tests.specs.Runs.{two_source_net}
 use Rattle.block_events.proofs.Opening.{opened_sound}
 use Rattle.block_net.specs.Views.{count, first_lane, first_border}

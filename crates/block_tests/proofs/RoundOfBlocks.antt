@@ -1,11 +1,11 @@
 -- A round that leaves a parcel on the way.
 use Rattle.std.proofs.Common.{◌≡◌, ◌≢◌, ℕ, zero, suc, ◌<◌, Bool, true, false, cond, eqb, [], ◌∷◌, ◌++◌, length, get_or, refl, arith}
-use Rattle.block_events.specs.declared.event.Event.TheVariants.{Relabel, Send}
-use Rattle.block_events.specs.Directions.{forward}
-use Rattle.block_events.specs.States.{State, lane_at, way_at, near_block, block_of, excess_of, label_of, room_of}
-use Rattle.block_events.specs.Events.{effect}
-use Rattle.block_events.specs.Workers.{IsHistory}
-use Rattle.block_events.specs.Rounds.{RoundOf}
+use Rattle.parcel.specs.Types.{Relabel, Send}
+use Rattle.parcel.specs.Directions.{forward}
+use Rattle.parcel.specs.States.{State, lane_at, way_at, near_block, block_of, excess_of, label_of, room_of}
+use Rattle.parcel.specs.Events.{effect}
+use Rattle.parcel.specs.Workers.{IsHistory}
+use Rattle.parcel.specs.Rounds.{RoundOf}
 use Rattle.block_tests.specs.Rounds.{opened_blocks, parcel_on_the_way, histories_of_blocks}
 
 abbrev mid0 : State

@@ -1,11 +1,10 @@
 -- A round over two nodes in two blocks that leaves a parcel on the way.
 use Rattle.std.specs.Prelude.{List, [], ◌∷◌}
-use Rattle.block_events.specs.declared.event.Event.{Event}
-use Rattle.block_events.specs.declared.event.Event.TheVariants.{Relabel, Send}
-use Rattle.block_events.specs.Directions.{forward}
-use Rattle.block_events.specs.States.{State}
-use Rattle.block_events.specs.Events.{effect}
-use Rattle.block_events.specs.Soundness.{opened}
+use Rattle.parcel.specs.Types.{Event, Relabel, Send}
+use Rattle.parcel.specs.Directions.{forward}
+use Rattle.parcel.specs.States.{State}
+use Rattle.parcel.specs.Events.{effect}
+use Rattle.parcel.specs.Soundness.{opened}
 use Rattle.block_tests.specs.Runs.{two_source_net}
 
 abbrev pub opened_blocks : State

@@ -1,12 +1,11 @@
 -- Two nodes in two blocks, and two runs over them, event by event.
 use Rattle.std.specs.Prelude.{ℕ, List, [], ◌∷◌}
 use Rattle.flow_network.specs.Cut.{Network}
-use Rattle.block_events.specs.declared.event.Event.{Event}
-use Rattle.block_events.specs.declared.event.Event.TheVariants.{PushSink, Relabel, Send, Accept, Refuse, Settle}
-use Rattle.block_events.specs.Directions.{forward, backward}
-use Rattle.block_events.specs.States.{State}
-use Rattle.block_events.specs.Events.{effect, Enabled}
-use Rattle.block_events.specs.Soundness.{count}
+use Rattle.parcel.specs.Types.{Event, PushSink, Relabel, Send, Accept, Refuse, Settle}
+use Rattle.parcel.specs.Directions.{forward, backward}
+use Rattle.parcel.specs.States.{State}
+use Rattle.parcel.specs.Events.{effect, Enabled}
+use Rattle.parcel.specs.Soundness.{count}
 
 abbrev pub counts : State → List Event → List ℕ
 counts s [] = count s ∷ []

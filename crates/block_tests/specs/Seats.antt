@@ -1,10 +1,9 @@
 -- Two nodes in two blocks, joined by an arc of capacity 4: in one round the first block sends a parcel, which
 -- the other leaves on the way.
 use Rattle.std.specs.Prelude.{ℕ, List, [], ◌∷◌, Option, Some, None}
-use Rattle.block_events.specs.declared.flight.Flight.{Flight}
-use Rattle.block_events.specs.declared.message.Message.TheVariants.{Parcel}
-use Rattle.block_events.specs.Directions.{forward, backward}
-use Rattle.block_events.specs.Soundness.{IsSound}
+use Rattle.parcel.specs.Types.{Flight, Parcel}
+use Rattle.parcel.specs.Directions.{forward, backward}
+use Rattle.parcel.specs.Soundness.{IsSound}
 use Rattle.block_tests.specs.Runs.{two_source_net}
 use Rattle.block_net.specs.declared.lanes.Border.{Border}
 use Rattle.block_net.specs.Views.{CellsView}

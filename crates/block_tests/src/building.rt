@@ -1,7 +1,7 @@
 //! Nets from tables, and their states in blocks.
-use block_core::Core;
 use block_net::{ARC_LIMIT, BLOCK_LIMIT};
 use flow_network::{Arc, Net};
+use parcel::Core;
 use std::alloc::{AllocError, Global};
 use std::process::Abort;
 

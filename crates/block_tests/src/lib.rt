@@ -1,8 +1,9 @@
-//! Tests of networks, their cuts and the solvers on one thread: lists, groups, distances and cuts worked out by hand,
-//! or by a script that tries every cut. And of nets in blocks: nodes in the buckets of their labels; the parts of small
-//! nets, worked by hand; two runs over two blocks, event by event; events that are refused; runs in any order, whose end
-//! the plain solver knows; and the solver over blocks from the middle of such runs. `worked` has the same two runs in
-//! the words of the contracts.
+//! Tests of networks, their cuts and the solvers on one thread: lists, groups, distances and cuts
+//! worked out by hand, or by a script that tries every cut. And of nets in blocks: nodes in the
+//! buckets of their labels; the parts of small nets, worked by hand; the calls of one block; two
+//! runs over two blocks, event by event; events that are refused; runs in any order, whose end the
+//! plain solver knows; and the solver over blocks from the middle of such runs. `worked` has the
+//! same two runs in the words of the contracts.
 #![tactic(auto)]
 
 #[cfg(test)]
@@ -13,6 +14,10 @@ mod building;
 mod certificates;
 #[cfg(test)]
 mod distances;
+#[cfg(test)]
+mod ends;
+#[cfg(test)]
+mod events;
 #[cfg(test)]
 mod groups;
 #[cfg(test)]

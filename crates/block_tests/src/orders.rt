@@ -1,8 +1,7 @@
 use crate::building::{Row, core_of, net_of};
 use crate::rows::expect_tried;
-use block_core::{Core, State};
-use block_events::{Direction, Event};
 use flow_network::{Net, Solved, check_cut};
+use parcel::{Core, Direction, Event, State};
 use plain_cut::solve;
 use std::alloc::{AllocError, Global};
 use std::process::Abort;

@@ -1,8 +1,7 @@
 use crate::building::{core_of, net_of};
 use crate::rows::expect;
-use block_core::{Core, State};
-use block_cut::finish;
-use block_events::{Direction, Event, Message};
+use discharge::finish;
+use parcel::{Core, Direction, Event, Message, State};
 use std::alloc::AllocError;
 use std::process::Abort;
 use std::test::Fail;

@@ -2,10 +2,10 @@
 use crate::building::{Row, net_of};
 use crate::rows::expect;
 use crate::small_nets::{COUNT, NUMBERS};
-use block_core::State;
-use block_cut::finish;
 use block_net::{ARC_LIMIT, BLOCK_LIMIT};
+use discharge::finish;
 use flow_network::{Net, Solved, check_cut};
+use parcel::State;
 use plain_cut::{smallest_side, solve};
 use std::alloc::{AllocError, Global};
 use std::process::Abort;

@@ -3,10 +3,10 @@
 //! shows that the definitions mean what a calculation by hand gives.
 
 ghost use Rattle.std.specs.Prelude.{◌≡◌, ℕ, List, [], ◌∷◌};
-ghost use Rattle.block_events.specs.Directions.{forward};
-ghost use Rattle.block_events.specs.States.{known_of};
-ghost use Rattle.block_events.specs.Soundness.{opened};
-ghost use Rattle.block_events.specs.Rounds.{RoundOf};
+ghost use Rattle.parcel.specs.Directions.{forward};
+ghost use Rattle.parcel.specs.States.{known_of};
+ghost use Rattle.parcel.specs.Soundness.{opened};
+ghost use Rattle.parcel.specs.Rounds.{RoundOf};
 ghost use Rattle.block_tests.specs.Runs.{counts, after, AllEnabled, one_source_net, two_source_net, two_blocks_run, refused_parcel_run, sent_again_run};
 ghost use Rattle.block_tests.specs.Rounds.{opened_blocks, parcel_on_the_way};
 ghost use Rattle.block_tests.specs.Seats.{BlocksComeBack};
