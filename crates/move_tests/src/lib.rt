@@ -1,7 +1,7 @@
 //! Tests of moves between labellings, as tables: by hand, and small random ones and runs with what scripts
 //! answer that try every labelling, without label costs and with them, and the bounds of runs; how many sites
 //! deciding leaves open on a picture, and how many the cuts of a run have whose later expansions look near the
-//! changes; and listed moves of which few sites, none or all are left open.
+//! changes; listed moves of which few sites, none or all are left open; and tables of costs that threads fill.
 #![tactic(auto)]
 
 #[cfg(test)]
@@ -14,6 +14,8 @@ mod costed;
 mod costs;
 #[cfg(test)]
 mod few_open;
+#[cfg(test)]
+mod filling;
 #[cfg(test)]
 mod later;
 #[cfg(test)]

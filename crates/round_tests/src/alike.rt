@@ -1,4 +1,7 @@
 //! One round, and rounds of many options before the solver goes on.
+ghost use Rattle.block_events.specs.Events.{IsQuiet};
+ghost use Rattle.worker_options.specs.Ranges.{AreInRange};
+
 use crate::building::raised;
 use crate::gates::Open;
 use crate::picture::net_of_move;
@@ -14,21 +17,35 @@ use std::test::Fail;
 use std::thread::Threads;
 use worker_options::{Gate, Options};
 
-/// The state after a round over these options, which have to be in their ranges.
-pub fn round<R: Threads + Wait + Abort + AllocGlobal + Sync, G: Gate>(
+/// The state after a round from a quiet state in as many blocks as the options say.
+fn round_from<R: Threads + Wait + Abort + AllocGlobal + Sync, G: Gate>(
     rt: &R,
     state: State,
     options: &Options,
     gate: &G,
-) -> Result<State, AllocError> {
-    assert!(*rt; options.check().is_ok());
-    assert!(*rt; state.blocks() == options.blocks as usize);
-    assert!(*rt; state.is_quiet());
+) -> Result<State, AllocError>
+    requires quiet { IsQuiet state }
+    requires options { AreInRange options.now }
+{
     match run_round(rt, rt.alloc(), state, options, gate) {
         Ok(after) => Ok(after),
         Err(RoundError::OutOfMemory) => Err(AllocError),
         Err(RoundError::Workers) => rt.abort(),
     }
+}
+
+/// The state of a net after a round over these options, which have to be in their ranges. It begins
+/// with exact labels.
+pub fn round<R: Threads + Wait + Abort + AllocGlobal + Sync, G: Gate>(
+    rt: &R,
+    net: &Net,
+    options: &Options,
+    gate: &G,
+) -> Result<State, AllocError> {
+    assert!(*rt; options.check().is_ok());
+    let state = raised(rt, net, options.blocks as usize)?;
+    assert!(*rt; state.is_quiet());
+    round_from(rt, state, options, gate)
 }
 
 /// Options of a round, by a number: 1 to 8 threads, 2 to 64 blocks, rings of 1 to 64 letters, few turns and many.
@@ -56,8 +73,7 @@ fn is_right<R: Threads + Wait + Abort + AllocGlobal + Sync>(
     wanted: &Solved,
     options: &Options,
 ) -> Result<bool, AllocError> {
-    let state = raised(rt, net, options.blocks as usize)?;
-    let state = round(rt, state, options, &Open)?;
+    let state = round(rt, net, options, &Open)?;
     let solved = finish(rt.alloc(), state)?;
     Ok(
         check_cut(rt.alloc(), net, &solved)?

@@ -6,8 +6,11 @@ use global_relabel::raise_all;
 use std::alloc::{AllocError, Global};
 use std::process::Abort;
 
+/// The node that an arc leaves, the node that it enters, and its capacity.
+type Row = (u32, u32, u64);
+
 /// The net of these lists, which have to fit.
-pub fn net_of(
+fn net_of(
     rt: &(impl Abort + AllocGlobal),
     sources: Vec<u64>,
     sinks: Vec<u64>,
@@ -17,117 +20,124 @@ pub fn net_of(
     Net::new(sources, sinks, arcs)
 }
 
-/// Two nodes that get this much, of which the second can give the sink 3, and an arc of capacity 4
-/// leads from the first to the second.
-fn nodes_that_get(rt: &(impl Abort + AllocGlobal), sources: &[u64]) -> Result<Net, AllocError> {
+/// The arcs of these rows.
+fn arcs_of(alloc: Global, rows: &[Row]) -> Result<Vec<Arc>, AllocError> {
+    let mut arcs = Vec::new(alloc);
+    for (from, to, capacity) in rows {
+        arcs.push(Arc {
+            from: *from,
+            to: *to,
+            capacity: *capacity,
+        })?;
+    }
+    Ok(arcs)
+}
+
+/// The net of these tables, which have to fit.
+pub fn net_of_rows(
+    rt: &(impl Abort + AllocGlobal),
+    sources: &[u64],
+    sinks: &[u64],
+    rows: &[Row],
+) -> Result<Net, AllocError> {
     let alloc = rt.alloc();
-    let arc = Arc {
-        from: 0,
-        to: 1,
-        capacity: 4,
-    };
+    let arcs = arcs_of(alloc, rows)?;
     let sources = Vec::from_slice(alloc, sources)?;
-    let sinks = Vec::from_slice(alloc, &[0, 3])?;
-    let arcs = Vec::from_slice(alloc, &[arc])?;
+    let sinks = Vec::from_slice(alloc, sinks)?;
     Ok(net_of(rt, sources, sinks, arcs))
 }
 
-/// Such nodes, of which the first gets 4 and the second 1.
+/// An arc of capacity 4 from the first of two nodes to the second.
+const ONE_ARC: &[Row] = &[(0, 1, 4)];
+
+/// Two nodes, of which the first gets 4 and the second 1, the second can give the sink 3, and an arc
+/// of capacity 4 leads from the first to the second.
 pub fn two_nodes(rt: &(impl Abort + AllocGlobal)) -> Result<Net, AllocError> {
-    nodes_that_get(rt, &[4, 1])
+    net_of_rows(rt, &[4, 1], &[0, 3], ONE_ARC)
 }
 
 /// And such that get nothing.
 pub fn idle_nodes(rt: &(impl Abort + AllocGlobal)) -> Result<Net, AllocError> {
-    nodes_that_get(rt, &[0, 0])
+    net_of_rows(rt, &[0, 0], &[0, 3], ONE_ARC)
 }
 
-/// How many nodes each half of the long way has.
-const HALF: u32 = 2_048;
-
-/// Two halves of so many nodes and one way that leads from the first to the last over a border of
-/// two blocks at each step: a unit goes from the source to the first node, and from the last to the
-/// sink.
-fn way_over(rt: &(impl Abort + AllocGlobal), half: u32) -> Result<Net, AllocError> {
-    assert!(*rt; 1 <= half);
-    assert!(*rt; half <= HALF);
-    let alloc = rt.alloc();
-    let mut sources = vec![in alloc; 0; 2 * half as usize]?;
-    let mut sinks = vec![in alloc; 0; 2 * half as usize]?;
-    sources[0] = 1;
-    sinks[2 * half as usize - 1] = 1;
-    let mut arcs = Vec::new(alloc);
-    for j in 0..half {
-        arcs.push(Arc {
-            from: j,
-            to: half + j,
-            capacity: 1,
-        })?;
-    }
-    for j in 0..half - 1 {
-        arcs.push(Arc {
-            from: half + j,
-            to: j + 1,
-            capacity: 1,
-        })?;
-    }
-    Ok(net_of(rt, sources, sinks, arcs))
-}
-
-/// 4,096 nodes and such a way, which crosses the border 4,095 times.
-pub fn long_way(rt: &(impl Abort + AllocGlobal)) -> Result<Net, AllocError> {
-    way_over(rt, HALF)
-}
-
-/// 64 nodes and such a way, which crosses the border 63 times.
-pub fn short_way(rt: &(impl Abort + AllocGlobal)) -> Result<Net, AllocError> {
-    way_over(rt, 32)
-}
+/// From node 5 to each of the nodes 0 to 4.
+const FAN: &[Row] = &[(5, 0, 1), (5, 1, 1), (5, 2, 1), (5, 3, 1), (5, 4, 1)];
 
 /// Ten nodes, of which node 5 gets 5 and can pass 1 to each of the nodes 0 to 4, each of which can
 /// give the sink 1.
 pub fn fan(rt: &(impl Abort + AllocGlobal)) -> Result<Net, AllocError> {
-    let alloc = rt.alloc();
-    let sources = Vec::from_slice(alloc, &[0, 0, 0, 0, 0, 5, 0, 0, 0, 0])?;
-    let sinks = Vec::from_slice(alloc, &[1, 1, 1, 1, 1, 0, 0, 0, 0, 0])?;
-    let mut arcs = Vec::new(alloc);
-    for to in 0..5 {
-        arcs.push(Arc {
-            from: 5,
-            to,
-            capacity: 1,
-        })?;
-    }
-    Ok(net_of(rt, sources, sinks, arcs))
+    net_of_rows(
+        rt,
+        &[0, 0, 0, 0, 0, 5, 0, 0, 0, 0],
+        &[1, 1, 1, 1, 1, 0, 0, 0, 0, 0],
+        FAN,
+    )
 }
 
-/// Three nodes: an arc leads from node 0 to each of the others, one from node 2 to node 0, a unit
-/// goes from the source to node 2, and from node 0 to the sink.
+/// Three nodes: an arc leads from node 0 to node 1, one from node 2 to node 0, a unit goes from the
+/// source to node 2, and from node 0 to the sink.
 pub fn between_two(rt: &(impl Abort + AllocGlobal)) -> Result<Net, AllocError> {
-    let alloc = rt.alloc();
-    let sources = Vec::from_slice(alloc, &[0, 0, 1])?;
-    let sinks = Vec::from_slice(alloc, &[1, 0, 0])?;
-    let mut arcs = Vec::new(alloc);
-    for (from, to) in [(0, 1), (2, 0)] {
-        arcs.push(Arc {
-            from,
-            to,
-            capacity: 1,
-        })?;
-    }
-    Ok(net_of(rt, sources, sinks, arcs))
+    net_of_rows(rt, &[0, 0, 1], &[1, 0, 0], &[(0, 1, 1), (2, 0, 1)])
 }
 
-/// Arcs of capacity 1 from each node to the next, from the first to the last.
-fn add_way(arcs: &mut Vec<Arc>, first: u32, last: u32) -> Result<(), AllocError> {
-    for v in first..last {
+/// A unit at each of these nodes, of so many.
+fn units_at(alloc: Global, nodes: usize, places: &[usize]) -> Result<Vec<u64>, AllocError> {
+    let mut units = vec![in alloc; 0; nodes]?;
+    for place in places {
+        if let Some(unit) = units.get_mut(*place) {
+            *unit = 1;
+        }
+    }
+    Ok(units)
+}
+
+/// Arcs of capacity 1, as many as are told: from a node to a node, from the next to the next, and so
+/// on.
+fn add_steps(arcs: &mut Vec<Arc>, from: u32, to: u32, count: u32) -> Result<(), AllocError> {
+    for j in 0..count {
         arcs.push(Arc {
-            from: v,
-            to: v.saturating_add(1),
+            from: from.saturating_add(j),
+            to: to.saturating_add(j),
             capacity: 1,
         })?;
     }
     Ok(())
+}
+
+/// The arcs of one way over two halves of so many nodes, from the first half to the second and back
+/// at each step.
+fn way_over(alloc: Global, half: u32) -> Result<Vec<Arc>, AllocError> {
+    let mut arcs = Vec::new(alloc);
+    add_steps(&mut arcs, 0, half, half)?;
+    add_steps(&mut arcs, half, 1, half.saturating_sub(1))?;
+    Ok(arcs)
+}
+
+/// 4,096 nodes and one way from the first to the last, which crosses the border of two blocks 4,095
+/// times: a unit goes from the source to the first node, and from the last to the sink.
+pub fn long_way(rt: &(impl Abort + AllocGlobal)) -> Result<Net, AllocError> {
+    let alloc = rt.alloc();
+    let sources = units_at(alloc, 4_096, &[0])?;
+    let sinks = units_at(alloc, 4_096, &[4_095])?;
+    Ok(net_of(rt, sources, sinks, way_over(alloc, 2_048)?))
+}
+
+/// 64 nodes and such a way, which crosses the border 63 times.
+pub fn short_way(rt: &(impl Abort + AllocGlobal)) -> Result<Net, AllocError> {
+    let alloc = rt.alloc();
+    let sources = units_at(alloc, 64, &[0])?;
+    let sinks = units_at(alloc, 64, &[63])?;
+    Ok(net_of(rt, sources, sinks, way_over(alloc, 32)?))
+}
+
+/// The arcs of a way over the nodes 1 to 60, and of one over the nodes 64 to 103, each from node 0.
+fn both_ways(alloc: Global) -> Result<Vec<Arc>, AllocError> {
+    let mut arcs = Vec::new(alloc);
+    add_steps(&mut arcs, 0, 64, 1)?;
+    add_steps(&mut arcs, 0, 1, 60)?;
+    add_steps(&mut arcs, 64, 65, 39)?;
+    Ok(arcs)
 }
 
 /// 128 nodes and two ways from node 0, each of which ends with a unit to the sink: a short one over
@@ -135,21 +145,9 @@ fn add_way(arcs: &mut Vec<Arc>, first: u32, last: u32) -> Result<(), AllocError>
 /// 0, and one to node 103.
 pub fn two_ways(rt: &(impl Abort + AllocGlobal)) -> Result<Net, AllocError> {
     let alloc = rt.alloc();
-    let mut sources = vec![in alloc; 0; 128]?;
-    let mut sinks = vec![in alloc; 0; 128]?;
-    sources[0] = 1;
-    sources[103] = 1;
-    sinks[60] = 1;
-    sinks[103] = 1;
-    let mut arcs = Vec::new(alloc);
-    arcs.push(Arc {
-        from: 0,
-        to: 64,
-        capacity: 1,
-    })?;
-    add_way(&mut arcs, 0, 60)?;
-    add_way(&mut arcs, 64, 103)?;
-    Ok(net_of(rt, sources, sinks, arcs))
+    let sources = units_at(alloc, 128, &[0, 103])?;
+    let sinks = units_at(alloc, 128, &[60, 103])?;
+    Ok(net_of(rt, sources, sinks, both_ways(alloc)?))
 }
 
 /// The net opened in so many blocks, with exact labels.

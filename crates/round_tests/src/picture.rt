@@ -1,10 +1,11 @@
 //! The net of one expansion on a noisy picture.
-ghost use Rattle.std.specs.Prelude.{◌<◌};
+ghost use Rattle.std.specs.Prelude.{◌<◌, ◌≤◌};
 
 use compile_cut::compile;
 use flow_network::Net;
 use pseudo_bool::{Energy, EnergyError};
 use regular::check;
+use std::alloc::{AllocError, Global};
 use std::process::Abort;
 use std::test::Fail;
 
@@ -44,28 +45,42 @@ fn add_site(energy: &mut Energy, side: u32, x: u32, y: u32) -> Result<(), Energy
     Ok(())
 }
 
-/// The net of the move in which each site of a picture keeps label 0 or turns to label 3: data costs are distances
-/// to the sample.
-fn net_of_side(rt: &(impl Abort + AllocGlobal), side: u32) -> Result<Net, Fail> {
-    let sites = side.wrapping_mul(side);
-    assert!(rt; sites <= LARGE_SIDE * LARGE_SIDE);
-    let mut energy = Energy::new(rt.alloc());
-    energy.clear(sites);
-    for y in 0..side {
-        for x in 0..side {
-            add_site(&mut energy, side, x, y)?;
-        }
+/// Adds what the sites of a row cost.
+fn add_row(energy: &mut Energy, side: u32, y: u32) -> Result<(), EnergyError> {
+    for x in 0..side {
+        add_site(energy, side, x, y)?;
     }
-    let compiled = compile(rt.alloc(), check(&energy).expect(rt, "regular"))?;
+    Ok(())
+}
+
+/// The energy of the move in which each site of a picture keeps label 0 or turns to label 3: data costs are distances
+/// to the sample.
+fn energy_of_side(alloc: Global, side: u32) -> Result<Energy, EnergyError>
+    requires { side ≤ 128 }
+{
+    let mut energy = Energy::new(alloc);
+    energy.clear(side * side);
+    for y in 0..side {
+        add_row(&mut energy, side, y)?;
+    }
+    Ok(energy)
+}
+
+/// The net of an energy.
+fn net_of_energy(rt: &(impl Abort + AllocGlobal), energy: &Energy) -> Result<Net, AllocError> {
+    let regular = check(energy).expect(rt, "regular");
+    let compiled = compile(rt.alloc(), regular)?;
     Ok(compiled.net)
 }
 
 /// The net of such a move of a small picture.
 pub fn net_of_move(rt: &(impl Abort + AllocGlobal)) -> Result<Net, Fail> {
-    net_of_side(rt, SIDE)
+    let energy = energy_of_side(rt.alloc(), SIDE)?;
+    Ok(net_of_energy(rt, &energy)?)
 }
 
 /// And of a large one.
 pub fn large_net_of_move(rt: &(impl Abort + AllocGlobal)) -> Result<Net, Fail> {
-    net_of_side(rt, LARGE_SIDE)
+    let energy = energy_of_side(rt.alloc(), LARGE_SIDE)?;
+    Ok(net_of_energy(rt, &energy)?)
 }

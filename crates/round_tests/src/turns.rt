@@ -1,28 +1,37 @@
 //! Which block has a turn when, what a gate's answers end, and that rings have the room that is told.
 use crate::alike::round;
-use crate::building::{between_two, fan, idle_nodes, raised, two_nodes};
+use crate::building::{between_two, fan, idle_nodes, two_nodes};
 use crate::calls::{Diary, Lowest, Only};
 use crate::gates::Open;
-use crate::overlap::TWO;
+use crate::overlap::{ONE, TWO};
 use crate::picture::net_of_move;
 use block_core::State;
+use std::alloc::AllocError;
+use std::process::Abort;
+use std::sync::Wait;
 use std::test::Fail;
+use std::thread::Threads;
 use worker_options::Options;
 
-/// One thread over two blocks, with the other options as for two.
-const ONE: Options = Options { threads: 1, ..TWO };
+/// What a diary of two blocks at one worker has in it that says no to the blocks below a number.
+fn diary_of<R: Threads + Wait + Abort + AllocGlobal + Sync>(
+    rt: &R,
+    closed: u32,
+) -> Result<Diary, AllocError> {
+    let net = two_nodes(rt)?;
+    let diary = Diary::new(rt.alloc(), closed)?;
+    round(rt, &net, &ONE, &diary)?;
+    Ok(diary)
+}
 
 /// At one worker the blocks that want a turn have one each, by rising numbers, again and again. A block to which the gate
 /// says no has no further turn, and counts as idle: so the other is soon at its end, and does not wait until all turns
 /// are drawn.
 #[test]
 fn blocks_take_turns(rt: HostRuntime) -> Result<(), Fail> {
-    let net = two_nodes(&rt)?;
-    let diary = Diary::new(rt.alloc(), 0)?;
-    round(&rt, raised(&rt, &net, 2)?, &ONE, &diary)?;
+    let diary = diary_of(&rt, 0)?;
     assert!(rt; diary.begins_with(&[(0, 0), (1, 0), (0, 1), (1, 1), (0, 2)]));
-    let diary = Diary::new(rt.alloc(), 1)?;
-    round(&rt, raised(&rt, &net, 2)?, &ONE, &diary)?;
+    let diary = diary_of(&rt, 1)?;
     assert!(rt; diary.begins_with(&[(0, 0), (1, 0), (0, 1), (1, 1), (1, 2)]));
     assert!(rt; diary.count() < 20);
     Ok(())
@@ -34,7 +43,7 @@ fn lowest_block_waits(rt: HostRuntime) -> Result<(), Fail> {
     let net = idle_nodes(&rt)?;
     let three = Options { blocks: 3, ..TWO };
     let gate = Lowest::new();
-    round(&rt, raised(&rt, &net, 3)?, &three, &gate)?;
+    round(&rt, &net, &three, &gate)?;
     assert!(rt; gate.went_up());
     Ok(())
 }
@@ -55,25 +64,36 @@ fn are_alike(first: &State, second: &State) -> bool {
     first.got() == second.got()
 }
 
-/// A block does nothing in a turn to which the gate says no: it is left as where there is no turn to draw. What the gate
-/// says to turn 0 changes nothing.
+/// One thread over two blocks, with no turn to draw.
+const NO_TURNS: Options = Options { turns: 0, ..ONE };
+
+/// A block does nothing in a turn to which the gate says no: it is left as where there is no turn to draw.
 #[test]
 fn noes_do_nothing(rt: HostRuntime) -> Result<(), Fail> {
     let net = net_of_move(&rt)?;
-    let none = Options { turns: 0, ..ONE };
-    let first = round(&rt, raised(&rt, &net, 2)?, &none, &Open)?;
+    let first = round(&rt, &net, &NO_TURNS, &Open)?;
     let no = Only {
         first: true,
         later: false,
     };
-    assert!(rt; are_alike(&first, &round(&rt, raised(&rt, &net, 2)?, &ONE, &no)?));
-    let all = round(&rt, raised(&rt, &net, 2)?, &ONE, &Open)?;
-    assert!(rt; !are_alike(&first, &all));
-    let yes = Only {
+    let none = round(&rt, &net, &ONE, &no)?;
+    assert!(rt; are_alike(&first, &none));
+    Ok(())
+}
+
+/// What the gate says to turn 0 changes nothing, and what it says to later turns does.
+#[test]
+fn first_turns_are_not_asked_for(rt: HostRuntime) -> Result<(), Fail> {
+    let net = net_of_move(&rt)?;
+    let all = round(&rt, &net, &ONE, &Open)?;
+    let later = Only {
         first: false,
         later: true,
     };
-    assert!(rt; are_alike(&all, &round(&rt, raised(&rt, &net, 2)?, &ONE, &yes)?));
+    let same = round(&rt, &net, &ONE, &later)?;
+    assert!(rt; are_alike(&all, &same));
+    let first = round(&rt, &net, &NO_TURNS, &Open)?;
+    assert!(rt; !are_alike(&first, &all));
     Ok(())
 }
 
@@ -87,10 +107,9 @@ fn rings_have_their_room(rt: HostRuntime) -> Result<(), Fail> {
     for (ring, left) in PLACES {
         let options = Options {
             ring: *ring,
-            turns: 0,
-            ..ONE
+            ..NO_TURNS
         };
-        let state = round(&rt, raised(&rt, &net, 2)?, &options, &Open)?;
+        let state = round(&rt, &net, &options, &Open)?;
         assert!(rt; state.nodes() == 10);
         assert!(rt; state.excess(5) == *left, "{ring}");
     }
@@ -103,7 +122,7 @@ fn rings_have_their_room(rt: HostRuntime) -> Result<(), Fail> {
 fn each_ring_is_looked_at(rt: HostRuntime) -> Result<(), Fail> {
     let net = between_two(&rt)?;
     let three = Options { blocks: 3, ..ONE };
-    let state = round(&rt, raised(&rt, &net, 3)?, &three, &Open)?;
+    let state = round(&rt, &net, &three, &Open)?;
     assert!(rt; state.got() == 1);
     Ok(())
 }

@@ -1,10 +1,11 @@
+//! Tables of costs that threads fill.
 ghost use Rattle.std.specs.Prelude.{pos, ◌≤ℤ◌};
 
-use crate::DataCost;
-use std::alloc::AllocError;
+use cost_store::DataCost;
+use std::test::Fail;
 
 #[test]
-fn fills_as_it_answers(rt: HostRuntime) -> Result<(), AllocError> {
+fn fills_as_it_answers(rt: HostRuntime) -> Result<(), Fail> {
     let cost = DataCost::new(
         |_site: u32, label: u32| -> i64
             ensures { (pos 0 ≤ℤ result) × (result ≤ℤ pos 3) }
