@@ -173,8 +173,8 @@ fn watched<R: Threads + Wait + Sync + Files + AllocGlobal>(
     (told, most.saturating_sub(1))
 }
 
-/// How many threads are allowed, and how many nets they cut side by side at most. Two have a half of
-/// the sites each. Of four one has nothing to do: a strip has at least 4,096 sites.
+/// How many threads are allowed, and how many nets they cut side by side at most. Two have a half
+/// of the sites each. Of four one has nothing to do: a strip has at least 4,096 sites.
 const ROWS: &[(u32, u32)] = &[(1, 0), (2, 2), (4, 3)];
 
 /// One answer, however many threads there are; and where nets are cut side by side, more than one
