@@ -7,10 +7,10 @@ use Rattle.parcel.specs.Directions.{forward, backward, near}
 use Rattle.parcel.specs.States.{way_at}
 use Rattle.block_tests.specs.Runs.{two_source_net}
 use Rattle.block_events.proofs.Opening.{opened_sound}
-use Rattle.block_net.specs.Views.{count, first_lane, first_border}
-use Rattle.block_net.specs.Whole.{block_at, block_with, home, place, near_home, slot, is_outer, IsInnerAt, IsBorderAt, StandsAt, LiesAt, IsPlaced, IsFilled, with_blocks}
-use Rattle.laid_blocks.specs.Views.{IsLaid}
-use Rattle.block_turns.specs.Steps.{Held, Rise, Send, DoesMany}
+use Rattle.discharge.specs.Views.{count, first_lane, first_border}
+use Rattle.parcel.specs.Whole.{block_at, block_with, home, place, near_home, slot, is_outer, IsInnerAt, IsBorderAt, StandsAt, LiesAt, IsPlaced, IsFilled, with_blocks}
+use Rattle.parcel.specs.Views.{IsLaid}
+use Rattle.discharge.specs.Steps.{Held, Rise, Send, DoesMany}
 use Rattle.block_cut.specs.Rounds.{fresh}
 use Rattle.block_tests.specs.Seats.{whole_before, blocks_after, left_on_the_way, BlocksComeBack}
 

@@ -1,2 +1,3 @@
 pub mod RoundOfBlocks
 pub mod BlocksBack
+pub mod LetterEnds

@@ -6,9 +6,9 @@ use Rattle.parcel.specs.Directions.{forward, backward}
 use Rattle.parcel.specs.Soundness.{IsSound}
 use Rattle.block_tests.specs.Runs.{two_source_net}
 use Rattle.block_net.specs.declared.lanes.Border.{Border}
-use Rattle.block_net.specs.Views.{CellsView}
-use Rattle.block_net.specs.Whole.{Whole}
-use Rattle.laid_blocks.specs.Views.{IsLaid}
+use Rattle.discharge.specs.Views.{CellsView}
+use Rattle.parcel.specs.Whole.{Whole}
+use Rattle.parcel.specs.Views.{IsLaid}
 use Rattle.block_cut.specs.Rounds.{Ways, AreBack, quiet_state}
 
 -- a block of one node with one direction to the other block

@@ -1,5 +1,5 @@
 ghost use Rattle.std.specs.Prelude.{◌≡◌, IfOk};
-ghost use Rattle.block_net.specs.Views.{count};
+ghost use Rattle.discharge.specs.Views.{count};
 ghost use Rattle.block_net.specs.Standing.{nodes};
 
 use crate::building::net_of;

@@ -1,6 +1,5 @@
 //! A block's ends of its ways, that hold at most one letter each way.
-ghost use Rattle.block_turns.specs.Seen.{Seen};
-ghost use Rattle.block_tests.specs.Ends.{log_of, front_of, has_room};
+ghost use Rattle.block_tests.specs.Ends.{seen_of};
 
 use parcel::{Letter, Ways};
 
@@ -10,10 +9,12 @@ use parcel::{Letter, Ways};
 pub struct OneLetter {
     /// The letter that came.
     pub came: Option<Letter>,
-    /// The letter that was put.
-    pub put: Option<(u32, Letter)>,
-    /// The letter that was taken.
-    pub taken: Option<(u32, Letter)>,
+    /// The letter that was put, and the block that it is for.
+    pub put: Option<Letter>,
+    pub put_for: u32,
+    /// The letter that was taken, and the block that it is from.
+    pub taken: Option<Letter>,
+    pub taken_from: u32,
 }
 
 impl OneLetter {
@@ -22,7 +23,9 @@ impl OneLetter {
         OneLetter {
             came,
             put: None,
+            put_for: 0,
             taken: None,
+            taken_from: 0,
         }
     }
 }
@@ -32,19 +35,19 @@ impl Ways for OneLetter {
 
     ghost fixed = { λ _. tt };
 
-    ghost seen = { λ e. record {
-      sent = log_of e.put;
-      taken = log_of e.taken;
-      room = λ _. has_room e.put;
-      front = λ _. front_of e.came e.taken;
-    } };
+    ghost seen = { λ e. seen_of e.came e.put_for e.put e.taken_from e.taken };
 
     fn room(&mut self, _to: u32) -> bool {
-        self.put.is_none()
+        match self.put {
+            None => true,
+            Some(_) => false,
+        }
     }
 
+    #[tactic(auto, using(crate::proofs::LetterEnds::is_put))]
     fn put(&mut self, to: u32, letter: Letter) {
-        self.put = Some((to, letter));
+        self.put = Some(letter);
+        self.put_for = to;
     }
 
     fn front(&mut self, _from: u32) -> Option<Letter> {
@@ -54,9 +57,9 @@ impl Ways for OneLetter {
         }
     }
 
+    #[tactic(auto, using(crate::proofs::LetterEnds::is_take))]
     fn take(&mut self, from: u32) {
-        if let Some(letter) = self.came {
-            self.taken = Some((from, letter));
-        }
+        self.taken = self.came;
+        self.taken_from = from;
     }
 }

@@ -3,7 +3,7 @@
 use crate::building::{Row, net_of};
 use crate::ends::OneLetter;
 use crate::rows::expect;
-use block_net::{ARC_LIMIT, Cells, Parts};
+use block_net::{ARC_LIMIT, BLOCK_LIMIT, Cells, Parts};
 use discharge::{Block, push_inner, push_sink, receive, relabel, send, settle, turn};
 use parcel::{Direction, Flight, Letter, Message};
 use std::alloc::AllocError;
@@ -26,7 +26,8 @@ fn blocks_of(
     blocks: usize,
 ) -> Result<Vec<Cells>, AllocError> {
     let net = net_of(rt, sources, &[0, 3], ARC)?;
-    assert!(*rt; 1 <= blocks && blocks <= 2);
+    assert!(*rt; 1 <= blocks);
+    assert!(*rt; blocks <= BLOCK_LIMIT);
     assert!(*rt; net.arcs().len() <= ARC_LIMIT);
     Ok(Parts::split(rt.alloc(), &net, blocks)?.blocks)
 }
@@ -345,10 +346,7 @@ const SECOND: Edge = Edge {
 
 /// The letter that was put for this block; none where another was asked.
 fn put_for(ways: &OneLetter, to: u32) -> Option<Letter> {
-    match ways.put {
-        Some((asked, letter)) => { if asked == to { Some(letter) } else { None } }
-        None => None,
-    }
+    if ways.put_for == to { ways.put } else { None }
 }
 
 /// The first block's letter to the second: a parcel of 4 with the label 1. Nothing else is sent.

@@ -223,7 +223,7 @@ fn is_finished(
     let Some(state) = put_together(core.into_state()) else {
         return Ok(false);
     };
-    let solved = block_cut::finish(rt.alloc(), state)?;
+    let solved = discharge::finish(rt.alloc(), state)?;
     Ok(check_cut(rt.alloc(), net, &solved)? && is_solved(&solved, case))
 }
 

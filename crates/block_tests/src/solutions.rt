@@ -116,7 +116,7 @@ fn is_solved(
         }
     }
     let solved = solve(alloc, &net)?;
-    let in_one_block = block_cut::solve(alloc, &net)?;
+    let in_one_block = discharge::solve(alloc, &net)?;
     Ok(
         is_answer(alloc, &net, &solved, value, side)?
             && is_answer(alloc, &net, &in_one_block, value, side)?

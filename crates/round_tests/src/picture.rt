@@ -1,5 +1,5 @@
 //! The net of one expansion on a noisy picture.
-ghost use Rattle.std.specs.Prelude.{◌<◌, ◌≤◌};
+ghost use Rattle.std.specs.Prelude.{◌<◌};
 
 use compile_cut::compile;
 use flow_network::Net;
@@ -55,11 +55,9 @@ fn add_row(energy: &mut Energy, side: u32, y: u32) -> Result<(), EnergyError> {
 
 /// The energy of the move in which each site of a picture keeps label 0 or turns to label 3: data costs are distances
 /// to the sample.
-fn energy_of_side(alloc: Global, side: u32) -> Result<Energy, EnergyError>
-    requires { side ≤ 128 }
-{
+fn energy_of_side(alloc: Global, side: u32) -> Result<Energy, EnergyError> {
     let mut energy = Energy::new(alloc);
-    energy.clear(side * side);
+    energy.clear(side.wrapping_mul(side).min(LARGE_SIDE * LARGE_SIDE));
     for y in 0..side {
         add_row(&mut energy, side, y)?;
     }
