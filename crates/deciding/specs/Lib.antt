@@ -3,6 +3,7 @@ pub mod Decisions
 pub mod MoveValues
 pub mod Working
 pub mod Rising
+pub mod Savings
 pub mod Decided
 pub mod Listed
 pub mod Laws

@@ -7,6 +7,7 @@ mod costs;
 pub mod laws;
 mod listing;
 mod rising;
+mod savings;
 mod settling;
 mod sites;
 mod summing;
@@ -15,6 +16,7 @@ mod testing;
 
 pub use bounds::Bounds;
 pub use listing::Lists;
+pub use savings::told_surplus;
 pub use settling::pair_surplus;
 pub use sites::Deciding;
 pub use table::{EndRises, RiseTable};

@@ -52,7 +52,7 @@ fn greatest_shift(value: bool, surplus: i64) -> i64
 
 /// What the values of two sites save together, as the table tells it: the difference of the two rises of the first.
 #[inline]
-fn table_surplus(table: &RiseTable, at: &[u8], pair: Pair) -> i64
+pub(crate) fn table_surplus(table: &RiseTable, at: &[u8], pair: Pair) -> i64
     requires pair { IsPair (length at.now) pair }
     requires few { All (λ label. label < table_labels) at.now }
     requires size { length table.now.entries.items ≡ 8192 }

@@ -22,7 +22,7 @@ pub use plain_cut::solve;
 pub use pseudo_bool::{Energy, EnergyError, Term};
 pub use regular::{Fixed, NotRegular, Regular, check, is_regular_table};
 pub use rounds::{BadOptions, Gate, Open, Options, ParallelError, Workers, solve_parallel};
-pub use solvers::{Alone, How, SolveError};
+pub use solvers::{Alone, How, InOrder, SolveError};
 pub use vision::{
     Neighbours, Report, RestoreOptions, SegmentOptions, Shape, StereoOptions, VisionError,
     run_restore, run_segment, run_stereo,

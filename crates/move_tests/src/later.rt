@@ -12,6 +12,7 @@ use cost_store::{DataCost, Problem, SMOOTH_LIMIT, SmoothCost, check_table, is_me
 use flow_network::{Net, Solved};
 use label_field::{Labelling, Pairs};
 use moves::{Alone, How, SolveError, run_expansion};
+use solvers::InOrder;
 use std::alloc::{AllocError, Global};
 use std::process::Abort;
 use std::sync::atomic::{AtomicUsize, Ordering};
@@ -43,10 +44,16 @@ impl How for Counting {
 
     ghost refuses = { λ _ e. e ≡ OutOfMemory };
 
+    type Hands = InOrder;
+
     fn solve(&self, alloc: Global, net: &Net) -> Result<Solved, SolveError> {
         self.cuts.fetch_add(1, Ordering::SeqCst);
         self.nodes.fetch_add(net.nodes(), Ordering::SeqCst);
         Alone.solve(alloc, net)
+    }
+
+    fn hands(&self) -> InOrder {
+        InOrder
     }
 }
 

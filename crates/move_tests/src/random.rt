@@ -10,6 +10,7 @@ use cost_store::{DataCost, Problem, SmoothCost};
 use flow_network::{Net, Solved};
 use label_field::{Labelling, Pairs};
 use moves::{Alone, How, MoveError, SolveError, expand, run_expansion, run_swap, swap};
+use solvers::InOrder;
 use std::alloc::Global;
 use std::process::Abort;
 
@@ -38,8 +39,14 @@ impl How for CutAlone {
 
     ghost refuses = { λ _ e. e ≡ OutOfMemory };
 
+    type Hands = InOrder;
+
     fn solve(&self, alloc: Global, net: &Net) -> Result<Solved, SolveError> {
         Alone.solve(alloc, net)
+    }
+
+    fn hands(&self) -> InOrder {
+        InOrder
     }
 
     fn decides_first(&self) -> bool {
@@ -60,8 +67,14 @@ impl How for InStrips {
 
     ghost refuses = { λ _ e. e ≡ OutOfMemory };
 
+    type Hands = InOrder;
+
     fn solve(&self, alloc: Global, net: &Net) -> Result<Solved, SolveError> {
         Alone.solve(alloc, net)
+    }
+
+    fn hands(&self) -> InOrder {
+        InOrder
     }
 
     fn strip_sites(&self) -> usize {

@@ -7,6 +7,7 @@ use cost_store::{DataCost, Problem, SmoothCost};
 use flow_network::{Net, Solved};
 use label_field::{Labelling, Pairs};
 use moves::{Alone, Ended, How, MoveError, SolveError, run_expansion};
+use solvers::InOrder;
 use std::alloc::Global;
 use std::process::Abort;
 use std::sync::atomic::{AtomicU32, Ordering};
@@ -33,12 +34,18 @@ impl How for Refusing {
 
     ghost refuses = { λ _ _. Unit {0} };
 
+    type Hands = InOrder;
+
     fn solve(&self, alloc: Global, net: &Net) -> Result<Solved, SolveError> {
         if self.left.load(Ordering::SeqCst) == 0 {
             return Err(self.error);
         }
         self.left.fetch_sub(1, Ordering::SeqCst);
         Alone.solve(alloc, net)
+    }
+
+    fn hands(&self) -> InOrder {
+        InOrder
     }
 }
 

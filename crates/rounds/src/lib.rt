@@ -37,6 +37,7 @@ pub use gates::{Lent, Open};
 pub use join::join_all;
 pub use parallel_error::ParallelError;
 pub use round::run_round;
+pub use side_jobs::ByThreads;
 pub use solver::{side_parallel, solve_parallel};
 pub use worker_options::{BadOptions, Gate, Options};
 pub use workers::Workers;

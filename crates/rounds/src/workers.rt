@@ -6,10 +6,10 @@ ghost use Rattle.rounds.specs.Refusals.{IsRefusal};
 ghost use Rattle.rounds.specs.SolveErrors.{MayRefuse, of_parallel};
 
 use crate::gates::Lent;
-use crate::side_jobs::cut_by_threads;
+use crate::side_jobs::ByThreads;
 use crate::{ParallelError, side_parallel, solve_parallel};
 use flow_network::{Net, Solved};
-use solvers::{Alone, How, SidesJob, SolveError};
+use solvers::{Alone, How, SolveError};
 use std::alloc::Global;
 use std::sync::Wait;
 use std::thread::Threads;
@@ -45,6 +45,8 @@ impl<'a, R: Threads + Wait + Sync> How for Workers<'a, R, &'a (dyn Gate + Sync)>
 
     ghost refuses = { λ how e. MayRefuse how.options e };
 
+    type Hands = ByThreads<'a, R>;
+
     /// As on one thread. Workers share the net that the strips of a move leave.
     fn strip_sites(&self) -> usize {
         Alone.strip_sites()
@@ -55,11 +57,8 @@ impl<'a, R: Threads + Wait + Sync> How for Workers<'a, R, &'a (dyn Gate + Sync)>
         (self.options.threads as usize).max(1)
     }
 
-    /// The jobs go to at most so many threads as the options say, that of the caller among them. If
-    /// the system does not start a thread, its jobs are done all the same.
-    fn sides(&self, alloc: Global, jobs: &mut [SidesJob]) {
-        let threads = self.sides_at_once();
-        cut_by_threads(self.rt, threads, alloc, jobs);
+    fn hands(&self) -> ByThreads<'a, R> {
+        ByThreads { rt: self.rt }
     }
 
     fn solve(&self, alloc: Global, net: &Net) -> Result<Solved, SolveError> {

@@ -1,13 +1,12 @@
-ghost use Rattle.std.specs.Prelude.{◌≡◌, ◌<◌, ◌≤◌, All, IfOk, IfErr, length};
+ghost use Rattle.std.specs.Prelude.{◌≡◌, ◌<◌, ◌≤◌, IfOk, IfErr, length};
 ghost use Rattle.flow_network.specs.Answer.{side_of, IsRightCut};
 ghost use Rattle.flow_network.specs.Cut.{nodes, set_of, IsSmallestLeastCut};
 ghost use Rattle.flow_network.specs.Limits.{capacity_limit};
-ghost use Rattle.solvers.specs.Jobs.{CanCut, AreCutTwice};
 ghost use Rattle.solvers.specs.declared.solve_error.SolveError.{SolveError};
 ghost use Rattle.solvers.specs.declared.solve_error.SolveError.TheVariants.{OutOfMemory};
 
 use crate::SolveError;
-use crate::jobs::{SidesJob, cut_jobs};
+use crate::jobs::{DoJobs, InOrder};
 use flow_network::{Net, Solved};
 use plain_cut::Workspace;
 use std::alloc::Global;
@@ -18,6 +17,9 @@ pub trait How {
     ghost ready: { Self → Type 0 };
 
     ghost refuses: { Self → SolveError → Type 0 };
+
+    /// What does the jobs of a move.
+    type Hands: DoJobs;
 
     /// A least cut of the net, with the preflow that certifies it. Of all least cuts it is the
     /// smallest: its sink side lies within that of every other. Its capacity, `value`, is at most
@@ -79,15 +81,10 @@ pub trait How {
         1
     }
 
-    /// Cuts the net of each job twice. It refuses nothing: a job that was refused memory says so
-    /// itself.
-    fn sides(&self, alloc: Global, jobs: &mut [SidesJob])
-        requires ready { ready self.now }
-        requires jobs { All CanCut jobs.old }
-        ensures { AreCutTwice jobs.old jobs.new }
-    {
-        cut_jobs(alloc, jobs);
-    }
+    /// What builds and cuts the strips of a move.
+    fn hands(&self) -> Self::Hands
+        requires { ready self.now }
+        ensures { Self.Hands.ready result };
 }
 
 /// The rows, labels and lists of so many open sites stand in a cache of one to two million bytes.
@@ -102,6 +99,8 @@ impl How for Alone {
 
     ghost refuses = { λ _ e. e ≡ OutOfMemory };
 
+    type Hands = InOrder;
+
     fn solve(&self, alloc: Global, net: &Net) -> Result<Solved, SolveError> {
         match plain_cut::solve(alloc, net) {
             Ok(solved) => Ok(solved),
@@ -111,6 +110,10 @@ impl How for Alone {
 
     fn strip_sites(&self) -> usize {
         STRIP_SITES
+    }
+
+    fn hands(&self) -> InOrder {
+        InOrder
     }
 
     fn side(&self, alloc: Global, net: Net) -> Result<Vec<bool>, SolveError> {

@@ -1,33 +1,35 @@
-//! Nets that are cut twice, each as a job: who has threads does several side by side.
-ghost use Rattle.std.specs.Prelude.{◌≡◌, ◌<◌, ℕ, All, length, slice_index_or};
-ghost use Rattle.flow_network.specs.Cut.{nodes};
-ghost use Rattle.solvers.specs.Jobs.{CanCut, IsCutTwice, AreCutTwice};
+//! Strips of a move that are built and cut side by side, each as a job. Who has threads does a job
+//! in each.
+ghost use Rattle.std.specs.Prelude.{◌≡◌, ◌<◌, ℕ, All, IfOk, vec_len, slice_index_or};
 
-use flow_network::Net;
-use plain_cut::{BothSides, Workspace, both_sides_in};
+use plain_cut::{BothSides, Workspace};
 use std::alloc::{AllocError, Global};
+use std::mem::replace;
 
-/// A net to be cut twice: once as it is, and once with more room to the sink. It owns all that its
-/// cuts need, so any thread can do it.
+/// A strip to be built and cut. It owns all that this changes, so any thread can do it.
 #[derive(Drop)]
 pub struct SidesJob {
-    /// The net, until it is cut.
-    pub net: Option<Net>,
+    /// Which of the strips that are done together it is.
+    pub place: usize,
+    /// The node of each site.
+    pub numbers: Vec<u32>,
+    /// What the nodes weigh.
+    pub weights: Vec<i64>,
     /// What each node can send the sink more at the second cut.
     pub more: Vec<u64>,
-    /// The lists of the solver, which keep their memory from one net to the next.
+    /// The lists of the solver.
     pub space: Workspace,
-    /// The sink sides of both cuts, once the net is cut.
+    /// The sink sides of both cuts, once the strip is cut.
     pub sides: Option<Result<BothSides, AllocError>>,
 }
 
 impl SidesJob {
-    /// Of no net. It takes no memory.
-    pub fn new(alloc: Global) -> SidesJob
-        ensures { CanCut result }
-    {
+    /// Of no strip. It takes no memory.
+    pub fn new(alloc: Global) -> SidesJob {
         SidesJob {
-            net: None,
+            place: 0,
+            numbers: Vec::new(alloc),
+            weights: Vec::new(alloc),
             more: Vec::new(alloc),
             space: Workspace::new(alloc),
             sides: None,
@@ -35,23 +37,65 @@ impl SidesJob {
     }
 }
 
-/// Cuts the net of a job twice, if it has one. Then the job has none, and it has their sides, or
-/// the answer that memory was refused.
-pub fn cut_job(alloc: Global, job: &mut SidesJob)
-    requires { CanCut job.old }
-    ensures { IsCutTwice job.old job.new }
+/// One job, as it is once it is done.
+fn do_job(job: SidesJob, work: &(dyn Fn(SidesJob) -> SidesJob + Sync)) -> SidesJob
+    requires { pre work.now job }
+    ensures { post work.now job result }
 {
-    if let Some(net) = job.net.take() {
-        job.sides = Some(both_sides_in(alloc, net, &job.more, &mut job.space));
-    }
+    work(job)
 }
 
-/// Cuts the nets of the jobs one after another, on the thread of the caller.
-pub fn cut_jobs(alloc: Global, jobs: &mut [SidesJob])
-    requires { All CanCut jobs.old }
-    ensures { AreCutTwice jobs.old jobs.new }
+/// What does jobs. `ready` is what it asks of its caller.
+pub trait DoJobs: Drop {
+    ghost ready: { Self → Type 0 };
+
+    /// Does each job, and gives the jobs back in their order. What a job is done by reads only what
+    /// all of them share, so they can be done in any order and at once. It refuses only where
+    /// memory runs out.
+    fn do_jobs(
+        &self,
+        jobs: Vec<SidesJob>,
+        work: &(dyn Fn(SidesJob) -> SidesJob + Sync),
+    ) -> Result<Vec<SidesJob>, AllocError>
+        requires ready { ready self.now }
+        requires work { All (λ job. pre work.now job) jobs.items }
+        ensures len { IfOk result (λ done. vec_len done ≡ vec_len jobs) }
+        ensures each { IfOk result (λ done. (k : ℕ) (job : _) → k < vec_len jobs →
+            post work.now (slice_index_or jobs.items k job) (slice_index_or done.items k job)) };
+}
+
+/// Does the jobs one after another, on the thread of the caller, and gives them back in their
+/// order. It refuses nothing.
+fn do_in_order(
+    jobs: Vec<SidesJob>,
+    work: &(dyn Fn(SidesJob) -> SidesJob + Sync),
+) -> Result<Vec<SidesJob>, AllocError>
+    requires work { All (λ job. pre work.now job) jobs.items }
+    ensures len { IfOk result (λ done. vec_len done ≡ vec_len jobs) }
+    ensures each { IfOk result (λ done. (k : ℕ) (job : _) → k < vec_len jobs →
+        post work.now (slice_index_or jobs.items k job) (slice_index_or done.items k job)) }
 {
+    let mut jobs = jobs;
+    let alloc = *jobs.allocator();
     for place in 0..jobs.len() {
-        cut_job(alloc, &mut jobs[place]);
+        let job = replace(&mut jobs[place], SidesJob::new(alloc));
+        jobs[place] = do_job(job, work);
+    }
+    Ok(jobs)
+}
+
+/// The thread of the caller, which does jobs one after another.
+#[derive(Clone, Copy, Debug)]
+pub struct InOrder;
+
+impl DoJobs for InOrder {
+    ghost ready = { λ _. Unit {0} };
+
+    fn do_jobs(
+        &self,
+        jobs: Vec<SidesJob>,
+        work: &(dyn Fn(SidesJob) -> SidesJob + Sync),
+    ) -> Result<Vec<SidesJob>, AllocError> {
+        do_in_order(jobs, work)
     }
 }

@@ -6,5 +6,5 @@ mod jobs;
 mod solve_error;
 
 pub use how::{Alone, How};
-pub use jobs::{SidesJob, cut_job, cut_jobs};
+pub use jobs::{DoJobs, InOrder, SidesJob};
 pub use solve_error::SolveError;

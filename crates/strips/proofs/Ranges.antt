@@ -1,8 +1,7 @@
 -- Ranges of sites told one after another: the sites that are left open, in their order.
 use Rattle.std.proofs.Common.{◌≡◌, ◌<◌, ◌≤◌, ◌++◌, ◌∷◌, [], ℕ, zero, suc, Bool, true, false, cond, List, length, Result, Ok, Err, refl, sym, ap, subst, ◌+◌, ◌∙◌, inl, inr, append_assoc, arith}
-use Rattle.std.specs.Prelude.{Option, Some, None, IsSome, IfSome, IfOk, OnOk, slice_index, slice_index_or}
+use Rattle.std.specs.Prelude.{IfOk, OnOk, slice_index, slice_index_or}
 use Rattle.std.specs.Global.{Vec}
-use Rattle.std.specs.declared.alloc.AllocError.{AllocError}
 use Rattle.std.proofs.lemmas.Bool.{cases_lt}
 use Rattle.std.specs.Prelude.{◌&&◌, not, nat_lt, filter}
 use Rattle.std.proofs.lemmas.Bool.Decides.{nat_tests}
@@ -17,13 +16,10 @@ use Rattle.closing_in.specs.Agreeing.{or_else, joined}
 use Rattle.closing_in.specs.Borders.{range_of}
 use Rattle.labellings.specs.declared.change.Move.{Move}
 use Rattle.labellings.specs.Energies.{Instance}
-use Rattle.flow_network.specs.Cut.{Network, nodes}
-use Rattle.plain_cut.specs.declared.both.BothSides.{BothSides}
 use Rattle.solvers.specs.declared.jobs.SidesJob.{SidesJob}
-use Rattle.solvers.specs.Jobs.{AreSides, IsCutTwice, AreCutTwice}
 use Rattle.closing_in.specs.Strips.{Strip, told, told_by}
 use Rattle.closing_in.specs.Telling.{IsListed}
-use Rattle.strips.specs.Rounds.{AreBounds, IsLaidOut, WillTell, HasSides, Tells, AreRanges, AreLaidOut, AllWillTell, AreAnswered, AllTell}
+use Rattle.strips.specs.Rounds.{HasSides, Tells, AreRanges, AreLaidOut, IsRangeCut, TellsRange, AreAnswered, AllTell}
 use Rattle.strips.specs.Views.{KeepsChosen, strip_view}
 use Rattle.strips.proofs.Views.{in_range, above_range, below_range, second_of, view_length, open_is, seen_in, seen_out, shut}
 use Rattle.strips.proofs.Bounding.{strip_of, strip_listed, told_goes_on, told_left}
@@ -169,52 +165,27 @@ left_more first known new from to left opened order same count listed ahead othe
     (view_same known new 0 from left count (λ p within. others p (below_range from to p (before_end_of from p within))) before)
     (told (still_listed first known from to opened same listed ahead))
 
--- ---- what a job that was laid out is answered
+-- ---- what the jobs of a round are answered, each at its place
 
-bits_by : (sites : ℕ) (net : Option Network) (answer : Option (Result BothSides AllocError)) (more : List ℕ) → IsSome net → IfSome net (λ n. nodes n ≡ sites)
-    → IfSome net (λ n. IfSome answer (λ r. IfOk r (AreSides n more)))
-    → IfSome answer (λ r. IfOk r (λ sides. (length sides.lower.items ≡ sites) × (length sides.upper.items ≡ sites)))
-bits_by sites (Some n) (Some (Ok sides)) more some count cut = (cut.lower_bits ∙ count, cut.upper_bits ∙ count)
-bits_by sites (Some n) (Some (Err e)) more some count cut = tt
-bits_by sites (Some n) None more some count cut = tt
-bits_by sites None answer more some count cut = absurd (cc (some))
-
-some_by : (net : Option Network) (answer : Option (Result BothSides AllocError)) → IsSome net → IfSome net (λ n. IsSome answer) → IsSome answer
-some_by (Some n) answer some is = is
-some_by None answer some is = absurd (cc (some))
-
-pub answered_of : (sites : ℕ) (before after : SidesJob) → IsLaidOut sites before → IsCutTwice before after → HasSides sites after
-answered_of sites before after laid cut = record {
-  some = some_by before.net after.sides laid.some cut.answered;
-  bits = bits_by sites before.net after.sides before.more.items laid.some laid.nodes_are cut.sides;
-}
-
-tells_by : (B : BothSides → Type 0) (net : Option Network) (answer : Option (Result BothSides AllocError)) (more : List ℕ) → IsSome net
-    → IfSome net (λ n. (sides : BothSides) → AreSides n more sides → B sides)
-    → IfSome net (λ n. IfSome answer (λ r. IfOk r (AreSides n more))) → IfSome answer (λ r. IfOk r B)
-tells_by B (Some n) (Some (Ok sides)) more some will cut = will sides cut
-tells_by B (Some n) (Some (Err e)) more some will cut = tt
-tells_by B (Some n) None more some will cut = tt
-tells_by B None answer more some will cut = absurd (cc (some))
-
-pub tells_of : (m : Instance) (move : Move) (f : ℕ → ℕ) (known : List Choice) (opened : List ℕ) (before after : SidesJob) (sites : ℕ) → IsLaidOut sites before → IsCutTwice before after
-    → WillTell m move f known opened before → Tells m move f known opened after
-tells_of m move f known opened before after sites laid cut will =
-    tells_by (AreBounds m move f known opened) before.net after.sides before.more.items laid.some will cut.sides
-
-pub all_answered : (lists : List (Vec ℕ)) (before after : List SidesJob) → AreLaidOut lists before → length after ≡ length before → AreCutTwice before after → AreAnswered lists after
-all_answered lists before after laid same cut = record {
+pub all_answered : (lists : List (Vec ℕ)) (before after : List SidesJob) → AreLaidOut lists before → length after ≡ length before
+    → ((k : ℕ) (job : SidesJob) → k < length lists → IsRangeCut lists (slice_index_or before k job) (slice_index_or after k job)) → AreAnswered lists after
+all_answered lists before after laid same done = record {
   count = same ∙ laid.count;
   each = λ k list job l.
-      answered_of (length (slice_index_or lists k list).items) (slice_index_or before k job) (slice_index_or after k job) (laid.each k list job l)
-      (cut k job (omega (arith, l, laid.count)));
+      let P : ℕ → Type 0 = λ place. HasSides (length (slice_index_or lists place list).items) (slice_index_or after k job) in
+      subst P (laid.each k job l) ((done k job l).answered list);
 }
 
-pub all_tell : (m : Instance) (move : Move) (f : ℕ → ℕ) (known : List Choice) (lists : List (Vec ℕ)) (before after : List SidesJob) → AreLaidOut lists before → AreCutTwice before after
-    → AllWillTell m move f known lists before → AllTell m move f known lists after
-all_tell m move f known lists before after laid cut will k list job l =
-    tells_of m move f known (slice_index_or lists k list).items (slice_index_or before k job) (slice_index_or after k job) (length (slice_index_or lists k list).items)
-    (laid.each k list job l) (cut k job (omega (arith, l, laid.count))) (will k list job l)
+pub all_tell : (m : Instance) (move : Move) (f : ℕ → ℕ) (known : List Choice) (lists : List (Vec ℕ)) (before after : List SidesJob) → AreLaidOut lists before
+    → ((k : ℕ) (job : SidesJob) → k < length lists → TellsRange m move f known lists (slice_index_or before k job) (slice_index_or after k job)) → AllTell m move f known lists after
+all_tell m move f known lists before after laid tells k list job l =
+    let P : ℕ → Type 0 = λ place. Tells m move f known (slice_index_or lists place list).items (slice_index_or after k job) in
+    subst P (laid.each k job l) (tells k job l list)
+
+-- each place is that of a range
+pub all_placed : (lists : List (Vec ℕ)) (jobs : List SidesJob) (k : ℕ) (job : SidesJob) → AreLaidOut lists jobs → k < length jobs
+    → (slice_index_or jobs k job).place < length lists
+all_placed lists jobs k job laid l = omega (arith, laid.each k job (omega (arith, l, laid.count)), l, laid.count)
 
 -- ---- one strip more
 
@@ -239,17 +210,12 @@ push_both {A = A} {B = B} P xs ys x y same each here k a b l = elim (cases_lt k 
       subst Q (sym one) (subst R (sym two) (subst S (sym at) here))
 ]
 
-pub laid_more : (lists : List (Vec ℕ)) (jobs : List SidesJob) (list : Vec ℕ) (job : SidesJob) → AreLaidOut lists jobs → IsLaidOut (length list.items) job
+pub laid_more : (lists : List (Vec ℕ)) (jobs : List SidesJob) (list : Vec ℕ) (job : SidesJob) → AreLaidOut lists jobs → job.place ≡ length lists
     → AreLaidOut (lists ++ list ∷ []) (jobs ++ job ∷ [])
 laid_more lists jobs list job laid here = record {
   count = omega (arith, length-append jobs (job ∷ []), length-append lists (list ∷ []), laid.count);
-  each = push_both (λ (k : ℕ) (l : Vec ℕ) (j : SidesJob). IsLaidOut (length l.items) j) lists jobs list job laid.count laid.each here;
+  each = λ k one l. push_both (λ (k : ℕ) (v : Vec ℕ) (j : SidesJob). j.place ≡ k) lists jobs list job laid.count (λ k v j b. laid.each k j b) here k list one l;
 }
-
-pub tell_more : (m : Instance) (move : Move) (f : ℕ → ℕ) (known : List Choice) (lists : List (Vec ℕ)) (jobs : List SidesJob) (list : Vec ℕ) (job : SidesJob) → length jobs ≡ length lists
-    → AllWillTell m move f known lists jobs → WillTell m move f known list.items job → AllWillTell m move f known (lists ++ list ∷ []) (jobs ++ job ∷ [])
-tell_more m move f known lists jobs list job same will here =
-    push_both (λ (k : ℕ) (l : Vec ℕ) (j : SidesJob). WillTell m move f known l.items j) lists jobs list job same will here
 
 pub ranges_more : (known : List Choice) (bounds : List ℕ) (lists : List (Vec ℕ)) (from to : ℕ) (list : Vec ℕ) → AreRanges known bounds lists from → from ≤ to
     → AreOpenSites (strip_view known from to) list.items → AreRanges known (bounds ++ to ∷ []) (lists ++ list ∷ []) to
@@ -298,6 +264,11 @@ ranges_more known bounds lists from to list are order listed =
 pub on_ok : {A B : Type 0} (r : Result A B) (P : Type 0) → P → OnOk r P
 on_ok (Ok a) P holds = holds
 on_ok (Err e) P holds = tt
+
+-- what two facts of an answer tell together
+pub if_both : {A B : Type 0} (r : Result A B) (P Q R : A → Type 0) → ((x : A) → P x → Q x → R x) → IfOk r P → IfOk r Q → IfOk r R
+if_both (Ok a) P Q R both first second = both a first second
+if_both (Err e) P Q R both first second = tt
 
 -- ---- the range whose turn it is
 

@@ -1,3 +1,4 @@
+pub mod Building
 pub mod Limits
 pub mod Rounds
 pub mod Sides

@@ -1,6 +1,6 @@
 //! Round after round of strips: all strips of a round are built with what was known when it began,
-//! their nets are cut side by side, and what all of them tell is known from then on.
-ghost use Rattle.std.specs.Prelude.{◌≡◌, ◌<◌, ◌≤◌, ◌∷◌, [], ℕ, length, vec_len, IfOk, OnOk};
+//! and cut side by side, and what all of them tell is known from then on.
+ghost use Rattle.std.specs.Prelude.{◌≡◌, ◌<◌, ◌≤◌, ◌∷◌, [], ℕ, List, length, vec_len, IfOk, OnOk};
 ghost use Rattle.label_field.specs.Limits.{site_limit};
 ghost use Rattle.labellings.specs.Energies.{labelling};
 ghost use Rattle.labellings.specs.Moves.{IsAllowed};
@@ -10,28 +10,29 @@ ghost use Rattle.compile_cut.specs.Weights.{weights_size};
 ghost use Rattle.cost_store.specs.Posed.{IsPosed, IsAsked, Meant};
 ghost use Rattle.move_energy.specs.BySite.{AreBySite};
 ghost use Rattle.move_energy.specs.Choices.{choice_at, AreOpenSites};
+ghost use Rattle.move_energy.specs.declared.choice.Choice.{Choice as AnyChoice};
 ghost use Rattle.move_energy.specs.Problems.{Stands};
 ghost use Rattle.move_energy.specs.Limits.{weights_limit};
 ghost use Rattle.move_energy.specs.Weights.{AreWeights};
 ghost use Rattle.deciding.specs.MoveValues.{move_value};
 ghost use Rattle.deciding.specs.Rising.{IsSized, IsTableOf};
 ghost use Rattle.closing_in.specs.Agreeing.{Agree};
-ghost use Rattle.strips.specs.Rounds.{AreRanges, AreLaidOut, AllWillTell};
+ghost use Rattle.strips.specs.Rounds.{AreRanges, AreLaidOut};
 ghost use Rattle.strips.specs.Views.{IsView, KeepsChosen, strip_view};
 
-use crate::building::build_strip;
+use crate::cutting::{build_last, cut_round};
 use crate::opening::list_next;
-use crate::rounds::{lay_strip, tell_round};
+use crate::rounds::tell_round;
 use cost_store::Problem;
 use deciding::RiseTable;
 use labellings::Move;
 use move_energy::{Choice, MoveEnergy, Neighbours};
 use solvers::{How, SidesJob};
 use std::alloc::{AllocError, Global};
-use std::mem::replace;
+use std::mem::{replace, swap};
 
 /// The strips of a round: where they end, from the first site on, and of each its open sites and
-/// the job that cuts its net.
+/// the job that builds and cuts it.
 #[derive(Drop)]
 struct Round {
     bounds: Vec<u32>,
@@ -39,12 +40,11 @@ struct Round {
     jobs: Vec<SidesJob>,
 }
 
-/// The open sites of a strip, what they weigh by now, and jobs whose lists keep their memory from
-/// strip to strip and from move to move.
+/// The open sites of a strip, and jobs whose lists keep their memory from strip to strip and from
+/// move to move.
 #[derive(Drop)]
 pub struct Strips {
     pub opened: Vec<u32>,
-    list: Vec<i64>,
     spare: Vec<SidesJob>,
 }
 
@@ -78,17 +78,26 @@ impl Strips {
     pub fn new(alloc: Global) -> Strips {
         Strips {
             opened: Vec::new(alloc),
-            list: Vec::new(alloc),
             spare: Vec::new(alloc),
         }
     }
 
-    /// A job of no net.
-    fn spare_job(&mut self, alloc: Global) -> SidesJob {
+    /// A job whose strip is still to be told.
+    fn spare_job(&mut self, alloc: Global) -> SidesJob
+        ensures { self.new.opened ≡ self.old.opened }
+    {
         match self.spare.pop() {
             Some(job) => job,
             None => SidesJob::new(alloc),
         }
+    }
+
+    /// Lends the next job the memory of the numbers of a move's variables.
+    fn lend_numbers(&mut self, alloc: Global, numbers: &mut Vec<u32>) -> Result<(), AllocError> {
+        let mut job = self.spare_job(alloc);
+        swap(numbers, &mut job.numbers);
+        self.spare.push(job)?;
+        Ok(())
     }
 
     /// Keeps the memory of jobs that are done.
@@ -101,58 +110,24 @@ impl Strips {
         Ok(())
     }
 
-    /// Lays out one strip more of a round, behind the others: the open sites of a range.
-    fn lay_next<F: Fn(u32, u32) -> i64 + Sync, V: Fn(u32, u32) -> i64 + Sync>(
+    /// Adds one strip more to a round, behind the others: the listed open sites of a range that
+    /// ends at a site.
+    fn add_range(
         &mut self,
         alloc: Global,
-        problem: &Problem<F, V>,
-        ends: &Neighbours,
-        table: &RiseTable,
-        built: &mut MoveEnergy,
-        start: &[Choice],
-        weights: &[i64],
-        from: u32,
+        round: &mut Round,
         to: u32,
         opened: Vec<u32>,
-        at: &[u8],
-        change: Move,
-        round: &mut Round,
     ) -> Result<(), AllocError>
-        requires posed { IsPosed F.Fn V.Fn problem.now }
-        requires asked { IsAsked problem.now at.now change }
-        requires by_site { AreBySite problem.now.pairs ends.now }
-        requires labels { IsSized problem.now.data_cost.labels table.now }
-        requires table { Meant F.Fn V.Fn problem.now (λ m. IsTableOf m change table.now) }
-        requires count { (length start.now ≡ length at.now) × (length weights.now ≡ length at.now) }
-        requires size { weights_size weights.now ≤ weights_limit }
-        requires weights { Meant F.Fn V.Fn problem.now (λ m. AreWeights m change (labelling at.now)
-            (choice_at start.now) weights.now) }
-        requires allowed { Meant F.Fn V.Fn problem.now
-            (λ m. IsAllowed m change (labelling at.now)) }
-        requires choices { length built.old.variables.choices.items ≡ length at.now }
-        requires goes_on { KeepsChosen start.now built.old.variables.choices.items }
-        requires order { from ≤ to }
-        requires opened { AreOpenSites (strip_view built.old.variables.choices.items from to)
-            opened.items }
-        requires ranges { AreRanges built.old.variables.choices.items round.old.bounds.items
-            round.old.lists.items from }
-        requires laid { AreLaidOut round.old.lists.items round.old.jobs.items }
-        ensures kept { built.new.variables.choices.items ≡ built.old.variables.choices.items }
-        ensures ranges { OnOk result (AreRanges built.old.variables.choices.items
-            round.new.bounds.items round.new.lists.items to) }
-        ensures laid { OnOk result (AreLaidOut round.new.lists.items round.new.jobs.items) }
-        ensures tells { Meant F.Fn V.Fn problem.now (λ m.
-            AllWillTell m change (labelling at.now) built.old.variables.choices.items
-            round.old.lists.items round.old.jobs.items → OnOk result
-            (AllWillTell m change (labelling at.now) built.old.variables.choices.items
-            round.new.lists.items round.new.jobs.items)) }
+        ensures ranges { (known : List AnyChoice) (from : ℕ) → from ≤ to →
+            AreOpenSites (strip_view known from to) opened.items →
+            AreRanges known round.old.bounds.items round.old.lists.items from →
+            OnOk result (AreRanges known round.new.bounds.items round.new.lists.items to) }
+        ensures laid { AreLaidOut round.old.lists.items round.old.jobs.items →
+            OnOk result (AreLaidOut round.new.lists.items round.new.jobs.items) }
     {
         let mut job = self.spare_job(alloc);
-        let list = &mut self.list;
-        lay_strip(
-            alloc, problem, ends, table, built, start, weights, &opened, from, to, at, change,
-            list, &mut job,
-        )?;
+        job.place = round.lists.len();
         round.bounds.push(to)?;
         round.lists.push(opened)?;
         round.jobs.push(job)?;
@@ -162,62 +137,33 @@ impl Strips {
     /// Lays out a round: the strip that ends at a site, whose open sites are listed, and as many
     /// more as are closed in side by side, each behind the one before. It answers where the last of
     /// them ends.
-    fn lay_round<F: Fn(u32, u32) -> i64 + Sync, V: Fn(u32, u32) -> i64 + Sync>(
+    fn lay_round(
         &mut self,
         alloc: Global,
-        problem: &Problem<F, V>,
-        ends: &Neighbours,
-        table: &RiseTable,
-        built: &mut MoveEnergy,
-        start: &[Choice],
-        weights: &[i64],
+        known: &[Choice],
         to: u32,
         size: usize,
         many: usize,
-        at: &[u8],
-        change: Move,
         round: &mut Round,
     ) -> Result<u32, AllocError>
-        requires posed { IsPosed F.Fn V.Fn problem.now }
-        requires asked { IsAsked problem.now at.now change }
-        requires by_site { AreBySite problem.now.pairs ends.now }
-        requires labels { IsSized problem.now.data_cost.labels table.now }
-        requires table { Meant F.Fn V.Fn problem.now (λ m. IsTableOf m change table.now) }
-        requires count { (length start.now ≡ length at.now) × (length weights.now ≡ length at.now) }
-        requires size { weights_size weights.now ≤ weights_limit }
-        requires weights { Meant F.Fn V.Fn problem.now (λ m. AreWeights m change (labelling at.now)
-            (choice_at start.now) weights.now) }
-        requires allowed { Meant F.Fn V.Fn problem.now
-            (λ m. IsAllowed m change (labelling at.now)) }
-        requires choices { length built.old.variables.choices.items ≡ length at.now }
-        requires goes_on { KeepsChosen start.now built.old.variables.choices.items }
+        requires sites { length known.now ≤ site_limit }
         requires some { 0 < size }
-        requires inside { to ≤ length at.now }
-        requires opened { AreOpenSites (strip_view built.old.variables.choices.items 0 to)
-            self.old.opened.items }
+        requires inside { to ≤ length known.now }
+        requires opened { AreOpenSites (strip_view known.now 0 to) self.old.opened.items }
         requires none { (round.old.bounds.items ≡ 0 ∷ []) × (round.old.lists.items ≡ [])
             × (round.old.jobs.items ≡ []) }
-        ensures kept { built.new.variables.choices.items ≡ built.old.variables.choices.items }
-        ensures inside { IfOk result (λ end. (to ≤ end) × (end ≤ length at.now)) }
-        ensures ranges { IfOk result (AreRanges built.old.variables.choices.items
-            round.new.bounds.items round.new.lists.items) }
+        ensures inside { IfOk result (λ end. (to ≤ end) × (end ≤ length known.now)) }
+        ensures ranges { IfOk result
+            (AreRanges known.now round.new.bounds.items round.new.lists.items) }
         ensures laid { OnOk result (AreLaidOut round.new.lists.items round.new.jobs.items) }
-        ensures tells { Meant F.Fn V.Fn problem.now (λ m. OnOk result
-            (AllWillTell m change (labelling at.now) built.old.variables.choices.items
-            round.new.lists.items round.new.jobs.items)) }
     {
         let opened = replace(&mut self.opened, Vec::new(alloc));
-        self.lay_next(
-            alloc, problem, ends, table, built, start, weights, 0, to, opened, at, change, round,
-        )?;
+        self.add_range(alloc, round, to, opened)?;
         let mut end = to;
-        'strips: while (end as usize) < start.len() && round.lists.len() < many {
+        'strips: while (end as usize) < known.len() && round.lists.len() < many {
             let mut opened = Vec::new(alloc);
-            let next = list_next(&built.variables.choices, &mut opened, end, end, size)?;
-            self.lay_next(
-                alloc, problem, ends, table, built, start, weights, end, next, opened, at, change,
-                round,
-            )?;
+            let next = list_next(known, &mut opened, end, end, size)?;
+            self.add_range(alloc, round, next, opened)?;
             end = next;
         }
         Ok(end)
@@ -272,21 +218,20 @@ impl Strips {
     {
         let many = how.sides_at_once();
         let mut round = Round::new(alloc)?;
-        let end = self.lay_round(
-            alloc, problem, ends, table, built, start, weights, to, size, many, at, change,
-            &mut round,
-        )?;
-        how.sides(alloc, round.jobs.as_mut_slice());
         let known = &mut built.variables.choices;
-        tell_round(
-            known,
-            &round.bounds,
-            &round.lists,
-            &round.jobs,
-            &mut self.opened,
-            end,
+        let end = self.lay_round(alloc, known, to, size, many, &mut round)?;
+        let Round {
+            bounds,
+            lists,
+            jobs,
+        } = round;
+        let hands = how.hands();
+        let jobs = cut_round(
+            alloc, &hands, problem, table, at, change, ends, start, known, weights, &bounds,
+            &lists, jobs,
         )?;
-        self.keep_jobs(round.jobs)?;
+        tell_round(known, &bounds, &lists, &jobs, &mut self.opened, end)?;
+        self.keep_jobs(jobs)?;
         Ok(end)
     }
 
@@ -336,6 +281,7 @@ impl Strips {
             (choice_at built.new.variables.choices.items))) }
     {
         know_start(&mut built.variables.choices, start)?;
+        self.lend_numbers(alloc, &mut built.variables.of_sites)?;
         self.opened.clear();
         let mut to = list_next(&built.variables.choices, &mut self.opened, 0, 0, size)?;
         'strips: while (to as usize) < start.len() {
@@ -345,23 +291,23 @@ impl Strips {
             let more = size.max(self.opened.len());
             to = list_next(&built.variables.choices, &mut self.opened, 0, to, more)?;
         }
-        let mut borders = Vec::new(alloc);
-        let list = &mut self.list;
-        build_strip(
+        let mut job = self.spare_job(alloc);
+        build_last(
             problem,
-            ends,
             table,
-            built,
-            start,
-            weights,
-            &self.opened,
-            0,
-            to,
             at,
             change,
-            list,
-            &mut borders,
+            ends,
+            start,
+            &built.variables.choices,
+            weights,
+            &self.opened,
+            to,
+            &mut built.form,
+            &mut job,
         )?;
+        swap(&mut built.variables.of_sites, &mut job.numbers);
+        self.spare.push(job)?;
         Ok(())
     }
 }

@@ -4,6 +4,7 @@
 
 mod building;
 mod closing;
+mod cutting;
 mod opening;
 mod rounds;
 mod rows;

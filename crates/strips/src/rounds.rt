@@ -1,88 +1,27 @@
-//! A round of strips: laid out one after another, cut together, and told one after another.
+//! What a round of strips tells, one strip after another.
 ghost use Rattle.std.specs.Prelude.{◌≡◌, ◌<◌, ◌≤◌, ◌++◌, ℕ, ℤ, Bool, false, List, All, filter, length};
 ghost use Rattle.std.specs.Prelude.{IsSome, IfSome, IfOk, OnOk};
-ghost use Rattle.label_field.specs.Limits.{site_limit};
 ghost use Rattle.labellings.specs.declared.change.Move.{Move as AnyMove};
-ghost use Rattle.labellings.specs.Energies.{Instance, IsInstance, labelling};
+ghost use Rattle.labellings.specs.Energies.{Instance, IsInstance};
 ghost use Rattle.labellings.specs.Moves.{IsAllowed};
-ghost use Rattle.compile_cut.specs.Weights.{weights_size};
-ghost use Rattle.cost_store.specs.Posed.{IsPosed, IsAsked, Meant};
-ghost use Rattle.move_energy.specs.BySite.{AreBySite};
 ghost use Rattle.move_energy.specs.Choices.{choice_at, open_at, AreOpenSites};
 ghost use Rattle.move_energy.specs.declared.choice.Choice.{Choice as AnyChoice};
-ghost use Rattle.move_energy.specs.Limits.{weights_limit};
-ghost use Rattle.move_energy.specs.Weights.{AreWeights};
 ghost use Rattle.deciding.specs.Decisions.{IsSubmodular, IsOver};
 ghost use Rattle.deciding.specs.MoveValues.{move_value};
-ghost use Rattle.deciding.specs.Rising.{IsSized, IsTableOf};
 ghost use Rattle.closing_in.specs.Agreeing.{Agree, ChooseMore, joined};
 ghost use Rattle.closing_in.specs.Borders.{range_of};
 ghost use Rattle.closing_in.specs.Strips.{Strip, IsBounded, told_by};
 ghost use Rattle.closing_in.specs.Telling.{IsListed};
-ghost use Rattle.strips.specs.Rounds.{IsLaidOut, WillTell, HasSides, Tells};
+ghost use Rattle.strips.specs.Rounds.{HasSides, Tells};
 ghost use Rattle.strips.specs.Rounds.{AreRanges, AreAnswered, AllTell};
 ghost use Rattle.strips.specs.Views.{KeepsChosen, strip_view};
 
-use crate::building::build_strip;
 use crate::opening::list_left;
 use closing_in::add_strip;
-use compile_cut::{Quadratic, net_of};
-use cost_store::Problem;
-use deciding::RiseTable;
-use labellings::Move;
-use move_energy::{Choice, MoveEnergy, Neighbours};
+use move_energy::Choice;
 use plain_cut::BothSides;
 use solvers::SidesJob;
-use std::alloc::{AllocError, Global};
-use std::mem::replace;
-
-/// Lays a strip out for its two cuts: the job gets the net of its form, and its border is what each
-/// node can send the sink more at the second cut.
-pub(crate) fn lay_strip<F: Fn(u32, u32) -> i64 + Sync, V: Fn(u32, u32) -> i64 + Sync>(
-    alloc: Global,
-    problem: &Problem<F, V>,
-    ends: &Neighbours,
-    table: &RiseTable,
-    built: &mut MoveEnergy,
-    start: &[Choice],
-    weights: &[i64],
-    opened: &[u32],
-    from: u32,
-    to: u32,
-    at: &[u8],
-    change: Move,
-    list: &mut Vec<i64>,
-    job: &mut SidesJob,
-) -> Result<(), AllocError>
-    requires asked { IsAsked problem.now at.now change }
-    requires posed { IsPosed F.Fn V.Fn problem.now }
-    requires by_site { AreBySite problem.now.pairs ends.now }
-    requires labels { IsSized problem.now.data_cost.labels table.now }
-    requires table { Meant F.Fn V.Fn problem.now (λ m. IsTableOf m change table.now) }
-    requires choices { length built.old.variables.choices.items ≡ length at.now }
-    requires starts { length start.now ≡ length at.now }
-    requires count { length weights.now ≡ length at.now }
-    requires goes_on { KeepsChosen start.now built.old.variables.choices.items }
-    requires opened { AreOpenSites (strip_view built.old.variables.choices.items from to)
-        opened.now }
-    requires size { weights_size weights.now ≤ weights_limit }
-    requires weights { Meant F.Fn V.Fn problem.now (λ m. AreWeights m change (labelling at.now)
-        (choice_at start.now) weights.now) }
-    requires allowed { Meant F.Fn V.Fn problem.now (λ m. IsAllowed m change (labelling at.now)) }
-    ensures kept { built.new.variables.choices.items ≡ built.old.variables.choices.items }
-    ensures laid { OnOk result (IsLaidOut (length opened.now) job.new) }
-    ensures tells { Meant F.Fn V.Fn problem.now (λ m. OnOk result (WillTell m change
-        (labelling at.now) built.old.variables.choices.items opened.now job.new)) }
-{
-    let borders = &mut job.more;
-    build_strip(
-        problem, ends, table, built, start, weights, opened, from, to, at, change, list, borders,
-    )?;
-    let form = replace(&mut built.form, Quadratic::new(alloc));
-    let compiled = net_of(alloc, form)?;
-    job.net = Some(compiled.net);
-    Ok(())
-}
+use std::alloc::AllocError;
 
 /// Adds what both sides of a strip tell of its listed sites, and lists those that are still open
 /// behind the others that are left.

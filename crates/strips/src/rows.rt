@@ -5,14 +5,14 @@ ghost use Rattle.std.specs.Prelude.{Bool, true, not, pos, map, length, vec_len, 
 ghost use Rattle.std.specs.Prelude.{unsigned_abs, IfOk, OnOk};
 ghost use Rattle.sums.specs.Sums.{counted};
 ghost use Rattle.label_field.specs.Limits.{pair_limit};
-ghost use Rattle.labellings.specs.Energies.{labelling};
-ghost use Rattle.labellings.specs.Moves.{IsAllowed};
+ghost use Rattle.label_field.specs.PairLists.{IsPairList};
+ghost use Rattle.labellings.specs.declared.change.Move.{Move};
+ghost use Rattle.labellings.specs.Energies.{Instance};
 ghost use Rattle.pseudo_bool.specs.Energies.{IsValue};
 ghost use Rattle.pseudo_bool.specs.Limits.{term_limit};
 ghost use Rattle.regular.specs.Regularity.{IsRegularTable};
 ghost use Rattle.compile_cut.specs.Quadratics.{IsBounded};
 ghost use Rattle.compile_cut.specs.Weights.{weights_size};
-ghost use Rattle.cost_store.specs.Posed.{IsPosed, IsAsked, Meant};
 ghost use Rattle.move_energy.specs.BySite.{AreBySite, degree, start_at, head_at, is_counted};
 ghost use Rattle.move_energy.specs.BySite.{met_at, pair_beside as beside_at};
 ghost use Rattle.move_energy.specs.Built.{AddsCost, IsLonger};
@@ -20,16 +20,14 @@ ghost use Rattle.move_energy.specs.Choices.{choice_at, open_at, rank, open_count
 ghost use Rattle.move_energy.specs.Choices.{AreOpenSites};
 ghost use Rattle.move_energy.specs.Limits.{surplus_limit, weights_limit};
 ghost use Rattle.move_energy.specs.Weights.{pair_surplus as surplus_between, unsaved};
-ghost use Rattle.deciding.specs.Rising.{IsSized, IsTableOf};
 ghost use Rattle.closing_in.specs.Borders.{border_at, is_beyond as beyond_of, not_ones, range_of};
 ghost use Rattle.closing_in.specs.Borders.{is_inside as inside_of};
+ghost use Rattle.strips.specs.Building.{TakesPairs, GivesSmall, GivesSurpluses, IsMoveOver};
 ghost use Rattle.strips.specs.Limits.{borders_limit};
 ghost use Rattle.strips.specs.Views.{strip_view, weight_now};
 
 use compile_cut::Quadratic;
-use cost_store::Problem;
-use deciding::{RiseTable, pair_surplus};
-use labellings::Move;
+use label_field::{Pair, Pairs};
 use move_energy::{Choice, Neighbours, pair_beside};
 use std::alloc::AllocError;
 
@@ -66,33 +64,31 @@ fn is_inside(known: &[Choice], from: u32, to: u32, site: u32) -> bool
 /// The surplus of the pair of a site and a neighbour where it counts. Where it does not, 0, and it
 /// is not asked for.
 #[inline]
-fn counted_surplus<F: Fn(u32, u32) -> i64 + Sync, V: Fn(u32, u32) -> i64 + Sync>(
-    problem: &Problem<F, V>,
+fn counted_surplus<S: Fn(Pair) -> i64>(
+    savings: &S,
+    pairs: &Pairs,
     ends: &Neighbours,
-    table: &RiseTable,
-    at: &[u8],
-    change: Move,
     site: u32,
     place: u32,
     counts: bool,
 ) -> i64
-    requires posed { IsPosed F.Fn V.Fn problem.now }
-    requires asked { IsAsked problem.now at.now change }
-    requires by_site { AreBySite problem.now.pairs ends.now }
-    requires labels { IsSized problem.now.data_cost.labels table.now }
-    requires table { Meant F.Fn V.Fn problem.now (λ m. IsTableOf m change table.now) }
-    requires site { site < length at.now }
+    requires takes { TakesPairs (S.pre savings.now) pairs.now ends.now }
+    requires small { GivesSmall (S.post savings.now) }
+    requires pairs { IsPairList pairs.now }
+    requires by_site { AreBySite pairs.now ends.now }
+    requires site { site < pairs.now.sites }
     requires place { (start_at ends.now site ≤ place) × (place < start_at ends.now (site + 1)) }
-    ensures value { Meant F.Fn V.Fn problem.now (λ m. IsAllowed m change (labelling at.now) →
+    ensures value { (m : Instance) (move : Move) (f : ℕ → ℕ) →
+        GivesSurpluses (S.post savings.now) m move f → IsMoveOver pairs.now m move f →
         result ≡ pos (counted counts
-        (surplus_between m change (labelling at.now) (beside_at ends.now site place)))) }
+        (surplus_between m move f (beside_at ends.now site place))) }
     ensures range { unsigned_abs result ≤ surplus_limit }
 {
     if !counts {
         return 0;
     }
-    let pair = pair_beside(&problem.pairs, ends, site, place);
-    pair_surplus(problem, table, at, change, pair)
+    let pair = pair_beside(pairs, ends, site, place);
+    savings(pair)
 }
 
 /// A table of two variables that is 0 but where both are 1: there it is the surplus below 0.
@@ -123,50 +119,49 @@ fn add_saving(form: &mut Quadratic, first: u32, second: u32, surplus: i64) -> Re
 /// Adds what the pair of a site and a neighbour saves where both are in the strip and at 1. It is
 /// added at its first end, and nothing at its second one. `numbers` has the node of each site.
 #[inline]
-fn add_inside<F: Fn(u32, u32) -> i64 + Sync, V: Fn(u32, u32) -> i64 + Sync>(
-    problem: &Problem<F, V>,
+fn add_inside<S: Fn(Pair) -> i64>(
+    savings: &S,
+    pairs: &Pairs,
     ends: &Neighbours,
-    table: &RiseTable,
     form: &mut Quadratic,
     known: &[Choice],
     from: u32,
     to: u32,
     numbers: &[u32],
-    at: &[u8],
-    change: Move,
     site: u32,
     place: u32,
     head: u32,
 ) -> Result<(), AllocError>
-    requires posed { IsPosed F.Fn V.Fn problem.now }
-    requires asked { IsAsked problem.now at.now change }
-    requires by_site { AreBySite problem.now.pairs ends.now }
-    requires labels { IsSized problem.now.data_cost.labels table.now }
-    requires table { Meant F.Fn V.Fn problem.now (λ m. IsTableOf m change table.now) }
-    requires known { length known.now ≡ length at.now }
+    requires takes { TakesPairs (S.pre savings.now) pairs.now ends.now }
+    requires small { GivesSmall (S.post savings.now) }
+    requires pairs { IsPairList pairs.now }
+    requires by_site { AreBySite pairs.now ends.now }
+    requires known { length known.now ≡ pairs.now.sites }
     requires numbering { IsNumbering (strip_view known.now from to) numbers.now }
     requires nodes { vec_len form.old.weights ≡ open_count (strip_view known.now from to) }
-    requires site { (site < length at.now) × (open_at (strip_view known.now from to) site ≡ true) }
+    requires site { (site < pairs.now.sites)
+        × (open_at (strip_view known.now from to) site ≡ true) }
     requires place { (start_at ends.now site ≤ place) × (place < start_at ends.now (site + 1)) }
-    requires head { (head ≡ head_at ends.now place) × (head < length at.now) }
+    requires head { (head ≡ head_at ends.now place) × (head < pairs.now.sites) }
     requires bounded { IsBounded term_limit form.old }
     ensures longer { OnOk result (IsLonger (counted
         (is_counted (open_at (strip_view known.now from to)) site
         (beside_at ends.now site place)) 1) form.old form.new) }
-    ensures adds { Meant F.Fn V.Fn problem.now (λ m. IsAllowed m change (labelling at.now) →
+    ensures adds { (m : Instance) (move : Move) (f : ℕ → ℕ) →
+        GivesSurpluses (S.post savings.now) m move f → IsMoveOver pairs.now m move f →
         OnOk result (AddsCost form.old form.new (λ x. counted
         (is_counted (open_at (strip_view known.now from to)) site (beside_at ends.now site place))
-        (unsaved m change (labelling at.now) (choice_at (strip_view known.now from to))
-        (rank (strip_view known.now from to)) x (beside_at ends.now site place))))) }
+        (unsaved m move f (choice_at (strip_view known.now from to))
+        (rank (strip_view known.now from to)) x (beside_at ends.now site place)))) }
 {
     if !is_inside(known, from, to, head) {
         return Ok(());
     }
-    let pair = pair_beside(&problem.pairs, ends, site, place);
+    let pair = pair_beside(pairs, ends, site, place);
     if pair.first != site {
         return Ok(());
     }
-    let surplus = pair_surplus(problem, table, at, change, pair);
+    let surplus = savings(pair);
     if surplus <= 0 {
         return Ok(());
     }
@@ -186,49 +181,50 @@ struct SiteBorders {
 
 /// The row of a site, in one pass over its neighbours: its borders, and in the form what its pairs
 /// to other sites of the strip save.
-fn add_row<F: Fn(u32, u32) -> i64 + Sync, V: Fn(u32, u32) -> i64 + Sync>(
-    problem: &Problem<F, V>,
+fn add_row<S: Fn(Pair) -> i64>(
+    savings: &S,
+    pairs: &Pairs,
     ends: &Neighbours,
-    table: &RiseTable,
     form: &mut Quadratic,
     start: &[Choice],
     known: &[Choice],
     from: u32,
     to: u32,
     numbers: &[u32],
-    at: &[u8],
-    change: Move,
     site: u32,
 ) -> Result<SiteBorders, AllocError>
-    requires posed { IsPosed F.Fn V.Fn problem.now }
-    requires asked { IsAsked problem.now at.now change }
-    requires by_site { AreBySite problem.now.pairs ends.now }
-    requires labels { IsSized problem.now.data_cost.labels table.now }
-    requires table { Meant F.Fn V.Fn problem.now (λ m. IsTableOf m change table.now) }
-    requires sizes { (length start.now ≡ length at.now) × (length known.now ≡ length at.now) }
+    requires takes { TakesPairs (S.pre savings.now) pairs.now ends.now }
+    requires small { GivesSmall (S.post savings.now) }
+    requires pairs { IsPairList pairs.now }
+    requires by_site { AreBySite pairs.now ends.now }
+    requires sizes { (length start.now ≡ pairs.now.sites) × (length known.now ≡ pairs.now.sites) }
     requires numbering { IsNumbering (strip_view known.now from to) numbers.now }
     requires nodes { vec_len form.old.weights ≡ open_count (strip_view known.now from to) }
-    requires site { (site < length at.now) × (open_at (strip_view known.now from to) site ≡ true) }
+    requires site { (site < pairs.now.sites)
+        × (open_at (strip_view known.now from to) site ≡ true) }
     requires met { met_at ends.now (open_at (strip_view known.now from to)) (λ pair. 1) site
         ≤ term_limit }
     requires bounded { IsBounded (term_limit - met_at ends.now
         (open_at (strip_view known.now from to)) (λ pair. 1) site) form.old }
-    ensures ones { Meant F.Fn V.Fn problem.now (λ m. IsAllowed m change (labelling at.now) →
-        IfOk result (λ found. found.ones ≡ pos (border_at m change (labelling at.now)
-        (choice_at start.now) (not_ones (choice_at known.now)) site))) }
-    ensures beyond { Meant F.Fn V.Fn problem.now (λ m. IsAllowed m change (labelling at.now) →
-        IfOk result (λ found. found.beyond ≡ pos (border_at m change (labelling at.now)
-        (choice_at known.now) (range_of from to) site))) }
+    ensures ones { (m : Instance) (move : Move) (f : ℕ → ℕ) →
+        GivesSurpluses (S.post savings.now) m move f → IsMoveOver pairs.now m move f →
+        IfOk result (λ found. found.ones ≡ pos (border_at m move f
+        (choice_at start.now) (not_ones (choice_at known.now)) site)) }
+    ensures beyond { (m : Instance) (move : Move) (f : ℕ → ℕ) →
+        GivesSurpluses (S.post savings.now) m move f → IsMoveOver pairs.now m move f →
+        IfOk result (λ found. found.beyond ≡ pos (border_at m move f
+        (choice_at known.now) (range_of from to) site)) }
     ensures range { IfOk result (λ found.
         (unsigned_abs found.ones ≤ surplus_limit * degree ends.now site)
         × (unsigned_abs found.beyond ≤ surplus_limit * degree ends.now site)) }
     ensures longer { OnOk result (IsLonger (met_at ends.now (open_at (strip_view known.now from to))
         (λ pair. 1) site) form.old form.new) }
-    ensures adds { Meant F.Fn V.Fn problem.now (λ m. IsAllowed m change (labelling at.now) →
+    ensures adds { (m : Instance) (move : Move) (f : ℕ → ℕ) →
+        GivesSurpluses (S.post savings.now) m move f → IsMoveOver pairs.now m move f →
         OnOk result (AddsCost form.old form.new (λ x. met_at ends.now
-        (open_at (strip_view known.now from to)) (unsaved m change (labelling at.now)
+        (open_at (strip_view known.now from to)) (unsaved m move f
         (choice_at (strip_view known.now from to)) (rank (strip_view known.now from to)) x)
-        site))) }
+        site)) }
 {
     let mut ones = 0i64;
     let mut beyond = 0i64;
@@ -236,10 +232,10 @@ fn add_row<F: Fn(u32, u32) -> i64 + Sync, V: Fn(u32, u32) -> i64 + Sync>(
         let head = ends.heads[place as usize];
         let one = is_one(start, known, head);
         let past = is_beyond(known, from, to, head);
-        ones += counted_surplus(problem, ends, table, at, change, site, place, one);
-        beyond += counted_surplus(problem, ends, table, at, change, site, place, past);
+        ones += counted_surplus(savings, pairs, ends, site, place, one);
+        beyond += counted_surplus(savings, pairs, ends, site, place, past);
         add_inside(
-            problem, ends, table, form, known, from, to, numbers, at, change, site, place, head,
+            savings, pairs, ends, form, known, from, to, numbers, site, place, head,
         )?;
     }
     Ok(SiteBorders { ones, beyond })
@@ -247,10 +243,10 @@ fn add_row<F: Fn(u32, u32) -> i64 + Sync, V: Fn(u32, u32) -> i64 + Sync>(
 
 /// The rows of all listed sites: the weights of the sites by now and their borders in lists, and in
 /// the form what pairs of two of them save.
-pub(crate) fn add_rows<F: Fn(u32, u32) -> i64 + Sync, V: Fn(u32, u32) -> i64 + Sync>(
-    problem: &Problem<F, V>,
+pub(crate) fn add_rows<S: Fn(Pair) -> i64>(
+    savings: &S,
+    pairs: &Pairs,
     ends: &Neighbours,
-    table: &RiseTable,
     form: &mut Quadratic,
     start: &[Choice],
     known: &[Choice],
@@ -259,18 +255,15 @@ pub(crate) fn add_rows<F: Fn(u32, u32) -> i64 + Sync, V: Fn(u32, u32) -> i64 + S
     from: u32,
     to: u32,
     numbers: &[u32],
-    at: &[u8],
-    change: Move,
     list: &mut Vec<i64>,
     borders: &mut Vec<u64>,
 ) -> Result<(), AllocError>
-    requires posed { IsPosed F.Fn V.Fn problem.now }
-    requires asked { IsAsked problem.now at.now change }
-    requires by_site { AreBySite problem.now.pairs ends.now }
-    requires labels { IsSized problem.now.data_cost.labels table.now }
-    requires table { Meant F.Fn V.Fn problem.now (λ m. IsTableOf m change table.now) }
-    requires sizes { (length start.now ≡ length at.now) × (length known.now ≡ length at.now) }
-    requires count { length weights.now ≡ length at.now }
+    requires takes { TakesPairs (S.pre savings.now) pairs.now ends.now }
+    requires small { GivesSmall (S.post savings.now) }
+    requires pairs { IsPairList pairs.now }
+    requires by_site { AreBySite pairs.now ends.now }
+    requires sizes { (length start.now ≡ pairs.now.sites) × (length known.now ≡ pairs.now.sites) }
+    requires count { length weights.now ≡ pairs.now.sites }
     requires size { weights_size weights.now ≤ weights_limit }
     requires opened { AreOpenSites (strip_view known.now from to) opened.now }
     requires numbering { IsNumbering (strip_view known.now from to) numbers.now }
@@ -282,17 +275,20 @@ pub(crate) fn add_rows<F: Fn(u32, u32) -> i64 + Sync, V: Fn(u32, u32) -> i64 + S
     ensures small { OnOk result (sum borders.new.items ≤ borders_limit) }
     ensures nodes { OnOk result (vec_len form.new.weights ≡ vec_len form.old.weights) }
     ensures bounded { OnOk result (IsBounded pair_limit form.new) }
-    ensures weights { Meant F.Fn V.Fn problem.now (λ m. IsAllowed m change (labelling at.now) →
-        OnOk result (list.new.items ≡ map (weight_now m change (labelling at.now)
-        (choice_at start.now) (choice_at known.now) weights.now) opened.now)) }
-    ensures borders { Meant F.Fn V.Fn problem.now (λ m. IsAllowed m change (labelling at.now) →
-        OnOk result (borders.new.items ≡ map (border_at m change (labelling at.now)
-        (choice_at known.now) (range_of from to)) opened.now)) }
-    ensures adds { Meant F.Fn V.Fn problem.now (λ m. IsAllowed m change (labelling at.now) →
+    ensures weights { (m : Instance) (move : Move) (f : ℕ → ℕ) →
+        GivesSurpluses (S.post savings.now) m move f → IsMoveOver pairs.now m move f →
+        OnOk result (list.new.items ≡ map (weight_now m move f
+        (choice_at start.now) (choice_at known.now) weights.now) opened.now) }
+    ensures borders { (m : Instance) (move : Move) (f : ℕ → ℕ) →
+        GivesSurpluses (S.post savings.now) m move f → IsMoveOver pairs.now m move f →
+        OnOk result (borders.new.items ≡ map (border_at m move f
+        (choice_at known.now) (range_of from to)) opened.now) }
+    ensures adds { (m : Instance) (move : Move) (f : ℕ → ℕ) →
+        GivesSurpluses (S.post savings.now) m move f → IsMoveOver pairs.now m move f →
         OnOk result (AddsCost form.old form.new (λ x. sum_by (met_at ends.now
-        (open_at (strip_view known.now from to)) (unsaved m change (labelling at.now)
+        (open_at (strip_view known.now from to)) (unsaved m move f
         (choice_at (strip_view known.now from to)) (rank (strip_view known.now from to)) x))
-        opened.now))) }
+        opened.now)) }
 {
     list.clear();
     borders.clear();
@@ -301,7 +297,7 @@ pub(crate) fn add_rows<F: Fn(u32, u32) -> i64 + Sync, V: Fn(u32, u32) -> i64 + S
     for index in 0..opened.len() {
         let site = opened[index];
         let found = add_row(
-            problem, ends, table, form, start, known, from, to, numbers, at, change, site,
+            savings, pairs, ends, form, start, known, from, to, numbers, site,
         )?;
         list.push_reserved(weights[site as usize] - found.ones);
         borders.push_reserved(found.beyond.unsigned_abs());

@@ -2,7 +2,6 @@ use Rattle.std.proofs.Common.{◌≡◌, ◌<◌, ◌∙◌, Bool, true, false, 
 use Rattle.std.proofs.lemmas.Int.{ints}
 use Rattle.std.proofs.lemmas.Result.{on_ok_weaker}
 use Rattle.label_field.specs.declared.pair.Pair.{Pair}
-use Rattle.labellings.specs.Energies.{labelling}
 use Rattle.sums.specs.Sums.{counted}
 use Rattle.move_energy.specs.BySite.{is_counted, pair_beside}
 use Rattle.move_energy.specs.Built.{AddsCost}
@@ -23,15 +22,15 @@ returns-then-not-is_inside-clause-longer g c =
     nothing_longer a.form.now (is_counted (open_at (strip_view a.known.now a.from a.to)) a.site (pair_beside a.ends.now a.site a.place))
 
 pub returns-then-not-is_inside-clause-adds : goal.returns-then-not-is_inside-clause-adds
-returns-then-not-is_inside-clause-adds g c = λ m answers allowed.
+returns-then-not-is_inside-clause-adds g c = λ m move f gives over.
     let a = c.args in
     let v = strip_view a.known.now a.from a.to in
     let shuts : open_at v a.head ≡ false = sym (inside_is a.known.now a.from a.to a.head) ∙ sym c.is_inside.ensures ∙ c.if-not-is_inside.true in
-    nothing_adds m a.change (labelling a.at.now) (choice_at v) (rank v) a.form.now (pair_beside a.ends.now a.site a.place)
+    nothing_adds m move f (choice_at v) (rank v) a.form.now (pair_beside a.ends.now a.site a.place)
     (is_counted (open_at v) a.site (pair_beside a.ends.now a.site a.place)) (shut_beside (choice_at v) a.ends.now a.site a.place a.head c.requires.head.0 shuts)
 
 pub returns-then-pair-site-clause-adds : goal.returns-then-pair-site-clause-adds
-returns-then-pair-site-clause-adds g c = λ m answers allowed.
+returns-then-pair-site-clause-adds g c = λ m move f gives over.
     let a = c.args in
     let v = strip_view a.known.now a.from a.to in
     let pair = c.pair_beside-pair.result in
@@ -39,32 +38,31 @@ returns-then-pair-site-clause-adds g c = λ m answers allowed.
     let opened_head : open_at v a.head ≡ true = sym (inside_is a.known.now a.from a.to a.head) ∙ sym c.is_inside.ensures ∙ c.if-not-is_inside.false in
     let both : are_open (choice_at v) pair ≡ true = open_beside (choice_at v) a.ends.now a.site a.place a.head pair is c.requires.head.0 c.requires.site.1 opened_head in
     let b : Bool = is_counted (open_at v) a.site (pair_beside a.ends.now a.site a.place) in
-    uncounted_adds a.form.now (λ x. unsaved m a.change (labelling a.at.now) (choice_at v) (rank v) x (pair_beside a.ends.now a.site a.place)) b
+    uncounted_adds a.form.now (λ x. unsaved m move f (choice_at v) (rank v) x (pair_beside a.ends.now a.site a.place)) b
     (ap (is_counted (open_at v) a.site) (sym is) ∙ uncounted_second (choice_at v) a.site pair c.if-pair-site.true both)
 
 pub returns-then-surplus-le0-clause-adds : goal.returns-then-surplus-le0-clause-adds
-returns-then-surplus-le0-clause-adds g c = λ m answers allowed.
+returns-then-surplus-le0-clause-adds g c = λ m move f gives over.
     let a = c.args in
     let v = strip_view a.known.now a.from a.to in
     let pair = c.pair_beside-pair.result in
     let is = c.pair_beside-pair.ensures.value in
     let opened_head : open_at v a.head ≡ true = sym (inside_is a.known.now a.from a.to a.head) ∙ sym c.is_inside.ensures ∙ c.if-not-is_inside.false in
     let both : are_open (choice_at v) pair ≡ true = open_beside (choice_at v) a.ends.now a.site a.place a.head pair is c.requires.head.0 c.requires.site.1 opened_head in
-    let inside : a.site < a.problem.now.pairs.sites = omega (arith, c.requires.site.0, c.requires.asked.sites) in
-    let f = labelling a.at.now in
-    let regular = regular_beside m a.change f a.problem.now.pairs a.ends.now a.site a.place pair c.requires.by_site inside c.requires.place.0 c.requires.place.1 answers.pairs_are is allowed in
-    let worth = surplus_counted m a.change f pair (are_open (choice_at v) pair) c.pair_surplus-surplus.result both regular (c.pair_surplus-surplus.ensures.value m answers) in
+    let inside : a.site < a.pairs.now.sites = omega (arith, c.requires.site.0) in
+    let regular = regular_beside m move f a.pairs.now a.ends.now a.site a.place pair c.requires.by_site inside c.requires.place.0 c.requires.place.1 over.pairs_are is over.allowed in
+    let worth = surplus_counted m move f pair (are_open (choice_at v) pair) c.savings-surplus.result both regular (gives _ _ c.savings-surplus.ensures) in
     let counts : is_counted (open_at v) a.site pair ≡ true = counted_first (choice_at v) a.site pair c.if-pair-site.false in
-    let none : c.pair_surplus-surplus.result ≤ℤ pos 0 = omega (arith, ints, c.pair_surplus-surplus.ensures.range) in
-    let P : Pair → Type 0 = λ p. AddsCost a.form.now a.form.now (λ x. counted (is_counted (open_at v) a.site p) (unsaved m a.change f (choice_at v) (rank v) x p)) in
+    let none : c.savings-surplus.result ≤ℤ pos 0 = omega (arith, ints, (c.requires.small _ _ c.savings-surplus.ensures)) in
+    let P : Pair → Type 0 = λ p. AddsCost a.form.now a.form.now (λ x. counted (is_counted (open_at v) a.site p) (unsaved m move f (choice_at v) (rank v) x p)) in
     subst P is
-    (counted_adds a.form.now a.form.now (λ x. unsaved m a.change f (choice_at v) (rank v) x pair) (is_counted (open_at v) a.site pair) counts
-    (surplus_none m a.change f (choice_at v) (rank v) a.form.now pair c.pair_surplus-surplus.result worth none))
+    (counted_adds a.form.now a.form.now (λ x. unsaved m move f (choice_at v) (rank v) x pair) (is_counted (open_at v) a.site pair) counts
+    (surplus_none m move f (choice_at v) (rank v) a.form.now pair c.savings-surplus.result worth none))
 
 pub bounds-numbers-pair-2 : goal.bounds-numbers-pair-2
 bounds-numbers-pair-2 g c =
     let a = c.args in
-    omega (arith, c.pair_beside-pair.ensures.pair.second, c.requires.numbering.count, view_length a.known.now a.from a.to, c.requires.known, c.requires.asked.sites)
+    omega (arith, c.pair_beside-pair.ensures.pair.second, c.requires.numbering.count, view_length a.known.now a.from a.to, c.requires.known)
 
 pub add_saving-requires-clause-first : goal.add_saving-requires-clause-first
 add_saving-requires-clause-first g c =
@@ -75,7 +73,7 @@ add_saving-requires-clause-first g c =
     let opened_head : open_at v a.head ≡ true = sym (inside_is a.known.now a.from a.to a.head) ∙ sym c.is_inside.ensures ∙ c.if-not-is_inside.false in
     let both : are_open (choice_at v) pair ≡ true = open_beside (choice_at v) a.ends.now a.site a.place a.head pair is c.requires.head.0 c.requires.site.1 opened_head in
     let long = view_length a.known.now a.from a.to in
-    let within : pair.first < length v = omega (arith, c.pair_beside-pair.ensures.pair.first, long, c.requires.known, c.requires.asked.sites) in
+    let within : pair.first < length v = omega (arith, c.pair_beside-pair.ensures.pair.first, long, c.requires.known) in
     let opened = first_open (choice_at v) pair both in
     omega (arith, c.requires.numbering.each pair.first within opened, rank_below v pair.first (length v) within opened, c.requires.nodes)
 
@@ -88,12 +86,12 @@ add_saving-requires-clause-second g c =
     let opened_head : open_at v a.head ≡ true = sym (inside_is a.known.now a.from a.to a.head) ∙ sym c.is_inside.ensures ∙ c.if-not-is_inside.false in
     let both : are_open (choice_at v) pair ≡ true = open_beside (choice_at v) a.ends.now a.site a.place a.head pair is c.requires.head.0 c.requires.site.1 opened_head in
     let long = view_length a.known.now a.from a.to in
-    let within : pair.second < length v = omega (arith, c.pair_beside-pair.ensures.pair.second, long, c.requires.known, c.requires.asked.sites) in
+    let within : pair.second < length v = omega (arith, c.pair_beside-pair.ensures.pair.second, long, c.requires.known) in
     let opened = second_open (choice_at v) pair both in
     omega (arith, c.requires.numbering.each pair.second within opened, rank_below v pair.second (length v) within opened, c.requires.nodes)
 
 pub returns-clause-adds : goal.returns-clause-adds
-returns-clause-adds g c = λ m answers allowed.
+returns-clause-adds g c = λ m move f gives over.
     let a = c.args in
     let v = strip_view a.known.now a.from a.to in
     let pair = c.pair_beside-pair.result in
@@ -101,19 +99,18 @@ returns-clause-adds g c = λ m answers allowed.
     let opened_head : open_at v a.head ≡ true = sym (inside_is a.known.now a.from a.to a.head) ∙ sym c.is_inside.ensures ∙ c.if-not-is_inside.false in
     let both : are_open (choice_at v) pair ≡ true = open_beside (choice_at v) a.ends.now a.site a.place a.head pair is c.requires.head.0 c.requires.site.1 opened_head in
     let long = view_length a.known.now a.from a.to in
-    let inside : a.site < a.problem.now.pairs.sites = omega (arith, c.requires.site.0, c.requires.asked.sites) in
-    let f = labelling a.at.now in
-    let regular = regular_beside m a.change f a.problem.now.pairs a.ends.now a.site a.place pair c.requires.by_site inside c.requires.place.0 c.requires.place.1 answers.pairs_are is allowed in
-    let worth = surplus_counted m a.change f pair (are_open (choice_at v) pair) c.pair_surplus-surplus.result both regular (c.pair_surplus-surplus.ensures.value m answers) in
+    let inside : a.site < a.pairs.now.sites = omega (arith, c.requires.site.0) in
+    let regular = regular_beside m move f a.pairs.now a.ends.now a.site a.place pair c.requires.by_site inside c.requires.place.0 c.requires.place.1 over.pairs_are is over.allowed in
+    let worth = surplus_counted m move f pair (are_open (choice_at v) pair) c.savings-surplus.result both regular (gives _ _ c.savings-surplus.ensures) in
     let counts : is_counted (open_at v) a.site pair ≡ true = counted_first (choice_at v) a.site pair c.if-pair-site.false in
-    let first_within : pair.first < length v = omega (arith, c.pair_beside-pair.ensures.pair.first, long, c.requires.known, c.requires.asked.sites) in
-    let second_within : pair.second < length v = omega (arith, c.pair_beside-pair.ensures.pair.second, long, c.requires.known, c.requires.asked.sites) in
+    let first_within : pair.first < length v = omega (arith, c.pair_beside-pair.ensures.pair.first, long, c.requires.known) in
+    let second_within : pair.second < length v = omega (arith, c.pair_beside-pair.ensures.pair.second, long, c.requires.known) in
     let first = c.requires.numbering.each pair.first first_within (first_open (choice_at v) pair both) in
     let second = c.requires.numbering.each pair.second second_within (second_open (choice_at v) pair both) in
-    let size = ap unsigned_abs (surplus_passed c.pair_surplus-surplus.result c.pair_surplus-surplus.ensures.range) in
-    let P : Pair → Type 0 = λ p. AddsCost a.form.now c.add_saving.new.form (λ x. counted (is_counted (open_at v) a.site p) (unsaved m a.change f (choice_at v) (rank v) x p)) in
+    let size = ap unsigned_abs (surplus_passed c.savings-surplus.result (c.requires.small _ _ c.savings-surplus.ensures)) in
+    let P : Pair → Type 0 = λ p. AddsCost a.form.now c.add_saving.new.form (λ x. counted (is_counted (open_at v) a.site p) (unsaved m move f (choice_at v) (rank v) x p)) in
     on_ok_weaker c.add_saving.result (λ adds.
     subst P is
-    (counted_adds a.form.now c.add_saving.new.form (λ x. unsaved m a.change f (choice_at v) (rank v) x pair) (is_counted (open_at v) a.site pair) counts
-    (surplus_adds m a.change f (choice_at v) (rank v) a.form.now c.add_saving.new.form pair _ _ _ c.pair_surplus-surplus.result
+    (counted_adds a.form.now c.add_saving.new.form (λ x. unsaved m move f (choice_at v) (rank v) x pair) (is_counted (open_at v) a.site pair) counts
+    (surplus_adds m move f (choice_at v) (rank v) a.form.now c.add_saving.new.form pair _ _ _ c.savings-surplus.result
     first second both worth size adds))) c.add_saving.ensures.adds

@@ -1,6 +1,5 @@
 use Rattle.std.proofs.Common.{◌<◌, ◌≤◌, ◌-ℤ◌, ◌∙◌, ℕ, ℤ, Bool, List, get_or, unsigned_abs, ap, sym, refl, length, sum, sum_by, arith}
 use Rattle.std.proofs.lemmas.Grind.{common_steps}
-use Rattle.labellings.specs.Energies.{labelling}
 use Rattle.compile_cut.specs.Weights.{weights_size}
 use Rattle.move_energy.specs.BySite.{degree, met_at}
 use Rattle.move_energy.specs.Choices.{choice_at, open_at, rank}
@@ -27,19 +26,19 @@ loop-index-init g c =
       borders_len = c.in_ok-reserve-2.ensures.len ∙ c.clear-2.ensures.len;
       size = omega (arith, ap (λ (ws : List ℤ). weights_size ws) list);
       small = omega (arith, ap (λ (xs : List ℕ). sum xs) borders);
-      weights = λ m answers allowed. list;
-      borders = λ m answers allowed. borders;
+      weights = λ m move f gives over. list;
+      borders = λ m move f gives over. borders;
       longer = longer_none c.args.form.now;
-      adds = λ m answers allowed. cost_none c.args.form.now (λ x. 0) (λ x. refl);
+      adds = λ m move f gives over. cost_none c.args.form.now (λ x. 0) (λ x. refl);
     }
 
 pub add_row-requires-clause-numbering : goal.add_row-requires-clause-numbering
 add_row-requires-clause-numbering g c =
-    λ κs lives. c.requires.numbering
+    c.requires.numbering
 
 pub add_row-requires-clause-nodes : goal.add_row-requires-clause-nodes
 add_row-requires-clause-nodes g c =
-    λ κs lives. c.loop-index.invariant.longer.nodes ∙ c.requires.nodes
+    c.loop-index.invariant.longer.nodes ∙ c.requires.nodes
 
 pub add_row-requires-clause-site : goal.add_row-requires-clause-site
 add_row-requires-clause-site g c =
@@ -49,7 +48,6 @@ add_row-requires-clause-site g c =
     let l : i < length a.opened.now = c.loop-index-test.true in
     let has = opened_has v a.opened.now i c.requires.opened l in
     let long = view_length a.known.now a.from a.to in
-    λ κs lives.
     (omega (arith, has.0, long, c.requires.sizes.1), open_true (choice_at v (get_or a.opened.now i 0)) has.1)
 
 pub add_row-requires-clause-met : goal.add_row-requires-clause-met
@@ -60,12 +58,11 @@ add_row-requires-clause-met g c =
     let l : i < length a.opened.now = c.loop-index-test.true in
     let has = opened_has v a.opened.now i c.requires.opened l in
     let long = view_length a.known.now a.from a.to in
-    let few : sum_by (met_at a.ends.now (open_at v) (λ pair. 1)) a.opened.now ≤ length a.problem.now.pairs.list =
-    met_few a.problem.now.pairs a.ends.now v a.opened.now (length a.at.now) c.requires.by_site c.requires.posed.pairs.each
-    c.requires.asked.sites (view_length a.known.now a.from a.to ∙ c.requires.sizes.1) c.requires.opened in
-    λ κs lives.
-    (rows_room (met_at a.ends.now (open_at v) (λ pair. 1)) a.opened.now i (length a.problem.now.pairs.list) a.form.now c.loop-index.form l few
-    c.requires.posed.pairs.count c.requires.bounded c.loop-index.invariant.longer).0
+    let few : sum_by (met_at a.ends.now (open_at v) (λ pair. 1)) a.opened.now ≤ length a.pairs.now.list =
+    met_few a.pairs.now a.ends.now v a.opened.now (a.pairs.now.sites) c.requires.by_site c.requires.pairs.each
+    refl (view_length a.known.now a.from a.to ∙ c.requires.sizes.1) c.requires.opened in
+    (rows_room (met_at a.ends.now (open_at v) (λ pair. 1)) a.opened.now i (length a.pairs.now.list) a.form.now c.loop-index.form l few
+    c.requires.pairs.count c.requires.bounded c.loop-index.invariant.longer).0
 
 pub add_row-requires-clause-bounded : goal.add_row-requires-clause-bounded
 add_row-requires-clause-bounded g c =
@@ -75,12 +72,11 @@ add_row-requires-clause-bounded g c =
     let l : i < length a.opened.now = c.loop-index-test.true in
     let has = opened_has v a.opened.now i c.requires.opened l in
     let long = view_length a.known.now a.from a.to in
-    let few : sum_by (met_at a.ends.now (open_at v) (λ pair. 1)) a.opened.now ≤ length a.problem.now.pairs.list =
-    met_few a.problem.now.pairs a.ends.now v a.opened.now (length a.at.now) c.requires.by_site c.requires.posed.pairs.each
-    c.requires.asked.sites (view_length a.known.now a.from a.to ∙ c.requires.sizes.1) c.requires.opened in
-    λ κs lives.
-    (rows_room (met_at a.ends.now (open_at v) (λ pair. 1)) a.opened.now i (length a.problem.now.pairs.list) a.form.now c.loop-index.form l few
-    c.requires.posed.pairs.count c.requires.bounded c.loop-index.invariant.longer).1
+    let few : sum_by (met_at a.ends.now (open_at v) (λ pair. 1)) a.opened.now ≤ length a.pairs.now.list =
+    met_few a.pairs.now a.ends.now v a.opened.now (a.pairs.now.sites) c.requires.by_site c.requires.pairs.each
+    refl (view_length a.known.now a.from a.to ∙ c.requires.sizes.1) c.requires.opened in
+    (rows_room (met_at a.ends.now (open_at v) (λ pair. 1)) a.opened.now i (length a.pairs.now.list) a.form.now c.loop-index.form l few
+    c.requires.pairs.count c.requires.bounded c.loop-index.invariant.longer).1
 
 pub bounds-weights-site : goal.bounds-weights-site
 bounds-weights-site g c =
@@ -101,9 +97,9 @@ overflow_sub-weights g c =
     let has = opened_has v a.opened.now i c.requires.opened l in
     let long = view_length a.known.now a.from a.to in
     let site : ℕ = get_or a.opened.now i 0 in
-    let inside : site < a.problem.now.pairs.sites = omega (arith, has.0, long, c.requires.sizes.1, c.requires.asked.sites) in
+    let inside : site < a.pairs.now.sites = omega (arith, has.0, long, c.requires.sizes.1) in
     let within : site < length a.weights.now = omega (arith, has.0, long, c.requires.sizes.1, c.requires.count) in
-    let few_ends : degree a.ends.now site ≤ 8388608 = omega (arith, degree_most a.problem.now.pairs a.ends.now site c.requires.by_site inside, c.requires.posed.pairs.count) in
+    let few_ends : degree a.ends.now site ≤ 8388608 = omega (arith, degree_most a.pairs.now a.ends.now site c.requires.by_site inside, c.requires.pairs.count) in
     weight_fits (weight_at a.weights.now site) c.in_ok-found.found.ones (degree a.ends.now site) (weight_few a.weights.now site within c.requires.size)
     c.in_ok-found.ensures.range.0 few_ends
 
@@ -116,9 +112,9 @@ loop-index-preserved g c =
     let has = opened_has v a.opened.now i c.requires.opened l in
     let long = view_length a.known.now a.from a.to in
     let site : ℕ = get_or a.opened.now i 0 in
-    let inside : site < a.problem.now.pairs.sites = omega (arith, has.0, long, c.requires.sizes.1, c.requires.asked.sites) in
+    let inside : site < a.pairs.now.sites = omega (arith, has.0, long, c.requires.sizes.1) in
     let within : site < length a.weights.now = omega (arith, has.0, long, c.requires.sizes.1, c.requires.count) in
-    let few_ends : degree a.ends.now site ≤ 8388608 = omega (arith, degree_most a.problem.now.pairs a.ends.now site c.requires.by_site inside, c.requires.posed.pairs.count) in
+    let few_ends : degree a.ends.now site ≤ 8388608 = omega (arith, degree_most a.pairs.now a.ends.now site c.requires.by_site inside, c.requires.pairs.count) in
     let inv = c.loop-index.invariant in
     let found = c.in_ok-found.found in
     let says = c.in_ok-found.ensures in
@@ -133,17 +129,17 @@ loop-index-preserved g c =
       borders_len = omega (arith, second.len, inv.borders_len);
       size = size_more a.weights.now c.loop-index.list.items _ a.opened.now a.ends.now i site _ found.ones l refl first.items weight says.range.0 inv.size;
       small = borders_more c.loop-index.borders.items _ a.opened.now a.ends.now i site _ l refl second.items (omega (arith, border, says.range.1)) inv.small;
-      weights = λ m answers allowed.
-          list_more (weight_now m a.change (labelling a.at.now) (choice_at a.start.now) (choice_at a.known.now) a.weights.now) c.loop-index.list.items _ a.opened.now i site _ l refl first.items
-          (weight ∙ ap (λ b. weight_at a.weights.now site -ℤ b) (says.ones m answers allowed)) (inv.weights m answers allowed);
-      borders = λ m answers allowed.
-          list_more (border_at m a.change (labelling a.at.now) (choice_at a.known.now) (range_of a.from a.to)) c.loop-index.borders.items _ a.opened.now i site _ l refl second.items
-          (border ∙ ap unsigned_abs (says.beyond m answers allowed)) (inv.borders m answers allowed);
+      weights = λ m move f gives over.
+          list_more (weight_now m move f (choice_at a.start.now) (choice_at a.known.now) a.weights.now) c.loop-index.list.items _ a.opened.now i site _ l refl first.items
+          (weight ∙ ap (λ b. weight_at a.weights.now site -ℤ b) (says.ones m move f gives over)) (inv.weights m move f gives over);
+      borders = λ m move f gives over.
+          list_more (border_at m move f (choice_at a.known.now) (range_of a.from a.to)) c.loop-index.borders.items _ a.opened.now i site _ l refl second.items
+          (border ∙ ap unsigned_abs (says.beyond m move f gives over)) (inv.borders m move f gives over);
       longer = sum_longer (met_at a.ends.now (open_at v) (λ pair. 1)) a.opened.now i a.form.now c.loop-index.form c.add_row.new.form l inv.longer says.longer;
-      adds = λ m answers allowed.
+      adds = λ m move f gives over.
           site_more a.form.now c.loop-index.form c.add_row.new.form
-          (λ (x : ℕ → Bool). met_at a.ends.now (open_at v) (unsaved m a.change (labelling a.at.now) (choice_at v) (rank v) x))
-          a.opened.now i l (inv.adds m answers allowed) (says.adds m answers allowed);
+          (λ (x : ℕ → Bool). met_at a.ends.now (open_at v) (unsaved m move f (choice_at v) (rank v) x))
+          a.opened.now i l (inv.adds m move f gives over) (says.adds m move f gives over);
     }
 
 pub returns-clause-size : goal.returns-clause-size
@@ -151,31 +147,31 @@ returns-clause-size g c =
     let a = c.args in
     let v = strip_view a.known.now a.from a.to in
     let long = view_length a.known.now a.from a.to in
-    size_all a.problem.now.pairs a.ends.now v a.weights.now c.loop-index.list.items a.opened.now c.loop-index.index c.requires.posed.pairs c.requires.by_site
-    (long ∙ c.requires.sizes.1 ∙ c.requires.asked.sites) (c.requires.count ∙ sym (long ∙ c.requires.sizes.1)) c.requires.opened c.requires.size c.loop-index-test.false c.loop-index.invariant.size
+    size_all a.pairs.now a.ends.now v a.weights.now c.loop-index.list.items a.opened.now c.loop-index.index c.requires.pairs c.requires.by_site
+    (long ∙ c.requires.sizes.1) (c.requires.count ∙ sym (long ∙ c.requires.sizes.1)) c.requires.opened c.requires.size c.loop-index-test.false c.loop-index.invariant.size
 
 pub returns-clause-small : goal.returns-clause-small
 returns-clause-small g c =
     let a = c.args in
     let v = strip_view a.known.now a.from a.to in
     let long = view_length a.known.now a.from a.to in
-    borders_all a.problem.now.pairs a.ends.now v c.loop-index.borders.items a.opened.now c.loop-index.index c.requires.posed.pairs c.requires.by_site
-    (long ∙ c.requires.sizes.1 ∙ c.requires.asked.sites) c.requires.opened c.loop-index-test.false c.loop-index.invariant.small
+    borders_all a.pairs.now a.ends.now v c.loop-index.borders.items a.opened.now c.loop-index.index c.requires.pairs c.requires.by_site
+    (long ∙ c.requires.sizes.1) c.requires.opened c.loop-index-test.false c.loop-index.invariant.small
 
 pub returns-clause-bounded : goal.returns-clause-bounded
 returns-clause-bounded g c =
     let a = c.args in
     let v = strip_view a.known.now a.from a.to in
-    let few : sum_by (met_at a.ends.now (open_at v) (λ pair. 1)) a.opened.now ≤ length a.problem.now.pairs.list =
-    met_few a.problem.now.pairs a.ends.now v a.opened.now (length a.at.now) c.requires.by_site c.requires.posed.pairs.each
-    c.requires.asked.sites (view_length a.known.now a.from a.to ∙ c.requires.sizes.1) c.requires.opened in
-    rows_bounded (met_at a.ends.now (open_at v) (λ pair. 1)) a.opened.now c.loop-index.index (length a.problem.now.pairs.list) a.form.now c.loop-index.form few
-    c.requires.posed.pairs.count c.requires.bounded c.loop-index.invariant.longer
+    let few : sum_by (met_at a.ends.now (open_at v) (λ pair. 1)) a.opened.now ≤ length a.pairs.now.list =
+    met_few a.pairs.now a.ends.now v a.opened.now (a.pairs.now.sites) c.requires.by_site c.requires.pairs.each
+    refl (view_length a.known.now a.from a.to ∙ c.requires.sizes.1) c.requires.opened in
+    rows_bounded (met_at a.ends.now (open_at v) (λ pair. 1)) a.opened.now c.loop-index.index (length a.pairs.now.list) a.form.now c.loop-index.form few
+    c.requires.pairs.count c.requires.bounded c.loop-index.invariant.longer
 
 pub returns-clause-adds : goal.returns-clause-adds
-returns-clause-adds g c = λ m answers allowed.
+returns-clause-adds g c = λ m move f gives over.
     let a = c.args in
     let v = strip_view a.known.now a.from a.to in
     site_all a.form.now c.loop-index.form
-    (λ (x : ℕ → Bool). met_at a.ends.now (open_at v) (unsaved m a.change (labelling a.at.now) (choice_at v) (rank v) x))
-    a.opened.now c.loop-index.index (omega (arith, c.loop-index-test.false)) (c.loop-index.invariant.adds m answers allowed)
+    (λ (x : ℕ → Bool). met_at a.ends.now (open_at v) (unsaved m move f (choice_at v) (rank v) x))
+    a.opened.now c.loop-index.index (omega (arith, c.loop-index-test.false)) (c.loop-index.invariant.adds m move f gives over)

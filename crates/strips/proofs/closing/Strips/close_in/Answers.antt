@@ -1,4 +1,5 @@
 use Rattle.std.proofs.Common.{◌≤◌, ℕ, List, length, sym, ap, subst, arith}
+use Rattle.std.specs.Global.{Vec}
 use Rattle.labellings.specs.Energies.{labelling}
 use Rattle.move_energy.specs.declared.choice.Choice.{Choice}
 use Rattle.move_energy.specs.Choices.{choice_at, AreOpenSites, StandsFor, rank}
@@ -31,18 +32,16 @@ strips-init g c =
 
 pub returns-clause-opened : goal.returns-clause-opened
 returns-clause-opened g c =
-    let known = c.strips.built.variables.choices.items in
-    let O : List Choice → Type 0 = λ xs. AreOpenSites xs c.strips.self.opened.items in
-    subst O (sym c.in_ok-build_strip.ensures.kept)
-    (whole_listed known c.strips.to c.strips.self.opened.items (omega (arith, c.strips.invariant.count, c.strips-test.false)) c.strips.invariant.opened)
+    let O : Vec ℕ → Type 0 = λ opened. AreOpenSites c.strips.built.variables.choices.items opened.items in
+    subst O (sym c.spare_job-job.ensures)
+    (whole_listed c.strips.built.variables.choices.items c.strips.to c.strips.self.opened.items (omega (arith, c.strips.invariant.count, c.strips-test.false)) c.strips.invariant.opened)
 
 pub returns-clause-stands : goal.returns-clause-stands
 returns-clause-stands g c = λ m meant.
     let known = c.strips.built.variables.choices.items in
     let all : length known ≤ c.strips.to = omega (arith, c.strips.invariant.count, c.strips-test.false) in
-    let S : (ℕ → Choice) → (ℕ → ℕ) → Type 0 = λ choice variable. StandsFor m c.args.change (labelling c.args.at.now) choice c.build_strip.new.built.form variable in
+    let S : (ℕ → Choice) → (ℕ → ℕ) → Type 0 = λ choice variable. StandsFor m c.args.change (labelling c.args.at.now) choice c.build_last.new.form variable in
     let P : (ℕ → Choice) → Type 0 = λ choice. S choice (rank (strip_view known 0 c.strips.to)) in
     let Q : (ℕ → ℕ) → Type 0 = λ variable. S (choice_at known) variable in
-    let R : List Choice → Type 0 = λ xs. S (choice_at xs) (rank xs) in
-    subst R (sym c.in_ok-build_strip.ensures.kept)
-    (subst Q (whole_rank known c.strips.to all) (subst P (whole_is known c.strips.to all) (c.in_ok-build_strip.ensures.built m meant)))
+    let K : List Choice → Type 0 = λ xs. S (choice_at (strip_view xs 0 c.strips.to)) (rank (strip_view xs 0 c.strips.to)) in
+    subst Q (whole_rank known c.strips.to all) (subst P (whole_is known c.strips.to all) (subst K c.deref-2.ensures.value (c.in_ok-build_last.ensures.stands m meant)))
