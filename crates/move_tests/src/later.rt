@@ -12,6 +12,7 @@ use cost_store::{DataCost, Problem, SMOOTH_LIMIT, SmoothCost, check_table, is_me
 use flow_network::{Net, Solved};
 use label_field::{Labelling, Pairs};
 use moves::{Alone, How, SolveError, run_expansion};
+use solvers::InOrder;
 use std::alloc::{AllocError, Global};
 use std::process::Abort;
 use std::sync::atomic::{AtomicUsize, Ordering};
@@ -39,6 +40,8 @@ struct Counting {
 }
 
 impl How for Counting {
+    type Fork = InOrder;
+
     ghost ready = { λ _. Unit {0} };
 
     ghost refuses = { λ _ e. e ≡ OutOfMemory };
@@ -47,6 +50,10 @@ impl How for Counting {
         self.cuts.fetch_add(1, Ordering::SeqCst);
         self.nodes.fetch_add(net.nodes(), Ordering::SeqCst);
         Alone.solve(alloc, net)
+    }
+
+    fn fork(&self) -> InOrder {
+        InOrder
     }
 }
 

@@ -10,6 +10,7 @@ use cost_store::{DataCost, Problem, SmoothCost};
 use flow_network::{Net, Solved};
 use label_field::{Labelling, Pairs};
 use moves::{Alone, How, MoveError, SolveError, expand, run_expansion, run_swap, swap};
+use solvers::InOrder;
 use std::alloc::Global;
 use std::process::Abort;
 
@@ -34,6 +35,8 @@ const WEIGHT: u32 = 1_000;
 pub struct CutAlone;
 
 impl How for CutAlone {
+    type Fork = InOrder;
+
     ghost ready = { λ _. Unit {0} };
 
     ghost refuses = { λ _ e. e ≡ OutOfMemory };
@@ -44,6 +47,10 @@ impl How for CutAlone {
 
     fn decides_first(&self) -> bool {
         false
+    }
+
+    fn fork(&self) -> InOrder {
+        InOrder
     }
 }
 
@@ -56,6 +63,8 @@ pub struct InStrips {
 }
 
 impl How for InStrips {
+    type Fork = InOrder;
+
     ghost ready = { λ _. Unit {0} };
 
     ghost refuses = { λ _ e. e ≡ OutOfMemory };
@@ -70,6 +79,10 @@ impl How for InStrips {
 
     fn sides_at_once(&self) -> usize {
         self.at_once.max(1)
+    }
+
+    fn fork(&self) -> InOrder {
+        InOrder
     }
 }
 

@@ -7,6 +7,7 @@ use cost_store::{DataCost, Problem, SmoothCost};
 use flow_network::{Net, Solved};
 use label_field::{Labelling, Pairs};
 use moves::{Alone, Ended, How, MoveError, SolveError, run_expansion};
+use solvers::InOrder;
 use std::alloc::Global;
 use std::process::Abort;
 use std::sync::atomic::{AtomicU32, Ordering};
@@ -29,6 +30,8 @@ impl Refusing {
 }
 
 impl How for Refusing {
+    type Fork = InOrder;
+
     ghost ready = { λ _. Unit {0} };
 
     ghost refuses = { λ _ _. Unit {0} };
@@ -39,6 +42,10 @@ impl How for Refusing {
         }
         self.left.fetch_sub(1, Ordering::SeqCst);
         Alone.solve(alloc, net)
+    }
+
+    fn fork(&self) -> InOrder {
+        InOrder
     }
 }
 

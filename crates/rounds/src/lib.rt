@@ -14,6 +14,7 @@ mod back;
 mod blocks;
 mod ended;
 mod flags;
+mod fork;
 mod gates;
 mod hands;
 mod join;
@@ -33,6 +34,7 @@ mod work;
 mod workers;
 
 pub use block_workers::{Job, Ledgers, RoundError, TurnBook};
+pub use fork::ByThreads;
 pub use gates::{Lent, Open};
 pub use join::join_all;
 pub use parallel_error::ParallelError;

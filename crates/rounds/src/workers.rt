@@ -5,6 +5,7 @@ ghost use Rattle.worker_options.specs.declared.options.Options.{Options as Optio
 ghost use Rattle.rounds.specs.Refusals.{IsRefusal};
 ghost use Rattle.rounds.specs.SolveErrors.{MayRefuse, of_parallel};
 
+use crate::fork::ByThreads;
 use crate::gates::Lent;
 use crate::side_jobs::cut_by_threads;
 use crate::{ParallelError, side_parallel, solve_parallel};
@@ -14,6 +15,10 @@ use std::alloc::Global;
 use std::sync::Wait;
 use std::thread::Threads;
 use worker_options::{Gate, Options};
+
+/// The fewest sites that are decided by several threads at first: fewer take less time on one thread
+/// than the start of the others.
+const SHARED_SITES: usize = 1 << 16;
 
 /// By workers that run side by side over the blocks of a net. It refuses where memory runs out,
 /// where the system does not start a worker, and where a number of the options is out of its range.
@@ -41,6 +46,8 @@ fn refusal_of(error: ParallelError) -> SolveError
 }
 
 impl<'a, R: Threads + Wait + Sync> How for Workers<'a, R, &'a (dyn Gate + Sync)> {
+    type Fork = ByThreads<'a, R>;
+
     ghost ready = { λ _. IsSync R.row };
 
     ghost refuses = { λ how e. MayRefuse how.options e };
@@ -60,6 +67,18 @@ impl<'a, R: Threads + Wait + Sync> How for Workers<'a, R, &'a (dyn Gate + Sync)>
     fn sides(&self, alloc: Global, jobs: &mut [SidesJob]) {
         let threads = self.sides_at_once();
         cut_by_threads(self.rt, threads, alloc, jobs);
+    }
+
+    /// As many parts as threads. A thread decides fewer sites than are worth its start in less time.
+    fn parts(&self, sites: usize) -> usize {
+        if sites < SHARED_SITES {
+            return 1;
+        }
+        self.sides_at_once()
+    }
+
+    fn fork(&self) -> ByThreads<'a, R> {
+        ByThreads { rt: self.rt }
     }
 
     fn solve(&self, alloc: Global, net: &Net) -> Result<Solved, SolveError> {

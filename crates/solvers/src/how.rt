@@ -7,6 +7,7 @@ ghost use Rattle.solvers.specs.declared.solve_error.SolveError.{SolveError};
 ghost use Rattle.solvers.specs.declared.solve_error.SolveError.TheVariants.{OutOfMemory};
 
 use crate::SolveError;
+use crate::fork::{Fork, InOrder};
 use crate::jobs::{SidesJob, cut_jobs};
 use flow_network::{Net, Solved};
 use plain_cut::Workspace;
@@ -15,6 +16,8 @@ use std::alloc::Global;
 /// A way to cut a net: `ready` is what it asks of its caller, and `refuses` says which refusals may
 /// come.
 pub trait How {
+    type Fork: Fork + Drop;
+
     ghost ready: { Self → Type 0 };
 
     ghost refuses: { Self → SolveError → Type 0 };
@@ -88,6 +91,19 @@ pub trait How {
     {
         cut_jobs(alloc, jobs);
     }
+
+    /// In how many parts a move of so many sites decides them at first, side by side: on the thread
+    /// of the caller one. The answers are the same, whatever the number.
+    fn parts(&self, _sites: usize) -> usize
+        ensures { 0 < result }
+    {
+        1
+    }
+
+    /// What does parts of a move side by side.
+    fn fork(&self) -> Self::Fork
+        requires ready { ready self.now }
+        ensures { Self.Fork.can_do result };
 }
 
 /// The rows, labels and lists of so many open sites stand in a cache of one to two million bytes.
@@ -98,6 +114,8 @@ const STRIP_SITES: usize = 1 << 14;
 pub struct Alone;
 
 impl How for Alone {
+    type Fork = InOrder;
+
     ghost ready = { λ _. Unit {0} };
 
     ghost refuses = { λ _ e. e ≡ OutOfMemory };
@@ -111,6 +129,10 @@ impl How for Alone {
 
     fn strip_sites(&self) -> usize {
         STRIP_SITES
+    }
+
+    fn fork(&self) -> InOrder {
+        InOrder
     }
 
     fn side(&self, alloc: Global, net: Net) -> Result<Vec<bool>, SolveError> {
