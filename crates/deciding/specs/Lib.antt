@@ -5,4 +5,5 @@ pub mod Working
 pub mod Rising
 pub mod Decided
 pub mod Listed
+pub mod Parts
 pub mod Laws
