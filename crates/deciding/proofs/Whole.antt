@@ -14,7 +14,8 @@ use Rattle.deciding.proofs.Ranges.{AreAdded, least_before, least_at}
 use Rattle.deciding.specs.declared.bounds.Bounds.{Bounds}
 use Rattle.deciding.specs.Decisions.{set_bit, put, rise, Passes}
 use Rattle.deciding.specs.MoveValues.{move_value}
-use Rattle.deciding.specs.Working.{bound_at, valued, CanDecide, AreUndecided, ArePartlyDecided}
+use Rattle.deciding.specs.Working.{bound_at, valued, CanDecide, AreUndecided, AreUnsummed, ArePartlyDecided}
+use Rattle.deciding.specs.Parts.{ArePassedChoices}
 use Rattle.deciding.specs.Decided.{AreDecided}
 use Rattle.deciding.proofs.Fixed.{fixed_site, shown_by, shown_put, shown_passed}
 
@@ -31,6 +32,25 @@ partly_first m move f b most undecided =
       least = λ u l opened. absurd (omega (arith, l));
       greatest = λ u l opened. absurd (omega (arith, l));
     }
+
+pub unsummed_first : (move : Move) (f : List ℕ) (b : Bounds) → AreUndecided move f b → AreUnsummed (length f) b
+unsummed_first move f b undecided = record { choices = undecided.opened.count; least = undecided.least; greatest = undecided.greatest; none = undecided.none }
+
+-- the choices at the beginning are those of decisions that passed
+pub chosen_first : (m : Instance) (move : Move) (f : List ℕ) (b : Bounds) → m.sites ≤ length f → AreUndecided move f b → ArePassedChoices m move (labelling f) (choice_at b.choices.items)
+chosen_first m move f b most undecided =
+    let first = partly_first m move f b most undecided in
+    record { decisions = first.decisions; passed = first.passed; shown = first.shown }
+
+-- and once they are others such, none is summed still
+pub partly_begun : (m : Instance) (move : Move) (f : ℕ → ℕ) (b : Bounds) → ArePassedChoices m move f (choice_at b.choices.items) → ArePartlyDecided m move f 0 b
+partly_begun m move f b chosen = record {
+  decisions = chosen.decisions;
+  passed = chosen.passed;
+  shown = chosen.shown;
+  least = λ u l opened. absurd (omega (arith, l));
+  greatest = λ u l opened. absurd (omega (arith, l));
+}
 
 -- one site more is summed
 pub partly_more : (m : Instance) (move : Move) (f : ℕ → ℕ) (k : ℕ) (least greatest : ℤ) (old new : Bounds) → IsInstance m → AreAdded k least greatest old new

@@ -6,4 +6,5 @@ pub mod Rising
 pub mod Savings
 pub mod Decided
 pub mod Listed
+pub mod Parts
 pub mod Laws

@@ -84,6 +84,13 @@ pub record AreUndecided (move : Move) (f : List ℕ) (b : Bounds) : Type 0 where
   pub greatest : length b.greatest.items ≡ 0
   pub none : length b.waiting.items ≡ 0
 
+-- there is a choice of each of n sites, none was summed, and none waits
+pub record AreUnsummed (n : ℕ) (b : Bounds) : Type 0 where
+  pub choices : length b.choices.items ≡ n
+  pub least : length b.least.items ≡ 0
+  pub greatest : length b.greatest.items ≡ 0
+  pub none : length b.waiting.items ≡ 0
+
 -- no bound is larger
 abbrev pub IsWithinRange : ℕ → Bounds → Type 0
 IsWithinRange most b =

@@ -1,8 +1,8 @@
 //! Laws of deciding variables one after another: each function does nothing, and its contract is the law. The first
-//! is of submodular functions of an assignment, the next three of any function, the last of the labellings that a
+//! two are of submodular functions of an assignment, the next three of any function, the last of the labellings that a
 //! move makes.
 
-ghost use Rattle.std.specs.Prelude.{ℕ, ◌≤◌, Bool, List, ℤ};
+ghost use Rattle.std.specs.Prelude.{ℕ, ◌≤◌, ◌++◌, Bool, List, ℤ};
 ghost use Rattle.compile_cut.specs.Shown.{Hides};
 ghost use Rattle.labellings.specs.declared.change.Move.{Move};
 ghost use Rattle.labellings.specs.Energies.{Instance, IsInstance};
@@ -17,6 +17,13 @@ pub fn passed_is_forced()
         Passes E ds i b → IsForced E ds i b }
     ensures all { (E : (ℕ → Bool) → ℤ) (ds : List Decision) → IsSubmodular E → HavePassed E ds →
         AreForced E ds }
+{}
+
+/// Decisions that passed the test pass it still once others that passed were made before them, in a
+/// function whose rises fall. So decisions that were made side by side can be put together.
+pub fn joined_is_passed()
+    ensures { (E : (ℕ → Bool) → ℤ) (ds ks : List Decision) → IsSubmodular E → HavePassed E ds →
+        HavePassed E ks → HavePassed E (ds ++ ks) }
 {}
 
 /// Each forced variable has its value in the least assignment with the fewest ones.

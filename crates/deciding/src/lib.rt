@@ -6,6 +6,8 @@ mod bounds;
 mod costs;
 pub mod laws;
 mod listing;
+mod parts;
+mod reading;
 mod rising;
 mod savings;
 mod settling;

@@ -171,7 +171,13 @@ fn rises_by(rises: EndRises, choice: Choice) -> Rises
 
 /// By how much a pair's cost rises where its end at a site turns, as the table tells it.
 #[inline]
-fn table_rises(table: &RiseTable, choices: &[Choice], at: &[u8], site: u32, pair: Pair) -> Rises
+pub(crate) fn table_rises(
+    table: &RiseTable,
+    choices: &[Choice],
+    at: &[u8],
+    site: u32,
+    pair: Pair,
+) -> Rises
     requires pair { IsPair (length at.now) pair }
     requires end { (pair.first ≡ site) ⊎ (pair.second ≡ site) }
     requires choices { length choices.now ≡ length at.now }

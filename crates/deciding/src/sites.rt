@@ -19,6 +19,7 @@ use cost_store::Problem;
 use label_field::Pairs;
 use labellings::Move;
 use move_energy::{BuildError, Neighbours, group_pairs};
+use solvers::How;
 use std::alloc::{AllocError, Global};
 
 /// The neighbours of each site by a list of pairs, made once a run, and the room in which the sites of a move are decided.
@@ -28,6 +29,7 @@ pub struct Deciding {
     pub table: RiseTable,
     pub bounds: Bounds,
     pub lists: Lists,
+    own_rises: Vec<i32>,
 }
 
 impl Deciding {
@@ -43,6 +45,7 @@ impl Deciding {
             table: RiseTable::empty(alloc),
             bounds: Bounds::new(alloc),
             lists: Lists::empty(alloc),
+            own_rises: Vec::new(alloc),
         }
     }
 
@@ -57,6 +60,7 @@ impl Deciding {
             table: RiseTable::empty(alloc),
             bounds: Bounds::new(alloc),
             lists: Lists::empty(alloc),
+            own_rises: Vec::new(alloc),
         })
     }
 
@@ -101,6 +105,55 @@ impl Deciding {
         self.table
             .make(problem, change, at.len(), self.ends.weight)?;
         self.bounds.open_sites(at, change)?;
+        self.bounds
+            .decide_sites(problem, &self.ends, &self.table, at, change)?;
+        self.lists.fill(at, change, &self.bounds.choices)?;
+        Ok(())
+    }
+
+    /// What `decide` does. Where the way to cut asks for parts of the sites, most sites are decided
+    /// side by side, each part by what its own sites tell; what is left is decided as there. The
+    /// choices are the same, whatever the number of parts.
+    pub fn decide_by_parts<F: Fn(u32, u32) -> i64 + Sync, V: Fn(u32, u32) -> i64 + Sync, H: How>(
+        &mut self,
+        problem: &Problem<F, V>,
+        at: &[u8],
+        change: Move,
+        how: &H,
+    ) -> Result<(), BuildError>
+        requires ready { H.ready how.now }
+        requires asked { IsAsked problem.now at.now change }
+        requires posed { IsPosed F.Fn V.Fn problem.now }
+        requires by_site { AreBySite problem.now.pairs self.old.ends }
+        ensures kept { self.new.ends ≡ self.old.ends }
+        ensures count { OnOk result (length self.new.bounds.choices.items ≡ length at.now) }
+        ensures sized { OnOk result (AreOfSites (length at.now) self.new.bounds) }
+        ensures weights { Meant F.Fn V.Fn problem.now (λ m. OnOk result (AreWeights m change
+            (labelling at.now) (choice_at self.new.bounds.choices.items) self.new.bounds.greatest.items)) }
+        ensures small { OnOk result (weights_size self.new.bounds.greatest.items ≤ weights_limit) }
+        ensures decided { Meant F.Fn V.Fn problem.now (λ m. IsDecidedMove m change at.now
+            self.new.bounds.choices.items result) }
+        ensures table { OnOk result (IsSized problem.now.data_cost.labels self.new.table) }
+        ensures rises { Meant F.Fn V.Fn problem.now (λ m.
+            OnOk result (IsTableOf m change self.new.table)) }
+        ensures listed { OnOk result (AreListed change (labelling at.now) self.new.bounds.choices.items
+            self.new.lists) }
+        ensures refused { OnErr result (self.new.lists.listed ≡ false) }
+    {
+        self.lists.listed = false;
+        test_terms(problem, at, change)?;
+        self.table
+            .make(problem, change, at.len(), self.ends.weight)?;
+        self.bounds.open_sites(at, change)?;
+        self.bounds.sweep_parts(
+            &mut self.own_rises,
+            problem,
+            &self.ends,
+            &self.table,
+            at,
+            change,
+            how,
+        )?;
         self.bounds
             .decide_sites(problem, &self.ends, &self.table, at, change)?;
         self.lists.fill(at, change, &self.bounds.choices)?;

@@ -9,7 +9,7 @@ ghost use Rattle.cost_store.specs.Posed.{IsPosed, IsAsked, Meant};
 ghost use Rattle.move_energy.specs.declared.choice.Choice.TheVariants.{Open, One};
 ghost use Rattle.move_energy.specs.Choices.{choice_at, Changes};
 ghost use Rattle.deciding.specs.Rising.{IsSized, IsTableOf};
-ghost use Rattle.deciding.specs.Working.{summed, CanDecide, AreOfSites, IsSummed, IsWithinRange, IsAnswered, AddsBounds, PassesClosed, AreUndecided, AreWaiting, ArePartlyDecided, left, budget_of, greatest_total};
+ghost use Rattle.deciding.specs.Working.{summed, CanDecide, AreOfSites, IsSummed, IsWithinRange, IsAnswered, AddsBounds, PassesClosed, AreUndecided, AreUnsummed, AreWaiting, ArePartlyDecided, left, budget_of, greatest_total};
 
 use crate::Bounds;
 use crate::rising::site_rises;
@@ -173,8 +173,9 @@ impl Bounds {
         self.answer(site, rises.beside)
     }
 
-    /// Sums the sites one after another. Each whose bounds tell its value is decided at once, and so are those whose values
-    /// then can be told among the sites that were summed before.
+    /// Sums the sites one after another, but those that are decided already. Each whose bounds tell
+    /// its value is decided at once, and so are those whose values then can be told among the sites
+    /// that were summed before.
     pub(crate) fn decide_sites<F: Fn(u32, u32) -> i64 + Sync, V: Fn(u32, u32) -> i64 + Sync>(
         &mut self,
         problem: &Problem<F, V>,
@@ -188,7 +189,9 @@ impl Bounds {
         requires by_site { AreBySite problem.now.pairs ends.now }
         requires labels { IsSized problem.now.data_cost.labels table.now }
         requires table { Meant F.Fn V.Fn problem.now (λ m. IsTableOf m change table.now) }
-        requires undecided { AreUndecided change at.now self.old }
+        requires unsummed { AreUnsummed (length at.now) self.old }
+        requires begun { Meant F.Fn V.Fn problem.now (λ m. ArePartlyDecided m change (labelling at.now) 0
+            self.old) }
         ensures sized { OnOk result (AreOfSites (length at.now) self.new) }
         ensures total { OnOk result (greatest_total self.new ≤ weights_limit) }
         ensures none { OnOk result ((u : ℕ) → u < length at.now → choice_at self.new.choices.items u ≡ Open →

@@ -40,11 +40,11 @@ struct Counting {
 }
 
 impl How for Counting {
+    type Fork = InOrder;
+
     ghost ready = { λ _. Unit {0} };
 
     ghost refuses = { λ _ e. e ≡ OutOfMemory };
-
-    type Hands = InOrder;
 
     fn solve(&self, alloc: Global, net: &Net) -> Result<Solved, SolveError> {
         self.cuts.fetch_add(1, Ordering::SeqCst);
@@ -52,7 +52,7 @@ impl How for Counting {
         Alone.solve(alloc, net)
     }
 
-    fn hands(&self) -> InOrder {
+    fn fork(&self) -> InOrder {
         InOrder
     }
 }

@@ -1,7 +1,8 @@
 //! Tests of moves between labellings, as tables: by hand, and small random ones and runs with what scripts
 //! answer that try every labelling, without label costs and with them, and the bounds of runs; how many sites
 //! deciding leaves open on a picture, and how many the cuts of a run have whose later expansions look near the
-//! changes; listed moves of which few sites, none or all are left open; and tables of costs that threads fill.
+//! changes; listed moves of which few sites, none or all are left open; sites that are decided by parts; and tables
+//! of costs that threads fill.
 #![tactic(auto)]
 
 #[cfg(test)]
@@ -22,6 +23,8 @@ mod later;
 mod listed;
 #[cfg(test)]
 mod opened;
+#[cfg(test)]
+mod parts;
 #[cfg(test)]
 mod random;
 #[cfg(test)]

@@ -35,22 +35,22 @@ const WEIGHT: u32 = 1_000;
 pub struct CutAlone;
 
 impl How for CutAlone {
+    type Fork = InOrder;
+
     ghost ready = { λ _. Unit {0} };
 
     ghost refuses = { λ _ e. e ≡ OutOfMemory };
-
-    type Hands = InOrder;
 
     fn solve(&self, alloc: Global, net: &Net) -> Result<Solved, SolveError> {
         Alone.solve(alloc, net)
     }
 
-    fn hands(&self) -> InOrder {
-        InOrder
-    }
-
     fn decides_first(&self) -> bool {
         false
+    }
+
+    fn fork(&self) -> InOrder {
+        InOrder
     }
 }
 
@@ -63,18 +63,14 @@ pub struct InStrips {
 }
 
 impl How for InStrips {
+    type Fork = InOrder;
+
     ghost ready = { λ _. Unit {0} };
 
     ghost refuses = { λ _ e. e ≡ OutOfMemory };
 
-    type Hands = InOrder;
-
     fn solve(&self, alloc: Global, net: &Net) -> Result<Solved, SolveError> {
         Alone.solve(alloc, net)
-    }
-
-    fn hands(&self) -> InOrder {
-        InOrder
     }
 
     fn strip_sites(&self) -> usize {
@@ -83,6 +79,10 @@ impl How for InStrips {
 
     fn sides_at_once(&self) -> usize {
         self.at_once.max(1)
+    }
+
+    fn fork(&self) -> InOrder {
+        InOrder
     }
 }
 

@@ -133,13 +133,15 @@ impl Workspace {
 }
 
 /// Decides the sites of a move, which the workspace then knows.
-fn decide<F: Fn(u32, u32) -> i64 + Sync, V: Fn(u32, u32) -> i64 + Sync>(
+fn decide<F: Fn(u32, u32) -> i64 + Sync, V: Fn(u32, u32) -> i64 + Sync, H: How>(
     alloc: Global,
     problem: &Problem<F, V>,
     space: &mut Workspace,
     at: &[u8],
     change: Move,
+    how: &H,
 ) -> Result<(), BuildError>
+    requires ready { H.ready how.now }
     requires asked { IsAsked problem.now at.now change }
     requires posed { IsPosed F.Fn V.Fn problem.now }
     requires by_site { IsGroupedFor problem.now.pairs space.old }
@@ -156,7 +158,7 @@ fn decide<F: Fn(u32, u32) -> i64 + Sync, V: Fn(u32, u32) -> i64 + Sync>(
         IsTableOf m change space.new.deciding.table)) }
 {
     space.group(alloc, &problem.pairs)?;
-    space.deciding.decide(problem, at, change)?;
+    space.deciding.decide_by_parts(problem, at, change, how)?;
     swap(
         &mut space.deciding.bounds.choices,
         &mut space.built.variables.choices,
@@ -340,7 +342,7 @@ fn build_decided<F: Fn(u32, u32) -> i64 + Sync, V: Fn(u32, u32) -> i64 + Sync, H
     ensures few { OnOk result (vec_len space.new.built.form.weights ≤ site_limit) }
     ensures built { Meant F.Fn V.Fn problem.now (λ m. IsBuiltPlain m change at.now space.new.built result) }
 {
-    decide(alloc, problem, space, at, change)?;
+    decide(alloc, problem, space, at, change, how)?;
     let opened = space.deciding.lists.count;
     let strip = strip_size(how.strip_sites(), how.sides_at_once(), opened);
     if let Some(size) = strip {

@@ -30,11 +30,11 @@ impl Refusing {
 }
 
 impl How for Refusing {
+    type Fork = InOrder;
+
     ghost ready = { λ _. Unit {0} };
 
     ghost refuses = { λ _ _. Unit {0} };
-
-    type Hands = InOrder;
 
     fn solve(&self, alloc: Global, net: &Net) -> Result<Solved, SolveError> {
         if self.left.load(Ordering::SeqCst) == 0 {
@@ -44,7 +44,7 @@ impl How for Refusing {
         Alone.solve(alloc, net)
     }
 
-    fn hands(&self) -> InOrder {
+    fn fork(&self) -> InOrder {
         InOrder
     }
 }

@@ -7,8 +7,8 @@ use flow_network::{Net, Solved};
 use label_field::{Labelling, Pairs};
 use moves::{Alone, How, MoveError, SolveError, expand};
 use rounds::{Open, Workers};
-use solvers::SidesJob;
-use std::alloc::Global;
+use solvers::{Fork, SidesJob};
+use std::alloc::{AllocError, Global};
 use std::rt::Files;
 use std::sync::Wait;
 use std::sync::atomic::{AtomicBool, AtomicU32, Ordering};
@@ -61,25 +61,45 @@ fn labels_by<H: How>(alloc: Global, how: &H) -> Result<Vec<u8>, MoveError>
     Ok(labels)
 }
 
-/// Another way to cut nets, and how many nets at most it was given to cut side by side.
+/// Another way to cut nets, and how many strips at most it was given to cut side by side.
 #[derive(Drop)]
 struct Counting<'a, H> {
     how: &'a H,
-    most: AtomicU32,
+    most: &'a AtomicU32,
 }
 
-/// How many of these jobs have a net.
-fn nets_in(jobs: &[SidesJob]) -> u32 {
-    let mut nets = 0u32;
-    for job in jobs {
-        if job.net.is_some() {
-            nets = nets.saturating_add(1);
-        }
+/// What does the work of that way, and how many strips at most it was given together.
+#[derive(Drop)]
+struct CountingFork<'a, K> {
+    fork: K,
+    most: &'a AtomicU32,
+}
+
+impl<'a, K: Fork> Fork for CountingFork<'a, K> {
+    ghost can_do = { λ c. K.can_do c.fork };
+
+    fn do_parts(
+        &self,
+        alloc: Global,
+        count: usize,
+        work: &(dyn Fn(usize) -> Result<Vec<u8>, AllocError> + Sync),
+    ) -> Result<Vec<Result<Vec<u8>, AllocError>>, AllocError> {
+        self.fork.do_parts(alloc, count, work)
     }
-    nets
+
+    fn do_jobs(
+        &self,
+        jobs: Vec<SidesJob>,
+        work: &(dyn Fn(SidesJob) -> SidesJob + Sync),
+    ) -> Result<Vec<SidesJob>, AllocError> {
+        self.most.fetch_max(jobs.len() as u32, Ordering::SeqCst);
+        self.fork.do_jobs(jobs, work)
+    }
 }
 
 impl<'a, H: How> How for Counting<'a, H> {
+    type Fork = CountingFork<'a, H::Fork>;
+
     ghost ready = { λ c. H.ready c.how };
 
     ghost refuses = { λ c e. H.refuses c.how e };
@@ -96,13 +116,15 @@ impl<'a, H: How> How for Counting<'a, H> {
         self.how.sides_at_once()
     }
 
-    fn sides(&self, alloc: Global, jobs: &mut [SidesJob]) {
-        self.most.fetch_max(nets_in(jobs), Ordering::SeqCst);
-        self.how.sides(alloc, jobs);
+    fn fork(&self) -> CountingFork<'a, H::Fork> {
+        CountingFork {
+            fork: self.how.fork(),
+            most: self.most,
+        }
     }
 }
 
-/// What threads come to: the labels, and how many nets at most were cut side by side.
+/// What threads come to: the labels, and how many strips at most were cut side by side.
 fn labels_by_threads<R: Threads + Wait + Sync>(
     rt: &R,
     alloc: Global,
@@ -119,12 +141,13 @@ fn labels_by_threads<R: Threads + Wait + Sync>(
         },
         gate: &gate,
     };
+    let most = AtomicU32::new(0);
     let counting = Counting {
         how: &how,
-        most: AtomicU32::new(0),
+        most: &most,
     };
     let labels = labels_by(alloc, &counting)?;
-    Ok((labels, counting.most.load(Ordering::SeqCst)))
+    Ok((labels, most.load(Ordering::SeqCst)))
 }
 
 /// How many threads the process has, as the system tells it: 0 where it does not.
@@ -173,11 +196,11 @@ fn watched<R: Threads + Wait + Sync + Files + AllocGlobal>(
     (told, most.saturating_sub(1))
 }
 
-/// How many threads are allowed, and how many nets they cut side by side at most. Two have a half
+/// How many threads are allowed, and how many strips they cut side by side at most. Two have a half
 /// of the sites each. Of four one has nothing to do: a strip has at least 4,096 sites.
 const ROWS: &[(u32, u32)] = &[(1, 0), (2, 2), (4, 3)];
 
-/// One answer, however many threads there are; and where nets are cut side by side, more than one
+/// One answer, however many threads there are; and where strips are cut side by side, more than one
 /// thread is there.
 #[test]
 fn strips_by_threads(rt: HostRuntime) -> Result<(), Fail> {

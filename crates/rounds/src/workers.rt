@@ -5,8 +5,8 @@ ghost use Rattle.worker_options.specs.declared.options.Options.{Options as Optio
 ghost use Rattle.rounds.specs.Refusals.{IsRefusal};
 ghost use Rattle.rounds.specs.SolveErrors.{MayRefuse, of_parallel};
 
+use crate::fork::ByThreads;
 use crate::gates::Lent;
-use crate::side_jobs::ByThreads;
 use crate::{ParallelError, side_parallel, solve_parallel};
 use flow_network::{Net, Solved};
 use solvers::{Alone, How, SolveError};
@@ -14,6 +14,10 @@ use std::alloc::Global;
 use std::sync::Wait;
 use std::thread::Threads;
 use worker_options::{Gate, Options};
+
+/// The fewest sites that are decided by several threads at first: fewer take less time on one thread
+/// than the start of the others.
+const SHARED_SITES: usize = 1 << 16;
 
 /// By workers that run side by side over the blocks of a net. It refuses where memory runs out,
 /// where the system does not start a worker, and where a number of the options is out of its range.
@@ -41,11 +45,11 @@ fn refusal_of(error: ParallelError) -> SolveError
 }
 
 impl<'a, R: Threads + Wait + Sync> How for Workers<'a, R, &'a (dyn Gate + Sync)> {
+    type Fork = ByThreads<'a, R>;
+
     ghost ready = { λ _. IsSync R.row };
 
     ghost refuses = { λ how e. MayRefuse how.options e };
-
-    type Hands = ByThreads<'a, R>;
 
     /// As on one thread. Workers share the net that the strips of a move leave.
     fn strip_sites(&self) -> usize {
@@ -57,7 +61,15 @@ impl<'a, R: Threads + Wait + Sync> How for Workers<'a, R, &'a (dyn Gate + Sync)>
         (self.options.threads as usize).max(1)
     }
 
-    fn hands(&self) -> ByThreads<'a, R> {
+    /// As many parts as threads. A thread decides fewer sites than are worth its start in less time.
+    fn parts(&self, sites: usize) -> usize {
+        if sites < SHARED_SITES {
+            return 1;
+        }
+        self.sides_at_once()
+    }
+
+    fn fork(&self) -> ByThreads<'a, R> {
         ByThreads { rt: self.rt }
     }
 

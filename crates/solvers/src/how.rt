@@ -6,7 +6,7 @@ ghost use Rattle.solvers.specs.declared.solve_error.SolveError.{SolveError};
 ghost use Rattle.solvers.specs.declared.solve_error.SolveError.TheVariants.{OutOfMemory};
 
 use crate::SolveError;
-use crate::jobs::{DoJobs, InOrder};
+use crate::fork::{Fork, InOrder};
 use flow_network::{Net, Solved};
 use plain_cut::Workspace;
 use std::alloc::Global;
@@ -14,12 +14,12 @@ use std::alloc::Global;
 /// A way to cut a net: `ready` is what it asks of its caller, and `refuses` says which refusals may
 /// come.
 pub trait How {
+    /// What does the parts and the strips of a move.
+    type Fork: Fork;
+
     ghost ready: { Self → Type 0 };
 
     ghost refuses: { Self → SolveError → Type 0 };
-
-    /// What does the jobs of a move.
-    type Hands: DoJobs;
 
     /// A least cut of the net, with the preflow that certifies it. Of all least cuts it is the
     /// smallest: its sink side lies within that of every other. Its capacity, `value`, is at most
@@ -81,10 +81,18 @@ pub trait How {
         1
     }
 
-    /// What builds and cuts the strips of a move.
-    fn hands(&self) -> Self::Hands
-        requires { ready self.now }
-        ensures { Self.Hands.ready result };
+    /// In how many parts a move of so many sites decides them at first, side by side: on the thread
+    /// of the caller one. The answers are the same, whatever the number.
+    fn parts(&self, _sites: usize) -> usize
+        ensures { 0 < result }
+    {
+        1
+    }
+
+    /// What does the parts and the strips of a move.
+    fn fork(&self) -> Self::Fork
+        requires ready { ready self.now }
+        ensures { Self.Fork.can_do result };
 }
 
 /// The rows, labels and lists of so many open sites stand in a cache of one to two million bytes.
@@ -95,11 +103,11 @@ const STRIP_SITES: usize = 1 << 14;
 pub struct Alone;
 
 impl How for Alone {
+    type Fork = InOrder;
+
     ghost ready = { λ _. Unit {0} };
 
     ghost refuses = { λ _ e. e ≡ OutOfMemory };
-
-    type Hands = InOrder;
 
     fn solve(&self, alloc: Global, net: &Net) -> Result<Solved, SolveError> {
         match plain_cut::solve(alloc, net) {
@@ -112,7 +120,7 @@ impl How for Alone {
         STRIP_SITES
     }
 
-    fn hands(&self) -> InOrder {
+    fn fork(&self) -> InOrder {
         InOrder
     }
 

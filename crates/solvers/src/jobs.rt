@@ -45,28 +45,9 @@ fn do_job(job: SidesJob, work: &(dyn Fn(SidesJob) -> SidesJob + Sync)) -> SidesJ
     work(job)
 }
 
-/// What does jobs. `ready` is what it asks of its caller.
-pub trait DoJobs: Drop {
-    ghost ready: { Self → Type 0 };
-
-    /// Does each job, and gives the jobs back in their order. What a job is done by reads only what
-    /// all of them share, so they can be done in any order and at once. It refuses only where
-    /// memory runs out.
-    fn do_jobs(
-        &self,
-        jobs: Vec<SidesJob>,
-        work: &(dyn Fn(SidesJob) -> SidesJob + Sync),
-    ) -> Result<Vec<SidesJob>, AllocError>
-        requires ready { ready self.now }
-        requires work { All (λ job. pre work.now job) jobs.items }
-        ensures len { IfOk result (λ done. vec_len done ≡ vec_len jobs) }
-        ensures each { IfOk result (λ done. (k : ℕ) (job : _) → k < vec_len jobs →
-            post work.now (slice_index_or jobs.items k job) (slice_index_or done.items k job)) };
-}
-
 /// Does the jobs one after another, on the thread of the caller, and gives them back in their
 /// order. It refuses nothing.
-fn do_in_order(
+pub(crate) fn do_jobs_in_order(
     jobs: Vec<SidesJob>,
     work: &(dyn Fn(SidesJob) -> SidesJob + Sync),
 ) -> Result<Vec<SidesJob>, AllocError>
@@ -82,20 +63,4 @@ fn do_in_order(
         jobs[place] = do_job(job, work);
     }
     Ok(jobs)
-}
-
-/// The thread of the caller, which does jobs one after another.
-#[derive(Clone, Copy, Debug)]
-pub struct InOrder;
-
-impl DoJobs for InOrder {
-    ghost ready = { λ _. Unit {0} };
-
-    fn do_jobs(
-        &self,
-        jobs: Vec<SidesJob>,
-        work: &(dyn Fn(SidesJob) -> SidesJob + Sync),
-    ) -> Result<Vec<SidesJob>, AllocError> {
-        do_in_order(jobs, work)
-    }
 }

@@ -225,9 +225,9 @@ impl Strips {
             lists,
             jobs,
         } = round;
-        let hands = how.hands();
+        let fork = how.fork();
         let jobs = cut_round(
-            alloc, &hands, problem, table, at, change, ends, start, known, weights, &bounds,
+            alloc, &fork, problem, table, at, change, ends, start, known, weights, &bounds,
             &lists, jobs,
         )?;
         tell_round(known, &bounds, &lists, &jobs, &mut self.opened, end)?;

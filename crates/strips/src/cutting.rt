@@ -30,7 +30,7 @@ use label_field::{Pair, Pairs};
 use labellings::Move;
 use move_energy::{Choice, Neighbours};
 use plain_cut::BothSides;
-use solvers::{DoJobs, SidesJob};
+use solvers::{Fork, SidesJob};
 use std::alloc::{AllocError, Global};
 use std::mem::replace;
 
@@ -155,8 +155,8 @@ fn do_told_strip(
 
 /// Builds and cuts the strips of a round, each as a job, where the table tells what each pair
 /// saves. What a job reads is shared by all and does not change.
-fn cut_told<H: DoJobs>(
-    hands: &H,
+fn cut_told<K: Fork>(
+    fork: &K,
     table: &RiseTable,
     at: &[u8],
     pairs: &Pairs,
@@ -168,7 +168,7 @@ fn cut_told<H: DoJobs>(
     lists: &[Vec<u32>],
     jobs: Vec<SidesJob>,
 ) -> Result<Vec<SidesJob>, AllocError>
-    requires ready { H.ready hands.now }
+    requires able { K.can_do fork.now }
     requires covered { TakesPairs (CoversPair table.now at.now) pairs.now ends.now }
     requires can { CanBuild pairs.now ends.now start.now known.now weights.now }
     requires ranges { AreAllRanges known.now bounds.now lists.now }
@@ -179,7 +179,7 @@ fn cut_told<H: DoJobs>(
         AreWeights m move f (choice_at start.now) weights.now →
         IfOk result (λ done. AllTell m move f known.now lists.now done.items) }
 {
-    hands.do_jobs(
+    fork.do_jobs(
         jobs,
         &|job: SidesJob| -> SidesJob
             requires covered { TakesPairs (CoversPair table.now at.now) pairs.now ends.now }
@@ -267,9 +267,9 @@ fn tells_all(table: &RiseTable, ends: &Neighbours) -> bool
 }
 
 /// Builds and cuts the strips of a round. All are built with what is known when the round begins.
-pub(crate) fn cut_round<F: Fn(u32, u32) -> i64 + Sync, V: Fn(u32, u32) -> i64 + Sync, H: DoJobs>(
+pub(crate) fn cut_round<F: Fn(u32, u32) -> i64 + Sync, V: Fn(u32, u32) -> i64 + Sync, K: Fork>(
     alloc: Global,
-    hands: &H,
+    fork: &K,
     problem: &Problem<F, V>,
     table: &RiseTable,
     at: &[u8],
@@ -282,7 +282,7 @@ pub(crate) fn cut_round<F: Fn(u32, u32) -> i64 + Sync, V: Fn(u32, u32) -> i64 + 
     lists: &[Vec<u32>],
     jobs: Vec<SidesJob>,
 ) -> Result<Vec<SidesJob>, AllocError>
-    requires ready { H.ready hands.now }
+    requires able { K.can_do fork.now }
     requires posed { IsPosed F.Fn V.Fn problem.now }
     requires asked { IsAsked problem.now at.now change }
     requires labels { IsSized problem.now.data_cost.labels table.now }
@@ -300,7 +300,7 @@ pub(crate) fn cut_round<F: Fn(u32, u32) -> i64 + Sync, V: Fn(u32, u32) -> i64 + 
     let pairs = &problem.pairs;
     if tells_all(table, ends) {
         return cut_told(
-            hands, table, at, pairs, ends, start, known, weights, bounds, lists, jobs,
+            fork, table, at, pairs, ends, start, known, weights, bounds, lists, jobs,
         );
     }
     Ok(cut_asked(

@@ -9,17 +9,16 @@ use Rattle.deciding.proofs.Left.{left_most, starts_climb}
 use Rattle.deciding.proofs.Passing.{passed_len, passed_sized, passed_range, passed_total, passed_waits, passed_decides}
 use Rattle.deciding.proofs.Places.{none_waits}
 use Rattle.deciding.proofs.Ranges.{empty_list, empty_range, range_wider, total_none}
-use Rattle.deciding.proofs.Whole.{partly_first}
 use Rattle.deciding.proofs.bounds.Bounds.decide_sites.Goals as goal
 
 pub loop-site-init : goal.loop-site-init
 loop-site-init g c =
     let a = c.args in
-    let u = c.requires.undecided in
+    let u = c.requires.unsummed in
     let L : ℕ → Type 0 = λ n. left a.ends.now n a.self.now.choices.items ≤ 2 * length a.problem.now.pairs.list in
     record {
       within = omega arith;
-      sized = record { choices = u.opened.count; greatest = u.greatest ∙ sym u.least; within = omega (arith, u.least) };
+      sized = record { choices = u.choices; greatest = u.greatest ∙ sym u.least; within = omega (arith, u.least) };
       same = u.least;
       waiting = record { sites = λ i d l. absurd (omega (arith, l, u.none)); each = λ v l. absurd (omega (arith, l)) };
       none = empty_list a.self.now.waiting.items u.none;
@@ -27,7 +26,7 @@ loop-site-init g c =
       range = empty_range _ a.self.now u.least u.greatest;
       total = (let few : left a.ends.now (length a.at.now) a.self.now.choices.items ≤ 2 * length a.problem.now.pairs.list = subst L (sym c.requires.asked.sites) (left_most a.problem.now.pairs a.ends.now a.self.now.choices.items c.requires.by_site) in
           omega (arith, few, total_none a.self.now u.greatest));
-      decided = λ m answers. partly_first m a.change a.at.now a.self.now (omega (arith, answers.sites_are, c.requires.asked.sites)) u;
+      decided = λ m answers. c.requires.begun m answers;
     }
 
 pub pass_closed-requires-clause-from : goal.pass_closed-requires-clause-from

@@ -1,7 +1,7 @@
 use Rattle.std.proofs.Common.{◌≡◌, ◌∙◌, refl, sym, length, arith}
 use Rattle.labellings.specs.Energies.{labelling}
 use Rattle.deciding.proofs.Places.{meant_pairs}
-use Rattle.deciding.proofs.Whole.{decided_last, partly_weights}
+use Rattle.deciding.proofs.Whole.{unsummed_first, partly_first, decided_last, partly_weights}
 use Rattle.std.proofs.lemmas.Result.{err_from_is_err_and}
 use Rattle.deciding.proofs.sites.Deciding.decide.Goals as goal
 
@@ -26,8 +26,12 @@ returns-in_err-test_terms-clause-decided g c = λ m meant.
     let p = err_from_is_err_and c.from_residual.result c.from_residual.ensures.1 in
     rw (p.1, p.2) (c.in_err-test_terms.ensures m meant)
 
-pub decide_sites-requires-clause-undecided : goal.decide_sites-requires-clause-undecided
-decide_sites-requires-clause-undecided g c = λ κs lives. c.in_ok-open_sites.ensures.undecided
+pub decide_sites-requires-clause-unsummed : goal.decide_sites-requires-clause-unsummed
+decide_sites-requires-clause-unsummed g c = λ κs lives. unsummed_first c.args.change c.args.at.now c.open_sites.new.self c.in_ok-open_sites.ensures.undecided
+
+pub decide_sites-requires-clause-begun : goal.decide_sites-requires-clause-begun
+decide_sites-requires-clause-begun g c = λ κs lives m meant.
+    partly_first m c.args.change c.args.at.now c.open_sites.new.self (omega (arith, meant.sites_are, c.requires.asked.sites)) c.in_ok-open_sites.ensures.undecided
 
 pub decide_sites-requires-clause-by_site : goal.decide_sites-requires-clause-by_site
 decide_sites-requires-clause-by_site g c = λ κs lives. c.requires.by_site

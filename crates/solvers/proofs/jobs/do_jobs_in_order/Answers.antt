@@ -2,7 +2,7 @@ use Rattle.std.proofs.Common.{◌≡◌, ◌≢◌, ◌<◌, ◌≤◌, ◌+◌,
 use Rattle.std.proofs.lemmas.Bool.{cases_lt}
 use Rattle.std.proofs.lemmas.List.{get_or_read, get_or-set_same, get_or-set_other, set-set}
 use Rattle.solvers.specs.declared.jobs.SidesJob.{SidesJob}
-use Rattle.solvers.proofs.jobs.do_in_order.Goals as goal
+use Rattle.solvers.proofs.jobs.do_jobs_in_order.Goals as goal
 
 pub do_job-requires : goal.do_job-requires
 do_job-requires g c =

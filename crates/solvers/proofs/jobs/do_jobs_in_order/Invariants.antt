@@ -1,6 +1,6 @@
 use Rattle.std.proofs.Common.{◌≡◌, ◌<◌, ◌≤◌, ℕ, vec_len, slice_index_or}
 use Rattle.solvers.specs.declared.jobs.SidesJob.{SidesJob}
-use Rattle.solvers.proofs.jobs.do_in_order.Given as goal
+use Rattle.solvers.proofs.jobs.do_jobs_in_order.Given as goal
 
 abbrev pub invariant-loop-place : goal.invariant-loop-place
 invariant-loop-place g l = record {

@@ -1,0 +1,140 @@
+-- Choices of decisions that passed the test, put together.
+use Rattle.std.proofs.Common.{◌≡◌, ◌≢◌, ℕ, Bool, true, false, List, [], ◌∷◌, ◌++◌, ℤ, pos, ◌≤ℤ◌, ◌<ℤ◌, refl, sym, ap, ◌∙◌, inl, inr, arith}
+use Rattle.std.proofs.lemmas.Int.{ints}
+use Rattle.std.proofs.lemmas.Bool.{cases_eq}
+use Rattle.labellings.specs.declared.change.Move.{Move}
+use Rattle.labellings.specs.Energies.{Instance, IsInstance}
+use Rattle.labellings.specs.Moves.{IsAllowed}
+use Rattle.move_energy.specs.declared.choice.Choice.{Choice}
+use Rattle.move_energy.specs.declared.choice.Choice.TheVariants.{Open, Zero, One}
+use Rattle.move_energy.specs.Choices.{bit_of, choice_at}
+use Rattle.deciding.specs.Decisions.{Decision, set_bit, put, rise, OnesWithin, IsSubmodular, Passes, HavePassed}
+use Rattle.deciding.specs.MoveValues.{move_value}
+use Rattle.deciding.specs.Working.{valued}
+use Rattle.deciding.specs.Parts.{ArePassedChoices}
+use Rattle.deciding.proofs.Putting.{set_at, set_other, cases_put, le_le}
+use Rattle.deciding.proofs.Rises.{rise_over, move_falls}
+
+-- ---- one list of decisions before another
+
+put_joined : (ds ks : List Decision) (x : ℕ → Bool) → put (ds ++ ks) x ≡ put ds (put ks x)
+put_joined [] ks x = refl
+put_joined (d ∷ ds) ks x = ap (λ (y : ℕ → Bool). set_bit y d.variable d.value) (put_joined ds ks x)
+
+put_within : (ds : List Decision) (x y : ℕ → Bool) → OnesWithin x y → OnesWithin (put ds x) (put ds y)
+put_within ds x y within k one = elim (cases_put ds k) [
+  | inl free ↦ free y ∙ within k (sym (free x) ∙ one)
+  | inr decided ↦ decided.1 y ∙ sym (decided.1 x) ∙ one
+]
+
+-- more is 0, and more is 1, once more is decided
+fewer_ones : (ds ks : List Decision) → OnesWithin (put (ds ++ ks) (λ k. true)) (put ds (λ k. true))
+fewer_ones ds ks k one =
+    put_within ds (put ks (λ j. true)) (λ j. true) (λ j h. refl) k (sym (ap (λ (y : ℕ → Bool). y k) (put_joined ds ks (λ j. true))) ∙ one)
+
+more_ones : (ds ks : List Decision) → OnesWithin (put ds (λ k. false)) (put (ds ++ ks) (λ k. false))
+more_ones ds ks k one =
+    ap (λ (y : ℕ → Bool). y k) (put_joined ds ks (λ j. false)) ∙ put_within ds (λ j. false) (put ks (λ j. false)) (λ j h. absurd (cc (h))) k one
+
+lt_along : (a b c : ℤ) → a ≤ℤ b → b <ℤ c → a <ℤ c
+lt_along a b c h k = omega (arith, ints, h, k)
+
+still_passes : (E : (ℕ → Bool) → ℤ) (ds ks : List Decision) (i : ℕ) (b : Bool) → IsSubmodular E → Passes E ds i b → Passes E (ds ++ ks) i b
+still_passes E ds ks i false falls test = le_le _ _ _ test (falls (put (ds ++ ks) (λ k. true)) (put ds (λ k. true)) i (fewer_ones ds ks))
+still_passes E ds ks i true falls test = lt_along _ _ _ (falls (put ds (λ k. false)) (put (ds ++ ks) (λ k. false)) i (more_ones ds ks)) test
+
+pub joined_passed : (E : (ℕ → Bool) → ℤ) (ds ks : List Decision) → IsSubmodular E → HavePassed E ds → HavePassed E ks → HavePassed E (ds ++ ks)
+joined_passed E [] ks falls first second = second
+joined_passed E (d ∷ ds) ks falls first second = (joined_passed E ds ks falls first.0 second, still_passes E ds ks d.variable d.value falls first.1)
+
+-- ---- choices
+
+pub choices_same : (m : Instance) (move : Move) (f : ℕ → ℕ) (old new : ℕ → Choice) → ((p : ℕ) → new p ≡ old p) → ArePassedChoices m move f old → ArePassedChoices m move f new
+choices_same m move f old new same passed = record {
+  decisions = passed.decisions;
+  passed = passed.passed;
+  shown = λ x p l. passed.shown x p l ∙ ap (λ (c : Choice). bit_of c (x p)) (sym (same p));
+}
+
+pub choices_joined : (m : Instance) (move : Move) (f : ℕ → ℕ) (one other both : ℕ → Choice) → IsInstance m → IsAllowed m move f
+    → ((p : ℕ) (b : Bool) → bit_of (one p) (bit_of (other p) b) ≡ bit_of (both p) b)
+    → ArePassedChoices m move f one → ArePassedChoices m move f other → ArePassedChoices m move f both
+choices_joined m move f one other both are allowed joins first second = record {
+  decisions = first.decisions ++ second.decisions;
+  passed = joined_passed (move_value m move f) first.decisions second.decisions (move_falls m move f are allowed) first.passed second.passed;
+  shown = λ x p l.
+      ap (λ (y : ℕ → Bool). y p) (put_joined first.decisions second.decisions x) ∙ first.shown (put second.decisions x) p l
+      ∙ ap (bit_of (one p)) (second.shown x p l) ∙ joins p (x p);
+}
+
+-- one site more is decided
+pub choices_more : (m : Instance) (move : Move) (f : ℕ → ℕ) (u : ℕ) (value : Bool) (old new : ℕ → Choice) → (passed : ArePassedChoices m move f old)
+    → Passes (move_value m move f) passed.decisions u value → ((b : Bool) → bit_of (new u) b ≡ value) → ((p : ℕ) → p ≢ u → new p ≡ old p)
+    → ArePassedChoices m move f new
+choices_more m move f u value old new passed test own others =
+    let ds = passed.decisions in
+    record {
+      decisions = record { variable = u; value = value } ∷ ds;
+      passed = (passed.passed, test);
+      shown = λ x p l. elim (cases_eq p u) [
+        | inl same ↦ set_at (put ds x) u p value same ∙ sym (own (x p)) ∙ ap (λ q. bit_of (new q) (x p)) (sym same)
+        | inr other ↦ set_other (put ds x) u p value other ∙ passed.shown x p l ∙ ap (λ (c : Choice). bit_of c (x p)) (sym (others p other))
+      ];
+    }
+
+-- ---- the rises of a site by what is known
+
+rise_known : (m : Instance) (move : Move) (f : ℕ → ℕ) (u : ℕ) (b : Bool) (known : List Choice) → IsInstance m → (passed : ArePassedChoices m move f (choice_at known))
+    → rise (move_value m move f) u (valued known b) ≡ rise (move_value m move f) u (put passed.decisions (λ v. b))
+rise_known m move f u b known are passed = rise_over m move f u (valued known b) (put passed.decisions (λ v. b)) are (λ p l. sym (passed.shown (λ v. b) p l))
+
+pub passes_low : (m : Instance) (move : Move) (f : ℕ → ℕ) (u : ℕ) (known : List Choice) (least : ℤ) → IsInstance m → (passed : ArePassedChoices m move f (choice_at known))
+    → least ≡ rise (move_value m move f) u (valued known true) → pos 0 ≤ℤ least → Passes (move_value m move f) passed.decisions u false
+passes_low m move f u known least are passed is test =
+    let same = is ∙ rise_known m move f u true known are passed in
+    omega (arith, ints, same, test)
+
+pub passes_high : (m : Instance) (move : Move) (f : ℕ → ℕ) (u : ℕ) (known : List Choice) (greatest : ℤ) → IsInstance m → (passed : ArePassedChoices m move f (choice_at known))
+    → greatest ≡ rise (move_value m move f) u (valued known false) → greatest <ℤ pos 0 → Passes (move_value m move f) passed.decisions u true
+passes_high m move f u known greatest are passed is test =
+    let same = is ∙ rise_known m move f u false known are passed in
+    omega (arith, ints, same, test)
+
+-- what passes the test is told by the rises
+not_both : (a b : ℤ) → a <ℤ pos 0 → a ≡ b → pos 0 ≤ℤ b → ⊥
+not_both a b h k l = omega (arith, ints, h, k, l)
+
+pub not_untold : (m : Instance) (move : Move) (f : ℕ → ℕ) (u : ℕ) (b : Bool) (known : List Choice) (least greatest : ℤ) → IsInstance m → (passed : ArePassedChoices m move f (choice_at known))
+    → least ≡ rise (move_value m move f) u (valued known true) → greatest ≡ rise (move_value m move f) u (valued known false)
+    → Passes (move_value m move f) passed.decisions u b → (least <ℤ pos 0) × (pos 0 ≤ℤ greatest) → ⊥
+not_untold m move f u false known least greatest are passed low high test neither =
+    not_both least _ neither.0 (low ∙ rise_known m move f u true known are passed) test
+not_untold m move f u true known least greatest are passed low high test neither =
+    not_both _ greatest test (sym (high ∙ rise_known m move f u false known are passed)) neither.1
+
+-- ---- once more is known, what passed the test passes it still
+
+kept_ones : (old new : Choice) → (old ≢ Open → new ≡ old) → bit_of new true ≡ true → bit_of old true ≡ true
+kept_ones Open new kept one = refl
+kept_ones Zero new kept one = absurd (let same = kept (λ h. cc (h)) in let e = ap (λ (c : Choice). bit_of c true) same in cc (e, one))
+kept_ones One new kept one = refl
+
+kept_zeros : (old new : Choice) → (old ≢ Open → new ≡ old) → bit_of old false ≡ true → bit_of new false ≡ true
+kept_zeros Open new kept one = absurd (cc (one))
+kept_zeros Zero new kept one = absurd (cc (one))
+kept_zeros One new kept one = ap (λ (c : Choice). bit_of c false) (kept (λ h. cc (h)))
+
+pub passes_still : (m : Instance) (move : Move) (f : ℕ → ℕ) (u : ℕ) (b : Bool) (old new : List Choice) → IsInstance m → IsAllowed m move f
+    → ((p : ℕ) → choice_at old p ≢ Open → choice_at new p ≡ choice_at old p)
+    → (was : ArePassedChoices m move f (choice_at old)) → (is : ArePassedChoices m move f (choice_at new))
+    → Passes (move_value m move f) was.decisions u b → Passes (move_value m move f) is.decisions u b
+passes_still m move f u false old new are allowed kept was is test =
+    let falls = move_falls m move f are allowed (valued new true) (valued old true) u (λ p one. kept_ones (choice_at old p) (choice_at new p) (kept p) one) in
+    let before = rise_known m move f u true old are was in
+    let after = rise_known m move f u true new are is in
+    omega (arith, ints, falls, before, after, test)
+passes_still m move f u true old new are allowed kept was is test =
+    let falls = move_falls m move f are allowed (valued old false) (valued new false) u (λ p one. kept_zeros (choice_at old p) (choice_at new p) (kept p) one) in
+    let before = rise_known m move f u false old are was in
+    let after = rise_known m move f u false new are is in
+    omega (arith, ints, falls, before, after, test)

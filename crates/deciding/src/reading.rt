@@ -1,0 +1,239 @@
+//! Sites that are decided by numbers alone, in one pass over a range of sites. No cost is asked, so
+//! any thread can do it.
+ghost use Rattle.std.specs.Prelude.{◌≡◌, ◌≢◌, ◌⊎◌, ◌<◌, ◌≤◌, ℕ, Bool, pos, ◌≤ℤ◌, ◌<ℤ◌, true, false, All, length, unsigned_abs, OnOk};
+ghost use Rattle.labellings.specs.declared.change.Move.{Move};
+ghost use Rattle.labellings.specs.Energies.{Instance, labelling};
+ghost use Rattle.cost_store.specs.Limits.{site_cost_limit};
+ghost use Rattle.cost_store.specs.Posed.{IsPosed, IsAsked, Meant};
+ghost use Rattle.move_energy.specs.declared.choice.Choice.TheVariants.{Open, Zero, One};
+ghost use Rattle.move_energy.specs.Choices.{choice_at};
+ghost use Rattle.deciding.specs.Decisions.{rise, Passes};
+ghost use Rattle.deciding.specs.MoveValues.{move_value, data_rise as data_rise_of};
+ghost use Rattle.deciding.specs.Working.{valued};
+ghost use Rattle.deciding.specs.Parts.{own_at, AreReadable, AreRisesOf, ArePassedChoices};
+
+use crate::costs::data_rise;
+use crate::rising::{Rises, table_rises};
+use crate::table::RiseTable;
+use cost_store::Problem;
+use label_field::Pairs;
+use labellings::Move;
+use move_energy::{Choice, Neighbours, pair_beside};
+use std::alloc::AllocError;
+
+/// How much more the label costs a site where its value turns from 0 to 1, in four bytes.
+fn own_rise<F: Fn(u32, u32) -> i64 + Sync, V: Fn(u32, u32) -> i64 + Sync>(
+    problem: &Problem<F, V>,
+    at: &[u8],
+    change: Move,
+    site: u32,
+) -> i32
+    requires posed { IsPosed F.Fn V.Fn problem.now }
+    requires asked { IsAsked problem.now at.now change }
+    requires site { site < length at.now }
+    ensures rise { Meant F.Fn V.Fn problem.now
+        (λ m. result ≡ data_rise_of m change (labelling at.now) site) }
+    ensures range { unsigned_abs result ≤ site_cost_limit }
+{
+    data_rise(problem, change, site, u32::from(at[site as usize])) as i32
+}
+
+/// Lists how much more the label costs each site where its value turns from 0 to 1.
+pub(crate) fn list_own_rises<F: Fn(u32, u32) -> i64 + Sync, V: Fn(u32, u32) -> i64 + Sync>(
+    own: &mut Vec<i32>,
+    problem: &Problem<F, V>,
+    at: &[u8],
+    change: Move,
+) -> Result<(), AllocError>
+    requires posed { IsPosed F.Fn V.Fn problem.now }
+    requires asked { IsAsked problem.now at.now change }
+    ensures count { OnOk result (length own.new.items ≡ length at.now) }
+    ensures small { OnOk result (All (λ z. unsigned_abs z ≤ site_cost_limit) own.new.items) }
+    ensures rises { OnOk result (Meant F.Fn V.Fn problem.now (λ m. (u : ℕ) → u < length at.now →
+        own_at own.new.items u ≡ data_rise_of m change (labelling at.now) u)) }
+{
+    own.clear();
+    own.reserve(at.len())?;
+    for site in 0..at.len() {
+        own.push(own_rise(problem, at, change, site as u32))?;
+    }
+    Ok(())
+}
+
+/// By how much the energy rises where a site turns, at least and at most, by what is known of its
+/// neighbours.
+fn read_rises(
+    pairs: &Pairs,
+    ends: &Neighbours,
+    table: &RiseTable,
+    own: &[i32],
+    at: &[u8],
+    known: &[Choice],
+    site: u32,
+) -> Rises
+    requires readable { AreReadable pairs.now ends.now table.now own.now at.now }
+    requires known { length known.now ≡ length at.now }
+    requires site { site < length at.now }
+    ensures least { (m : Instance) (move : Move) → AreRisesOf m move pairs.now table.now own.now
+        at.now → result.least ≡ rise (move_value m move (labelling at.now)) site (valued known.now
+        true) }
+    ensures greatest { (m : Instance) (move : Move) → AreRisesOf m move pairs.now table.now own.now
+        at.now → result.greatest ≡ rise (move_value m move (labelling at.now)) site (valued
+        known.now false) }
+{
+    let mut least = i64::from(own[site as usize]);
+    let mut greatest = least;
+    for place in ends.starts[site as usize]..ends.starts[site as usize + 1] {
+        let pair = pair_beside(pairs, ends, site, place);
+        let rises = table_rises(table, known, at, site, pair);
+        least += rises.least;
+        greatest += rises.greatest;
+    }
+    Rises { least, greatest }
+}
+
+/// What the rises of a site tell of its value: 0 where turning never lowers the energy, 1 where it
+/// always does, else nothing.
+fn told_by(rises: Rises) -> Choice
+    ensures zero { result ≡ Zero → pos 0 ≤ℤ rises.least }
+    ensures one { result ≡ One → rises.greatest <ℤ pos 0 }
+    ensures none { result ≡ Open → (rises.least <ℤ pos 0) × (pos 0 ≤ℤ rises.greatest) }
+{
+    if rises.least >= 0 {
+        Choice::Zero
+    } else if rises.greatest < 0 {
+        Choice::One
+    } else {
+        Choice::Open
+    }
+}
+
+/// Decides a site, if it is open and its rises tell its value.
+fn try_site(
+    pairs: &Pairs,
+    ends: &Neighbours,
+    table: &RiseTable,
+    own: &[i32],
+    at: &[u8],
+    known: &mut [Choice],
+    site: u32,
+)
+    requires readable { AreReadable pairs.now ends.now table.now own.now at.now }
+    requires known { length known.old ≡ length at.now }
+    requires site { site < length at.now }
+    ensures count { length known.new ≡ length known.old }
+    ensures others { (p : ℕ) → p ≢ site → choice_at known.new p ≡ choice_at known.old p }
+    ensures kept { (p : ℕ) → choice_at known.old p ≢ Open →
+        choice_at known.new p ≡ choice_at known.old p }
+    ensures passed { (m : Instance) (move : Move) → AreRisesOf m move pairs.now table.now own.now
+        at.now → ArePassedChoices m move (labelling at.now) (choice_at known.old) → ArePassedChoices
+        m move (labelling at.now) (choice_at known.new) }
+    ensures tried { (m : Instance) (move : Move) (b : Bool) →
+        AreRisesOf m move pairs.now table.now own.now at.now →
+        (ds : ArePassedChoices m move (labelling at.now) (choice_at known.old)) →
+        Passes (move_value m move (labelling at.now)) ds.decisions site b →
+        choice_at known.new site ≢ Open }
+{
+    if known[site as usize].is_open() {
+        let rises = read_rises(pairs, ends, table, own, at, known, site);
+        known[site as usize] = told_by(rises);
+    }
+}
+
+/// Decides the open sites of a range that can be told, from the first to the last.
+fn sweep_up(
+    pairs: &Pairs,
+    ends: &Neighbours,
+    table: &RiseTable,
+    own: &[i32],
+    at: &[u8],
+    known: &mut [Choice],
+    from: usize,
+    to: usize,
+)
+    requires readable { AreReadable pairs.now ends.now table.now own.now at.now }
+    requires known { length known.old ≡ length at.now }
+    requires range { (from ≤ to) × (to ≤ length at.now) }
+    ensures count { length known.new ≡ length known.old }
+    ensures outside { (p : ℕ) → (p < from) ⊎ (to ≤ p) → choice_at known.new p ≡ choice_at known.old
+        p }
+    ensures kept { (p : ℕ) → choice_at known.old p ≢ Open →
+        choice_at known.new p ≡ choice_at known.old p }
+    ensures passed { (m : Instance) (move : Move) → AreRisesOf m move pairs.now table.now own.now
+        at.now → ArePassedChoices m move (labelling at.now) (choice_at known.old) → ArePassedChoices
+        m move (labelling at.now) (choice_at known.new) }
+    ensures tried { (m : Instance) (move : Move) (p : ℕ) (b : Bool) → AreRisesOf m move pairs.now
+        table.now own.now at.now → (ds : ArePassedChoices m move (labelling at.now) (choice_at
+        known.old)) → from ≤ p → p < to → Passes (move_value m move (labelling at.now)) ds.decisions
+        p b → choice_at known.new p ≢ Open }
+{
+    for site in from..to {
+        try_site(pairs, ends, table, own, at, known, site as u32);
+    }
+}
+
+/// The same from the last to the first. So sites that were told by later ones are decided.
+fn sweep_down(
+    pairs: &Pairs,
+    ends: &Neighbours,
+    table: &RiseTable,
+    own: &[i32],
+    at: &[u8],
+    known: &mut [Choice],
+    from: usize,
+    to: usize,
+)
+    requires readable { AreReadable pairs.now ends.now table.now own.now at.now }
+    requires known { length known.old ≡ length at.now }
+    requires range { (from ≤ to) × (to ≤ length at.now) }
+    ensures count { length known.new ≡ length known.old }
+    ensures outside { (p : ℕ) → (p < from) ⊎ (to ≤ p) → choice_at known.new p ≡ choice_at known.old
+        p }
+    ensures kept { (p : ℕ) → choice_at known.old p ≢ Open →
+        choice_at known.new p ≡ choice_at known.old p }
+    ensures passed { (m : Instance) (move : Move) → AreRisesOf m move pairs.now table.now own.now
+        at.now → ArePassedChoices m move (labelling at.now) (choice_at known.old) → ArePassedChoices
+        m move (labelling at.now) (choice_at known.new) }
+    ensures tried { (m : Instance) (move : Move) (p : ℕ) (b : Bool) → AreRisesOf m move pairs.now
+        table.now own.now at.now → (ds : ArePassedChoices m move (labelling at.now) (choice_at
+        known.old)) → from ≤ p → p < to → Passes (move_value m move (labelling at.now)) ds.decisions
+        p b → choice_at known.new p ≢ Open }
+{
+    let mut site = to;
+    while from < site {
+        site -= 1;
+        try_site(pairs, ends, table, own, at, known, site as u32);
+    }
+}
+
+/// Decides the open sites of a range that can be told by what is known when each is looked at,
+/// twice.
+pub(crate) fn sweep(
+    pairs: &Pairs,
+    ends: &Neighbours,
+    table: &RiseTable,
+    own: &[i32],
+    at: &[u8],
+    known: &mut [Choice],
+    from: usize,
+    to: usize,
+)
+    requires readable { AreReadable pairs.now ends.now table.now own.now at.now }
+    requires known { length known.old ≡ length at.now }
+    requires range { (from ≤ to) × (to ≤ length at.now) }
+    ensures count { length known.new ≡ length known.old }
+    ensures outside { (p : ℕ) → (p < from) ⊎ (to ≤ p) → choice_at known.new p ≡ choice_at known.old
+        p }
+    ensures kept { (p : ℕ) → choice_at known.old p ≢ Open →
+        choice_at known.new p ≡ choice_at known.old p }
+    ensures passed { (m : Instance) (move : Move) → AreRisesOf m move pairs.now table.now own.now
+        at.now → ArePassedChoices m move (labelling at.now) (choice_at known.old) → ArePassedChoices
+        m move (labelling at.now) (choice_at known.new) }
+    ensures tried { (m : Instance) (move : Move) (p : ℕ) (b : Bool) → AreRisesOf m move pairs.now
+        table.now own.now at.now → (ds : ArePassedChoices m move (labelling at.now) (choice_at
+        known.old)) → from ≤ p → p < to → Passes (move_value m move (labelling at.now)) ds.decisions
+        p b → choice_at known.new p ≢ Open }
+{
+    sweep_up(pairs, ends, table, own, at, known, from, to);
+    sweep_down(pairs, ends, table, own, at, known, from, to);
+}
