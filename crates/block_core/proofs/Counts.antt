@@ -2,20 +2,20 @@
 use Rattle.std.proofs.Common.{eqb, add-one, map, ◌∷◌, ◌⊎◌, ◌≡◌, ℕ, ◌+◌, ◌<◌, ◌≤◌, Bool, true, false, ◌&&◌, ◌||◌, List, [], length, set, get_or, replicate, refl, sym, ◌∙◌, ap, inl, inr, arith, get_or-set_same, get_or-set_other}
 use Rattle.std.proofs.lemmas.List.{map-set, same_lists, length-map, length-set, length-replicate, get_or-replicate}
 use Rattle.std.proofs.lemmas.Bool.{cases_eq, eqb-true}
-use Rattle.sums.specs.Sums.{counted}
+use Rattle.sums.specs.Sums.{count_if}
 use Rattle.sums.proofs.SumLemmas.{counted-le}
 use Rattle.block_events.specs.Soundness.{joins}
 use Rattle.block_events.specs.Directions.{forward, backward}
 use Rattle.block_events.specs.States.{near_block, far_block}
 use Rattle.flow_network.specs.Cut.{Network, IsNet}
 use Rattle.block_events.specs.declared.message.Message.{Message}
-use Rattle.block_events.specs.Soundness.{opened}
+use Rattle.block_events.specs.Soundness.{opening_state}
 use Rattle.block_events.proofs.Opening.{map_at, opened_sound}
 use Rattle.block_net.specs.Split.{CanSplit}
 use Rattle.block_core.specs.Mails.{room_at, IsHeld}
 use Rattle.block_events.specs.Effects.{BlocksView, state_of}
-use Rattle.laid_blocks.specs.Views.{first_of}
-use Rattle.block_core.specs.Counting.{put_room, IsSquareOf, joined, IsCounted}
+use Rattle.laid_blocks.specs.Views.{opening_blocks}
+use Rattle.block_core.specs.Counting.{put_room, IsSquareOf, directions_between, IsCounted}
 
 room_same : (n : ℕ) (rooms : List (List ℕ)) (b c y : ℕ) → IsSquareOf n rooms → b < n → c < n → room_at (put_room rooms b c y) b c ≡ y
 room_same n rooms b c y sq lb lc =
@@ -64,15 +64,15 @@ not_joined f t b c off away =
     (and_false (eqb f c) (eqb t b) (λ p q. away (eqb-true f c p) (eqb-true t b q)))
 
 joined_none : (v : BlocksView) (b c k : ℕ) → (near_block v.net v.blocks (forward k) ≡ b → far_block v.net v.blocks (forward k) ≡ c → ⊥)
-    → (near_block v.net v.blocks (forward k) ≡ c → far_block v.net v.blocks (forward k) ≡ b → ⊥) → joined v b c k ≡ 0
+    → (near_block v.net v.blocks (forward k) ≡ c → far_block v.net v.blocks (forward k) ≡ b → ⊥) → directions_between v b c k ≡ 0
 joined_none v b c k off away =
     let f = near_block v.net v.blocks (forward k) in
     let t = far_block v.net v.blocks (forward k) in
-    let there = ap (λ (q : Bool). counted q 1) (not_joined f t b c off away) in
-    let back = ap (λ (q : Bool). counted q 1) (not_joined t f b c (λ p q. away q p) (λ p q. off q p)) in
+    let there = ap (λ (q : Bool). count_if q 1) (not_joined f t b c off away) in
+    let back = ap (λ (q : Bool). count_if q 1) (not_joined t f b c (λ p q. away q p) (λ p q. off q p)) in
     omega (arith, there, back)
 
-joined_two : (v : BlocksView) (b c k : ℕ) → joined v b c k ≤ 2
+joined_two : (v : BlocksView) (b c k : ℕ) → directions_between v b c k ≤ 2
 joined_two v b c k = omega (arith, counted-le (joins v.net v.blocks b c (forward k)) 1, counted-le (joins v.net v.blocks b c (backward k)) 1)
 
 pub count_same : (v : BlocksView) (rooms : List (List ℕ)) (k : ℕ) → IsCounted v k rooms
@@ -135,9 +135,9 @@ empty_messages n rooms sq =
     let lb' : b < n = omega (arith, lb, sq.rows) in
     map_at f rooms b d [] lb ∙ (map_const none (get_or rooms b []) ∙ (ap (λ (m : ℕ). replicate m none) (sq.columns b lb') ∙ sym (get_or-replicate n b (replicate n none) d lb'))))
 
-pub opened_held : (net : Network) (blocks : ℕ) (rooms : List (List ℕ)) → IsNet net → CanSplit net blocks → IsCounted (first_of net blocks) (length net.arcs) rooms → IsHeld rooms (opened net blocks)
+pub opened_held : (net : Network) (blocks : ℕ) (rooms : List (List ℕ)) → IsNet net → CanSplit net blocks → IsCounted (opening_blocks net blocks) (length net.arcs) rooms → IsHeld rooms (opening_state net blocks)
 opened_held net blocks rooms is can counted = record { sound = opened_sound net blocks is can.some; few = can.few; arcs = can.arcs; room = counted.enough }
 
-pub opened_is : (net : Network) (n : ℕ) (b : BlocksView) (messages : List (List (List Message))) (rooms : List (List ℕ)) → b ≡ first_of net n → IsSquareOf n rooms
-    → messages ≡ map (λ row. map (λ k. let none : List Message = [] in none) row) rooms → state_of b messages 0 ≡ opened net n
+pub opened_is : (net : Network) (n : ℕ) (b : BlocksView) (messages : List (List (List Message))) (rooms : List (List ℕ)) → b ≡ opening_blocks net n → IsSquareOf n rooms
+    → messages ≡ map (λ row. map (λ k. let none : List Message = [] in none) row) rooms → state_of b messages 0 ≡ opening_state net n
 opened_is net n b messages rooms is sq empty = rw (is, empty, empty_messages n rooms sq) refl

@@ -2,7 +2,7 @@
 use Rattle.std.proofs.Common.{◌≡◌, ℕ, zero, suc, ◌+◌, ◌-◌, ◌<◌, ◌≤◌, eqb, List, length, get_or, slice_index, sum, refl, sym, ◌∙◌, ap, inl, inr, arith}
 use Rattle.std.proofs.lemmas.List.{get_or_read}
 use Rattle.std.proofs.lemmas.Bool.{eqb-true, cases_lt}
-use Rattle.sums.specs.Sums.{sum_below, counted}
+use Rattle.sums.specs.Sums.{sum_below, count_if}
 use Rattle.sums.proofs.SumLemmas.{sum_below-add, sum_below-same, sum_below-le, sum_below-le-longer, sum_below-swap, sum_below-none, sum_below-pick, sum_by-sum_below, term-le-sum_below, counted-same, counted-zero}
 use Rattle.flow_network.specs.Cut.{nodes}
 use Rattle.block_net.specs.Views.{CellsView, count, room_in}
@@ -75,13 +75,13 @@ in_two m (suc k) f = ap (λ i. sum_below i f) (add_suc m k) ∙ omega (arith, in
 
 -- a node's share in the sum of a block
 abbrev share : Whole → ℕ → ℕ → ℕ
-share w b v = counted (eqb (home w v) b) (given_at w v)
+share w b v = count_if (eqb (home w v) b) (given_at w v)
 
 share_none : (w : Whole) (b v : ℕ) → (home w v ≡ b → ⊥) → share w b v ≡ 0
 share_none w b v off = counted-zero (eqb (home w v) b) (given_at w v) (λ t. absurd (off (eqb-true (home w v) b t)))
 
 share_all : (w : Whole) (b v : ℕ) → home w v ≡ b → share w b v ≡ given_at w v
-share_all w b v e = ap (λ q. counted (eqb q b) (given_at w v)) e ∙ counted-same b (given_at w v)
+share_all w b v e = ap (λ q. count_if (eqb q b) (given_at w v)) e ∙ counted-same b (given_at w v)
 
 none_at_all : (w : Whole) (b : ℕ) → IsLaid w → count (block_at w b) ≡ 0 → given_by w b ≡ 0
 none_at_all w b laid none = sum_below-none (nodes w.net) (share w b) (λ v lv. share_none w b v (λ e. omega (arith, none, before_end w b v laid lv e, first_le w b v laid lv e)))

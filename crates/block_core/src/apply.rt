@@ -1,6 +1,6 @@
 ghost use Rattle.std.specs.Prelude.{◌≡◌, ◌≤◌, IfOk, OnOk, OnErr};
-ghost use Rattle.block_events.specs.Events.{Enabled, Happens};
-ghost use Rattle.block_events.specs.Soundness.{opened};
+ghost use Rattle.block_events.specs.Events.{IsEnabled, Happens};
+ghost use Rattle.block_events.specs.Soundness.{opening_state};
 ghost use Rattle.block_net.specs.Split.{CanSplit};
 
 use crate::state::State;
@@ -37,7 +37,7 @@ impl Core {
     /// `ARC_LIMIT` arcs: node i of n lies in block `i * blocks / n`. The only error is that memory runs out.
     pub fn open(alloc: Global, net: &Net, blocks: usize) -> Result<Core, AllocError>
         requires { CanSplit net.now blocks }
-        ensures { IfOk result (λ core. core ≡ opened net.now blocks) }
+        ensures { IfOk result (λ core. core ≡ opening_state net.now blocks) }
     {
         let state = State::open(alloc, net, blocks)?;
         Ok(Core { state })
@@ -47,7 +47,7 @@ impl Core {
     /// memory.
     pub fn apply(&mut self, event: Event) -> Result<(), NotEnabled>
         ensures done { OnOk result (Happens self.old event self.new) }
-        ensures refused { OnErr result ((¬ Enabled self.old event) × (self.new ≡ self.old)) }
+        ensures refused { OnErr result ((¬ IsEnabled self.old event) × (self.new ≡ self.old)) }
     {
         if self.state.perform(event) {
             Ok(())

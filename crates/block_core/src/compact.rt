@@ -41,7 +41,7 @@ impl Model for CompactMessage {
 
 impl CompactMessage {
     /// A message from its parts.
-    fn made(kind: Kind, direction: Direction, amount: u64, label: u32, told: u32) -> CompactMessage
+    fn pack(kind: Kind, direction: Direction, amount: u64, label: u32, told: u32) -> CompactMessage
         requires { direction.arc < 2 ^ 32 }
         ensures { result ≡ message_of kind direction amount label told }
     {
@@ -65,16 +65,16 @@ impl CompactMessage {
                 direction,
                 amount,
                 label,
-            } => CompactMessage::made(Kind::Offer, direction, amount, label, 0),
+            } => CompactMessage::pack(Kind::Offer, direction, amount, label, 0),
             Message::Accepted { direction, amount } => {
-                CompactMessage::made(Kind::Taken, direction, amount, 0, 0)
+                CompactMessage::pack(Kind::Taken, direction, amount, 0, 0)
             }
             Message::Refused {
                 direction,
                 amount,
                 label,
                 told,
-            } => CompactMessage::made(Kind::Returned, direction, amount, label, told),
+            } => CompactMessage::pack(Kind::Returned, direction, amount, label, told),
         }
     }
 

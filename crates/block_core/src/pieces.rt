@@ -39,7 +39,7 @@ impl Pieces {
 
     /// What the sink got by what the blocks hold: of each node, what it could give the sink at the opening less
     /// what it still can. In a sound state that is what the sink got. Takes time linear in the number of nodes.
-    pub fn given(&self) -> u64
+    pub fn sink_total(&self) -> u64
         requires laid { IsLaid (whole_of self.now.net self.now.parts) }
         requires rooms { (v : ℕ) → v < nodes self.now.net
             → room_of (state_in self.now) v ≤ slice_index self.now.net.sinks v }

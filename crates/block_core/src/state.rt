@@ -6,8 +6,8 @@ ghost use Rattle.block_events.specs.Directions.{IsDirection, far};
 ghost use Rattle.block_events.specs.States.{IsWay, way_at, excess_of, label_of, room_of, residual_of};
 ghost use Rattle.block_events.specs.States.{known_of, flight_of};
 ghost use Rattle.block_events.specs.Reach.{AreExact};
-ghost use Rattle.block_events.specs.Soundness.{IsSound, opened};
-ghost use Rattle.block_events.specs.Events.{Happens, IsActive, IsQuiet, Enabled, effect};
+ghost use Rattle.block_events.specs.Soundness.{IsSound, opening_state};
+ghost use Rattle.block_events.specs.Events.{Happens, IsActive, IsQuiet, IsEnabled, effect};
 ghost use Rattle.block_net.specs.Limits.{block_limit};
 ghost use Rattle.block_net.specs.Split.{CanSplit};
 ghost use Rattle.laid_blocks.specs.Views.{IsLaid};
@@ -52,7 +52,7 @@ impl State {
     /// runs out.
     pub fn open(alloc: Global, net: &Net, blocks: usize) -> Result<State, AllocError>
         requires { CanSplit net.now blocks }
-        ensures { IfOk result (λ state. state ≡ opened net.now blocks) }
+        ensures { IfOk result (λ state. state ≡ opening_state net.now blocks) }
     {
         let net = copy_of(alloc, net)?;
         State::of_net(alloc, net, blocks)
@@ -62,7 +62,7 @@ impl State {
     /// bytes a node and 16 an arc less. Refused for the same reason.
     pub fn of_net(alloc: Global, net: Net, blocks: usize) -> Result<State, AllocError>
         requires { CanSplit net blocks }
-        ensures { IfOk result (λ state. state ≡ opened net blocks) }
+        ensures { IfOk result (λ state. state ≡ opening_state net blocks) }
     {
         let blocks = Blocks::open(alloc, net, blocks)?;
         let rooms = Rooms::count(alloc, &blocks)?;
@@ -211,7 +211,7 @@ impl State {
 
     /// Whether excess of a node can go to the sink.
     fn may_push_sink(&self, v: usize) -> bool
-        ensures { IsTrue result ↔ Enabled self.now (PushSink v) }
+        ensures { IsTrue result ↔ IsEnabled self.now (PushSink v) }
     {
         self.is_active(v) && self.blocks.may_give(v)
     }
@@ -219,8 +219,8 @@ impl State {
     /// Excess of a node goes to the sink; no where that is not enabled, and nothing changes.
     fn push_sink(&mut self, v: usize) -> bool
         ensures { MatchBool result
-            (Enabled self.old (PushSink v) × (self.new ≡ effect self.old (PushSink v)))
-            ((¬ Enabled self.old (PushSink v)) × (self.new ≡ self.old)) }
+            (IsEnabled self.old (PushSink v) × (self.new ≡ effect self.old (PushSink v)))
+            ((¬ IsEnabled self.old (PushSink v)) × (self.new ≡ self.old)) }
     {
         if !self.may_push_sink(v) {
             return false;
@@ -232,7 +232,7 @@ impl State {
 
     /// Whether excess can go along a direction within a block.
     fn may_push_inner(&self, direction: Direction) -> bool
-        ensures { IsTrue result ↔ Enabled self.now (PushInner direction) }
+        ensures { IsTrue result ↔ IsEnabled self.now (PushInner direction) }
     {
         if self.blocks.arcs() <= direction.arc || self.blocks.is_border(direction) {
             return false;
@@ -242,7 +242,7 @@ impl State {
 
     /// Whether excess can leave along a direction to another block.
     fn may_send(&self, direction: Direction) -> bool
-        ensures { IsTrue result ↔ Enabled self.now (Send direction) }
+        ensures { IsTrue result ↔ IsEnabled self.now (Send direction) }
     {
         if self.blocks.arcs() <= direction.arc || !self.blocks.is_border(direction) {
             return false;
@@ -254,8 +254,8 @@ impl State {
     /// changes.
     fn push_inner(&mut self, direction: Direction) -> bool
         ensures { MatchBool result
-            (Enabled self.old (PushInner direction) × (self.new ≡ effect self.old (PushInner direction)))
-            ((¬ Enabled self.old (PushInner direction)) × (self.new ≡ self.old)) }
+            (IsEnabled self.old (PushInner direction) × (self.new ≡ effect self.old (PushInner direction)))
+            ((¬ IsEnabled self.old (PushInner direction)) × (self.new ≡ self.old)) }
     {
         if !self.may_push_inner(direction) {
             return false;
@@ -268,8 +268,8 @@ impl State {
     /// changes.
     fn send(&mut self, direction: Direction) -> bool
         ensures { MatchBool result
-            (Enabled self.old (Send direction) × (self.new ≡ effect self.old (Send direction)))
-            ((¬ Enabled self.old (Send direction)) × (self.new ≡ self.old)) }
+            (IsEnabled self.old (Send direction) × (self.new ≡ effect self.old (Send direction)))
+            ((¬ IsEnabled self.old (Send direction)) × (self.new ≡ self.old)) }
     {
         if !self.may_send(direction) {
             return false;
@@ -287,8 +287,8 @@ impl State {
     /// changes.
     fn relabel(&mut self, v: usize) -> bool
         ensures { MatchBool result
-            (Enabled self.old (Relabel v) × (self.new ≡ effect self.old (Relabel v)))
-            ((¬ Enabled self.old (Relabel v)) × (self.new ≡ self.old)) }
+            (IsEnabled self.old (Relabel v) × (self.new ≡ effect self.old (Relabel v)))
+            ((¬ IsEnabled self.old (Relabel v)) × (self.new ≡ self.old)) }
     {
         if !self.is_active(v) {
             return false;
@@ -401,7 +401,7 @@ impl State {
     fn raise_all(&mut self) -> bool
         ensures { MatchBool result
             (Happens self.old RaiseAll self.new)
-            ((¬ Enabled self.old RaiseAll) × (self.new ≡ self.old)) }
+            ((¬ IsEnabled self.old RaiseAll) × (self.new ≡ self.old)) }
     {
         if !self.is_quiet() {
             return false;
@@ -424,8 +424,8 @@ impl State {
     /// The parcel in front of a way is taken; no where that is not enabled, and nothing changes.
     fn accept(&mut self, from: usize, to: usize) -> bool
         ensures { MatchBool result
-            (Enabled self.old (Accept from to) × (self.new ≡ effect self.old (Accept from to)))
-            ((¬ Enabled self.old (Accept from to)) × (self.new ≡ self.old)) }
+            (IsEnabled self.old (Accept from to) × (self.new ≡ effect self.old (Accept from to)))
+            ((¬ IsEnabled self.old (Accept from to)) × (self.new ≡ self.old)) }
     {
         match self.front(from, to) {
             Some(
@@ -449,8 +449,8 @@ impl State {
     /// changes.
     fn refuse(&mut self, from: usize, to: usize) -> bool
         ensures { MatchBool result
-            (Enabled self.old (Refuse from to) × (self.new ≡ effect self.old (Refuse from to)))
-            ((¬ Enabled self.old (Refuse from to)) × (self.new ≡ self.old)) }
+            (IsEnabled self.old (Refuse from to) × (self.new ≡ effect self.old (Refuse from to)))
+            ((¬ IsEnabled self.old (Refuse from to)) × (self.new ≡ self.old)) }
     {
         match self.front(from, to) {
             Some(
@@ -474,8 +474,8 @@ impl State {
     /// changes.
     fn settle(&mut self, from: usize, to: usize) -> bool
         ensures { MatchBool result
-            (Enabled self.old (Settle from to) × (self.new ≡ effect self.old (Settle from to)))
-            ((¬ Enabled self.old (Settle from to)) × (self.new ≡ self.old)) }
+            (IsEnabled self.old (Settle from to) × (self.new ≡ effect self.old (Settle from to)))
+            ((¬ IsEnabled self.old (Settle from to)) × (self.new ≡ self.old)) }
     {
         match self.front(from, to) {
             Some(Message::Accepted { direction, amount }) => {
@@ -500,7 +500,7 @@ impl State {
     /// The event happens; no where it is not enabled, and nothing changes. Takes no memory.
     pub fn perform(&mut self, event: Event) -> bool
         ensures happens { MatchBool result (Happens self.old event self.new)
-            ((¬ Enabled self.old event) × (self.new ≡ self.old)) }
+            ((¬ IsEnabled self.old event) × (self.new ≡ self.old)) }
         ensures sound { IsSound self.old }
     {
         // Reading a field brings the state's soundness to hand.

@@ -14,13 +14,13 @@ use Rattle.block_net.specs.declared.lanes.Border.{Border}
 use Rattle.block_net.specs.Views as block
 use Rattle.block_net.specs.Views.{CellsView, count, excess_in, label_in, room_in, lane_in, border_in, parcel_of, highest}
 use Rattle.block_net.specs.Whole.{Whole, block_at, home, slot, put_block, border_of}
-use Rattle.block_events.specs.Effects.{BlocksView, state_of, given, labelled}
+use Rattle.block_events.specs.Effects.{BlocksView, state_of, blocks_after_sink_push, blocks_after_relabel}
 use Rattle.laid_blocks.specs.Views.{IsRow}
 use Rattle.laid_blocks.proofs.Allowing.{highest_is}
 use Rattle.block_core.proofs.Effects.{pushed_is, sent_is}
 use Rattle.laid_blocks.proofs.Steps.{IsAt, excess_read, label_read, room_read, inner_read, border_read, far_spot, back_row, gave_at, labelled_at, pushed_at, sent_at}
 use Rattle.block_turns.specs.Steps as steps
-use Rattle.block_turns.specs.Steps.{Held, after}
+use Rattle.block_turns.specs.Steps.{TurnView, turn_after}
 use Rattle.block_cut.specs.Seats.{IsSeated, logs_of}
 use Rattle.block_cut.proofs.Logs.{sent_log}
 use Rattle.block_cut.proofs.Seated.{view_with, at_seat, node_seat, Goes, view_after, seat_after, active_is, lane_found, border_found}
@@ -32,7 +32,7 @@ within xs i some = elim (cases_lt i (length xs)) [
   | inr past ↦ absurd (omega (arith, some, get_or_past xs i 0 past))
 ]
 
-pub give_goes : (w : Whole) (b : ℕ) (h : Held) (p got : ℕ) → IsSeated w b h.block → steps.Enabled h.block (steps.Give p) → Goes w b h (after h (steps.Give p)) got
+pub give_goes : (w : Whole) (b : ℕ) (h : TurnView) (p got : ℕ) → IsSeated w b h.block → steps.IsStepEnabled h.block (steps.Give p) → Goes w b h (turn_after h (steps.Give p)) got
 give_goes w b h p got seat on =
     let B = h.block in
     let w1 = put_block w b B in
@@ -43,7 +43,7 @@ give_goes w b h p got seat on =
     let found = node_seat w b B p seat on.0.node in
     let u = found.0 in
     let a = min (excess_in B p) (room_in B p) in
-    let new = block.given B p a in
+    let new = block.cells_after_sink_push B p a in
     let then' = gave_at w1 v b B u p a at found.1 (within B.rooms p on.1) in
     let excess = excess_read w1 v b B u p at found.1 in
     let room = room_read w1 v b B u p at found.1 in
@@ -57,12 +57,12 @@ give_goes w b h p got seat on =
       does = (
         found.1.home,
         (active_is w1 v b B at ways got u p found.1 on.0, some, level),
-        ap (λ (q : BlocksView). state_of q ways (got + a)) (view_after w b B new (given v u a) then') ∙ ap (events.given s u) amount,
+        ap (λ (q : BlocksView). state_of q ways (got + a)) (view_after w b B new (blocks_after_sink_push v u a) then') ∙ ap (events.after_sink_push s u) amount,
       );
-      seated = seat_after w b B new (given v u a) seat then' (length-set B.excess p _) refl refl;
+      seated = seat_after w b B new (blocks_after_sink_push v u a) seat then' (length-set B.excess p _) refl refl;
     }
 
-pub rise_goes : (w : Whole) (b : ℕ) (h : Held) (p got : ℕ) → IsSeated w b h.block → steps.Enabled h.block (steps.Rise p) → Goes w b h (after h (steps.Rise p)) got
+pub rise_goes : (w : Whole) (b : ℕ) (h : TurnView) (p got : ℕ) → IsSeated w b h.block → steps.IsStepEnabled h.block (steps.Rise p) → Goes w b h (turn_after h (steps.Rise p)) got
 rise_goes w b h p got seat on =
     let B = h.block in
     let w1 = put_block w b B in
@@ -73,7 +73,7 @@ rise_goes w b h p got seat on =
     let found = node_seat w b B p seat on.0.node in
     let u = found.0 in
     let d = highest B p in
-    let new = block.labelled B p d in
+    let new = block.cells_after_relabel B p d in
     let then' = labelled_at w1 v b B u p d at found.1 (omega (arith, seat.labels, on.0.node)) in
     let label = label_read w1 v b B u p at found.1 in
     let is : d ≡ events.highest_label s u = highest_is w1 v b B u p at found.1 in
@@ -84,12 +84,12 @@ rise_goes w b h p got seat on =
       does = (
         found.1.home,
         (active_is w1 v b B at ways got u p found.1 on.0, higher),
-        ap (λ (q : BlocksView). state_of q ways got) (view_after w b B new (labelled v u d) then') ∙ ap (events.labelled s u) is,
+        ap (λ (q : BlocksView). state_of q ways got) (view_after w b B new (blocks_after_relabel v u d) then') ∙ ap (events.after_relabel s u) is,
       );
-      seated = seat_after w b B new (labelled v u d) seat then' refl (length-set B.labels p d) refl;
+      seated = seat_after w b B new (blocks_after_relabel v u d) seat then' refl (length-set B.labels p d) refl;
     }
 
-pub push_goes : (w : Whole) (b : ℕ) (h : Held) (p j got : ℕ) → IsSeated w b h.block → steps.Enabled h.block (steps.Push p j) → Goes w b h (after h (steps.Push p j)) got
+pub push_goes : (w : Whole) (b : ℕ) (h : TurnView) (p j got : ℕ) → IsSeated w b h.block → steps.IsStepEnabled h.block (steps.Push p j) → Goes w b h (turn_after h (steps.Push p j)) got
 push_goes w b h p j got seat on =
     let B = h.block in
     let w1 = put_block w b B in
@@ -101,7 +101,7 @@ push_goes w b h p j got seat on =
     let found = lane_found w1 v b B at ways got node.0 p j node.1 on.1 in
     let x = found.x in
     let a = min (excess_in B p) (lane_in B j).residual in
-    let new = block.pushed B p j a in
+    let new = block.cells_after_push B p j a in
     let away = far_spot w1 v b B x j at found.row in
     let then' = pushed_at w1 v b B x j p a at found.row found.spot (back_row w1 v b B x j at found.row) away in
     let lane = inner_read w1 v b B x j at found.row in
@@ -127,7 +127,7 @@ pub border_row : (w : Whole) (v : BlocksView) (b : ℕ) (B : CellsView) (x : Dir
 border_row w v b B x j at row =
     sym (ap (λ (q : CellsView). border_in q (slot w x)) (ap (block_at w) row.home ∙ at.is) ∙ ap (border_in B) row.slot)
 
-pub send_goes : (w : Whole) (b : ℕ) (h : Held) (p j got : ℕ) → IsSeated w b h.block → steps.Enabled h.block (steps.Send p j) → Goes w b h (after h (steps.Send p j)) got
+pub send_goes : (w : Whole) (b : ℕ) (h : TurnView) (p j got : ℕ) → IsSeated w b h.block → steps.IsStepEnabled h.block (steps.Send p j) → Goes w b h (turn_after h (steps.Send p j)) got
 send_goes w b h p j got seat on =
     let B = h.block in
     let w1 = put_block w b B in
@@ -141,7 +141,7 @@ send_goes w b h p j got seat on =
     let x = found.x in
     let a = min (excess_in B p) (border_in B j).residual in
     let c = (border_in B j).to in
-    let new = block.sent B p j a in
+    let new = block.cells_after_send B p j a in
     let then' = sent_at w1 v b B x j p a at found.row found.spot in
     let lane = border_read w1 v b B x j at found.row in
     let residual = ap (λ (q : Lane). q.residual) lane in

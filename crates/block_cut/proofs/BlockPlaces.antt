@@ -2,7 +2,7 @@
 use Rattle.std.proofs.Common.{◌≡◌, ℕ, ◌+◌, ◌<◌, Bool, true, false, eqb, length, slice_index, sum, sum_by, All, refl, sym, ◌∙◌, ap, inl, inr, arith}
 use Rattle.std.proofs.lemmas.Bool.{cases_eq, eq-eqb, eqb-true}
 use Rattle.std.proofs.lemmas.List.Elements.{All-get_or}
-use Rattle.sums.specs.Sums.{sum_below, counted}
+use Rattle.sums.specs.Sums.{sum_below, count_if}
 use Rattle.sums.proofs.SumLemmas.{sum_below-same, sum_below-swap, sum_below-pick, sum_below-counted, sum_by-sum_below, counted-other, counted-true, counted-zero}
 use Rattle.flow_network.specs.Cut.{nodes}
 use Rattle.block_events.specs.Soundness.{IsSound}
@@ -17,25 +17,25 @@ use Rattle.block_cut.specs.Rounds.{Ways}
 
 -- ---- counting one of them
 
-counted_same : (t : Bool) (x y : ℕ) → (t ≡ true → x ≡ y) → counted t x ≡ counted t y
+counted_same : (t : Bool) (x y : ℕ) → (t ≡ true → x ≡ y) → count_if t x ≡ count_if t y
 counted_same true x y same = same refl
 counted_same false x y same = refl
 
-counted_both : (a b c d z : ℕ) → a ≡ b → c ≡ d → counted (eqb a b) (counted (eqb c d) z) ≡ z
-counted_both a b c d z e f = counted-true (eqb a b) (counted (eqb c d) z) (eq-eqb a b e) ∙ counted-true (eqb c d) z (eq-eqb c d f)
+counted_both : (a b c d z : ℕ) → a ≡ b → c ≡ d → count_if (eqb a b) (count_if (eqb c d) z) ≡ z
+counted_both a b c d z e f = counted-true (eqb a b) (count_if (eqb c d) z) (eq-eqb a b e) ∙ counted-true (eqb c d) z (eq-eqb c d f)
 
 module _ (w : Whole) (laid : IsLaid w) (F : ℕ → ℕ → ℕ) where
   -- the number at a place, where the node is at that place
   abbrev there : ℕ → ℕ → ℕ → ℕ
-  there v b p = counted (eqb (home w v) b) (counted (eqb (place w v) p) (F b p))
+  there v b p = count_if (eqb (home w v) b) (count_if (eqb (place w v) p) (F b p))
 
   -- all places of a block
   abbrev over : ℕ → (ℕ → ℕ) → ℕ
   over b f = sum_below (count (block_at w b)) f
 
-  node_in_block : (v b : ℕ) → v < nodes w.net → over b (there v b) ≡ counted (eqb (home w v) b) (F b (place w v))
+  node_in_block : (v b : ℕ) → v < nodes w.net → over b (there v b) ≡ count_if (eqb (home w v) b) (F b (place w v))
   node_in_block v b lv =
-      let at = λ (p : ℕ). counted (eqb (place w v) p) (F b p) in
+      let at = λ (p : ℕ). count_if (eqb (place w v) p) (F b p) in
       sym (sum_below-counted (count (block_at w b)) (eqb (home w v) b) at)
       ∙ counted_same (eqb (home w v) b) (over b at) (F b (place w v)) (λ t.
       let size = ap (λ c. count (block_at w c)) (eqb-true (home w v) b t) in
@@ -44,7 +44,7 @@ module _ (w : Whole) (laid : IsLaid w) (F : ℕ → ℕ → ℕ) where
   node_once : (v : ℕ) → v < nodes w.net → F (home w v) (place w v) ≡ sum_below (length w.blocks) (λ b. over b (there v b))
   node_once v lv =
       let n = length w.blocks in
-      sym (sum_below-same n (λ b. over b (there v b)) (λ b. counted (eqb (home w v) b) (F b (place w v))) (λ b lb. node_in_block v b lv)
+      sym (sum_below-same n (λ b. over b (there v b)) (λ b. count_if (eqb (home w v) b) (F b (place w v))) (λ b lb. node_in_block v b lv)
       ∙ sum_below-pick n (home w v) (λ b. F b (place w v)) (laid.placed.homes v lv))
 
   place_once : (b p : ℕ) → b < length w.blocks → p < count (block_at w b) → sum_below (nodes w.net) (λ v. there v b p) ≡ F b p
@@ -52,13 +52,13 @@ module _ (w : Whole) (laid : IsLaid w) (F : ℕ → ℕ → ℕ) where
       let found = (seated w b laid lb).nodes p lp in
       let u = found.0 in
       let spot = found.1 in
-      sum_below-same (nodes w.net) (λ v. there v b p) (λ v. counted (eqb u v) (F b p)) (λ v lv.
+      sum_below-same (nodes w.net) (λ v. there v b p) (λ v. count_if (eqb u v) (F b p)) (λ v lv.
       elim (cases_eq v u) [
         | inl e ↦
             counted_both (home w v) b (place w v) p (F b p) (ap (home w) e ∙ spot.home) (ap (place w) e ∙ spot.place)
             ∙ sym (counted-true (eqb u v) (F b p) (eq-eqb u v (sym e)))
         | inr off ↦
-            counted-zero (eqb (home w v) b) (counted (eqb (place w v) p) (F b p)) (λ t.
+            counted-zero (eqb (home w v) b) (count_if (eqb (place w v) p) (F b p)) (λ t.
             counted-zero (eqb (place w v) p) (F b p) (λ t'.
             absurd (off (same_spot w v u b p laid.placed (record { node = lv; home = eqb-true (home w v) b t; place = eqb-true (place w v) p t'; block = lb }) spot))))
             ∙ sym (counted-other u v (F b p) off)

@@ -12,7 +12,7 @@ use Rattle.block_core.specs.Mails.{MailView, room_at}
 use Rattle.block_turns.specs.declared.letter.Letter.{Letter}
 use Rattle.block_turns.specs.Seen.{IsPut, IsTake, add_to}
 use Rattle.block_cut.proofs.Logs.{added, not_added}
-use Rattle.block_cut.specs.Ends.{EndsView, ends_view, first_to, now_to, first_from, now_from, is_other, letter_of, seen_by, IsEnds}
+use Rattle.block_cut.specs.Ends.{EndsView, ends_view, first_to, now_to, first_from, now_from, is_other_block, letter_of, seen_by, IsEnds}
 
 -- ---- lists
 
@@ -32,10 +32,10 @@ before all more rest is =
 abbrev pub with_now : EndsView → MailView → EndsView
 with_now e now = ends_view e.block e.blocks e.first now e.slots e.arcs
 
-other_below : (e : EndsView) (c : ℕ) → is_other e c ≡ true → c < e.blocks
+other_below : (e : EndsView) (c : ℕ) → is_other_block e c ≡ true → c < e.blocks
 other_below e c on = ltb-true c e.blocks (and_parts (nat_lt c e.blocks) (not (eqb c e.block)) on).0
 
-other_apart : (e : EndsView) (c : ℕ) → is_other e c ≡ true → e.block ≢ c
+other_apart : (e : EndsView) (c : ℕ) → is_other_block e c ≡ true → e.block ≢ c
 other_apart e c on same =
     true≢false (sym (eq-eqb c e.block (sym same)) ∙ not-true (eqb c e.block) (and_parts (nat_lt c e.blocks) (not (eqb c e.block)) on).1)
 
@@ -45,7 +45,7 @@ letter_same e now (m ∷ rest) = refl
 
 -- ---- after a message was put
 
-module _ (e : EndsView) (now : MailView) (to : ℕ) (m : Message) (kept : IsEnds e) (on : is_other e to ≡ true) (is : now.messages ≡ put_message e.now.messages e.block to m) where
+module _ (e : EndsView) (now : MailView) (to : ℕ) (m : Message) (kept : IsEnds e) (on : is_other_block e to ≡ true) (is : now.messages ≡ put_message e.now.messages e.block to m) where
   off : e.block ≢ to
   off = other_apart e to on
 
@@ -98,14 +98,14 @@ module _ (e : EndsView) (now : MailView) (to : ℕ) (m : Message) (kept : IsEnds
     sent = put_sent;
     taken = λ c. ap (λ (w : List Message). take (length (first_from e c) - length w) (first_from e c)) (put_from c);
     front = λ c l was.
-        ap (λ (o : Option Letter). cond (is_other e c) o None) (letter_same e now (way_at now.messages c e.block) ∙ ap (letter_of e) (put_from c)) ∙ was;
+        ap (λ (o : Option Letter). cond (is_other_block e c) o None) (letter_same e now (way_at now.messages c e.block) ∙ ap (letter_of e) (put_from c)) ∙ was;
   }
 
 -- ---- the letter in front
 
 -- the block is another one, and the letter's message stands in front
 abbrev pub IsFront : EndsView → ℕ → Letter → Type 0
-IsFront e c l = (is_other e c ≡ true) × (now_from e c ≡ l.message ∷ drop 1 (now_from e c))
+IsFront e c l = (is_other_block e c ≡ true) × (now_from e c ≡ l.message ∷ drop 1 (now_from e c))
 
 abbrev message_in : Message → Option Letter → Message
 message_in m (Some l) = l.message
@@ -117,7 +117,7 @@ in_front e (m ∷ rest) l is =
     ap (λ (q : Message). q ∷ rest) (ap (message_in m) is)
 
 pub front_is : (e : EndsView) (c : ℕ) (l : Letter) → (seen_by e).front c ≡ Some l → IsFront e c l
-front_is e c l is = elim (cases_Bool (is_other e c)) [
+front_is e c l is = elim (cases_Bool (is_other_block e c)) [
   | inl on ↦ (on, in_front e (now_from e c) l (sym (ap (λ (t : Bool). cond t (letter_of e (now_from e c)) None) on) ∙ is))
   | inr no' ↦ absurd (true≢false (sym (ap is_some (sym (ap (λ (t : Bool). cond t (letter_of e (now_from e c)) None) no') ∙ is))))
 ]
@@ -197,6 +197,6 @@ module _ (e : EndsView) (now : MailView) (from : ℕ) (l : Letter) (kept : IsEnd
     sent = λ c. ap (drop (length (first_to e c))) (take_to c);
     taken = take_taken;
     room = λ c was.
-        ap (λ (w : List Message). is_other e c && nat_lt (length w) (room_at now.rooms e.block c)) (take_to c)
-        ∙ (ap (λ (r : List (List ℕ)). is_other e c && nat_lt (length (now_to e c)) (room_at r e.block c)) rooms ∙ was);
+        ap (λ (w : List Message). is_other_block e c && nat_lt (length w) (room_at now.rooms e.block c)) (take_to c)
+        ∙ (ap (λ (r : List (List ℕ)). is_other_block e c && nat_lt (length (now_to e c)) (room_at r e.block c)) rooms ∙ was);
   }

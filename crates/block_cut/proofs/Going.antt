@@ -4,7 +4,7 @@ use Rattle.std.proofs.lemmas.List.{length-set, get_or_read_under}
 use Rattle.flow_network.specs.Cut.{Network}
 use Rattle.block_events.specs.States.{State}
 use Rattle.block_events.specs.Events.{IsQuiet}
-use Rattle.block_events.specs.Soundness.{IsSound, IsFinished, count}
+use Rattle.block_events.specs.Soundness.{IsSound, IsFinished, potential}
 use Rattle.block_net.specs.Views.{CellsView}
 use Rattle.block_net.specs.Whole.{Whole, no_block, block_at, whole_of, with_blocks}
 use Rattle.block_events.specs.Effects.{state_of}
@@ -14,7 +14,7 @@ use Rattle.block_core.specs.declared.pieces.Pieces.{Pieces}
 use Rattle.block_core.specs.Pieces.{state_in}
 use Rattle.block_cut.proofs.Laid.{put_own, seated}
 use Rattle.block_cut.specs.Turns.{ReachesFrom}
-use Rattle.block_cut.specs.Passes.{state_at, IsGoing, IsReady, IsStill}
+use Rattle.block_cut.specs.Passes.{state_at, IsGoing, IsQuietAndHeld, IsStill}
 use Rattle.block_cut.proofs.Lowering.{none_starts}
 
 pub goes_on : (p : Pieces) (blocks : List CellsView) (before after : MailView) (b n m : ℕ) (new : CellsView)
@@ -25,7 +25,7 @@ goes_on p blocks before after b n m new going l rooms reaches =
     let w = with_blocks (whole_of p.net p.parts) blocks in
     let own = put_own w b in
     let sound = subst (λ (q : Whole). IsSound (state_of (blocks_in q) before.messages going.got)) (sym own) going.sound in
-    let same = ap (λ (q : Whole). count (state_of (blocks_in q) before.messages going.got)) own in
+    let same = ap (λ (q : Whole). potential (state_of (blocks_in q) before.messages going.got)) own in
     let r = reaches w going.got refl (seated w b going.laid l) sound in
     record {
       got = r.got';
@@ -59,7 +59,7 @@ reaches_at p blocks before after k b n old new size l is reaches =
 pub goes_from : (p : Pieces) → IsLaid (whole_of p.net p.parts) → IsHeld p.ways.rooms (state_in p) → IsGoing p p.parts.blocks.items p.ways 0
 goes_from p laid held = record { got = p.got; size = refl; rooms = refl; laid = laid; sound = held.sound; lower = omega arith }
 
-pub ready_from : (p : Pieces) (s : State) → s ≡ state_in p → IsQuiet s → IsHeld p.ways.rooms s → IsReady p
+pub ready_from : (p : Pieces) (s : State) → s ≡ state_in p → IsQuiet s → IsHeld p.ways.rooms s → IsQuietAndHeld p
 ready_from p s is quiet held = record { quiet = subst IsQuiet is quiet; held = subst (IsHeld p.ways.rooms) is held }
 
 pub still_from : (p : Pieces) → IsStill p p.parts.blocks.items p.ways 0
@@ -95,14 +95,14 @@ module _ (p q : Pieces) (net : q.net ≡ p.net) (firsts : q.parts.firsts.items �
             (subst (λ k. HasRooms p.net k q.ways.rooms) (sym going.size) (subst (HasRooms p.net (length p.parts.blocks.items)) (sym going.rooms) held.room));
       }
 
-      pub lower_all : count (state_in q) + n ≤ count (state_in p)
+      pub lower_all : potential (state_in q) + n ≤ potential (state_in p)
       lower_all =
-          let whole = ap (λ (w : Whole). count (state_of (blocks_in w) q.ways.messages q.got)) whole_same in
-          let got = ap (λ g. count (state_at p q.parts.blocks.items q.ways.messages g)) got_same in
+          let whole = ap (λ (w : Whole). potential (state_of (blocks_in w) q.ways.messages q.got)) whole_same in
+          let got = ap (λ g. potential (state_at p q.parts.blocks.items q.ways.messages g)) got_same in
           omega (arith, whole, got, going.lower)
 
 -- where nothing was done, the state was finished
-pub still_finished : (p : Pieces) (blocks : List CellsView) (ways : MailView) → IsReady p → length blocks ≡ length p.parts.blocks.items
+pub still_finished : (p : Pieces) (blocks : List CellsView) (ways : MailView) → IsQuietAndHeld p → length blocks ≡ length p.parts.blocks.items
     → IsStill p blocks ways (length blocks) → IsFinished (state_in p)
 still_finished p blocks ways ready size still =
     none_starts (state_in p) ready.held.sound ready.quiet (λ b l. still.none b (omega (arith, l, size)))

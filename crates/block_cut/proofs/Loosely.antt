@@ -10,14 +10,14 @@ use Rattle.block_events.proofs.Inside.{pushed_kept, given_kept}
 use Rattle.block_net.specs.Views as block
 use Rattle.block_net.specs.Views.{CellsView, count, excess_in, label_in, room_in, lane_in}
 use Rattle.block_net.specs.Whole.{Whole, put_block}
-use Rattle.block_events.specs.Effects.{BlocksView, state_of, given}
+use Rattle.block_events.specs.Effects.{BlocksView, state_of, blocks_after_sink_push}
 use Rattle.laid_blocks.proofs.Steps.{excess_read, label_read, room_read, inner_read, far_spot, back_row, gave_at, pushed_at}
 use Rattle.block_turns.specs.Steps.{IsOfNode}
-use Rattle.block_cut.specs.Loose.{IsStanding}
+use Rattle.block_cut.specs.Loose.{IsInPlace}
 use Rattle.block_cut.proofs.Seated.{view_with, at_seat, node_seat, view_after, seat_after, lane_found}
 
-pub loose_push_keeps : (w : Whole) (b : ℕ) (B : CellsView) (ways : List (List (List Message))) (got p j a : ℕ) → IsStanding w b B ways got → p < count B → IsOfNode B p j
-    → a ≤ excess_in B p → a ≤ (lane_in B j).residual → label_in B (lane_in B j).far ≤ label_in B p + 1 → IsStanding w b (block.pushed B p j a) ways got
+pub loose_push_keeps : (w : Whole) (b : ℕ) (B : CellsView) (ways : List (List (List Message))) (got p j a : ℕ) → IsInPlace w b B ways got → p < count B → IsOfNode B p j
+    → a ≤ excess_in B p → a ≤ (lane_in B j).residual → label_in B (lane_in B j).far ≤ label_in B p + 1 → IsInPlace w b (block.cells_after_push B p j a) ways got
 loose_push_keeps w b B ways got p j a stands lp of enough fits level =
     let w1 = put_block w b B in
     let v = view_with w b B in
@@ -26,7 +26,7 @@ loose_push_keeps w b B ways got p j a stands lp of enough fits level =
     let node = node_seat w b B p stands.seated lp in
     let found = lane_found w1 v b B at ways got node.0 p j node.1 of in
     let x = found.x in
-    let new = block.pushed B p j a in
+    let new = block.cells_after_push B p j a in
     let away = far_spot w1 v b B x j at found.row in
     let then' = pushed_at w1 v b B x j p a at found.row found.spot (back_row w1 v b B x j at found.row) away in
     let residual = ap (λ (q : Lane). q.residual) (inner_read w1 v b B x j at found.row) in
@@ -39,8 +39,8 @@ loose_push_keeps w b B ways got p j a stands lp of enough fits level =
       sound = subst (λ (q : BlocksView). IsSound (state_of q ways got)) (sym (view_after w b B new _ then')) kept;
     }
 
-pub loose_give_keeps : (w : Whole) (b : ℕ) (B : CellsView) (ways : List (List (List Message))) (got p a : ℕ) → IsStanding w b B ways got → p < count B → p < length B.rooms
-    → a ≤ excess_in B p → a ≤ room_in B p → IsStanding w b (block.given B p a) ways (got + a)
+pub loose_give_keeps : (w : Whole) (b : ℕ) (B : CellsView) (ways : List (List (List Message))) (got p a : ℕ) → IsInPlace w b B ways got → p < count B → p < length B.rooms
+    → a ≤ excess_in B p → a ≤ room_in B p → IsInPlace w b (block.cells_after_sink_push B p a) ways (got + a)
 loose_give_keeps w b B ways got p a stands lp lr enough fits =
     let w1 = put_block w b B in
     let v = view_with w b B in
@@ -48,12 +48,12 @@ loose_give_keeps w b B ways got p a stands lp lr enough fits =
     let at = at_seat w b B stands.seated in
     let found = node_seat w b B p stands.seated lp in
     let u = found.0 in
-    let new = block.given B p a in
+    let new = block.cells_after_sink_push B p a in
     let then' = gave_at w1 v b B u p a at found.1 lr in
     let excess = excess_read w1 v b B u p at found.1 in
     let room = room_read w1 v b B u p at found.1 in
     let kept = given_kept s u a stands.sound found.1.node (omega (arith, enough, excess)) (omega (arith, fits, room)) in
     record {
-      seated = seat_after w b B new (given v u a) stands.seated then' (length-set B.excess p _) refl refl;
-      sound = subst (λ (q : BlocksView). IsSound (state_of q ways (got + a))) (sym (view_after w b B new (given v u a) then')) kept;
+      seated = seat_after w b B new (blocks_after_sink_push v u a) stands.seated then' (length-set B.excess p _) refl refl;
+      sound = subst (λ (q : BlocksView). IsSound (state_of q ways (got + a))) (sym (view_after w b B new (blocks_after_sink_push v u a) then')) kept;
     }

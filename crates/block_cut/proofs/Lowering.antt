@@ -5,8 +5,8 @@ use Rattle.block_events.specs.declared.message.Message.{Message}
 use Rattle.block_events.specs.declared.event.Event.{Event}
 use Rattle.block_events.specs.declared.event.Event.TheVariants.{PushInner, PushSink, Relabel, Send, Accept, Refuse, Settle, RaiseAll}
 use Rattle.block_events.specs.States.{State, way_at, block_of, near_block}
-use Rattle.block_events.specs.Events.{IsQuiet, Enabled, Happens, MayAccept, MayRefuse, MaySettle}
-use Rattle.block_events.specs.Soundness.{IsSound, IsFinished, count}
+use Rattle.block_events.specs.Events.{IsQuiet, IsEnabled, Happens, MayAccept, MayRefuse, MaySettle}
+use Rattle.block_events.specs.Soundness.{IsSound, IsFinished, potential}
 use Rattle.block_events.proofs.Lists.{lowers, never_raises}
 use Rattle.block_events.proofs.Ends.{block_in, near_block_in}
 use Rattle.block_events.proofs.Progress.{progress}
@@ -42,9 +42,9 @@ raised_after s t sound h = record { net = happens_net s t RaiseAll h; count = ne
 
 -- ---- one after another
 
-pub lowers_le : (s t : State) (some : Bool) → Lowers s t some → count t ≤ count s
+pub lowers_le : (s t : State) (some : Bool) → Lowers s t some → potential t ≤ potential s
 lowers_le s t true h = let less = h.less refl in omega arith
-lowers_le s t false h = let same = ap count (h.still refl) in omega arith
+lowers_le s t false h = let same = ap potential (h.still refl) in omega arith
 
 -- something was done, before or now
 pub lowers_then : (s t u : State) (p : Bool) → Lowers s t p → Lowers t u true → Lowers s u true
@@ -72,7 +72,7 @@ no_take s way e =
     subst P (sym e) ((λ h. h), (λ h. h), (λ h. h))
 
 -- an enabled event takes a message that is there, or the block of its node may start it
-not_enabled : (s : State) (e : Event) → IsSound s → IsQuiet s → ((b : ℕ) → b < s.blocks → (e : Event) → ¬ MayStart b s e) → (e ≡ RaiseAll → ⊥) → Enabled s e → ⊥
+not_enabled : (s : State) (e : Event) → IsSound s → IsQuiet s → ((b : ℕ) → b < s.blocks → (e : Event) → ¬ MayStart b s e) → (e ≡ RaiseAll → ⊥) → IsEnabled s e → ⊥
 not_enabled s (PushInner x) sound quiet none other on = none (near_block s.net s.blocks x) (near_block_in s x sound.sized on.0) (PushInner x) (refl, on)
 not_enabled s (PushSink v) sound quiet none other on = none (block_of s.net s.blocks v) (block_in s.net s.blocks v on.0.node sound.sized.blocks) (PushSink v) (refl, on)
 not_enabled s (Relabel v) sound quiet none other on = none (block_of s.net s.blocks v) (block_in s.net s.blocks v on.0.node sound.sized.blocks) (Relabel v) (refl, on)
@@ -92,7 +92,7 @@ none_starts s sound quiet none = elim (progress s sound) [
 -- ---- what the code tells
 
 abbrev pub Performed : State → Event → State → Bool → Type 0
-Performed s e t r = MatchBool r (Happens s e t) ((¬ Enabled s e) × (t ≡ s))
+Performed s e t r = MatchBool r (Happens s e t) ((¬ IsEnabled s e) × (t ≡ s))
 
 pub lowers_by : (s t : State) (e : Event) (r : Bool) → IsSound s → (e ≡ RaiseAll → ⊥) → Performed s e t r → Lowers s t r
 lowers_by s t e true sound other h = lowers_one s t e sound other h

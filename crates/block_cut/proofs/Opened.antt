@@ -5,9 +5,9 @@ use Rattle.std.proofs.lemmas.List.{length-set, get_or_read_under, get_or-replica
 use Rattle.flow_network.specs.Cut.{Network, nodes}
 use Rattle.block_events.specs.declared.message.Message.{Message}
 use Rattle.block_events.specs.States.{State, label_of}
-use Rattle.block_events.specs.Soundness.{IsSound, opened}
+use Rattle.block_events.specs.Soundness.{IsSound, opening_state}
 use Rattle.block_net.specs.declared.parts.Parts.{Parts}
-use Rattle.block_net.specs.Views.{CellsView, count, excess_in, label_in, room_in, lane_in, pushed, given}
+use Rattle.block_net.specs.Views.{CellsView, count, excess_in, label_in, room_in, lane_in, cells_after_push, cells_after_sink_push}
 use Rattle.block_net.specs.Whole.{Whole, no_block, block_at, home, place, whole_of, with_blocks}
 use Rattle.block_events.specs.Effects.{state_of}
 use Rattle.laid_blocks.specs.Views.{IsLaid, IsSpot, blocks_in}
@@ -18,7 +18,7 @@ use Rattle.block_core.specs.Pieces.{state_in}
 use Rattle.laid_blocks.proofs.Steps.{label_read}
 use Rattle.laid_blocks.proofs.Writing.{block_same}
 use Rattle.block_turns.specs.Steps.{IsOfNode}
-use Rattle.block_cut.specs.Loose.{IsStanding}
+use Rattle.block_cut.specs.Loose.{IsInPlace}
 use Rattle.block_cut.proofs.Laid.{put_own, seated}
 use Rattle.block_cut.proofs.Loosely.{loose_push_keeps, loose_give_keeps}
 use Rattle.block_cut.specs.Passes.{state_at}
@@ -43,7 +43,7 @@ opens_more A B C p q = record {
       q.stands w b ways first.0 (flat_again A B p.nodes p.labels flat) first.1;
 }
 
-pub given_opens : (B : CellsView) (p a : ℕ) → p < count B → p < length B.rooms → a ≤ excess_in B p → a ≤ room_in B p → Opens B (given B p a)
+pub given_opens : (B : CellsView) (p a : ℕ) → p < count B → p < length B.rooms → a ≤ excess_in B p → a ≤ room_in B p → Opens B (cells_after_sink_push B p a)
 given_opens B p a lp lr enough fits = record {
   nodes = length-set B.excess p _;
   starts = refl;
@@ -52,7 +52,7 @@ given_opens B p a lp lr enough fits = record {
   stands = λ w b ways got flat stands. (got + a, loose_give_keeps w b B ways got p a stands lp lr enough fits);
 }
 
-pub pushed_opens : (B : CellsView) (p j a : ℕ) → p < count B → IsOfNode B p j → a ≤ excess_in B p → a ≤ (lane_in B j).residual → (lane_in B j).far < count B → Opens B (pushed B p j a)
+pub pushed_opens : (B : CellsView) (p j a : ℕ) → p < count B → IsOfNode B p j → a ≤ excess_in B p → a ≤ (lane_in B j).residual → (lane_in B j).far < count B → Opens B (cells_after_push B p j a)
 pushed_opens B p j a lp of enough fits lf = record {
   nodes = length-set (set B.excess p (excess_in B p - a)) (lane_in B j).far _ ∙ length-set B.excess p _;
   starts = refl;
@@ -64,7 +64,7 @@ pushed_opens B p j a lp of enough fits lf = record {
 -- ---- the blocks of a net
 
 module _ (p : Pieces) (blocks : List CellsView) (opening : AreOpening p blocks) where
-  standing : (b : ℕ) → b < length blocks → IsStanding (with_blocks (whole_of p.net p.parts) blocks) b (block_at (with_blocks (whole_of p.net p.parts) blocks) b) p.ways.messages opening.got
+  standing : (b : ℕ) → b < length blocks → IsInPlace (with_blocks (whole_of p.net p.parts) blocks) b (block_at (with_blocks (whole_of p.net p.parts) blocks) b) p.ways.messages opening.got
   standing b l = record {
     seated = seated (with_blocks (whole_of p.net p.parts) blocks) b opening.laid l;
     sound = subst (λ (q : Whole). IsSound (state_of (blocks_in q) p.ways.messages opening.got)) (sym (put_own (with_blocks (whole_of p.net p.parts) blocks) b)) opening.sound;
@@ -127,7 +127,7 @@ zeros_of_flat s p is all v l =
     ∙ ap (λ (t : State). label_of t v) is.shown in
     omega (arith, here, all b lb (place w v) (is.laid.placed.places v l))
 
-pub zeros_at_first : (net : Network) (blocks : ℕ) → AreLabelsZero (opened net blocks)
+pub zeros_at_first : (net : Network) (blocks : ℕ) → AreLabelsZero (opening_state net blocks)
 zeros_at_first net blocks v l = get_or-replicate (nodes net) v 0 0 l
 
 -- ---- in the end

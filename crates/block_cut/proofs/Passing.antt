@@ -2,10 +2,10 @@
 use Rattle.std.proofs.Common.{◌≡◌, ℕ, ◌+◌, ◌<◌, ◌≤◌, Bool, true, false, ◌||◌, nat_lt, IsFalse, List, length, slice_set, slice_index_or, refl, sym, ◌∙◌, ap, subst, inl, inr, arith}
 use Rattle.std.proofs.lemmas.Bool.{true≢false, lt-ltb, cases_lt}
 use Rattle.std.proofs.lemmas.List.{get_or_read_under}
-use Rattle.sums.specs.Sums.{counted}
+use Rattle.sums.specs.Sums.{count_if}
 use Rattle.sums.proofs.SumLemmas.{counted-le}
 use Rattle.block_events.specs.States.{State}
-use Rattle.block_events.specs.Soundness.{IsFinished, count}
+use Rattle.block_events.specs.Soundness.{IsFinished, potential}
 use Rattle.block_net.specs.Views.{CellsView}
 use Rattle.block_net.specs.Whole.{no_block, block_at, whole_of, with_blocks}
 use Rattle.block_core.specs.Mails.{MailView}
@@ -14,17 +14,17 @@ use Rattle.block_core.specs.Pieces.{state_in}
 use Rattle.block_turns.specs.Steps.{Step, IsSure}
 use Rattle.block_cut.specs.Ends.{ends_view, seen_by}
 use Rattle.block_cut.specs.Turns.{ReachesFrom}
-use Rattle.block_cut.specs.Passes.{IsGoing, IsReady, IsStill}
+use Rattle.block_cut.specs.Passes.{IsGoing, IsQuietAndHeld, IsStill}
 use Rattle.block_cut.proofs.Going.{goes_on, goes_less, reaches_at}
 use Rattle.block_cut.proofs.Still.{still_on}
 
-counted_or : (some : Bool) (n : ℕ) → counted (some || nat_lt 0 n) 1 ≤ counted some 1 + n
+counted_or : (some : Bool) (n : ℕ) → count_if (some || nat_lt 0 n) 1 ≤ count_if some 1 + n
 counted_or true n = omega arith
 counted_or false n = elim (cases_lt 0 n) [
   | inl l ↦ omega (arith, counted-le (nat_lt 0 n) 1, l)
   | inr h ↦
       let zero' : n ≡ 0 = omega (arith, h) in
-      subst (λ k. counted (nat_lt 0 k) 1 ≤ 0 + k) (sym zero') (omega arith)
+      subst (λ k. count_if (nat_lt 0 k) 1 ≤ 0 + k) (sym zero') (omega arith)
 ]
 
 neither : (some : Bool) (n : ℕ) → IsFalse (some || nat_lt 0 n) → IsFalse some × (n ≡ 0)
@@ -47,13 +47,13 @@ module _ (p : Pieces) (blocks0 blocks : List CellsView) (ways0 before after : Ma
       let some = sure e (subst (λ n. IsSure old (seen_by (ends_view b n before before slots arcs)) e) (sym size) on') in
       absurd (omega (arith, some, none))
 
-  pub turn_goes : after.rooms ≡ before.rooms → ((n : ℕ) → IsGoing p blocks0 ways0 n → IsGoing p blocks before (n + counted some 1))
-      → (n : ℕ) → IsGoing p blocks0 ways0 n → IsGoing p (slice_set blocks b new) after (n + counted (some || nat_lt 0 events) 1)
+  pub turn_goes : after.rooms ≡ before.rooms → ((n : ℕ) → IsGoing p blocks0 ways0 n → IsGoing p blocks before (n + count_if some 1))
+      → (n : ℕ) → IsGoing p blocks0 ways0 n → IsGoing p (slice_set blocks b new) after (n + count_if (some || nat_lt 0 events) 1)
   turn_goes rooms was n from =
-      let now = goes_on p blocks before after b events (n + counted some 1) new (was n from) (omega (arith, lb, size)) rooms reached in
+      let now = goes_on p blocks before after b events (n + count_if some 1) new (was n from) (omega (arith, lb, size)) rooms reached in
       goes_less p (slice_set blocks b new) after _ _ now (omega (arith, counted_or some events))
 
-  pub turn_still : (m : ℕ) → IsReady p → IsGoing p blocks before m → (slots : List ℕ) (arcs : ℕ) → ((e : Step) → IsSure old (seen_by (ends_view b k before before slots arcs)) e → 0 < events)
+  pub turn_still : (m : ℕ) → IsQuietAndHeld p → IsGoing p blocks before m → (slots : List ℕ) (arcs : ℕ) → ((e : Step) → IsSure old (seen_by (ends_view b k before before slots arcs)) e → 0 < events)
       → (IsFalse some → IsStill p blocks0 ways0 0 → IsStill p blocks before b) → IsFalse (some || nat_lt 0 events) → IsStill p blocks0 ways0 0 → IsStill p (slice_set blocks b new) after (b + 1)
   turn_still m ready going slots arcs sure was off from =
       let both = neither some events off in
@@ -65,8 +65,8 @@ module _ (p : Pieces) (blocks0 blocks : List CellsView) (ways0 before after : Ma
 -- ---- the whole work
 
 -- the count fell, where the state was not finished
-pub work_done : (p : Pieces) (blocks : List CellsView) (ways : MailView) (s t : State) (r : Bool) → s ≡ state_in p → IsGoing p blocks ways (counted r 1)
-    → ((n : ℕ) → IsGoing p blocks ways n → count t + n ≤ count (state_in p)) → (IsFalse r → IsFinished (state_in p)) → ¬ IsFinished s
-    → count t < count s
-work_done p blocks ways s t true is going lower still unfinished = omega (arith, lower 1 going, ap count is)
+pub work_done : (p : Pieces) (blocks : List CellsView) (ways : MailView) (s t : State) (r : Bool) → s ≡ state_in p → IsGoing p blocks ways (count_if r 1)
+    → ((n : ℕ) → IsGoing p blocks ways n → potential t + n ≤ potential (state_in p)) → (IsFalse r → IsFinished (state_in p)) → ¬ IsFinished s
+    → potential t < potential s
+work_done p blocks ways s t true is going lower still unfinished = omega (arith, lower 1 going, ap potential is)
 work_done p blocks ways s t false is going lower still unfinished = absurd (unfinished (subst IsFinished (sym is) (still refl)))

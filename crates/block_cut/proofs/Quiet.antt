@@ -10,7 +10,7 @@ use Rattle.block_net.specs.Whole.{Whole}
 use Rattle.block_core.specs.Mails.{HasRooms, IsHeld, room_at}
 use Rattle.block_events.specs.Effects.{state_of}
 use Rattle.laid_blocks.specs.Views.{blocks_in}
-use Rattle.block_cut.specs.Rounds.{Ways, IsRound, quiet_state, state_after}
+use Rattle.block_cut.specs.Rounds.{Ways, IsRoundOfTurns, quiet_state, state_after}
 
 pub quiet_is_start : (w : Whole) (got : ℕ) (ways : Ways) → IsSound (state_of (blocks_in w) ways got) → IsQuiet (state_of (blocks_in w) ways got)
     → state_of (blocks_in w) ways got ≡ quiet_state w got
@@ -18,7 +18,7 @@ quiet_is_start w got ways sound quiet =
     ap (λ (x : Ways). state_of (blocks_in w) x got) (quiet_empty (state_of (blocks_in w) ways got) sound quiet)
 
 pub round_is_held : (w : Whole) (got : ℕ) (blocks : List CellsView) (left : Ways) (steps : ℕ → ℕ) (rooms : List (List ℕ)) → HasRooms w.net (length w.blocks) rooms
-    → IsRound w got blocks left steps
+    → IsRoundOfTurns w got blocks left steps
     → IsHeld rooms (state_after w blocks left) × ((b c : ℕ) → b < length w.blocks → c < length w.blocks → b ≢ c → length (way_at left b c) ≤ room_at rooms b c)
 round_is_held w got blocks left steps rooms has round =
     let many : length blocks ≡ length w.blocks = round.round.joined.blocks in

@@ -16,12 +16,12 @@ use Rattle.block_net.specs.Whole.{Whole, table, block_at, with_blocks}
 use Rattle.block_net.proofs.Tables.{table_at}
 use Rattle.block_events.specs.Effects.{state_of}
 use Rattle.laid_blocks.specs.Views.{IsLaid, blocks_in}
-use Rattle.block_turns.specs.Steps.{Held}
+use Rattle.block_turns.specs.Steps.{TurnView}
 use Rattle.block_cut.specs.Seats.{log_at, logs_of, shown_by}
 use Rattle.block_cut.specs.TurnEvents.{IsLed}
 use Rattle.block_cut.proofs.BlockHistories.{turn_is_history}
 use Rattle.block_cut.proofs.Laid.{seated}
-use Rattle.block_cut.specs.Rounds.{AreBack, IsRound, fresh, quiet_state, lacking, state_after}
+use Rattle.block_cut.specs.Rounds.{AreBack, IsRoundOfTurns, fresh, quiet_state, rooms_lack, state_after}
 use Rattle.block_cut.proofs.Starting.{shows_all, is_quiet}
 use Rattle.block_cut.proofs.Together.{laid_all}
 use Rattle.block_cut.proofs.Joined.{blocks_join}
@@ -57,7 +57,7 @@ picked_is n P each b (inr past) lb = absurd (omega (arith, past, lb))
 
 module _ (w : Whole) (got : ℕ) (blocks : List CellsView) (left : List (List (List Message))) (laid : IsLaid w) (sound : IsSound (quiet_state w got)) (back : AreBack w got blocks left) where
   -- the block, with what it put and took
-  abbrev came_to : ℕ → Held
+  abbrev came_to : ℕ → TurnView
   came_to b = record { block = block_at (with_blocks w blocks) b; sent = back.sent b; taken = back.taken b }
 
   led : (b : ℕ) → b < length w.blocks → IsLed w b got (back.steps b) (fresh (block_at w b)) (came_to b)
@@ -126,7 +126,7 @@ module _ (w : Whole) (got : ℕ) (blocks : List CellsView) (left : List (List (L
   }
 
   -- it is what the rooms lack
-  got_is : counted.got ≡ lacking (with_blocks w blocks)
+  got_is : counted.got ≡ rooms_lack (with_blocks w blocks)
   got_is = omega (arith, (round_kept (quiet_state w got) counted sound (is_quiet w got) round).got)
 
   -- the round to a state where the sink got so much, and how long its histories are
@@ -139,9 +139,9 @@ module _ (w : Whole) (got : ℕ) (blocks : List CellsView) (left : List (List (L
   unfolding round
   numbered = (round, λ b lb. (histories.2 b lb).0)
 
-  pub seats_are_round : IsRound w got blocks left back.steps
+  pub seats_are_round : IsRoundOfTurns w got blocks left back.steps
   seats_are_round =
-      let is : Numbered (lacking (with_blocks w blocks)) = subst Numbered got_is numbered in
+      let is : Numbered (rooms_lack (with_blocks w blocks)) = subst Numbered got_is numbered in
       record {
         round = is.0;
         numbers = is.1;
@@ -150,5 +150,5 @@ module _ (w : Whole) (got : ℕ) (blocks : List CellsView) (left : List (List (L
       }
 
 pub seats_make_round : (w : Whole) (got : ℕ) (blocks : List CellsView) (left : List (List (List Message))) → IsLaid w → IsSound (quiet_state w got) → (back : AreBack w got blocks left)
-    → IsRound w got blocks left back.steps
+    → IsRoundOfTurns w got blocks left back.steps
 seats_make_round w got blocks left laid sound back = seats_are_round w got blocks left laid sound back

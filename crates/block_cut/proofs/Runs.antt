@@ -15,7 +15,7 @@ use Rattle.block_events.specs.RoundLaws.{no_messages}
 use Rattle.block_events.proofs.Running.{history_runs}
 use Rattle.block_net.specs.Whole.{Whole, table}
 use Rattle.block_net.proofs.Tables.{length_table, table_at, table_is}
-use Rattle.block_turns.specs.Steps.{Held, DoesMany}
+use Rattle.block_turns.specs.Steps.{TurnView, DoesMany}
 use Rattle.block_cut.specs.Seats.{IsSeated, log_at, logs_of, state_with}
 use Rattle.block_cut.specs.TurnEvents.{IsTurned, IsTurnRun}
 use Rattle.block_cut.proofs.Logs.{own_row, own_column, other_row}
@@ -77,7 +77,7 @@ each_step b (e ∷ es) s t led = omega (arith, one_step b s led.0 e es led.1, ea
 abbrev Left : ℕ → List (List (List Message)) → List (List (List Message)) → ℕ → Type 0
 Left b first logs c = (rest : List Message) × (b ≢ c → way_at first c b ≡ way_at logs c b ++ rest)
 
-pub turn_is_run : (w : Whole) (b got n : ℕ) (old new : Held) (left : ℕ → List Message) (ways : List (List (List Message)))
+pub turn_is_run : (w : Whole) (b got n : ℕ) (old new : TurnView) (left : ℕ → List Message) (ways : List (List (List Message)))
     → IsSeated w b old.block → IsSound (state_with w b old.block ways got)
     → ((c : ℕ) → (old.sent c ≡ []) × (old.taken c ≡ [])) → DoesMany old n new
     → ((c : ℕ) → c < length w.blocks → b ≢ c → way_at ways c b ≡ new.taken c ++ left c)

@@ -17,7 +17,7 @@ use Rattle.laid_blocks.proofs.Writing.{spot_put, row_put, block_same}
 use Rattle.laid_blocks.proofs.Steps.{IsAt, excess_read, label_read, top_read}
 use Rattle.block_turns.specs.Active as standing
 use Rattle.block_turns.specs.Steps as steps
-use Rattle.block_turns.specs.Steps.{Held}
+use Rattle.block_turns.specs.Steps.{TurnView}
 use Rattle.block_cut.specs.Seats.{IsSeated, shown_by}
 
 -- what the whole shows with the block in its place
@@ -41,7 +41,7 @@ border_seat w b B j seat l = let found = seat.borders j l in (found.0, row_put w
 -- ---- what a step leaves
 
 -- what a step of block b came to: an event that the block does by itself
-pub record Goes (w : Whole) (b : ℕ) (h h' : Held) (got : ℕ) : Type 0 where
+pub record Goes (w : Whole) (b : ℕ) (h h' : TurnView) (got : ℕ) : Type 0 where
   pub event : Event
   pub got' : ℕ
   pub does : DoesOwn b (shown_by w b h got) event (shown_by w b h' got')
@@ -81,7 +81,7 @@ module _ (w : Whole) (v : BlocksView) (b : ℕ) (B : CellsView) (at : IsAt w v b
   home_is u p spot = ap (λ (q : BlocksView). core.block_of q.net q.blocks u) (sym at.view) ∙ spot.home
 
   -- a node that is active in its block is active
-  pub active_is : (u p : ℕ) → IsSpot w u b p → standing.IsActive B p → events.IsActive (state_of v ways got) u
+  pub active_is : (u p : ℕ) → IsSpot w u b p → standing.IsActiveInBlock B p → events.IsActive (state_of v ways got) u
   active_is u p spot active = record {
     node = subst (λ (q : BlocksView). u < nodes q.net) at.view spot.node;
     excess = omega (arith, active.excess, excess_read w v b B u p at spot);

@@ -11,7 +11,7 @@ use Rattle.block_net.specs.Whole.{Whole, table, no_block, block_at, put_block}
 use Rattle.block_net.proofs.Tables.{table_is}
 use Rattle.block_events.specs.Effects.{state_of}
 use Rattle.laid_blocks.specs.Views.{IsLaid, blocks_in}
-use Rattle.block_turns.specs.Seen.{Seen}
+use Rattle.block_turns.specs.Seen.{WaysView}
 use Rattle.block_turns.specs.Steps.{Step, IsSure}
 use Rattle.block_cut.specs.TurnEvents.{HasRoom}
 use Rattle.block_cut.specs.Seats.{log_at, logs_of, shown_by}
@@ -50,7 +50,7 @@ is_quiet w got b c lb lc =
     let row : List (List Message) = replicate n [] in
     ap (λ (r : List (List Message)). get_or r c []) (get_or-replicate n b row [] lb) ∙ get_or-replicate {A = List Message} n c [] [] lc
 
-pub start_is_sure : (w : Whole) (b got : ℕ) (s : Seen) (e : Event) → IsLaid w → b < length w.blocks → HasRoom (block_at w b) s → MayStart b (quiet_state w got) e
+pub start_is_sure : (w : Whole) (b got : ℕ) (s : WaysView) (e : Event) → IsLaid w → b < length w.blocks → HasRoom (block_at w b) s → MayStart b (quiet_state w got) e
     → (step : Step) × IsSure (block_at w b) s step
 start_is_sure w b got s e laid lb room may =
     start_is_step w b got (fresh (block_at w b)) s e (seated w b laid lb) room (subst (λ (q : State). MayStart b q e) (sym (shows_all w b got)) may)

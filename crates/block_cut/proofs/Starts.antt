@@ -16,10 +16,10 @@ use Rattle.block_events.specs.Effects.{BlocksView, state_of}
 use Rattle.laid_blocks.specs.Views.{IsSpot, IsRow}
 use Rattle.laid_blocks.proofs.Allowing.{highest_is}
 use Rattle.laid_blocks.proofs.Steps.{IsAt, node_below, excess_read, label_read, room_read, top_read, inner_read, border_read, far_spot}
-use Rattle.block_turns.specs.Seen.{Seen}
+use Rattle.block_turns.specs.Seen.{WaysView}
 use Rattle.block_turns.specs.Active as standing
 use Rattle.block_turns.specs.Steps as steps
-use Rattle.block_turns.specs.Steps.{Step, Held, IsSure}
+use Rattle.block_turns.specs.Steps.{Step, TurnView, IsSure}
 use Rattle.block_cut.specs.TurnEvents.{HasRoom}
 use Rattle.block_cut.specs.Seats.{IsSeated, logs_of, shown_by}
 use Rattle.block_cut.proofs.Seated.{view_with, at_seat, with_is, read_at}
@@ -36,14 +36,14 @@ node_spot w b B ways got u seat here active = record {
 
 -- a node that is active is active in its block
 still_active : (w : Whole) (v : BlocksView) (b : ℕ) (B : CellsView) (ways : List (List (List Message))) (got u p : ℕ) → IsAt w v b B → IsSpot w u b p
-    → events.IsActive (state_of v ways got) u → standing.IsActive B p
+    → events.IsActive (state_of v ways got) u → standing.IsActiveInBlock B p
 still_active w v b B ways got u p at spot active = record {
   node = node_below w v b B u p at spot;
   excess = omega (arith, active.excess, excess_read w v b B u p at spot);
   below = omega (arith, active.below, label_read w v b B u p at spot, top_read w v b B at);
 }
 
-start_push : (w : Whole) (b got : ℕ) (h : Held) (x : Direction) → IsSeated w b h.block → MayStart b (shown_by w b h got) (PushInner x) → (e : Step) × steps.Enabled h.block e × ((s : Seen) → IsSure h.block s e)
+start_push : (w : Whole) (b got : ℕ) (h : TurnView) (x : Direction) → IsSeated w b h.block → MayStart b (shown_by w b h got) (PushInner x) → (e : Step) × steps.IsStepEnabled h.block e × ((s : WaysView) → IsSure h.block s e)
 start_push w b got h x seat may =
     let B = h.block in
     let w1 = put_block w b B in
@@ -68,10 +68,10 @@ start_push w b got h x seat may =
       low = omega (arith, stands.from, read_at w1 v b B at ways got u p (λ (q : CellsView). q.starts) (λ q. q) spot);
       high = omega (arith, stands.below, read_at w1 v b B at ways got u p (λ (q : CellsView). q.starts) (λ q. q + 1) spot);
     } in
-    let enabled : steps.Enabled B (steps.Push p j) = (still_active w1 v b B ways got u p at spot on.2, of, may_push) in
+    let enabled : steps.IsStepEnabled B (steps.Push p j) = (still_active w1 v b B ways got u p at spot on.2, of, may_push) in
     (steps.Push p j, enabled, (λ s. enabled))
 
-start_give : (w : Whole) (b got : ℕ) (h : Held) (u : ℕ) → IsSeated w b h.block → MayStart b (shown_by w b h got) (PushSink u) → (e : Step) × steps.Enabled h.block e × ((s : Seen) → IsSure h.block s e)
+start_give : (w : Whole) (b got : ℕ) (h : TurnView) (u : ℕ) → IsSeated w b h.block → MayStart b (shown_by w b h got) (PushSink u) → (e : Step) × steps.IsStepEnabled h.block e × ((s : WaysView) → IsSure h.block s e)
 start_give w b got h u seat may =
     let B = h.block in
     let w1 = put_block w b B in
@@ -83,10 +83,10 @@ start_give w b got h u seat may =
     let spot = node_spot w b B ways got u seat may.0 on.0 in
     let room : 0 < room_in B p = omega (arith, on.1, room_read w1 v b B u p at spot) in
     let level : label_in B p ≡ 1 = label_read w1 v b B u p at spot ∙ on.2 in
-    let enabled : steps.Enabled B (steps.Give p) = (still_active w1 v b B ways got u p at spot on.0, room, level) in
+    let enabled : steps.IsStepEnabled B (steps.Give p) = (still_active w1 v b B ways got u p at spot on.0, room, level) in
     (steps.Give p, enabled, (λ s. enabled))
 
-start_rise : (w : Whole) (b got : ℕ) (h : Held) (u : ℕ) → IsSeated w b h.block → MayStart b (shown_by w b h got) (Relabel u) → (e : Step) × steps.Enabled h.block e × ((s : Seen) → IsSure h.block s e)
+start_rise : (w : Whole) (b got : ℕ) (h : TurnView) (u : ℕ) → IsSeated w b h.block → MayStart b (shown_by w b h got) (Relabel u) → (e : Step) × steps.IsStepEnabled h.block e × ((s : WaysView) → IsSure h.block s e)
 start_rise w b got h u seat may =
     let B = h.block in
     let w1 = put_block w b B in
@@ -98,10 +98,10 @@ start_rise w b got h u seat may =
     let spot = node_spot w b B ways got u seat may.0 on.0 in
     let is : highest B p ≡ events.highest_label (state_of v ways got) u = highest_is w1 v b B u p at spot in
     let higher : label_in B p < highest B p = omega (arith, on.1, is, label_read w1 v b B u p at spot) in
-    let enabled : steps.Enabled B (steps.Rise p) = (still_active w1 v b B ways got u p at spot on.0, higher) in
+    let enabled : steps.IsStepEnabled B (steps.Rise p) = (still_active w1 v b B ways got u p at spot on.0, higher) in
     (steps.Rise p, enabled, (λ s. enabled))
 
-start_send : (w : Whole) (b got : ℕ) (h : Held) (x : Direction) (s : Seen) → IsSeated w b h.block → HasRoom h.block s → MayStart b (shown_by w b h got) (Send x) → (e : Step) × IsSure h.block s e
+start_send : (w : Whole) (b got : ℕ) (h : TurnView) (x : Direction) (s : WaysView) → IsSeated w b h.block → HasRoom h.block s → MayStart b (shown_by w b h got) (Send x) → (e : Step) × IsSure h.block s e
 start_send w b got h x s seat room may =
     let B = h.block in
     let w1 = put_block w b B in
@@ -130,10 +130,10 @@ start_send w b got h x s seat room may =
       high = omega (arith, stands.below, read_at w1 v b B at ways got u p (λ (q : CellsView). q.border_starts) (λ q. q + 1) spot);
     } in
     let within : j < length B.borders = omega (arith, stands.within, ap (λ (q : CellsView). length q.borders) (with_is w1 v b B at ways got u p spot)) in
-    let enabled : steps.Enabled B (steps.Send p j) = (still_active w1 v b B ways got u p at spot on.2, of, may_send) in
+    let enabled : steps.IsStepEnabled B (steps.Send p j) = (still_active w1 v b B ways got u p at spot on.2, of, may_send) in
     (steps.Send p j, (enabled, room j within))
 
-pub start_is_step : (w : Whole) (b got : ℕ) (h : Held) (s : Seen) (e : Event) → IsSeated w b h.block → HasRoom h.block s → MayStart b (shown_by w b h got) e → (step : Step) × IsSure h.block s step
+pub start_is_step : (w : Whole) (b got : ℕ) (h : TurnView) (s : WaysView) (e : Event) → IsSeated w b h.block → HasRoom h.block s → MayStart b (shown_by w b h got) e → (step : Step) × IsSure h.block s step
 start_is_step w b got h s (PushInner x) seat room may = let found = start_push w b got h x seat may in (found.0, found.2 s)
 start_is_step w b got h s (PushSink u) seat room may = let found = start_give w b got h u seat may in (found.0, found.2 s)
 start_is_step w b got h s (Relabel u) seat room may = let found = start_rise w b got h u seat may in (found.0, found.2 s)

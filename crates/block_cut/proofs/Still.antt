@@ -2,7 +2,7 @@
 use Rattle.std.proofs.Common.{◌≡◌, ◌≢◌, ℕ, ◌+◌, ◌<◌, ◌≤◌, Bool, true, false, ◌||◌, eqb, List, [], ◌∷◌, length, slice_set, refl, sym, ◌∙◌, ap, subst, inl, inr, arith}
 use Rattle.std.proofs.lemmas.Bool.{and_from, not_from_false, not-true, eq-eqb, lt-ltb, true≢false, cases_lt}
 use Rattle.std.proofs.lemmas.Bool.Decides.{eqb_tells}
-use Rattle.sums.specs.Sums.{counted}
+use Rattle.sums.specs.Sums.{count_if}
 use Rattle.sums.proofs.SumLemmas.{term-le-sum_below, counted-true}
 use Rattle.flow_network.specs.Cut.{Network}
 use Rattle.block_events.specs.declared.direction.Direction.{Direction}
@@ -12,7 +12,7 @@ use Rattle.block_events.specs.declared.message.Message.{Message}
 use Rattle.block_events.specs.Directions.{IsDirection, forward, backward, far, over_directions}
 use Rattle.block_events.specs.States.{State, way_at, near_block, far_block}
 use Rattle.block_events.specs.Soundness.{IsSound, joins, room_between}
-use Rattle.block_events.specs.Events.{IsActive, Run}
+use Rattle.block_events.specs.Events.{IsActive, IsRunOfEvents}
 use Rattle.block_events.proofs.Ends.{far_in, block_in}
 use Rattle.block_events.specs.Workers.{MayStart}
 use Rattle.block_net.specs.Views.{CellsView, border_in}
@@ -22,14 +22,14 @@ use Rattle.laid_blocks.specs.Views.{IsLaid, blocks_in}
 use Rattle.block_core.specs.Mails.{MailView, HasRooms, room_at}
 use Rattle.block_core.specs.declared.pieces.Pieces.{Pieces}
 use Rattle.block_core.specs.Pieces.{state_in}
-use Rattle.block_turns.specs.Steps.{Step, IsSure, held}
+use Rattle.block_turns.specs.Steps.{Step, IsSure, turn_view}
 use Rattle.block_cut.specs.TurnEvents.{HasRoom}
 use Rattle.block_cut.specs.Seats.{logs_of}
 use Rattle.block_cut.proofs.Laid.{put_own, seated}
 use Rattle.block_cut.proofs.Starts.{start_is_step}
-use Rattle.block_cut.specs.Ends.{is_other, ends_view, seen_by}
+use Rattle.block_cut.specs.Ends.{is_other_block, ends_view, seen_by}
 use Rattle.block_cut.specs.Turns.{ReachesFrom}
-use Rattle.block_cut.specs.Passes.{state_at, IsGoing, IsReady, IsStill}
+use Rattle.block_cut.specs.Passes.{state_at, IsGoing, IsQuietAndHeld, IsStill}
 
 -- ---- room
 
@@ -45,7 +45,7 @@ or_left false u h = absurd (true≢false (sym h))
 -- there is room between the blocks of a direction's ends
 room_along : (net : Network) (blocks : ℕ) (x : Direction) (b c : ℕ) → IsDirection net x → near_block net blocks x ≡ b → far_block net blocks x ≡ c → 1 ≤ room_between net blocks b c
 room_along net blocks x b c is near far =
-    let at = direction_within (length net.arcs) x.arc x.back (λ y. counted (joins net blocks b c y) 1) is in
+    let at = direction_within (length net.arcs) x.arc x.back (λ y. count_if (joins net blocks b c y) 1) is in
     let one = counted-true (joins net blocks b c x) 1 (or_left _ _ (and_from _ _ (eq-eqb _ b near) (eq-eqb _ c far))) in
     omega (arith, at, one)
 
@@ -74,7 +74,7 @@ has_room w b ways slots arcs laid lb quiet rooms = λ j lj.
     let one = room_along w.net n x b c stands.direction found.1 (sym to) in
     let none : length (way_at ways.messages b c) ≡ 0 = ap length (quiet c below) in
     let free : length (way_at ways.messages b c) < room_at ways.rooms b c = omega (arith, one, none, rooms b c lb below off) in
-    and_from (is_other e c) _ (and_from _ _ (lt-ltb c n below) (not_from_false (eqb c b) apart)) (lt-ltb _ _ free)
+    and_from (is_other_block e c) _ (and_from _ _ (lt-ltb c n below) (not_from_false (eqb c b) apart)) (lt-ltb _ _ free)
 
 -- ---- what a block may start
 
@@ -93,13 +93,13 @@ may_with v b ways ways' got got' (Settle c to) may = absurd may
 may_with v b ways ways' got got' RaiseAll may = absurd may
 
 -- no events change nothing
-no_events : (s t : State) (events : List Event) → length events ≡ 0 → Run s events t → t ≡ s
+no_events : (s t : State) (events : List Event) → length events ≡ 0 → IsRunOfEvents s events t → t ≡ s
 no_events s t [] none run = run
 no_events s t (e ∷ es) none run = absurd (omega (arith, none))
 
 -- ---- a turn that does nothing
 
-module _ (p : Pieces) (blocks : List CellsView) (before : MailView) (b m : ℕ) (ready : IsReady p) (going : IsGoing p blocks before m) (lb : b < length blocks) (still : IsStill p blocks before b) where
+module _ (p : Pieces) (blocks : List CellsView) (before : MailView) (b m : ℕ) (ready : IsQuietAndHeld p) (going : IsGoing p blocks before m) (lb : b < length blocks) (still : IsStill p blocks before b) where
   abbrev w : Whole
   w = with_blocks (whole_of p.net p.parts) blocks
 
@@ -127,7 +127,7 @@ module _ (p : Pieces) (blocks : List CellsView) (before : MailView) (b m : ℕ) 
   none_of : (slots : List ℕ) (arcs : ℕ) → ((e : Step) → ¬ IsSure (block_at w b) (seen_by (ends_view b (length blocks) before before slots arcs)) e) → (e : Event) → ¬ MayStart b (state_in p) e
   none_of slots arcs none e = λ may.
       let seen = seen_by (ends_view b (length blocks) before before slots arcs) in
-      let h = held (block_at w b) seen in
+      let h = turn_view (block_at w b) seen in
       let now : MayStart b (state_at p blocks before.messages p.got) e = subst (λ (s : State). MayStart b s e) (sym still.same) may in
       let logs = logs_of (length blocks) b h.sent h.taken in
       let shown = subst (λ (q : Whole). MayStart b (state_of (blocks_in q) logs p.got) e) (sym (put_own w b)) (may_with (blocks_in w) b before.messages logs p.got p.got e now) in

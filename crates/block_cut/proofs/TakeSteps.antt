@@ -18,13 +18,13 @@ use Rattle.block_net.specs.declared.lanes.Border.{Border}
 use Rattle.block_net.specs.Views as block
 use Rattle.block_net.specs.Views.{CellsView, label_in, border_in}
 use Rattle.block_net.specs.Whole.{Whole, home, put_block}
-use Rattle.block_events.specs.Effects.{BlocksView, state_of, accepted, settled, returned}
+use Rattle.block_events.specs.Effects.{BlocksView, state_of, blocks_after_accept, blocks_after_settle, blocks_after_return}
 use Rattle.laid_blocks.specs.Views.{IsRow}
 use Rattle.block_core.proofs.Effects.{border_apart}
 use Rattle.laid_blocks.proofs.Steps.{label_read, top_read, border_read, border_capacity, border_spot, back_spot, out_same, accepted_at, settled_at, returned_at}
 use Rattle.block_turns.specs.Seen.{add_to}
 use Rattle.block_turns.specs.Steps as steps
-use Rattle.block_turns.specs.Steps.{Held, accepting, refusing, settling}
+use Rattle.block_turns.specs.Steps.{TurnView, turn_after_accept, turn_after_refuse, turn_after_settle}
 use Rattle.block_cut.specs.Seats.{IsSeated, logs_of}
 use Rattle.block_cut.proofs.Logs.{sent_log, taken_log}
 use Rattle.block_cut.proofs.Seated.{view_with, at_seat, border_seat, Goes, view_after, seat_after}
@@ -75,7 +75,7 @@ answered_log : (n b c : ℕ) (sent taken : ℕ → List Message) (m reply : Mess
 answered_log n b c sent taken m reply lb lc apart =
     sent_log n b c sent (add_to taken c m) reply lb lc ∙ ap (λ l. core.put_message l b c reply) (taken_log n b c sent taken m lb lc apart)
 
-pub accept_goes : (w : Whole) (b : ℕ) (h : Held) (c j got : ℕ) (m : Message) → IsSeated w b h.block → steps.MayAccept h.block c j m → Goes w b h (accepting h c j m) got
+pub accept_goes : (w : Whole) (b : ℕ) (h : TurnView) (c j got : ℕ) (m : Message) → IsSeated w b h.block → steps.MayAcceptAt h.block c j m → Goes w b h (turn_after_accept h c j m) got
 accept_goes w b h c j got (Parcel x a d) seat may =
     let B = h.block in
     let w1 = put_block w b B in
@@ -86,7 +86,7 @@ accept_goes w b h c j got (Parcel x a d) seat may =
     let at = at_seat w b B seat in
     let is = met w b c B j (opposite x) seat may.0 (is_opposite x (border_in B j).direction may.1) in
     let spot = back_spot w1 v b B x j at is.row in
-    let new = block.accepted B j a d in
+    let new = block.cells_after_accept B j a d in
     let then' = accepted_at w1 v b B x j a d at is.row spot in
     let lane = border_read w1 v b B (opposite x) j at is.row in
     let residual = ap (λ (q : Lane). q.residual) lane in
@@ -107,14 +107,14 @@ accept_goes w b h c j got (Parcel x a d) seat may =
         record { addressed = turned w b c v.blocks x is.between; fair = may.2 },
         level,
         (within, fits),
-        ap (λ (q : BlocksView). state_of q (logs_of n b (add_to h.sent c (Accepted x a)) (add_to h.taken c (Parcel x a d))) got) (view_after w b B new (accepted v x a d) then') ∙ ap (λ l. state_of (accepted v x a d) l got) taken,
+        ap (λ (q : BlocksView). state_of q (logs_of n b (add_to h.sent c (Accepted x a)) (add_to h.taken c (Parcel x a d))) got) (view_after w b B new (blocks_after_accept v x a d) then') ∙ ap (λ l. state_of (blocks_after_accept v x a d) l got) taken,
       );
-      seated = seat_after w b B new (accepted v x a d) seat then' (length-set B.excess (border_in B j).near _) refl (length-set B.borders j _);
+      seated = seat_after w b B new (blocks_after_accept v x a d) seat then' (length-set B.excess (border_in B j).near _) refl (length-set B.borders j _);
     }
 accept_goes w b h c j got (Accepted x a) seat may = absurd may
 accept_goes w b h c j got (Refused x a d told) seat may = absurd may
 
-pub refuse_goes : (w : Whole) (b : ℕ) (h : Held) (c j got : ℕ) (m : Message) → IsSeated w b h.block → steps.MayRefuse h.block c j m → Goes w b h (refusing h c j m) got
+pub refuse_goes : (w : Whole) (b : ℕ) (h : TurnView) (c j got : ℕ) (m : Message) → IsSeated w b h.block → steps.MayRefuseAt h.block c j m → Goes w b h (turn_after_refuse h c j m) got
 refuse_goes w b h c j got (Parcel x a d) seat may =
     let B = h.block in
     let w1 = put_block w b B in
@@ -145,7 +145,7 @@ refuse_goes w b h c j got (Parcel x a d) seat may =
 refuse_goes w b h c j got (Accepted x a) seat may = absurd may
 refuse_goes w b h c j got (Refused x a d told) seat may = absurd may
 
-pub settle_goes : (w : Whole) (b : ℕ) (h : Held) (c j got : ℕ) (m : Message) → IsSeated w b h.block → steps.MaySettle h.block c j m → Goes w b h (settling h c j m) got
+pub settle_goes : (w : Whole) (b : ℕ) (h : TurnView) (c j got : ℕ) (m : Message) → IsSeated w b h.block → steps.MaySettleAt h.block c j m → Goes w b h (turn_after_settle h c j m) got
 settle_goes w b h c j got (Parcel x a d) seat may = absurd may
 settle_goes w b h c j got (Accepted x a) seat may =
     let B = h.block in
@@ -154,7 +154,7 @@ settle_goes w b h c j got (Accepted x a) seat may =
     let n = length w.blocks in
     let at = at_seat w b B seat in
     let is = met w b c B j x seat may.0 may.1 in
-    let new = block.settled B j in
+    let new = block.cells_after_settle B j in
     let then' = settled_at w1 v b B x j at is.row in
     let flight = ap (λ (q : Lane). q.flight) (border_read w1 v b B x j at is.row) in
     let taken = taken_log n b c h.sent h.taken (Accepted x a) seat.block is.other is.apart in
@@ -166,9 +166,9 @@ settle_goes w b h c j got (Accepted x a) seat may =
         Accepted x a,
         record { addressed = is.between; fair = may.2 },
         (may.3, sym flight ∙ may.4),
-        ap (λ (q : BlocksView). state_of q (logs_of n b h.sent (add_to h.taken c (Accepted x a))) got) (view_after w b B new (settled v x) then') ∙ ap (λ l. state_of (settled v x) l got) taken,
+        ap (λ (q : BlocksView). state_of q (logs_of n b h.sent (add_to h.taken c (Accepted x a))) got) (view_after w b B new (blocks_after_settle v x) then') ∙ ap (λ l. state_of (blocks_after_settle v x) l got) taken,
       );
-      seated = seat_after w b B new (settled v x) seat then' refl refl (length-set B.borders j _);
+      seated = seat_after w b B new (blocks_after_settle v x) seat then' refl refl (length-set B.borders j _);
     }
 settle_goes w b h c j got (Refused x a d told) seat may =
     let B = h.block in
@@ -178,7 +178,7 @@ settle_goes w b h c j got (Refused x a d told) seat may =
     let at = at_seat w b B seat in
     let is = met w b c B j x seat may.0 may.1 in
     let spot = border_spot w1 v b B x j at is.row in
-    let new = block.returned B j a told in
+    let new = block.cells_after_return B j a told in
     let then' = returned_at w1 v b B x j a told at is.row spot in
     let flight = ap (λ (q : Lane). q.flight) (border_read w1 v b B x j at is.row) in
     let high = top_read w1 v b B at in
@@ -192,7 +192,7 @@ settle_goes w b h c j got (Refused x a d told) seat may =
         Refused x a d told,
         record { addressed = is.between; fair = may.2 },
         (sym flight ∙ may.3, within),
-        ap (λ (q : BlocksView). state_of q (logs_of n b h.sent (add_to h.taken c (Refused x a d told))) got) (view_after w b B new (returned v x a told) then') ∙ ap (λ l. state_of (returned v x a told) l got) taken,
+        ap (λ (q : BlocksView). state_of q (logs_of n b h.sent (add_to h.taken c (Refused x a d told))) got) (view_after w b B new (blocks_after_return v x a told) then') ∙ ap (λ l. state_of (blocks_after_return v x a told) l got) taken,
       );
-      seated = seat_after w b B new (returned v x a told) seat then' (length-set B.excess (border_in B j).near _) refl (length-set B.borders j _);
+      seated = seat_after w b B new (blocks_after_return v x a told) seat then' (length-set B.excess (border_in B j).near _) refl (length-set B.borders j _);
     }

@@ -4,7 +4,7 @@ use Rattle.std.proofs.lemmas.List.{append-nil}
 use Rattle.block_events.specs.declared.message.Message.{Message}
 use Rattle.block_net.specs.Views.{CellsView}
 use Rattle.block_core.specs.Mails.{MailView}
-use Rattle.block_turns.specs.Steps.{held, DoesMany}
+use Rattle.block_turns.specs.Steps.{turn_view, DoesMany}
 use Rattle.block_cut.specs.TurnEvents.{IsTurned}
 use Rattle.block_cut.proofs.Runs.{turn_is_run, turned_ways}
 use Rattle.block_cut.specs.Ends.{EndsView, first_to, first_from, now_from, seen_by, IsEnds}
@@ -19,11 +19,11 @@ none_yet : (e : EndsView) (c : ℕ) → ((seen_by (fresh e)).sent c ≡ []) × (
 none_yet e c = (beyond (first_to e c) [] (first_to e c) (sym (append-nil (first_to e c))), before (first_from e c) [] (first_from e c) refl)
 
 reached : (e : EndsView) (now : MailView) (n : ℕ) (old new : CellsView) → IsEnds (with_now e now)
-    → DoesMany (held old (seen_by (fresh e))) n (held new (seen_by (with_now e now)))
+    → DoesMany (turn_view old (seen_by (fresh e))) n (turn_view new (seen_by (with_now e now)))
     → ReachesFrom e.blocks e.block n old new e.first.messages now.messages
 reached e now n old new kept many w got size seat sound =
     let e' = with_now e now in
-    let runs = turn_is_run w e.block got n (held old (seen_by (fresh e))) (held new (seen_by e')) (now_from e') e.first.messages seat sound (none_yet e) many
+    let runs = turn_is_run w e.block got n (turn_view old (seen_by (fresh e))) (turn_view new (seen_by e')) (now_from e') e.first.messages seat sound (none_yet e) many
     (λ c lc off. kept.takes c (omega (arith, lc, size)) off) in
     let turned : IsTurned (length w.blocks) e.block (seen_by e').sent (now_from e') e.first.messages now.messages =
     subst (λ k. IsTurned k e.block (seen_by e').sent (now_from e') e.first.messages now.messages) (sym size) kept.turned in
@@ -43,12 +43,12 @@ pub same_ends : (e e' : EndsView) → fresh e' ≡ fresh e → e' ≡ with_now e
 same_ends e e' same = ap (λ (q : EndsView). with_now q e'.now) same
 
 pub turned_over : (e e' : EndsView) (n : ℕ) (old new : CellsView) → e.now ≡ e.first → fresh e' ≡ fresh e → IsEnds e'
-    → DoesMany (held old (seen_by e)) n (held new (seen_by e'))
+    → DoesMany (turn_view old (seen_by e)) n (turn_view new (seen_by e'))
     → ReachesFrom e.blocks e.block n old new e.now.messages e'.now.messages
 turned_over e e' n old new just same kept many =
     let is = same_ends e e' same in
     let is' : e ≡ fresh e = ap (with_now e) just in
     let kept' = subst IsEnds is kept in
-    let many' = subst (λ (q : EndsView). DoesMany (held old (seen_by q)) n (held new (seen_by (with_now e e'.now)))) is'
-    (subst (λ (q : EndsView). DoesMany (held old (seen_by e)) n (held new (seen_by q))) is many) in
+    let many' = subst (λ (q : EndsView). DoesMany (turn_view old (seen_by q)) n (turn_view new (seen_by (with_now e e'.now)))) is'
+    (subst (λ (q : EndsView). DoesMany (turn_view old (seen_by e)) n (turn_view new (seen_by q))) is many) in
     subst (λ (q : MailView). ReachesFrom e.blocks e.block n old new q.messages e'.now.messages) (sym just) (reached e e'.now n old new kept' many')

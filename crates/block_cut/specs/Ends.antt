@@ -8,7 +8,7 @@ use Rattle.block_events.specs.States.{way_at}
 use Rattle.block_net.specs.Limits.{arc_limit}
 use Rattle.block_core.specs.Mails.{MailView, room_at}
 use Rattle.block_turns.specs.declared.letter.Letter.{Letter}
-use Rattle.block_turns.specs.Seen.{Seen}
+use Rattle.block_turns.specs.Seen.{WaysView}
 use Rattle.block_cut.specs.TurnEvents.{IsTurned}
 
 -- which of how many blocks the ends are of, the ways when they were made and now, and of each direction of so
@@ -39,14 +39,14 @@ abbrev pub now_from : EndsView → ℕ → List Message
 now_from e c = way_at e.now.messages c e.block
 
 -- another block
-abbrev pub is_other : EndsView → ℕ → Bool
-is_other e c = nat_lt c e.blocks && not (c == e.block)
+abbrev pub is_other_block : EndsView → ℕ → Bool
+is_other_block e c = nat_lt c e.blocks && not (c == e.block)
 
 -- the direction of a message, or its opposite: that which leaves the block that takes the message
-abbrev pub leaving : Message → Direction
-leaving (Parcel x a d) = opposite x
-leaving (Accepted x a) = x
-leaving (Refused x a d told) = x
+abbrev pub outward_direction : Message → Direction
+outward_direction (Parcel x a d) = opposite x
+outward_direction (Accepted x a) = x
+outward_direction (Refused x a d told) = x
 
 -- the place of a direction in its block
 abbrev pub place_in : EndsView → Direction → ℕ
@@ -55,16 +55,16 @@ place_in e x = cond (nat_lt x.arc e.arcs) (slice_index e.slots (cond x.back (e.a
 -- the letter in front of a way
 abbrev pub letter_of : EndsView → List Message → Option Letter
 letter_of e [] = None
-letter_of e (m ∷ rest) = Some (record { message = m; place = place_in e (leaving m) })
+letter_of e (m ∷ rest) = Some (record { message = m; place = place_in e (outward_direction m) })
 
 -- what was put beyond the ways as they were, what they lost in front, where room is left, and what is in
 -- front
-abbrev pub seen_by : EndsView → Seen
+abbrev pub seen_by : EndsView → WaysView
 seen_by e = record {
   sent = λ c. drop (length (first_to e c)) (now_to e c);
   taken = λ c. take (length (first_from e c) - length (now_from e c)) (first_from e c);
-  room = λ c. is_other e c && nat_lt (length (now_to e c)) (room_at e.now.rooms e.block c);
-  front = λ c. cond (is_other e c) (letter_of e (now_from e c)) None;
+  room = λ c. is_other_block e c && nat_lt (length (now_to e c)) (room_at e.now.rooms e.block c);
+  front = λ c. cond (is_other_block e c) (letter_of e (now_from e c)) None;
 }
 
 -- the ways differ from what they were by what was put and taken

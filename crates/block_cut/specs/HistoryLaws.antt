@@ -10,22 +10,22 @@ use Rattle.block_net.specs.Whole.{Whole, block_at}
 use Rattle.block_events.specs.Effects.{state_of}
 use Rattle.laid_blocks.specs.Views.{IsLaid, blocks_in}
 use Rattle.block_core.specs.Mails.{HasRooms, IsHeld, room_at}
-use Rattle.block_turns.specs.Seen.{Seen}
+use Rattle.block_turns.specs.Seen.{WaysView}
 use Rattle.block_turns.specs.Steps.{Step, IsSure}
 use Rattle.block_cut.specs.TurnEvents.{HasRoom}
-use Rattle.block_cut.specs.Rounds.{Ways, AreBack, IsRound, quiet_state, state_after}
+use Rattle.block_cut.specs.Rounds.{Ways, AreBack, IsRoundOfTurns, quiet_state, state_after}
 
 -- blocks that came back are a round
 abbrev pub SeatsMakeRound : Type 0
 SeatsMakeRound =
     (w : Whole) (got : ℕ) (blocks : List CellsView) (left : Ways)
     → IsLaid w → IsSound (quiet_state w got) → (back : AreBack w got blocks left)
-    → IsRound w got blocks left back.steps
+    → IsRoundOfTurns w got blocks left back.steps
 
 -- where an event of block b that takes no message is enabled before the round, a step of it is sure
 abbrev pub StartIsSure : Type 0
 StartIsSure =
-    (w : Whole) (b got : ℕ) (s : Seen) (e : Event)
+    (w : Whole) (b got : ℕ) (s : WaysView) (e : Event)
     → IsLaid w → b < length w.blocks → HasRoom (block_at w b) s → MayStart b (quiet_state w got) e
     → (step : Step) × IsSure (block_at w b) s step
 
@@ -47,7 +47,7 @@ QuietIsStart =
 abbrev pub RoundIsHeld : Type 0
 RoundIsHeld =
     (w : Whole) (got : ℕ) (blocks : List CellsView) (left : Ways) (steps : ℕ → ℕ) (rooms : List (List ℕ))
-    → HasRooms w.net (length w.blocks) rooms → IsRound w got blocks left steps
+    → HasRooms w.net (length w.blocks) rooms → IsRoundOfTurns w got blocks left steps
     → IsHeld rooms (state_after w blocks left)
     × ((b c : ℕ) → b < length w.blocks → c < length w.blocks → b ≢ c
     → length (way_at left b c) ≤ room_at rooms b c)

@@ -8,7 +8,7 @@ use Rattle.block_net.specs.Views.{CellsView, count, label_in}
 use Rattle.block_net.specs.Whole.{Whole, block_at, whole_of, with_blocks}
 use Rattle.laid_blocks.specs.Views.{IsLaid}
 use Rattle.block_core.specs.declared.pieces.Pieces.{Pieces}
-use Rattle.block_cut.specs.Loose.{IsStanding}
+use Rattle.block_cut.specs.Loose.{IsInPlace}
 use Rattle.block_cut.specs.Passes.{state_at}
 
 -- all labels of a block are 0
@@ -27,7 +27,7 @@ pub record Opens (old new : CellsView) : Type 0 where
   pub lanes : length new.lanes ≡ length old.lanes
   pub labels : new.labels ≡ old.labels
   pub stands : (w : Whole) (b : ℕ) (ways : List (List (List Message))) (got : ℕ)
-      → IsFlat old → IsStanding w b old ways got → (got' : ℕ) × IsStanding w b new ways got'
+      → IsFlat old → IsInPlace w b old ways got → (got' : ℕ) × IsInPlace w b new ways got'
 
 -- as many blocks make a sound state of the pieces' net with the pieces' ways, and all their labels are 0
 pub record AreOpening (p : Pieces) (blocks : List CellsView) : Type 0 where

@@ -5,7 +5,7 @@ use Rattle.block_events.specs.declared.message.Message.{Message}
 use Rattle.block_events.specs.States.{State}
 use Rattle.block_events.specs.Events.{IsQuiet}
 use Rattle.block_events.specs.Workers.{MayStart}
-use Rattle.block_events.specs.Soundness.{IsSound, count}
+use Rattle.block_events.specs.Soundness.{IsSound, potential}
 use Rattle.block_net.specs.Views.{CellsView}
 use Rattle.block_net.specs.Whole.{whole_of, with_blocks}
 use Rattle.block_events.specs.Effects.{state_of}
@@ -26,10 +26,10 @@ pub record IsGoing (p : Pieces) (blocks : List CellsView) (ways : MailView) (n :
   pub rooms : ways.rooms ≡ p.ways.rooms
   pub laid : IsLaid (with_blocks (whole_of p.net p.parts) blocks)
   pub sound : IsSound (state_at p blocks ways.messages got)
-  pub lower : count (state_at p blocks ways.messages got) + n ≤ count (state_in p)
+  pub lower : potential (state_at p blocks ways.messages got) + n ≤ potential (state_in p)
 
 -- a held state with no message on the way
-pub record IsReady (p : Pieces) : Type 0 where
+pub record IsQuietAndHeld (p : Pieces) : Type 0 where
   pub quiet : IsQuiet (state_in p)
   pub held : IsHeld p.ways.rooms (state_in p)
 

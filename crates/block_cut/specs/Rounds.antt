@@ -11,7 +11,7 @@ use Rattle.block_net.specs.Views.{CellsView}
 use Rattle.block_net.specs.Whole.{Whole, block_at, with_blocks}
 use Rattle.block_events.specs.Effects.{state_of}
 use Rattle.laid_blocks.specs.Views.{IsLaid, blocks_in}
-use Rattle.block_turns.specs.Steps.{Held, DoesMany}
+use Rattle.block_turns.specs.Steps.{TurnView, DoesMany}
 
 -- of each block and each block, the messages on the way from the one to the other
 abbrev pub Ways : Type 0
@@ -20,7 +20,7 @@ Ways = List (List (List Message))
 -- ---- before a round
 
 -- a block that has put and taken nothing yet
-abbrev pub fresh : CellsView → Held
+abbrev pub fresh : CellsView → TurnView
 fresh B = record { block = B; sent = λ c. []; taken = λ c. [] }
 
 -- the state that the blocks show where no message is on the way
@@ -48,16 +48,17 @@ pub record AreBack (w : Whole) (got : ℕ) (blocks : List CellsView) (left : Way
   pub busy : (b : ℕ) (e : Event) → b < length w.blocks → MayStart b (quiet_state w got) e → 0 < steps b
 
 -- what the rooms lack of what the nodes can send the sink
-abbrev pub lacking : Whole → ℕ
-lacking w = sum w.net.sinks - sum (blocks_in w).rooms
+abbrev pub rooms_lack : Whole → ℕ
+rooms_lack w = sum w.net.sinks - sum (blocks_in w).rooms
 
 -- the state that they show then: the sink got what the rooms lack
 abbrev pub state_after : Whole → List CellsView → Ways → State
 state_after w blocks left =
-    state_of (blocks_in (with_blocks w blocks)) left (lacking (with_blocks w blocks))
+    state_of (blocks_in (with_blocks w blocks)) left (rooms_lack (with_blocks w blocks))
 
 -- a round of so many events of each block led there, the state is sound, and everything has its place again
-pub record IsRound (w : Whole) (got : ℕ) (blocks : List CellsView) (left : Ways) (steps : ℕ → ℕ)
+pub record IsRoundOfTurns (w : Whole) (got : ℕ) (blocks : List CellsView)
+    (left : Ways) (steps : ℕ → ℕ)
     : Type 0 where
   pub round : RoundOf (quiet_state w got) (state_after w blocks left)
   pub numbers : (b : ℕ) → b < length w.blocks → length (slice_index_or round.histories b []) ≡ steps b

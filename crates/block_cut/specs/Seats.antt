@@ -7,7 +7,7 @@ use Rattle.block_net.specs.Views.{CellsView, count}
 use Rattle.block_net.specs.Whole.{Whole, table, put_block}
 use Rattle.block_events.specs.Effects.{state_of}
 use Rattle.laid_blocks.specs.Views.{IsLaid, IsSpot, IsRow, blocks_in}
-use Rattle.block_turns.specs.Steps.{Held}
+use Rattle.block_turns.specs.Steps.{TurnView}
 
 -- what went through the ends of the ways of block b: on the way from b to j what it put for j, and on the way
 -- from i to b what it took from i
@@ -31,5 +31,5 @@ abbrev pub state_with : Whole → ℕ → CellsView → List (List (List Message
 state_with w b B ways got = state_of (blocks_in (put_block w b B)) ways got
 
 -- the state that block b shows among the others, with what it put and took as its ways
-abbrev pub shown_by : Whole → ℕ → Held → ℕ → State
+abbrev pub shown_by : Whole → ℕ → TurnView → ℕ → State
 shown_by w b h got = state_with w b h.block (logs_of (length w.blocks) b h.sent h.taken) got

@@ -3,7 +3,7 @@ use Rattle.std.specs.Prelude.{◌≡◌, ℕ, ◌<◌, Bool, List, [], All}
 use Rattle.block_events.specs.declared.event.Event.{Event}
 use Rattle.block_events.specs.declared.event.Event.TheVariants.{PushInner, PushSink, Relabel, Send, Accept, Refuse, Settle, RaiseAll}
 use Rattle.block_events.specs.States.{State, way_at}
-use Rattle.block_events.specs.Events.{Run}
+use Rattle.block_events.specs.Events.{IsRunOfEvents}
 use Rattle.block_events.specs.Soundness.{IsSound}
 use Rattle.block_cut.specs.Lowers.{Lowers}
 
@@ -21,11 +21,11 @@ IsTaking RaiseAll = ⊥
 -- events that take messages lead from the one state to the other
 pub record TookIn (old new : State) : Type 0 where
   pub events : List Event
-  pub run : Run old events new
+  pub run : IsRunOfEvents old events new
   pub takes : All IsTaking events
 
 -- a state with the same blocks and labels that such events lead to; told is whether there were any
-pub record Taken (old new : State) (some : Bool) : Type 0 where
+pub record IsTakenIn (old new : State) (some : Bool) : Type 0 where
   pub took : TookIn old new
   pub blocks : new.blocks ≡ old.blocks
   pub labels : new.labels ≡ old.labels

@@ -3,17 +3,17 @@ use Rattle.std.specs.Prelude.{◌≡◌, ◌≢◌, ℕ, ◌+◌, ◌<◌, ◌�
 use Rattle.block_events.specs.declared.event.Event.{Event}
 use Rattle.block_events.specs.declared.message.Message.{Message}
 use Rattle.block_events.specs.States.{way_at}
-use Rattle.block_events.specs.Events.{Run}
-use Rattle.block_events.specs.Soundness.{IsSound, IsSquare, count}
+use Rattle.block_events.specs.Events.{IsRunOfEvents}
+use Rattle.block_events.specs.Soundness.{IsSound, IsSquare, potential}
 use Rattle.block_events.specs.Workers.{IsHistory, MayStart}
 use Rattle.block_net.specs.Views.{CellsView, border_in}
 use Rattle.block_net.specs.Whole.{Whole}
-use Rattle.block_turns.specs.Seen.{Seen}
-use Rattle.block_turns.specs.Steps.{Step, Held, DoesMany, IsSure}
+use Rattle.block_turns.specs.Seen.{WaysView}
+use Rattle.block_turns.specs.Steps.{Step, TurnView, DoesMany, IsSure}
 use Rattle.block_cut.specs.Seats.{IsSeated, state_with, shown_by}
 
 -- n events of block b lead from what it shows to what it shows afterwards
-pub record IsLed (w : Whole) (b got n : ℕ) (old new : Held) : Type 0 where
+pub record IsLed (w : Whole) (b got n : ℕ) (old new : TurnView) : Type 0 where
   pub events : List Event
   pub number : length events ≡ n
   pub got' : ℕ
@@ -23,7 +23,7 @@ pub record IsLed (w : Whole) (b got n : ℕ) (old new : Held) : Type 0 where
 -- a list of a block's own steps is a history of the block
 abbrev pub TurnIsHistory : Type 0
 TurnIsHistory =
-    (w : Whole) (b got n : ℕ) (old new : Held)
+    (w : Whole) (b got n : ℕ) (old new : TurnView)
     → IsSeated w b old.block → DoesMany old n new → IsLed w b got n old new
 
 -- ---- on one thread
@@ -41,23 +41,24 @@ pub record IsTurned (n b : ℕ) (sent left : ℕ → List Message) (before after
 -- n events of the core lead from the state with the one block to that with the other, and the count falls by
 -- at least as much
 pub record IsTurnRun
-    (w : Whole) (b got n : ℕ) (old new : Held) (left : ℕ → List Message) (ways : List (List (List Message)))
+    (w : Whole) (b got n : ℕ) (old new : TurnView) (left : ℕ → List Message) (ways : List (List (List Message)))
     : Type 0 where
   pub events : List Event
   pub number : length events ≡ n
   pub got' : ℕ
   pub ways' : List (List (List Message))
-  pub run : Run (state_with w b old.block ways got) events (state_with w b new.block ways' got')
+  pub run : IsRunOfEvents (state_with w b old.block ways got) events
+      (state_with w b new.block ways' got')
   pub turned : IsTurned (length w.blocks) b new.sent left ways ways'
   pub seated : IsSeated w b new.block
   pub sound : IsSound (state_with w b new.block ways' got')
-  pub lower : count (state_with w b new.block ways' got') + n ≤ count (state_with w b old.block ways got)
+  pub lower : potential (state_with w b new.block ways' got') + n ≤ potential (state_with w b old.block ways got)
 
 -- a list of a block's own steps, which took what stood in front of the ways of a sound state, is a run of the
 -- core
 abbrev pub TurnIsRun : Type 0
 TurnIsRun =
-    (w : Whole) (b got n : ℕ) (old new : Held) (left : ℕ → List Message) (ways : List (List (List Message)))
+    (w : Whole) (b got n : ℕ) (old new : TurnView) (left : ℕ → List Message) (ways : List (List (List Message)))
     → IsSeated w b old.block → IsSound (state_with w b old.block ways got)
     → ((c : ℕ) → (old.sent c ≡ []) × (old.taken c ≡ []))
     → DoesMany old n new
@@ -67,12 +68,12 @@ TurnIsRun =
 -- ---- what is sure
 
 -- room is seen for a message to each block that a direction leads to
-abbrev pub HasRoom : CellsView → Seen → Type 0
+abbrev pub HasRoom : CellsView → WaysView → Type 0
 HasRoom B s = (j : ℕ) → j < length B.borders → s.room (border_in B j).to ≡ true
 
 -- where an event of the block that takes no message is enabled, a step is sure
 abbrev pub StartIsStep : Type 0
 StartIsStep =
-    (w : Whole) (b got : ℕ) (h : Held) (s : Seen) (e : Event)
+    (w : Whole) (b got : ℕ) (h : TurnView) (s : WaysView) (e : Event)
     → IsSeated w b h.block → HasRoom h.block s → MayStart b (shown_by w b h got) e
     → (step : Step) × IsSure h.block s step

@@ -2,8 +2,8 @@
 use Rattle.std.specs.Prelude.{◌≡◌, ℕ, ◌+◌, ◌≤◌, List, length}
 use Rattle.block_events.specs.declared.event.Event.{Event}
 use Rattle.block_events.specs.declared.message.Message.{Message}
-use Rattle.block_events.specs.Events.{Run}
-use Rattle.block_events.specs.Soundness.{IsSound, count}
+use Rattle.block_events.specs.Events.{IsRunOfEvents}
+use Rattle.block_events.specs.Soundness.{IsSound, potential}
 use Rattle.block_net.specs.Views.{CellsView}
 use Rattle.block_net.specs.Whole.{Whole}
 use Rattle.block_cut.specs.Seats.{IsSeated, state_with}
@@ -16,10 +16,11 @@ pub record IsTurnFrom
   pub events : List Event
   pub number : length events ≡ n
   pub got' : ℕ
-  pub run : Run (state_with w b old before got) events (state_with w b new after got')
+  pub run : IsRunOfEvents (state_with w b old before got) events (state_with w b new after got')
   pub seated : IsSeated w b new
   pub sound : IsSound (state_with w b new after got')
-  pub lower : count (state_with w b new after got') + n ≤ count (state_with w b old before got)
+  pub lower : potential (state_with w b new after got') + n
+      ≤ potential (state_with w b old before got)
 
 -- this holds of each whole of so many blocks in which the block stands, and of what the sink got, where the
 -- state is sound

@@ -1,7 +1,7 @@
 ghost use Rattle.std.specs.Prelude.{◌≡◌, ◌*◌, ◌≤◌, ◌<◌, ◌↔◌, IsTrue, true, length};
 ghost use Rattle.block_events.specs.Soundness.{IsSquare};
 ghost use Rattle.block_net.specs.Limits.{arc_limit};
-ghost use Rattle.block_cut.specs.Ends.{IsEnds, seen_by, is_other, place_in, leaving, ends_view};
+ghost use Rattle.block_cut.specs.Ends.{IsEnds, seen_by, is_other_block, place_in, outward_direction, ends_view};
 
 use block_core::Mail;
 use block_events::{Direction, Message};
@@ -32,8 +32,8 @@ impl Model for Ends {
 }
 
 /// The direction of a message, or its opposite: that which leaves the block that takes the message.
-fn leaving(message: Message) -> Direction
-    ensures { result ≡ leaving message }
+fn outward_direction(message: Message) -> Direction
+    ensures { result ≡ outward_direction message }
 {
     match message {
         Message::Parcel { direction, .. } => Direction {
@@ -82,7 +82,7 @@ impl Ends {
 
     /// Whether it is the number of another block.
     fn is_other(&self, c: u32) -> bool
-        ensures { result ≡ is_other self.now c }
+        ensures { result ≡ is_other_block self.now c }
     {
         let c = c as usize;
         c < self.blocks && c != self.block
@@ -124,7 +124,7 @@ impl Ways for Ends {
             return None;
         }
         let message = self.ways.front(from as usize, self.block)?;
-        let place = self.place(leaving(message));
+        let place = self.place(outward_direction(message));
         Some(Letter { message, place })
     }
 

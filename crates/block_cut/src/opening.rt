@@ -131,7 +131,7 @@ fn state_of(old: &Snapshot<Pieces>, pieces: Pieces) -> State
     ensures { result.net ≡ old.now.value.net }
 {
     let mut pieces = pieces;
-    pieces.got = pieces.given();
+    pieces.got = pieces.sink_total();
     pieces.into_state()
 }
 

@@ -63,7 +63,7 @@ impl Nodes for Spread<'_> {
 }
 
 /// What the sink can still take of the nodes of an order, in which those that can give it something stand first.
-fn wanted<N: Nodes>(nodes: &N, order: &[u32]) -> u64 {
+fn amount_wanted<N: Nodes>(nodes: &N, order: &[u32]) -> u64 {
     let mut wanted = 0u64;
     'nodes: for v in order {
         let Some(Holding { room, .. }) = nodes.holding(*v) else {
@@ -93,7 +93,7 @@ fn worth(near: usize, holders: usize) -> usize
 fn near_nodes<N: Nodes>(nodes: &N, order: &[u32]) -> usize
     ensures { result ≤ length order.now }
 {
-    let enough = wanted(nodes, order).saturating_mul(SHARE);
+    let enough = amount_wanted(nodes, order).saturating_mul(SHARE);
     if enough == 0 {
         return 0;
     }
@@ -137,7 +137,7 @@ fn empty_orders(alloc: Global, nodes: usize, blocks: usize) -> Result<Vec<Vec<u3
 
 /// The nodes of an order, each in that of its block and numbered from the block's first node. The only error is that
 /// memory runs out.
-fn dealt(alloc: Global, spread: &Spread<'_>, order: &[u32]) -> Result<Vec<Vec<u32>>, AllocError> {
+fn deal(alloc: Global, spread: &Spread<'_>, order: &[u32]) -> Result<Vec<Vec<u32>>, AllocError> {
     let mut orders = empty_orders(alloc, order.len(), spread.parts.blocks.len())?;
     'nodes: for v in order {
         if let Some((block, place)) = spread.spot(*v) {
@@ -164,5 +164,5 @@ pub(crate) fn orders_of(
     }
     let spread = Spread { parts, homes };
     let near = near_nodes(&spread, order);
-    dealt(alloc, &spread, &order[..near])
+    deal(alloc, &spread, &order[..near])
 }

@@ -1,9 +1,9 @@
 ghost use Rattle.std.specs.Prelude.{◌≡◌, ◌+◌, ◌<◌, ◌≤◌, ℕ, IfOk, IsFalse, length};
-ghost use Rattle.sums.specs.Sums.{counted};
+ghost use Rattle.sums.specs.Sums.{count_if};
 ghost use Rattle.block_events.specs.Events.{IsQuiet};
-ghost use Rattle.block_events.specs.Soundness.{IsFinished, count};
+ghost use Rattle.block_events.specs.Soundness.{IsFinished, potential};
 ghost use Rattle.block_core.specs.Pieces.{state_in};
-ghost use Rattle.block_cut.specs.Passes.{IsGoing, IsReady, IsStill};
+ghost use Rattle.block_cut.specs.Passes.{IsGoing, IsQuietAndHeld, IsStill};
 
 use crate::orders::orders_of;
 use crate::turns::turn_of;
@@ -34,12 +34,12 @@ fn pass(
     limit: u32,
 ) -> (Mail, Vec<u32>, bool)
     requires going { IsGoing old.now.value blocks.old.items ways 0 }
-    requires ready { IsReady old.now.value }
+    requires ready { IsQuietAndHeld old.now.value }
     requires slots { slots.items ≡ old.now.value.parts.slots.items }
     requires arcs { arcs ≡ length old.now.value.net.arcs }
     requires some { 0 < limit }
     ensures going { (n : ℕ) → IsGoing old.now.value blocks.old.items ways n
-        → IsGoing old.now.value blocks.new.items result.0 (n + counted result.2 1) }
+        → IsGoing old.now.value blocks.new.items result.0 (n + count_if result.2 1) }
     ensures still { IsFalse result.2 → IsStill old.now.value blocks.old.items ways 0
         → IsStill old.now.value blocks.new.items result.0 (length blocks.new.items) }
     ensures slots { result.1.items ≡ old.now.value.parts.slots.items }
@@ -68,11 +68,11 @@ fn passes(
     limit: u32,
 ) -> (Mail, Vec<u32>, bool)
     requires going { IsGoing old.now.value blocks.old.items ways 0 }
-    requires ready { IsReady old.now.value }
+    requires ready { IsQuietAndHeld old.now.value }
     requires slots { slots.items ≡ old.now.value.parts.slots.items }
     requires arcs { arcs ≡ length old.now.value.net.arcs }
     requires some { 0 < limit }
-    ensures going { IsGoing old.now.value blocks.new.items result.0 (counted result.2 1) }
+    ensures going { IsGoing old.now.value blocks.new.items result.0 (count_if result.2 1) }
     ensures still { IsFalse result.2 → IsStill old.now.value blocks.old.items ways 0
         → IsStill old.now.value blocks.new.items result.0 (length blocks.new.items) }
     ensures slots { result.1.items ≡ old.now.value.parts.slots.items }
@@ -95,7 +95,7 @@ fn more_passes(
     limit: u32,
 ) -> (Mail, Vec<u32>)
     requires going { IsGoing old.now.value blocks.old.items ways 1 }
-    requires ready { IsReady old.now.value }
+    requires ready { IsQuietAndHeld old.now.value }
     requires slots { slots.items ≡ old.now.value.parts.slots.items }
     requires arcs { arcs ≡ length old.now.value.net.arcs }
     requires some { 0 < limit }
@@ -147,14 +147,14 @@ fn cells_of(alloc: Global, blocks: Vec<Block>) -> Result<Vec<Cells>, AllocError>
 
 /// The state that the pieces make with what the sink got by what the blocks hold. Takes no memory.
 fn state_of(old: &Snapshot<Pieces>, net: Net, parts: Parts, ways: Mail) -> State
-    requires ready { IsReady old.now.value }
+    requires ready { IsQuietAndHeld old.now.value }
     requires net { net ≡ old.now.value.net }
     requires firsts { parts.firsts.items ≡ old.now.value.parts.firsts.items }
     requires slots { parts.slots.items ≡ old.now.value.parts.slots.items }
     requires going { IsGoing old.now.value parts.blocks.items ways 0 }
     ensures net { result.net ≡ old.now.value.net }
     ensures lower { (n : ℕ) → IsGoing old.now.value parts.blocks.items ways n
-        → count result + n ≤ count (state_in old.now.value) }
+        → potential result + n ≤ potential (state_in old.now.value) }
 {
     let mut pieces = Pieces {
         net,
@@ -162,7 +162,7 @@ fn state_of(old: &Snapshot<Pieces>, net: Net, parts: Parts, ways: Mail) -> State
         ways,
         got: 0,
     };
-    pieces.got = pieces.given();
+    pieces.got = pieces.sink_total();
     pieces.into_state()
 }
 
@@ -178,7 +178,7 @@ pub(crate) fn work(
     requires quiet { IsQuiet state }
     requires unfinished { ¬ IsFinished state }
     ensures net { IfOk result (λ s. s.net ≡ state.net) }
-    ensures less { IfOk result (λ s. count s < count state) }
+    ensures less { IfOk result (λ s. potential s < potential state) }
 {
     let orders = orders_of(alloc, state.parts(), homes, order)?;
     let arcs = state.arcs();

@@ -4,7 +4,7 @@ ghost use Rattle.flow_network.specs.Cut.{nodes, set_of, IsSmallestLeastCut};
 ghost use Rattle.flow_network.specs.Answer.{side_of, IsRightCut};
 ghost use Rattle.block_events.specs.Reach.{AreExact};
 ghost use Rattle.block_events.specs.Events.{IsQuiet};
-ghost use Rattle.block_events.specs.Soundness.{IsSound, IsFinished, count};
+ghost use Rattle.block_events.specs.Soundness.{IsSound, IsFinished, potential};
 
 use crate::answers::{answer_of, least_side};
 use crate::opening::open_if_new;
@@ -24,7 +24,7 @@ fn advance(alloc: Global, state: State, workspace: &Workspace) -> Result<State, 
     requires exact { AreExact state workspace.now.labels.items }
     requires unfinished { ¬ IsFinished state }
     ensures net { IfOk result (λ s. s.net ≡ state.net) }
-    ensures less { IfOk result (λ s. count s < count state) }
+    ensures less { IfOk result (λ s. potential s < potential state) }
 {
     let mut state = state;
     state.raise_to(workspace.labels.as_slice());

@@ -3,14 +3,14 @@ ghost use Rattle.block_events.specs.States.{IsWay, way_at};
 ghost use Rattle.block_events.specs.Events.{IsQuiet};
 ghost use Rattle.block_events.specs.Soundness.{IsSound};
 ghost use Rattle.block_cut.specs.Lowers.{IsAfter};
-ghost use Rattle.block_cut.specs.Takes.{Taken, TookIn, IsRowEmpty};
+ghost use Rattle.block_cut.specs.Takes.{IsTakenIn, TookIn, IsRowEmpty};
 
 use block_core::State;
 use block_events::Event;
 
 /// The message in front of a way is taken; no where none is there, and nothing changes.
 fn take_front(state: &mut State, from: u32, to: u32) -> bool
-    ensures taken { Taken state.old state.new result }
+    ensures taken { IsTakenIn state.old state.new result }
     ensures none { IsFalse result → IsWay state.old from to → way_at state.old.ways from to ≡ [] }
 {
     if state.perform(Event::Accept { from, to }) {
@@ -24,7 +24,7 @@ fn take_front(state: &mut State, from: u32, to: u32) -> bool
 
 /// All messages of a way are taken; no where none is there, and nothing changes.
 pub(crate) fn take_way(state: &mut State, from: u32, to: u32) -> bool
-    ensures taken { Taken state.old state.new result }
+    ensures taken { IsTakenIn state.old state.new result }
     ensures none { IsWay state.new from to → way_at state.new.ways from to ≡ [] }
 {
     let mut some = false;
@@ -37,7 +37,7 @@ pub(crate) fn take_way(state: &mut State, from: u32, to: u32) -> bool
 /// The messages from a block are taken; no where none is there, and nothing changes.
 fn take_row(state: &mut State, from: u32) -> bool
     requires { from < state.old.blocks }
-    ensures taken { Taken state.old state.new result }
+    ensures taken { IsTakenIn state.old state.new result }
     ensures none { IsFalse result → IsRowEmpty state.new from state.new.blocks }
 {
     let mut some = false;
@@ -53,7 +53,7 @@ fn take_row(state: &mut State, from: u32) -> bool
 /// The messages that are on the way are taken, each way once; no where no message is on the way, and nothing
 /// changes.
 pub(crate) fn take_all(state: &mut State) -> bool
-    ensures taken { Taken state.old state.new result }
+    ensures taken { IsTakenIn state.old state.new result }
     ensures none { IsFalse result → IsQuiet state.new }
     ensures sound { IsSound state.new }
 {

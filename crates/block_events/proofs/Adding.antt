@@ -3,12 +3,12 @@ use Rattle.std.proofs.Common.{◌≡◌, ℕ, zero, suc, ◌+◌, ◌<◌, eqb, 
 use Rattle.std.proofs.lemmas.List.{get_or_past}
 use Rattle.std.proofs.lemmas.List.Sums.{sum_by-cons}
 use Rattle.std.proofs.lemmas.Bool.{cases_lt, cases_Bool, eqb-true}
-use Rattle.sums.specs.Sums.{sum_below, counted}
+use Rattle.sums.specs.Sums.{sum_below, count_if}
 use Rattle.sums.proofs.SumLemmas.{sum_below-add, sum_below-same, sum_below-zero, sum_below-none, sum_below-change, sum_below-swap, sum_below-pick, sum_by-sum_below}
 use Rattle.flow_network.specs.Cut.{Network, nodes, IsNet}
 use Rattle.block_events.specs.declared.direction.Direction.{Direction}
 use Rattle.block_events.specs.declared.message.Message.{Message}
-use Rattle.block_events.specs.Directions.{forward, backward, IsDirection, near, leaving, over_directions}
+use Rattle.block_events.specs.Directions.{forward, backward, IsDirection, near, sum_leaving, over_directions}
 use Rattle.block_events.specs.States.{way_at, over_messages}
 use Rattle.block_events.specs.Soundness.{IsSquare}
 use Rattle.block_events.proofs.Ends.{near_in}
@@ -97,25 +97,25 @@ in_or_none n ways b c sq = elim (cases_lt b n) [
 -- ---- over the directions that leave a node
 
 leaving_one : (net : Network) (v : ℕ) (f g : Direction → ℕ) (x : Direction) → IsDirection net x → ((x : Direction) → IsDirection net x → near net x ≡ v → f x ≡ g x)
-    → counted (eqb (near net x) v) (f x) ≡ counted (eqb (near net x) v) (g x)
+    → count_if (eqb (near net x) v) (f x) ≡ count_if (eqb (near net x) v) (g x)
 leaving_one net v f g x lx same = elim (cases_Bool (eqb (near net x) v)) [
   | inl yes' ↦ rw yes' (same x lx (eqb-true (near net x) v yes'))
   | inr no' ↦ rw no' refl
 ]
 
-pub leaving_same : (net : Network) (v : ℕ) (f g : Direction → ℕ) → ((x : Direction) → IsDirection net x → near net x ≡ v → f x ≡ g x) → leaving net v f ≡ leaving net v g
+pub leaving_same : (net : Network) (v : ℕ) (f g : Direction → ℕ) → ((x : Direction) → IsDirection net x → near net x ≡ v → f x ≡ g x) → sum_leaving net v f ≡ sum_leaving net v g
 leaving_same net v f g same =
-    sum_below-same (length net.arcs) (λ k. counted (eqb (near net (forward k)) v) (f (forward k)) + counted (eqb (near net (backward k)) v) (f (backward k)))
-    (λ k. counted (eqb (near net (forward k)) v) (g (forward k)) + counted (eqb (near net (backward k)) v) (g (backward k)))
+    sum_below-same (length net.arcs) (λ k. count_if (eqb (near net (forward k)) v) (f (forward k)) + count_if (eqb (near net (backward k)) v) (f (backward k)))
+    (λ k. count_if (eqb (near net (forward k)) v) (g (forward k)) + count_if (eqb (near net (backward k)) v) (g (backward k)))
     (λ k l. omega (arith, leaving_one net v f g (forward k) l same, leaving_one net v f g (backward k) l same))
 
 -- each direction leaves one node
-pub all_leave : (net : Network) (f : Direction → ℕ) → IsNet net → sum_below (nodes net) (λ v. leaving net v f) ≡ over_directions (length net.arcs) f
+pub all_leave : (net : Network) (f : Direction → ℕ) → IsNet net → sum_below (nodes net) (λ v. sum_leaving net v f) ≡ over_directions (length net.arcs) f
 all_leave net f h =
     let n = nodes net in
     let m = length net.arcs in
-    let F = λ (v k : ℕ). counted (eqb (near net (forward k)) v) (f (forward k)) in
-    let B = λ (v k : ℕ). counted (eqb (near net (backward k)) v) (f (backward k)) in
+    let F = λ (v k : ℕ). count_if (eqb (near net (forward k)) v) (f (forward k)) in
+    let B = λ (v k : ℕ). count_if (eqb (near net (backward k)) v) (f (backward k)) in
     sum_below-swap n m (λ v k. F v k + B v k)
     ∙ sum_below-same m (λ k. sum_below n (λ v. F v k + B v k)) (λ k. f (forward k) + f (backward k)) (λ k l.
     let p = sum_below-pick n (near net (forward k)) (λ v. f (forward k)) (near_in net (forward k) h l) in

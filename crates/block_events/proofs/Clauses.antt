@@ -3,7 +3,7 @@ use Rattle.std.proofs.Common.{◌≡◌, ℕ, zero, suc, ◌+◌, ◌<◌, ◌�
 use Rattle.std.specs.List.{AllPairs}
 use Rattle.std.proofs.lemmas.List.{get_or-append-add, length-append}
 use Rattle.std.proofs.lemmas.List.Sums.{sum_by-cons, get_or-le-sum_by}
-use Rattle.sums.specs.Sums.{counted}
+use Rattle.sums.specs.Sums.{count_if}
 use Rattle.flow_network.specs.Cut.{Network}
 use Rattle.block_events.specs.declared.direction.Direction.{Direction}
 use Rattle.block_events.specs.declared.flight.Flight.{Flight}
@@ -49,7 +49,7 @@ last_found g count (m ∷ ms) (suc k) d f counts few l is =
     let parts = sum_by-cons count m ms in
     ap (λ r. later r (g m)) (last_found g count ms k d f counts (omega (arith, few, parts)) (omega (arith, l)) is)
 
-bool_counts : {A : Type 0} (t : Bool) (x : A) → (cond t (Some x) None ≡ None) ⊎ (1 ≤ counted t 1)
+bool_counts : {A : Type 0} (t : Bool) (x : A) → (cond t (Some x) None ≡ None) ⊎ (1 ≤ count_if t 1)
 bool_counts true x = inr (omega arith)
 bool_counts false x = inl refl
 

@@ -2,7 +2,7 @@
 use Rattle.std.proofs.Common.{◌≡◌, ℕ, ◌+◌, ◌-◌, ◌<◌, ◌≤◌, Bool, true, false, cond, max, List, ◌∷◌, length, set, slice_index, sum, Some, None, refl, sym, ◌∙◌, ap, arith}
 use Rattle.std.specs.Option.{is_some}
 use Rattle.std.proofs.lemmas.List.{length-set}
-use Rattle.sums.specs.Sums.{counted}
+use Rattle.sums.specs.Sums.{count_if}
 use Rattle.flow_network.specs.Cut.{nodes}
 use Rattle.flow_network.specs.Progress.{top}
 use Rattle.block_events.specs.declared.direction.Direction.{Direction}
@@ -22,9 +22,9 @@ use Rattle.std.proofs.lemmas.List.Sums.{get_or-le-sum_by}
 use Rattle.std.proofs.Common.{get_or-set_same, get_or-set_other}
 use Rattle.sums.specs.Sums.{sum_below}
 use Rattle.sums.proofs.SumLemmas.{sum_below-change}
-use Rattle.block_events.specs.Effects.{learned}
-use Rattle.block_events.specs.Events.{pushed, given, labelled, sent, accepted, refused, settled}
-use Rattle.block_events.specs.Soundness.{rise, weight, height, unit, count}
+use Rattle.block_events.specs.Effects.{lane_after_accept}
+use Rattle.block_events.specs.Events.{after_push, after_sink_push, after_relabel, after_send, after_accept, after_refuse, after_settle}
+use Rattle.block_events.specs.Soundness.{labels_to_rise, weight, height, unit, potential}
 use Rattle.block_events.proofs.Lanes.{directions_changed}
 use Rattle.block_events.proofs.Replies.{messages_answered}
 use Rattle.block_events.proofs.Inside.{IsAllowed}
@@ -68,9 +68,9 @@ height_label n es ds v d l len =
 
 -- what known labels can still rise
 abbrev known_rise : State → Lanes → ℕ
-known_rise s lanes = over_directions (length s.net.arcs) (λ x. counted (is_border s.net s.blocks x) (top s.net - (lane_at lanes x).known))
+known_rise s lanes = over_directions (length s.net.arcs) (λ x. count_if (is_border s.net s.blocks x) (top s.net - (lane_at lanes x).known))
 
-counted_le : (b : Bool) (y z : ℕ) → y ≤ z → counted b y ≤ counted b z
+counted_le : (b : Bool) (y z : ℕ) → y ≤ z → count_if b y ≤ count_if b z
 counted_le true y z h = h
 counted_le false y z h = omega arith
 
@@ -78,7 +78,7 @@ known_put : (s : State) (lanes : Lanes) (x : Direction) (lane : Lane) → IsLong
     → (lane_at lanes x).known ≤ lane.known → known_rise s (put_lane lanes x lane) ≤ known_rise s lanes
 known_put s lanes x lane long l up =
     let t = is_border s.net s.blocks x in
-    let change = directions_changed (length s.net.arcs) lanes x lane (λ y q. counted (is_border s.net s.blocks y) (top s.net - q.known)) long l in
+    let change = directions_changed (length s.net.arcs) lanes x lane (λ y q. count_if (is_border s.net s.blocks y) (top s.net - q.known)) long l in
     let low = counted_le t (top s.net - lane.known) (top s.net - (lane_at lanes x).known) (omega arith) in
     omega (arith, change, low)
 
@@ -109,7 +109,7 @@ excess-le s v sound l =
 -- ---- inner events
 
 pub pushed_lowers : (s : State) (x : Direction) (a : ℕ) → IsSound s → IsDirection s.net x → 1 ≤ a
-    → a ≤ excess_of s (near s.net x) → label_of s (near s.net x) ≡ label_of s (far s.net x) + 1 → count (pushed s x a) < count s
+    → a ≤ excess_of s (near s.net x) → label_of s (near s.net x) ≡ label_of s (far s.net x) + 1 → potential (after_push s x a) < potential s
 pushed_lowers s x a sound lx some enough level =
     let v = near s.net x in
     let w = far s.net x in
@@ -127,13 +127,13 @@ pushed_lowers s x a sound lx some enough level =
     let h1 = height_less n s.excess s.labels v a lv sound.sized.excess enough in
     let h2 = height_more n less s.labels w a lw len in
     let step = one_step a (label_of s v) (label_of s w) level in
-    by_height (rise s) (rise (pushed s x a)) (height s) (height (pushed s x a)) (unit s) (omega (arith, k1, k2)) (omega (arith, h1, h2, step, some))
+    by_height (labels_to_rise s) (labels_to_rise (after_push s x a)) (height s) (height (after_push s x a)) (unit s) (omega (arith, k1, k2)) (omega (arith, h1, h2, step, some))
 
-pub given_lowers : (s : State) (v a : ℕ) → IsSound s → v < nodes s.net → 1 ≤ a → a ≤ excess_of s v → label_of s v ≡ 1 → count (given s v a) < count s
+pub given_lowers : (s : State) (v a : ℕ) → IsSound s → v < nodes s.net → 1 ≤ a → a ≤ excess_of s v → label_of s v ≡ 1 → potential (after_sink_push s v a) < potential s
 given_lowers s v a sound lv some enough level =
     let h = height_less (nodes s.net) s.excess s.labels v a lv sound.sized.excess enough in
     let one : a * label_of s v ≡ a = rw level (grind arith) in
-    by_height (rise s) (rise (given s v a)) (height s) (height (given s v a)) (unit s) (omega arith) (omega (arith, h, one, some))
+    by_height (labels_to_rise s) (labels_to_rise (after_sink_push s v a)) (height s) (height (after_sink_push s v a)) (unit s) (omega arith) (omega (arith, h, one, some))
 
 -- four times an excess is less than what a label's rise by 1 counts
 pub excess-lt-unit : (s : State) (v : ℕ) → IsSound s → v < nodes s.net → 4 * excess_of s v < unit s
@@ -142,7 +142,7 @@ excess-lt-unit s v sound l =
     let all = mul-le 1 (excess_of s v) (top s.net) (sum s.net.sources) (omega arith) e in
     omega (arith, all)
 
-pub relabelled_lowers : (s : State) (v d : ℕ) → IsSound s → IsAllowed s v d → count (labelled s v d) < count s
+pub relabelled_lowers : (s : State) (v d : ℕ) → IsSound s → IsAllowed s v d → potential (after_relabel s v d) < potential s
 relabelled_lowers s v d sound may =
     let n = nodes s.net in
     let e = excess_of s v in
@@ -157,7 +157,7 @@ relabelled_lowers s v d sound may =
     let e2 = mul-le (4 * e + 1) j (unit s) j (omega (arith, small)) (omega arith) in
     let e3 : (4 * e + 1) * j ≡ 4 * (e * j) + j = grind arith in
     let e4 : unit s * j ≡ j * unit s = grind arith in
-    by_rise (rise s) (rise (labelled s v d)) (height s) (height (labelled s v d)) (unit s) j
+    by_rise (labels_to_rise s) (labels_to_rise (after_relabel s v d)) (height s) (height (after_relabel s v d)) (unit s) j
     (omega (arith, rises, here, may.rises, may.top))
     (omega (arith, high, e1, e2, e3, e4, may.rises))
 
@@ -168,7 +168,7 @@ learned_up true k d = omega arith
 learned_up false k d = omega arith
 
 pub sent_lowers : (s : State) (x : Direction) (a : ℕ) → IsSound s → IsDirection s.net x
-    → 1 ≤ a → a ≤ excess_of s (near s.net x) → label_of s (near s.net x) ≡ known_of s x + 1 → count (sent s x a) < count s
+    → 1 ≤ a → a ≤ excess_of s (near s.net x) → label_of s (near s.net x) ≡ known_of s x + 1 → potential (after_send s x a) < potential s
 sent_lowers s x a sound lx some enough level =
     let v = near s.net x in
     let d = label_of s v in
@@ -178,44 +178,44 @@ sent_lowers s x a sound lx some enough level =
     let known = known_put s s.lanes x lane (long s sound.sized) lx (omega arith) in
     let h = height_less (nodes s.net) s.excess s.labels v a (near_in s.net x sound.sized.net lx) sound.sized.excess enough in
     let pos = some_times a d some (omega (arith, level)) in
-    by_height (rise s) (rise (sent s x a)) (height s) (height (sent s x a)) (unit s) (omega (arith, known)) (omega (arith, more, h, pos))
+    by_height (labels_to_rise s) (labels_to_rise (after_send s x a)) (height s) (height (after_send s x a)) (unit s) (omega (arith, known)) (omega (arith, more, h, pos))
 
 pub accepted_lowers : (s : State) (b c : ℕ) (x : Direction) (a d : ℕ) (rest : List Message) → IsSound s → IsWay s b c
-    → way_at s.ways b c ≡ Parcel x a d ∷ rest → label_of s (far s.net x) + 1 ≡ d → count (accepted s b c (Parcel x a d ∷ rest)) < count s
+    → way_at s.ways b c ≡ Parcel x a d ∷ rest → label_of s (far s.net x) + 1 ≡ d → potential (after_accept s b c (Parcel x a d ∷ rest)) < potential s
 accepted_lowers s b c x a d rest sound way e level =
     let o = front_out s b c (Parcel x a d) rest sound e in
     let w = far s.net x in
     let old = lane_at s.lanes (opposite x) in
     let messages = messages_answered s.blocks weight s.ways b c (Parcel x a d) rest (Accepted x a) sound.sized.ways way.0 way.1 e in
-    let known = known_put s s.lanes (opposite x) (learned old a d) (long s sound.sized) o.direction (learned_up (is_some old.flight) old.known d) in
+    let known = known_put s s.lanes (opposite x) (lane_after_accept old a d) (long s sound.sized) o.direction (learned_up (is_some old.flight) old.known d) in
     let h = height_more (nodes s.net) s.excess s.labels w a (far_in s.net x sound.sized.net o.direction) sound.sized.excess in
     let step = one_step a d (label_of s w) (sym level) in
     let some = o.some in
-    let t = accepted s b c (Parcel x a d ∷ rest) in
-    by_height (rise s) (rise t) (height s) (height t) (unit s) (omega (arith, known)) (omega (arith, messages, h, step, some))
+    let t = after_accept s b c (Parcel x a d ∷ rest) in
+    by_height (labels_to_rise s) (labels_to_rise t) (height s) (height t) (unit s) (omega (arith, known)) (omega (arith, messages, h, step, some))
 
 pub refused_lowers : (s : State) (b c : ℕ) (x : Direction) (a d : ℕ) (rest : List Message) → IsSound s → IsWay s b c
-    → way_at s.ways b c ≡ Parcel x a d ∷ rest → count (refused s b c (Parcel x a d ∷ rest)) < count s
+    → way_at s.ways b c ≡ Parcel x a d ∷ rest → potential (after_refuse s b c (Parcel x a d ∷ rest)) < potential s
 refused_lowers s b c x a d rest sound way e =
     let o = front_out s b c (Parcel x a d) rest sound e in
     let at_x = sound.flights x o.direction (record { amount = a; label = d }) o.flight in
     let pos = some_times a d o.some (omega (arith, at_x.1, at_x.2)) in
     let messages = messages_answered s.blocks weight s.ways b c (Parcel x a d) rest (Refused x a d (label_of s (far s.net x))) sound.sized.ways way.0 way.1 e in
-    let t = refused s b c (Parcel x a d ∷ rest) in
-    by_height (rise s) (rise t) (height s) (height t) (unit s) (omega arith) (omega (arith, messages, pos))
+    let t = after_refuse s b c (Parcel x a d ∷ rest) in
+    by_height (labels_to_rise s) (labels_to_rise t) (height s) (height t) (unit s) (omega arith) (omega (arith, messages, pos))
 
 pub taken_lowers : (s : State) (b c : ℕ) (x : Direction) (a : ℕ) (rest : List Message) → IsSound s → IsWay s b c
-    → way_at s.ways b c ≡ Accepted x a ∷ rest → count (settled s b c (Accepted x a ∷ rest)) < count s
+    → way_at s.ways b c ≡ Accepted x a ∷ rest → potential (after_settle s b c (Accepted x a ∷ rest)) < potential s
 taken_lowers s b c x a rest sound way e =
     let front = front_out s b c (Accepted x a) rest sound e in
     let less = messages_less s.blocks weight s.ways b c (Accepted x a) rest sound.sized.ways way.0 way.1 e in
     let lane : Lane = record (lane_at s.lanes x) { flight = None } in
     let known = known_put s s.lanes x lane (long s sound.sized) front.1.direction (omega arith) in
-    let t = settled s b c (Accepted x a ∷ rest) in
-    by_height (rise s) (rise t) (height s) (height t) (unit s) (omega (arith, known)) (omega (arith, less))
+    let t = after_settle s b c (Accepted x a ∷ rest) in
+    by_height (labels_to_rise s) (labels_to_rise t) (height s) (height t) (unit s) (omega (arith, known)) (omega (arith, less))
 
 pub returned_lowers : (s : State) (b c : ℕ) (x : Direction) (a d told : ℕ) (rest : List Message) → IsSound s → IsWay s b c
-    → way_at s.ways b c ≡ Refused x a d told ∷ rest → count (settled s b c (Refused x a d told ∷ rest)) < count s
+    → way_at s.ways b c ≡ Refused x a d told ∷ rest → potential (after_settle s b c (Refused x a d told ∷ rest)) < potential s
 returned_lowers s b c x a d told rest sound way e =
     let m : Message = Refused x a d told in
     let front = front_out s b c m rest sound e in
@@ -225,16 +225,16 @@ returned_lowers s b c x a d told rest sound way e =
     let less = messages_less s.blocks weight s.ways b c m rest sound.sized.ways way.0 way.1 e in
     let carried = messages_less s.blocks carries s.ways b c m rest sound.sized.ways way.0 way.1 e in
     let lane : Lane = record { residual = residual_of s x + a; known = told; flight = None } in
-    let change = directions_changed (length s.net.arcs) s.lanes x lane (λ y q. counted (is_border s.net s.blocks y) (top s.net - q.known)) (long s sound.sized) o.direction in
-    let c1 : counted (is_border s.net s.blocks x) (top s.net - told) ≡ top s.net - told = rw o.border refl in
-    let c2 : counted (is_border s.net s.blocks x) (top s.net - known_of s x) ≡ top s.net - known_of s x = rw o.border refl in
+    let change = directions_changed (length s.net.arcs) s.lanes x lane (λ y q. count_if (is_border s.net s.blocks y) (top s.net - q.known)) (long s sound.sized) o.direction in
+    let c1 : count_if (is_border s.net s.blocks x) (top s.net - told) ≡ top s.net - told = rw o.border refl in
+    let c2 : count_if (is_border s.net s.blocks x) (top s.net - known_of s x) ≡ top s.net - known_of s x = rw o.border refl in
     let low = sound.top (far s.net x) (far_in s.net x sound.sized.net o.direction) in
     let h = height_more (nodes s.net) s.excess s.labels v a (near_in s.net x sound.sized.net o.direction) sound.sized.excess in
     let same = ap (λ q. a * q) at_x.2 in
     let pos = some_times a d o.some (omega (arith, at_x.1, at_x.2)) in
     let some : 1 ≤ sum s.net.sources = omega (arith, carried, sound.total, o.some) in
     let many = mul-le 1 1 (top s.net) (sum s.net.sources) (omega arith) some in
-    let t = settled s b c (Refused x a d told ∷ rest) in
-    by_rise (rise s) (rise t) (height s) (height t) (unit s) 1
+    let t = after_settle s b c (Refused x a d told ∷ rest) in
+    by_rise (labels_to_rise s) (labels_to_rise t) (height s) (height t) (unit s) 1
     (omega (arith, change, c1, c2, low, front.1, front.2, at_x.1, at_x.2))
     (let one : 1 * unit s ≡ unit s = grind arith in omega (arith, less, h, same, pos, many, one))

@@ -1,10 +1,10 @@
 -- A finished state has the smallest least cut.
 use Rattle.std.proofs.Common.{◌≡◌, ℕ, ◌+◌, ◌-◌, ◌<◌, ◌≤◌, Bool, true, eqb, length, slice_index, refl, sym, ◌∙◌, ap, inl, inr, arith}
 use Rattle.std.proofs.lemmas.Bool.{cases_lt}
-use Rattle.sums.specs.Sums.{counted}
+use Rattle.sums.specs.Sums.{count_if}
 use Rattle.flow_network.specs.Cut.{nodes}
 use Rattle.flow_network.specs.Preflow.{arc_at}
-use Rattle.block_events.specs.Directions.{forward, backward, leaving}
+use Rattle.block_events.specs.Directions.{forward, backward, sum_leaving}
 use Rattle.block_events.specs.States.{State, Lane, excess_of, room_of, residual_of}
 use Rattle.block_events.specs.Soundness.{IsSound, carries_on, first_residual}
 use Rattle.block_events.proofs.Local.{counted_none}
@@ -40,25 +40,25 @@ arc_full s k sound quiet l = omega (arith, sound.arcs k l, quiet_none s (carries
 -- ---- the excess of a node
 
 pub node_flows : (s : State) (v : ℕ) → IsSound s → IsQuiet s
-    → leaving s.net v (residual_of s) + outflow s.net (shown_flow s) v ≡ leaving s.net v (first_residual s.net) + inflow s.net (shown_flow s) v
+    → sum_leaving s.net v (residual_of s) + outflow s.net (shown_flow s) v ≡ sum_leaving s.net v (first_residual s.net) + inflow s.net (shown_flow s) v
 node_flows s v sound quiet =
     let m = length s.net.arcs in
     let from = λ (k : ℕ). eqb (arc_at s.net k).from v in
     let to = λ (k : ℕ). eqb (arc_at s.net k).to v in
     let flow = λ (k : ℕ). slice_index (shown_flow s).arcs k in
-    let old = λ (k : ℕ). counted (from k) (residual_of s (forward k)) + counted (to k) (residual_of s (backward k)) in
-    let first = λ (k : ℕ). counted (from k) (arc_at s.net k).capacity + counted (to k) 0 in
-    let each = sum_below-same m (λ k. old k + counted (from k) (flow k)) (λ k. first k + counted (to k) (flow k)) (λ k l.
+    let old = λ (k : ℕ). count_if (from k) (residual_of s (forward k)) + count_if (to k) (residual_of s (backward k)) in
+    let first = λ (k : ℕ). count_if (from k) (arc_at s.net k).capacity + count_if (to k) 0 in
+    let each = sum_below-same m (λ k. old k + count_if (from k) (flow k)) (λ k. first k + count_if (to k) (flow k)) (λ k l.
     let f = flow_arc s k sound l in
     omega (
       arith,
-      ap (counted (from k)) f,
-      ap (counted (to k)) f,
-      ap (counted (from k)) (arc_full s k sound quiet l),
+      ap (count_if (from k)) f,
+      ap (count_if (to k)) f,
+      ap (count_if (from k)) (arc_full s k sound quiet l),
       counted_add (from k) (residual_of s (forward k)) (residual_of s (backward k)),
       counted_none (to k),
     )) in
-    omega (arith, each, sum_below-add m old (λ k. counted (from k) (flow k)), sum_below-add m first (λ k. counted (to k) (flow k)))
+    omega (arith, each, sum_below-add m old (λ k. count_if (from k) (flow k)), sum_below-add m first (λ k. count_if (to k) (flow k)))
 
 pub quiet_preflow : (s : State) → IsSound s → IsQuiet s → IsPreflow s.net (shown_flow s)
 quiet_preflow s sound quiet = record {

@@ -3,7 +3,7 @@ use Rattle.std.proofs.Common.{◌≡◌, ℕ, ◌+◌, ◌-◌, ◌<◌, ◌≤�
 use Rattle.std.specs.Option.{is_some}
 use Rattle.std.proofs.lemmas.List.{length-set}
 use Rattle.std.proofs.lemmas.Bool.{cases_eq, cases_Bool}
-use Rattle.sums.specs.Sums.{counted}
+use Rattle.sums.specs.Sums.{count_if}
 use Rattle.sums.proofs.SumLemmas.{counted-same, counted-other}
 use Rattle.flow_network.specs.Cut.{nodes}
 use Rattle.flow_network.specs.Progress.{top}
@@ -11,10 +11,10 @@ use Rattle.block_events.specs.declared.direction.Direction.{Direction}
 use Rattle.block_events.specs.declared.flight.Flight.{Flight}
 use Rattle.block_events.specs.declared.message.Message.{Message}
 use Rattle.block_events.specs.declared.message.Message.TheVariants.{Parcel, Accepted, Refused}
-use Rattle.block_events.specs.Directions.{opposite, IsDirection, near, far, leaving}
-use Rattle.block_events.specs.States.{State, Lane, lane_at, put_lane, way_at, excess_of, label_of, room_of, flight_of, residual_of, known_of, near_block, far_block, is_border, seen}
-use Rattle.block_events.specs.Effects.{learned}
-use Rattle.block_events.specs.Events.{pushed, given, labelled, sent, accepted, refused, settled, highest_label}
+use Rattle.block_events.specs.Directions.{opposite, IsDirection, near, far, sum_leaving}
+use Rattle.block_events.specs.States.{State, Lane, lane_at, put_lane, way_at, excess_of, label_of, room_of, flight_of, residual_of, known_of, near_block, far_block, is_border, seen_label}
+use Rattle.block_events.specs.Effects.{lane_after_accept}
+use Rattle.block_events.specs.Events.{after_push, after_sink_push, after_relabel, after_send, after_accept, after_refuse, after_settle, highest_label}
 use Rattle.block_events.specs.Soundness.{IsSized, IsSound, first_residual}
 use Rattle.block_events.proofs.Lanes.{long_put, near_opposite, far_opposite, border_opposite}
 use Rattle.block_events.proofs.Ways.{square_put}
@@ -29,11 +29,11 @@ pub record IsFit (s : State) : Type 0 where
   pub got : s.got + sum s.rooms ≡ sum s.net.sinks
   pub rooms : (v : ℕ) → v < nodes s.net → room_of s v ≤ slice_index s.net.sinks v
   pub balance : (v : ℕ) → v < nodes s.net
-      → excess_of s v + slice_index s.net.sinks v + leaving s.net v (first_residual s.net)
-      ≡ slice_index s.net.sources v + room_of s v + leaving s.net v (residual_of s)
+      → excess_of s v + slice_index s.net.sinks v + sum_leaving s.net v (first_residual s.net)
+      ≡ slice_index s.net.sources v + room_of s v + sum_leaving s.net v (residual_of s)
   pub top : (v : ℕ) → v < nodes s.net → label_of s v ≤ top s.net
   pub sink : (v : ℕ) → v < nodes s.net → 0 < room_of s v → label_of s v ≤ 1
-  pub steep : (x : Direction) → IsDirection s.net x → 0 < residual_of s x → label_of s (near s.net x) ≤ seen s x + 1
+  pub steep : (x : Direction) → IsDirection s.net x → 0 < residual_of s x → label_of s (near s.net x) ≤ seen_label s x + 1
   pub flights : (x : Direction) → IsDirection s.net x → (f : Flight) → flight_of s x ≡ Some f
       → (is_border s.net s.blocks x ≡ true) × (label_of s (near s.net x) ≡ known_of s x + 1) × (label_of s (near s.net x) ≡ f.label)
 
@@ -59,7 +59,7 @@ Level s y l = (f : Flight) → l.flight ≡ Some f → (is_border s.net s.blocks
 
 pub pushed_fit : (s : State) (x : Direction) (a : ℕ) → IsFit s → IsDirection s.net x → is_border s.net s.blocks x ≡ false
     → a ≤ excess_of s (near s.net x) → 0 < residual_of s x → a ≤ residual_of s x → label_of s (near s.net x) ≡ label_of s (far s.net x) + 1
-    → IsFit (pushed s x a)
+    → IsFit (after_push s x a)
 pushed_fit s x a fit lx inner enough some fits level =
     let v = near s.net x in
     let w = far s.net x in
@@ -96,7 +96,7 @@ pushed_fit s x a fit lx inner enough some fits level =
       got = fit.got;
       rooms = fit.rooms;
       balance = λ u lu.
-          let turn = ap (λ q. counted (eqb q u) a) near_is in
+          let turn = ap (λ q. count_if (eqb q u) a) near_is in
           omega (
             arith,
             fit.balance u lu,
@@ -114,7 +114,7 @@ pushed_fit s x a fit lx inner enough some fits level =
       flights = each_lane arcs taken opp back (Level s) lng1 lx (λ y off ly. flights y ly) (flights opp lx);
     }
 
-pub given_fit : (s : State) (v a : ℕ) → IsFit s → v < nodes s.net → a ≤ excess_of s v → a ≤ room_of s v → 0 < room_of s v → IsFit (given s v a)
+pub given_fit : (s : State) (v a : ℕ) → IsFit s → v < nodes s.net → a ≤ excess_of s v → a ≤ room_of s v → 0 < room_of s v → IsFit (after_sink_push s v a)
 given_fit s v a fit lv enough fits some =
     let le : v < length s.excess = omega (arith, lv, fit.sized.excess) in
     let lr : v < length s.rooms = omega (arith, lv, fit.sized.rooms) in
@@ -147,13 +147,13 @@ label_at s v d u l = elim (cases_eq u v) [
 ]
 
 seen_rises : (s : State) (labels : List ℕ) (x : Direction) → ((u : ℕ) → label_of s u ≤ slice_index labels u)
-    → seen s x ≤ cond (is_border s.net s.blocks x) (known_of s x) (slice_index labels (far s.net x))
+    → seen_label s x ≤ cond (is_border s.net s.blocks x) (known_of s x) (slice_index labels (far s.net x))
 seen_rises s labels x up = elim (cases_Bool (is_border s.net s.blocks x)) [
   | inl border ↦ rw border (omega arith)
   | inr inner ↦ rw inner (up (far s.net x))
 ]
 
-pub relabelled_fit : (s : State) (v d : ℕ) → IsFit s → IsAllowed s v d → IsFit (labelled s v d)
+pub relabelled_fit : (s : State) (v d : ℕ) → IsFit s → IsAllowed s v d → IsFit (after_relabel s v d)
 relabelled_fit s v d fit may =
     let l : v < length s.labels = omega (arith, may.node, fit.sized.labels) in
     let labels = set s.labels v d in
@@ -203,7 +203,7 @@ fit_allowed s v fit lv rises = record {
     | inr (f, is) ↦
         let at = fit.flights x lx f is in
         let low = highest-le-seen s v x lx at_v (open_flight s x f at.0 is) in
-        let seen_is : seen s x ≡ known_of s x = rw at.0 refl in
+        let seen_is : seen_label s x ≡ known_of s x = rw at.0 refl in
         let label = ap (label_of s) at_v in
         absurd (omega (arith, low, seen_is, label, at.1, rises))
   ];
@@ -216,7 +216,7 @@ flight_label d a f h = let e : record { amount = a; label = d } ≡ f = cc in ap
 
 pub sent_fit : (s : State) (x : Direction) (a : ℕ) → IsFit s → IsDirection s.net x → is_border s.net s.blocks x ≡ true
     → a ≤ excess_of s (near s.net x) → a ≤ residual_of s x → label_of s (near s.net x) ≡ known_of s x + 1
-    → IsFit (sent s x a)
+    → IsFit (after_send s x a)
 sent_fit s x a fit lx border enough fits level =
     let v = near s.net x in
     let d = label_of s v in
@@ -253,13 +253,13 @@ learned_at None k d = inl (refl, refl)
 learned_at (Some g) k d = inr (g, refl, refl)
 
 pub accepted_fit : (s : State) (c b : ℕ) (x : Direction) (a d : ℕ) (rest : List Message) → IsFit s → IsDirection s.net x → is_border s.net s.blocks x ≡ true
-    → label_of s (far s.net x) + 1 ≡ d → IsFit (accepted s c b (Parcel x a d ∷ rest))
+    → label_of s (far s.net x) + 1 ≡ d → IsFit (after_accept s c b (Parcel x a d ∷ rest))
 accepted_fit s c b x a d rest fit lx is_border' level =
     let reply : Message = Accepted x a in
     let arcs = length s.net.arcs in
     let opp = opposite x in
     let old = lane_at s.lanes opp in
-    let lane = learned old a d in
+    let lane = lane_after_accept old a d in
     let lng = long s fit.sized in
     let w = far s.net x in
     let lw : w < length s.excess = omega (arith, far_in s.net x fit.sized.net lx, fit.sized.excess) in
@@ -282,7 +282,7 @@ accepted_fit s c b x a d rest fit lx is_border' level =
       got = fit.got;
       rooms = fit.rooms;
       balance = λ u lu.
-          let turn = ap (λ q. counted (eqb q u) a) near_is in
+          let turn = ap (λ q. count_if (eqb q u) a) near_is in
           omega (arith, fit.balance u lu, set_more s.excess w a u lw, leaving_changed s.net s.lanes opp lane 0 a u lng lx (omega arith), counted_none (eqb (near s.net opp) u), turn);
       top = fit.top;
       sink = fit.sink;
@@ -300,7 +300,7 @@ accepted_fit s c b x a d rest fit lx is_border' level =
           ]);
     }
 
-pub refused_fit : (s : State) (c b : ℕ) (x : Direction) (a d : ℕ) (rest : List Message) → IsFit s → IsFit (refused s c b (Parcel x a d ∷ rest))
+pub refused_fit : (s : State) (c b : ℕ) (x : Direction) (a d : ℕ) (rest : List Message) → IsFit s → IsFit (after_refuse s c b (Parcel x a d ∷ rest))
 refused_fit s c b x a d rest fit = record {
   sized = record {
     net = fit.sized.net;
@@ -321,7 +321,7 @@ refused_fit s c b x a d rest fit = record {
   flights = fit.flights;
 }
 
-pub taken_fit : (s : State) (c b : ℕ) (x : Direction) (a : ℕ) (rest : List Message) → IsFit s → IsDirection s.net x → IsFit (settled s c b (Accepted x a ∷ rest))
+pub taken_fit : (s : State) (c b : ℕ) (x : Direction) (a : ℕ) (rest : List Message) → IsFit s → IsDirection s.net x → IsFit (after_settle s c b (Accepted x a ∷ rest))
 taken_fit s c b x a rest fit lx =
     let arcs = length s.net.arcs in
     let lane : Lane = record (lane_at s.lanes x) { flight = None } in
@@ -348,7 +348,7 @@ taken_fit s c b x a rest fit lx =
     }
 
 pub returned_fit : (s : State) (c b : ℕ) (x : Direction) (a d told : ℕ) (rest : List Message) → IsFit s → IsDirection s.net x
-    → flight_of s x ≡ Some (record { amount = a; label = d }) → d ≤ told → IsFit (settled s c b (Refused x a d told ∷ rest))
+    → flight_of s x ≡ Some (record { amount = a; label = d }) → d ≤ told → IsFit (after_settle s c b (Refused x a d told ∷ rest))
 returned_fit s c b x a d told rest fit lx out high =
     let arcs = length s.net.arcs in
     let v = near s.net x in

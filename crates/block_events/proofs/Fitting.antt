@@ -1,7 +1,7 @@
 -- How many messages a way can have: one for each direction between its two blocks.
 use Rattle.std.proofs.Common.{◌≡◌, ℕ, zero, suc, ◌+◌, ◌<◌, ◌≤◌, Bool, true, false, List, [], length, get_or, Some, None, Option, refl, ◌∙◌, arith}
 use Rattle.std.proofs.lemmas.Bool.{eq-eqb, false≢true}
-use Rattle.sums.specs.Sums.{counted}
+use Rattle.sums.specs.Sums.{count_if}
 use Rattle.flow_network.specs.Cut.{Network}
 use Rattle.block_events.specs.declared.direction.Direction.{Direction}
 use Rattle.block_events.specs.declared.message.Message.{Message}
@@ -40,7 +40,7 @@ way-le-messages n f ways b c sq lb lc =
     let two = get_or-le-sum_by (λ (w : List Message). sum_by f w) row c [] (omega (arith, sq.columns b lb)) in
     omega (arith, one, two)
 
-counted_le : (t : Bool) (y z : ℕ) → y ≤ z → counted t y ≤ counted t z
+counted_le : (t : Bool) (y z : ℕ) → y ≤ z → count_if t y ≤ count_if t z
 counted_le true y z h = h
 counted_le false y z h = omega arith
 
@@ -65,7 +65,7 @@ way_fits s b c sound lb lc =
     let none : Message = Accepted (forward 0) 0 in
     let J = λ (x : Direction). joins s.net s.blocks b c x in
     let at = λ (i : ℕ). get_or way i none in
-    let term = λ (x : Direction) (i : ℕ). counted (J x) (names x (at i)) in
+    let term = λ (x : Direction) (i : ℕ). count_if (J x) (names x (at i)) in
     let ones = at_least_ones n (λ i. over_directions m (λ x. term x i)) (λ i li.
     let o = sound.belong b c i none li in
     let x = direction_of (at i) in
@@ -79,8 +79,8 @@ way_fits s b c sound lb lc =
     let few = way-le-messages s.blocks (names x) s.ways b c sound.sized.ways lb lc in
     let most : sum_below n (λ i. names x (at i)) ≤ 1 = omega (arith, is, few, sound.named x l, out-le-one (flight_of s x)) in
     let low = counted_le (J x) (sum_below n (λ i. names x (at i))) 1 most in
-    let done : sum_below n (λ i. term x i) ≤ counted (J x) 1 = omega (arith, all, low) in
+    let done : sum_below n (λ i. term x i) ≤ count_if (J x) 1 = omega (arith, all, low) in
     done in
-    let few = sum_below-le m (λ k. sum_below n (λ i. term (forward k) i + term (backward k) i)) (λ k. counted (J (forward k)) 1 + counted (J (backward k)) 1)
+    let few = sum_below-le m (λ k. sum_below n (λ i. term (forward k) i + term (backward k) i)) (λ k. count_if (J (forward k)) 1 + count_if (J (backward k)) 1)
     (λ k l. omega (arith, sum_below-add n (λ i. term (forward k) i) (λ i. term (backward k) i), each (forward k) l, each (backward k) l)) in
     omega (arith, ones, turn, few)

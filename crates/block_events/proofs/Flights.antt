@@ -13,7 +13,7 @@ use Rattle.block_events.proofs.Ways.{EachWay, each_put, square_put, messages_mor
 use Rattle.block_events.proofs.Local.{counted_none, set_less, set_more, sum_less, sum_more, each_lane, arc_changed, leaving_changed, belongs_kept, behind_parcel, names_other, names_same, names_not, long}
 use Rattle.block_events.proofs.Ends.{near_in, near_block_in, far_block_in}
 use Rattle.block_events.proofs.Replies.{IsGoodWay, good_ways, good_rest, good_more, front_out}
-use Rattle.block_events.specs.Events.{settled, sent}
+use Rattle.block_events.specs.Events.{after_settle, after_send}
 
 -- where no message names a direction, its lane may change
 good_without : (net : Network) (blocks : ℕ) (lanes : Lanes) (labels : List ℕ) (ways : List (List (List Message))) (x : Direction) (lane : Lane)
@@ -28,7 +28,7 @@ good_without net blocks lanes labels ways x lane good off b c = record {
 -- ---- settled, what was taken
 
 pub taken_kept : (s : State) (b c : ℕ) (x : Direction) (a : ℕ) (rest : List Message) → IsSound s → IsWay s b c
-    → way_at s.ways b c ≡ Accepted x a ∷ rest → IsSound (settled s b c (Accepted x a ∷ rest))
+    → way_at s.ways b c ≡ Accepted x a ∷ rest → IsSound (after_settle s b c (Accepted x a ∷ rest))
 taken_kept s b c x a rest sound way e =
     let m : Message = Accepted x a in
     let n = s.blocks in
@@ -84,7 +84,7 @@ taken_kept s b c x a rest sound way e =
 -- ---- settled, what was sent back
 
 pub returned_kept : (s : State) (b c : ℕ) (x : Direction) (a d told : ℕ) (rest : List Message) → IsSound s → IsWay s b c
-    → way_at s.ways b c ≡ Refused x a d told ∷ rest → IsSound (settled s b c (Refused x a d told ∷ rest))
+    → way_at s.ways b c ≡ Refused x a d told ∷ rest → IsSound (after_settle s b c (Refused x a d told ∷ rest))
 returned_kept s b c x a d told rest sound way e =
     let m : Message = Refused x a d told in
     let n = s.blocks in
@@ -146,7 +146,7 @@ flight_label d a f h = let e : record { amount = a; label = d } ≡ f = cc in ap
 
 pub sent_kept : (s : State) (x : Direction) (a : ℕ) → IsSound s → IsDirection s.net x → is_border s.net s.blocks x ≡ true
     → 1 ≤ a → a ≤ excess_of s (near s.net x) → a ≤ residual_of s x → label_of s (near s.net x) ≡ known_of s x + 1 → flight_of s x ≡ None
-    → IsSound (sent s x a)
+    → IsSound (after_send s x a)
 sent_kept s x a sound lx border some enough fits level idle =
     let v = near s.net x in
     let d = label_of s v in

@@ -5,10 +5,10 @@ use Rattle.block_events.specs.declared.message.Message.TheVariants.{Parcel, Acce
 use Rattle.block_events.specs.declared.event.Event.{Event}
 use Rattle.block_events.specs.declared.event.Event.TheVariants.{PushInner, PushSink, Relabel, Send, Accept, Refuse, Settle, RaiseAll}
 use Rattle.block_events.specs.States.{State, far_block}
-use Rattle.block_events.specs.Events.{MayAccept, MayRefuse, accepted, refused, settled, IsQuiet}
+use Rattle.block_events.specs.Events.{MayAccept, MayRefuse, after_accept, after_refuse, after_settle, IsQuiet}
 use Rattle.block_events.specs.Soundness.{IsSound}
 use Rattle.block_events.proofs.Raising.{quiet_ways}
-use Rattle.block_events.specs.Workers.{MayTake, FitsFlight, noted, DoesOwn, IsHistory}
+use Rattle.block_events.specs.Workers.{MayTake, FitsFlight, taken_with, DoesOwn, IsHistory}
 use Rattle.block_events.proofs.Fit.{IsFit, sound_fit, pushed_fit, given_fit, relabelled_fit, fit_allowed, sent_fit, accepted_fit, refused_fit, taken_fit, returned_fit}
 use Rattle.block_events.proofs.Logs.{IsLogged, begun, pushed_logged, given_logged, relabelled_logged, sent_logged, accepted_logged, refused_logged, taken_logged, returned_logged}
 
@@ -19,7 +19,7 @@ pub record IsOwn (b : ℕ) (old s : State) : Type 0 where
   pub fit : IsFit s
   pub log : IsLogged b old s
 
-accept_own : (b c : ℕ) (old s : State) (m : Message) → IsOwn b old s → MayTake s b c m → MayAccept s (m ∷ []) → IsOwn b old (accepted s c b (noted s b c m))
+accept_own : (b c : ℕ) (old s : State) (m : Message) → IsOwn b old s → MayTake s b c m → MayAccept s (m ∷ []) → IsOwn b old (after_accept s c b (taken_with s b c m))
 accept_own b c old s (Parcel x a d) own me may = record {
   net = own.net;
   blocks = own.blocks;
@@ -29,7 +29,7 @@ accept_own b c old s (Parcel x a d) own me may = record {
 accept_own b c old s (Accepted x a) own me may = absurd may
 accept_own b c old s (Refused x a d told) own me may = absurd may
 
-refuse_own : (b c : ℕ) (old s : State) (m : Message) → IsOwn b old s → MayTake s b c m → MayRefuse s (m ∷ []) → IsOwn b old (refused s c b (noted s b c m))
+refuse_own : (b c : ℕ) (old s : State) (m : Message) → IsOwn b old s → MayTake s b c m → MayRefuse s (m ∷ []) → IsOwn b old (after_refuse s c b (taken_with s b c m))
 refuse_own b c old s (Parcel x a d) own me may = record {
   net = own.net;
   blocks = own.blocks;
@@ -39,7 +39,7 @@ refuse_own b c old s (Parcel x a d) own me may = record {
 refuse_own b c old s (Accepted x a) own me may = absurd may
 refuse_own b c old s (Refused x a d told) own me may = absurd may
 
-settle_own : (b c : ℕ) (old s : State) (m : Message) → IsOwn b old s → MayTake s b c m → FitsFlight s m → IsOwn b old (settled s c b (noted s b c m))
+settle_own : (b c : ℕ) (old s : State) (m : Message) → IsOwn b old s → MayTake s b c m → FitsFlight s m → IsOwn b old (after_settle s c b (taken_with s b c m))
 settle_own b c old s (Parcel x a d) own me fits = absurd fits
 settle_own b c old s (Accepted x a) own me fits = record {
   net = own.net;

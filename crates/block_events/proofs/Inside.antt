@@ -2,25 +2,25 @@
 use Rattle.std.proofs.Common.{◌≡◌, ℕ, zero, suc, ◌+◌, ◌-◌, ◌<◌, ◌≤◌, Bool, true, false, cond, eqb, ltb, min, List, length, set, get_or, slice_index, Some, None, refl, sym, ◌∙◌, ap, inl, inr, ◌⊎◌, arith}
 use Rattle.std.proofs.lemmas.List.{length-set}
 use Rattle.std.proofs.lemmas.Bool.{cases_eq, cases_lt, cases_Bool, eq-eqb, lt-ltb, false≢true}
-use Rattle.sums.specs.Sums.{counted}
+use Rattle.sums.specs.Sums.{count_if}
 use Rattle.sums.proofs.SumLemmas.{counted-same, counted-other}
 use Rattle.flow_network.specs.Cut.{nodes}
 use Rattle.flow_network.specs.Progress.{top}
 use Rattle.block_events.specs.declared.direction.Direction.{Direction}
 use Rattle.block_events.specs.Directions.{forward, backward, opposite, IsDirection, near, far}
-use Rattle.block_events.specs.States.{State, Lane, Flight, lane_at, put_lane, way_at, excess_of, label_of, room_of, flight_of, residual_of, known_of, is_border, seen}
+use Rattle.block_events.specs.States.{State, Lane, Flight, lane_at, put_lane, way_at, excess_of, label_of, room_of, flight_of, residual_of, known_of, is_border, seen_label}
 use Rattle.block_events.specs.Soundness.{IsSound, out}
 use Rattle.block_events.proofs.Lanes.{long_put, near_opposite, far_opposite, border_opposite}
 use Rattle.block_events.proofs.Local.{counted_none, set_at, set_less, set_more, set_rises, sum_less, sum_more, each_lane, flights_put, arc_changed, leaving_changed, belongs_kept, behind_kept, long}
 use Rattle.block_events.proofs.Ends.{near_in, far_in}
 use Rattle.block_events.proofs.Replies.{good_ways}
-use Rattle.block_events.specs.Events.{pushed, given, labelled, least_below, is_open, allowed, highest_label}
+use Rattle.block_events.specs.Events.{after_push, after_sink_push, after_relabel, least_below, is_open_direction, allowed_label, highest_label}
 
 -- ---- a push within a block
 
 pub pushed_kept : (s : State) (x : Direction) (a : ℕ) → IsSound s → IsDirection s.net x → is_border s.net s.blocks x ≡ false
     → a ≤ excess_of s (near s.net x) → a ≤ residual_of s x → label_of s (far s.net x) ≤ label_of s (near s.net x) + 1
-    → IsSound (pushed s x a)
+    → IsSound (after_push s x a)
 pushed_kept s x a sound lx inner enough fits level =
     let v = near s.net x in
     let w = far s.net x in
@@ -66,7 +66,7 @@ pushed_kept s x a sound lx inner enough fits level =
       got = sound.got;
       rooms = sound.rooms;
       balance = λ u lu.
-          let turn = ap (λ q. counted (eqb q u) a) near_is in
+          let turn = ap (λ q. count_if (eqb q u) a) near_is in
           omega (
             arith,
             sound.balance u lu,
@@ -90,7 +90,7 @@ pushed_kept s x a sound lx inner enough fits level =
 
 -- ---- a gift to the sink
 
-pub given_kept : (s : State) (v a : ℕ) → IsSound s → v < nodes s.net → a ≤ excess_of s v → a ≤ room_of s v → IsSound (given s v a)
+pub given_kept : (s : State) (v a : ℕ) → IsSound s → v < nodes s.net → a ≤ excess_of s v → a ≤ room_of s v → IsSound (after_sink_push s v a)
 given_kept s v a sound lv enough fits =
     let le : v < length s.excess = omega (arith, lv, sound.sized.excess) in
     let lr : v < length s.rooms = omega (arith, lv, sound.sized.rooms) in
@@ -129,7 +129,7 @@ pub record IsAllowed (s : State) (v d : ℕ) : Type 0 where
   pub rises : label_of s v < d
   pub top : d ≤ top s.net
   pub sink : 0 < room_of s v → d ≤ 1
-  pub steep : (x : Direction) → IsDirection s.net x → near s.net x ≡ v → 0 < residual_of s x → d ≤ seen s x + 1
+  pub steep : (x : Direction) → IsDirection s.net x → near s.net x ≡ v → 0 < residual_of s x → d ≤ seen_label s x + 1
   pub idle : (x : Direction) → IsDirection s.net x → near s.net x ≡ v → flight_of s x ≡ None
 
 -- the label at a node after one was written
@@ -140,13 +140,13 @@ label_at s v d u l = elim (cases_eq u v) [
 ]
 
 seen_rises : (s : State) (labels : List ℕ) (x : Direction) → ((u : ℕ) → label_of s u ≤ slice_index labels u)
-    → seen s x ≤ cond (is_border s.net s.blocks x) (known_of s x) (slice_index labels (far s.net x))
+    → seen_label s x ≤ cond (is_border s.net s.blocks x) (known_of s x) (slice_index labels (far s.net x))
 seen_rises s labels x up = elim (cases_Bool (is_border s.net s.blocks x)) [
   | inl border ↦ rw border (omega arith)
   | inr inner ↦ rw inner (up (far s.net x))
 ]
 
-pub relabelled_kept : (s : State) (v d : ℕ) → IsSound s → IsAllowed s v d → IsSound (labelled s v d)
+pub relabelled_kept : (s : State) (v d : ℕ) → IsSound s → IsAllowed s v d → IsSound (after_relabel s v d)
 relabelled_kept s v d sound may =
     let l : v < length s.labels = omega (arith, may.node, sound.sized.labels) in
     let labels = set s.labels v d in
@@ -217,22 +217,22 @@ start_at false z h = (omega arith, λ e. absurd (false≢true e))
 pub highest-le-top : (s : State) (v : ℕ) → highest_label s v ≤ top s.net
 highest-le-top s v =
     let start = start_at (ltb 0 (room_of s v)) (top s.net) (omega arith) in
-    omega (arith, least-le-start (length s.net.arcs) (λ k. min (allowed s v (forward k)) (allowed s v (backward k))) (cond (ltb 0 (room_of s v)) 1 (top s.net)), start.0)
+    omega (arith, least-le-start (length s.net.arcs) (λ k. min (allowed_label s v (forward k)) (allowed_label s v (backward k))) (cond (ltb 0 (room_of s v)) 1 (top s.net)), start.0)
 
 pub highest-le-one : (s : State) (v : ℕ) → 0 < room_of s v → highest_label s v ≤ 1
 highest-le-one s v some =
     let start = start_at (ltb 0 (room_of s v)) (top s.net) (omega arith) in
     let one = start.1 (lt-ltb 0 (room_of s v) some) in
-    omega (arith, least-le-start (length s.net.arcs) (λ k. min (allowed s v (forward k)) (allowed s v (backward k))) (cond (ltb 0 (room_of s v)) 1 (top s.net)), one)
+    omega (arith, least-le-start (length s.net.arcs) (λ k. min (allowed_label s v (forward k)) (allowed_label s v (backward k))) (cond (ltb 0 (room_of s v)) 1 (top s.net)), one)
 
-pub highest-le-seen : (s : State) (v : ℕ) (x : Direction) → IsDirection s.net x → near s.net x ≡ v → is_open s x ≡ true → highest_label s v ≤ seen s x + 1
+pub highest-le-seen : (s : State) (v : ℕ) (x : Direction) → IsDirection s.net x → near s.net x ≡ v → is_open_direction s x ≡ true → highest_label s v ≤ seen_label s x + 1
 highest-le-seen s v x lx at_v opens =
-    let least = least-le (length s.net.arcs) (λ k. min (allowed s v (forward k)) (allowed s v (backward k))) (cond (ltb 0 (room_of s v)) 1 (top s.net)) x.arc lx in
-    let pick = pick_min (λ k b. allowed s v (record { arc = k; back = b })) x.arc x.back in
+    let least = least-le (length s.net.arcs) (λ k. min (allowed_label s v (forward k)) (allowed_label s v (backward k))) (cond (ltb 0 (room_of s v)) 1 (top s.net)) x.arc lx in
+    let pick = pick_min (λ k b. allowed_label s v (record { arc = k; back = b })) x.arc x.back in
     let here : eqb (near s.net x) v ≡ true = eq-eqb (near s.net x) v at_v in
-    let is : allowed s v x ≡ seen s x + 1 = rw (here, opens) refl in
+    let is : allowed_label s v x ≡ seen_label s x + 1 = rw (here, opens) refl in
     omega (arith, least, pick, is)
 
 -- residual directions are open, and border directions in flight
-pub open_residual : (s : State) (x : Direction) → 0 < residual_of s x → is_open s x ≡ true
+pub open_residual : (s : State) (x : Direction) → 0 < residual_of s x → is_open_direction s x ≡ true
 open_residual s x some = rw (lt-ltb 0 (residual_of s x) some) refl

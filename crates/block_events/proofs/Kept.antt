@@ -4,12 +4,12 @@ use Rattle.flow_network.specs.Cut.{nodes}
 use Rattle.block_events.specs.declared.direction.Direction.{Direction}
 use Rattle.block_events.specs.declared.message.Message.{Message}
 use Rattle.block_events.specs.declared.message.Message.TheVariants.{Parcel, Accepted, Refused}
-use Rattle.block_events.specs.States.{State, Flight, way_at, label_of, flight_of, residual_of, known_of, is_border, seen, IsWay}
+use Rattle.block_events.specs.States.{State, Flight, way_at, label_of, flight_of, residual_of, known_of, is_border, seen_label, IsWay}
 use Rattle.block_events.specs.Soundness.{IsSound}
 use Rattle.std.specs.Prelude.{◌||◌}
 use Rattle.block_events.specs.declared.event.Event.{Event}
 use Rattle.block_events.specs.declared.event.Event.TheVariants.{PushInner, PushSink, Relabel, Send, Accept, Refuse, Settle, RaiseAll}
-use Rattle.block_events.specs.Events.{accepted, refused, settled, raised, highest_label, is_open, MayAccept, MayRefuse, MaySettle, Enabled, effect, Happens, Run}
+use Rattle.block_events.specs.Events.{after_accept, after_refuse, after_settle, after_raise_all, highest_label, is_open_direction, MayAccept, MayRefuse, MaySettle, IsEnabled, effect, Happens, IsRunOfEvents}
 use Rattle.block_events.proofs.Replies.{accepted_kept, refused_kept}
 use Rattle.block_events.proofs.Flights.{taken_kept, returned_kept, sent_kept}
 use Rattle.block_events.proofs.Inside.{pushed_kept, given_kept, relabelled_kept, IsAllowed, highest-le-top, highest-le-one, highest-le-seen, open_residual}
@@ -25,7 +25,7 @@ or_true : (t : Bool) → (t || true) ≡ true
 or_true true = refl
 or_true false = refl
 
-pub open_flight : (s : State) (x : Direction) (f : Flight) → is_border s.net s.blocks x ≡ true → flight_of s x ≡ Some f → is_open s x ≡ true
+pub open_flight : (s : State) (x : Direction) (f : Flight) → is_border s.net s.blocks x ≡ true → flight_of s x ≡ Some f → is_open_direction s x ≡ true
 open_flight s x f border is = rw (border, is) (or_true (ltb 0 (residual_of s x)))
 
 -- a direction in flight holds the label of its near end
@@ -41,7 +41,7 @@ highest_allowed s v sound lv rises = record {
     | inr (f, is) ↦
         let at = sound.flights x lx f is in
         let low = highest-le-seen s v x lx at_v (open_flight s x f at.0 is) in
-        let seen_is : seen s x ≡ known_of s x = rw at.0 refl in
+        let seen_is : seen_label s x ≡ known_of s x = rw at.0 refl in
         let label = ap (label_of s) at_v in
         absurd (omega (arith, low, seen_is, label, at.1, rises))
   ];
@@ -49,26 +49,26 @@ highest_allowed s v sound lv rises = record {
 
 -- ---- each event
 
-accept_kept : (s : State) (b c : ℕ) (way : List Message) → IsSound s → IsWay s b c → way_at s.ways b c ≡ way → MayAccept s way → IsSound (accepted s b c way)
+accept_kept : (s : State) (b c : ℕ) (way : List Message) → IsSound s → IsWay s b c → way_at s.ways b c ≡ way → MayAccept s way → IsSound (after_accept s b c way)
 accept_kept s b c (Parcel x a d ∷ rest) sound in_range e may = accepted_kept s b c x a d rest sound in_range e may
 accept_kept s b c (Accepted x a ∷ rest) sound in_range e may = absurd may
 accept_kept s b c (Refused x a d told ∷ rest) sound in_range e may = absurd may
 accept_kept s b c [] sound in_range e may = absurd may
 
-refuse_kept : (s : State) (b c : ℕ) (way : List Message) → IsSound s → IsWay s b c → way_at s.ways b c ≡ way → MayRefuse s way → IsSound (refused s b c way)
+refuse_kept : (s : State) (b c : ℕ) (way : List Message) → IsSound s → IsWay s b c → way_at s.ways b c ≡ way → MayRefuse s way → IsSound (after_refuse s b c way)
 refuse_kept s b c (Parcel x a d ∷ rest) sound in_range e may = refused_kept s b c x a d rest sound in_range e may
 refuse_kept s b c (Accepted x a ∷ rest) sound in_range e may = absurd may
 refuse_kept s b c (Refused x a d told ∷ rest) sound in_range e may = absurd may
 refuse_kept s b c [] sound in_range e may = absurd may
 
-settle_kept : (s : State) (b c : ℕ) (way : List Message) → IsSound s → IsWay s b c → way_at s.ways b c ≡ way → MaySettle way → IsSound (settled s b c way)
+settle_kept : (s : State) (b c : ℕ) (way : List Message) → IsSound s → IsWay s b c → way_at s.ways b c ≡ way → MaySettle way → IsSound (after_settle s b c way)
 settle_kept s b c (Parcel x a d ∷ rest) sound in_range e may = absurd may
 settle_kept s b c (Accepted x a ∷ rest) sound in_range e may = taken_kept s b c x a rest sound in_range e
 settle_kept s b c (Refused x a d told ∷ rest) sound in_range e may = returned_kept s b c x a d told rest sound in_range e
 settle_kept s b c [] sound in_range e may = absurd may
 
 -- every event but `RaiseAll`
-pub effect_kept : (s : State) (e : Event) → IsSound s → Enabled s e → IsSound (effect s e)
+pub effect_kept : (s : State) (e : Event) → IsSound s → IsEnabled s e → IsSound (effect s e)
 effect_kept s (PushInner x) sound on = pushed_kept s x _ sound on.0 on.1 (omega arith) (omega arith) (omega (arith, on.4))
 effect_kept s (PushSink v) sound on = given_kept s v _ sound on.0.node (omega arith) (omega arith)
 effect_kept s (Relabel v) sound on = relabelled_kept s v _ sound (highest_allowed s v sound on.0.node on.1)
@@ -78,7 +78,7 @@ effect_kept s (Refuse b c) sound on = refuse_kept s b c (way_at s.ways b c) soun
 effect_kept s (Settle b c) sound on = settle_kept s b c (way_at s.ways b c) sound on.0 refl on.1
 effect_kept s RaiseAll sound on = sound
 
-by_effect : (s t : State) (e : Event) → IsSound s → Enabled s e → t ≡ effect s e → IsSound t
+by_effect : (s t : State) (e : Event) → IsSound s → IsEnabled s e → t ≡ effect s e → IsSound t
 by_effect s t e sound on is = let P : State → Type 0 = λ x. IsSound x in subst P (sym is) (effect_kept s e sound on)
 
 -- each event keeps what is sound
@@ -107,9 +107,9 @@ one_effect s t u (Settle b c) h k = h.effect ∙ sym k.effect
 one_effect s t u RaiseAll h k =
     let a = h.effect in
     let b = k.effect in
-    a.2 ∙ (ap (raised s) (one_exact s a.0 b.0 a.1 b.1) ∙ sym b.2)
+    a.2 ∙ (ap (after_raise_all s) (one_exact s a.0 b.0 a.1 b.1) ∙ sym b.2)
 
 -- every list of events keeps what is sound
-pub run_kept : (es : List Event) (s t : State) → IsSound s → Run s es t → IsSound t
+pub run_kept : (es : List Event) (s t : State) → IsSound s → IsRunOfEvents s es t → IsSound t
 run_kept [] s t sound run = let P : State → Type 0 = λ x. IsSound x in subst P (sym run) sound
 run_kept (e ∷ es) s t sound run = run_kept es run.0 t (kept s run.0 e sound run.1) run.2

@@ -2,13 +2,13 @@
 use Rattle.std.proofs.Common.{◌≡◌, ℕ, ◌+◌, ◌-◌, ◌<◌, ◌≤◌, Bool, true, false, eqb, List, length, set, get_or, slice_index, sum, All, Some, None, Option, refl, ◌∙◌, ap, inl, inr, arith, get_or-set_same, get_or-set_other}
 use Rattle.std.proofs.lemmas.List.Sums.{sum_by-set}
 use Rattle.std.proofs.lemmas.Bool.{cases_eq}
-use Rattle.sums.specs.Sums.{counted}
+use Rattle.sums.specs.Sums.{count_if}
 use Rattle.sums.proofs.SumLemmas.{counted-same, counted-other}
 use Rattle.flow_network.specs.Cut.{Network}
 use Rattle.block_events.specs.declared.direction.Direction.{Direction}
 use Rattle.block_events.specs.declared.message.Message.{Message}
 use Rattle.block_events.specs.declared.message.Message.TheVariants.{Parcel, Accepted, Refused}
-use Rattle.block_events.specs.Directions.{forward, backward, is_same, IsDirection, near, far, leaving}
+use Rattle.block_events.specs.Directions.{forward, backward, is_same, IsDirection, near, far, sum_leaving}
 use Rattle.block_events.specs.States.{State, Lane, Lanes, Flight, lane_at, put_lane, way_at, over_messages}
 use Rattle.block_events.specs.Soundness.{IsSized, IsOut, Belongs, IsBehind, direction_of, names, out}
 use Rattle.block_events.proofs.Lanes.{IsLong, lane_same, lane_other, directions_changed, cases_direction, same_itself, not_same}
@@ -16,36 +16,36 @@ use Rattle.block_events.proofs.Ways.{EachWay, message-le-messages}
 
 -- ---- counted numbers
 
-pub counted_none : (b : Bool) → counted b 0 ≡ 0
+pub counted_none : (b : Bool) → count_if b 0 ≡ 0
 counted_none true = refl
 counted_none false = refl
 
-pub counted_add : (b : Bool) (y z : ℕ) → counted b (y + z) ≡ counted b y + counted b z
+pub counted_add : (b : Bool) (y z : ℕ) → count_if b (y + z) ≡ count_if b y + count_if b z
 counted_add true y z = refl
 counted_add false y z = refl
 
-pub counted_both : (b : Bool) (w x y z : ℕ) → w + x ≡ y + z → counted b w + counted b x ≡ counted b y + counted b z
+pub counted_both : (b : Bool) (w x y z : ℕ) → w + x ≡ y + z → count_if b w + count_if b x ≡ count_if b y + count_if b z
 counted_both true w x y z h = h
 counted_both false w x y z h = refl
 
 -- ---- one number of a list
 
 pub set_at : (xs : List ℕ) (v y u : ℕ) → v < length xs
-    → get_or (set xs v y) u 0 + counted (eqb v u) (get_or xs v 0) ≡ get_or xs u 0 + counted (eqb v u) y
+    → get_or (set xs v y) u 0 + count_if (eqb v u) (get_or xs v 0) ≡ get_or xs u 0 + count_if (eqb v u) y
 set_at xs v y u l = elim (cases_eq u v) [
   | inl e ↦ rw e (omega (arith, get_or-set_same xs v y 0 l, counted-same v y, counted-same v (get_or xs v 0)))
   | inr ne ↦ omega (arith, get_or-set_other xs v u y 0 ne, counted-other v u y ne, counted-other v u (get_or xs v 0) ne)
 ]
 
 pub set_less : (xs : List ℕ) (v a u : ℕ) → v < length xs → a ≤ get_or xs v 0
-    → get_or (set xs v (get_or xs v 0 - a)) u 0 + counted (eqb v u) a ≡ get_or xs u 0
+    → get_or (set xs v (get_or xs v 0 - a)) u 0 + count_if (eqb v u) a ≡ get_or xs u 0
 set_less xs v a u l fits =
     let change = set_at xs v (get_or xs v 0 - a) u l in
     let part = counted_both (eqb v u) (get_or xs v 0 - a) a (get_or xs v 0) 0 (omega arith) in
     omega (arith, change, part, counted_none (eqb v u))
 
 pub set_more : (xs : List ℕ) (v a u : ℕ) → v < length xs
-    → get_or (set xs v (get_or xs v 0 + a)) u 0 ≡ get_or xs u 0 + counted (eqb v u) a
+    → get_or (set xs v (get_or xs v 0 + a)) u 0 ≡ get_or xs u 0 + count_if (eqb v u) a
 set_more xs v a u l =
     let change = set_at xs v (get_or xs v 0 + a) u l in
     let part = counted_add (eqb v u) (get_or xs v 0) a in
@@ -91,8 +91,8 @@ arc_here m lanes k false lane long l = omega (arith, ap (λ (q : Lane). q.residu
 -- the residuals of one arc
 pub arc_changed : (m : ℕ) (lanes : Lanes) (x : Direction) (lane : Lane) (a z k : ℕ) → IsLong m lanes → x.arc < m
     → lane.residual + a ≡ (lane_at lanes x).residual + z
-    → (lane_at (put_lane lanes x lane) (forward k)).residual + (lane_at (put_lane lanes x lane) (backward k)).residual + counted (eqb x.arc k) a
-    ≡ (lane_at lanes (forward k)).residual + (lane_at lanes (backward k)).residual + counted (eqb x.arc k) z
+    → (lane_at (put_lane lanes x lane) (forward k)).residual + (lane_at (put_lane lanes x lane) (backward k)).residual + count_if (eqb x.arc k) a
+    ≡ (lane_at lanes (forward k)).residual + (lane_at lanes (backward k)).residual + count_if (eqb x.arc k) z
 arc_changed m lanes x lane a z k long l h = elim (cases_eq k x.arc) [
   | inl e ↦ rw e (omega (arith, counted-same x.arc a, counted-same x.arc z, h, arc_here m lanes x.arc x.back lane long l))
   | inr ne ↦
@@ -104,11 +104,11 @@ arc_changed m lanes x lane a z k long l h = elim (cases_eq k x.arc) [
 -- the residuals that leave a node
 pub leaving_changed : (net : Network) (lanes : Lanes) (x : Direction) (lane : Lane) (a z u : ℕ) → IsLong (length net.arcs) lanes → IsDirection net x
     → lane.residual + a ≡ (lane_at lanes x).residual + z
-    → leaving net u (λ y. (lane_at (put_lane lanes x lane) y).residual) + counted (eqb (near net x) u) a
-    ≡ leaving net u (λ y. (lane_at lanes y).residual) + counted (eqb (near net x) u) z
+    → sum_leaving net u (λ y. (lane_at (put_lane lanes x lane) y).residual) + count_if (eqb (near net x) u) a
+    ≡ sum_leaving net u (λ y. (lane_at lanes y).residual) + count_if (eqb (near net x) u) z
 leaving_changed net lanes x lane a z u long l h =
     let t = eqb (near net x) u in
-    let change = directions_changed (length net.arcs) lanes x lane (λ y q. counted (eqb (near net y) u) q.residual) long l in
+    let change = directions_changed (length net.arcs) lanes x lane (λ y q. count_if (eqb (near net y) u) q.residual) long l in
     let part = counted_both t lane.residual a (lane_at lanes x).residual z h in
     omega (arith, change, part)
 
@@ -124,14 +124,14 @@ pub names_other : (n : ℕ) (ways : List (List (List Message))) (x : Direction) 
 names_other n ways x none b c k d l e =
     let m = get_or (way_at ways b c) k d in
     let count = message-le-messages n (names x) ways b c k d l in
-    let one : names x m ≡ 1 = ap (λ (t : Bool). counted t 1) (ap (λ (z : Direction). is_same z x) e ∙ same_itself x) in
+    let one : names x m ≡ 1 = ap (λ (t : Bool). count_if t 1) (ap (λ (z : Direction). is_same z x) e ∙ same_itself x) in
     omega (arith, count, one, none)
 
-pub names_same : (x : Direction) → counted (is_same x x) 1 ≡ 1
-names_same x = ap (λ (t : Bool). counted t 1) (same_itself x)
+pub names_same : (x : Direction) → count_if (is_same x x) 1 ≡ 1
+names_same x = ap (λ (t : Bool). count_if t 1) (same_itself x)
 
-pub names_not : (x y : Direction) → (x ≡ y → ⊥) → counted (is_same x y) 1 ≡ 0
-names_not x y off = ap (λ (t : Bool). counted t 1) (not_same x y off)
+pub names_not : (x y : Direction) → (x ≡ y → ⊥) → count_if (is_same x y) 1 ≡ 0
+names_not x y off = ap (λ (t : Bool). count_if t 1) (not_same x y off)
 
 pub out_kept : (net : Network) (blocks : ℕ) (lanes lanes' : Lanes) (x : Direction) (a d b c : ℕ) → IsOut net blocks lanes x a d b c
     → (lane_at lanes' x).flight ≡ (lane_at lanes x).flight → IsOut net blocks lanes' x a d b c

@@ -2,7 +2,7 @@
 use Rattle.std.proofs.Common.{◌≡◌, ℕ, ◌+◌, ◌-◌, ◌<◌, ◌≤◌, Bool, true, false, cond, List, [], ◌∷◌, ◌++◌, length, set, get_or, slice_index, All, Some, None, Option, refl, sym, ◌∙◌, ap, inl, inr, arith, get_or-set_other}
 use Rattle.std.specs.List.{AllPairs}
 use Rattle.std.proofs.lemmas.List.Quantifiers.{all_pairs_push}
-use Rattle.sums.specs.Sums.{counted}
+use Rattle.sums.specs.Sums.{count_if}
 use Rattle.flow_network.specs.Cut.{Network, nodes}
 use Rattle.block_events.specs.declared.direction.Direction.{Direction}
 use Rattle.block_events.specs.declared.flight.Flight.{Flight}
@@ -10,14 +10,14 @@ use Rattle.block_events.specs.declared.message.Message.{Message}
 use Rattle.block_events.specs.declared.message.Message.TheVariants.{Parcel, Accepted, Refused}
 use Rattle.block_events.specs.Directions.{forward, backward, opposite, is_same, IsDirection, near, far}
 use Rattle.block_events.specs.States.{State, Lane, Lanes, lane_at, put_lane, way_at, put_message, over_messages, label_of, room_of, flight_of, residual_of, known_of, near_block, far_block, block_of, is_border}
-use Rattle.block_events.specs.Effects.{learned}
-use Rattle.block_events.specs.Events.{IsQuiet, pushed, given, labelled, sent, accepted, refused, settled}
+use Rattle.block_events.specs.Effects.{lane_after_accept}
+use Rattle.block_events.specs.Events.{IsQuiet, after_push, after_sink_push, after_relabel, after_send, after_accept, after_refuse, after_settle}
 use Rattle.block_events.specs.Soundness.{IsSound, IsSquare}
 use Rattle.block_events.proofs.Lanes.{same_itself as same_is, not_same as not_same_is, long_put, lane_other, cases_direction, near_opposite, far_opposite, border_opposite, opposite_twice}
 use Rattle.block_events.proofs.Ways.{EachWay, each_put, square_put, messages_more, all_more}
 use Rattle.block_events.proofs.Local.{set_less, set_rises, each_lane, flights_put, arc_changed, long}
 use Rattle.block_events.proofs.Raising.{quiet_none, quiet_idle}
-use Rattle.block_events.specs.Workers.{IsBetween, IsAddressed, IsFair, noted}
+use Rattle.block_events.specs.Workers.{IsBetween, IsAddressed, IsFair, taken_with}
 use Rattle.block_events.proofs.Fit.{IsFit, learned_at}
 use Rattle.block_events.proofs.Words.{apart, turned, in_range, parcels, taken, back, weight_out, self, counts_same, counts_not, last_of, parcel_of, answer_of, put_at, put_here, put_other, all_last, all_before, last_kept, last_here}
 
@@ -123,7 +123,7 @@ border_not : (net : Network) (blocks : ℕ) (x y : Direction) → is_border net 
 border_not net blocks x y h k e = let same = ap (is_border net blocks) e in let clash : true ≡ false = sym h ∙ (same ∙ k) in cc
 
 pub pushed_logged : (b : ℕ) (old s : State) (x : Direction) (a : ℕ) → IsFit s → IsLogged b old s → IsDirection s.net x → is_border s.net s.blocks x ≡ false
-    → a ≤ residual_of s x → IsLogged b old (pushed s x a)
+    → a ≤ residual_of s x → IsLogged b old (after_push s x a)
 pushed_logged b old s x a fit log lx inner fits =
     let opp = opposite x in
     let arcs = length s.net.arcs in
@@ -156,7 +156,7 @@ pushed_logged b old s x a fit log lx inner fits =
       others = log.others;
     }
 
-pub given_logged : (b : ℕ) (old s : State) (v a : ℕ) → IsFit s → IsLogged b old s → v < nodes s.net → a ≤ room_of s v → block_of s.net s.blocks v ≡ b → IsLogged b old (given s v a)
+pub given_logged : (b : ℕ) (old s : State) (v a : ℕ) → IsFit s → IsLogged b old s → v < nodes s.net → a ≤ room_of s v → block_of s.net s.blocks v ≡ b → IsLogged b old (after_sink_push s v a)
 given_logged b old s v a fit log lv fits mine =
     let lr : v < length s.rooms = omega (arith, lv, fit.sized.rooms) in
     record {
@@ -179,7 +179,7 @@ told_kept net labels labels' (Parcel x a d) up h = omega (arith, h, up (near net
 told_kept net labels labels' (Accepted x a) up h = tt
 told_kept net labels labels' (Refused x a d told) up h = omega (arith, h, up (far net x))
 
-pub relabelled_logged : (b : ℕ) (old s : State) (v d : ℕ) → IsFit s → IsLogged b old s → v < nodes s.net → label_of s v < d → IsLogged b old (labelled s v d)
+pub relabelled_logged : (b : ℕ) (old s : State) (v d : ℕ) → IsFit s → IsLogged b old s → v < nodes s.net → label_of s v < d → IsLogged b old (after_relabel s v d)
 relabelled_logged b old s v d fit log lv higher =
     let l : v < length s.labels = omega (arith, lv, fit.sized.labels) in
     let up = λ (u : ℕ). set_rises s.labels v d u l (omega (arith, higher)) in
@@ -260,7 +260,7 @@ answers_put n x f ways i j more b c m sq li lj under h = elim (put_at n ways i j
 
 pub sent_logged : (b c' : ℕ) (old s : State) (x : Direction) (a : ℕ) → IsFit s → IsLogged b old s → IsBetween s.net s.blocks x b c'
     → 1 ≤ a → a ≤ residual_of s x → label_of s (near s.net x) ≡ known_of s x + 1 → flight_of s x ≡ None
-    → IsLogged b old (sent s x a)
+    → IsLogged b old (after_send s x a)
 sent_logged b c' old s x a fit log o some fits level idle =
     let n = s.blocks in
     let net = s.net in
@@ -344,7 +344,7 @@ refused_other : (x y : Direction) (a d told : ℕ) → (x ≡ y → ⊥) → ans
 refused_other x y a d told off = ap (λ (t : Bool). cond t (Some (Refused x a d told)) None) (not_same_is x y off)
 
 pub accepted_logged : (b c' : ℕ) (old s : State) (x : Direction) (a d : ℕ) → IsFit s → IsLogged b old s → IsBetween s.net s.blocks x c' b
-    → 1 ≤ a → 1 ≤ d → label_of s (far s.net x) + 1 ≡ d → IsLogged b old (accepted s c' b (noted s b c' (Parcel x a d)))
+    → 1 ≤ a → 1 ≤ d → label_of s (far s.net x) + 1 ≡ d → IsLogged b old (after_accept s c' b (taken_with s b c' (Parcel x a d)))
 accepted_logged b c' old s x a d fit log o some some_label level =
     let n = s.blocks in
     let net = s.net in
@@ -360,7 +360,7 @@ accepted_logged b c' old s x a d fit log o some some_label level =
     let off_b = apart net n x c' b o in
     let lng = long s fit.sized in
     let was = lane_at s.lanes opp in
-    let lane = learned was a d in
+    let lane = lane_after_accept was a d in
     let ways1 = put_message s.ways c' b m in
     let ways = put_message ways1 b c' reply in
     let sq1 = square_put n s.ways c' b (way_at s.ways c' b ++ m ∷ []) sq in
@@ -419,7 +419,7 @@ accepted_logged b c' old s x a d fit log o some some_label level =
             counts_not x (opposite y) a (λ e. off (sym (opposite_twice y) ∙ ap opposite (sym e))),
           ))
           (λ c p.
-          let turn = ap (λ q. counted (is_same x q) a) (opposite_twice x) in
+          let turn = ap (λ q. count_if (is_same x q) a) (opposite_twice x) in
           omega (
             arith,
             log.residual opp lx c p,
@@ -462,7 +462,7 @@ accepted_logged b c' old s x a d fit log o some some_label level =
     }
 
 pub refused_logged : (b c' : ℕ) (old s : State) (x : Direction) (a d : ℕ) → IsFit s → IsLogged b old s → IsBetween s.net s.blocks x c' b
-    → 1 ≤ a → 1 ≤ d → d ≤ label_of s (far s.net x) → IsLogged b old (refused s c' b (noted s b c' (Parcel x a d)))
+    → 1 ≤ a → 1 ≤ d → d ≤ label_of s (far s.net x) → IsLogged b old (after_refuse s c' b (taken_with s b c' (Parcel x a d)))
 refused_logged b c' old s x a d fit log o some some_label high =
     let n = s.blocks in
     let net = s.net in
@@ -541,7 +541,7 @@ refused_logged b c' old s x a d fit log o some some_label high =
 -- ---- an answer that the block takes
 
 pub taken_logged : (b c' : ℕ) (old s : State) (x : Direction) (a d : ℕ) → IsFit s → IsLogged b old s → IsBetween s.net s.blocks x b c'
-    → 1 ≤ a → flight_of s x ≡ Some (record { amount = a; label = d }) → IsLogged b old (settled s c' b (noted s b c' (Accepted x a)))
+    → 1 ≤ a → flight_of s x ≡ Some (record { amount = a; label = d }) → IsLogged b old (after_settle s c' b (taken_with s b c' (Accepted x a)))
 taken_logged b c' old s x a d fit log o some fly =
     let n = s.blocks in
     let net = s.net in
@@ -588,7 +588,7 @@ taken_logged b c' old s x a d fit log o some fly =
     }
 
 pub returned_logged : (b c' : ℕ) (old s : State) (x : Direction) (a d told : ℕ) → IsFit s → IsLogged b old s → IsBetween s.net s.blocks x b c'
-    → 1 ≤ a → 1 ≤ d → d ≤ told → flight_of s x ≡ Some (record { amount = a; label = d }) → IsLogged b old (settled s c' b (noted s b c' (Refused x a d told)))
+    → 1 ≤ a → 1 ≤ d → d ≤ told → flight_of s x ≡ Some (record { amount = a; label = d }) → IsLogged b old (after_settle s c' b (taken_with s b c' (Refused x a d told)))
 returned_logged b c' old s x a d told fit log o some some_label high fly =
     let n = s.blocks in
     let net = s.net in

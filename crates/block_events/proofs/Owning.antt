@@ -1,7 +1,7 @@
 -- What a parcel in front brings fits: why a parcel must not stand before the answer of the opposite direction.
 use Rattle.std.proofs.Common.{◌≡◌, ℕ, suc, ◌+◌, ◌<◌, ◌≤◌, Bool, true, false, List, [], ◌∷◌, length, get_or, sum, Some, refl, sym, ◌∙◌, ap, inl, inr, arith}
 use Rattle.std.proofs.lemmas.Bool.{cases_eq, cases_lt, cases_Bool, eq-eqb}
-use Rattle.sums.specs.Sums.{counted}
+use Rattle.sums.specs.Sums.{count_if}
 use Rattle.sums.proofs.SumLemmas.{counted-le}
 use Rattle.flow_network.specs.Cut.{nodes}
 use Rattle.flow_network.specs.Preflow.{arc_at}
@@ -62,7 +62,7 @@ some_message f ways d h =
 -- ---- the two directions of an arc
 
 abbrev carries_along : Direction → Message → ℕ
-carries_along x m = counted (is_same (direction_of m) x) (carries m)
+carries_along x m = count_if (is_same (direction_of m) x) (carries m)
 
 both_along : (x : Direction) (m : Message) → carries_along x m + carries_along (opposite x) m ≤ carries_on x.arc m
 both_along x m =
@@ -70,19 +70,19 @@ both_along x m =
     let a = carries m in
     elim (cases_direction y x) [
       | inl e ↦
-          let one = ap (λ (t : Bool). counted t a) (ap (λ (z : Direction). is_same z x) e ∙ same_itself x) in
-          let other = ap (λ (t : Bool). counted t a) (not_same y (opposite x) (λ h. opposite_other x (sym e ∙ h))) in
-          let arc = ap (λ (t : Bool). counted t a) (eq-eqb y.arc x.arc (ap (λ (z : Direction). z.arc) e)) in
+          let one = ap (λ (t : Bool). count_if t a) (ap (λ (z : Direction). is_same z x) e ∙ same_itself x) in
+          let other = ap (λ (t : Bool). count_if t a) (not_same y (opposite x) (λ h. opposite_other x (sym e ∙ h))) in
+          let arc = ap (λ (t : Bool). count_if t a) (eq-eqb y.arc x.arc (ap (λ (z : Direction). z.arc) e)) in
           omega (arith, one, other, arc)
       | inr off ↦ elim (cases_direction y (opposite x)) [
         | inl e ↦
-            let none = ap (λ (t : Bool). counted t a) (not_same y x off) in
-            let arc = ap (λ (t : Bool). counted t a) (eq-eqb y.arc x.arc (ap (λ (z : Direction). z.arc) e)) in
+            let none = ap (λ (t : Bool). count_if t a) (not_same y x off) in
+            let arc = ap (λ (t : Bool). count_if t a) (eq-eqb y.arc x.arc (ap (λ (z : Direction). z.arc) e)) in
             let part = counted-le (is_same y (opposite x)) a in
             omega (arith, none, arc, part)
         | inr off' ↦
-            let none = ap (λ (t : Bool). counted t a) (not_same y x off) in
-            let none' = ap (λ (t : Bool). counted t a) (not_same y (opposite x) off') in
+            let none = ap (λ (t : Bool). count_if t a) (not_same y x off) in
+            let none' = ap (λ (t : Bool). count_if t a) (not_same y (opposite x) off') in
             omega (arith, none, none')
       ]
     ]
@@ -90,7 +90,7 @@ both_along x m =
 names_means : (x : Direction) (m : Message) → 0 < names x m → direction_of m ≡ x
 names_means x m h = elim (cases_Bool (is_same (direction_of m) x)) [
   | inl holds ↦ same_means (direction_of m) x holds
-  | inr fails ↦ let none = ap (λ (t : Bool). counted t 1) fails in absurd (omega (arith, h, none))
+  | inr fails ↦ let none = ap (λ (t : Bool). count_if t 1) fails in absurd (omega (arith, h, none))
 ]
 
 amount_is : (a d : ℕ) (g : Flight) → Some (record { amount = a; label = d }) ≡ Some g → a ≡ g.amount
@@ -148,7 +148,7 @@ accept_fits s b c x a d rest sound front level =
     let lf : 0 < length (way_at s.ways b c) = (let len = ap length front in omega (arith, len)) in
     let head : get_or (way_at s.ways b c) 0 m ≡ m = rw front refl in
     let one = message-le-messages s.blocks (carries_along x) s.ways b c 0 m lf in
-    let mine : carries_along x (get_or (way_at s.ways b c) 0 m) ≡ a = ap (carries_along x) head ∙ ap (λ (t : Bool). counted t a) (same_itself x) in
+    let mine : carries_along x (get_or (way_at s.ways b c) 0 m) ≡ a = ap (carries_along x) head ∙ ap (λ (t : Bool). count_if t a) (same_itself x) in
     let whole = sound.arcs k o.direction in
     let sides = residual-le s x in
     let theirs : amount_out (flight_of s opp) ≤ over_messages (carries_along opp) s.ways = elim (cases_flight (flight_of s opp)) [
@@ -161,7 +161,7 @@ accept_fits s b c x a d rest sound front level =
           let amount = opposite_carries s b c found.0 found.1 found.2 x a d rest g n sound front o.near o.far level is found.3 refl
           (sound.belong found.0 found.1 found.2 m found.3) e in
           let part = message-le-messages s.blocks (carries_along opp) s.ways found.0 found.1 found.2 m found.3 in
-          let here : carries_along opp n ≡ carries n = ap (λ (t : Bool). counted t (carries n)) (ap (λ (z : Direction). is_same z opp) e ∙ same_itself opp) in
+          let here : carries_along opp n ≡ carries n = ap (λ (t : Bool). count_if t (carries n)) (ap (λ (z : Direction). is_same z opp) e ∙ same_itself opp) in
           omega (arith, ap amount_out is, amount, part, here)
     ] in
     (omega (arith, at_x.2, low), omega (arith, split, add, one, mine, whole, sides, theirs))
@@ -175,7 +175,7 @@ settle_fits s b c x a d told rest sound front =
     let lf : 0 < length (way_at s.ways b c) = (let len = ap length front in omega (arith, len)) in
     let head : get_or (way_at s.ways b c) 0 m ≡ m = rw front refl in
     let one = message-le-messages s.blocks (carries_on x.arc) s.ways b c 0 m lf in
-    let mine : carries_on x.arc (get_or (way_at s.ways b c) 0 m) ≡ a = ap (carries_on x.arc) head ∙ ap (λ (t : Bool). counted t a) (eq-eqb x.arc x.arc refl) in
+    let mine : carries_on x.arc (get_or (way_at s.ways b c) 0 m) ≡ a = ap (carries_on x.arc) head ∙ ap (λ (t : Bool). count_if t a) (eq-eqb x.arc x.arc refl) in
     let low = sound.top (far s.net x) (far_in s.net x sound.sized.net o.0.direction) in
     let sides = residual-le s (opposite x) in
     let turn = ap (residual_of s) (opposite_twice x) in

@@ -2,7 +2,7 @@
 use Rattle.std.proofs.Common.{◌≡◌, ℕ, zero, suc, ◌+◌, ◌-◌, ◌<◌, ◌≤◌, Bool, true, false, ◌&&◌, cond, eqb, ltb, min, List, [], ◌∷◌, length, Option, refl, sym, ◌∙◌, ap, subst, inl, inr, ◌⊎◌, arith}
 use Rattle.std.specs.Option.{is_some}
 use Rattle.std.proofs.lemmas.Bool.{cases_eq, cases_lt, cases_Bool, ne_eqb, false≢true}
-use Rattle.sums.specs.Sums.{counted}
+use Rattle.sums.specs.Sums.{count_if}
 use Rattle.sums.proofs.SumLemmas.{counted-same, counted-other}
 use Rattle.flow_network.specs.Cut.{nodes}
 use Rattle.flow_network.specs.Progress.{top}
@@ -10,7 +10,7 @@ use Rattle.block_events.specs.declared.direction.Direction.{Direction}
 use Rattle.block_events.specs.declared.message.Message.{Message}
 use Rattle.block_events.specs.declared.message.Message.TheVariants.{Parcel, Accepted, Refused}
 use Rattle.block_events.specs.Directions.{forward, backward, IsDirection, near, far}
-use Rattle.block_events.specs.States.{State, Flight, way_at, excess_of, label_of, room_of, flight_of, residual_of, known_of, is_border, seen, IsWay}
+use Rattle.block_events.specs.States.{State, Flight, way_at, excess_of, label_of, room_of, flight_of, residual_of, known_of, is_border, seen_label, IsWay}
 use Rattle.block_events.specs.Soundness.{IsSound, out}
 use Rattle.block_events.proofs.Ends.{far_in}
 use Rattle.block_events.proofs.Replies.{front_out}
@@ -19,8 +19,8 @@ use Rattle.sums.specs.Sums.{sum_below}
 use Rattle.sums.proofs.SumLemmas.{sum_below-swap, sum_below-pick, sum_below-none, term-le-sum_below}
 use Rattle.block_events.specs.declared.event.Event.{Event}
 use Rattle.block_events.specs.declared.event.Event.TheVariants.{PushInner, PushSink, Relabel, Send, Accept, Refuse, Settle, RaiseAll}
-use Rattle.block_events.specs.Reach.{ReachesIn, Reaches}
-use Rattle.block_events.specs.Events.{IsActive, IsQuiet, is_open, allowed, MayAccept, MayRefuse, Enabled}
+use Rattle.block_events.specs.Reach.{ReachesSinkIn, ReachesSink}
+use Rattle.block_events.specs.Events.{IsActive, IsQuiet, is_open_direction, allowed_label, MayAccept, MayRefuse, IsEnabled}
 use Rattle.block_events.specs.Soundness.{IsFinished}
 use Rattle.block_events.proofs.Inside.{lt-least}
 use Rattle.block_events.proofs.Raising.{quiet_idle, seen-le}
@@ -42,7 +42,7 @@ search_below (suc n) P Q each = elim (search_below n P Q (λ i l. each i (omega 
 
 -- an event other than `RaiseAll` that is enabled
 abbrev pub HasEvent : State → Type 0
-HasEvent s = (e : Event) × (e ≡ RaiseAll → ⊥) × Enabled s e
+HasEvent s = (e : Event) × (e ≡ RaiseAll → ⊥) × IsEnabled s e
 
 -- ---- a message in front
 
@@ -89,15 +89,15 @@ allowed_at true false y z d top h = top
 allowed_at false u y z d top h = top
 
 -- a direction either lets the node push, or does not hold its label
-direction_event : (s : State) (v : ℕ) (x : Direction) → IsSound s → IsQuiet s → IsActive s v → IsDirection s.net x → HasEvent s ⊎ (label_of s v < allowed s v x)
+direction_event : (s : State) (v : ℕ) (x : Direction) → IsSound s → IsQuiet s → IsActive s v → IsDirection s.net x → HasEvent s ⊎ (label_of s v < allowed_label s v x)
 direction_event s v x sound quiet active lx =
     let idle = quiet_idle s sound quiet x lx in
     elim (cases_eq (near s.net x) v) [
       | inr off ↦
           let other : eqb (near s.net x) v ≡ false = ne_eqb (near s.net x) v off in
-          inr (allowed_at (eqb (near s.net x) v) (is_open s x) (seen s x + 1) (top s.net) (label_of s v) active.below (λ h. absurd (false≢true (sym other ∙ h))))
+          inr (allowed_at (eqb (near s.net x) v) (is_open_direction s x) (seen_label s x + 1) (top s.net) (label_of s v) active.below (λ h. absurd (false≢true (sym other ∙ h))))
       | inl at_v ↦ elim (cases_lt 0 (residual_of s x)) [
-        | inr full ↦ inr (allowed_at (eqb (near s.net x) v) (is_open s x) (seen s x + 1) (top s.net) (label_of s v) active.below (λ h opens.
+        | inr full ↦ inr (allowed_at (eqb (near s.net x) v) (is_open_direction s x) (seen_label s x + 1) (top s.net) (label_of s v) active.below (λ h opens.
             elim (or_cases (ltb 0 (residual_of s x)) (is_border s.net s.blocks x && is_some (flight_of s x)) opens) [
               | inl some ↦ let some' = ltb-true 0 (residual_of s x) some in absurd (omega arith)
               | inr out ↦
@@ -108,14 +108,14 @@ direction_event s v x sound quiet active lx =
             let label = ap (label_of s) at_v in
             let steep = sound.steep x lx some in
             let active' : IsActive s (near s.net x) = subst (λ (u : ℕ). IsActive s u) (sym at_v) active in
-            elim (cases_lt (label_of s v) (seen s x + 1)) [
-              | inl low ↦ inr (allowed_at (eqb (near s.net x) v) (is_open s x) (seen s x + 1) (top s.net) (label_of s v) active.below (λ h opens. low))
+            elim (cases_lt (label_of s v) (seen_label s x + 1)) [
+              | inl low ↦ inr (allowed_at (eqb (near s.net x) v) (is_open_direction s x) (seen_label s x + 1) (top s.net) (label_of s v) active.below (λ h opens. low))
               | inr level ↦ inl (elim (cases_Bool (is_border s.net s.blocks x)) [
                 | inl border ↦
-                    let seen_is : seen s x ≡ known_of s x = rw border refl in
+                    let seen_is : seen_label s x ≡ known_of s x = rw border refl in
                     (Send x, (λ h. absurd (cc)), (lx, border, active', some, omega (arith, label, steep, level, seen_is), idle))
                 | inr inner ↦
-                    let seen_is : seen s x ≡ label_of s (far s.net x) = rw inner refl in
+                    let seen_is : seen_label s x ≡ label_of s (far s.net x) = rw inner refl in
                     (PushInner x, (λ h. absurd (cc)), (lx, inner, active', some, omega (arith, label, steep, level, seen_is)))
               ])
             ]
@@ -128,7 +128,7 @@ start_at false z d top h = top
 
 node_event : (s : State) (v : ℕ) → IsSound s → IsQuiet s → IsActive s v → HasEvent s
 node_event s v sound quiet active =
-    elim (search_below (length s.net.arcs) (λ k. HasEvent s) (λ k. label_of s v < min (allowed s v (forward k)) (allowed s v (backward k))) (λ k lk.
+    elim (search_below (length s.net.arcs) (λ k. HasEvent s) (λ k. label_of s v < min (allowed_label s v (forward k)) (allowed_label s v (backward k))) (λ k lk.
     elim (direction_event s v (forward k) sound quiet active lk) [
       | inl found ↦ inl found
       | inr forth ↦ elim (direction_event s v (backward k) sound quiet active lk) [
@@ -142,14 +142,14 @@ node_event s v sound quiet active =
             | inr other ↦
                 let start = start_at (ltb 0 (room_of s v)) (top s.net) (label_of s v) active.below (λ h.
                 (let low = sound.sink v active.node (ltb-true 0 (room_of s v) h) in omega arith)) in
-                let high = lt-least (length s.net.arcs) (λ k. min (allowed s v (forward k)) (allowed s v (backward k))) (cond (ltb 0 (room_of s v)) 1 (top s.net)) (label_of s v) start none in
+                let high = lt-least (length s.net.arcs) (λ k. min (allowed_label s v (forward k)) (allowed_label s v (backward k))) (cond (ltb 0 (room_of s v)) 1 (top s.net)) (label_of s v) start none in
                 (Relabel v, (λ h. absurd (cc)), (active, high))
             | inl one ↦ elim (cases_lt 0 (room_of s v)) [
               | inl some ↦ (PushSink v, (λ h. absurd (cc)), (active, some, one))
               | inr full ↦
                   let start = start_at (ltb 0 (room_of s v)) (top s.net) (label_of s v) active.below (λ h.
                   (let low = ltb-true 0 (room_of s v) h in absurd (omega arith))) in
-                  let high = lt-least (length s.net.arcs) (λ k. min (allowed s v (forward k)) (allowed s v (backward k))) (cond (ltb 0 (room_of s v)) 1 (top s.net)) (label_of s v) start none in
+                  let high = lt-least (length s.net.arcs) (λ k. min (allowed_label s v (forward k)) (allowed_label s v (backward k))) (cond (ltb 0 (room_of s v)) 1 (top s.net)) (label_of s v) start none in
                   (Relabel v, (λ h. absurd (cc)), (active, high))
             ]
           ]
@@ -164,10 +164,10 @@ gap_below (suc n) f h = elim (cases_eq (f (suc n)) 0) [
   | inr some ↦ let found = gap_below n f (omega (arith, h, some)) in (found.0, omega (arith, found.1), found.2)
 ]
 
-pick-le : (k u : ℕ) → sum_below k (λ g. counted (eqb u g) 1) ≤ 1
+pick-le : (k u : ℕ) → sum_below k (λ g. count_if (eqb u g) 1) ≤ 1
 pick-le k u = elim (cases_lt u k) [
   | inl inside ↦ omega (arith, sum_below-pick k u (λ g. 1) inside)
-  | inr past ↦ omega (arith, sum_below-none k (λ g. counted (eqb u g) 1) (λ g l. counted-other u g 1 (λ e. absurd (omega arith))))
+  | inr past ↦ omega (arith, sum_below-none k (λ g. count_if (eqb u g) 1) (λ g l. counted-other u g 1 (λ e. absurd (omega arith))))
 ]
 
 ones : (n : ℕ) (f : ℕ → ℕ) → ((i : ℕ) → i < n → f i ≤ 1) → sum_below n f ≤ n
@@ -177,22 +177,22 @@ ones (suc n) f h = omega (arith, ones n f (λ i l. h i (omega arith)), h n (omeg
 -- some number from 1 to n + 1 is the label of no node
 pub label_gap : (n : ℕ) (f : ℕ → ℕ) → (g : ℕ) × (g < suc n) × ((v : ℕ) → v < n → f v ≡ g + 1 → ⊥)
 label_gap n f =
-    let has = λ (g : ℕ). sum_below n (λ v. counted (eqb (f v - 1) g) 1) in
-    let turn = sum_below-swap (suc n) n (λ g v. counted (eqb (f v - 1) g) 1) in
-    let few = ones n (λ v. sum_below (suc n) (λ g. counted (eqb (f v - 1) g) 1)) (λ v l. pick-le (suc n) (f v - 1)) in
+    let has = λ (g : ℕ). sum_below n (λ v. count_if (eqb (f v - 1) g) 1) in
+    let turn = sum_below-swap (suc n) n (λ g v. count_if (eqb (f v - 1) g) 1) in
+    let few = ones n (λ v. sum_below (suc n) (λ g. count_if (eqb (f v - 1) g) 1)) (λ v l. pick-le (suc n) (f v - 1)) in
     let found = gap_below n has (omega (arith, turn, few)) in (
       found.0,
       found.1,
       λ v l e.
-          let term = term-le-sum_below n (λ u. counted (eqb (f u - 1) found.0) 1) v l in
+          let term = term-le-sum_below n (λ u. count_if (eqb (f u - 1) found.0) 1) v l in
           let same : f v - 1 ≡ found.0 = omega (arith, e) in
-          let one = ap (λ q. counted (eqb q found.0) 1) same ∙ counted-same found.0 1 in
+          let one = ap (λ q. count_if (eqb q found.0) 1) same ∙ counted-same found.0 1 in
           omega (arith, term, one, found.2),
     )
 
 -- no path leads from above a gap to the sink
 above_gap : (s : State) → IsSound s → (g : ℕ) → ((v : ℕ) → v < nodes s.net → label_of s v ≡ g + 1 → ⊥)
-    → (d v : ℕ) → g + 1 < label_of s v → ReachesIn s d v → ⊥
+    → (d v : ℕ) → g + 1 < label_of s v → ReachesSinkIn s d v → ⊥
 above_gap s sound g gap zero v high path = path
 above_gap s sound g gap (suc zero) v high (lv, room) = omega (arith, high, sound.sink v lv room)
 above_gap s sound g gap (suc (suc d)) v high (x, lx, at_v, some, path) =
@@ -206,7 +206,7 @@ above_gap s sound g gap (suc (suc d)) v high (x, lx, at_v, some, path) =
     ]
 
 -- a node with the top label does not reach the sink
-pub top_unreached : (s : State) (v : ℕ) → IsSound s → top s.net ≤ label_of s v → ¬ Reaches s v
+pub top_unreached : (s : State) (v : ℕ) → IsSound s → top s.net ≤ label_of s v → ¬ ReachesSink s v
 top_unreached s v sound high = λ path.
     let gap = label_gap (nodes s.net) (label_of s) in
     above_gap s sound gap.0 gap.2 path.0 v (omega (arith, gap.1, high)) path.1

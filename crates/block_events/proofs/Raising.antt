@@ -1,13 +1,13 @@
 -- Exact labels keep a state sound.
 use Rattle.std.proofs.Common.{◌≡◌, ℕ, zero, suc, ◌+◌, ◌<◌, ◌≤◌, Bool, true, false, cond, eqb, List, [], length, get_or, slice_index, Some, None, Option, refl, sym, ◌∙◌, ap, inl, inr, arith}
 use Rattle.std.proofs.lemmas.Bool.{cases_lt, cases_Bool}
-use Rattle.sums.specs.Sums.{counted}
+use Rattle.sums.specs.Sums.{count_if}
 use Rattle.flow_network.specs.Cut.{nodes}
 use Rattle.flow_network.specs.Progress.{top}
 use Rattle.block_events.specs.declared.direction.Direction.{Direction}
 use Rattle.block_events.specs.declared.message.Message.{Message}
 use Rattle.block_events.specs.Directions.{forward, backward, IsDirection, near, far}
-use Rattle.block_events.specs.States.{State, Lane, Flight, lane_at, over_messages, label_of, flight_of, residual_of, known_of, is_border, seen}
+use Rattle.block_events.specs.States.{State, Lane, Flight, lane_at, over_messages, label_of, flight_of, residual_of, known_of, is_border, seen_label}
 use Rattle.block_events.specs.Soundness.{IsSound, IsSquare, names, out}
 use Rattle.block_events.proofs.Ways.{EachWay}
 use Rattle.block_events.proofs.Ends.{near_in, far_in}
@@ -16,9 +16,9 @@ use Rattle.std.proofs.lemmas.List.FromFn.{get_or-map-range_with_len, length-map-
 use Rattle.sums.proofs.SumLemmas.{sum_by-sum_below, sum_below-none, sum_below-same}
 use Rattle.std.proofs.Common.{sum_by}
 use Rattle.block_events.specs.States.{no_lane}
-use Rattle.block_events.specs.Reach.{ReachesIn, IsExact, AreExact}
+use Rattle.block_events.specs.Reach.{ReachesSinkIn, IsExact, AreExact}
 use Rattle.block_events.specs.Effects.{view_of, told_lane}
-use Rattle.block_events.specs.Events.{IsQuiet, raised}
+use Rattle.block_events.specs.Events.{IsQuiet, after_raise_all}
 
 -- ---- a quiet state
 
@@ -49,13 +49,13 @@ quiet_idle s sound quiet x lx = out_none (flight_of s x) (sym (sound.named x lx)
 
 -- ---- labels are at most the lengths of residual paths
 
-pub seen-le : (s : State) (x : Direction) → IsSound s → IsDirection s.net x → seen s x ≤ label_of s (far s.net x)
+pub seen-le : (s : State) (x : Direction) → IsSound s → IsDirection s.net x → seen_label s x ≤ label_of s (far s.net x)
 seen-le s x sound lx = elim (cases_Bool (is_border s.net s.blocks x)) [
   | inl border ↦ rw border (sound.known x lx border)
   | inr inner ↦ rw inner (omega arith)
 ]
 
-pub label-le-path : (s : State) → IsSound s → (d v : ℕ) → ReachesIn s d v → label_of s v ≤ d
+pub label-le-path : (s : State) → IsSound s → (d v : ℕ) → ReachesSinkIn s d v → label_of s v ≤ d
 label-le-path s sound zero v path = absurd path
 label-le-path s sound (suc zero) v (l, room) = sound.sink v l room
 label-le-path s sound (suc (suc d)) v (x, lx, at_v, some, path) =
@@ -70,11 +70,11 @@ pub exact-le-top : (s : State) (v label : ℕ) → IsExact s v label → label �
 exact-le-top s v label (inl near) = omega (arith, near.0)
 exact-le-top s v label (inr far) = omega (arith, far.0)
 
-pub exact-le-path : (s : State) (v label d : ℕ) → IsExact s v label → ReachesIn s d v → label ≤ d
+pub exact-le-path : (s : State) (v label d : ℕ) → IsExact s v label → ReachesSinkIn s d v → label ≤ d
 exact-le-path s v label d (inl near) path = near.2 d path
 exact-le-path s v label d (inr far) path = absurd (far.1 (d, path))
 
-one_more : (s : State) (x : Direction) (d : ℕ) → IsDirection s.net x → 0 < residual_of s x → ReachesIn s d (far s.net x) → ReachesIn s (suc d) (near s.net x)
+one_more : (s : State) (x : Direction) (d : ℕ) → IsDirection s.net x → 0 < residual_of s x → ReachesSinkIn s d (far s.net x) → ReachesSinkIn s (suc d) (near s.net x)
 one_more s x zero lx some path = absurd path
 one_more s x (suc d) lx some path = (x, lx, refl, some, path)
 
@@ -104,17 +104,17 @@ one_exact s labels other a b =
 -- ---- the lanes of a raised state
 
 told_at : (s : State) (labels : List ℕ) (k : ℕ) (b : Bool) → k < length s.net.arcs
-    → lane_at (raised s labels).lanes (record { arc = k; back = b }) ≡ told_lane (record (view_of s) { labels = labels }) (record { arc = k; back = b })
+    → lane_at (after_raise_all s labels).lanes (record { arc = k; back = b }) ≡ told_lane (record (view_of s) { labels = labels }) (record { arc = k; back = b })
 told_at s labels k true l = get_or-map-range_with_len (λ (i : ℕ). told_lane (record (view_of s) { labels = labels }) (backward i)) 0 (length s.net.arcs) k k no_lane l (omega arith)
 told_at s labels k false l = get_or-map-range_with_len (λ (i : ℕ). told_lane (record (view_of s) { labels = labels }) (forward i)) 0 (length s.net.arcs) k k no_lane l (omega arith)
 
-pub told_is : (s : State) (labels : List ℕ) (x : Direction) → IsDirection s.net x → lane_at (raised s labels).lanes x ≡ told_lane (record (view_of s) { labels = labels }) x
+pub told_is : (s : State) (labels : List ℕ) (x : Direction) → IsDirection s.net x → lane_at (after_raise_all s labels).lanes x ≡ told_lane (record (view_of s) { labels = labels }) x
 told_is s labels x l = told_at s labels x.arc x.back l
 
-pub raised_kept : (s : State) (labels : List ℕ) → IsSound s → IsQuiet s → AreExact s labels → IsSound (raised s labels)
+pub raised_kept : (s : State) (labels : List ℕ) → IsSound s → IsQuiet s → AreExact s labels → IsSound (after_raise_all s labels)
 raised_kept s labels sound quiet exact =
     let arcs = length s.net.arcs in
-    let lanes = (raised s labels).lanes in
+    let lanes = (after_raise_all s labels).lanes in
     let is = λ (x : Direction) (l : IsDirection s.net x). told_is s labels x l in
     let residual = λ (x : Direction) (l : IsDirection s.net x). ap (λ (q : Lane). q.residual) (is x l) in
     let flight = λ (x : Direction) (l : IsDirection s.net x). ap (λ (q : Lane). q.flight) (is x l) in
@@ -139,9 +139,9 @@ raised_kept s labels sound quiet exact =
       rooms = sound.rooms;
       balance = λ u lu.
           let all = sum_below-same arcs
-          (λ k. counted (eqb (near s.net (forward k)) u) (lane_at lanes (forward k)).residual + counted (eqb (near s.net (backward k)) u) (lane_at lanes (backward k)).residual)
-          (λ k. counted (eqb (near s.net (forward k)) u) (residual_of s (forward k)) + counted (eqb (near s.net (backward k)) u) (residual_of s (backward k)))
-          (λ k lk. omega (arith, ap (counted (eqb (near s.net (forward k)) u)) (residual (forward k) lk), ap (counted (eqb (near s.net (backward k)) u)) (residual (backward k) lk))) in
+          (λ k. count_if (eqb (near s.net (forward k)) u) (lane_at lanes (forward k)).residual + count_if (eqb (near s.net (backward k)) u) (lane_at lanes (backward k)).residual)
+          (λ k. count_if (eqb (near s.net (forward k)) u) (residual_of s (forward k)) + count_if (eqb (near s.net (backward k)) u) (residual_of s (backward k)))
+          (λ k lk. omega (arith, ap (count_if (eqb (near s.net (forward k)) u)) (residual (forward k) lk), ap (count_if (eqb (near s.net (backward k)) u)) (residual (backward k) lk))) in
           omega (arith, sound.balance u lu, all);
       top = λ v lv. exact-le-top s v (slice_index labels v) (exact.exact v lv);
       sink = λ v lv some. exact-le-path s v (slice_index labels v) 1 (exact.exact v lv) (lv, some);

@@ -4,15 +4,15 @@ use Rattle.std.specs.List.{AllPairs}
 use Rattle.std.specs.Option.{is_some}
 use Rattle.std.proofs.lemmas.List.{length-set}
 use Rattle.std.proofs.lemmas.List.Quantifiers.{all_pairs_push}
-use Rattle.sums.specs.Sums.{counted}
+use Rattle.sums.specs.Sums.{count_if}
 use Rattle.flow_network.specs.Cut.{Network}
 use Rattle.block_events.specs.declared.direction.Direction.{Direction}
 use Rattle.block_events.specs.declared.message.Message.{Message}
 use Rattle.block_events.specs.declared.message.Message.TheVariants.{Parcel, Accepted, Refused}
 use Rattle.block_events.specs.Directions.{opposite, IsDirection, near, far}
 use Rattle.block_events.specs.States.{State, Lanes, Flight, lane_at, put_lane, way_at, put_way, put_message, over_messages, excess_of, label_of, flight_of, is_border, IsWay}
-use Rattle.block_events.specs.Effects.{learned}
-use Rattle.block_events.specs.Events.{accepted, refused}
+use Rattle.block_events.specs.Effects.{lane_after_accept}
+use Rattle.block_events.specs.Events.{after_accept, after_refuse}
 use Rattle.block_events.specs.Soundness.{IsSound, IsSquare, Belongs, IsBehind, names, carries, carries_on, out}
 use Rattle.block_events.proofs.Lanes.{long_put, near_opposite, far_opposite, border_opposite}
 use Rattle.block_events.proofs.Ways.{EachWay, each_put, square_put, messages_more, messages_less, all_rest, all_front, all_more, pairs_rest}
@@ -77,7 +77,7 @@ front_out s b c m rest sound e = all_front (Belongs s.net s.blocks s.lanes s.lab
 -- ---- refused
 
 pub refused_kept : (s : State) (b c : ℕ) (x : Direction) (a d : ℕ) (rest : List Message) → IsSound s → IsWay s b c
-    → way_at s.ways b c ≡ Parcel x a d ∷ rest → d ≤ label_of s (far s.net x) → IsSound (refused s b c (Parcel x a d ∷ rest))
+    → way_at s.ways b c ≡ Parcel x a d ∷ rest → d ≤ label_of s (far s.net x) → IsSound (after_refuse s b c (Parcel x a d ∷ rest))
 refused_kept s b c x a d rest sound way e high =
     let m : Message = Parcel x a d in
     let told = label_of s (far s.net x) in
@@ -139,7 +139,7 @@ behind_accepted s lanes b c x a d (Accepted y z) sound same lx out level o = tt
 behind_accepted s lanes b c x a d (Refused y z k t) sound same lx out level o = tt
 
 pub accepted_kept : (s : State) (b c : ℕ) (x : Direction) (a d : ℕ) (rest : List Message) → IsSound s → IsWay s b c
-    → way_at s.ways b c ≡ Parcel x a d ∷ rest → label_of s (far s.net x) + 1 ≡ d → IsSound (accepted s b c (Parcel x a d ∷ rest))
+    → way_at s.ways b c ≡ Parcel x a d ∷ rest → label_of s (far s.net x) + 1 ≡ d → IsSound (after_accept s b c (Parcel x a d ∷ rest))
 accepted_kept s b c x a d rest sound way e level =
     let m : Message = Parcel x a d in
     let reply : Message = Accepted x a in
@@ -150,7 +150,7 @@ accepted_kept s b c x a d rest sound way e level =
     let lx : x.arc < arcs = o.direction in
     let opp = opposite x in
     let old = lane_at s.lanes opp in
-    let lane = learned old a d in
+    let lane = lane_after_accept old a d in
     let lanes = put_lane s.lanes opp lane in
     let lng = long s sound.sized in
     let w = far s.net x in
@@ -192,7 +192,7 @@ accepted_kept s b c x a d rest sound way e level =
       got = sound.got;
       rooms = sound.rooms;
       balance = λ u lu.
-          let turn = ap (λ q. counted (eqb q u) a) near_is in
+          let turn = ap (λ q. count_if (eqb q u) a) near_is in
           omega (arith, sound.balance u lu, set_more s.excess w a u lw, leaving_changed s.net s.lanes opp lane 0 a u lng lx (omega arith), counted_none (eqb (near s.net opp) u), turn);
       top = sound.top;
       sink = sound.sink;

@@ -8,12 +8,12 @@ use Rattle.block_events.specs.declared.event.Event.{Event}
 use Rattle.block_events.specs.declared.event.Event.TheVariants.{PushInner, PushSink, Relabel, Send, Accept, Refuse, Settle, RaiseAll}
 use Rattle.block_events.specs.Directions.{far}
 use Rattle.block_events.specs.States.{State, way_at, put_way, put_message, label_of, near_block, far_block}
-use Rattle.block_events.specs.Events.{effect, IsActive, accepted, refused, settled, MayAccept, MayRefuse, Happens, Run}
+use Rattle.block_events.specs.Events.{effect, IsActive, after_accept, after_refuse, after_settle, MayAccept, MayRefuse, Happens, IsRunOfEvents}
 use Rattle.block_events.specs.Soundness.{IsSound, IsSquare}
 use Rattle.block_events.proofs.Ways.{square_put, way_same, way_other}
 use Rattle.block_events.proofs.Kept.{kept}
 use Rattle.block_events.proofs.Opening.{opened_square}
-use Rattle.block_events.specs.Workers.{IsBetween, MayTake, FitsFlight, noted, DoesOwn, IsHistory}
+use Rattle.block_events.specs.Workers.{IsBetween, MayTake, FitsFlight, taken_with, DoesOwn, IsHistory}
 use Rattle.block_events.specs.RoundLaws.{with_ways, no_messages, IsPassed}
 use Rattle.block_events.proofs.Words.{apart, in_range, put_here, put_other}
 
@@ -82,8 +82,8 @@ record Goes (b : ℕ) (first : List (List (List Message))) (l : State) (ways : L
   pub beside : IsPassed b first l'.ways ways'
 
 accept_goes : (b c : ℕ) (first : List (List (List Message))) (l : State) (ways : List (List (List Message))) (m : Message) → IsSound (with_ways l ways) → IsSquare l.blocks l.ways
-    → IsPassed b first l.ways ways → MayTake l b c m → MayAccept l (m ∷ []) → Begins b first (accepted l c b (noted l b c m)).ways
-    → Goes b first l ways (Accept c b) (accepted l c b (noted l b c m))
+    → IsPassed b first l.ways ways → MayTake l b c m → MayAccept l (m ∷ []) → Begins b first (after_accept l c b (taken_with l b c m)).ways
+    → Goes b first l ways (Accept c b) (after_accept l c b (taken_with l b c m))
 accept_goes b c first l ways (Parcel x a d) sound sl by me may begins =
     let n = l.blocks in
     let m : Message = Parcel x a d in
@@ -102,7 +102,7 @@ accept_goes b c first l ways (Parcel x a d) sound sl by me may begins =
     let sw1 = square_put n ways c b begin.0 sw in
     record {
       ways' = put_message ways1 b c (Accepted x a);
-      happens = record { enabled = ((lc, lb), rw front may); effect = sym (ap (accepted (with_ways l ways) c b) front) };
+      happens = record { enabled = ((lc, lb), rw front may); effect = sym (ap (after_accept (with_ways l ways) c b) front) };
       log = square_put n logs1 b c (way_at logs1 b c ++ Accepted x a ∷ []) sl1;
       beside = beside_put b n first logs1 ways1 c (Accepted x a) sl1 sw1 lb lc off (beside_take b n first l.ways ways c m begin.0 sl sw lb lc off front by);
     }
@@ -110,8 +110,8 @@ accept_goes b c first l ways (Accepted x a) sound sl by me may begins = absurd m
 accept_goes b c first l ways (Refused x a d told) sound sl by me may begins = absurd may
 
 refuse_goes : (b c : ℕ) (first : List (List (List Message))) (l : State) (ways : List (List (List Message))) (m : Message) → IsSound (with_ways l ways) → IsSquare l.blocks l.ways
-    → IsPassed b first l.ways ways → MayTake l b c m → MayRefuse l (m ∷ []) → Begins b first (refused l c b (noted l b c m)).ways
-    → Goes b first l ways (Refuse c b) (refused l c b (noted l b c m))
+    → IsPassed b first l.ways ways → MayTake l b c m → MayRefuse l (m ∷ []) → Begins b first (after_refuse l c b (taken_with l b c m)).ways
+    → Goes b first l ways (Refuse c b) (after_refuse l c b (taken_with l b c m))
 refuse_goes b c first l ways (Parcel x a d) sound sl by me may begins =
     let n = l.blocks in
     let m : Message = Parcel x a d in
@@ -131,7 +131,7 @@ refuse_goes b c first l ways (Parcel x a d) sound sl by me may begins =
     let sw1 = square_put n ways c b begin.0 sw in
     record {
       ways' = put_message ways1 b c reply;
-      happens = record { enabled = ((lc, lb), rw front may); effect = sym (ap (refused (with_ways l ways) c b) front) };
+      happens = record { enabled = ((lc, lb), rw front may); effect = sym (ap (after_refuse (with_ways l ways) c b) front) };
       log = square_put n logs1 b c (way_at logs1 b c ++ reply ∷ []) sl1;
       beside = beside_put b n first logs1 ways1 c reply sl1 sw1 lb lc off (beside_take b n first l.ways ways c m begin.0 sl sw lb lc off front by);
     }
@@ -139,8 +139,8 @@ refuse_goes b c first l ways (Accepted x a) sound sl by me may begins = absurd m
 refuse_goes b c first l ways (Refused x a d told) sound sl by me may begins = absurd may
 
 settle_goes : (b c : ℕ) (first : List (List (List Message))) (l : State) (ways : List (List (List Message))) (m : Message) → IsSound (with_ways l ways) → IsSquare l.blocks l.ways
-    → IsPassed b first l.ways ways → MayTake l b c m → FitsFlight l m → Begins b first (settled l c b (noted l b c m)).ways
-    → Goes b first l ways (Settle c b) (settled l c b (noted l b c m))
+    → IsPassed b first l.ways ways → MayTake l b c m → FitsFlight l m → Begins b first (after_settle l c b (taken_with l b c m)).ways
+    → Goes b first l ways (Settle c b) (after_settle l c b (taken_with l b c m))
 settle_goes b c first l ways (Parcel x a d) sound sl by me fits begins = absurd fits
 settle_goes b c first l ways (Accepted x a) sound sl by me fits begins =
     let n = l.blocks in
@@ -152,7 +152,7 @@ settle_goes b c first l ways (Accepted x a) sound sl by me fits begins =
     let front = front_is b first l.ways ways c m begin.0 off by (begin.1 ∙ ap (λ (r : List Message). r ++ begin.0) (put_here n l.ways c b m sl range.1 range.0)) in
     record {
       ways' = put_way ways c b begin.0;
-      happens = record { enabled = ((range.1, range.0), rw front tt); effect = sym (ap (settled (with_ways l ways) c b) front) };
+      happens = record { enabled = ((range.1, range.0), rw front tt); effect = sym (ap (after_settle (with_ways l ways) c b) front) };
       log = square_put n l.ways c b (way_at l.ways c b ++ m ∷ []) sl;
       beside = beside_take b n first l.ways ways c m begin.0 sl sound.sized.ways range.0 range.1 off front by;
     }
@@ -166,7 +166,7 @@ settle_goes b c first l ways (Refused x a d told) sound sl by me fits begins =
     let front = front_is b first l.ways ways c m begin.0 off by (begin.1 ∙ ap (λ (r : List Message). r ++ begin.0) (put_here n l.ways c b m sl range.1 range.0)) in
     record {
       ways' = put_way ways c b begin.0;
-      happens = record { enabled = ((range.1, range.0), rw front tt); effect = sym (ap (settled (with_ways l ways) c b) front) };
+      happens = record { enabled = ((range.1, range.0), rw front tt); effect = sym (ap (after_settle (with_ways l ways) c b) front) };
       log = square_put n l.ways c b (way_at l.ways c b ++ m ∷ []) sl;
       beside = beside_take b n first l.ways ways c m begin.0 sl sound.sized.ways range.0 range.1 off front by;
     }
@@ -208,11 +208,11 @@ does_goes b first l ways (Send x) l' sound sl by does begins =
       beside = rw (sym does.0) (beside_put (near_block l.net n x) n first l.ways ways c _ sl sound.sized.ways range.0 range.1 off by');
     })
 does_goes b first l ways (Accept c to) l' sound sl by does begins =
-    named_goes b to (λ q. Accept c q) first l ways (accepted l c b (noted l b c does.1)) l' does.0 does.5 begins (λ h. accept_goes b c first l ways does.1 sound sl by does.2 does.3 h)
+    named_goes b to (λ q. Accept c q) first l ways (after_accept l c b (taken_with l b c does.1)) l' does.0 does.5 begins (λ h. accept_goes b c first l ways does.1 sound sl by does.2 does.3 h)
 does_goes b first l ways (Refuse c to) l' sound sl by does begins =
-    named_goes b to (λ q. Refuse c q) first l ways (refused l c b (noted l b c does.1)) l' does.0 does.4 begins (λ h. refuse_goes b c first l ways does.1 sound sl by does.2 does.3 h)
+    named_goes b to (λ q. Refuse c q) first l ways (after_refuse l c b (taken_with l b c does.1)) l' does.0 does.4 begins (λ h. refuse_goes b c first l ways does.1 sound sl by does.2 does.3 h)
 does_goes b first l ways (Settle c to) l' sound sl by does begins =
-    named_goes b to (λ q. Settle c q) first l ways (settled l c b (noted l b c does.1)) l' does.0 does.4 begins (λ h. settle_goes b c first l ways does.1 sound sl by does.2 does.3 h)
+    named_goes b to (λ q. Settle c q) first l ways (after_settle l c b (taken_with l b c does.1)) l' does.0 does.4 begins (λ h. settle_goes b c first l ways does.1 sound sl by does.2 does.3 h)
 does_goes b first l ways RaiseAll l' sound sl by does begins = absurd does
 
 -- ---- a history
@@ -255,17 +255,17 @@ grown_then a b c g h p q =
 grown_two : (ways : List (List (List Message))) (i j : ℕ) (m : Message) (i' j' : ℕ) (m' : Message) → Grown ways (put_message (put_message ways i j m) i' j' m')
 grown_two ways i j m i' j' m' = grown_then ways (put_message ways i j m) (put_message (put_message ways i j m) i' j' m') (grows_any ways i j m) (grows_any (put_message ways i j m) i' j' m')
 
-accept_grows : (b c : ℕ) (l : State) (m : Message) → MayAccept l (m ∷ []) → Grown l.ways (accepted l c b (noted l b c m)).ways
+accept_grows : (b c : ℕ) (l : State) (m : Message) → MayAccept l (m ∷ []) → Grown l.ways (after_accept l c b (taken_with l b c m)).ways
 accept_grows b c l (Parcel x a d) may = grown_two l.ways c b (Parcel x a d) b c (Accepted x a)
 accept_grows b c l (Accepted x a) may = absurd may
 accept_grows b c l (Refused x a d told) may = absurd may
 
-refuse_grows : (b c : ℕ) (l : State) (m : Message) → MayRefuse l (m ∷ []) → Grown l.ways (refused l c b (noted l b c m)).ways
+refuse_grows : (b c : ℕ) (l : State) (m : Message) → MayRefuse l (m ∷ []) → Grown l.ways (after_refuse l c b (taken_with l b c m)).ways
 refuse_grows b c l (Parcel x a d) may = grown_two l.ways c b (Parcel x a d) b c (Refused x a d (label_of l (far l.net x)))
 refuse_grows b c l (Accepted x a) may = absurd may
 refuse_grows b c l (Refused x a d told) may = absurd may
 
-settle_grows : (b c : ℕ) (l : State) (m : Message) → FitsFlight l m → Grown l.ways (settled l c b (noted l b c m)).ways
+settle_grows : (b c : ℕ) (l : State) (m : Message) → FitsFlight l m → Grown l.ways (after_settle l c b (taken_with l b c m)).ways
 settle_grows b c l (Parcel x a d) fits = absurd fits
 settle_grows b c l (Accepted x a) fits = grows_any l.ways c b (Accepted x a)
 settle_grows b c l (Refused x a d told) fits = grows_any l.ways c b (Refused x a d told)
@@ -286,7 +286,7 @@ history_grows b (e ∷ h) l t led = grown_then l.ways led.0.ways t.ways (does_gr
 
 history_goes : (b : ℕ) (first : List (List (List Message))) (h : List Event) (l : State) (ways : List (List (List Message))) (t : State) → IsSound (with_ways l ways) → IsSquare l.blocks l.ways
     → IsPassed b first l.ways ways → IsHistory b l h t → Begins b first t.ways
-    → (after : List (List (List Message))) × Run (with_ways l ways) h (with_ways t after) × IsPassed b first t.ways after
+    → (after : List (List (List Message))) × IsRunOfEvents (with_ways l ways) h (with_ways t after) × IsPassed b first t.ways after
 history_goes b first [] l ways t sound sl by led begins =
     (ways, ap (λ (q : State). with_ways q ways) led, subst (λ (q : State). IsPassed b first q.ways ways) (sym led) by)
 history_goes b first (e ∷ h) l ways t sound sl by led begins =
@@ -315,7 +315,7 @@ no_way n i j = elim (cases_lt i n) [
 -- on one thread: a history of one block, which took the fronts of the ways, is a run of the core
 pub history_runs : (b : ℕ) (s t : State) (h : List Event) (left : ℕ → List Message) → IsSound s → IsHistory b (with_ways s (no_messages s.blocks)) h t
     → ((c : ℕ) → b ≢ c → way_at s.ways c b ≡ way_at t.ways c b ++ left c)
-    → (ways : List (List (List Message))) × Run s h (with_ways t ways) × IsPassed b s.ways t.ways ways
+    → (ways : List (List (List Message))) × IsRunOfEvents s h (with_ways t ways) × IsPassed b s.ways t.ways ways
 history_runs b s t h left sound led fronts =
     let n = s.blocks in
     let start : IsPassed b s.ways (no_messages n) s.ways = record {

@@ -2,7 +2,7 @@
 use Rattle.std.proofs.Common.{◌≡◌, ℕ, ◌+◌, ◌-◌, ◌<◌, ◌≤◌, Bool, true, false, eqb, List, length, get_or, slice_index, sum, refl, sym, ◌∙◌, ap, inl, inr, arith}
 use Rattle.std.proofs.lemmas.Bool.{cases_Bool, eqb-true}
 use Rattle.std.specs.Prelude.{◌&&◌}
-use Rattle.sums.specs.Sums.{sum_below, counted}
+use Rattle.sums.specs.Sums.{sum_below, count_if}
 use Rattle.sums.proofs.SumLemmas.{sum_below-add, sum_below-same, sum_below-swap, sum_below-pick, counted-zero}
 use Rattle.flow_network.specs.Cut.{Network, nodes}
 use Rattle.flow_network.specs.Preflow.{arc_at}
@@ -10,7 +10,7 @@ use Rattle.flow_network.proofs.Bounds.{sum_is}
 use Rattle.block_events.specs.declared.direction.Direction.{Direction}
 use Rattle.block_events.specs.declared.message.Message.{Message}
 use Rattle.block_events.specs.declared.message.Message.TheVariants.{Parcel, Accepted, Refused}
-use Rattle.block_events.specs.Directions.{forward, backward, alike, leaving}
+use Rattle.block_events.specs.Directions.{forward, backward, alike, sum_leaving}
 use Rattle.block_events.specs.States.{State, Lane, lane_at, way_at, over_messages, excess_of, label_of, room_of, residual_of, near_block, far_block, block_of, is_border}
 use Rattle.block_events.specs.Soundness.{IsSquare, carries, carries_on, first_residual}
 use Rattle.block_events.proofs.Lanes.{border_opposite}
@@ -22,7 +22,7 @@ use Rattle.block_events.proofs.Joining.{IsMet, good_new, parcels_away, back_away
 
 -- ---- the residuals of an arc
 
-both_senses : (t b : Bool) (a : ℕ) → counted t a ≡ counted (t && alike b false) a + counted (t && alike b true) a
+both_senses : (t b : Bool) (a : ℕ) → count_if t a ≡ count_if (t && alike b false) a + count_if (t && alike b true) a
 both_senses true true a = omega arith
 both_senses true false a = omega arith
 both_senses false b a = refl
@@ -55,7 +55,7 @@ inner_sense : (net : Network) (blocks j k : ℕ) (b : Bool) → j ≡ k → is_b
 inner_sense net blocks j k true e inner = rw e (border_opposite net blocks (forward k) ∙ inner)
 inner_sense net blocks j k false e inner = rw e inner
 
-border_carries : (net : Network) (blocks k : ℕ) (y : Direction) (a : ℕ) → is_border net blocks (forward k) ≡ false → is_border net blocks y ≡ true → counted (eqb y.arc k) a ≡ 0
+border_carries : (net : Network) (blocks k : ℕ) (y : Direction) (a : ℕ) → is_border net blocks (forward k) ≡ false → is_border net blocks y ≡ true → count_if (eqb y.arc k) a ≡ 0
 border_carries net blocks k y a inner border =
     counted-zero (eqb y.arc k) a (λ h. absurd (let clash : true ≡ false = sym border ∙ inner_sense net blocks y.arc k y.back (eqb-true y.arc k h) inner in cc))
 
@@ -116,8 +116,8 @@ block_below : (old new : State) (ends : ℕ → State) → IsMet old new ends �
 block_below old new ends met v lv = block_in old.net old.blocks v lv met.sized.blocks
 
 pub balance_met : (old new : State) (ends : ℕ → State) → IsMet old new ends → (v : ℕ) → v < nodes old.net
-    → excess_of new v + slice_index old.net.sinks v + leaving old.net v (first_residual old.net)
-    ≡ slice_index old.net.sources v + room_of new v + leaving old.net v (residual_of new)
+    → excess_of new v + slice_index old.net.sinks v + sum_leaving old.net v (first_residual old.net)
+    ≡ slice_index old.net.sources v + room_of new v + sum_leaving old.net v (residual_of new)
 balance_met old new ends met v lv =
     let net = old.net in
     let n = old.blocks in
@@ -197,8 +197,8 @@ total_met old new ends met =
     let n = old.blocks in
     let m = nodes net in
     let arcs = length net.arcs in
-    let first = λ (v : ℕ). leaving net v (first_residual net) in
-    let last = λ (v : ℕ). leaving net v (residual_of new) in
+    let first = λ (v : ℕ). sum_leaving net v (first_residual net) in
+    let last = λ (v : ℕ). sum_leaving net v (residual_of new) in
     let nodes_all = sum_below-same m (λ v. excess_of new v + slice_index net.sinks v + first v) (λ v. slice_index net.sources v + room_of new v + last v) (balance_met old new ends met) in
     let left1 = sum_below-add m (λ v. excess_of new v + slice_index net.sinks v) first in
     let left2 = sum_below-add m (excess_of new) (slice_index net.sinks) in

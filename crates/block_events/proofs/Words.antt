@@ -2,7 +2,7 @@
 use Rattle.std.proofs.Common.{◌≡◌, ℕ, ◌<◌, Bool, true, not, cond, eqb, List, [], ◌∷◌, ◌++◌, length, All, Some, None, Option, refl, sym, ◌∙◌, ap, inl, inr, ◌⊎◌, arith}
 use Rattle.std.proofs.lemmas.Bool.{cases_eq, eq-eqb, false≢true}
 use Rattle.std.proofs.lemmas.List.{length_push, get_or_push, get_or_append_left, length-append}
-use Rattle.sums.specs.Sums.{counted}
+use Rattle.sums.specs.Sums.{count_if}
 use Rattle.flow_network.specs.Cut.{Network}
 use Rattle.block_events.specs.declared.direction.Direction.{Direction}
 use Rattle.block_events.specs.declared.flight.Flight.{Flight}
@@ -38,19 +38,19 @@ in_range s x b c sized o = (omega (arith, near_block_in s x sized o.direction, o
 -- ---- sums
 
 abbrev pub parcels : (ℕ → ℕ) → Direction → Message → ℕ
-parcels w x (Parcel y a d) = counted (is_same y x) (w a)
+parcels w x (Parcel y a d) = count_if (is_same y x) (w a)
 parcels w x (Accepted y a) = 0
 parcels w x (Refused y a d told) = 0
 
 abbrev pub taken : (ℕ → ℕ) → Direction → Message → ℕ
 taken w x (Parcel y a d) = 0
-taken w x (Accepted y a) = counted (is_same y x) (w a)
+taken w x (Accepted y a) = count_if (is_same y x) (w a)
 taken w x (Refused y a d told) = 0
 
 abbrev pub back : (ℕ → ℕ) → Direction → Message → ℕ
 back w x (Parcel y a d) = 0
 back w x (Accepted y a) = 0
-back w x (Refused y a d told) = counted (is_same y x) (w a)
+back w x (Refused y a d told) = count_if (is_same y x) (w a)
 
 abbrev pub weight_out : (ℕ → ℕ) → Option Flight → ℕ
 weight_out w (Some f) = w f.amount
@@ -62,11 +62,11 @@ self a = a
 abbrev pub one : ℕ → ℕ
 one a = 1
 
-pub counts_same : (x : Direction) (z : ℕ) → counted (is_same x x) z ≡ z
-counts_same x z = ap (λ (t : Bool). counted t z) (same_itself x)
+pub counts_same : (x : Direction) (z : ℕ) → count_if (is_same x x) z ≡ z
+counts_same x z = ap (λ (t : Bool). count_if t z) (same_itself x)
 
-pub counts_not : (x y : Direction) (z : ℕ) → (x ≡ y → ⊥) → counted (is_same x y) z ≡ 0
-counts_not x y z off = ap (λ (t : Bool). counted t z) (not_same x y off)
+pub counts_not : (x y : Direction) (z : ℕ) → (x ≡ y → ⊥) → count_if (is_same x y) z ≡ 0
+counts_not x y z off = ap (λ (t : Bool). count_if t z) (not_same x y off)
 
 -- ---- the last of its kind
 

@@ -1,6 +1,6 @@
 -- The two directions of each arc of a net.
 use Rattle.std.specs.Prelude.{ℕ, ◌+◌, ◌<◌, Bool, true, false, not, cond, ◌==◌, ◌&&◌, length}
-use Rattle.sums.specs.Sums.{sum_below, counted}
+use Rattle.sums.specs.Sums.{sum_below, count_if}
 use Rattle.flow_network.specs.Cut.{Network}
 use Rattle.flow_network.specs.Preflow.{arc_at}
 use Rattle.block_events.specs.declared.direction.Direction.{Direction}
@@ -41,5 +41,5 @@ abbrev pub over_directions : ℕ → (Direction → ℕ) → ℕ
 over_directions m f = sum_below m (λ k. f (forward k) + f (backward k))
 
 -- the sum over the directions that leave a node
-abbrev pub leaving : Network → ℕ → (Direction → ℕ) → ℕ
-leaving net v f = over_directions (length net.arcs) (λ x. counted (near net x == v) (f x))
+abbrev pub sum_leaving : Network → ℕ → (Direction → ℕ) → ℕ
+sum_leaving net v f = over_directions (length net.arcs) (λ x. count_if (near net x == v) (f x))

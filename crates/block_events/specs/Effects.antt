@@ -44,19 +44,19 @@ view_of s = record {
 -- ---- what each event does
 
 -- an amount goes to the sink
-abbrev pub given : BlocksView → ℕ → ℕ → BlocksView
-given b v a = record b {
+abbrev pub blocks_after_sink_push : BlocksView → ℕ → ℕ → BlocksView
+blocks_after_sink_push b v a = record b {
   excess = slice_set b.excess v (slice_index b.excess v - a);
   rooms = slice_set b.rooms v (slice_index b.rooms v - a);
 }
 
 -- a label rises
-abbrev pub labelled : BlocksView → ℕ → ℕ → BlocksView
-labelled b v d = record b { labels = slice_set b.labels v d }
+abbrev pub blocks_after_relabel : BlocksView → ℕ → ℕ → BlocksView
+blocks_after_relabel b v d = record b { labels = slice_set b.labels v d }
 
 -- an amount goes along a direction to the far end
-abbrev pub pushed : BlocksView → Direction → ℕ → BlocksView
-pushed b x a =
+abbrev pub blocks_after_push : BlocksView → Direction → ℕ → BlocksView
+blocks_after_push b x a =
     let less = slice_set b.excess (near b.net x) (slice_index b.excess (near b.net x) - a) in
     let taken =
     put_lane b.lanes x (record (lane_at b.lanes x) { residual = (lane_at b.lanes x).residual - a }) in
@@ -68,8 +68,8 @@ pushed b x a =
     }
 
 -- an amount leaves along a direction
-abbrev pub sent : BlocksView → Direction → ℕ → BlocksView
-sent b x a = record b {
+abbrev pub blocks_after_send : BlocksView → Direction → ℕ → BlocksView
+blocks_after_send b x a = record b {
   excess = slice_set b.excess (near b.net x) (slice_index b.excess (near b.net x) - a);
   lanes = put_lane b.lanes x (record (lane_at b.lanes x) {
     residual = (lane_at b.lanes x).residual - a;
@@ -79,27 +79,28 @@ sent b x a = record b {
 
 -- the lane of the opposite direction, after a parcel was taken: it learns the parcel's label, but not
 -- while a parcel of its own is out
-abbrev pub learned : Lane → ℕ → ℕ → Lane
-learned lane a d =
+abbrev pub lane_after_accept : Lane → ℕ → ℕ → Lane
+lane_after_accept lane a d =
     record lane {
       residual = lane.residual + a;
       known = cond (is_some lane.flight) lane.known (max lane.known d);
     }
 
 -- an amount comes along a direction: its opposite learns the label
-abbrev pub accepted : BlocksView → Direction → ℕ → ℕ → BlocksView
-accepted b x a d = record b {
+abbrev pub blocks_after_accept : BlocksView → Direction → ℕ → ℕ → BlocksView
+blocks_after_accept b x a d = record b {
   excess = slice_set b.excess (far b.net x) (slice_index b.excess (far b.net x) + a);
-  lanes = put_lane b.lanes (opposite x) (learned (lane_at b.lanes (opposite x)) a d);
+  lanes = put_lane b.lanes (opposite x) (lane_after_accept (lane_at b.lanes (opposite x)) a d);
 }
 
 -- the parcel that was out was taken
-abbrev pub settled : BlocksView → Direction → BlocksView
-settled b x = record b { lanes = put_lane b.lanes x (record (lane_at b.lanes x) { flight = None }) }
+abbrev pub blocks_after_settle : BlocksView → Direction → BlocksView
+blocks_after_settle b x =
+    record b { lanes = put_lane b.lanes x (record (lane_at b.lanes x) { flight = None }) }
 
 -- the parcel that was out comes back
-abbrev pub returned : BlocksView → Direction → ℕ → ℕ → BlocksView
-returned b x a told = record b {
+abbrev pub blocks_after_return : BlocksView → Direction → ℕ → ℕ → BlocksView
+blocks_after_return b x a told = record b {
   excess = slice_set b.excess (near b.net x) (slice_index b.excess (near b.net x) + a);
   lanes =
       put_lane b.lanes x
@@ -115,8 +116,8 @@ told_lane b x =
     }
 
 -- each direction to another block knows the label of its far end
-abbrev pub told : BlocksView → BlocksView
-told b = record b {
+abbrev pub blocks_with_known_labels : BlocksView → BlocksView
+blocks_with_known_labels b = record b {
   lanes = record {
     forth = map (λ k. told_lane b (forward k)) (range_with_len 0 (length b.net.arcs));
     back = map (λ k. told_lane b (backward k)) (range_with_len 0 (length b.net.arcs));

@@ -12,8 +12,8 @@ use Rattle.block_events.specs.Directions.{far, opposite}
 use Rattle.block_events.specs.States.{State, way_at, label_of, excess_of, residual_of, flight_of}
 use Rattle.block_events.specs.Reach.{IsReachOf}
 use Rattle.block_events.specs.Flows.{shown_flow}
-use Rattle.block_events.specs.Events.{IsQuiet, Enabled, Happens, Run, steps}
-use Rattle.block_events.specs.Soundness.{IsSound, IsFinished, opened, borders, unit, count, room_between, amount_out, carries}
+use Rattle.block_events.specs.Events.{IsQuiet, IsEnabled, Happens, IsRunOfEvents, steps}
+use Rattle.block_events.specs.Soundness.{IsSound, IsFinished, opening_state, borders, unit, potential, room_between, amount_out, carries}
 
 -- an event leads to one state
 abbrev pub HasOneEffect : Type 0
@@ -25,46 +25,47 @@ EventKeeps = (s t : State) (e : Event) → IsSound s → Happens s e t → IsSou
 
 -- each event but `RaiseAll` lowers the count
 abbrev pub EventLowers : Type 0
-EventLowers = (s t : State) (e : Event) → IsSound s → Happens s e t → e ≢ RaiseAll → count t < count s
+EventLowers = (s t : State) (e : Event) → IsSound s → Happens s e t → e ≢ RaiseAll → potential t < potential s
 
 -- and `RaiseAll` does not raise it
 abbrev pub RaiseNeverRaises : Type 0
-RaiseNeverRaises = (s t : State) → IsSound s → Happens s RaiseAll t → count t ≤ count s
+RaiseNeverRaises = (s t : State) → IsSound s → Happens s RaiseAll t → potential t ≤ potential s
 
 -- the opening state is sound
 abbrev pub OpeningIsSound : Type 0
-OpeningIsSound = (net : Network) (blocks : ℕ) → IsNet net → 1 ≤ blocks → IsSound (opened net blocks)
+OpeningIsSound = (net : Network) (blocks : ℕ) → IsNet net → 1 ≤ blocks
+    → IsSound (opening_state net blocks)
 
 -- its count is N * (n + B) * (4 * N * U + B + 1)
 abbrev pub OpeningCount : Type 0
 OpeningCount = (net : Network) (blocks : ℕ) → IsNet net → 1 ≤ blocks
-    → count (opened net blocks)
-    ≡ top net * (nodes net + borders (opened net blocks)) * unit (opened net blocks)
+    → potential (opening_state net blocks)
+    ≡ top net * (nodes net + borders (opening_state net blocks)) * unit (opening_state net blocks)
 
 -- a list of events from the opening leads to a sound state, and has at most as many events other than
 -- `RaiseAll` as the count of the opening
 pub record IsRunOf (net : Network) (blocks : ℕ) (es : List Event) (t : State) : Type 0 where
   pub sound : IsSound t
-  pub few : steps es + count t ≤ count (opened net blocks)
+  pub few : steps es + potential t ≤ potential (opening_state net blocks)
 
 abbrev pub EveryList : Type 0
 EveryList =
     (net : Network) (blocks : ℕ) (es : List Event) (t : State) → IsNet net → 1 ≤ blocks
-    → Run (opened net blocks) es t → IsRunOf net blocks es t
+    → IsRunOfEvents (opening_state net blocks) es t → IsRunOf net blocks es t
 
 -- a sound state is finished or has an enabled event other than `RaiseAll`
 abbrev pub GoesOn : Type 0
-GoesOn = (s : State) → IsSound s → ((e : Event) × (e ≢ RaiseAll) × Enabled s e) ⊎ IsFinished s
+GoesOn = (s : State) → IsSound s → ((e : Event) × (e ≢ RaiseAll) × IsEnabled s e) ⊎ IsFinished s
 
 -- in a sound and finished state the nodes that reach the sink are the smallest least cut, and the sink
 -- got its capacity
-pub record IsSmallestAndFull (s : State) (side : ℕ → Bool) : Type 0 where
+pub record IsSmallestAndFullIn (s : State) (side : ℕ → Bool) : Type 0 where
   pub smallest : IsSmallestLeastCut s.net side
   pub full : s.got ≡ capacity_of s.net side
 
 abbrev pub FinishedIsSmallest : Type 0
 FinishedIsSmallest =
-    (s : State) (side : ℕ → Bool) → IsSound s → IsFinished s → IsReachOf s side → IsSmallestAndFull s side
+    (s : State) (side : ℕ → Bool) → IsSound s → IsFinished s → IsReachOf s side → IsSmallestAndFullIn s side
 
 -- and the flow that the state shows certifies that cut, with what the sink got as its value
 abbrev pub FinishedIsCertified : Type 0

@@ -7,22 +7,22 @@ use Rattle.block_events.specs.Directions.{IsDirection, near, far}
 use Rattle.block_events.specs.States.{State, residual_of, room_of}
 
 -- a path of this many residual directions, the last of them to the sink, leads on from v
-abbrev pub ReachesIn : State → ℕ → ℕ → Type 0
-ReachesIn s zero v = ⊥
-ReachesIn s (suc zero) v = (v < nodes s.net) × (0 < room_of s v)
-ReachesIn s (suc (suc d)) v =
+abbrev pub ReachesSinkIn : State → ℕ → ℕ → Type 0
+ReachesSinkIn s zero v = ⊥
+ReachesSinkIn s (suc zero) v = (v < nodes s.net) × (0 < room_of s v)
+ReachesSinkIn s (suc (suc d)) v =
     (x : Direction) × (IsDirection s.net x) × (near s.net x ≡ v) × (0 < residual_of s x)
-    × ReachesIn s (suc d) (far s.net x)
+    × ReachesSinkIn s (suc d) (far s.net x)
 
 -- a path of residual directions leads from v to the sink
-abbrev pub Reaches : State → ℕ → Type 0
-Reaches s v = (d : ℕ) × ReachesIn s d v
+abbrev pub ReachesSink : State → ℕ → Type 0
+ReachesSink s v = (d : ℕ) × ReachesSinkIn s d v
 
 -- the least number of residual directions from v to the sink; or the top label, where no path leads there
 abbrev pub IsExact : State → ℕ → ℕ → Type 0
 IsExact s v label =
-    ((label ≤ nodes s.net) × ReachesIn s label v × ((d : ℕ) → ReachesIn s d v → label ≤ d))
-    ⊎ ((label ≡ top s.net) × (¬ Reaches s v))
+    ((label ≤ nodes s.net) × ReachesSinkIn s label v × ((d : ℕ) → ReachesSinkIn s d v → label ≤ d))
+    ⊎ ((label ≡ top s.net) × (¬ ReachesSink s v))
 
 -- an exact label for each node
 pub record AreExact (s : State) (labels : List ℕ) : Type 0 where
@@ -31,5 +31,5 @@ pub record AreExact (s : State) (labels : List ℕ) : Type 0 where
 
 -- the set is the set of nodes from which a path of residual directions leads to the sink
 pub record IsReachOf (s : State) (side : ℕ → Bool) : Type 0 where
-  pub sound : (v : ℕ) → v < nodes s.net → side v ≡ true → Reaches s v
-  pub complete : (v : ℕ) → v < nodes s.net → Reaches s v → side v ≡ true
+  pub sound : (v : ℕ) → v < nodes s.net → side v ≡ true → ReachesSink s v
+  pub complete : (v : ℕ) → v < nodes s.net → ReachesSink s v → side v ≡ true

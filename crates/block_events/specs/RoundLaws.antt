@@ -4,7 +4,7 @@ use Rattle.block_events.specs.declared.event.Event.{Event}
 use Rattle.block_events.specs.declared.event.Event.TheVariants.{PushInner, PushSink, Relabel, Send, Accept, Refuse, Settle, RaiseAll}
 use Rattle.block_events.specs.declared.message.Message.{Message}
 use Rattle.block_events.specs.States.{State, way_at, block_of, near_block}
-use Rattle.block_events.specs.Events.{IsQuiet, Enabled, Run}
+use Rattle.block_events.specs.Events.{IsQuiet, IsEnabled, IsRunOfEvents}
 use Rattle.block_events.specs.Soundness.{IsSound, IsSquare}
 use Rattle.block_events.specs.Workers.{DoesOwn, IsHistory, MayStart}
 use Rattle.block_events.specs.Rounds.{RoundOf}
@@ -30,8 +30,8 @@ abbrev pub no_messages : ℕ → List (List (List Message))
 no_messages n = replicate n (replicate n [])
 
 -- the state as a block sees it that has put and taken nothing yet
-abbrev pub unmoved : State → State
-unmoved s = with_ways s (no_messages s.blocks)
+abbrev pub without_messages : State → State
+without_messages s = with_ways s (no_messages s.blocks)
 
 -- what a history of block b makes of the ways: what it put stands at their ends, what it took is gone from
 -- their fronts, and the ways between two other blocks stay
@@ -46,20 +46,20 @@ pub record IsPassed (b : ℕ) (before logs after : List (List (List Message))) :
 abbrev pub HistoryRuns : Type 0
 HistoryRuns =
     (b : ℕ) (s t : State) (h : List Event) (left : ℕ → List Message)
-    → IsSound s → IsHistory b (unmoved s) h t
+    → IsSound s → IsHistory b (without_messages s) h t
     → ((c : ℕ) → b ≢ c → way_at s.ways c b ≡ way_at t.ways c b ++ left c)
-    → (ways : List (List (List Message))) × Run s h (with_ways t ways) × IsPassed b s.ways t.ways ways
+    → (ways : List (List (List Message))) × IsRunOfEvents s h (with_ways t ways) × IsPassed b s.ways t.ways ways
 
 -- the event is one of block b
-abbrev pub IsOf : ℕ → State → Event → Type 0
-IsOf b s (PushInner x) = near_block s.net s.blocks x ≡ b
-IsOf b s (PushSink v) = block_of s.net s.blocks v ≡ b
-IsOf b s (Relabel v) = block_of s.net s.blocks v ≡ b
-IsOf b s (Send x) = near_block s.net s.blocks x ≡ b
-IsOf b s (Accept c to) = to ≡ b
-IsOf b s (Refuse c to) = to ≡ b
-IsOf b s (Settle c to) = to ≡ b
-IsOf b s RaiseAll = ⊥
+abbrev pub IsEventOf : ℕ → State → Event → Type 0
+IsEventOf b s (PushInner x) = near_block s.net s.blocks x ≡ b
+IsEventOf b s (PushSink v) = block_of s.net s.blocks v ≡ b
+IsEventOf b s (Relabel v) = block_of s.net s.blocks v ≡ b
+IsEventOf b s (Send x) = near_block s.net s.blocks x ≡ b
+IsEventOf b s (Accept c to) = to ≡ b
+IsEventOf b s (Refuse c to) = to ≡ b
+IsEventOf b s (Settle c to) = to ≡ b
+IsEventOf b s RaiseAll = ⊥
 
 -- what block b took from each other block stood in front of the way from there, and the rest is left
 abbrev pub TookFronts : ℕ → State → State → Type 0
@@ -71,7 +71,7 @@ TookFronts b s t =
 abbrev pub OwnTermsHold : Type 0
 OwnTermsHold =
     (b : ℕ) (s : State) (e : Event)
-    → IsSound s → IsOf b s e → Enabled s e → (t : State) × DoesOwn b (unmoved s) e t × TookFronts b s t
+    → IsSound s → IsEventOf b s e → IsEnabled s e → (t : State) × DoesOwn b (without_messages s) e t × TookFronts b s t
 
 -- where no message is on the way, the ways are empty lists
 abbrev pub QuietIsEmpty : Type 0

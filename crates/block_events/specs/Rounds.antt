@@ -10,8 +10,8 @@ use Rattle.block_events.specs.Soundness.{IsSquare}
 use Rattle.block_events.specs.Workers.{IsHistory, MayStart}
 
 -- the block that a node lies in
-abbrev pub home : State → ℕ → ℕ
-home s v = block_of s.net s.blocks v
+abbrev pub block_of_node : State → ℕ → ℕ
+block_of_node s v = block_of s.net s.blocks v
 
 -- the new state is of the old one's net, and has of each block what that block came to, seen alone
 pub record IsJoined (old new : State) (ends : ℕ → State) : Type 0 where
@@ -22,9 +22,11 @@ pub record IsJoined (old new : State) (ends : ℕ → State) : Type 0 where
   pub rooms_len : length new.rooms ≡ nodes old.net
   pub forth_len : length new.lanes.forth ≡ length old.net.arcs
   pub back_len : length new.lanes.back ≡ length old.net.arcs
-  pub excess : (v : ℕ) → v < nodes old.net → excess_of new v ≡ excess_of (ends (home old v)) v
-  pub labels : (v : ℕ) → v < nodes old.net → label_of new v ≡ label_of (ends (home old v)) v
-  pub rooms : (v : ℕ) → v < nodes old.net → room_of new v ≡ room_of (ends (home old v)) v
+  pub excess : (v : ℕ) → v < nodes old.net
+      → excess_of new v ≡ excess_of (ends (block_of_node old v)) v
+  pub labels : (v : ℕ) → v < nodes old.net
+      → label_of new v ≡ label_of (ends (block_of_node old v)) v
+  pub rooms : (v : ℕ) → v < nodes old.net → room_of new v ≡ room_of (ends (block_of_node old v)) v
   pub lanes : (x : Direction) → IsDirection old.net x
       → lane_at new.lanes x ≡ lane_at (ends (near_block old.net old.blocks x)).lanes x
   -- the sink got what each block gave it

@@ -1,17 +1,17 @@
 -- What every reachable state keeps.
 use Rattle.std.specs.Prelude.{◌≡◌, ℕ, ◌+◌, ◌*◌, ◌-◌, ◌<◌, ◌≤◌, true, cond, ◌==◌, ◌&&◌, ◌||◌, Bool, List, [], length, slice_index, slice_index_or, sum, Option, Some, None, All, map, replicate}
 use Rattle.std.specs.List.{AllPairs}
-use Rattle.sums.specs.Sums.{sum_below, counted}
+use Rattle.sums.specs.Sums.{sum_below, count_if}
 use Rattle.flow_network.specs.Cut.{Network, nodes, IsNet}
 use Rattle.flow_network.specs.Preflow.{arc_at}
 use Rattle.flow_network.specs.Progress.{top}
 use Rattle.block_events.specs.declared.direction.Direction.{Direction}
 use Rattle.block_events.specs.declared.message.Message.{Message}
 use Rattle.block_events.specs.declared.message.Message.TheVariants.{Parcel, Accepted, Refused}
-use Rattle.block_events.specs.Directions.{IsDirection, near, far, opposite, forward, backward, is_same, leaving, over_directions}
-use Rattle.block_events.specs.States.{State, Lanes, Flight, lane_at, way_at, over_messages, excess_of, label_of, room_of, residual_of, known_of, flight_of, near_block, far_block, is_border, seen}
+use Rattle.block_events.specs.Directions.{IsDirection, near, far, opposite, forward, backward, is_same, sum_leaving, over_directions}
+use Rattle.block_events.specs.States.{State, Lanes, Flight, lane_at, way_at, over_messages, excess_of, label_of, room_of, residual_of, known_of, flight_of, near_block, far_block, is_border, seen_label}
 use Rattle.block_events.specs.Events.{IsQuiet}
-use Rattle.block_events.specs.Reach.{Reaches}
+use Rattle.block_events.specs.Reach.{ReachesSink}
 
 -- ---- messages
 
@@ -28,11 +28,11 @@ carries (Refused x a d told) = a
 
 -- what a message carries along the arc
 abbrev pub carries_on : ℕ → Message → ℕ
-carries_on k m = counted ((direction_of m).arc == k) (carries m)
+carries_on k m = count_if ((direction_of m).arc == k) (carries m)
 
 -- 1 where the message names the direction, else 0
 abbrev pub names : Direction → Message → ℕ
-names x m = counted (is_same (direction_of m) x) 1
+names x m = count_if (is_same (direction_of m) x) 1
 
 -- 1 where a parcel is out, else 0
 abbrev pub out : Option Flight → ℕ
@@ -104,13 +104,13 @@ pub record IsSound (s : State) : Type 0 where
   pub rooms : (v : ℕ) → v < nodes s.net → room_of s v ≤ slice_index s.net.sinks v
   -- the excess is what the net and the residuals say, an amount on the way counted as sent by its near end
   pub balance : (v : ℕ) → v < nodes s.net
-      → excess_of s v + slice_index s.net.sinks v + leaving s.net v (first_residual s.net)
-      ≡ slice_index s.net.sources v + room_of s v + leaving s.net v (residual_of s)
+      → excess_of s v + slice_index s.net.sinks v + sum_leaving s.net v (first_residual s.net)
+      ≡ slice_index s.net.sources v + room_of s v + sum_leaving s.net v (residual_of s)
   -- a valid labelling, by the labels that are seen
   pub top : (v : ℕ) → v < nodes s.net → label_of s v ≤ top s.net
   pub sink : (v : ℕ) → v < nodes s.net → 0 < room_of s v → label_of s v ≤ 1
   pub steep : (x : Direction) → IsDirection s.net x → 0 < residual_of s x
-      → label_of s (near s.net x) ≤ seen s x + 1
+      → label_of s (near s.net x) ≤ seen_label s x + 1
   pub known : (x : Direction) → IsDirection s.net x → is_border s.net s.blocks x ≡ true
       → known_of s x ≤ label_of s (far s.net x)
   -- where a parcel is out, on a border direction, its label and the label seen are those that it was sent by
@@ -125,12 +125,12 @@ pub record IsSound (s : State) : Type 0 where
 -- no message is on the way, and no node with excess reaches the sink
 pub record IsFinished (s : State) : Type 0 where
   pub quiet : IsQuiet s
-  pub ended : (v : ℕ) → v < nodes s.net → 0 < excess_of s v → ¬ Reaches s v
+  pub ended : (v : ℕ) → v < nodes s.net → 0 < excess_of s v → ¬ ReachesSink s v
 
 -- ---- the opening
 
-abbrev pub opened : Network → ℕ → State
-opened net blocks = record {
+abbrev pub opening_state : Network → ℕ → State
+opening_state net blocks = record {
   net = net;
   blocks = blocks;
   excess = net.sources;
@@ -148,14 +148,14 @@ opened net blocks = record {
 
 -- how many border directions
 abbrev pub borders : State → ℕ
-borders s = over_directions (length s.net.arcs) (λ x. counted (is_border s.net s.blocks x) 1)
+borders s = over_directions (length s.net.arcs) (λ x. count_if (is_border s.net s.blocks x) 1)
 
 -- how far labels and known labels can still rise
-abbrev pub rise : State → ℕ
-rise s =
+abbrev pub labels_to_rise : State → ℕ
+labels_to_rise s =
     sum_below (nodes s.net) (λ v. top s.net - label_of s v)
     + over_directions (length s.net.arcs)
-    (λ x. counted (is_border s.net s.blocks x) (top s.net - known_of s x))
+    (λ x. count_if (is_border s.net s.blocks x) (top s.net - known_of s x))
 
 abbrev pub weight : Message → ℕ
 weight (Parcel x a d) = 4 * (a * d) - 1
@@ -170,8 +170,8 @@ height s = sum_below (nodes s.net) (λ v. 4 * (excess_of s v * label_of s v)) + 
 abbrev pub unit : State → ℕ
 unit s = 4 * (top s.net * sum s.net.sources) + borders s + 1
 
-abbrev pub count : State → ℕ
-count s = rise s * unit s + height s
+abbrev pub potential : State → ℕ
+potential s = labels_to_rise s * unit s + height s
 
 -- ---- room
 
@@ -183,4 +183,4 @@ joins net blocks b c x =
 
 -- how many directions lie between two blocks: as many messages the ways between them can have
 abbrev pub room_between : Network → ℕ → ℕ → ℕ → ℕ
-room_between net blocks b c = over_directions (length net.arcs) (λ x. counted (joins net blocks b c x) 1)
+room_between net blocks b c = over_directions (length net.arcs) (λ x. count_if (joins net blocks b c x) 1)

@@ -84,8 +84,8 @@ abbrev pub is_border : Network → ℕ → Direction → Bool
 is_border net blocks x = not (near_block net blocks x == far_block net blocks x)
 
 -- the label that the block of the near end goes by: at a border the one that it knows
-abbrev pub seen : State → Direction → ℕ
-seen s x = cond (is_border s.net s.blocks x) (known_of s x) (label_of s (far s.net x))
+abbrev pub seen_label : State → Direction → ℕ
+seen_label s x = cond (is_border s.net s.blocks x) (known_of s x) (label_of s (far s.net x))
 
 abbrev pub IsWay : State → ℕ → ℕ → Type 0
 IsWay s b c = (b < s.blocks) × (c < s.blocks)

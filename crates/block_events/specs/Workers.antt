@@ -14,7 +14,7 @@ use Rattle.block_events.specs.declared.event.Event.{Event}
 use Rattle.block_events.specs.declared.event.Event.TheVariants.{PushInner, PushSink, Relabel, Send, Accept, Refuse, Settle, RaiseAll}
 use Rattle.block_events.specs.Directions.{IsDirection, opposite}
 use Rattle.block_events.specs.States.{State, way_at, residual_of, flight_of, block_of, near_block, far_block, is_border}
-use Rattle.block_events.specs.Events.{Enabled, MayAccept, MayRefuse, effect, accepted, refused, settled}
+use Rattle.block_events.specs.Events.{IsEnabled, MayAccept, MayRefuse, effect, after_accept, after_refuse, after_settle}
 use Rattle.block_events.specs.Soundness.{amount_out}
 
 -- ---- messages
@@ -62,24 +62,24 @@ FitsFlight s (Refused x a d told) =
 
 -- what b took from c so far, with one more message, which also stands in front, where an event looks for it:
 -- the event drops it there, and what is left is what b took
-abbrev pub noted : State → ℕ → ℕ → Message → List Message
-noted s b c m = m ∷ (way_at s.ways c b ++ m ∷ [])
+abbrev pub taken_with : State → ℕ → ℕ → Message → List Message
+taken_with s b c m = m ∷ (way_at s.ways c b ++ m ∷ [])
 
 -- block b does an event of its own, enabled in its own terms, and that leads from s to t
 abbrev pub DoesOwn : ℕ → State → Event → State → Type 0
 DoesOwn b s (PushInner x) t =
-    (near_block s.net s.blocks x ≡ b) × Enabled s (PushInner x) × (t ≡ effect s (PushInner x))
+    (near_block s.net s.blocks x ≡ b) × IsEnabled s (PushInner x) × (t ≡ effect s (PushInner x))
 DoesOwn b s (PushSink v) t =
-    (block_of s.net s.blocks v ≡ b) × Enabled s (PushSink v) × (t ≡ effect s (PushSink v))
-DoesOwn b s (Relabel v) t = (block_of s.net s.blocks v ≡ b) × Enabled s (Relabel v) × (t ≡ effect s (Relabel v))
-DoesOwn b s (Send x) t = (near_block s.net s.blocks x ≡ b) × Enabled s (Send x) × (t ≡ effect s (Send x))
+    (block_of s.net s.blocks v ≡ b) × IsEnabled s (PushSink v) × (t ≡ effect s (PushSink v))
+DoesOwn b s (Relabel v) t = (block_of s.net s.blocks v ≡ b) × IsEnabled s (Relabel v) × (t ≡ effect s (Relabel v))
+DoesOwn b s (Send x) t = (near_block s.net s.blocks x ≡ b) × IsEnabled s (Send x) × (t ≡ effect s (Send x))
 DoesOwn b s (Accept c to) t =
     (to ≡ b) × (m : Message) × MayTake s b c m × MayAccept s (m ∷ []) × FitsArc s m
-    × (t ≡ accepted s c b (noted s b c m))
+    × (t ≡ after_accept s c b (taken_with s b c m))
 DoesOwn b s (Refuse c to) t =
-    (to ≡ b) × (m : Message) × MayTake s b c m × MayRefuse s (m ∷ []) × (t ≡ refused s c b (noted s b c m))
+    (to ≡ b) × (m : Message) × MayTake s b c m × MayRefuse s (m ∷ []) × (t ≡ after_refuse s c b (taken_with s b c m))
 DoesOwn b s (Settle c to) t =
-    (to ≡ b) × (m : Message) × MayTake s b c m × FitsFlight s m × (t ≡ settled s c b (noted s b c m))
+    (to ≡ b) × (m : Message) × MayTake s b c m × FitsFlight s m × (t ≡ after_settle s c b (taken_with s b c m))
 DoesOwn b s RaiseAll t = ⊥
 
 -- events of block b, one after another, lead from s to t
@@ -89,8 +89,8 @@ IsHistory b s (e ∷ es) t = (mid : State) × DoesOwn b s e mid × IsHistory b m
 
 -- an event of block b that takes no message is enabled
 abbrev pub MayStart : ℕ → State → Event → Type 0
-MayStart b s (PushInner x) = (near_block s.net s.blocks x ≡ b) × Enabled s (PushInner x)
-MayStart b s (PushSink v) = (block_of s.net s.blocks v ≡ b) × Enabled s (PushSink v)
-MayStart b s (Relabel v) = (block_of s.net s.blocks v ≡ b) × Enabled s (Relabel v)
-MayStart b s (Send x) = (near_block s.net s.blocks x ≡ b) × Enabled s (Send x)
+MayStart b s (PushInner x) = (near_block s.net s.blocks x ≡ b) × IsEnabled s (PushInner x)
+MayStart b s (PushSink v) = (block_of s.net s.blocks v ≡ b) × IsEnabled s (PushSink v)
+MayStart b s (Relabel v) = (block_of s.net s.blocks v ≡ b) × IsEnabled s (Relabel v)
+MayStart b s (Send x) = (near_block s.net s.blocks x ≡ b) × IsEnabled s (Send x)
 MayStart b s e = ⊥

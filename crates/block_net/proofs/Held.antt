@@ -15,7 +15,7 @@ use Rattle.block_net.specs.declared.lanes.InnerLane.{InnerLane}
 use Rattle.block_net.specs.declared.lanes.Border.{Border}
 use Rattle.block_net.specs.Views.{CellsView, IsBlock, no_row, no_border}
 use Rattle.block_net.specs.Whole.{table, index_of}
-use Rattle.block_net.specs.Split.{ByNode, BlockRows, no_rows, starts_from, block_made, inner_rows, outer_rows, CanSplit, directions, direction_in, first_of, base_of, span, lane_by, border_by, lane_made, border_made, lanes_made, borders_made, firsts_made, starts_made, ranks_made, rows_made, block_rows, all_rows, blank_rows, rows_at, AreHeld}
+use Rattle.block_net.specs.Split.{ByNode, BlockRows, no_rows, starts_from, block_made, inner_rows, outer_rows, CanSplit, directions, direction_in, first_node, base_of, span, lane_by, border_by, lane_made, border_made, lanes_made, borders_made, firsts_made, starts_made, ranks_made, rows_made, block_rows, all_rows, blank_rows, rows_at, AreHeld}
 use Rattle.block_net.proofs.Tables.{length_table, table_at}
 use Rattle.block_net.proofs.Numbers.{is_direction, index_forth, index_small, first_low, first_within, first_grows, home_below, home_is}
 use Rattle.block_net.proofs.Written.{of_arc}
@@ -31,16 +31,16 @@ ready_made net blocks h split = record { net_is = h; split = split; rows_are = r
 -- ---- what is read of a direction
 
 pub first_read : (net : Network) (blocks v home : ℕ) (firsts : List ℕ) → firsts ≡ firsts_made net blocks → home ≡ block_of net blocks v → home < blocks
-    → slice_index firsts home ≡ first_of (nodes net) blocks (block_of net blocks v)
+    → slice_index firsts home ≡ first_node (nodes net) blocks (block_of net blocks v)
 first_read net blocks v home firsts e h l =
-    ap (λ (xs : List ℕ). slice_index xs home) e ∙ (table_at blocks (first_of (nodes net) blocks) home 0 l ∙ ap (first_of (nodes net) blocks) h)
+    ap (λ (xs : List ℕ). slice_index xs home) e ∙ (table_at blocks (first_node (nodes net) blocks) home 0 l ∙ ap (first_node (nodes net) blocks) h)
 
-pub inner_base : (net : Network) (blocks b f : ℕ) (starts : List ℕ) → starts ≡ starts_made net blocks → f ≡ first_of (nodes net) blocks b
+pub inner_base : (net : Network) (blocks b f : ℕ) (starts : List ℕ) → starts ≡ starts_made net blocks → f ≡ first_node (nodes net) blocks b
     → slice_index starts f ≡ base_of net blocks (inner_rows (rows_made net blocks)) b
 inner_base net blocks b f starts e ef =
     ap (λ (xs : List ℕ). slice_index xs f) (e ∙ sym (starts_are net blocks)) ∙ ap (slice_index (rows_made net blocks).starts) ef
 
-pub outer_base : (net : Network) (blocks b m f : ℕ) (starts : List ℕ) → starts ≡ starts_made net blocks → m ≡ nodes net → f ≡ first_of (nodes net) blocks b
+pub outer_base : (net : Network) (blocks b m f : ℕ) (starts : List ℕ) → starts ≡ starts_made net blocks → m ≡ nodes net → f ≡ first_node (nodes net) blocks b
     → slice_index starts (m + f) ≡ base_of net blocks (outer_rows (nodes net) (rows_made net blocks)) b
 outer_base net blocks b m f starts e em ef =
     ap (λ (xs : List ℕ). slice_index xs (m + f)) (e ∙ sym (starts_are net blocks))
@@ -52,7 +52,7 @@ pub record IsStep (net : Network) (blocks : ℕ) (o : Bool) (rows : ByNode) (ran
   pub slot : slice_index rows.slots (index_of net x) ≡ slice_index ranks (index_of net x) - base_of net blocks (pick o net rows) (block_of net blocks (near net x))
   pub within : slice_index rows.slots (index_of net x)
       < base_of net blocks (pick o net rows) (block_of net blocks (near net x) + 1) - base_of net blocks (pick o net rows) (block_of net blocks (near net x))
-  pub first : first_of (nodes net) blocks (block_of net blocks (near net x)) ≤ near net x
+  pub first : first_node (nodes net) blocks (block_of net blocks (near net x)) ≤ near net x
   pub node : near net x < nodes net
   pub small : index_of net x < directions net
 
@@ -72,8 +72,8 @@ step_of net blocks o x h split d e =
     let lv = near_in net x h d in
     let b = block_of net blocks v in
     let lb = home_below n blocks v split.some lv in
-    let first = first_of n blocks b in
-    let next = first_of n blocks (b + 1) in
+    let first = first_node n blocks b in
+    let next = first_node n blocks (b + 1) in
     let within = first_within n blocks (b + 1) split.some (omega (arith, lb)) in
     let grows = first_grows n blocks b split.some in
     let grow = starts_grow net blocks o (pick o net rows) is in
@@ -94,9 +94,9 @@ step_of net blocks o x h split d e =
 
 -- the first node of a block is not above the far end of a direction within it
 pub far_above : (net : Network) (blocks : ℕ) (x : Direction) → IsNet net → 1 ≤ blocks → IsDirection net x → is_border net blocks x ≡ false
-    → first_of (nodes net) blocks (block_of net blocks (near net x)) ≤ far net x
+    → first_node (nodes net) blocks (block_of net blocks (near net x)) ≤ far net x
 far_above net blocks x h some d e =
-    subst (λ (b : ℕ). first_of (nodes net) blocks b ≤ far net x) (sym (inner_blocks net blocks x e)) (first_low (nodes net) blocks (far net x) some (far_in net x h d))
+    subst (λ (b : ℕ). first_node (nodes net) blocks b ≤ far net x) (sym (inner_blocks net blocks x e)) (first_low (nodes net) blocks (far net x) some (far_in net x h d))
 
 -- ---- the lists
 
@@ -127,7 +127,7 @@ at_other lists b c L ne = get_or-set_other lists b c L no_rows ne
 pub held_lane : (net : Network) (blocks : ℕ) (rows : ByNode) (D : Direction → Type 0) (lists : List BlockRows) (x : Direction) (b s : ℕ) (row : InnerLane) (L : BlockRows)
     → IsReady net blocks rows → AreHeld net blocks rows D lists → IsDirection net x → is_border net blocks x ≡ false
     → b ≡ block_of net blocks (near net x) → b < blocks → s ≡ slice_index rows.slots (index_of net x)
-    → row ≡ lane_made net rows.slots (first_of (nodes net) blocks (block_of net blocks (near net x))) x
+    → row ≡ lane_made net rows.slots (first_node (nodes net) blocks (block_of net blocks (near net x))) x
     → L.lanes ≡ set (rows_at lists b).lanes s row → L.borders ≡ (rows_at lists b).borders → s < length (rows_at lists b).lanes
     → AreHeld net blocks rows (λ y. D y ⊎ (y ≡ x)) (set lists b L)
 held_lane net blocks rows D lists x b s row L ready held dx ox eb lb es er el eo ls =
@@ -158,7 +158,7 @@ held_lane net blocks rows D lists x b s row L ready held dx ox eb lb es er el eo
                   let one : y ≡ x = one_slot net blocks rows false y x ready dy dx oy ox (e ∙ eb) (here ∙ es) in
                   ap (λ (xs : List InnerLane). get_or xs (slot y) no_row) at
                   ∙ (get_or-set_at (rows_at lists b).lanes s (slot y) row no_row here ls
-                  ∙ (er ∙ ap (λ (y : Direction). lane_made net rows.slots (first_of (nodes net) blocks (home y)) y) (sym one)))
+                  ∙ (er ∙ ap (λ (y : Direction). lane_made net rows.slots (first_node (nodes net) blocks (home y)) y) (sym one)))
               | inr off ↦
                   let old : D y = elim hy [
                     | inl was ↦ was
@@ -187,7 +187,7 @@ held_lane net blocks rows D lists x b s row L ready held dx ox eb lb es er el eo
 pub held_border : (net : Network) (blocks : ℕ) (rows : ByNode) (D : Direction → Type 0) (lists : List BlockRows) (x : Direction) (b s : ℕ) (row : Border) (L : BlockRows)
     → IsReady net blocks rows → AreHeld net blocks rows D lists → IsDirection net x → is_border net blocks x ≡ true
     → b ≡ block_of net blocks (near net x) → b < blocks → s ≡ slice_index rows.slots (index_of net x)
-    → row ≡ border_made net blocks rows.slots (first_of (nodes net) blocks (block_of net blocks (near net x))) x
+    → row ≡ border_made net blocks rows.slots (first_node (nodes net) blocks (block_of net blocks (near net x))) x
     → L.borders ≡ set (rows_at lists b).borders s row → L.lanes ≡ (rows_at lists b).lanes → s < length (rows_at lists b).borders
     → AreHeld net blocks rows (λ y. D y ⊎ (y ≡ x)) (set lists b L)
 held_border net blocks rows D lists x b s row L ready held dx ox eb lb es er el eo ls =
@@ -218,7 +218,7 @@ held_border net blocks rows D lists x b s row L ready held dx ox eb lb es er el 
                   let one : y ≡ x = one_slot net blocks rows true y x ready dy dx oy ox (e ∙ eb) (here ∙ es) in
                   ap (λ (xs : List Border). get_or xs (slot y) no_border) at
                   ∙ (get_or-set_at (rows_at lists b).borders s (slot y) row no_border here ls
-                  ∙ (er ∙ ap (λ (y : Direction). border_made net blocks rows.slots (first_of (nodes net) blocks (home y)) y) (sym one)))
+                  ∙ (er ∙ ap (λ (y : Direction). border_made net blocks rows.slots (first_node (nodes net) blocks (home y)) y) (sym one)))
               | inr off ↦
                   let old : D y = elim hy [
                     | inl was ↦ was
@@ -269,8 +269,8 @@ stands_there : (net : Network) (blocks : ℕ) (o : Bool) (rows : ByNode) (b j : 
 stands_there net blocks o rows b j ready lb lj =
     let n = nodes net in
     let some = ready.split.some in
-    let first = first_of n blocks b in
-    let next = first_of n blocks (b + 1) in
+    let first = first_node n blocks b in
+    let next = first_node n blocks (b + 1) in
     let within = first_within n blocks (b + 1) some (omega (arith, lb)) in
     let group = pick o net rows in
     let is = picked net blocks rows o ready.rows_are in
@@ -300,8 +300,8 @@ lanes_done : (net : Network) (blocks k : ℕ) (rows : ByNode) (lists : List Bloc
     → AreHeld net blocks rows (λ y. y.arc < k) lists → b < blocks → (rows_at lists b).lanes ≡ (block_rows net blocks rows b).lanes
 lanes_done net blocks k rows lists b ready ek held lb =
     let n = nodes net in
-    let first = first_of n blocks b in
-    let next = first_of n blocks (b + 1) in
+    let first = first_node n blocks b in
+    let next = first_node n blocks (b + 1) in
     let within = first_within n blocks (b + 1) ready.split.some (omega (arith, lb)) in
     let rows' = span (pick false net rows) first next in
     let is = picked net blocks rows false ready.rows_are in
@@ -313,14 +313,14 @@ lanes_done net blocks k rows lists b ready ek held lb =
     let x = there.0 in
     let at = there.1 in
     let row = row_of net blocks rows false x ready at.direction at.outer in
-    let read = read_row (lane_made net rows.slots (first_of n blocks (block_of net blocks (near net x)))) net blocks rows false x _ _ row.0 d ready.rows_are
+    let read = read_row (lane_made net rows.slots (first_node n blocks (block_of net blocks (near net x)))) net blocks rows false x _ _ row.0 d ready.rows_are
     (first_within n blocks (block_of net blocks (near net x) + 1) ready.split.some (omega (arith, at.home, lb))) at.direction row.1 in
     let read' : get_or (lanes_made net rows.slots first rows') j d ≡ lane_made net rows.slots first x =
-    subst (λ (c : ℕ). get_or (lanes_made net rows.slots (first_of n blocks c) (span (pick false net rows) (first_of n blocks c) (first_of n blocks (c + 1)))) j d ≡ lane_made net rows.slots (first_of n blocks c) x) at.home
-    (subst (λ (i : ℕ). get_or (lanes_made net rows.slots (first_of n blocks (block_of net blocks (near net x))) (span (pick false net rows) (first_of n blocks (block_of net blocks (near net x))) (first_of n blocks (block_of net blocks (near net x) + 1)))) i d ≡ lane_made net rows.slots (first_of n blocks (block_of net blocks (near net x))) x) at.slot read) in
+    subst (λ (c : ℕ). get_or (lanes_made net rows.slots (first_node n blocks c) (span (pick false net rows) (first_node n blocks c) (first_node n blocks (c + 1)))) j d ≡ lane_made net rows.slots (first_node n blocks c) x) at.home
+    (subst (λ (i : ℕ). get_or (lanes_made net rows.slots (first_node n blocks (block_of net blocks (near net x))) (span (pick false net rows) (first_node n blocks (block_of net blocks (near net x))) (first_node n blocks (block_of net blocks (near net x) + 1)))) i d ≡ lane_made net rows.slots (first_node n blocks (block_of net blocks (near net x))) x) at.slot read) in
     let here : get_or (rows_at lists b).lanes j no_row ≡ lane_made net rows.slots first x =
-    subst (λ (c : ℕ). get_or (rows_at lists c).lanes j no_row ≡ lane_made net rows.slots (first_of n blocks c) x) at.home
-    (subst (λ (i : ℕ). get_or (rows_at lists (block_of net blocks (near net x))).lanes i no_row ≡ lane_made net rows.slots (first_of n blocks (block_of net blocks (near net x))) x) at.slot
+    subst (λ (c : ℕ). get_or (rows_at lists c).lanes j no_row ≡ lane_made net rows.slots (first_node n blocks c) x) at.home
+    (subst (λ (i : ℕ). get_or (rows_at lists (block_of net blocks (near net x))).lanes i no_row ≡ lane_made net rows.slots (first_node n blocks (block_of net blocks (near net x))) x) at.slot
     (held.lanes x at.direction (omega (arith, at.direction, ek)) at.outer)) in
     get_or_default (rows_at lists b).lanes j d no_row l ∙ (here ∙ sym read'))
 
@@ -328,8 +328,8 @@ borders_done : (net : Network) (blocks k : ℕ) (rows : ByNode) (lists : List Bl
     → AreHeld net blocks rows (λ y. y.arc < k) lists → b < blocks → (rows_at lists b).borders ≡ (block_rows net blocks rows b).borders
 borders_done net blocks k rows lists b ready ek held lb =
     let n = nodes net in
-    let first = first_of n blocks b in
-    let next = first_of n blocks (b + 1) in
+    let first = first_node n blocks b in
+    let next = first_node n blocks (b + 1) in
     let within = first_within n blocks (b + 1) ready.split.some (omega (arith, lb)) in
     let rows' = span (pick true net rows) first next in
     let is = picked net blocks rows true ready.rows_are in
@@ -341,14 +341,14 @@ borders_done net blocks k rows lists b ready ek held lb =
     let x = there.0 in
     let at = there.1 in
     let row = row_of net blocks rows true x ready at.direction at.outer in
-    let read = read_row (border_made net blocks rows.slots (first_of n blocks (block_of net blocks (near net x)))) net blocks rows true x _ _ row.0 d ready.rows_are
+    let read = read_row (border_made net blocks rows.slots (first_node n blocks (block_of net blocks (near net x)))) net blocks rows true x _ _ row.0 d ready.rows_are
     (first_within n blocks (block_of net blocks (near net x) + 1) ready.split.some (omega (arith, at.home, lb))) at.direction row.1 in
     let read' : get_or (borders_made net blocks rows.slots first rows') j d ≡ border_made net blocks rows.slots first x =
-    subst (λ (c : ℕ). get_or (borders_made net blocks rows.slots (first_of n blocks c) (span (pick true net rows) (first_of n blocks c) (first_of n blocks (c + 1)))) j d ≡ border_made net blocks rows.slots (first_of n blocks c) x) at.home
-    (subst (λ (i : ℕ). get_or (borders_made net blocks rows.slots (first_of n blocks (block_of net blocks (near net x))) (span (pick true net rows) (first_of n blocks (block_of net blocks (near net x))) (first_of n blocks (block_of net blocks (near net x) + 1)))) i d ≡ border_made net blocks rows.slots (first_of n blocks (block_of net blocks (near net x))) x) at.slot read) in
+    subst (λ (c : ℕ). get_or (borders_made net blocks rows.slots (first_node n blocks c) (span (pick true net rows) (first_node n blocks c) (first_node n blocks (c + 1)))) j d ≡ border_made net blocks rows.slots (first_node n blocks c) x) at.home
+    (subst (λ (i : ℕ). get_or (borders_made net blocks rows.slots (first_node n blocks (block_of net blocks (near net x))) (span (pick true net rows) (first_node n blocks (block_of net blocks (near net x))) (first_node n blocks (block_of net blocks (near net x) + 1)))) i d ≡ border_made net blocks rows.slots (first_node n blocks (block_of net blocks (near net x))) x) at.slot read) in
     let here : get_or (rows_at lists b).borders j no_border ≡ border_made net blocks rows.slots first x =
-    subst (λ (c : ℕ). get_or (rows_at lists c).borders j no_border ≡ border_made net blocks rows.slots (first_of n blocks c) x) at.home
-    (subst (λ (i : ℕ). get_or (rows_at lists (block_of net blocks (near net x))).borders i no_border ≡ border_made net blocks rows.slots (first_of n blocks (block_of net blocks (near net x))) x) at.slot
+    subst (λ (c : ℕ). get_or (rows_at lists c).borders j no_border ≡ border_made net blocks rows.slots (first_node n blocks c) x) at.home
+    (subst (λ (i : ℕ). get_or (rows_at lists (block_of net blocks (near net x))).borders i no_border ≡ border_made net blocks rows.slots (first_node n blocks (block_of net blocks (near net x))) x) at.slot
     (held.borders x at.direction (omega (arith, at.direction, ek)) at.outer)) in
     get_or_default (rows_at lists b).borders j d no_border l ∙ (here ∙ sym read'))
 
@@ -401,7 +401,7 @@ same_border net x f g a b o p e1 e2 e3 = ap (λ i. border_by net i a o x) e1 ∙
 
 -- ---- a block before and after
 
-outer_start : (net : Network) (blocks b f : ℕ) (starts outer : List ℕ) → starts ≡ starts_made net blocks → outer ≡ drop (nodes net) starts → f ≡ first_of (nodes net) blocks b
+outer_start : (net : Network) (blocks b f : ℕ) (starts outer : List ℕ) → starts ≡ starts_made net blocks → outer ≡ drop (nodes net) starts → f ≡ first_node (nodes net) blocks b
     → slice_index outer f ≡ base_of net blocks (outer_rows (nodes net) (rows_made net blocks)) b
 outer_start net blocks b f starts outer e eo ef =
     ap (λ (xs : List ℕ). slice_index xs f) eo ∙ (get_or-drop (nodes net) starts f 0 ∙ outer_base net blocks b (nodes net) f starts e refl ef)
@@ -410,7 +410,7 @@ less_both : (a b c d : ℕ) → a ≡ c → b ≡ d → a - b ≡ c - d
 less_both a b c d e f = ap (λ k. k - b) e ∙ ap (λ k. c - k) f
 
 pub blank_is : (net : Network) (blocks b first next : ℕ) (starts outer : List ℕ) → starts ≡ starts_made net blocks → outer ≡ drop (nodes net) starts
-    → first ≡ first_of (nodes net) blocks b → next ≡ first_of (nodes net) blocks (b + 1)
+    → first ≡ first_node (nodes net) blocks b → next ≡ first_node (nodes net) blocks (b + 1)
     → record {
       lanes = replicate (slice_index starts next - slice_index starts first) no_row;
       borders = replicate (slice_index outer next - slice_index outer first) no_border;
@@ -435,7 +435,7 @@ starts_by : (xs ys : List ℕ) (i j k l : ℕ) → xs ≡ ys → i ≡ k → j �
 starts_by xs ys i j k l e f g = rw (e, f, g) refl
 
 pub opened_block : (net : Network) (blocks b first next t : ℕ) (s outer e l r starts : List ℕ) (lanes : List InnerLane) (border_starts : List ℕ) (borders : List Border) (leaving : BlockRows)
-    → first ≡ first_of (nodes net) blocks b → next ≡ first_of (nodes net) blocks (b + 1) → s ≡ starts_made net blocks → outer ≡ drop (nodes net) s
+    → first ≡ first_node (nodes net) blocks b → next ≡ first_node (nodes net) blocks (b + 1) → s ≡ starts_made net blocks → outer ≡ drop (nodes net) s
     → leaving ≡ block_rows net blocks (rows_made net blocks) b → t ≡ top net
     → e ≡ slice_range net.sources first next → l ≡ replicate (next - first) 0 → r ≡ slice_range net.sinks first next
     → starts ≡ starts_from s first next → lanes ≡ leaving.lanes → border_starts ≡ starts_from outer first next → borders ≡ leaving.borders

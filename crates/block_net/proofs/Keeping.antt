@@ -6,7 +6,7 @@ use Rattle.std.proofs.lemmas.List.Elements.{All-set, All-get_or}
 use Rattle.std.specs.Option.{is_some}
 use Rattle.block_net.specs.declared.lanes.InnerLane.{InnerLane}
 use Rattle.block_net.specs.declared.lanes.Border.{Border}
-use Rattle.block_net.specs.Views.{CellsView, IsBlock, IsLane, IsBorder, count, excess_in, label_in, lane_in, border_in, no_row, no_border, out_of, spare, pushed, sent, accepted}
+use Rattle.block_net.specs.Views.{CellsView, IsBlock, IsLane, IsBorder, count, excess_in, label_in, lane_in, border_in, no_row, no_border, out_of, spare, cells_after_push, cells_after_send, cells_after_accept}
 
 -- an amount that goes from one number to another leaves the sum
 sum_moved : (xs : List ℕ) (v w a : ℕ) → v < length xs → w < length xs → a ≤ slice_index xs v
@@ -22,7 +22,7 @@ known_fits true known d top h l = h
 known_fits false known d top h l = omega arith
 
 pub push_keeps : (b : CellsView) (v j a : ℕ) → IsBlock b → v < count b → j < length b.lanes → a ≤ excess_in b v → a ≤ (lane_in b j).residual
-    → IsBlock (pushed b v j a)
+    → IsBlock (cells_after_push b v j a)
 push_keeps b v j a k lv lj le lr =
     let lane = lane_in b j in
     let w = lane.far in
@@ -61,7 +61,7 @@ push_keeps b v j a k lv lj le lr =
     }
 
 pub accept_keeps : (b : CellsView) (j a d : ℕ) → IsBlock b → j < length b.borders → (border_in b j).residual + out_of (border_in b j).flight + a ≤ (border_in b j).capacity → d ≤ b.top
-    → IsBlock (accepted b j a d)
+    → IsBlock (cells_after_accept b j a d)
 accept_keeps b j a d k lj fits ld =
     let x = border_in b j in
     let is = All-get_or (IsBorder (length b.excess) b.top) b.borders j no_border lj k.borders in
@@ -91,7 +91,7 @@ accept_keeps b j a d k lj fits ld =
     }
 
 pub send_keeps : (b : CellsView) (v j a : ℕ) → IsBlock b → v < count b → j < length b.borders → a ≤ excess_in b v → a ≤ (border_in b j).residual
-    → IsBlock (sent b v j a)
+    → IsBlock (cells_after_send b v j a)
 send_keeps b v j a k lv lj le lr =
     let x = border_in b j in
     let is = All-get_or (IsBorder (length b.excess) b.top) b.borders j no_border lj k.borders in

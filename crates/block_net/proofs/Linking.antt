@@ -2,7 +2,7 @@
 use Rattle.std.proofs.Common.{◌≡◌, ◌≢◌, ℕ, ◌<◌, inl, inr, List, length, slice_index, slice_set, refl, sym, ◌∙◌, ap, arith, get_or-set_same, get_or-set_other}
 use Rattle.std.proofs.lemmas.Bool.{cases_eq}
 use Rattle.std.proofs.lemmas.List.{length-set, set-get_or}
-use Rattle.block_net.specs.Circles.{Undoes, AreCircles, AreAlone, unlinked, linked}
+use Rattle.block_net.specs.Circles.{Undoes, AreCircles, AreAlone, without_link, with_link}
 
 -- what two writes leave at each place
 pub at_last : (xs : List ℕ) (a p b q x : ℕ) → b < length xs → x ≡ b → slice_index (slice_set (slice_set xs a p) b q) x ≡ q
@@ -25,12 +25,12 @@ undone : (next prev : List ℕ) (x y : ℕ) → slice_index next x ≡ y → y <
 undone next prev x y e l back = (omega (arith, e, l), ap (slice_index prev) e ∙ back)
 
 unlinked_undoes : (next prev : List ℕ) (v : ℕ) → v < length next → length prev ≡ length next → Undoes next prev → Undoes prev next
-    → Undoes (unlinked next prev v) (unlinked prev next v)
+    → Undoes (without_link next prev v) (without_link prev next v)
 unlinked_undoes next prev v lv same forth back x lx =
     let n = length next in
     let u = slice_index prev v in
     let w = slice_index next v in
-    let len : length (unlinked next prev v) ≡ n = two_length next u w v v in
+    let len : length (without_link next prev v) ≡ n = two_length next u w v v in
     let l : x < n = omega (arith, lx, len) in
     let lu : u < n = omega (arith, (back v (omega (arith, lv, same))).0, same) in
     let lw : w < n = (forth v lv).0 in
@@ -53,7 +53,7 @@ unlinked_undoes next prev v lv same forth back x lx =
       ]
     ]
 
-pub unlinked_circles : (next prev : List ℕ) (v : ℕ) → v < length next → AreCircles next prev → AreCircles (unlinked next prev v) (unlinked prev next v)
+pub unlinked_circles : (next prev : List ℕ) (v : ℕ) → v < length next → AreCircles next prev → AreCircles (without_link next prev v) (without_link prev next v)
 unlinked_circles next prev v lv c = record {
   size = two_length prev _ _ v v ∙ (c.size ∙ sym (two_length next _ _ v v));
   forth = unlinked_undoes next prev v lv c.size c.forth c.back;
@@ -62,10 +62,10 @@ unlinked_circles next prev v lv c = record {
 
 linked_undoes : (next prev : List ℕ) (s v w : ℕ) → s < length next → v < length next → w < length next → length prev ≡ length next
     → Undoes next prev → slice_index next v ≡ v → slice_index prev w ≡ s → s ≢ v → w ≢ v
-    → Undoes (linked next s v w) (linked prev w v s)
+    → Undoes (with_link next s v w) (with_link prev w v s)
 linked_undoes next prev s v w ls lv lw same forth alone ws sv wv x lx =
     let n = length next in
-    let len : length (linked next s v w) ≡ n = two_length next s v v w in
+    let len : length (with_link next s v w) ≡ n = two_length next s v v w in
     let l : x < n = omega (arith, lx, len) in
     let lv' : v < length prev = omega (arith, lv, same) in
     let lw' : w < length prev = omega (arith, lw, same) in
@@ -88,7 +88,7 @@ same_set xs v at = ap (slice_set xs v) (sym at) ∙ set-get_or xs v 0
 
 -- a place that is alone after one other place
 pub linked_circles : (next prev : List ℕ) (s v : ℕ) → s < length next → v < length next → s ≢ v → slice_index prev v ≡ v → AreCircles next prev
-    → AreCircles (linked next s v (slice_index next s)) (linked prev (slice_index next s) v s)
+    → AreCircles (with_link next s v (slice_index next s)) (with_link prev (slice_index next s) v s)
 linked_circles next prev s v ls lv sv alone c =
     let w = slice_index next s in
     let lv' : v < length prev = omega (arith, lv, c.size) in
@@ -111,6 +111,6 @@ alone_circles next prev same a b = record {
 }
 
 -- a place that is alone leaves nothing
-pub alone_unlinked : (next prev : List ℕ) (v : ℕ) → slice_index next v ≡ v → slice_index prev v ≡ v → unlinked next prev v ≡ next
+pub alone_unlinked : (next prev : List ℕ) (v : ℕ) → slice_index next v ≡ v → slice_index prev v ≡ v → without_link next prev v ≡ next
 alone_unlinked next prev v forth back =
     rw (back, forth) (ap (λ (xs : List ℕ). slice_set xs v v) (same_set next v forth) ∙ same_set next v forth)

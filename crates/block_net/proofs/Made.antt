@@ -17,7 +17,7 @@ use Rattle.block_events.proofs.Ends.{far_in}
 use Rattle.block_events.proofs.Lanes.{near_opposite, border_opposite}
 use Rattle.block_net.specs.declared.lanes.InnerLane.{InnerLane}
 use Rattle.block_net.specs.Views.{IsBlock, IsLane, IsBorder, spare}
-use Rattle.block_net.specs.Split.{ByNode, Rows, inner_rows, outer_rows, CanSplit, directions, direction_in, AreRows, AreGrouped, first_of, span, lane_made, border_made, lanes_made, borders_made, block_from, base_of}
+use Rattle.block_net.specs.Split.{ByNode, Rows, inner_rows, outer_rows, CanSplit, directions, direction_in, AreRows, AreGrouped, first_node, span, lane_made, border_made, lanes_made, borders_made, block_from, base_of}
 use Rattle.block_net.proofs.Tables.{length_table, table_at}
 use Rattle.block_net.proofs.Numbers.{is_direction, arc_of_low, arc_of_high, first_low, first_high, home_is}
 use Rattle.block_net.proofs.Spots.{starts_grow}
@@ -32,7 +32,7 @@ same_blocks a b h = grind (arith, nat_tests)
 pub inner_blocks : (net : Network) (blocks : ℕ) (x : Direction) → is_border net blocks x ≡ false → block_of net blocks (near net x) ≡ block_of net blocks (far net x)
 inner_blocks net blocks x h = same_blocks _ _ h
 
-pub far_in_block : (net : Network) (blocks b first next : ℕ) (rows : Rows) (p : ℕ) → first ≡ first_of (nodes net) blocks b → next ≡ first_of (nodes net) blocks (b + 1) → next ≤ nodes net
+pub far_in_block : (net : Network) (blocks b first next : ℕ) (rows : Rows) (p : ℕ) → first ≡ first_node (nodes net) blocks b → next ≡ first_node (nodes net) blocks (b + 1) → next ≤ nodes net
     → IsNet net → 1 ≤ blocks → StandsIn net blocks false rows first next p
     → (first ≤ far net (direction_in net (slice_index rows.places p))) × (far net (direction_in net (slice_index rows.places p)) < next)
 far_in_block net blocks b first next rows p ef en ln h some stands =
@@ -43,8 +43,8 @@ far_in_block net blocks b first next rows p ef en ln h some stands =
     let home : block_of net blocks (near net x) ≡ b =
     home_is n blocks b (near net x) some (omega (arith, stands.high, ln)) (omega (arith, stands.low, ef)) (omega (arith, stands.high, en)) in
     let away : block_of net blocks (far net x) ≡ b = sym (inner_blocks net blocks x stands.outer) ∙ home in
-    let low : first_of n blocks b ≤ far net x = subst (λ (c : ℕ). first_of n blocks c ≤ far net x) away (first_low n blocks (far net x) some lf) in
-    let high : far net x < first_of n blocks (b + 1) = subst (λ (c : ℕ). far net x < first_of n blocks (c + 1)) away (first_high n blocks (far net x) some lf) in
+    let low : first_node n blocks b ≤ far net x = subst (λ (c : ℕ). first_node n blocks c ≤ far net x) away (first_low n blocks (far net x) some lf) in
+    let high : far net x < first_node n blocks (b + 1) = subst (λ (c : ℕ). far net x < first_node n blocks (c + 1)) away (first_high n blocks (far net x) some lf) in
     (omega (arith, low, ef), omega (arith, high, en))
 
 -- ---- sums
@@ -114,7 +114,7 @@ span_sum net blocks outer rows first next f is ln lf =
 -- ---- the block
 
 pub block_from_is : (net : Network) (blocks : ℕ) (rows : ByNode) (b first next : ℕ) → IsNet net → CanSplit net blocks → AreGrouped net blocks rows
-    → first ≡ first_of (nodes net) blocks b → next ≡ first_of (nodes net) blocks (b + 1) → first ≤ next → next ≤ nodes net → IsBlock (block_from net blocks rows first next)
+    → first ≡ first_node (nodes net) blocks b → next ≡ first_node (nodes net) blocks (b + 1) → first ≤ next → next ≤ nodes net → IsBlock (block_from net blocks rows first next)
 block_from_is net blocks rows b first next h split is ef en lf ln =
     let n = nodes net in
     let slots = rows.slots in

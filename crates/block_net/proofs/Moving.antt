@@ -3,7 +3,7 @@ use Rattle.std.proofs.Common.{◌≡◌, ◌≢◌, ◌⊎◌, ℕ, zero, suc, �
 use Rattle.std.proofs.Math.ListN.{drop_of_length-le}
 use Rattle.std.proofs.lemmas.Bool.{cases_eq, cases_lt, eq-eqb, ne_eqb}
 use Rattle.std.proofs.lemmas.List.{append-nil, length-set, length-replicate, get_or_default, get_or_past, get_or-replicate}
-use Rattle.block_net.specs.Circles.{AreCircles, AreAlone, unlinked, linked, after_left}
+use Rattle.block_net.specs.Circles.{AreCircles, AreAlone, without_link, with_link, after_left}
 use Rattle.block_net.specs.Standing.{AreRows, row_at}
 use Rattle.block_net.proofs.Linking.{at_last, at_first, at_others, two_length, unlinked_circles, linked_circles, alone_circles}
 
@@ -39,7 +39,7 @@ pub data Before (next prev : List ℕ) (v x : ℕ) (is : ℕ) : Type 0 where
   Follower : x ≢ v → x ≡ slice_index next v → is ≡ slice_index prev v → slice_index prev v ≢ v → slice_index prev x ≡ v → Before next prev v x is
   Other : x ≢ v → is ≡ slice_index prev x → slice_index prev x ≢ v → Before next prev v x is
 
-before_left : (next prev : List ℕ) (v x : ℕ) → AreCircles next prev → v < length next → x < length next → Before next prev v x (slice_index (unlinked prev next v) x)
+before_left : (next prev : List ℕ) (v x : ℕ) → AreCircles next prev → v < length next → x < length next → Before next prev v x (slice_index (without_link prev next v) x)
 before_left next prev v x c lv lx =
     let u = slice_index prev v in
     let w = slice_index next v in
@@ -90,14 +90,14 @@ left_alone b rows next prev v x is (inl out) alone (Other off at far) = at ∙ a
 left_alone b rows next prev v x is (inr here) alone (Other off at far) = absurd (off here)
 
 pub left_rows : (top b : ℕ) (rows next prev : List ℕ) (v : ℕ) → v < length rows → AreRows top b rows next prev
-    → AreRows top b (slice_set rows v (b + 1)) (unlinked next prev v) (unlinked prev next v)
+    → AreRows top b (slice_set rows v (b + 1)) (without_link next prev v) (without_link prev next v)
 left_rows top b rows next prev v lv h =
     let len : length (slice_set rows v (b + 1)) ≡ length rows = length-set rows v (b + 1) in
-    let nlen : length (unlinked next prev v) ≡ length next = two_length next (slice_index prev v) (slice_index next v) v v in
+    let nlen : length (without_link next prev v) ≡ length next = two_length next (slice_index prev v) (slice_index next v) v v in
     let size = h.size in
     let small = h.small in
     let lx : v < length next = omega arith in
-    let is : (x : ℕ) → x < length next → Before next prev v x (slice_index (unlinked prev next v) x) = λ x l. before_left next prev v x h.circles lx l in
+    let is : (x : ℕ) → x < length next → Before next prev v x (slice_index (without_link prev next v) x) = λ x l. before_left next prev v x h.circles lx l in
     record {
       small = omega arith;
       top_in = h.top_in;
@@ -128,7 +128,7 @@ pub data Between (next prev : List ℕ) (s v x : ℕ) (is : ℕ) : Type 0 where
   Other : x ≢ v → is ≡ slice_index prev x → slice_index prev x ≢ v → Between next prev s v x is
 
 between : (next prev : List ℕ) (s v x : ℕ) → AreCircles next prev → s < length next → v < length next → x < length next → s ≢ v → slice_index prev v ≡ v
-    → Between next prev s v x (slice_index (linked prev (slice_index next s) v s) x)
+    → Between next prev s v x (slice_index (with_link prev (slice_index next s) v s) x)
 between next prev s v x c ls lv lx sv alone =
     let w = slice_index next s in
     let lv' : v < length prev = omega (arith, lv, c.size) in
@@ -192,19 +192,19 @@ joined_alone b row rows next prev s v x is lv lx past lr alone (Other off before
 
 pub joined_rows : (top more b row : ℕ) (rows next prev : List ℕ) (v : ℕ) → v < length rows → slice_index rows v ≡ b + 1 → row ≤ b
     → top ≤ more → more < b → (row < b → row ≤ more) → AreRows top b rows next prev
-    → AreRows more b (slice_set rows v row) (linked next (length rows + row) v (slice_index next (length rows + row)))
-    (linked prev (slice_index next (length rows + row)) v (length rows + row))
+    → AreRows more b (slice_set rows v row) (with_link next (length rows + row) v (slice_index next (length rows + row)))
+    (with_link prev (slice_index next (length rows + row)) v (length rows + row))
 joined_rows top more b row rows next prev v lv out lr low high covers h =
     let s = length rows + row in
     let len : length (slice_set rows v row) ≡ length rows = length-set rows v row in
-    let nlen : length (linked next s v (slice_index next s)) ≡ length next = two_length next s v v (slice_index next s) in
+    let nlen : length (with_link next s v (slice_index next s)) ≡ length next = two_length next s v v (slice_index next s) in
     let size = h.size in
     let small = h.small in
     let lx : v < length next = omega arith in
     let ls : s < length next = omega arith in
     let sv : s ≢ v = λ e. omega (arith, e, lv) in
     let alone : slice_index prev v ≡ v = h.alone v lv out in
-    let is : (x : ℕ) → x < length next → Between next prev s v x (slice_index (linked prev (slice_index next s) v s) x) = λ x l. between next prev s v x h.circles ls lx l sv alone in
+    let is : (x : ℕ) → x < length next → Between next prev s v x (slice_index (with_link prev (slice_index next s) v s) x) = λ x l. between next prev s v x h.circles ls lx l sv alone in
     record {
       small = omega arith;
       top_in = high;
@@ -227,11 +227,11 @@ joined_rows top more b row rows next prev v lv out lr low high covers h =
 
 pub stood_rows : (top more b row : ℕ) (rows next prev : List ℕ) (v : ℕ) → v < length rows → row ≤ b
     → top ≤ more → more < b → (row < b → row ≤ more) → AreRows top b rows next prev
-    → AreRows more b (slice_set rows v row) (linked (unlinked next prev v) (length rows + row) v (after_left next prev (length rows + row) v))
-    (linked (unlinked prev next v) (after_left next prev (length rows + row) v) v (length rows + row))
+    → AreRows more b (slice_set rows v row) (with_link (without_link next prev v) (length rows + row) v (after_left next prev (length rows + row) v))
+    (with_link (without_link prev next v) (after_left next prev (length rows + row) v) v (length rows + row))
 stood_rows top more b row rows next prev v lv lr low high covers h =
     let len : length (slice_set rows v (b + 1)) ≡ length rows = length-set rows v (b + 1) in
-    let done = joined_rows top more b row (slice_set rows v (b + 1)) (unlinked next prev v) (unlinked prev next v) v (omega arith) (node_moved rows v (b + 1) v lv refl) lr low high covers (left_rows top b rows next prev v lv h) in
+    let done = joined_rows top more b row (slice_set rows v (b + 1)) (without_link next prev v) (without_link prev next v) v (omega arith) (node_moved rows v (b + 1) v lv refl) lr low high covers (left_rows top b rows next prev v lv h) in
     rw (length-set, set-set) at done
 
 -- ---- the first of a row

@@ -7,7 +7,7 @@ use Rattle.flow_network.specs.Cut.{Network}
 use Rattle.block_events.specs.declared.direction.Direction.{Direction}
 use Rattle.block_events.specs.Directions.{IsDirection, alike}
 use Rattle.block_net.specs.Whole.{index_of}
-use Rattle.block_net.specs.Split.{directions, direction_in, direction_of, first_of}
+use Rattle.block_net.specs.Split.{directions, direction_in, slot_direction, first_node}
 
 -- ---- tests
 
@@ -37,10 +37,10 @@ direction k b = record { arc = k; back = b }
 along_same : (k j : ℕ) (b c : Bool) → k ≡ j → b ≡ c → direction k b ≡ direction j c
 along_same k j b c e f = rw (e, f) refl
 
-pub arc_of_low : (m i : ℕ) → i < m → direction_of m i ≡ direction i false
+pub arc_of_low : (m i : ℕ) → i < m → slot_direction m i ≡ direction i false
 arc_of_low m i h = along_same _ _ _ _ (rw (lt_true i m h) refl) (rw (lt_true i m h) refl)
 
-pub arc_of_high : (m i : ℕ) → m ≤ i → direction_of m i ≡ direction (i - m) true
+pub arc_of_high : (m i : ℕ) → m ≤ i → slot_direction m i ≡ direction (i - m) true
 arc_of_high m i h = along_same _ _ _ _ (rw (lt_false i m h) refl) (rw (lt_false i m h) refl)
 
 pub is_direction : (net : Network) (i : ℕ) → i < directions net → IsDirection net (direction_in net i)
@@ -58,7 +58,7 @@ index_small' m k false h = omega (arith, h)
 pub index_small : (net : Network) (x : Direction) → IsDirection net x → index_of net x < directions net
 index_small net x h = index_small' (length net.arcs) x.arc x.back h
 
-index_back : (m k : ℕ) (b : Bool) → k < m → direction_of m (cond b (m + k) k) ≡ direction k b
+index_back : (m k : ℕ) (b : Bool) → k < m → slot_direction m (cond b (m + k) k) ≡ direction k b
 index_back m k true h = arc_of_high m (m + k) (omega arith) ∙ along_same _ _ _ _ (omega arith) refl
 index_back m k false h = arc_of_low m k h
 
@@ -91,14 +91,14 @@ pub home_below : (n blocks v : ℕ) → 1 ≤ blocks → v < n → (v * blocks) 
 home_below n blocks v some l =
     div_below (v * blocks) n blocks (omega (arith, l)) (omega (arith, some, one_more v blocks, swapped n blocks, mul-le (v + 1) blocks n blocks (omega (arith, l)) (omega arith)))
 
-pub first_low : (n blocks v : ℕ) → 1 ≤ blocks → v < n → first_of n blocks ((v * blocks) / n) ≤ v
+pub first_low : (n blocks v : ℕ) → 1 ≤ blocks → v < n → first_node n blocks ((v * blocks) / n) ≤ v
 first_low n blocks v some l =
     let b = (v * blocks) / n in
     let split = div-add-mod' (v * blocks) n in
     let below = div_below (b * n + (blocks - 1)) blocks (v + 1) (omega (arith, some)) (omega (arith, some, split, one_more v blocks)) in
     omega (arith, below)
 
-pub first_high : (n blocks v : ℕ) → 1 ≤ blocks → v < n → v < first_of n blocks ((v * blocks) / n + 1)
+pub first_high : (n blocks v : ℕ) → 1 ≤ blocks → v < n → v < first_node n blocks ((v * blocks) / n + 1)
 first_high n blocks v some l =
     let b = (v * blocks) / n in
     let split = div-add-mod' (v * blocks) n in
@@ -106,22 +106,22 @@ first_high n blocks v some l =
     let le = le-div (v + 1) ((b + 1) * n + (blocks - 1)) blocks (omega (arith, some)) (omega (arith, some, split, rest, one_more v blocks, one_more b n)) in
     omega (arith, le)
 
-pub first_within : (n blocks b : ℕ) → 1 ≤ blocks → b ≤ blocks → first_of n blocks b ≤ n
+pub first_within : (n blocks b : ℕ) → 1 ≤ blocks → b ≤ blocks → first_node n blocks b ≤ n
 first_within n blocks b some l =
     let below = div_below (b * n + (blocks - 1)) blocks (n + 1) (omega (arith, some)) (omega (arith, some, one_more n blocks, swapped n blocks, mul-le b n blocks n l (omega arith))) in
     omega (arith, below)
 
-pub first_grows : (n blocks b : ℕ) → 1 ≤ blocks → first_of n blocks b ≤ first_of n blocks (b + 1)
+pub first_grows : (n blocks b : ℕ) → 1 ≤ blocks → first_node n blocks b ≤ first_node n blocks (b + 1)
 first_grows n blocks b some =
-    let f = first_of n blocks b in
+    let f = first_node n blocks b in
     let split = div-add-mod' (b * n + (blocks - 1)) blocks in
     le-div f ((b + 1) * n + (blocks - 1)) blocks (omega (arith, some)) (omega (arith, split, one_more b n))
 
 -- a node from the first of a block on, and before the next block's first, lies in the block
-pub home_is : (n blocks b v : ℕ) → 1 ≤ blocks → v < n → first_of n blocks b ≤ v → v < first_of n blocks (b + 1) → (v * blocks) / n ≡ b
+pub home_is : (n blocks b v : ℕ) → 1 ≤ blocks → v < n → first_node n blocks b ≤ v → v < first_node n blocks (b + 1) → (v * blocks) / n ≡ b
 home_is n blocks b v some l low high =
-    let q = first_of n blocks b in
-    let q' = first_of n blocks (b + 1) in
+    let q = first_node n blocks b in
+    let q' = first_node n blocks (b + 1) in
     let split = div-add-mod' (b * n + (blocks - 1)) blocks in
     let rest : (b * n + (blocks - 1)) % blocks < blocks = omega (arith, some) in
     let below : b * n ≤ v * blocks = omega (arith, some, split, rest, mul-le q blocks v blocks low (omega arith)) in
@@ -130,12 +130,12 @@ home_is n blocks b v some l low high =
     omega (arith, some, split', one_more v blocks, mul-le (v + 1) blocks q' blocks (omega (arith, high)) (omega arith), mul_pos (b + 1) n (omega arith) (omega (arith, l))) in
     omega (arith, le-div b (v * blocks) n (omega (arith, l)) below, div_below (v * blocks) n (b + 1) (omega (arith, l)) above)
 
-pub first_zero : (n blocks : ℕ) → 1 ≤ blocks → first_of n blocks 0 ≡ 0
+pub first_zero : (n blocks : ℕ) → 1 ≤ blocks → first_node n blocks 0 ≡ 0
 first_zero n blocks some =
     let below = div_below (0 * n + (blocks - 1)) blocks 1 (omega (arith, some)) (omega (arith, some)) in
     omega (arith, below)
 
-pub first_last : (n blocks : ℕ) → 1 ≤ blocks → first_of n blocks blocks ≡ n
+pub first_last : (n blocks : ℕ) → 1 ≤ blocks → first_node n blocks blocks ≡ n
 first_last n blocks some =
     let most = first_within n blocks blocks some (omega arith) in
     let least = le-div n (blocks * n + (blocks - 1)) blocks (omega (arith, some)) (omega (arith, swapped n blocks)) in

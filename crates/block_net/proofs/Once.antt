@@ -1,18 +1,18 @@
 -- Sums over places that differ.
 use Rattle.std.proofs.Common.{◌≡◌, ℕ, zero, suc, ◌+◌, ◌<◌, ◌≤◌, List, length, get_or, sym, ◌∙◌, ap, inl, inr, arith, eqb, sum_by}
 use Rattle.std.proofs.lemmas.Bool.{cases_eq}
-use Rattle.sums.specs.Sums.{sum_below, counted}
+use Rattle.sums.specs.Sums.{sum_below, count_if}
 use Rattle.sums.proofs.SumLemmas.{sum_below-le, sum_below-same, sum_below-swap, sum_below-pick, sum_below-zero, counted-other, counted-le, sum_by-sum_below}
 
 -- a place is met at most once
-once : (n i z : ℕ) (g : ℕ → ℕ) → ((p q : ℕ) → p < n → q < n → g p ≡ g q → p ≡ q) → sum_below n (λ p. counted (eqb (g p) i) z) ≤ z
+once : (n i z : ℕ) (g : ℕ → ℕ) → ((p q : ℕ) → p < n → q < n → g p ≡ g q → p ≡ q) → sum_below n (λ p. count_if (eqb (g p) i) z) ≤ z
 once zero i z g differ = omega arith
 once (suc n) i z g differ =
     let before = once n i z g (λ p q lp lq. differ p q (omega (arith, lp)) (omega (arith, lq))) in
     elim (cases_eq (g n) i) [
       | inl same ↦
-          let none : sum_below n (λ p. counted (eqb (g p) i) z) ≡ 0 =
-          sum_below-same n (λ p. counted (eqb (g p) i) z) (λ p. 0) (λ p l.
+          let none : sum_below n (λ p. count_if (eqb (g p) i) z) ≡ 0 =
+          sum_below-same n (λ p. count_if (eqb (g p) i) z) (λ p. 0) (λ p l.
           counted-other (g p) i z (λ e. absurd (omega (arith, l, differ p n (omega (arith, l)) (omega arith) (sym e ∙ sym same))))) ∙ sum_below-zero n in
           omega (arith, none, counted-le (eqb (g n) i) z)
       | inr off ↦ omega (arith, before, counted-other (g n) i z (λ e. off (sym e)))
@@ -22,9 +22,9 @@ once (suc n) i z g differ =
 pub sum_once : (n m : ℕ) (f g : ℕ → ℕ) → ((p : ℕ) → p < n → g p < m) → ((p q : ℕ) → p < n → q < n → g p ≡ g q → p ≡ q)
     → sum_below n (λ p. f (g p)) ≤ sum_below m f
 sum_once n m f g small differ =
-    let picked = sum_below-same n (λ p. sum_below m (λ i. counted (eqb (g p) i) (f i))) (λ p. f (g p)) (λ p l. sum_below-pick m (g p) f (small p l)) in
-    let turned = sum_below-swap n m (λ p i. counted (eqb (g p) i) (f i)) in
-    let each = sum_below-le m (λ i. sum_below n (λ p. counted (eqb (g p) i) (f i))) f (λ i l. once n i (f i) g differ) in
+    let picked = sum_below-same n (λ p. sum_below m (λ i. count_if (eqb (g p) i) (f i))) (λ p. f (g p)) (λ p l. sum_below-pick m (g p) f (small p l)) in
+    let turned = sum_below-swap n m (λ p i. count_if (eqb (g p) i) (f i)) in
+    let each = sum_below-le m (λ i. sum_below n (λ p. count_if (eqb (g p) i) (f i))) f (λ i l. once n i (f i) g differ) in
     omega (arith, picked, turned, each)
 
 -- of a list whose elements differ

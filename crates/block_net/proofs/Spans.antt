@@ -9,7 +9,7 @@ use Rattle.block_events.specs.Directions.{IsDirection, near}
 use Rattle.block_events.specs.States.{block_of, is_border}
 use Rattle.block_events.proofs.Ends.{near_in}
 use Rattle.block_net.specs.Whole.{index_of}
-use Rattle.block_net.specs.Split.{Rows, directions, direction_in, AreRows, HasSlots, first_of, base_of, span}
+use Rattle.block_net.specs.Split.{Rows, directions, direction_in, AreRows, HasSlots, first_node, base_of, span}
 use Rattle.block_net.proofs.Numbers.{index_is, first_low}
 use Rattle.block_net.proofs.Grouped.{part_of}
 use Rattle.block_net.proofs.Spots.{starts_grow}
@@ -58,7 +58,7 @@ slot_of net blocks outer rows slots x h some is has d b =
         below = found.2;
         stands = found.3;
         slot = slot;
-        base = omega (arith, found.1, grow (first_of n blocks (block_of net blocks v)) v (first_low n blocks v some lv) (omega (arith, lv)));
+        base = omega (arith, found.1, grow (first_node n blocks (block_of net blocks v)) v (first_low n blocks v some lv) (omega (arith, lv)));
       },
     )
 

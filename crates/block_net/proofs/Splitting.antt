@@ -8,14 +8,14 @@ use Rattle.block_events.specs.declared.direction.Direction.{Direction}
 use Rattle.block_events.specs.declared.message.Message.{Message}
 use Rattle.block_events.specs.Directions.{IsDirection, forward, backward, near, far}
 use Rattle.block_events.specs.States as core
-use Rattle.block_events.specs.Soundness.{first_residual, opened}
+use Rattle.block_events.specs.Soundness.{first_residual, opening_state}
 use Rattle.block_events.proofs.Ends.{near_in, far_in}
 use Rattle.block_events.proofs.Opening.{opened_is}
 use Rattle.block_net.specs.declared.lanes.InnerLane.{InnerLane}
 use Rattle.block_net.specs.declared.lanes.Border.{Border}
 use Rattle.block_net.specs.Views.{CellsView, count, excess_in, label_in, room_in, lane_in, border_in, no_row, no_border, first_lane, first_border}
-use Rattle.block_net.specs.Whole.{Whole, table, index_of, block_at, block_with, home, place, near_home, is_outer, lane_of, border_of, shown_lane, shown_border, shown_of, shown, no_block, IsInnerAt, IsBorderAt, StandsAt, IsPlaced, LiesAt, IsFilled}
-use Rattle.block_net.specs.Split.{ByNode, Rows, inner_rows, outer_rows, CanSplit, direction_in, AreRows, AreGrouped, HasSlots, first_of, base_of, span, starts_from, lane_made, border_made, lanes_made, borders_made, block_made, blocks_made, firsts_made, whole_at_opening, IsSplit}
+use Rattle.block_net.specs.Whole.{Whole, table, index_of, block_at, block_with, home, place, near_home, is_outer, lane_of, border_of, shown_lane, shown_border, shown_of, state_shown, no_block, IsInnerAt, IsBorderAt, StandsAt, IsPlaced, LiesAt, IsFilled}
+use Rattle.block_net.specs.Split.{ByNode, Rows, inner_rows, outer_rows, CanSplit, direction_in, AreRows, AreGrouped, HasSlots, first_node, base_of, span, starts_from, lane_made, border_made, lanes_made, borders_made, block_made, blocks_made, firsts_made, whole_at_opening, IsSplit}
 use Rattle.block_net.proofs.Tables.{length_table, table_at}
 use Rattle.block_net.proofs.Numbers.{is_direction, index_is, index_forth, first_low, first_high, first_within, first_grows, home_below, home_is}
 use Rattle.block_net.proofs.Spots.{starts_grow}
@@ -41,10 +41,10 @@ pub record IsHome (net : Network) (blocks : ℕ) (rows : ByNode) (v b : ℕ) : T
   pub home_is : home (made net blocks rows) v ≡ b
   pub small : b < blocks
   pub block_is : block_with (made net blocks rows) v ≡ block_made net blocks rows b
-  pub place_is : place (made net blocks rows) v ≡ v - first_of (nodes net) blocks b
-  pub low : first_of (nodes net) blocks b ≤ v
-  pub high : v < first_of (nodes net) blocks (b + 1)
-  pub within : first_of (nodes net) blocks (b + 1) ≤ nodes net
+  pub place_is : place (made net blocks rows) v ≡ v - first_node (nodes net) blocks b
+  pub low : first_node (nodes net) blocks b ≤ v
+  pub high : v < first_node (nodes net) blocks (b + 1)
+  pub within : first_node (nodes net) blocks (b + 1) ≤ nodes net
 
 at_home : (net : Network) (blocks : ℕ) (rows : ByNode) (v : ℕ) → IsReady net blocks rows → v < nodes net
     → IsHome net blocks rows v (core.block_of net blocks v)
@@ -58,7 +58,7 @@ at_home net blocks rows v ready l =
       home_is = h;
       small = lb;
       block_is = ap (block_at (made net blocks rows)) h ∙ table_at blocks (block_made net blocks rows) b no_block lb;
-      place_is = ap (λ k. v - slice_index (firsts_made net blocks) k) h ∙ ap (λ k. v - k) (table_at blocks (first_of n blocks) b 0 lb);
+      place_is = ap (λ k. v - slice_index (firsts_made net blocks) k) h ∙ ap (λ k. v - k) (table_at blocks (first_node n blocks) b 0 lb);
       low = first_low n blocks v some l;
       high = first_high n blocks v some l;
       within = first_within n blocks (b + 1) some (omega (arith, lb));
@@ -116,14 +116,14 @@ pub record IsRow (net : Network) (blocks : ℕ) (rows : ByNode) (o : Bool) (x : 
   pub stands : slice_index (pick o net rows).places p ≡ index_of net x
 
 pub row_of : (net : Network) (blocks : ℕ) (rows : ByNode) (o : Bool) (x : Direction) → IsReady net blocks rows → IsDirection net x → core.is_border net blocks x ≡ o
-    → (p : ℕ) × IsRow net blocks rows o x (first_of (nodes net) blocks (core.block_of net blocks (near net x))) (first_of (nodes net) blocks (core.block_of net blocks (near net x) + 1)) p
+    → (p : ℕ) × IsRow net blocks rows o x (first_node (nodes net) blocks (core.block_of net blocks (near net x))) (first_node (nodes net) blocks (core.block_of net blocks (near net x) + 1)) p
 row_of net blocks rows o x ready d e =
     let n = nodes net in
     let v = near net x in
     let lv = near_in net x ready.net_is d in
     let b = core.block_of net blocks v in
-    let first = first_of n blocks b in
-    let next = first_of n blocks (b + 1) in
+    let first = first_node n blocks b in
+    let next = first_node n blocks (b + 1) in
     let at = at_home net blocks rows v ready lv in
     let group = pick o net rows in
     let is = picked net blocks rows o ready.rows_are in
@@ -158,20 +158,20 @@ read_row make net blocks rows o x first next p d is ln dx row =
     ∙ ap make (ap (direction_in net) row.stands ∙ index_is net x dx))
 
 lane_is : (net : Network) (blocks : ℕ) (rows : ByNode) (x : Direction) → IsReady net blocks rows → IsDirection net x → core.is_border net blocks x ≡ false
-    → lane_of (made net blocks rows) x ≡ lane_made net rows.slots (first_of (nodes net) blocks (core.block_of net blocks (near net x))) x
+    → lane_of (made net blocks rows) x ≡ lane_made net rows.slots (first_node (nodes net) blocks (core.block_of net blocks (near net x))) x
 lane_is net blocks rows x ready d e =
     let at = at_home net blocks rows (near net x) ready (near_in net x ready.net_is d) in
     let row = row_of net blocks rows false x ready d e in
     ap (λ (b : CellsView). lane_in b (slice_index rows.slots (index_of net x))) at.block_is
-    ∙ read_row (lane_made net rows.slots (first_of (nodes net) blocks (core.block_of net blocks (near net x)))) net blocks rows false x _ _ row.0 no_row ready.rows_are at.within d row.1
+    ∙ read_row (lane_made net rows.slots (first_node (nodes net) blocks (core.block_of net blocks (near net x)))) net blocks rows false x _ _ row.0 no_row ready.rows_are at.within d row.1
 
 border_is : (net : Network) (blocks : ℕ) (rows : ByNode) (x : Direction) → IsReady net blocks rows → IsDirection net x → core.is_border net blocks x ≡ true
-    → border_of (made net blocks rows) x ≡ border_made net blocks rows.slots (first_of (nodes net) blocks (core.block_of net blocks (near net x))) x
+    → border_of (made net blocks rows) x ≡ border_made net blocks rows.slots (first_node (nodes net) blocks (core.block_of net blocks (near net x))) x
 border_is net blocks rows x ready d e =
     let at = at_home net blocks rows (near net x) ready (near_in net x ready.net_is d) in
     let row = row_of net blocks rows true x ready d e in
     ap (λ (b : CellsView). border_in b (slice_index rows.slots (index_of net x))) at.block_is
-    ∙ read_row (border_made net blocks rows.slots (first_of (nodes net) blocks (core.block_of net blocks (near net x)))) net blocks rows true x _ _ row.0 no_border ready.rows_are at.within d row.1
+    ∙ read_row (border_made net blocks rows.slots (first_node (nodes net) blocks (core.block_of net blocks (near net x)))) net blocks rows true x _ _ row.0 no_border ready.rows_are at.within d row.1
 
 pub length_lanes : (net : Network) (slots : List ℕ) (first : ℕ) (indices : List ℕ) → length (lanes_made net slots first indices) ≡ length indices
 length_lanes net slots first indices = length-map _ _
@@ -186,7 +186,7 @@ inner_at net blocks rows x ready d e =
     let v = near net x in
     let b = core.block_of net blocks v in
     let B = block_made net blocks rows b in
-    let first = first_of (nodes net) blocks b in
+    let first = first_node (nodes net) blocks b in
     let at = at_home net blocks rows v ready (near_in net x ready.net_is d) in
     let away = at_home net blocks rows (far net x) ready (far_in net x ready.net_is d) in
     let row = (row_of net blocks rows false x ready d e).1 in
@@ -195,8 +195,8 @@ inner_at net blocks rows x ready d e =
     record {
       from = omega (arith, row.from, ap (λ (q : CellsView). first_lane q (place w v)) at.block_is, ap (first_lane B) at.place_is);
       below = omega (arith, row.below, ap (λ (q : CellsView). first_lane q (place w v + 1)) at.block_is, ap (λ k. first_lane B (k + 1)) at.place_is);
-      within = omega (arith, row.within, ap (λ (q : CellsView). length q.lanes) at.block_is, length_lanes net rows.slots first (span (inner_rows rows) first (first_of (nodes net) blocks (b + 1))));
-      far = ap (λ (q : InnerLane). q.far) lane ∙ sym (away.place_is ∙ ap (λ k. far net x - first_of (nodes net) blocks k) same);
+      within = omega (arith, row.within, ap (λ (q : CellsView). length q.lanes) at.block_is, length_lanes net rows.slots first (span (inner_rows rows) first (first_node (nodes net) blocks (b + 1))));
+      far = ap (λ (q : InnerLane). q.far) lane ∙ sym (away.place_is ∙ ap (λ k. far net x - first_node (nodes net) blocks k) same);
       opposite = ap (λ (q : InnerLane). q.opposite) lane;
     }
 
@@ -207,7 +207,7 @@ border_at net blocks rows x ready d e =
     let v = near net x in
     let b = core.block_of net blocks v in
     let B = block_made net blocks rows b in
-    let first = first_of (nodes net) blocks b in
+    let first = first_node (nodes net) blocks b in
     let at = at_home net blocks rows v ready (near_in net x ready.net_is d) in
     let away = at_home net blocks rows (far net x) ready (far_in net x ready.net_is d) in
     let row = (row_of net blocks rows true x ready d e).1 in
@@ -215,7 +215,7 @@ border_at net blocks rows x ready d e =
     record {
       from = omega (arith, row.from, ap (λ (q : CellsView). first_border q (place w v)) at.block_is, ap (first_border B) at.place_is);
       below = omega (arith, row.below, ap (λ (q : CellsView). first_border q (place w v + 1)) at.block_is, ap (λ k. first_border B (k + 1)) at.place_is);
-      within = omega (arith, row.within, ap (λ (q : CellsView). length q.borders) at.block_is, length_borders net blocks rows.slots first (span (outer_rows (nodes net) rows) first (first_of (nodes net) blocks (b + 1))));
+      within = omega (arith, row.within, ap (λ (q : CellsView). length q.borders) at.block_is, length_borders net blocks rows.slots first (span (outer_rows (nodes net) rows) first (first_node (nodes net) blocks (b + 1))));
       direction = ap (λ (q : Border). q.direction) border;
       near = ap (λ (q : Border). q.near) border ∙ sym at.place_is;
       to = ap (λ (q : Border). q.to) border ∙ sym away.home_is;
@@ -237,14 +237,14 @@ one_slot net blocks rows o x y ready dx dy ex ey home same =
 
 -- what stands in the range of a node
 stands_at : (net : Network) (blocks : ℕ) (rows : ByNode) (o : Bool) (v j : ℕ) → IsReady net blocks rows → v < nodes net
-    → slice_index (starts_from (pick o net rows).starts (first_of (nodes net) blocks (core.block_of net blocks v)) (first_of (nodes net) blocks (core.block_of net blocks v + 1))) (v - first_of (nodes net) blocks (core.block_of net blocks v)) ≤ j
-    → j < slice_index (starts_from (pick o net rows).starts (first_of (nodes net) blocks (core.block_of net blocks v)) (first_of (nodes net) blocks (core.block_of net blocks v + 1))) (v - first_of (nodes net) blocks (core.block_of net blocks v) + 1)
+    → slice_index (starts_from (pick o net rows).starts (first_node (nodes net) blocks (core.block_of net blocks v)) (first_node (nodes net) blocks (core.block_of net blocks v + 1))) (v - first_node (nodes net) blocks (core.block_of net blocks v)) ≤ j
+    → j < slice_index (starts_from (pick o net rows).starts (first_node (nodes net) blocks (core.block_of net blocks v)) (first_node (nodes net) blocks (core.block_of net blocks v + 1))) (v - first_node (nodes net) blocks (core.block_of net blocks v) + 1)
     → (x : Direction) × StandsAt (made net blocks rows) o v j x
 stands_at net blocks rows o v j ready lv low high =
     let n = nodes net in
     let b = core.block_of net blocks v in
-    let first = first_of n blocks b in
-    let next = first_of n blocks (b + 1) in
+    let first = first_node n blocks b in
+    let next = first_node n blocks (b + 1) in
     let at = at_home net blocks rows v ready lv in
     let group = pick o net rows in
     let is = picked net blocks rows o ready.rows_are in
@@ -279,17 +279,17 @@ placed net blocks rows ready =
     let w = made net blocks rows in
     let len = count_made net blocks rows in
     let home_of = λ (v : ℕ) (l : v < n). at_home net blocks rows v ready l in
-    let first = λ (v : ℕ). first_of n blocks (core.block_of net blocks v) in
-    let next = λ (v : ℕ). first_of n blocks (core.block_of net blocks v + 1) in
+    let first = λ (v : ℕ). first_node n blocks (core.block_of net blocks v) in
+    let next = λ (v : ℕ). first_node n blocks (core.block_of net blocks v + 1) in
     let lane_starts = λ (v : ℕ) (l : v < n). ap (λ (q : CellsView). first_lane q (place w v)) (home_of v l).block_is ∙ ap (λ k. slice_index (starts_from (inner_rows rows).starts (first v) (next v)) k) (home_of v l).place_is in
     let lane_ends = λ (v : ℕ) (l : v < n). ap (λ (q : CellsView). first_lane q (place w v + 1)) (home_of v l).block_is ∙ ap (λ k. slice_index (starts_from (inner_rows rows).starts (first v) (next v)) (k + 1)) (home_of v l).place_is in
     let border_starts = λ (v : ℕ) (l : v < n). ap (λ (q : CellsView). first_border q (place w v)) (home_of v l).block_is ∙ ap (λ k. slice_index (starts_from (outer_rows (nodes net) rows).starts (first v) (next v)) k) (home_of v l).place_is in
     let border_ends = λ (v : ℕ) (l : v < n). ap (λ (q : CellsView). first_border q (place w v + 1)) (home_of v l).block_is ∙ ap (λ k. slice_index (starts_from (outer_rows (nodes net) rows).starts (first v) (next v)) (k + 1)) (home_of v l).place_is in
     record {
-      firsts_len = length_table blocks (first_of n blocks) ∙ sym len;
+      firsts_len = length_table blocks (first_node n blocks) ∙ sym len;
       slots_len = ready.rows_are.slots_len;
       homes = λ v l. omega (arith, (home_of v l).home_is, (home_of v l).small, len);
-      firsts = λ v l. omega (arith, ap (slice_index (firsts_made net blocks)) (home_of v l).home_is, table_at blocks (first_of n blocks) (core.block_of net blocks v) 0 (home_of v l).small, (home_of v l).low);
+      firsts = λ v l. omega (arith, ap (slice_index (firsts_made net blocks)) (home_of v l).home_is, table_at blocks (first_node n blocks) (core.block_of net blocks v) 0 (home_of v l).small, (home_of v l).low);
       places = λ v l.
           let at = home_of v l in
           omega (arith, at.place_is, at.low, at.high, ap count at.block_is, length_range net.sources (first v) (next v) at.within);
@@ -312,8 +312,8 @@ block_is : (net : Network) (blocks : ℕ) (rows : ByNode) (b : ℕ) → b < bloc
 block_is net blocks rows b l = table_at blocks (block_made net blocks rows) b no_block l
 
 -- a node between the first of a block and the first of the next
-lies_in : (net : Network) (blocks : ℕ) (rows : ByNode) (b v : ℕ) → IsReady net blocks rows → b < blocks → first_of (nodes net) blocks b ≤ v
-    → v < first_of (nodes net) blocks (b + 1) → home (made net blocks rows) v ≡ b
+lies_in : (net : Network) (blocks : ℕ) (rows : ByNode) (b v : ℕ) → IsReady net blocks rows → b < blocks → first_node (nodes net) blocks b ≤ v
+    → v < first_node (nodes net) blocks (b + 1) → home (made net blocks rows) v ≡ b
 lies_in net blocks rows b v ready lb low high =
     let n = nodes net in
     let some = ready.split.some in
@@ -324,15 +324,15 @@ node_of : (net : Network) (blocks : ℕ) (rows : ByNode) (b p : ℕ) → IsReady
     → (v : ℕ) × LiesAt (made net blocks rows) b p v
 node_of net blocks rows b p ready lb lp =
     let n = nodes net in
-    let first = first_of n blocks b in
+    let first = first_node n blocks b in
     let within = first_within n blocks (b + 1) ready.split.some (omega (arith, lb)) in
-    let high : first + p < first_of n blocks (b + 1) = omega (arith, lp, length_range net.sources first (first_of n blocks (b + 1)) within) in
+    let high : first + p < first_node n blocks (b + 1) = omega (arith, lp, length_range net.sources first (first_node n blocks (b + 1)) within) in
     let here = lies_in net blocks rows b (first + p) ready lb (omega arith) high in (
       first + p,
       record {
         node = omega (arith, high, within);
         home = here;
-        place = omega (arith, ap (slice_index (firsts_made net blocks)) here, table_at blocks (first_of n blocks) b 0 lb);
+        place = omega (arith, ap (slice_index (firsts_made net blocks)) here, table_at blocks (first_node n blocks) b 0 lb);
       },
     )
 
@@ -341,8 +341,8 @@ border_in_block : (net : Network) (blocks : ℕ) (rows : ByNode) (b j : ℕ) →
 border_in_block net blocks rows b j ready lb lj =
     let n = nodes net in
     let some = ready.split.some in
-    let first = first_of n blocks b in
-    let next = first_of n blocks (b + 1) in
+    let first = first_node n blocks b in
+    let next = first_node n blocks (b + 1) in
     let within = first_within n blocks (b + 1) some (omega (arith, lb)) in
     let group = (outer_rows (nodes net) rows) in
     let is = ready.rows_are.outer in
@@ -377,8 +377,8 @@ filled net blocks rows ready =
     let below = λ (b : ℕ) (l : b < length w.blocks). subst (λ (k : ℕ). b < k) len l in
     record {
       labels = λ b l.
-          let first = first_of n blocks b in
-          let next = first_of n blocks (b + 1) in
+          let first = first_node n blocks b in
+          let next = first_node n blocks (b + 1) in
           let is = block_is net blocks rows b (below b l) in
           ap (λ (q : CellsView). length q.labels) is ∙ (length-replicate (next - first) 0
           ∙ (sym (length_range net.sources first next (within b (below b l))) ∙ sym (ap count is)));
@@ -415,13 +415,13 @@ same_build : (net : Network) (k k' : ℕ) (e e' l l' r r' : List ℕ) (f f' g g'
     → k ≡ k' → e ≡ e' → l ≡ l' → r ≡ r' → f ≡ f' → g ≡ g' → build net k e l r f g ways ≡ build net k' e' l' r' f' g' ways
 same_build net k k' e e' l l' r r' f f' g g' ways e1 e2 e3 e4 e5 e6 = rw (e1, e2, e3, e4, e5, e6) refl
 
-opening : (net : Network) (blocks : ℕ) (rows : ByNode) → IsReady net blocks rows → shown (made net blocks rows) ≡ opened net blocks
+opening : (net : Network) (blocks : ℕ) (rows : ByNode) → IsReady net blocks rows → state_shown (made net blocks rows) ≡ opening_state net blocks
 opening net blocks rows ready =
     let n = nodes net in
     let m = length net.arcs in
     let w = made net blocks rows in
-    let first = λ (v : ℕ). first_of n blocks (core.block_of net blocks v) in
-    let next = λ (v : ℕ). first_of n blocks (core.block_of net blocks v + 1) in
+    let first = λ (v : ℕ). first_node n blocks (core.block_of net blocks v) in
+    let next = λ (v : ℕ). first_node n blocks (core.block_of net blocks v + 1) in
     let at = λ (v : ℕ) (l : v < n). at_home net blocks rows v ready l in
     let part = λ (xs : List ℕ) (v : ℕ) (l : v < n). range_at xs (first v) (next v) (v - first v) 0 (omega (arith, (at v l).low, (at v l).high)) ∙ ap (slice_index xs) (back_to (first v) v (at v l).low) in
     let excess = table_of n (λ v. excess_in (block_with w v) (place w v)) net.sources refl (λ v l.

@@ -14,16 +14,16 @@ pub record AreCircles (next prev : List ℕ) : Type 0 where
   pub back : Undoes prev next
 
 -- a place leaves its circle, and stands alone: the same both ways
-abbrev pub unlinked : List ℕ → List ℕ → ℕ → List ℕ
-unlinked next prev x = slice_set (slice_set next (slice_index prev x) (slice_index next x)) x x
+abbrev pub without_link : List ℕ → List ℕ → ℕ → List ℕ
+without_link next prev x = slice_set (slice_set next (slice_index prev x) (slice_index next x)) x x
 
 -- a place stands between two
-abbrev pub linked : List ℕ → ℕ → ℕ → ℕ → List ℕ
-linked next from x to = slice_set (slice_set next from x) x to
+abbrev pub with_link : List ℕ → ℕ → ℕ → ℕ → List ℕ
+with_link next from x to = slice_set (slice_set next from x) x to
 
 -- what stands after a place, once another has left its circle
 abbrev pub after_left : List ℕ → List ℕ → ℕ → ℕ → ℕ
-after_left next prev before x = slice_index (unlinked next prev x) before
+after_left next prev before x = slice_index (without_link next prev x) before
 
 -- each place stands alone
 abbrev pub AreAlone : List ℕ → Type 0

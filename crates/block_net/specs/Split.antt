@@ -8,12 +8,12 @@ use Rattle.grouping.specs.Grouping.{count_below, rank}
 use Rattle.block_events.specs.declared.direction.Direction.{Direction}
 use Rattle.block_events.specs.Directions.{IsDirection, near, far, opposite}
 use Rattle.block_events.specs.States.{block_of, is_border}
-use Rattle.block_events.specs.Soundness.{first_residual, opened}
+use Rattle.block_events.specs.Soundness.{first_residual, opening_state}
 use Rattle.block_net.specs.declared.lanes.InnerLane.{InnerLane}
 use Rattle.block_net.specs.declared.lanes.Border.{Border}
 use Rattle.block_net.specs.Limits.{arc_limit, block_limit}
 use Rattle.block_net.specs.Views.{CellsView, no_row, no_border}
-use Rattle.block_net.specs.Whole.{Whole, table, index_of, shown, IsPlaced, IsFilled}
+use Rattle.block_net.specs.Whole.{Whole, table, index_of, state_shown, IsPlaced, IsFilled}
 
 -- the net can be split into so many blocks
 pub record CanSplit (net : Network) (blocks : ℕ) : Type 0 where
@@ -26,15 +26,16 @@ abbrev pub directions : Network → ℕ
 directions net = 2 * length net.arcs
 
 -- the direction at an index of the table of slots
-abbrev pub direction_of : ℕ → ℕ → Direction
-direction_of arcs i = record { arc = cond (nat_lt i arcs) i (i - arcs); back = not (nat_lt i arcs) }
+abbrev pub slot_direction : ℕ → ℕ → Direction
+slot_direction arcs i = record
+    { arc = cond (nat_lt i arcs) i (i - arcs); back = not (nat_lt i arcs) }
 
 abbrev pub direction_in : Network → ℕ → Direction
-direction_in net i = direction_of (length net.arcs) i
+direction_in net i = slot_direction (length net.arcs) i
 
 -- the first of n nodes in a block: the least v with v * blocks / n at least b
-abbrev pub first_of : ℕ → ℕ → ℕ → ℕ
-first_of n blocks b = (b * n + (blocks - 1)) / blocks
+abbrev pub first_node : ℕ → ℕ → ℕ → ℕ
+first_node n blocks b = (b * n + (blocks - 1)) / blocks
 
 -- the block of each node
 abbrev pub homes_made : Network → ℕ → List ℕ
@@ -94,7 +95,7 @@ pub record AreRows (net : Network) (blocks : ℕ) (leaves : Bool) (rows : Rows) 
 
 -- where the rows of a block begin
 abbrev pub base_of : Network → ℕ → Rows → ℕ → ℕ
-base_of net blocks rows b = slice_index rows.starts (first_of (nodes net) blocks b)
+base_of net blocks rows b = slice_index rows.starts (first_node (nodes net) blocks b)
 
 -- the slot of the direction that stands at a place of the rows: its place among those of its block
 abbrev pub slot_at : Network → ℕ → Rows → ℕ → ℕ
@@ -134,7 +135,7 @@ starts_made net blocks = table (2 * nodes net + 1) (λ v. count_below v (keys_ma
 abbrev pub base_for : Network → ℕ → Direction → ℕ
 base_for net blocks x =
     slice_index (starts_made net blocks)
-    (cond (is_border net blocks x) (nodes net) 0 + first_of (nodes net) blocks (block_of net blocks (near net x)))
+    (cond (is_border net blocks x) (nodes net) 0 + first_node (nodes net) blocks (block_of net blocks (near net x)))
 
 -- the directions of a net in blocks in the order of their keys: at each place the direction that has it as its rank
 unfoldable pub rows_made : Network → ℕ → ByNode
@@ -220,7 +221,8 @@ block_from net blocks rows first next = record {
 
 abbrev pub block_made : Network → ℕ → ByNode → ℕ → CellsView
 block_made net blocks rows b =
-    block_from net blocks rows (first_of (nodes net) blocks b) (first_of (nodes net) blocks (b + 1))
+    block_from net blocks rows (first_node (nodes net) blocks b)
+    (first_node (nodes net) blocks (b + 1))
 
 abbrev pub blocks_made : Network → ℕ → ByNode → List CellsView
 blocks_made net blocks rows = table blocks (block_made net blocks rows)
@@ -228,7 +230,8 @@ blocks_made net blocks rows = table blocks (block_made net blocks rows)
 -- the directions of one block, and of each
 abbrev pub block_rows : Network → ℕ → ByNode → ℕ → BlockRows
 block_rows net blocks rows b =
-    rows_from net blocks rows (first_of (nodes net) blocks b) (first_of (nodes net) blocks (b + 1))
+    rows_from net blocks rows (first_node (nodes net) blocks b)
+    (first_node (nodes net) blocks (b + 1))
 
 abbrev pub all_rows : Network → ℕ → ByNode → List BlockRows
 all_rows net blocks rows = table blocks (block_rows net blocks rows)
@@ -243,7 +246,7 @@ blank_rows net blocks rows b = record {
 }
 
 abbrev pub firsts_made : Network → ℕ → List ℕ
-firsts_made net blocks = table blocks (first_of (nodes net) blocks)
+firsts_made net blocks = table blocks (first_node (nodes net) blocks)
 
 -- ---- the blocks as they are filled
 
@@ -259,10 +262,11 @@ pub record AreHeld (net : Network) (blocks : ℕ) (rows : ByNode) (held : Direct
       ≡ base_of net blocks (outer_rows (nodes net) rows) (b + 1) - base_of net blocks (outer_rows (nodes net) rows) b
   pub lanes : (x : Direction) → IsDirection net x → held x → is_border net blocks x ≡ false
       → slice_index_or (rows_at lists (block_of net blocks (near net x))).lanes (slice_index rows.slots (index_of net x)) no_row
-      ≡ lane_made net rows.slots (first_of (nodes net) blocks (block_of net blocks (near net x))) x
+      ≡ lane_made net rows.slots
+      (first_node (nodes net) blocks (block_of net blocks (near net x))) x
   pub borders : (x : Direction) → IsDirection net x → held x → is_border net blocks x ≡ true
       → slice_index_or (rows_at lists (block_of net blocks (near net x))).borders (slice_index rows.slots (index_of net x)) no_border
-      ≡ border_made net blocks rows.slots (first_of (nodes net) blocks (block_of net blocks (near net x))) x
+      ≡ border_made net blocks rows.slots (first_node (nodes net) blocks (block_of net blocks (near net x))) x
 
 -- a table of all directions has what comes after at those of the first so many arcs, and at the others what was before
 pub record AreWritten (net : Network) (after before : List ℕ) (many : ℕ) (table : List ℕ) : Type 0 where
@@ -290,4 +294,5 @@ pub record IsSplit (net : Network) (blocks : ℕ) (firsts slots : List ℕ)
   pub number : length parts ≡ blocks
   pub placed : IsPlaced (whole_at_opening net blocks firsts slots parts)
   pub filled : IsFilled (whole_at_opening net blocks firsts slots parts)
-  pub opening : shown (whole_at_opening net blocks firsts slots parts) ≡ opened net blocks
+  pub opening : state_shown (whole_at_opening net blocks firsts slots parts)
+      ≡ opening_state net blocks

@@ -4,56 +4,57 @@ use Rattle.block_net.specs.Circles.{AreCircles}
 
 -- how many buckets there are, and the row of each node: that of its bucket, after those the row of the nodes
 -- that are set aside, and after that one where a node stands nowhere
-pub record Standing : Type 0 where
+pub record BucketsView : Type 0 where
   pub buckets : ℕ
   pub rows : List ℕ
 
-abbrev pub nodes : Standing → ℕ
-nodes s = length s.rows
+abbrev pub row_count : BucketsView → ℕ
+row_count s = length s.rows
 
-abbrev pub row_in : Standing → ℕ → ℕ
+abbrev pub row_in : BucketsView → ℕ → ℕ
 row_in s v = slice_index s.rows v
 
 -- the row of the nodes that are set aside
-abbrev pub aside : Standing → ℕ
+abbrev pub aside : BucketsView → ℕ
 aside s = s.buckets
 
 -- what stands for a row where a node stands nowhere
-abbrev pub nowhere : Standing → ℕ
+abbrev pub nowhere : BucketsView → ℕ
 nowhere s = s.buckets + 1
 
 -- the bucket of a label: the last one has all labels from its number on
-abbrev pub bucket_of : Standing → ℕ → ℕ
+abbrev pub bucket_of : BucketsView → ℕ → ℕ
 bucket_of s label = min label (s.buckets - 1)
 
 -- a node goes to a row
-abbrev pub moved : Standing → ℕ → ℕ → Standing
-moved s v row = record s { rows = slice_set s.rows v row }
+abbrev pub with_node_in_row : BucketsView → ℕ → ℕ → BucketsView
+with_node_in_row s v row = record s { rows = slice_set s.rows v row }
 
 -- nodes stand nowhere
-abbrev pub emptied : Standing → Standing
-emptied s = record s { rows = replicate (length s.rows) (nowhere s) }
+abbrev pub without_nodes : BucketsView → BucketsView
+without_nodes s = record s { rows = replicate (length s.rows) (nowhere s) }
 
 -- no node stands in the row
-abbrev pub IsEmpty : Standing → ℕ → Type 0
-IsEmpty s row = (v : ℕ) → v < nodes s → ¬ (row_in s v ≡ row)
+abbrev pub IsEmpty : BucketsView → ℕ → Type 0
+IsEmpty s row = (v : ℕ) → v < row_count s → ¬ (row_in s v ≡ row)
 
 -- the node stands in a bucket, and none in a higher one
-pub record IsHighest (s : Standing) (v : ℕ) : Type 0 where
-  pub node : v < nodes s
+pub record IsHighest (s : BucketsView) (v : ℕ) : Type 0 where
+  pub node : v < row_count s
   pub bucket : row_in s v < s.buckets
-  pub highest : (u : ℕ) → u < nodes s → row_in s u < s.buckets → row_in s u ≤ row_in s v
+  pub highest : (u : ℕ) → u < row_count s → row_in s u < s.buckets → row_in s u ≤ row_in s v
 
 -- no node stands in a bucket
-abbrev pub AreEmpty : Standing → Type 0
-AreEmpty s = (v : ℕ) → v < nodes s → s.buckets ≤ row_in s v
+abbrev pub AreBucketsEmpty : BucketsView → Type 0
+AreBucketsEmpty s = (v : ℕ) → v < row_count s → s.buckets ≤ row_in s v
 
 -- each node that was set aside stands in the bucket of its label, and each other where it stood
-pub record IsRestored (labels : List ℕ) (old new : Standing) : Type 0 where
+pub record IsRestored (labels : List ℕ) (old new : BucketsView) : Type 0 where
   pub same_buckets : new.buckets ≡ old.buckets
-  pub same_nodes : nodes new ≡ nodes old
-  pub back : (v : ℕ) → v < nodes old → row_in old v ≡ aside old → row_in new v ≡ bucket_of old (slice_index labels v)
-  pub others : (v : ℕ) → v < nodes old → ¬ (row_in old v ≡ aside old) → row_in new v ≡ row_in old v
+  pub same_nodes : row_count new ≡ row_count old
+  pub back : (v : ℕ) → v < row_count old → row_in old v ≡ aside old → row_in new v ≡ bucket_of old (slice_index labels v)
+  pub others : (v : ℕ) → v < row_count old → ¬ (row_in old v ≡ aside old)
+      → row_in new v ≡ row_in old v
 
 -- ---- how it is held
 

@@ -113,8 +113,8 @@ pub record MaySend (b : CellsView) (v j : ℕ) : Type 0 where
 -- ---- what each event does to the block
 
 -- an amount goes along a direction within the block
-abbrev pub pushed : CellsView → ℕ → ℕ → ℕ → CellsView
-pushed b v j a =
+abbrev pub cells_after_push : CellsView → ℕ → ℕ → ℕ → CellsView
+cells_after_push b v j a =
     let w = (lane_in b j).far in
     let o = (lane_in b j).opposite in
     let less = slice_set b.excess v (excess_in b v - a) in
@@ -129,20 +129,20 @@ pushed b v j a =
     }
 
 -- an amount goes to the sink
-abbrev pub given : CellsView → ℕ → ℕ → CellsView
-given b v a =
+abbrev pub cells_after_sink_push : CellsView → ℕ → ℕ → CellsView
+cells_after_sink_push b v a =
     record b {
       excess = slice_set b.excess v (excess_in b v - a);
       rooms = slice_set b.rooms v (room_in b v - a);
     }
 
 -- a label rises
-abbrev pub labelled : CellsView → ℕ → ℕ → CellsView
-labelled b v d = record b { labels = slice_set b.labels v d }
+abbrev pub cells_after_relabel : CellsView → ℕ → ℕ → CellsView
+cells_after_relabel b v d = record b { labels = slice_set b.labels v d }
 
 -- an amount leaves for another block
-abbrev pub sent : CellsView → ℕ → ℕ → ℕ → CellsView
-sent b v j a = record b {
+abbrev pub cells_after_send : CellsView → ℕ → ℕ → ℕ → CellsView
+cells_after_send b v j a = record b {
   excess = slice_set b.excess v (excess_in b v - a);
   borders =
       slice_set b.borders j
@@ -159,8 +159,8 @@ parcel_of b v j =
 
 -- an amount comes from another block: the direction learns the label, but not while a parcel of its own is
 -- out
-abbrev pub accepted : CellsView → ℕ → ℕ → ℕ → CellsView
-accepted b j a d =
+abbrev pub cells_after_accept : CellsView → ℕ → ℕ → ℕ → CellsView
+cells_after_accept b j a d =
     let x = border_in b j in
     record b {
       excess = slice_set b.excess x.near (excess_in b x.near + a);
@@ -170,16 +170,17 @@ accepted b j a d =
     }
 
 -- a direction to another block knows a label of its far end
-abbrev pub informed : CellsView → ℕ → ℕ → CellsView
-informed b j d = record b { borders = slice_set b.borders j (record (border_in b j) { known = d }) }
+abbrev pub cells_with_known : CellsView → ℕ → ℕ → CellsView
+cells_with_known b j d = record b
+    { borders = slice_set b.borders j (record (border_in b j) { known = d }) }
 
 -- the parcel that was out was taken
-abbrev pub settled : CellsView → ℕ → CellsView
-settled b j = record b { borders = slice_set b.borders j (record (border_in b j) { flight = None }) }
+abbrev pub cells_after_settle : CellsView → ℕ → CellsView
+cells_after_settle b j = record b { borders = slice_set b.borders j (record (border_in b j) { flight = None }) }
 
 -- the parcel that was out comes back
-abbrev pub returned : CellsView → ℕ → ℕ → ℕ → CellsView
-returned b j a told =
+abbrev pub cells_after_return : CellsView → ℕ → ℕ → ℕ → CellsView
+cells_after_return b j a told =
     let x = border_in b j in
     record b {
       excess = slice_set b.excess x.near (excess_in b x.near + a);

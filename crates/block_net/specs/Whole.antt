@@ -105,8 +105,8 @@ abbrev pub shown_of : Whole → Direction → Lane
 shown_of w x = cond (is_outer w x) (shown_border (border_of w x)) (shown_lane (lane_of w x))
 
 -- the state that the blocks show
-abbrev pub shown : Whole → core.State
-shown w = record {
+abbrev pub state_shown : Whole → core.State
+state_shown w = record {
   net = w.net;
   blocks = length w.blocks;
   excess = table (nodes w.net) (λ v. excess_in (block_with w v) (place w v));

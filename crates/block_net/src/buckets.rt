@@ -1,5 +1,5 @@
 ghost use Rattle.std.specs.Prelude.{◌≡◌, ◌↔◌, IsTrue, IsFalse, ◌+◌, ◌-◌, ◌^◌, ◌<◌, ◌≤◌, IfOk, MatchOption, length, replicate};
-ghost use Rattle.block_net.specs.Standing.{Standing, nodes, row_in, aside, nowhere, bucket_of, moved, emptied, IsEmpty, IsHighest, AreEmpty, IsRestored};
+ghost use Rattle.block_net.specs.Standing.{BucketsView, row_count, row_in, aside, nowhere, bucket_of, with_node_in_row, without_nodes, IsEmpty, IsHighest, AreBucketsEmpty, IsRestored};
 
 use crate::circles::{alone, part, relink, unlink};
 use std::alloc::{AllocError, Global};
@@ -18,9 +18,9 @@ pub struct Buckets {
 }
 
 impl Model for Buckets {
-    ghost use Rattle.block_net.specs.Standing.{Standing, AreRows};
+    ghost use Rattle.block_net.specs.Standing.{BucketsView, AreRows};
 
-    ghost Value = { Standing };
+    ghost Value = { BucketsView };
 
     ghost view = { λ b. record { buckets = b.buckets; rows = b.rows.items } };
 
@@ -62,7 +62,7 @@ impl Buckets {
 
     /// How many nodes there are.
     pub fn len(&self) -> usize
-        ensures { result ≡ nodes self.now }
+        ensures { result ≡ row_count self.now }
     {
         self.rows.len()
     }
@@ -71,7 +71,7 @@ impl Buckets {
     pub fn buckets(&self) -> u32
         ensures value { result ≡ self.now.buckets }
         ensures some { 0 < result }
-        ensures small { nodes self.now + result < 2 ^ 32 }
+        ensures small { row_count self.now + result < 2 ^ 32 }
     {
         let _rows = &self.rows;
         self.buckets
@@ -79,7 +79,7 @@ impl Buckets {
 
     /// Whether a node stands in a bucket or aside.
     pub fn stands(&self, node: usize) -> bool
-        requires { node < nodes self.now }
+        requires { node < row_count self.now }
         ensures { IsFalse result ↔ (row_in self.now node ≡ nowhere self.now) }
     {
         self.rows[node] != self.buckets + 1
@@ -87,7 +87,7 @@ impl Buckets {
 
     /// Whether a node is set aside.
     pub fn is_aside(&self, node: usize) -> bool
-        requires { node < nodes self.now }
+        requires { node < row_count self.now }
         ensures { IsTrue result ↔ (row_in self.now node ≡ aside self.now) }
     {
         self.rows[node] == self.buckets
@@ -95,9 +95,9 @@ impl Buckets {
 
     /// A node goes to a row.
     fn stand(&mut self, node: usize, row: u32)
-        requires node { node < nodes self.old }
+        requires node { node < row_count self.old }
         requires row { row ≤ aside self.old }
-        ensures { self.new ≡ moved self.old node row }
+        ensures { self.new ≡ with_node_in_row self.old node row }
     {
         let place = self.rows.len() + row as usize;
         relink(
@@ -112,8 +112,8 @@ impl Buckets {
 
     /// A node stands in the bucket of a label, wherever it stood: that of the label's number, or the last one.
     pub fn put(&mut self, node: usize, label: u32)
-        requires { node < nodes self.old }
-        ensures { self.new ≡ moved self.old node (bucket_of self.old label) }
+        requires { node < row_count self.old }
+        ensures { self.new ≡ with_node_in_row self.old node (bucket_of self.old label) }
     {
         let last = self.buckets() - 1;
         self.stand(node, u32::min(label, last));
@@ -121,8 +121,8 @@ impl Buckets {
 
     /// A node stands nowhere.
     pub fn remove(&mut self, node: usize)
-        requires { node < nodes self.old }
-        ensures { self.new ≡ moved self.old node (nowhere self.old) }
+        requires { node < row_count self.old }
+        ensures { self.new ≡ with_node_in_row self.old node (nowhere self.old) }
     {
         unlink(self.next.as_mut_slice(), self.prev.as_mut_slice(), node);
         self.rows[node] = self.buckets + 1;
@@ -130,8 +130,8 @@ impl Buckets {
 
     /// A node is set aside, wherever it stood.
     pub fn set_aside(&mut self, node: usize)
-        requires { node < nodes self.old }
-        ensures { self.new ≡ moved self.old node (aside self.old) }
+        requires { node < row_count self.old }
+        ensures { self.new ≡ with_node_in_row self.old node (aside self.old) }
     {
         let row = self.buckets();
         self.stand(node, row);
@@ -141,7 +141,7 @@ impl Buckets {
     fn first(&self, row: u32) -> Option<usize>
         requires { row ≤ aside self.now }
         ensures { MatchOption result (IsEmpty self.now row)
-            (λ v. (v < nodes self.now) × (row_in self.now v ≡ row)) }
+            (λ v. (v < row_count self.now) × (row_in self.now v ≡ row)) }
     {
         let first = self.next[self.rows.len() + row as usize] as usize;
         if first < self.rows.len() {
@@ -154,7 +154,7 @@ impl Buckets {
     /// The node that was set aside last.
     pub fn first_aside(&self) -> Option<usize>
         ensures { MatchOption result (IsEmpty self.now (aside self.now))
-            (λ v. (v < nodes self.now) × (row_in self.now v ≡ aside self.now)) }
+            (λ v. (v < row_count self.now) × (row_in self.now v ≡ aside self.now)) }
     {
         self.first(self.buckets())
     }
@@ -163,7 +163,7 @@ impl Buckets {
     /// over the empty buckets above it, each once until a node stands there again.
     pub fn highest(&mut self) -> Option<usize>
         ensures same { self.new ≡ self.old }
-        ensures highest { MatchOption result (AreEmpty self.old) (IsHighest self.old) }
+        ensures highest { MatchOption result (AreBucketsEmpty self.old) (IsHighest self.old) }
     {
         let top = self.top;
         'buckets: for step in 0..top + 1 {
@@ -179,7 +179,7 @@ impl Buckets {
 
     /// Each node that is set aside stands in the bucket of its label again.
     pub fn restore_aside(&mut self, labels: &[u32])
-        requires { length labels.now ≡ nodes self.old }
+        requires { length labels.now ≡ row_count self.old }
         ensures { IsRestored labels.now self.old self.new }
     {
         let row = self.buckets();
@@ -190,7 +190,7 @@ impl Buckets {
 
     /// Each node stands nowhere.
     pub fn clear(&mut self)
-        ensures { self.new ≡ emptied self.old }
+        ensures { self.new ≡ without_nodes self.old }
     {
         part(self.next.as_mut_slice());
         part(self.prev.as_mut_slice());

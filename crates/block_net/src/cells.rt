@@ -4,7 +4,7 @@ ghost use Rattle.flow_network.specs.Progress.{top_label};
 ghost use Rattle.block_events.specs.declared.message.Message.TheVariants.{Accepted, Refused};
 ghost use Rattle.block_events.specs.Directions.{opposite};
 ghost use Rattle.block_net.specs.Split.{CanSplit, starts_made, rows_made, block_rows, block_made};
-ghost use Rattle.block_net.specs.Views.{CellsView, count, excess_in, label_in, room_in, lane_in, border_in, first_lane, first_border, out_of, MayPush, MaySend, pushed, given, labelled, sent, accepted, settled, returned, informed, parcel_of, lane_allows, border_allows, highest};
+ghost use Rattle.block_net.specs.Views.{CellsView, count, excess_in, label_in, room_in, lane_in, border_in, first_lane, first_border, out_of, MayPush, MaySend, cells_after_push, cells_after_sink_push, cells_after_relabel, cells_after_send, cells_after_accept, cells_after_settle, cells_after_return, cells_with_known, parcel_of, lane_allows, border_allows, highest};
 
 use crate::buckets::Buckets;
 use crate::by_node::outer_starts;
@@ -280,7 +280,7 @@ impl Cells {
         requires node { v < count self.old }
         requires place { j < length self.old.lanes }
         requires other { (lane_in self.old j).far ≢ v }
-        ensures { self.new ≡ pushed self.old v j (min (excess_in self.old v) (lane_in self.old j).residual) }
+        ensures { self.new ≡ cells_after_push self.old v j (min (excess_in self.old v) (lane_in self.old j).residual) }
     {
         let lane = self.lanes[j];
         let amount = u64::min(self.excess[v], lane.residual);
@@ -293,7 +293,7 @@ impl Cells {
     /// Excess of a node goes to the sink: as much as the node can still give it. Answers that amount.
     pub fn give(&mut self, v: usize) -> u64
         requires { v < count self.old }
-        ensures given { self.new ≡ given self.old v (min (excess_in self.old v) (room_in self.old v)) }
+        ensures given { self.new ≡ cells_after_sink_push self.old v (min (excess_in self.old v) (room_in self.old v)) }
         ensures amount { result ≡ min (excess_in self.old v) (room_in self.old v) }
         ensures place { v < length self.old.rooms }
     {
@@ -307,7 +307,7 @@ impl Cells {
     pub fn relabel(&mut self, v: usize, label: u32)
         requires node { v < count self.old }
         requires limit { label ≤ self.old.top }
-        ensures labelled { self.new ≡ labelled self.old v label }
+        ensures labelled { self.new ≡ cells_after_relabel self.old v label }
         ensures place { v < length self.old.labels }
     {
         self.labels[v] = label;
@@ -327,7 +327,7 @@ impl Cells {
         requires node { v < count self.old }
         requires place { j < length self.old.borders }
         requires idle { (border_in self.old j).flight ≡ None }
-        ensures sent { self.new ≡ sent self.old v j (min (excess_in self.old v) (border_in self.old j).residual) }
+        ensures sent { self.new ≡ cells_after_send self.old v j (min (excess_in self.old v) (border_in self.old j).residual) }
         ensures parcel { result ≡ parcel_of self.old v j }
     {
         let label = self.labels[v];
@@ -372,7 +372,7 @@ impl Cells {
         requires fits { (border_in self.old j).residual + out_of (border_in self.old j).flight + amount
             ≤ (border_in self.old j).capacity }
         requires label { label ≤ self.old.top }
-        ensures accepted { self.new ≡ accepted self.old j amount label }
+        ensures accepted { self.new ≡ cells_after_accept self.old j amount label }
         ensures answer { result ≡ Accepted (opposite (border_in self.old j).direction) amount }
     {
         let border = self.borders[j].border();
@@ -409,7 +409,7 @@ impl Cells {
     pub fn inform(&mut self, j: usize, known: u32)
         requires place { j < length self.old.borders }
         requires limit { known ≤ self.old.top }
-        ensures { self.new ≡ informed self.old j known }
+        ensures { self.new ≡ cells_with_known self.old j known }
     {
         let border = self.borders[j].border();
         self.borders[j].set(border.residual, known, border.flight);
@@ -418,7 +418,7 @@ impl Cells {
     /// The parcel of a direction was taken.
     pub fn settle(&mut self, j: usize)
         requires { j < length self.old.borders }
-        ensures { self.new ≡ settled self.old j }
+        ensures { self.new ≡ cells_after_settle self.old j }
     {
         let border = self.borders[j].border();
         self.borders[j].set(border.residual, border.known, None);
@@ -429,7 +429,7 @@ impl Cells {
         requires place { j < length self.old.borders }
         requires fits { amount ≤ out_of (border_in self.old j).flight }
         requires told { told ≤ self.old.top }
-        ensures { self.new ≡ returned self.old j amount told }
+        ensures { self.new ≡ cells_after_return self.old j amount told }
     {
         let sent = self.borders[j].border();
         self.excess[sent.near as usize] += amount;

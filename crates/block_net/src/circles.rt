@@ -1,5 +1,5 @@
 ghost use Rattle.std.specs.Prelude.{◌≡◌, ◌≢◌, ◌<◌, ◌^◌, IfOk, length, slice_index};
-ghost use Rattle.block_net.specs.Circles.{AreCircles, AreAlone, unlinked, linked, after_left};
+ghost use Rattle.block_net.specs.Circles.{AreCircles, AreAlone, without_link, with_link, after_left};
 
 use std::alloc::{AllocError, Global};
 
@@ -32,8 +32,8 @@ pub(crate) fn unlink(next: &mut [u32], prev: &mut [u32], place: usize)
     requires circles { AreCircles next.old prev.old }
     requires place { place < length next.old }
     requires small { length next.old < 2 ^ 32 }
-    ensures next { next.new ≡ unlinked next.old prev.old place }
-    ensures prev { prev.new ≡ unlinked prev.old next.old place }
+    ensures next { next.new ≡ without_link next.old prev.old place }
+    ensures prev { prev.new ≡ without_link prev.old next.old place }
 {
     let before = prev[place];
     if before as usize == place {
@@ -52,8 +52,8 @@ pub(crate) fn link(next: &mut [u32], prev: &mut [u32], before: usize, place: usi
     requires before { before < length next.old }
     requires place { place < length next.old }
     requires small { length next.old < 2 ^ 32 }
-    ensures next { next.new ≡ linked next.old before place (slice_index next.old before) }
-    ensures prev { prev.new ≡ linked prev.old (slice_index next.old before) place before }
+    ensures next { next.new ≡ with_link next.old before place (slice_index next.old before) }
+    ensures prev { prev.new ≡ with_link prev.old (slice_index next.old before) place before }
 {
     let after = next[before];
     next[before] = place as u32;
@@ -68,9 +68,9 @@ pub(crate) fn relink(next: &mut [u32], prev: &mut [u32], before: usize, place: u
     requires before { before < length next.old }
     requires place { place < length next.old }
     requires small { length next.old < 2 ^ 32 }
-    ensures next { next.new ≡ linked (unlinked next.old prev.old place) before place
+    ensures next { next.new ≡ with_link (without_link next.old prev.old place) before place
         (after_left next.old prev.old before place) }
-    ensures prev { prev.new ≡ linked (unlinked prev.old next.old place)
+    ensures prev { prev.new ≡ with_link (without_link prev.old next.old place)
         (after_left next.old prev.old before place) place before }
 {
     unlink(next, prev, place);

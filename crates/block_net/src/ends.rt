@@ -4,7 +4,7 @@ ghost use Rattle.flow_network.specs.Cut.{nodes, IsNet};
 ghost use Rattle.block_events.specs.Directions.{IsDirection, near, far};
 ghost use Rattle.block_events.specs.States.{is_border};
 ghost use Rattle.block_net.specs.Limits.{block_limit};
-ghost use Rattle.block_net.specs.Split.{CanSplit, first_of, homes_made};
+ghost use Rattle.block_net.specs.Split.{CanSplit, first_node, homes_made};
 
 use block_events::Direction;
 use flow_network::Net;
@@ -35,7 +35,7 @@ pub(crate) fn first_of(nodes: usize, blocks: usize, block: usize) -> usize
     requires few { blocks ≤ block_limit }
     requires some { 1 ≤ blocks }
     requires block { block ≤ blocks }
-    ensures value { result ≡ first_of nodes blocks block }
+    ensures value { result ≡ first_node nodes blocks block }
     ensures below { result ≤ nodes }
 {
     (block * nodes + (blocks - 1)) / blocks
@@ -45,8 +45,8 @@ pub(crate) fn first_of(nodes: usize, blocks: usize, block: usize) -> usize
 pub(crate) fn bounds(net: &Net, blocks: usize, block: usize) -> (usize, usize)
     requires split { CanSplit net.now blocks }
     requires block { block < blocks }
-    ensures first { result.0 ≡ first_of (nodes net.now) blocks block }
-    ensures next { result.1 ≡ first_of (nodes net.now) blocks (block + 1) }
+    ensures first { result.0 ≡ first_node (nodes net.now) blocks block }
+    ensures next { result.1 ≡ first_node (nodes net.now) blocks (block + 1) }
     ensures order { result.0 ≤ result.1 }
     ensures within { result.1 ≤ nodes net.now }
     ensures few { nodes net.now ≤ node_limit }

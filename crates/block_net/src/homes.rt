@@ -3,7 +3,7 @@ ghost use Rattle.std.specs.Vec.{vec_len, vec_capacity};
 ghost use Rattle.flow_network.specs.Cut.{nodes};
 ghost use Rattle.block_events.specs.States.{block_of};
 ghost use Rattle.block_net.specs.Whole.{table};
-ghost use Rattle.block_net.specs.Split.{CanSplit, first_of, homes_made};
+ghost use Rattle.block_net.specs.Split.{CanSplit, first_node, homes_made};
 
 use crate::ends::bounds;
 use flow_network::Net;
@@ -14,12 +14,12 @@ fn add_homes(net: &Net, blocks: usize, block: usize, homes: &mut Vec<u8>)
     requires split { CanSplit net.now blocks }
     requires block { block < blocks }
     requires made { homes.old.items
-        ≡ table (first_of (nodes net.now) blocks block) (block_of net.now blocks) }
-    requires len { vec_len homes.old ≡ first_of (nodes net.now) blocks block }
+        ≡ table (first_node (nodes net.now) blocks block) (block_of net.now blocks) }
+    requires len { vec_len homes.old ≡ first_node (nodes net.now) blocks block }
     requires room { vec_capacity homes.old ≡ nodes net.now }
     ensures made { homes.new.items
-        ≡ table (first_of (nodes net.now) blocks (block + 1)) (block_of net.now blocks) }
-    ensures len { vec_len homes.new ≡ first_of (nodes net.now) blocks (block + 1) }
+        ≡ table (first_node (nodes net.now) blocks (block + 1)) (block_of net.now blocks) }
+    ensures len { vec_len homes.new ≡ first_node (nodes net.now) blocks (block + 1) }
     ensures room { vec_capacity homes.new ≡ nodes net.now }
 {
     let (first, next) = bounds(net, blocks, block);

@@ -10,7 +10,7 @@ use Rattle.block_events.proofs.Opening.{opened_sound}
 use Rattle.discharge.specs.Views.{count, first_lane, first_border}
 use Rattle.parcel.specs.Whole.{block_at, block_with, home, place, near_home, slot, is_outer, IsInnerAt, IsBorderAt, StandsAt, LiesAt, IsPlaced, IsFilled, with_blocks}
 use Rattle.parcel.specs.Views.{IsLaid}
-use Rattle.discharge.specs.Steps.{Held, Rise, Send, DoesMany}
+use Rattle.discharge.specs.Steps.{TurnView, Rise, Send, DoesMany}
 use Rattle.block_cut.specs.Rounds.{fresh}
 use Rattle.block_tests.specs.Seats.{whole_before, blocks_after, left_on_the_way, BlocksComeBack}
 
@@ -110,7 +110,7 @@ abbrev steps : ℕ → ℕ
 steps b = cond (eqb b 0) 2 1
 
 -- what block b came to
-abbrev came : ℕ → Held
+abbrev came : ℕ → TurnView
 came b = record { block = block_at (with_blocks whole_before blocks_after) b; sent = sent b; taken = taken b }
 
 does0 : DoesMany (fresh (block_at whole_before 0)) 2 (came 0)

@@ -1,7 +1,7 @@
 -- What a block sees of ends that hold one letter each way.
 use Rattle.std.specs.Prelude.{ℕ, Bool, true, false, cond, ◌==◌, List, [], ◌∷◌, Option, Some, None}
 use Rattle.parcel.specs.Types.{Message, Letter}
-use Rattle.parcel.specs.Seen.{Seen}
+use Rattle.parcel.specs.Seen.{WaysView}
 
 -- by block: the message of the letter for or from block c, if there is one
 abbrev pub log_of : ℕ → Option Letter → ℕ → List Message
@@ -19,7 +19,7 @@ front_of came None = came
 front_of came (Some l) = None
 
 -- by the letter that came, the one that was put for a block, and the one that was taken from a block
-abbrev pub seen_of : Option Letter → ℕ → Option Letter → ℕ → Option Letter → Seen
+abbrev pub seen_of : Option Letter → ℕ → Option Letter → ℕ → Option Letter → WaysView
 seen_of came put_for put taken_from taken = record {
   sent = log_of put_for put;
   taken = log_of taken_from taken;

@@ -4,11 +4,11 @@ use Rattle.parcel.specs.Types.{Event, Relabel, Send}
 use Rattle.parcel.specs.Directions.{forward}
 use Rattle.parcel.specs.States.{State}
 use Rattle.parcel.specs.Events.{effect}
-use Rattle.parcel.specs.Soundness.{opened}
+use Rattle.parcel.specs.Soundness.{opening_state}
 use Rattle.block_tests.specs.Runs.{two_source_net}
 
 abbrev pub opened_blocks : State
-opened_blocks = opened two_source_net 2
+opened_blocks = opening_state two_source_net 2
 
 -- the one block relabels its node and sends; the other relabels its own
 abbrev pub parcel_on_the_way : State

@@ -4,20 +4,20 @@ use Rattle.flow_network.specs.Cut.{Network}
 use Rattle.parcel.specs.Types.{Event, PushSink, Relabel, Send, Accept, Refuse, Settle}
 use Rattle.parcel.specs.Directions.{forward, backward}
 use Rattle.parcel.specs.States.{State}
-use Rattle.parcel.specs.Events.{effect, Enabled}
-use Rattle.parcel.specs.Soundness.{count}
+use Rattle.parcel.specs.Events.{effect, IsEnabled}
+use Rattle.parcel.specs.Soundness.{potential}
 
 abbrev pub counts : State → List Event → List ℕ
-counts s [] = count s ∷ []
-counts s (e ∷ es) = count s ∷ counts (effect s e) es
+counts s [] = potential s ∷ []
+counts s (e ∷ es) = potential s ∷ counts (effect s e) es
 
-abbrev pub after : State → List Event → State
-after s [] = s
-after s (e ∷ es) = after (effect s e) es
+abbrev pub after_events : State → List Event → State
+after_events s [] = s
+after_events s (e ∷ es) = after_events (effect s e) es
 
 abbrev pub AllEnabled : State → List Event → Type 0
 AllEnabled s [] = Unit {0}
-AllEnabled s (e ∷ es) = Enabled s e × AllEnabled (effect s e) es
+AllEnabled s (e ∷ es) = IsEnabled s e × AllEnabled (effect s e) es
 
 abbrev pub one_source_net : Network
 one_source_net =

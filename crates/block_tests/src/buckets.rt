@@ -1,6 +1,6 @@
 ghost use Rattle.std.specs.Prelude.{◌≡◌, IfOk};
 ghost use Rattle.discharge.specs.Views.{count};
-ghost use Rattle.block_net.specs.Standing.{nodes};
+ghost use Rattle.block_net.specs.Standing.{row_count};
 
 use crate::building::net_of;
 use block_net::{ARC_LIMIT, Buckets, Cells, Parts};
@@ -10,7 +10,7 @@ use std::process::Abort;
 use std::test::Fail;
 
 /// Each node taken from the highest bucket and out, in order.
-fn drained(rt: &HostRuntime, buckets: &mut Buckets) -> Result<Vec<usize>, AllocError> {
+fn drain(rt: &HostRuntime, buckets: &mut Buckets) -> Result<Vec<usize>, AllocError> {
     let mut order = Vec::new(rt.alloc());
     for _node in 0..buckets.len() {
         let Some(node) = buckets.highest() else {
@@ -24,7 +24,7 @@ fn drained(rt: &HostRuntime, buckets: &mut Buckets) -> Result<Vec<usize>, AllocE
 
 /// Nodes stand in the buckets of labels; what is no node is passed over.
 fn put_all(buckets: &mut Buckets, labels: &[(usize, u32)])
-    ensures { nodes buckets.new ≡ nodes buckets.old }
+    ensures { row_count buckets.new ≡ row_count buckets.old }
 {
     for (node, label) in labels {
         if *node < buckets.len() {
@@ -41,7 +41,7 @@ fn the_highest_comes_first(rt: HostRuntime) -> Result<(), Fail> {
         &mut buckets,
         &[(0, 2), (1, 7), (2, 0), (3, 3), (5, 2), (3, 1)],
     );
-    let order = drained(&rt, &mut buckets)?;
+    let order = drain(&rt, &mut buckets)?;
     assert!(rt; order.as_slice() == [1, 5, 0, 3, 2].as_slice());
     assert!(rt; buckets.highest().is_none());
     Ok(())
@@ -62,7 +62,7 @@ fn what_is_aside_comes_back(rt: HostRuntime) -> Result<(), Fail> {
     buckets.clear();
     assert!(rt; buckets.highest().is_none());
     buckets.put(2, 0);
-    let order = drained(&rt, &mut buckets)?;
+    let order = drain(&rt, &mut buckets)?;
     assert!(rt; order.as_slice() == [2].as_slice());
     Ok(())
 }

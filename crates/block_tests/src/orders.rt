@@ -200,7 +200,7 @@ const MIDDLES: &[usize] = &[1, 5, 12];
 /// The state taken apart and put together again; none where its pieces tell another amount that the sink got.
 fn put_together(state: State) -> Option<State> {
     let pieces = state.into_pieces();
-    if pieces.given() != pieces.got {
+    if pieces.sink_total() != pieces.got {
         return None;
     }
     Some(pieces.into_state())

@@ -7,8 +7,8 @@ use Rattle.block_events.specs.declared.message.Message.{Message}
 use Rattle.block_events.specs.declared.message.Message.TheVariants.{Parcel, Accepted, Refused}
 use Rattle.block_net.specs.Views.{CellsView}
 use Rattle.block_turns.specs.declared.letter.Letter.{Letter}
-use Rattle.block_turns.specs.Seen.{Seen, IsLook}
-use Rattle.block_turns.specs.Steps.{Step, Held, Accept, Refuse, Settle, MayAccept, MayRefuse, MaySettle, IsSure, after}
+use Rattle.block_turns.specs.Seen.{WaysView, IsLook}
+use Rattle.block_turns.specs.Steps.{Step, TurnView, Accept, Refuse, Settle, MayAcceptAt, MayRefuseAt, MaySettleAt, IsSure, turn_after}
 use Rattle.block_turns.specs.Calls.{Performs, IsUnchanged, IsFront, TakesParcel, HasReceived, HasSettled}
 use Rattle.block_turns.specs.Turns.{IsKnown}
 use Rattle.block_turns.specs.Works.{IsAlike, IsIdleFrom}
@@ -30,18 +30,18 @@ some_or_none n P Q one off = elim (cases_lt 0 n) [
 ]
 
 -- what is done after a look is done before it
-done_look : (b b' : CellsView) (s t u : Seen) (e : Step) → IsLook s t → Performs b t e b' u → Performs b s e b' u
-done_look b b' s t u e look done = record { enabled = done.enabled; effect = done.effect ∙ ap (λ (h : Held). after h e) (held_look b s t look) }
+done_look : (b b' : CellsView) (s t u : WaysView) (e : Step) → IsLook s t → Performs b t e b' u → Performs b s e b' u
+done_look b b' s t u e look done = record { enabled = done.enabled; effect = done.effect ∙ ap (λ (h : TurnView). turn_after h e) (held_look b s t look) }
 
 some_same : (o : Option Letter) (k l : Letter) → o ≡ Some k → o ≡ Some l → k ≡ l
 some_same o k l e f = cc
 
-front_look : (s t : Seen) (c : ℕ) (l : Letter) → IsLook s t → t.front c ≡ Some l → IsFront s c l
+front_look : (s t : WaysView) (c : ℕ) (l : Letter) → IsLook s t → t.front c ≡ Some l → IsFront s c l
 front_look s t c l look front = λ k e. some_same (t.front c) k l (look.front c k e) front
 
 -- ---- a parcel
 
-pub received : (b b' : CellsView) (s t u : Seen) (c : ℕ) (l : Letter) → IsLook s t → t.front c ≡ Some l → TakesParcel b t c l b' u → HasReceived b s c b' u
+pub received : (b b' : CellsView) (s t u : WaysView) (c : ℕ) (l : Letter) → IsLook s t → t.front c ≡ Some l → TakesParcel b t c l b' u → HasReceived b s c b' u
 received b b' s t u c l look front took = (
   l,
   front_look s t c l look front,
@@ -51,11 +51,11 @@ received b b' s t u c l look front took = (
   ],
 )
 
-abbrev pub NoneReceived : CellsView → Seen → ℕ → CellsView → Seen → Type 0
+abbrev pub NoneReceived : CellsView → WaysView → ℕ → CellsView → WaysView → Type 0
 NoneReceived b s c b' u =
     ((l : Letter) → (¬ IsSure b s (Accept c l)) × (¬ IsSure b s (Refuse c l))) × IsUnchanged b s b' u
 
-pub none_received : (b b' : CellsView) (s t u : Seen) (c : ℕ) → IsLook s t → IsIdleFrom b t c → b' ≡ b → IsLook t u → NoneReceived b s c b' u
+pub none_received : (b b' : CellsView) (s t u : WaysView) (c : ℕ) → IsLook s t → IsIdleFrom b t c → b' ≡ b → IsLook t u → NoneReceived b s c b' u
 none_received b b' s t u c look idle block then =
     let before = idle_from_look b s t c look idle in
     (λ l. (before.accepts l, before.refuses l), record { block = block; look = look_more s t u look then })
@@ -66,17 +66,17 @@ IsAnswer (Parcel x a d) = ⊥
 IsAnswer (Accepted x a) = Unit {0}
 IsAnswer (Refused x a d told) = Unit {0}
 
-accepts_none : (b : CellsView) (c j : ℕ) (m : Message) → IsAnswer m → MayAccept b c j m → ⊥
+accepts_none : (b : CellsView) (c j : ℕ) (m : Message) → IsAnswer m → MayAcceptAt b c j m → ⊥
 accepts_none b c j (Parcel x a d) is may = is
 accepts_none b c j (Accepted x a) is may = may
 accepts_none b c j (Refused x a d told) is may = may
 
-refuses_none : (b : CellsView) (c j : ℕ) (m : Message) → IsAnswer m → MayRefuse b c j m → ⊥
+refuses_none : (b : CellsView) (c j : ℕ) (m : Message) → IsAnswer m → MayRefuseAt b c j m → ⊥
 refuses_none b c j (Parcel x a d) is may = is
 refuses_none b c j (Accepted x a) is may = may
 refuses_none b c j (Refused x a d told) is may = may
 
-pub answer_received : (b : CellsView) (s t : Seen) (c : ℕ) (l : Letter) → IsLook s t → t.front c ≡ Some l → IsAnswer l.message → NoneReceived b s c b t
+pub answer_received : (b : CellsView) (s t : WaysView) (c : ℕ) (l : Letter) → IsLook s t → t.front c ≡ Some l → IsAnswer l.message → NoneReceived b s c b t
 answer_received b s t c l look front is =
     let here : (k : Letter) → s.front c ≡ Some k → IsAnswer k.message = λ k e.
     subst (λ (x : Letter). IsAnswer x.message) (sym (front_look s t c l look front k e)) is in (
@@ -86,13 +86,13 @@ answer_received b s t c l look front is =
 
 -- ---- an answer
 
-pub has_settled : (b b' : CellsView) (s t u : Seen) (c : ℕ) (l : Letter) → IsLook s t → t.front c ≡ Some l → Performs b t (Settle c l) b' u → HasSettled b s c b' u
+pub has_settled : (b b' : CellsView) (s t u : WaysView) (c : ℕ) (l : Letter) → IsLook s t → t.front c ≡ Some l → Performs b t (Settle c l) b' u → HasSettled b s c b' u
 has_settled b b' s t u c l look front done = (l, front_look s t c l look front, done_look b b' s t u (Settle c l) look done)
 
-abbrev pub NoneSettled : CellsView → Seen → ℕ → CellsView → Seen → Type 0
+abbrev pub NoneSettled : CellsView → WaysView → ℕ → CellsView → WaysView → Type 0
 NoneSettled b s c b' u = ((l : Letter) → ¬ IsSure b s (Settle c l)) × IsUnchanged b s b' u
 
-pub none_settled : (b b' : CellsView) (s t u : Seen) (c : ℕ) → IsLook s t → IsIdleFrom b t c → b' ≡ b → IsLook t u → NoneSettled b s c b' u
+pub none_settled : (b b' : CellsView) (s t u : WaysView) (c : ℕ) → IsLook s t → IsIdleFrom b t c → b' ≡ b → IsLook t u → NoneSettled b s c b' u
 none_settled b b' s t u c look idle block then =
     let before = idle_from_look b s t c look idle in
     (before.settles, record { block = block; look = look_more s t u look then })
@@ -102,12 +102,12 @@ IsParcel (Parcel x a d) = Unit {0}
 IsParcel (Accepted x a) = ⊥
 IsParcel (Refused x a d told) = ⊥
 
-settles_none : (b : CellsView) (c j : ℕ) (m : Message) → IsParcel m → MaySettle b c j m → ⊥
+settles_none : (b : CellsView) (c j : ℕ) (m : Message) → IsParcel m → MaySettleAt b c j m → ⊥
 settles_none b c j (Parcel x a d) is may = may
 settles_none b c j (Accepted x a) is may = is
 settles_none b c j (Refused x a d told) is may = is
 
-pub parcel_settled : (b : CellsView) (s t : Seen) (c : ℕ) (l : Letter) → IsLook s t → t.front c ≡ Some l → IsParcel l.message → NoneSettled b s c b t
+pub parcel_settled : (b : CellsView) (s t : WaysView) (c : ℕ) (l : Letter) → IsLook s t → t.front c ≡ Some l → IsParcel l.message → NoneSettled b s c b t
 parcel_settled b s t c l look front is =
     let here : (k : Letter) → s.front c ≡ Some k → IsParcel k.message = λ k e.
     subst (λ (x : Letter). IsParcel x.message) (sym (front_look s t c l look front k e)) is in

@@ -5,10 +5,10 @@ use Rattle.std.proofs.lemmas.Bool.{cases_eq, cases_lt}
 use Rattle.std.proofs.lemmas.List.{length-set, set_past}
 use Rattle.block_events.specs.declared.message.Message.{Message}
 use Rattle.block_net.specs.declared.lanes.Border.{Border}
-use Rattle.block_net.specs.Views.{MayPush, MaySend, CellsView, excess_in, label_in, room_in, lane_in, border_in, no_border, pushed, given, labelled, sent, parcel_of, highest}
-use Rattle.block_turns.specs.Seen.{Seen, IsLook, IsPut, add_to}
-use Rattle.block_turns.specs.Steps.{Push, Give, Rise, Send, IsOfNode, IsBorderOfNode, held}
-use Rattle.block_turns.specs.Active.{IsActive}
+use Rattle.block_net.specs.Views.{MayPush, MaySend, CellsView, excess_in, label_in, room_in, lane_in, border_in, no_border, cells_after_push, cells_after_sink_push, cells_after_relabel, cells_after_send, parcel_of, highest}
+use Rattle.block_turns.specs.Seen.{WaysView, IsLook, IsPut, add_to}
+use Rattle.block_turns.specs.Steps.{Push, Give, Rise, Send, IsOfNode, IsBorderOfNode, turn_view}
+use Rattle.block_turns.specs.Active.{IsActiveInBlock}
 use Rattle.block_turns.specs.Calls.{Performs}
 use Rattle.block_turns.specs.Works.{IsAlike, DoesEvents}
 use Rattle.block_turns.proofs.Runs.{does_one, look_sent, look_taken}
@@ -25,14 +25,14 @@ to_kept xs j row e i = elim (cases_eq i j) [
 
 -- ---- the sink
 
-pub done_give : (b b' : CellsView) (s : Seen) (v : ℕ) → IsActive b v → 0 < room_in b v → label_in b v ≡ 1 → b' ≡ given b v (min (excess_in b v) (room_in b v))
+pub done_give : (b b' : CellsView) (s : WaysView) (v : ℕ) → IsActiveInBlock b v → 0 < room_in b v → label_in b v ≡ 1 → b' ≡ cells_after_sink_push b v (min (excess_in b v) (room_in b v))
     → Performs b s (Give v) b' s
-done_give b b' s v active room label made = record { enabled = (active, room, label); effect = ap (λ (x : CellsView). held x s) made }
+done_give b b' s v active room label made = record { enabled = (active, room, label); effect = ap (λ (x : CellsView). turn_view x s) made }
 
-pub does_give : (b b' : CellsView) (s : Seen) (v : ℕ) → IsActive b v → 0 < room_in b v → label_in b v ≡ 1 → b' ≡ given b v (min (excess_in b v) (room_in b v))
+pub does_give : (b b' : CellsView) (s : WaysView) (v : ℕ) → IsActiveInBlock b v → 0 < room_in b v → label_in b v ≡ 1 → b' ≡ cells_after_sink_push b v (min (excess_in b v) (room_in b v))
     → DoesEvents b s 1 b' s
 does_give b b' s v active room label made =
-    let alike : IsAlike b (given b v (min (excess_in b v) (room_in b v))) = record {
+    let alike : IsAlike b (cells_after_sink_push b v (min (excess_in b v) (room_in b v))) = record {
       top = refl;
       count = length-set b.excess v _;
       starts = refl;
@@ -46,17 +46,17 @@ does_give b b' s v active room label made =
 
 -- ---- a direction within the block
 
-pub done_push : (b b' : CellsView) (s : Seen) (v j : ℕ) → IsActive b v → IsOfNode b v j → MayPush b v j → b' ≡ pushed b v j (min (excess_in b v) (lane_in b j).residual)
+pub done_push : (b b' : CellsView) (s : WaysView) (v j : ℕ) → IsActiveInBlock b v → IsOfNode b v j → MayPush b v j → b' ≡ cells_after_push b v j (min (excess_in b v) (lane_in b j).residual)
     → Performs b s (Push v j) b' s
-done_push b b' s v j active lane may made = record { enabled = (active, lane, may); effect = ap (λ (x : CellsView). held x s) made }
+done_push b b' s v j active lane may made = record { enabled = (active, lane, may); effect = ap (λ (x : CellsView). turn_view x s) made }
 
-pub does_push : (b b' : CellsView) (s : Seen) (v j : ℕ) → IsActive b v → IsOfNode b v j → MayPush b v j → b' ≡ pushed b v j (min (excess_in b v) (lane_in b j).residual)
+pub does_push : (b b' : CellsView) (s : WaysView) (v j : ℕ) → IsActiveInBlock b v → IsOfNode b v j → MayPush b v j → b' ≡ cells_after_push b v j (min (excess_in b v) (lane_in b j).residual)
     → DoesEvents b s 1 b' s
 does_push b b' s v j active lane may made =
     let z = min (excess_in b v) (lane_in b j).residual in
     let less = set b.excess v (excess_in b v - z) in
     let taken = set b.lanes j (record (lane_in b j) { residual = (lane_in b j).residual - z }) in
-    let alike : IsAlike b (pushed b v j z) = record {
+    let alike : IsAlike b (cells_after_push b v j z) = record {
       top = refl;
       count = length-set less (lane_in b j).far _ ∙ length-set b.excess v _;
       starts = refl;
@@ -70,20 +70,20 @@ does_push b b' s v j active lane may made =
 
 -- ---- another block
 
-pub done_send : (b b' : CellsView) (s t u : Seen) (v j : ℕ) (x : Border) (m : Message) → IsActive b v → IsBorderOfNode b v j → MaySend b v j → x ≡ border_in b j → m ≡ parcel_of b v j
-    → b' ≡ sent b v j (min (excess_in b v) (border_in b j).residual) → IsLook s t → IsPut x.to m t u
+pub done_send : (b b' : CellsView) (s t u : WaysView) (v j : ℕ) (x : Border) (m : Message) → IsActiveInBlock b v → IsBorderOfNode b v j → MaySend b v j → x ≡ border_in b j → m ≡ parcel_of b v j
+    → b' ≡ cells_after_send b v j (min (excess_in b v) (border_in b j).residual) → IsLook s t → IsPut x.to m t u
     → Performs b s (Send v j) b' u
 done_send b b' s t u v j x m active border may is_x is_m made look put =
     let sent_is : u.sent ≡ add_to s.sent (border_in b j).to (parcel_of b v j) = fun_ext put.sent ∙ rw (look_sent s t look, is_m, is_x) refl in
     let taken_is : u.taken ≡ s.taken = fun_ext put.taken ∙ look_taken s t look in
     record { enabled = (active, border, may); effect = rw (made, sent_is, taken_is) refl }
 
-pub does_send : (b b' : CellsView) (s t u : Seen) (v j : ℕ) (x : Border) (m : Message) → IsActive b v → IsBorderOfNode b v j → MaySend b v j → x ≡ border_in b j → m ≡ parcel_of b v j
-    → b' ≡ sent b v j (min (excess_in b v) (border_in b j).residual) → IsLook s t → IsPut x.to m t u
+pub does_send : (b b' : CellsView) (s t u : WaysView) (v j : ℕ) (x : Border) (m : Message) → IsActiveInBlock b v → IsBorderOfNode b v j → MaySend b v j → x ≡ border_in b j → m ≡ parcel_of b v j
+    → b' ≡ cells_after_send b v j (min (excess_in b v) (border_in b j).residual) → IsLook s t → IsPut x.to m t u
     → DoesEvents b s 1 b' u
 does_send b b' s t u v j x m active border may is_x is_m made look put =
     let z = min (excess_in b v) (border_in b j).residual in
-    let alike : IsAlike b (sent b v j z) = record {
+    let alike : IsAlike b (cells_after_send b v j z) = record {
       top = refl;
       count = length-set b.excess v _;
       starts = refl;
@@ -97,13 +97,13 @@ does_send b b' s t u v j x m active border may is_x is_m made look put =
 
 -- ---- a label
 
-pub done_rise : (b b' : CellsView) (s : Seen) (v d : ℕ) → IsActive b v → label_in b v < d → d ≡ highest b v → b' ≡ labelled b v d → Performs b s (Rise v) b' s
+pub done_rise : (b b' : CellsView) (s : WaysView) (v d : ℕ) → IsActiveInBlock b v → label_in b v < d → d ≡ highest b v → b' ≡ cells_after_relabel b v d → Performs b s (Rise v) b' s
 done_rise b b' s v d active high is made =
-    record { enabled = (active, omega (arith, high, is)); effect = ap (λ (x : CellsView). held x s) (made ∙ ap (labelled b v) is) }
+    record { enabled = (active, omega (arith, high, is)); effect = ap (λ (x : CellsView). turn_view x s) (made ∙ ap (cells_after_relabel b v) is) }
 
-pub does_rise : (b b' : CellsView) (s : Seen) (v d : ℕ) → IsActive b v → label_in b v < d → d ≡ highest b v → b' ≡ labelled b v d → DoesEvents b s 1 b' s
+pub does_rise : (b b' : CellsView) (s : WaysView) (v d : ℕ) → IsActiveInBlock b v → label_in b v < d → d ≡ highest b v → b' ≡ cells_after_relabel b v d → DoesEvents b s 1 b' s
 does_rise b b' s v d active high is made =
-    let at : b' ≡ labelled b v (highest b v) = made ∙ ap (labelled b v) is in
-    let alike : IsAlike b (labelled b v (highest b v)) = record { top = refl; count = refl; starts = refl; lanes = refl; border_starts = refl; borders = refl; tos = λ i. refl } in
+    let at : b' ≡ cells_after_relabel b v (highest b v) = made ∙ ap (cells_after_relabel b v) is in
+    let alike : IsAlike b (cells_after_relabel b v (highest b v)) = record { top = refl; count = refl; starts = refl; lanes = refl; border_starts = refl; borders = refl; tos = λ i. refl } in
     let done = done_rise b b' s v d active high is made in
     does_one b b' s s (Rise v) done.enabled done.effect (subst (IsAlike b) (sym at) alike)

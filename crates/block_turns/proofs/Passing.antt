@@ -2,12 +2,12 @@
 use Rattle.std.proofs.Common.{◌⊎◌, ℕ, inl, inr, arith}
 use Rattle.std.proofs.lemmas.Bool.{cases_lt}
 use Rattle.block_net.specs.Views.{CellsView, count, excess_in, label_in}
-use Rattle.block_turns.specs.Active.{IsActive}
-use Rattle.block_turns.specs.Seen.{Seen}
+use Rattle.block_turns.specs.Active.{IsActiveInBlock}
+use Rattle.block_turns.specs.Seen.{WaysView}
 use Rattle.block_turns.specs.Works.{IsIdle}
 use Rattle.block_turns.proofs.Runs.{idle_inactive}
 
-cases_active : (b : CellsView) (v : ℕ) → IsActive b v ⊎ (¬ IsActive b v)
+cases_active : (b : CellsView) (v : ℕ) → IsActiveInBlock b v ⊎ (¬ IsActiveInBlock b v)
 cases_active b v = elim (cases_lt v (count b)) [
   | inr out ↦ inr (λ active. omega (arith, active.node, out))
   | inl node ↦ elim (cases_lt 0 (excess_in b v)) [
@@ -19,7 +19,7 @@ cases_active b v = elim (cases_lt v (count b)) [
   ]
 ]
 
-pub active_idle : (b : CellsView) (s : Seen) → ((v : ℕ) → IsActive b v → IsIdle b s v) → (v : ℕ) → IsIdle b s v
+pub active_idle : (b : CellsView) (s : WaysView) → ((v : ℕ) → IsActiveInBlock b v → IsIdle b s v) → (v : ℕ) → IsIdle b s v
 active_idle b s each v = elim (cases_active b v) [
   | inl on ↦ each v on
   | inr off ↦ idle_inactive b s v off

@@ -8,10 +8,10 @@ use Rattle.block_events.specs.declared.message.Message.{Message}
 use Rattle.block_events.specs.declared.message.Message.TheVariants.{Parcel, Accepted, Refused}
 use Rattle.block_events.specs.Directions.{opposite}
 use Rattle.block_net.specs.declared.lanes.Border.{Border}
-use Rattle.block_net.specs.Views.{CellsView, label_in, border_in, accepted, settled, returned}
+use Rattle.block_net.specs.Views.{CellsView, label_in, border_in, cells_after_accept, cells_after_settle, cells_after_return}
 use Rattle.block_turns.specs.declared.letter.Letter.{Letter}
-use Rattle.block_turns.specs.Seen.{Seen, IsLook, IsPut, IsTake, add_to}
-use Rattle.block_turns.specs.Steps.{Accept, Refuse, Settle, MayAccept, MayRefuse, MaySettle}
+use Rattle.block_turns.specs.Seen.{WaysView, IsLook, IsPut, IsTake, add_to}
+use Rattle.block_turns.specs.Steps.{Accept, Refuse, Settle, MayAcceptAt, MayRefuseAt, MaySettleAt}
 use Rattle.block_turns.specs.Calls.{Performs}
 use Rattle.block_turns.specs.Works.{IsAlike, DoesEvents}
 use Rattle.block_turns.proofs.Runs.{does_one, alike_same, look_sent, look_taken}
@@ -20,7 +20,7 @@ use Rattle.block_turns.proofs.Doing.{to_kept}
 abbrev pub parcel_letter : Direction → ℕ → ℕ → ℕ → Letter
 parcel_letter x a d j = record { message = Parcel x a d; place = j }
 
-pub done_accept : (b b' : CellsView) (s t u w : Seen) (c : ℕ) (x : Direction) (a d j : ℕ) (m : Message) → MayAccept b c j (Parcel x a d) → b' ≡ accepted b j a d
+pub done_accept : (b b' : CellsView) (s t u w : WaysView) (c : ℕ) (x : Direction) (a d j : ℕ) (m : Message) → MayAcceptAt b c j (Parcel x a d) → b' ≡ cells_after_accept b j a d
     → m ≡ Accepted (opposite (border_in b j).direction) a → IsLook s t → IsPut c m t u → IsTake c (Parcel x a d) u w
     → Performs b s (Accept c (parcel_letter x a d j)) b' w
 done_accept b b' s t u w c x a d j m may made is look put take =
@@ -29,12 +29,12 @@ done_accept b b' s t u w c x a d j m may made is look put take =
     let taken_is : w.taken ≡ add_to s.taken c (Parcel x a d) = fun_ext take.taken ∙ rw (fun_ext put.taken, look_taken s t look) refl in
     record { enabled = may; effect = rw (made, sent_is, taken_is) refl }
 
-pub does_accept : (b b' : CellsView) (s t u w : Seen) (c : ℕ) (x : Direction) (a d j : ℕ) (m : Message) → MayAccept b c j (Parcel x a d) → b' ≡ accepted b j a d
+pub does_accept : (b b' : CellsView) (s t u w : WaysView) (c : ℕ) (x : Direction) (a d j : ℕ) (m : Message) → MayAcceptAt b c j (Parcel x a d) → b' ≡ cells_after_accept b j a d
     → m ≡ Accepted (opposite (border_in b j).direction) a → IsLook s t → IsPut c m t u → IsTake c (Parcel x a d) u w → DoesEvents b s 1 b' w
 does_accept b b' s t u w c x a d j m may made is look put take =
     let y = border_in b j in
     let row : Border = record y { residual = y.residual + a; known = cond (is_some y.flight) y.known (max y.known d) } in
-    let alike : IsAlike b (accepted b j a d) = record {
+    let alike : IsAlike b (cells_after_accept b j a d) = record {
       top = refl;
       count = length-set b.excess y.near _;
       starts = refl;
@@ -46,7 +46,7 @@ does_accept b b' s t u w c x a d j m may made is look put take =
     let done = done_accept b b' s t u w c x a d j m may made is look put take in
     does_one b b' s w (Accept c (parcel_letter x a d j)) done.enabled done.effect (subst (IsAlike b) (sym made) alike)
 
-pub done_refuse : (b : CellsView) (s t u w : Seen) (c : ℕ) (x : Direction) (a d j : ℕ) (m : Message) → MayRefuse b c j (Parcel x a d)
+pub done_refuse : (b : CellsView) (s t u w : WaysView) (c : ℕ) (x : Direction) (a d j : ℕ) (m : Message) → MayRefuseAt b c j (Parcel x a d)
     → m ≡ Refused (opposite (border_in b j).direction) a d (label_in b (border_in b j).near) → IsLook s t → IsPut c m t u → IsTake c (Parcel x a d) u w
     → Performs b s (Refuse c (parcel_letter x a d j)) b w
 done_refuse b s t u w c x a d j m may is look put take =
@@ -56,7 +56,7 @@ done_refuse b s t u w c x a d j m may is look put take =
     let taken_is : w.taken ≡ add_to s.taken c (Parcel x a d) = fun_ext take.taken ∙ rw (fun_ext put.taken, look_taken s t look) refl in
     record { enabled = may; effect = rw (sent_is, taken_is) refl }
 
-pub does_refuse : (b : CellsView) (s t u w : Seen) (c : ℕ) (x : Direction) (a d j : ℕ) (m : Message) → MayRefuse b c j (Parcel x a d)
+pub does_refuse : (b : CellsView) (s t u w : WaysView) (c : ℕ) (x : Direction) (a d j : ℕ) (m : Message) → MayRefuseAt b c j (Parcel x a d)
     → m ≡ Refused (opposite (border_in b j).direction) a d (label_in b (border_in b j).near) → IsLook s t → IsPut c m t u → IsTake c (Parcel x a d) u w → DoesEvents b s 1 b w
 does_refuse b s t u w c x a d j m may is look put take =
     let done = done_refuse b s t u w c x a d j m may is look put take in
@@ -65,14 +65,14 @@ does_refuse b s t u w c x a d j m may is look put take =
 abbrev pub accepted_letter : Direction → ℕ → ℕ → Letter
 accepted_letter x a j = record { message = Accepted x a; place = j }
 
-pub done_settle : (b b' : CellsView) (s w : Seen) (c : ℕ) (x : Direction) (a j : ℕ) → MaySettle b c j (Accepted x a) → b' ≡ settled b j → IsTake c (Accepted x a) s w
+pub done_settle : (b b' : CellsView) (s w : WaysView) (c : ℕ) (x : Direction) (a j : ℕ) → MaySettleAt b c j (Accepted x a) → b' ≡ cells_after_settle b j → IsTake c (Accepted x a) s w
     → Performs b s (Settle c (accepted_letter x a j)) b' w
 done_settle b b' s w c x a j may made take = record { enabled = may; effect = rw (made, fun_ext take.sent, fun_ext take.taken) refl }
 
-pub does_settle : (b b' : CellsView) (s w : Seen) (c : ℕ) (x : Direction) (a j : ℕ) → MaySettle b c j (Accepted x a) → b' ≡ settled b j → IsTake c (Accepted x a) s w → DoesEvents b s 1 b' w
+pub does_settle : (b b' : CellsView) (s w : WaysView) (c : ℕ) (x : Direction) (a j : ℕ) → MaySettleAt b c j (Accepted x a) → b' ≡ cells_after_settle b j → IsTake c (Accepted x a) s w → DoesEvents b s 1 b' w
 does_settle b b' s w c x a j may made take =
     let row : Border = record (border_in b j) { flight = None } in
-    let alike : IsAlike b (settled b j) = record {
+    let alike : IsAlike b (cells_after_settle b j) = record {
       top = refl;
       count = refl;
       starts = refl;
@@ -87,16 +87,16 @@ does_settle b b' s w c x a j may made take =
 abbrev pub refused_letter : Direction → ℕ → ℕ → ℕ → ℕ → Letter
 refused_letter x a d told j = record { message = Refused x a d told; place = j }
 
-pub done_return : (b b' : CellsView) (s w : Seen) (c : ℕ) (x : Direction) (a d told j : ℕ) → MaySettle b c j (Refused x a d told) → b' ≡ returned b j a told → IsTake c (Refused x a d told) s w
+pub done_return : (b b' : CellsView) (s w : WaysView) (c : ℕ) (x : Direction) (a d told j : ℕ) → MaySettleAt b c j (Refused x a d told) → b' ≡ cells_after_return b j a told → IsTake c (Refused x a d told) s w
     → Performs b s (Settle c (refused_letter x a d told j)) b' w
 done_return b b' s w c x a d told j may made take = record { enabled = may; effect = rw (made, fun_ext take.sent, fun_ext take.taken) refl }
 
-pub does_return : (b b' : CellsView) (s w : Seen) (c : ℕ) (x : Direction) (a d told j : ℕ) → MaySettle b c j (Refused x a d told) → b' ≡ returned b j a told → IsTake c (Refused x a d told) s w
+pub does_return : (b b' : CellsView) (s w : WaysView) (c : ℕ) (x : Direction) (a d told j : ℕ) → MaySettleAt b c j (Refused x a d told) → b' ≡ cells_after_return b j a told → IsTake c (Refused x a d told) s w
     → DoesEvents b s 1 b' w
 does_return b b' s w c x a d told j may made take =
     let y = border_in b j in
     let row : Border = record y { residual = y.residual + a; known = told; flight = None } in
-    let alike : IsAlike b (returned b j a told) = record {
+    let alike : IsAlike b (cells_after_return b j a told) = record {
       top = refl;
       count = length-set b.excess y.near _;
       starts = refl;

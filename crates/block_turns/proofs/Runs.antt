@@ -5,23 +5,23 @@ use Rattle.std.proofs.lemmas.List.{length-append}
 use Rattle.block_events.specs.declared.message.Message.{Message}
 use Rattle.block_turns.specs.declared.letter.Letter.{Letter}
 use Rattle.block_net.specs.Views.{CellsView}
-use Rattle.block_turns.specs.Seen.{Seen, IsLook}
-use Rattle.block_turns.specs.Steps.{Step, Push, Give, Rise, Send, Held, held, Enabled, after, Run, DoesMany, IsSure}
-use Rattle.block_turns.specs.Active.{IsActive}
-use Rattle.block_turns.specs.Works.{IsAlike, DoesEvents, IsIdle, IsStuck, IsIdleFrom}
+use Rattle.block_turns.specs.Seen.{WaysView, IsLook}
+use Rattle.block_turns.specs.Steps.{Step, Push, Give, Rise, Send, TurnView, turn_view, IsStepEnabled, turn_after, IsRunOfSteps, DoesMany, IsSure}
+use Rattle.block_turns.specs.Active.{IsActiveInBlock}
+use Rattle.block_turns.specs.Works.{IsAlike, DoesEvents, IsIdle, IsStuckInBlock, IsIdleFrom}
 
-pub run_append : (es fs : List Step) (h g k : Held) → Run h es g → Run g fs k → Run h (es ++ fs) k
-run_append [] fs h g k first second = subst (λ (x : Held). Run x fs k) first second
-run_append (e ∷ es) fs h g k first second = (first.0, run_append es fs (after h e) g k first.1 second)
+pub run_append : (es fs : List Step) (h g k : TurnView) → IsRunOfSteps h es g → IsRunOfSteps g fs k → IsRunOfSteps h (es ++ fs) k
+run_append [] fs h g k first second = subst (λ (x : TurnView). IsRunOfSteps x fs k) first second
+run_append (e ∷ es) fs h g k first second = (first.0, run_append es fs (turn_after h e) g k first.1 second)
 
-pub many_more : (h g k : Held) (m n : ℕ) → DoesMany h m g → DoesMany g n k → DoesMany h (m + n) k
+pub many_more : (h g k : TurnView) (m n : ℕ) → DoesMany h m g → DoesMany g n k → DoesMany h (m + n) k
 many_more h g k m n first second =
     (first.0 ++ second.0, run_append first.0 second.0 h g k first.1 second.1, omega (arith, length-append first.0 second.0, first.2, second.2))
 
-pub look_same : (s : Seen) → IsLook s s
+pub look_same : (s : WaysView) → IsLook s s
 look_same s = record { sent = λ c. refl; taken = λ c. refl; room = λ c h. h; front = λ c m h. h }
 
-pub look_more : (a b c : Seen) → IsLook a b → IsLook b c → IsLook a c
+pub look_more : (a b c : WaysView) → IsLook a b → IsLook b c → IsLook a c
 look_more a b c h k = record {
   sent = λ c. k.sent c ∙ h.sent c;
   taken = λ c. k.taken c ∙ h.taken c;
@@ -43,39 +43,39 @@ alike_more a b c h k = record {
   tos = λ j. k.tos j ∙ h.tos j;
 }
 
-pub look_sent : (s t : Seen) → IsLook s t → t.sent ≡ s.sent
+pub look_sent : (s t : WaysView) → IsLook s t → t.sent ≡ s.sent
 look_sent s t look = fun_ext look.sent
 
-pub look_taken : (s t : Seen) → IsLook s t → t.taken ≡ s.taken
+pub look_taken : (s t : WaysView) → IsLook s t → t.taken ≡ s.taken
 look_taken s t look = fun_ext look.taken
 
-pub held_look : (b : CellsView) (s t : Seen) → IsLook s t → held b t ≡ held b s
+pub held_look : (b : CellsView) (s t : WaysView) → IsLook s t → turn_view b t ≡ turn_view b s
 held_look b s t look =
     ap (λ (f : ℕ → List Message). record { block = b; sent = f; taken = t.taken }) (look_sent s t look)
     ∙ ap (λ (f : ℕ → List Message). record { block = b; sent = s.sent; taken = f }) (look_taken s t look)
 
 -- looks alone
-pub does_look : (b : CellsView) (s t : Seen) → IsLook s t → DoesEvents b s 0 b t
+pub does_look : (b : CellsView) (s t : WaysView) → IsLook s t → DoesEvents b s 0 b t
 does_look b s t look = record {
   run = ([], held_look b s t look, refl);
   alike = alike_same b;
   still = λ e. (refl, look);
 }
 
-pub does_none : (b : CellsView) (s : Seen) → DoesEvents b s 0 b s
+pub does_none : (b : CellsView) (s : WaysView) → DoesEvents b s 0 b s
 does_none b s = does_look b s s (look_same s)
 
 -- one event
-pub does_one : (b b' : CellsView) (s s' : Seen) (e : Step) → Enabled b e → held b' s' ≡ after (held b s) e → IsAlike b b' → DoesEvents b s 1 b' s'
+pub does_one : (b b' : CellsView) (s s' : WaysView) (e : Step) → IsStepEnabled b e → turn_view b' s' ≡ turn_after (turn_view b s) e → IsAlike b b' → DoesEvents b s 1 b' s'
 does_one b b' s s' e on is alike = record {
   run = (e ∷ [], (on, is), refl);
   alike = alike;
   still = λ h. absurd (omega arith);
 }
 
-pub does_more : (a b c : CellsView) (s t u : Seen) (m n : ℕ) → DoesEvents a s m b t → DoesEvents b t n c u → DoesEvents a s (m + n) c u
+pub does_more : (a b c : CellsView) (s t u : WaysView) (m n : ℕ) → DoesEvents a s m b t → DoesEvents b t n c u → DoesEvents a s (m + n) c u
 does_more a b c s t u m n h k = record {
-  run = many_more (held a s) (held b t) (held c u) m n h.run k.run;
+  run = many_more (turn_view a s) (turn_view b t) (turn_view c u) m n h.run k.run;
   alike = alike_more a b c h.alike k.alike;
   still = λ e.
       let first = h.still (omega (arith, e)) in
@@ -83,15 +83,15 @@ does_more a b c s t u m n h k = record {
       (second.0 ∙ first.0, look_more s t u first.1 second.1);
 }
 
-pub does_as : (a b : CellsView) (s t : Seen) (m n : ℕ) → m ≡ n → DoesEvents a s m b t → DoesEvents a s n b t
+pub does_as : (a b : CellsView) (s t : WaysView) (m n : ℕ) → m ≡ n → DoesEvents a s m b t → DoesEvents a s n b t
 does_as a b s t m n e h = subst (λ (k : ℕ). DoesEvents a s k b t) e h
 
 -- nothing seen
-abbrev pub no_seen : Seen
+abbrev pub no_seen : WaysView
 no_seen = record { sent = λ c. []; taken = λ c. []; room = λ c. false; front = λ c. None }
 
 -- a node that is not active has no sure event
-pub idle_inactive : (b : CellsView) (s : Seen) (v : ℕ) → ¬ IsActive b v → IsIdle b s v
+pub idle_inactive : (b : CellsView) (s : WaysView) (v : ℕ) → ¬ IsActiveInBlock b v → IsIdle b s v
 idle_inactive b s v off = record {
   pushes = λ j on. off on.0;
   gift = λ on. off on.0;
@@ -100,7 +100,7 @@ idle_inactive b s v off = record {
 }
 
 -- what is idle after a look was idle before it
-pub idle_look : (b : CellsView) (s t : Seen) (v : ℕ) → IsLook s t → IsIdle b t v → IsIdle b s v
+pub idle_look : (b : CellsView) (s t : WaysView) (v : ℕ) → IsLook s t → IsIdle b t v → IsIdle b s v
 idle_look b s t v look idle = record {
   pushes = idle.pushes;
   gift = idle.gift;
@@ -109,14 +109,14 @@ idle_look b s t v look idle = record {
 }
 
 -- the three ways in which a node passes on what it has
-pub push_does : (a b c d : CellsView) (s t : Seen) (k l m : ℕ) → ((u : Seen) → DoesEvents a u k b u) → ((u : Seen) → DoesEvents b u l c u) → DoesEvents c s m d t → DoesEvents a s (k + l + m) d t
+pub push_does : (a b c d : CellsView) (s t : WaysView) (k l m : ℕ) → ((u : WaysView) → DoesEvents a u k b u) → ((u : WaysView) → DoesEvents b u l c u) → DoesEvents c s m d t → DoesEvents a s (k + l + m) d t
 push_does a b c d s t k l m first second third = does_more a c d s s t (k + l) m (does_more a b c s s s k l (first s) (second s)) third
 
-pub push_stuck : (a b c d : CellsView) (s t : Seen) (k l m v limit : ℕ) → ((u : Seen) → DoesEvents a u k b u) → ((u : Seen) → DoesEvents b u l c u) → DoesEvents c s m d t
-    → (k ≡ 0 → 0 < limit → ¬ Enabled a (Give v))
-    → (l ≡ 0 → 0 < limit - k → (j : ℕ) → ¬ Enabled b (Push v j))
+pub push_stuck : (a b c d : CellsView) (s t : WaysView) (k l m v limit : ℕ) → ((u : WaysView) → DoesEvents a u k b u) → ((u : WaysView) → DoesEvents b u l c u) → DoesEvents c s m d t
+    → (k ≡ 0 → 0 < limit → ¬ IsStepEnabled a (Give v))
+    → (l ≡ 0 → 0 < limit - k → (j : ℕ) → ¬ IsStepEnabled b (Push v j))
     → (m ≡ 0 → 0 < limit - k - l → (j : ℕ) → ¬ IsSure c s (Send v j))
-    → k + l + m ≡ 0 → 0 < limit → IsStuck a s v
+    → k + l + m ≡ 0 → 0 < limit → IsStuckInBlock a s v
 push_stuck a b c d s t k l m v limit first second third gift pushes sends none some =
     let k0 : k ≡ 0 = omega arith in
     let l0 : l ≡ 0 = omega arith in
@@ -124,14 +124,14 @@ push_stuck a b c d s t k l m v limit first second third gift pushes sends none s
     let b_is = ((first s).still k0).0 in
     let c_is = ((second s).still l0).0 ∙ b_is in
     record {
-      pushes = λ j. subst (λ (x : CellsView). ¬ Enabled x (Push v j)) b_is (pushes l0 (omega arith) j);
+      pushes = λ j. subst (λ (x : CellsView). ¬ IsStepEnabled x (Push v j)) b_is (pushes l0 (omega arith) j);
       gift = gift k0 some;
       sends = λ j. subst (λ (x : CellsView). ¬ IsSure x s (Send v j)) c_is (sends m0 (omega arith) j);
     }
 
 -- the two parts of a visit
-pub visit_idle : (a b c : CellsView) (s t : Seen) (m n v limit : ℕ) → DoesEvents a s m b t → (m ≡ 0 → 0 < limit → IsStuck a s v)
-    → (n ≡ 0 → 0 < limit - m → ¬ Enabled b (Rise v)) → m + n ≡ 0 → 0 < limit → IsIdle a s v
+pub visit_idle : (a b c : CellsView) (s t : WaysView) (m n v limit : ℕ) → DoesEvents a s m b t → (m ≡ 0 → 0 < limit → IsStuckInBlock a s v)
+    → (n ≡ 0 → 0 < limit - m → ¬ IsStepEnabled b (Rise v)) → m + n ≡ 0 → 0 < limit → IsIdle a s v
 visit_idle a b c s t m n v limit first stuck rise none some =
     let m0 : m ≡ 0 = omega arith in
     let n0 : n ≡ 0 = omega arith in
@@ -139,11 +139,11 @@ visit_idle a b c s t m n v limit first stuck rise none some =
     record {
       pushes = held.pushes;
       gift = held.gift;
-      rise = subst (λ (x : CellsView). ¬ Enabled x (Rise v)) (first.still m0).0 (rise n0 (omega arith));
+      rise = subst (λ (x : CellsView). ¬ IsStepEnabled x (Rise v)) (first.still m0).0 (rise n0 (omega arith));
       sends = held.sends;
     }
 
-pub idle_from_look : (b : CellsView) (s t : Seen) (c : ℕ) → IsLook s t → IsIdleFrom b t c → IsIdleFrom b s c
+pub idle_from_look : (b : CellsView) (s t : WaysView) (c : ℕ) → IsLook s t → IsIdleFrom b t c → IsIdleFrom b s c
 idle_from_look b s t c look idle = record {
   accepts = λ m on. idle.accepts m (on.0, look.front _ _ on.1, look.room _ on.2);
   refuses = λ m on. idle.refuses m (on.0, look.front _ _ on.1, look.room _ on.2);
@@ -153,7 +153,7 @@ idle_from_look b s t c look idle = record {
 some_none : (m : Letter) → ¬ (◌≡◌ {A = Option Letter} None (Some m))
 some_none m e = cc
 
-pub idle_from_none : (b : CellsView) (s t : Seen) (c : ℕ) → IsLook s t → t.front c ≡ None → IsIdleFrom b s c
+pub idle_from_none : (b : CellsView) (s t : WaysView) (c : ℕ) → IsLook s t → t.front c ≡ None → IsIdleFrom b s c
 idle_from_none b s t c look none = record {
   accepts = λ m on. some_none m (sym none ∙ look.front _ _ on.1);
   refuses = λ m on. some_none m (sym none ∙ look.front _ _ on.1);

@@ -2,8 +2,8 @@
 use Rattle.std.specs.Prelude.{◌≡◌, ℕ, length}
 use Rattle.block_net.specs.Views.{CellsView, border_in}
 use Rattle.block_turns.specs.declared.letter.Letter.{Letter}
-use Rattle.block_turns.specs.Seen.{Seen, IsLook}
-use Rattle.block_turns.specs.Steps.{held, DoesMany, IsSure, Push, Give, Rise, Send, Accept, Refuse, Settle}
+use Rattle.block_turns.specs.Seen.{WaysView, IsLook}
+use Rattle.block_turns.specs.Steps.{turn_view, DoesMany, IsSure, Push, Give, Rise, Send, Accept, Refuse, Settle}
 
 -- what no event changes
 pub record IsAlike (a b : CellsView) : Type 0 where
@@ -16,28 +16,29 @@ pub record IsAlike (a b : CellsView) : Type 0 where
   pub tos : (j : ℕ) → (border_in b j).to ≡ (border_in a j).to
 
 -- a list of n events leads from one block and what it saw to another; none changes nothing
-pub record DoesEvents (b : CellsView) (s : Seen) (n : ℕ) (b' : CellsView) (s' : Seen) : Type 0 where
-  pub run : DoesMany (held b s) n (held b' s')
+pub record DoesEvents (b : CellsView) (s : WaysView) (n : ℕ) (b' : CellsView)
+    (s' : WaysView) : Type 0 where
+  pub run : DoesMany (turn_view b s) n (turn_view b' s')
   pub alike : IsAlike b b'
   pub still : n ≡ 0 → (b' ≡ b) × IsLook s s'
 
 -- ---- where nothing is to be done
 
 -- no event of node v is sure, of those that take no message
-pub record IsIdle (b : CellsView) (s : Seen) (v : ℕ) : Type 0 where
+pub record IsIdle (b : CellsView) (s : WaysView) (v : ℕ) : Type 0 where
   pub pushes : (j : ℕ) → ¬ IsSure b s (Push v j)
   pub gift : ¬ IsSure b s (Give v)
   pub rise : ¬ IsSure b s (Rise v)
   pub sends : (j : ℕ) → ¬ IsSure b s (Send v j)
 
 -- no event of node v is sure by which it passes on what it has
-pub record IsStuck (b : CellsView) (s : Seen) (v : ℕ) : Type 0 where
+pub record IsStuckInBlock (b : CellsView) (s : WaysView) (v : ℕ) : Type 0 where
   pub pushes : (j : ℕ) → ¬ IsSure b s (Push v j)
   pub gift : ¬ IsSure b s (Give v)
   pub sends : (j : ℕ) → ¬ IsSure b s (Send v j)
 
 -- no message from block c is sure to be taken
-pub record IsIdleFrom (b : CellsView) (s : Seen) (c : ℕ) : Type 0 where
+pub record IsIdleFrom (b : CellsView) (s : WaysView) (c : ℕ) : Type 0 where
   pub accepts : (l : Letter) → ¬ IsSure b s (Accept c l)
   pub refuses : (l : Letter) → ¬ IsSure b s (Refuse c l)
   pub settles : (l : Letter) → ¬ IsSure b s (Settle c l)

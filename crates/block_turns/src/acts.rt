@@ -1,7 +1,7 @@
 ghost use Rattle.std.specs.Prelude.{◌≡◌, ◌<◌, ◌≤◌, ℕ, length};
 ghost use Rattle.block_net.specs.Views.{label_in, room_in, MayPush, highest};
-ghost use Rattle.block_turns.specs.Seen.{Seen};
-ghost use Rattle.block_turns.specs.Active.{IsActive};
+ghost use Rattle.block_turns.specs.Seen.{WaysView};
+ghost use Rattle.block_turns.specs.Active.{IsActiveInBlock};
 ghost use Rattle.block_turns.specs.Steps.{IsOfNode, IsBorderOfNode, IsSure, Push, Give, Rise, Send};
 ghost use Rattle.block_turns.specs.Calls.{Performs};
 ghost use Rattle.block_turns.specs.Works.{DoesEvents};
@@ -10,11 +10,12 @@ use crate::{Bucketed, Letter, Ways};
 
 /// Excess of an active node goes to the sink, where that is enabled.
 pub(crate) fn try_give(cells: &mut Bucketed, v: usize) -> u32
-    requires { IsActive cells.old.block v }
+    requires { IsActiveInBlock cells.old.block v }
     ensures few { result ≤ 1 }
     ensures still { result ≡ 0 → cells.new ≡ cells.old }
-    ensures does { (s : Seen) → DoesEvents cells.old.block s result cells.new.block s }
-    ensures done { 0 < result → (s : Seen) → Performs cells.old.block s (Give v) cells.new.block s }
+    ensures does { (s : WaysView) → DoesEvents cells.old.block s result cells.new.block s }
+    ensures done { 0 < result → (s : WaysView)
+        → Performs cells.old.block s (Give v) cells.new.block s }
     ensures idle { result ≡ 0 → ¬ ((0 < room_in cells.old.block v) × (label_in cells.old.block v ≡ 1)) }
 {
     if !cells.cells().may_give(v) {
@@ -26,13 +27,13 @@ pub(crate) fn try_give(cells: &mut Bucketed, v: usize) -> u32
 
 /// Excess of an active node goes along a direction within the block, where that is enabled.
 pub(crate) fn try_push(cells: &mut Bucketed, v: usize, j: usize) -> u32
-    requires active { IsActive cells.old.block v }
+    requires active { IsActiveInBlock cells.old.block v }
     requires lane { IsOfNode cells.old.block v j }
     requires place { j < length cells.old.block.lanes }
     ensures few { result ≤ 1 }
     ensures still { result ≡ 0 → cells.new ≡ cells.old }
-    ensures does { (s : Seen) → DoesEvents cells.old.block s result cells.new.block s }
-    ensures done { 0 < result → (s : Seen) → Performs cells.old.block s (Push v j) cells.new.block s }
+    ensures does { (s : WaysView) → DoesEvents cells.old.block s result cells.new.block s }
+    ensures done { 0 < result → (s : WaysView) → Performs cells.old.block s (Push v j) cells.new.block s }
     ensures idle { result ≡ 0 → ¬ MayPush cells.old.block v j }
 {
     if !cells.cells().may_push(v, j) {
@@ -44,7 +45,7 @@ pub(crate) fn try_push(cells: &mut Bucketed, v: usize, j: usize) -> u32
 
 /// Excess of an active node leaves for another block, where that is enabled and there is room.
 pub(crate) fn try_send<W: Ways>(cells: &mut Bucketed, ways: &mut W, v: usize, j: usize) -> u32
-    requires active { IsActive cells.old.block v }
+    requires active { IsActiveInBlock cells.old.block v }
     requires border { IsBorderOfNode cells.old.block v j }
     requires place { j < length cells.old.block.borders }
     ensures fixed { W.fixed ways.new ≡ W.fixed ways.old }
@@ -72,11 +73,12 @@ pub(crate) fn try_send<W: Ways>(cells: &mut Bucketed, ways: &mut W, v: usize, j:
 
 /// An active node gets the highest label that it may have, where that is higher.
 pub(crate) fn try_rise(cells: &mut Bucketed, v: usize) -> u32
-    requires { IsActive cells.old.block v }
+    requires { IsActiveInBlock cells.old.block v }
     ensures few { result ≤ 1 }
     ensures still { result ≡ 0 → cells.new ≡ cells.old }
-    ensures does { (s : Seen) → DoesEvents cells.old.block s result cells.new.block s }
-    ensures done { 0 < result → (s : Seen) → Performs cells.old.block s (Rise v) cells.new.block s }
+    ensures does { (s : WaysView) → DoesEvents cells.old.block s result cells.new.block s }
+    ensures done { 0 < result → (s : WaysView)
+        → Performs cells.old.block s (Rise v) cells.new.block s }
     ensures idle { result ≡ 0 → ¬ (label_in cells.old.block v < highest cells.old.block v) }
 {
     let label = cells.highest_label(v);

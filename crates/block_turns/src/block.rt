@@ -1,6 +1,6 @@
 ghost use Rattle.std.specs.Prelude.{◌≡◌, ◌<◌, ◌≤◌, IfOk};
 ghost use Rattle.block_net.specs.Views.{count};
-ghost use Rattle.block_turns.specs.Steps.{IsSure, Step, DoesMany, held};
+ghost use Rattle.block_turns.specs.Steps.{IsSure, Step, DoesMany, turn_view};
 ghost use Rattle.block_turns.specs.Turns.{IsKnown};
 
 use crate::messages::receive_all;
@@ -121,7 +121,7 @@ fn events_left(rises_left: usize, limit: u32) -> u32
 pub fn turn<W: Ways>(block: &mut Block, ways: &mut W, limit: u32) -> u32
     ensures fixed { W.fixed ways.new ≡ W.fixed ways.old }
     ensures few { result ≤ limit }
-    ensures does { DoesMany (held block.old (W.seen ways.old)) result (held block.new (W.seen ways.new)) }
+    ensures does { DoesMany (turn_view block.old (W.seen ways.old)) result (turn_view block.new (W.seen ways.new)) }
     ensures some { 0 < limit → (e : Step) → IsSure block.old (W.seen ways.old) e → 0 < result }
     ensures nodes { count block.new ≡ count block.old }
 {

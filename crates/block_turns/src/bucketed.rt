@@ -3,10 +3,10 @@ ghost use Rattle.flow_network.specs.Limits.{node_limit};
 ghost use Rattle.flow_network.specs.Progress.{top_label};
 ghost use Rattle.block_events.specs.declared.message.Message.TheVariants.{Accepted};
 ghost use Rattle.block_events.specs.Directions.{opposite};
-ghost use Rattle.block_net.specs.Views.{count, excess_in, label_in, room_in, lane_in, border_in, first_lane, first_border, out_of, highest, pushed, given, labelled, sent, accepted, settled, returned, parcel_of};
-ghost use Rattle.block_net.specs.Standing.{nodes};
-ghost use Rattle.block_turns.specs.Active.{IsActive};
-ghost use Rattle.block_turns.specs.Standing.{IsAside, HasHighestBucket, KeepsAside, StaysAside, waiting};
+ghost use Rattle.block_net.specs.Views.{count, excess_in, label_in, room_in, lane_in, border_in, first_lane, first_border, out_of, highest, cells_after_push, cells_after_sink_push, cells_after_relabel, cells_after_send, cells_after_accept, cells_after_settle, cells_after_return, parcel_of};
+ghost use Rattle.block_net.specs.Standing.{row_count};
+ghost use Rattle.block_turns.specs.Active.{IsActiveInBlock};
+ghost use Rattle.block_turns.specs.Standing.{IsAside, HasHighestBucket, KeepsAside, StaysAside, waiting_count};
 
 use crate::renewing::{is_active, move_up, renew};
 use block_events::Message;
@@ -35,7 +35,7 @@ impl Model for Bucketed {
 /// left open.
 fn rows_for(alloc: Global, room: Option<Buckets>, count: usize) -> Result<Buckets, AllocError>
     requires { count ≤ node_limit }
-    ensures nodes { IfOk result (λ rows. nodes rows ≡ count) }
+    ensures nodes { IfOk result (λ rows. row_count rows ≡ count) }
     ensures buckets { IfOk result (λ rows. rows.buckets ≡ count + 2) }
 {
     let buckets = count as u32 + 2;
@@ -86,7 +86,7 @@ impl Bucketed {
     /// Whether a node has excess and is not cut off.
     pub fn is_active(&self, v: usize) -> bool
         requires { v < count self.now.block }
-        ensures { IsTrue result ↔ IsActive self.now.block v }
+        ensures { IsTrue result ↔ IsActiveInBlock self.now.block v }
     {
         is_active(&self.cells, v)
     }
@@ -189,8 +189,9 @@ impl Bucketed {
     /// bucket has the labels above the number of nodes together.
     pub fn highest(&mut self) -> Option<usize>
         ensures same { self.new ≡ self.old }
-        ensures node { MatchOption result ((v : ℕ) → IsActive self.old.block v → IsAside self.old v)
-            (λ v. IsActive self.old.block v × (¬ IsAside self.old v)) }
+        ensures node { MatchOption result
+            ((v : ℕ) → IsActiveInBlock self.old.block v → IsAside self.old v)
+            (λ v. IsActiveInBlock self.old.block v × (¬ IsAside self.old v)) }
         ensures highest { IfSome result (HasHighestBucket self.old) }
     {
         self.buckets.highest()
@@ -198,11 +199,11 @@ impl Bucketed {
 
     /// An active node is set aside.
     pub fn set_aside(&mut self, v: usize)
-        requires active { IsActive self.old.block v }
+        requires active { IsActiveInBlock self.old.block v }
         requires waits { ¬ IsAside self.old v }
         ensures block { self.new.block ≡ self.old.block }
         ensures aside { (u : ℕ) → IsAside self.new u → (u ≡ v) ⊎ IsAside self.old u }
-        ensures fewer { waiting self.new < waiting self.old }
+        ensures fewer { waiting_count self.new < waiting_count self.old }
     {
         self.buckets.set_aside(v);
     }
@@ -212,7 +213,7 @@ impl Bucketed {
         requires node { v < count self.old.block }
         requires place { j < length self.old.block.lanes }
         requires other { (lane_in self.old.block j).far ≢ v }
-        ensures block { self.new.block ≡ pushed self.old.block v j
+        ensures block { self.new.block ≡ cells_after_push self.old.block v j
             (min (excess_in self.old.block v) (lane_in self.old.block j).residual) }
         ensures aside { KeepsAside self.old self.new }
         ensures stays { StaysAside self.old self.new }
@@ -226,7 +227,7 @@ impl Bucketed {
     /// Excess of a node goes to the sink: as much as the node can still give it.
     pub fn give(&mut self, v: usize)
         requires { v < count self.old.block }
-        ensures block { self.new.block ≡ given self.old.block v
+        ensures block { self.new.block ≡ cells_after_sink_push self.old.block v
             (min (excess_in self.old.block v) (room_in self.old.block v)) }
         ensures aside { KeepsAside self.old self.new }
         ensures stays { StaysAside self.old self.new }
@@ -239,7 +240,7 @@ impl Bucketed {
     pub fn relabel(&mut self, v: usize, label: u32)
         requires node { v < count self.old.block }
         requires limit { label ≤ self.old.block.top }
-        ensures block { self.new.block ≡ labelled self.old.block v label }
+        ensures block { self.new.block ≡ cells_after_relabel self.old.block v label }
         ensures aside { KeepsAside self.old self.new }
         ensures stays { StaysAside self.old self.new }
     {
@@ -262,7 +263,7 @@ impl Bucketed {
         requires node { v < count self.old.block }
         requires place { j < length self.old.block.borders }
         requires idle { (border_in self.old.block j).flight ≡ None }
-        ensures block { self.new.block ≡ sent self.old.block v j
+        ensures block { self.new.block ≡ cells_after_send self.old.block v j
             (min (excess_in self.old.block v) (border_in self.old.block j).residual) }
         ensures parcel { result ≡ parcel_of self.old.block v j }
         ensures aside { KeepsAside self.old self.new }
@@ -279,7 +280,7 @@ impl Bucketed {
         requires fits { (border_in self.old.block j).residual + out_of (border_in self.old.block j).flight + amount
             ≤ (border_in self.old.block j).capacity }
         requires label { label ≤ self.old.block.top }
-        ensures block { self.new.block ≡ accepted self.old.block j amount label }
+        ensures block { self.new.block ≡ cells_after_accept self.old.block j amount label }
         ensures answer { result ≡ Accepted (opposite (border_in self.old.block j).direction) amount }
         ensures aside { KeepsAside self.old self.new }
         ensures stays { StaysAside self.old self.new }
@@ -293,7 +294,7 @@ impl Bucketed {
     /// The parcel of a direction was taken.
     pub fn settle(&mut self, j: usize)
         requires { j < length self.old.block.borders }
-        ensures block { self.new.block ≡ settled self.old.block j }
+        ensures block { self.new.block ≡ cells_after_settle self.old.block j }
         ensures aside { KeepsAside self.old self.new }
         ensures stays { StaysAside self.old self.new }
     {
@@ -305,7 +306,7 @@ impl Bucketed {
         requires place { j < length self.old.block.borders }
         requires fits { amount ≤ out_of (border_in self.old.block j).flight }
         requires told { told ≤ self.old.block.top }
-        ensures block { self.new.block ≡ returned self.old.block j amount told }
+        ensures block { self.new.block ≡ cells_after_return self.old.block j amount told }
         ensures aside { KeepsAside self.old self.new }
         ensures stays { StaysAside self.old self.new }
     {

@@ -1,7 +1,7 @@
 ghost use Rattle.std.specs.Prelude.{◌≡◌, ℕ, MatchBool};
 ghost use Rattle.block_turns.specs.declared.letter.Letter.{Letter};
-ghost use Rattle.block_turns.specs.Seen.{Seen};
-ghost use Rattle.block_turns.specs.Steps.{Enabled, IsSure, Push, Give, Rise, Send, Accept, Refuse};
+ghost use Rattle.block_turns.specs.Seen.{WaysView};
+ghost use Rattle.block_turns.specs.Steps.{IsStepEnabled, IsSure, Push, Give, Rise, Send, Accept, Refuse};
 ghost use Rattle.block_turns.specs.Steps.{Settle};
 ghost use Rattle.block_turns.specs.Calls.{Performs, IsUnchanged, HasReceived, HasSettled};
 
@@ -16,8 +16,8 @@ use block_events::{Flight, Message};
 /// nothing changes. Takes no memory.
 pub fn push_inner(block: &mut Block, v: usize, j: usize) -> bool
     ensures { MatchBool result
-        ((s : Seen) → Performs block.old s (Push v j) block.new s)
-        ((¬ Enabled block.old (Push v j)) × (block.new ≡ block.old)) }
+        ((s : WaysView) → Performs block.old s (Push v j) block.new s)
+        ((¬ IsStepEnabled block.old (Push v j)) × (block.new ≡ block.old)) }
 {
     if v >= block.cells.len() || !block.cells.is_active(v) {
         return false;
@@ -34,8 +34,8 @@ pub fn push_inner(block: &mut Block, v: usize, j: usize) -> bool
 /// and nothing changes. Takes no memory.
 pub fn push_sink(block: &mut Block, v: usize) -> bool
     ensures { MatchBool result
-        ((s : Seen) → Performs block.old s (Give v) block.new s)
-        ((¬ Enabled block.old (Give v)) × (block.new ≡ block.old)) }
+        ((s : WaysView) → Performs block.old s (Give v) block.new s)
+        ((¬ IsStepEnabled block.old (Give v)) × (block.new ≡ block.old)) }
 {
     if v >= block.cells.len() || !block.cells.is_active(v) {
         return false;
@@ -48,8 +48,8 @@ pub fn push_sink(block: &mut Block, v: usize) -> bool
 /// memory.
 pub fn relabel(block: &mut Block, v: usize) -> bool
     ensures { MatchBool result
-        ((s : Seen) → Performs block.old s (Rise v) block.new s)
-        ((¬ Enabled block.old (Rise v)) × (block.new ≡ block.old)) }
+        ((s : WaysView) → Performs block.old s (Rise v) block.new s)
+        ((¬ IsStepEnabled block.old (Rise v)) × (block.new ≡ block.old)) }
 {
     if v >= block.cells.len() || !block.cells.is_active(v) {
         return false;

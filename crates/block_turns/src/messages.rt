@@ -1,7 +1,7 @@
 ghost use Rattle.std.specs.Prelude.{◌≡◌, ◌↔◌, ◌<◌, ◌≤◌, ℕ, List, Some, IsTrue, length, slice_index};
 ghost use Rattle.block_events.specs.declared.message.Message.TheVariants.{Parcel, Accepted, Refused};
 ghost use Rattle.block_events.specs.Directions.{opposite};
-ghost use Rattle.block_turns.specs.Steps.{IsFrom, MayAccept, MayRefuse, MaySettle, Settle};
+ghost use Rattle.block_turns.specs.Steps.{IsFrom, MayAcceptAt, MayRefuseAt, MaySettleAt, Settle};
 ghost use Rattle.block_turns.specs.Calls.{Performs, TakesParcel};
 ghost use Rattle.block_turns.specs.Works.{DoesEvents, IsIdleFrom};
 
@@ -32,7 +32,7 @@ fn may_accept(
     amount: u64,
     label: u32,
 ) -> bool
-    ensures { IsTrue result ↔ MayAccept cells.now from place (Parcel direction amount label) }
+    ensures { IsTrue result ↔ MayAcceptAt cells.now from place (Parcel direction amount label) }
 {
     if amount == 0 || !is_from(cells, from, place) {
         return false;
@@ -60,7 +60,7 @@ fn may_refuse(
     amount: u64,
     label: u32,
 ) -> bool
-    ensures { IsTrue result ↔ MayRefuse cells.now from place (Parcel direction amount label) }
+    ensures { IsTrue result ↔ MayRefuseAt cells.now from place (Parcel direction amount label) }
 {
     if amount == 0 || label == 0 || !is_from(cells, from, place) {
         return false;
@@ -133,7 +133,7 @@ fn are_same(x: Direction, y: Direction) -> bool
 
 /// Whether the answer that a parcel was taken is to be taken.
 fn may_settle(cells: &Cells, from: u32, place: u32, direction: Direction, amount: u64) -> bool
-    ensures { IsTrue result ↔ MaySettle cells.now from place (Accepted direction amount) }
+    ensures { IsTrue result ↔ MaySettleAt cells.now from place (Accepted direction amount) }
 {
     if amount == 0 || !is_from(cells, from, place) {
         return false;
@@ -158,7 +158,7 @@ fn may_return(
     told: u32,
 ) -> bool
     ensures { IsTrue result
-        ↔ MaySettle cells.now from place (Refused direction flight.amount flight.label told) }
+        ↔ MaySettleAt cells.now from place (Refused direction flight.amount flight.label told) }
 {
     if flight.amount == 0 || flight.label == 0 || told < flight.label {
         return false;

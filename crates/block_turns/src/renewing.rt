@@ -1,6 +1,6 @@
 ghost use Rattle.std.specs.Prelude.{◌≡◌, ◌↔◌, ◌<◌, ℕ, IsTrue};
 ghost use Rattle.block_net.specs.Views.{count};
-ghost use Rattle.block_turns.specs.Active.{IsActive};
+ghost use Rattle.block_turns.specs.Active.{IsActiveInBlock};
 ghost use Rattle.block_turns.specs.Standing.{MayStand, IsFit, IsRenewed};
 
 use block_net::{Buckets, Cells};
@@ -8,7 +8,7 @@ use block_net::{Buckets, Cells};
 /// Whether a node has excess and is not cut off.
 pub fn is_active(cells: &Cells, v: usize) -> bool
     requires { v < count cells.now }
-    ensures { IsTrue result ↔ IsActive cells.now v }
+    ensures { IsTrue result ↔ IsActiveInBlock cells.now v }
 {
     cells.excess(v) > 0 && cells.label(v) < cells.top()
 }

@@ -1,8 +1,8 @@
 ghost use Rattle.std.specs.Prelude.{◌≡◌, ◌<◌, ◌≤◌, ℕ};
 ghost use Rattle.block_net.specs.Views.{count};
-ghost use Rattle.block_turns.specs.Seen.{Seen};
-ghost use Rattle.block_turns.specs.Steps.{Enabled, IsSure, Push, Give, Rise, Send};
-ghost use Rattle.block_turns.specs.Works.{DoesEvents, IsIdle, IsStuck};
+ghost use Rattle.block_turns.specs.Seen.{WaysView};
+ghost use Rattle.block_turns.specs.Steps.{IsStepEnabled, IsSure, Push, Give, Rise, Send};
+ghost use Rattle.block_turns.specs.Works.{DoesEvents, IsIdle, IsStuckInBlock};
 
 use crate::acts::{try_give, try_push, try_rise, try_send};
 use crate::{Bucketed, Ways};
@@ -12,8 +12,8 @@ fn give_once(cells: &mut Bucketed, v: usize, limit: u32) -> u32
     requires { v < count cells.old.block }
     ensures few { result ≤ limit }
     ensures still { result ≡ 0 → cells.new ≡ cells.old }
-    ensures does { (s : Seen) → DoesEvents cells.old.block s result cells.new.block s }
-    ensures idle { result ≡ 0 → 0 < limit → ¬ Enabled cells.old.block (Give v) }
+    ensures does { (s : WaysView) → DoesEvents cells.old.block s result cells.new.block s }
+    ensures idle { result ≡ 0 → 0 < limit → ¬ IsStepEnabled cells.old.block (Give v) }
 {
     if limit == 0 || !cells.is_active(v) {
         return 0;
@@ -26,8 +26,8 @@ fn rise_once(cells: &mut Bucketed, v: usize, limit: u32) -> u32
     requires { v < count cells.old.block }
     ensures few { result ≤ limit }
     ensures still { result ≡ 0 → cells.new ≡ cells.old }
-    ensures does { (s : Seen) → DoesEvents cells.old.block s result cells.new.block s }
-    ensures idle { result ≡ 0 → 0 < limit → ¬ Enabled cells.old.block (Rise v) }
+    ensures does { (s : WaysView) → DoesEvents cells.old.block s result cells.new.block s }
+    ensures idle { result ≡ 0 → 0 < limit → ¬ IsStepEnabled cells.old.block (Rise v) }
 {
     if limit == 0 || !cells.is_active(v) {
         return 0;
@@ -40,8 +40,8 @@ fn push_all(cells: &mut Bucketed, v: usize, limit: u32) -> u32
     requires node { v < count cells.old.block }
     ensures few { result ≤ limit }
     ensures still { result ≡ 0 → cells.new ≡ cells.old }
-    ensures does { (s : Seen) → DoesEvents cells.old.block s result cells.new.block s }
-    ensures idle { result ≡ 0 → 0 < limit → (j : ℕ) → ¬ Enabled cells.old.block (Push v j) }
+    ensures does { (s : WaysView) → DoesEvents cells.old.block s result cells.new.block s }
+    ensures idle { result ≡ 0 → 0 < limit → (j : ℕ) → ¬ IsStepEnabled cells.old.block (Push v j) }
 {
     let mut count = 0;
     let (first, end) = cells.range(v);
@@ -89,7 +89,7 @@ pub(crate) fn push_on<W: Ways>(cells: &mut Bucketed, ways: &mut W, v: usize, lim
     ensures few { result ≤ limit }
     ensures still { result ≡ 0 → cells.new ≡ cells.old }
     ensures does { DoesEvents cells.old.block (W.seen ways.old) result cells.new.block (W.seen ways.new) }
-    ensures stuck { result ≡ 0 → 0 < limit → IsStuck cells.old.block (W.seen ways.old) v }
+    ensures stuck { result ≡ 0 → 0 < limit → IsStuckInBlock cells.old.block (W.seen ways.old) v }
 {
     let gifts = give_once(cells, v, limit);
     let pushes = push_all(cells, v, limit - gifts);

@@ -2,7 +2,7 @@ ghost use Rattle.std.specs.Prelude.{◌≡◌, ◌<◌, ◌^◌, ℕ, true, Some
 ghost use Rattle.block_events.specs.Soundness.{direction_of};
 ghost use Rattle.block_events.specs.Workers.{IsFair};
 ghost use Rattle.block_turns.specs.declared.letter.Letter.{Letter};
-ghost use Rattle.block_turns.specs.Seen.{Seen, IsLook, IsPut, IsTake};
+ghost use Rattle.block_turns.specs.Seen.{WaysView, IsLook, IsPut, IsTake};
 
 use crate::Letter;
 
@@ -16,7 +16,7 @@ pub trait Ways {
     ghost fixed: { Self → Self.Fixed };
 
     /// What the block has put and taken since the beginning, and what it has seen of room and fronts.
-    ghost seen: { Self → Seen };
+    ghost seen: { Self → WaysView };
 
     /// Whether there is room for a message to another block.
     fn room(&mut self, to: u32) -> bool

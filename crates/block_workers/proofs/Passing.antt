@@ -5,39 +5,39 @@ use Rattle.std.proofs.lemmas.Bool.{cases_eq}
 use Rattle.std.proofs.lemmas.List.{length-set}
 use Rattle.std.proofs.lemmas.Grind.{common_steps, get_or-set_at}
 use Rattle.block_workers.specs.declared.seat.Seat.{Seat}
-use Rattle.block_workers.specs.Turns.{Went, WentOn, most, Worked as WorkedFor}
-use Rattle.block_workers.specs.Workers.{Advanced, Worked, AllAdvanced, AllWorked, AreNew}
+use Rattle.block_workers.specs.Turns.{Went, WentOn, most, HasWorkedTurns}
+use Rattle.block_workers.specs.Workers.{HasAdvanced, HasWorked, AllAdvanced, AllWorked, AreNew}
 use Rattle.block_workers.proofs.Working.{went_none, went_more}
 
 most_same : (a b : Seat) (n : ℕ) → Went n a b → most b ≡ most a
 most_same a b n went = ap (λ (m : ℕ). m + 16) went.nodes
 
-pub advanced_none : (a : Seat) → Advanced a a
+pub advanced_none : (a : Seat) → HasAdvanced a a
 advanced_none a = record { count = 0; went = went_none a; few = omega arith }
 
-pub advanced_look : (a b : Seat) → Went 0 a b → b.turn ≡ a.turn → Advanced a b
+pub advanced_look : (a b : Seat) → Went 0 a b → b.turn ≡ a.turn → HasAdvanced a b
 advanced_look a b went turn =
     let same = ap (λ (n : ℕ). n * most a) turn in
     record { count = 0; went = went; few = omega (arith, same) }
 
-pub advanced_turn : (a b : Seat) → WentOn a b → b.turn ≡ a.turn + 1 → Advanced a b
+pub advanced_turn : (a b : Seat) → WentOn a b → b.turn ≡ a.turn + 1 → HasAdvanced a b
 advanced_turn a b on turn =
     let one : b.turn * most a ≡ (a.turn + 1) * most a = ap (λ (n : ℕ). n * most a) turn in
     let two = suc-mul a.turn (most a) in
     record { count = on.count; went = on.went; few = omega (arith, one, two, on.few) }
 
-pub advanced_more : (a b c : Seat) → Advanced a b → Advanced b c → Advanced a c
+pub advanced_more : (a b c : Seat) → HasAdvanced a b → HasAdvanced b c → HasAdvanced a c
 advanced_more a b c h k =
     let same = most_same a b h.count h.went in
     let few : k.count + b.turn * most a ≤ c.turn * most a = subst (λ (m : ℕ). k.count + b.turn * m ≤ c.turn * m) same k.few in
     record { count = h.count + k.count; went = went_more h.count k.count a b c h.went k.went; few = omega (arith, h.few, few) }
 
-pub worked_begun : (a b : Seat) → WorkedFor 1 a b → b.turn ≡ 0 → Worked a b
+pub worked_begun : (a b : Seat) → HasWorkedTurns 1 a b → b.turn ≡ 0 → HasWorked a b
 worked_begun a b h turn =
     let same : 1 * most a ≡ (b.turn + 1) * most a = ap (λ (n : ℕ). (n + 1) * most a) (sym turn) in
     record { count = h.count; went = h.went; few = omega (arith, h.few, same); some = h.some }
 
-pub worked_advanced : (a b c : Seat) → Worked a b → Advanced b c → Worked a c
+pub worked_advanced : (a b c : Seat) → HasWorked a b → HasAdvanced b c → HasWorked a c
 worked_advanced a b c h k =
     let same = most_same a b h.count h.went in
     let few : k.count + b.turn * most a ≤ c.turn * most a = subst (λ (m : ℕ). k.count + b.turn * m ≤ c.turn * m) same k.few in
@@ -71,7 +71,7 @@ place_is : (a : List Seat) (k i : ℕ) (p d : Seat) → i ≡ k → k < length a
 place_is a k i p d same below = grind (arith, common_steps)
 
 -- p is the block at the place, and x what it became
-pub all_set : (a : List Seat) (k : ℕ) (p x : Seat) → k < length a → p ≡ get_or a k p → Advanced p x → AllAdvanced a (set a k x)
+pub all_set : (a : List Seat) (k : ℕ) (p x : Seat) → k < length a → p ≡ get_or a k p → HasAdvanced p x → AllAdvanced a (set a k x)
 all_set a k p x below is step = record {
   seats = length-set a k x;
   each = λ i d inside. elim (cases_eq i k) [
@@ -85,9 +85,9 @@ all_set a k p x below is step = record {
 
 -- ---- turn 0 of one more block: b has it done at the places below k
 
-pub begun_done : (a b : List Seat) (k : ℕ) (p x : Seat) → k < length b → k < length a → p ≡ get_or b k p → WorkedFor 1 p x → x.turn ≡ p.turn → AreNew a
-    → ((i : ℕ) (d : Seat) → i < k → Worked (get_or a i d) (get_or b i d)) → ((i : ℕ) (d : Seat) → k ≤ i → get_or b i d ≡ get_or a i d)
-    → (i : ℕ) (d : Seat) → i < k + 1 → Worked (get_or a i d) (get_or (set b k x) i d)
+pub begun_done : (a b : List Seat) (k : ℕ) (p x : Seat) → k < length b → k < length a → p ≡ get_or b k p → HasWorkedTurns 1 p x → x.turn ≡ p.turn → AreNew a
+    → ((i : ℕ) (d : Seat) → i < k → HasWorked (get_or a i d) (get_or b i d)) → ((i : ℕ) (d : Seat) → k ≤ i → get_or b i d ≡ get_or a i d)
+    → (i : ℕ) (d : Seat) → i < k + 1 → HasWorked (get_or a i d) (get_or (set b k x) i d)
 begun_done a b k p x below inside is worked turn new done rest i d low = elim (cases_eq i k) [
   | inl same ↦
       let here : get_or (set b k x) i d ≡ x = get_or-set_at b k i x d same below in

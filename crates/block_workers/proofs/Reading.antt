@@ -5,7 +5,7 @@ use Rattle.std.proofs.lemmas.List.{set-get_or, length-set}
 use Rattle.std.proofs.lemmas.Option.{slice_get-get_or, get_or_from_slice_get}
 use Rattle.block_workers.specs.declared.port.Port.{Port}
 use Rattle.block_workers.specs.Ports.{other}
-use Rattle.block_workers.specs.Seeing.{others, read_at, IsPlace, LeadNotTo, AreRising}
+use Rattle.block_workers.specs.Seeing.{others, read_at, IsPlaceOfPort, LeadNotTo, AreRising}
 
 -- ---- places
 
@@ -66,7 +66,7 @@ read_more none read R same (p ∷ ports) (suc k) q d below leads step c =
     cond_both R (eqb c (other p)) (read p) (read p) _ _ (same _) (read_more none read R same ports k q d (omega (arith, below)) leads step c)
 
 -- what is read at a number after the port that leads there was changed
-pub read_set : {X : Type 0} (none : X) (read : Port → X) (ports : List Port) (c k : ℕ) (q : Port) → IsPlace ports c k → other q ≡ c
+pub read_set : {X : Type 0} (none : X) (read : Port → X) (ports : List Port) (c k : ℕ) (q : Port) → IsPlaceOfPort ports c k → other q ≡ c
     → (n : ℕ) → read_at none read (set ports k q) n ≡ cond (eqb n c) (read q) (read_at none read ports n)
 read_set none read [] c k q at leads n = absurd (omega (arith, at.place))
 read_set none read (p ∷ ports) c zero q at leads n =
@@ -75,7 +75,7 @@ read_set none read (p ∷ ports) c zero q at leads n =
     ap (λ (m : ℕ). cond (eqb n m) (read q) rest) leads
     ∙ (cond_same (eqb n c) (read q) (read p) rest ∙ ap (λ (m : ℕ). cond (eqb n c) (read q) (cond (eqb n m) (read p) rest)) (sym leads'))
 read_set none read (p ∷ ports) c (suc k) q at leads n =
-    let rest : IsPlace ports c k = record {
+    let rest : IsPlaceOfPort ports c k = record {
       place = omega (arith, at.place);
       leads = at.leads;
       alone = λ j below is. omega (arith, at.alone (suc j) (omega (arith, below)) is);
@@ -84,7 +84,7 @@ read_set none read (p ∷ ports) c (suc k) q at leads n =
     rw (read_set none read ports c k q rest leads n) (cond_apart n (other p) c (read p) (read q) (read_at none read ports n) off)
 
 -- what is read of the port that leads there
-pub read_here : {X : Type 0} (none : X) (read : Port → X) (ports : List Port) (c k : ℕ) (d : Port) → IsPlace ports c k → read_at none read ports c ≡ read (get_or ports k d)
+pub read_here : {X : Type 0} (none : X) (read : Port → X) (ports : List Port) (c k : ℕ) (d : Port) → IsPlaceOfPort ports c k → read_at none read ports c ≡ read (get_or ports k d)
 read_here none read ports c k d at =
     let leads : other (get_or ports k d) ≡ c = sym (other_at ports k d at.place) ∙ at.leads in
     let whole = read_set none read ports c k (get_or ports k d) at leads c in

@@ -18,8 +18,8 @@ pub record DrawsOne (old new : Turns) : Type 0 where
   pub busy : new.busy ≡ old.busy
 
 -- the book with the mark of one block set
-abbrev pub marked : Turns → ℕ → Bool → Turns
-marked turns block idle = record turns { busy = slice_set turns.busy block (not idle) }
+abbrev pub with_mark : Turns → ℕ → Bool → Turns
+with_mark turns block idle = record turns { busy = slice_set turns.busy block (not idle) }
 
 -- some block is marked busy
 abbrev pub HasBusy : Turns → Type 0

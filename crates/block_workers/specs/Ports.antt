@@ -10,24 +10,24 @@ abbrev pub other : Port → ℕ
 other p = p.other
 
 -- all letters that were put so far, in order
-abbrev pub put : Port → List Letter
-put p = sent p.to_ring
+abbrev pub letters_put : Port → List Letter
+letters_put p = sent p.to_ring
 
 -- all letters that were taken so far, in order
-abbrev pub taken : Port → List Letter
-taken p = received p.from_ring
+abbrev pub letters_taken : Port → List Letter
+letters_taken p = received p.from_ring
 
 -- for how many letters room was seen
 abbrev pub free : Port → ℕ
 free p = known_free p.to_ring
 
 -- the letters that were seen, in the order in which they are to be taken
-abbrev pub waiting : Port → List Letter
-waiting p = known_items p.from_ring
+abbrev pub letters_waiting : Port → List Letter
+letters_waiting p = known_items p.from_ring
 
 -- the letter that is to be taken next, where one was seen
 abbrev pub first : Port → Option Letter
-first p = slice_get (waiting p) 0
+first p = slice_get (letters_waiting p) 0
 
 -- how many letters the ring that is put into has room for
 abbrev pub capacity : Port → ℕ
@@ -47,37 +47,37 @@ pub record IsSamePort (old new : Port) : Type 0 where
 pub record IsNewPort (block ring : ℕ) (p : Port) : Type 0 where
   pub other : other p ≡ block
   pub capacity : capacity p ≡ ring
-  pub put : put p ≡ []
-  pub taken : taken p ≡ []
+  pub put : letters_put p ≡ []
+  pub taken : letters_taken p ≡ []
   pub free : free p ≡ ring
-  pub waiting : waiting p ≡ []
+  pub waiting : letters_waiting p ≡ []
 
 -- nothing was put or taken, and what was seen is still there
 pub record Looks (old new : Port) : Type 0 where
   pub same : IsSamePort old new
-  pub put : put new ≡ put old
-  pub taken : taken new ≡ taken old
+  pub put : letters_put new ≡ letters_put old
+  pub taken : letters_taken new ≡ letters_taken old
   pub free : free old ≤ free new
-  pub waiting : IsPrefix (waiting old) (waiting new)
+  pub waiting : IsPrefix (letters_waiting old) (letters_waiting new)
 
 -- one letter was put
 pub record PutsLetter (letter : Letter) (old new : Port) : Type 0 where
   pub same : IsSamePort old new
-  pub put : put new ≡ put old ++ letter ∷ []
-  pub taken : taken new ≡ taken old
+  pub put : letters_put new ≡ letters_put old ++ letter ∷ []
+  pub taken : letters_taken new ≡ letters_taken old
   pub free : free old ≡ free new + 1
-  pub waiting : waiting new ≡ waiting old
+  pub waiting : letters_waiting new ≡ letters_waiting old
 
 -- one letter was taken
 pub record TakesLetter (letter : Letter) (old new : Port) : Type 0 where
   pub same : IsSamePort old new
-  pub put : put new ≡ put old
-  pub taken : taken new ≡ taken old ++ letter ∷ []
+  pub put : letters_put new ≡ letters_put old
+  pub taken : letters_taken new ≡ letters_taken old ++ letter ∷ []
   pub free : free new ≡ free old
-  pub waiting : waiting old ≡ letter ∷ waiting new
+  pub waiting : letters_waiting old ≡ letter ∷ letters_waiting new
 
 -- these letters were taken, one after another
 pub record TakesAll (letters : List Letter) (old new : Port) : Type 0 where
   pub same : IsSamePort old new
-  pub put : put new ≡ put old
-  pub taken : taken new ≡ taken old ++ letters
+  pub put : letters_put new ≡ letters_put old
+  pub taken : letters_taken new ≡ letters_taken old ++ letters

@@ -3,9 +3,9 @@ use Rattle.std.specs.Prelude.{◌≡◌, ℕ, ◌<◌, ◌==◌, nat_lt, false, 
 use Rattle.std.specs.List.{AllZip}
 use Rattle.block_events.specs.declared.message.Message.{Message}
 use Rattle.block_turns.specs.declared.letter.Letter.{Letter}
-use Rattle.block_turns.specs.Seen.{Seen}
+use Rattle.block_turns.specs.Seen.{WaysView}
 use Rattle.block_workers.specs.declared.port.Port.{Port}
-use Rattle.block_workers.specs.Ports.{other, put, taken, free, first, IsSamePort}
+use Rattle.block_workers.specs.Ports.{other, letters_put, letters_taken, free, first, IsSamePort}
 
 -- the messages of letters
 abbrev pub messages : List Letter → List Message
@@ -21,10 +21,10 @@ read_at none read [] c = none
 read_at none read (p ∷ ports) c = cond (c == other p) (read p) (read_at none read ports c)
 
 -- what was put and taken through the ports so far, and what was seen of room and fronts
-abbrev pub seen : List Port → Seen
-seen ports = record {
-  sent = read_at [] (λ (p : Port). messages (put p)) ports;
-  taken = read_at [] (λ (p : Port). messages (taken p)) ports;
+abbrev pub ways_of_ports : List Port → WaysView
+ways_of_ports ports = record {
+  sent = read_at [] (λ (p : Port). messages (letters_put p)) ports;
+  taken = read_at [] (λ (p : Port). messages (letters_taken p)) ports;
   room = read_at false (λ (p : Port). nat_lt 0 (free p)) ports;
   front = read_at None (λ (p : Port). first p) ports;
 }
@@ -39,7 +39,7 @@ AreFound ports places =
     (k : ℕ) → k < length ports → slice_get places (slice_index (others ports) k) ≡ Some k
 
 -- the port at the place leads to block c, and no other does
-pub record IsPlace (ports : List Port) (c k : ℕ) : Type 0 where
+pub record IsPlaceOfPort (ports : List Port) (c k : ℕ) : Type 0 where
   pub place : k < length ports
   pub leads : slice_index (others ports) k ≡ c
   pub alone : (j : ℕ) → j < length ports → slice_index (others ports) j ≡ c → j ≡ k

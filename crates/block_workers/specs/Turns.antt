@@ -1,11 +1,11 @@
 -- What turns do to a block at its worker's.
 use Rattle.std.specs.Prelude.{◌≡◌, ℕ, ◌+◌, ◌*◌, ◌<◌, ◌≤◌, false}
 use Rattle.block_net.specs.Views.{CellsView, count}
-use Rattle.block_turns.specs.Steps.{DoesMany, IsSure, Step, held}
+use Rattle.block_turns.specs.Steps.{DoesMany, IsSure, Step, turn_view}
 use Rattle.block_workers.specs.declared.ends.Ends.{Ends}
 use Rattle.block_workers.specs.declared.seat.Seat.{Seat}
 use Rattle.block_workers.specs.Ends.{ports}
-use Rattle.block_workers.specs.Seeing.{AreSame, seen}
+use Rattle.block_workers.specs.Seeing.{AreSame, ways_of_ports}
 
 -- the most events of a turn: as many as the block has nodes, plus 16
 abbrev pub most : Seat → ℕ
@@ -25,14 +25,14 @@ pub record Went (n : ℕ) (old new : Seat) : Type 0 where
   pub number : new.number ≡ old.number
   pub nodes : new.nodes ≡ old.nodes
   pub ends : AreSame (ports old.ends) (ports new.ends)
-  pub does : DoesMany (held old.block (seen (ports old.ends))) n (held new.block (seen (ports new.ends)))
+  pub does : DoesMany (turn_view old.block (ways_of_ports (ports old.ends))) n (turn_view new.block (ways_of_ports (ports new.ends)))
 
 -- the events of so many turns: at least one where one was sure before the first
-pub record Worked (turns : ℕ) (old new : Seat) : Type 0 where
+pub record HasWorkedTurns (turns : ℕ) (old new : Seat) : Type 0 where
   pub count : ℕ
   pub went : Went count old new
   pub few : count ≤ turns * most old
-  pub some : (e : Step) → IsSure old.block (seen (ports old.ends)) e → 0 < count
+  pub some : (e : Step) → IsSure old.block (ways_of_ports (ports old.ends)) e → 0 < count
 
 -- the events of one turn, or none
 pub record WentOn (old new : Seat) : Type 0 where

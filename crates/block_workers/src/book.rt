@@ -1,5 +1,5 @@
 ghost use Rattle.std.specs.Prelude.{◌≡◌, ◌+◌, ◌<◌, ◌≤◌, ◌↔◌, length, IfOk, IsTrue, MatchBool};
-ghost use Rattle.block_workers.specs.Book.{DrawsOne, HasBusy, marked, new_turns};
+ghost use Rattle.block_workers.specs.Book.{DrawsOne, HasBusy, with_mark, new_turns};
 
 use crate::Job;
 use std::alloc::{AllocError, Global};
@@ -85,7 +85,7 @@ impl<J: Job> TurnBook<J> {
     /// Marks a block idle or busy, and answers whether some block is marked busy. A number that is no block's
     /// changes no mark. Takes no memory.
     pub fn mark(&mut self, block: u32, idle: bool) -> bool
-        ensures book { self.new ≡ marked self.old block idle }
+        ensures book { self.new ≡ with_mark self.old block idle }
         ensures answer { IsTrue result ↔ HasBusy self.new }
     {
         if (block as usize) < self.busy.len() {

@@ -74,7 +74,7 @@ pub fn all_work<J: Job + Sync, R: Threads + Wait + Sync, G: Gate>(
                 let work = move || -> Worker<J>
                     requires { AreNew worker.seats.items }
                     ensures { AllWorked worker.seats.items result.seats.items }
-                { worker.worked(rt, book, gate) };
+                { worker.after_work(rt, book, gate) };
                 match scope.spawn_with(promise, work) {
                     Ok(handle) => handles.push_reserved(handle),
                     Err(_) => return Err(RoundError::Workers),

@@ -1,6 +1,6 @@
 ghost use Rattle.std.specs.Prelude.{◌≡◌, ◌≤◌, ◌<◌, ◌^◌, length, All, IfOk, MatchOption};
 ghost use Rattle.block_turns.specs.Seen.{IsLook};
-ghost use Rattle.block_workers.specs.Seeing.{AreFound, AreRising, AreSame, IsPlace, LeadNotTo, seen};
+ghost use Rattle.block_workers.specs.Seeing.{AreFound, AreRising, AreSame, IsPlaceOfPort, LeadNotTo, ways_of_ports};
 
 use crate::Port;
 use block_turns::Letter;
@@ -18,7 +18,7 @@ pub struct Ends {
 /// The place of the port to a block, where there is one.
 fn place_of(ports: &Vec<Port>, places: &Vec<u32>, other: u32) -> Option<usize>
     requires { AreFound ports.now.items places.now.items }
-    ensures { MatchOption result (LeadNotTo ports.now.items other) (λ k. IsPlace ports.now.items other k) }
+    ensures { MatchOption result (LeadNotTo ports.now.items other) (λ k. IsPlaceOfPort ports.now.items other k) }
 {
     let c = other as usize;
     if c >= places.len() {
@@ -48,7 +48,7 @@ fn places_of(alloc: Global, ports: &Vec<Port>, blocks: u32) -> Result<Vec<u32>, 
 
 /// Whether a letter is in front of one of the ports.
 fn has_letter(ports: &mut Vec<Port>) -> bool
-    ensures look { IsLook (seen ports.old.items) (seen ports.new.items) }
+    ensures look { IsLook (ways_of_ports ports.old.items) (ways_of_ports ports.new.items) }
     ensures same { AreSame ports.old.items ports.new.items }
 {
     for k in 0..ports.len() {
@@ -84,7 +84,7 @@ impl Ends {
     }
 
     /// Takes the ends out, and leaves none.
-    pub(crate) fn taken(&mut self) -> Ends
+    pub(crate) fn take(&mut self) -> Ends
         ensures { result ≡ self.old }
     {
         let alloc = *self.ports.allocator();
@@ -97,9 +97,9 @@ impl Ends {
 
     /// Whether there is room for a letter to another block. There is none where no port leads there.
     pub(crate) fn room(&mut self, to: u32) -> bool
-        ensures look { IsLook (seen (ports self.old)) (seen (ports self.new)) }
+        ensures look { IsLook (ways_of_ports (ports self.old)) (ways_of_ports (ports self.new)) }
         ensures same { AreSame (ports self.old) (ports self.new) }
-        ensures value { result ≡ (seen (ports self.new)).room to }
+        ensures value { result ≡ (ways_of_ports (ports self.new)).room to }
     {
         let Some(k) = place_of(&self.ports, &self.places, to) else {
             return false;
@@ -109,9 +109,10 @@ impl Ends {
 
     /// Puts a letter for another block, where room was seen. Takes no memory.
     pub(crate) fn put(&mut self, to: u32, letter: Letter)
-        requires room { (seen (ports self.old)).room to ≡ true }
+        requires room { (ways_of_ports (ports self.old)).room to ≡ true }
         requires fair { IsFair letter.message }
-        ensures put { IsPut to letter.message (seen (ports self.old)) (seen (ports self.new)) }
+        ensures put { IsPut to letter.message (ways_of_ports (ports self.old))
+            (ways_of_ports (ports self.new)) }
         ensures same { AreSame (ports self.old) (ports self.new) }
     {
         if let Some(k) = place_of(&self.ports, &self.places, to) {
@@ -121,9 +122,9 @@ impl Ends {
 
     /// The letter from another block that is to be taken next, where one has come.
     pub(crate) fn front(&mut self, from: u32) -> Option<Letter>
-        ensures look { IsLook (seen (ports self.old)) (seen (ports self.new)) }
+        ensures look { IsLook (ways_of_ports (ports self.old)) (ways_of_ports (ports self.new)) }
         ensures same { AreSame (ports self.old) (ports self.new) }
-        ensures value { result ≡ (seen (ports self.new)).front from }
+        ensures value { result ≡ (ways_of_ports (ports self.new)).front from }
     {
         let Some(k) = place_of(&self.ports, &self.places, from) else {
             return None;
@@ -133,9 +134,10 @@ impl Ends {
 
     /// Takes the letter that was seen in front. Takes no memory.
     pub(crate) fn take(&mut self, from: u32)
-        requires { is_some ((seen (ports self.old)).front from) ≡ true }
-        ensures take { (l : Letter) → (seen (ports self.old)).front from ≡ Some l
-            → IsTake from l.message (seen (ports self.old)) (seen (ports self.new)) }
+        requires { is_some ((ways_of_ports (ports self.old)).front from) ≡ true }
+        ensures take { (l : Letter) → (ways_of_ports (ports self.old)).front from ≡ Some l
+            → IsTake from l.message (ways_of_ports (ports self.old))
+            (ways_of_ports (ports self.new)) }
         ensures same { AreSame (ports self.old) (ports self.new) }
     {
         if let Some(k) = place_of(&self.ports, &self.places, from) {
@@ -145,7 +147,7 @@ impl Ends {
     /// Whether a letter is in front of one of the rings. That it answers so is shown by tests; the clauses say what it
     /// leaves as it was.
     pub(crate) fn has_letter(&mut self) -> bool
-        ensures look { IsLook (seen (ports self.old)) (seen (ports self.new)) }
+        ensures look { IsLook (ways_of_ports (ports self.old)) (ways_of_ports (ports self.new)) }
         ensures same { AreSame (ports self.old) (ports self.new) }
     {
         has_letter(&mut self.ports)

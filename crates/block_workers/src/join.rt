@@ -1,5 +1,5 @@
 ghost use Rattle.std.specs.Prelude.{◌≡◌, ◌≤◌, ◌++◌, IfOk, length, vec_len, vec_capacity};
-ghost use Rattle.block_workers.specs.Ports.{IsNewPort, LeadsTo, Looks, TakesAll, capacity, put, taken, waiting};
+ghost use Rattle.block_workers.specs.Ports.{IsNewPort, LeadsTo, Looks, TakesAll, capacity, letters_put, letters_taken, letters_waiting};
 
 use crate::port::Port;
 use crate::rule::Fair;
@@ -39,8 +39,8 @@ pub fn join_blocks(
 /// letters wait there. What was put is then what was taken, followed by what was seen. Takes no memory.
 pub fn see_left(from: &mut Port, to: &mut Port) -> usize
     requires joined { LeadsTo from.old to.old }
-    ensures left { put from.old ≡ taken to.old ++ waiting to.new }
-    ensures count { result ≡ length (waiting to.new) }
+    ensures left { letters_put from.old ≡ letters_taken to.old ++ letters_waiting to.new }
+    ensures count { result ≡ length (letters_waiting to.new) }
     ensures room { result ≤ capacity from.old }
     ensures from { Looks from.old from.new }
     ensures to { Looks to.old to.new }
@@ -55,7 +55,7 @@ pub fn take_left(from: &mut Port, to: &mut Port, left: &mut Vec<Letter>)
     requires joined { LeadsTo from.old to.old }
     requires empty { vec_len left.old ≡ 0 }
     requires room { capacity from.old ≤ vec_capacity left.old }
-    ensures left { put from.old ≡ taken to.old ++ left.new.items }
+    ensures left { letters_put from.old ≡ letters_taken to.old ++ left.new.items }
     ensures from { Looks from.old from.new }
     ensures to { TakesAll left.new.items to.old to.new }
 {

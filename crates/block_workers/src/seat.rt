@@ -30,8 +30,8 @@ impl Seat {
     ghost use Rattle.std.specs.Prelude.{◌<◌, ◌^◌};
     ghost use Rattle.block_turns.specs.Steps.{IsSure, Step};
     ghost use Rattle.block_workers.specs.Ends.{ports};
-    ghost use Rattle.block_workers.specs.Seeing.{seen};
-    ghost use Rattle.block_workers.specs.Turns.{IsNewSeat, Went, WentOn, Worked, most};
+    ghost use Rattle.block_workers.specs.Seeing.{ways_of_ports};
+    ghost use Rattle.block_workers.specs.Turns.{IsNewSeat, Went, WentOn, HasWorkedTurns, most};
 
     /// A block before its first turn. It has `nodes` nodes.
     pub fn new(number: u32, block: Block, nodes: u32, ends: Ends) -> Seat
@@ -62,7 +62,7 @@ impl Seat {
     fn do_turn(&mut self) -> u32
         ensures went { Went result self.old self.new }
         ensures few { result ≤ most self.old }
-        ensures some { (e : Step) → IsSure self.old.block (seen (ports self.old.ends)) e → 0 < result }
+        ensures some { (e : Step) → IsSure self.old.block (ways_of_ports (ports self.old.ends)) e → 0 < result }
         ensures turn { self.new.turn ≡ self.old.turn }
     {
         let count = turn_with(&mut self.block, &mut self.ends, self.nodes + MORE_EVENTS);
@@ -91,7 +91,7 @@ impl Seat {
         book: &Mutex<TurnBook<J>>,
         gate: &G,
     ) -> bool
-        ensures worked { Worked 1 self.old self.new }
+        ensures worked { HasWorkedTurns 1 self.old self.new }
         ensures turn { self.new.turn ≡ self.old.turn }
     {
         gate.pass(self.number, 0);

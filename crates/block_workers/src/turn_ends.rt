@@ -1,8 +1,8 @@
 ghost use Rattle.std.specs.Prelude.{◌≡◌, ◌<◌, ◌≤◌, true};
 ghost use Rattle.block_net.specs.Views.{count};
-ghost use Rattle.block_turns.specs.Steps.{DoesMany, IsSure, Step, held};
+ghost use Rattle.block_turns.specs.Steps.{DoesMany, IsSure, Step, turn_view};
 ghost use Rattle.block_workers.specs.Ends.{ports};
-ghost use Rattle.block_workers.specs.Seeing.{AreSame, seen};
+ghost use Rattle.block_workers.specs.Seeing.{AreSame, ways_of_ports};
 
 use crate::Ends;
 use block_turns::{Block, Letter, Ways, turn};
@@ -47,7 +47,7 @@ impl<N: Start> Ways for TurnEnds<N> {
 
     ghost fixed = { λ ways. true };
 
-    ghost seen = { λ ways. seen ways };
+    ghost seen = { λ ways. ways_of_ports ways };
 
     fn room(&mut self, to: u32) -> bool {
         self.ends.room(to)
@@ -71,8 +71,10 @@ fn turn_from<N: Start>(block: &mut Block, ends: Ends, limit: u32) -> (Ends, u32)
     requires { N.start ≡ ports ends }
     ensures few { result.1 ≤ limit }
     ensures does { DoesMany
-        (held block.old (seen (ports ends))) result.1 (held block.new (seen (ports result.0))) }
-    ensures some { 0 < limit → (e : Step) → IsSure block.old (seen (ports ends)) e → 0 < result.1 }
+        (turn_view block.old (ways_of_ports (ports ends))) result.1
+        (turn_view block.new (ways_of_ports (ports result.0))) }
+    ensures some { 0 < limit → (e : Step)
+        → IsSure block.old (ways_of_ports (ports ends)) e → 0 < result.1 }
     ensures same { AreSame (ports ends) (ports result.0) }
     ensures nodes { count block.new ≡ count block.old }
 {
@@ -89,12 +91,13 @@ fn turn_from<N: Start>(block: &mut Block, ends: Ends, limit: u32) -> (Ends, u32)
 pub(crate) fn turn_with(block: &mut Block, ends: &mut Ends, limit: u32) -> u32
     ensures few { result ≤ limit }
     ensures does { DoesMany
-        (held block.old (seen (ports ends.old))) result (held block.new (seen (ports ends.new))) }
-    ensures some { 0 < limit → (e : Step) → IsSure block.old (seen (ports ends.old)) e → 0 < result }
+        (turn_view block.old (ways_of_ports (ports ends.old))) result
+        (turn_view block.new (ways_of_ports (ports ends.new))) }
+    ensures some { 0 < limit → (e : Step) → IsSure block.old (ways_of_ports (ports ends.old)) e → 0 < result }
     ensures same { AreSame (ports ends.old) (ports ends.new) }
     ensures nodes { count block.new ≡ count block.old }
 {
-    let (back, count) = turn_from::<Brand>(block, ends.taken(), limit);
+    let (back, count) = turn_from::<Brand>(block, ends.take(), limit);
     *ends = back;
     count
 }

@@ -176,7 +176,12 @@ impl<J: Job> Worker<J> {
     }
 
     /// The same for a worker that is moved into a thread and comes back.
-    pub fn worked<R: Wait, G: Gate>(self, rt: &R, book: &Mutex<TurnBook<J>>, gate: &G) -> Worker<J>
+    pub fn after_work<R: Wait, G: Gate>(
+        self,
+        rt: &R,
+        book: &Mutex<TurnBook<J>>,
+        gate: &G,
+    ) -> Worker<J>
         requires { AreNew self.seats.items }
         ensures { AllWorked self.seats.items result.seats.items }
     {

@@ -6,8 +6,8 @@ use Rattle.move_energy.specs.declared.choice.Choice.TheVariants.{Open, Zero, One
 use Rattle.move_energy.specs.Choices.{bit_of, is_open}
 use Rattle.deciding.specs.Decisions.{Decision, AreForced, IsSubmodular, IsOver, IsSmallestLeast}
 use Rattle.deciding.proofs.Putting.{forced_least}
-use Rattle.closing_in.specs.Fixing.{fixed, fixed_value, HasZeros, HasOnes}
-use Rattle.closing_in.specs.Agreeing.{Agree, IsAgreed, AreOpened, AreOfDecisions, or_else, joined}
+use Rattle.closing_in.specs.Fixing.{with_choices, fixed_value, HasZeros, HasOnes}
+use Rattle.closing_in.specs.Agreeing.{Agree, IsAgreed, AreOpened, AreOfDecisions, or_else, choices_or}
 use Rattle.closing_in.proofs.Fixing.{fixed_as_least}
 use Rattle.closing_in.proofs.Existing.{least_exists}
 
@@ -41,7 +41,7 @@ forced_agree n E ds choice forced of = record {
 }
 
 pub rest_agrees : (n : ℕ) (E : (ℕ → Bool) → ℤ) (choice : ℕ → Choice) (z : ℕ → Bool) → IsSubmodular E → IsOver n E → Agree n E choice
-    → IsSmallestLeast n (fixed_value E choice) z → IsSmallestLeast n E (fixed choice z)
+    → IsSmallestLeast n (fixed_value E choice) z → IsSmallestLeast n E (with_choices choice z)
 rest_agrees n E choice z falls over agree least =
     let s = least_exists n E falls over in
     fixed_as_least n E choice s.0 z over s.1 (agree.zeros s.0 s.1) (agree.ones s.0 s.1) least
@@ -68,10 +68,10 @@ le_along a b c h k = omega (arith, ints, h, k)
 rest_least : (n : ℕ) (E : (ℕ → Bool) → ℤ) (choice : ℕ → Choice) (s : ℕ → Bool) → IsOver n E → IsSmallestLeast n E s → HasZeros n choice s → HasOnes n choice s
     → IsSmallestLeast n (fixed_value E choice) (at_open choice s)
 rest_least n E choice s over best zeros ones =
-    let own : fixed_value E choice (at_open choice s) ≡ E s = over (fixed choice (at_open choice s)) s (λ k l. put_back (choice k) (s k) (zeros k l) (ones k l)) in
+    let own : fixed_value E choice (at_open choice s) ≡ E s = over (with_choices choice (at_open choice s)) s (λ k l. put_back (choice k) (s k) (zeros k l) (ones k l)) in
     record {
-      least = λ y. le_along _ _ _ own (best.least (fixed choice y));
-      smallest = λ y same k l one. open_one (choice k) (s k) (y k) (best.smallest (fixed choice y) (same ∙ own) k l) one;
+      least = λ y. le_along _ _ _ own (best.least (with_choices choice y));
+      smallest = λ y same k l one. open_one (choice k) (s k) (y k) (best.smallest (with_choices choice y) (same ∙ own) k l) one;
     }
 
 joined_zero : (c d : Choice) (b : Bool) → (c ≡ Zero → b ≡ false) → (d ≡ Zero → (is_open c && b) ≡ false) → or_else c d ≡ Zero → b ≡ false
@@ -85,7 +85,7 @@ joined_one Zero d b own other h = absurd (cc (h))
 joined_one One d b own other h = own refl
 
 pub agree_by_rest : (n : ℕ) (E : (ℕ → Bool) → ℤ) (choice more : ℕ → Choice) → IsOver n E → Agree n E choice → Agree n (fixed_value E choice) more
-    → Agree n E (joined choice more)
+    → Agree n E (choices_or choice more)
 agree_by_rest n E choice more over agree further = record {
   zeros = λ s best p l zero.
       joined_zero (choice p) (more p) (s p) (agree.zeros s best p l)

@@ -5,7 +5,7 @@ use Rattle.std.proofs.lemmas.Int.{ints}
 use Rattle.std.proofs.lemmas.Bool.{cases_eq, cases_Bool}
 use Rattle.std.proofs.lemmas.List.Elements.{All-head, All-tail}
 use Rattle.std.proofs.lemmas.List.Sums.{sum_by-cons}
-use Rattle.sums.specs.Sums.{sum_below, counted}
+use Rattle.sums.specs.Sums.{sum_below, count_if}
 use Rattle.sums.specs.IntegerSums.{int_sum_by, int_sum_below}
 use Rattle.move_energy.specs.declared.by_site.Neighbours.{Neighbours}
 use Rattle.label_field.specs.declared.pair.Pair.{Pair}
@@ -27,10 +27,10 @@ use Rattle.deciding.specs.declared.bounds.Bounds.{Bounds}
 use Rattle.deciding.proofs.Putting.{set_at, set_other, set_same, value_same, passed_forced}
 use Rattle.deciding.proofs.Rises.{move_falls, move_over, rise_over, rise_parts, pair_rise-first, pair_rise-second, pair_rise-none}
 use Rattle.deciding.proofs.SiteSums.{test_true, test_false}
-use Rattle.closing_in.specs.Fixing.{fixed, fixed_value}
-use Rattle.closing_in.specs.Agreeing.{Agree, TellsOne, or_else, joined}
+use Rattle.closing_in.specs.Fixing.{with_choices, fixed_value}
+use Rattle.closing_in.specs.Agreeing.{Agree, TellsOne, or_else, choices_or}
 use Rattle.closing_in.specs.Strips.{Strip, others_at, lower_value, upper_value, with_rounds, AreRounds}
-use Rattle.closing_in.specs.Borders.{is_inside, is_one, not_ones, is_beyond, pair_border, border_at, border_of}
+use Rattle.closing_in.specs.Borders.{is_inside, is_one, not_ones, is_beyond, pair_border, border_at, border_sum}
 use Rattle.closing_in.proofs.Fixing.{set_shut, open_rise, fixed_over}
 use Rattle.closing_in.proofs.Agreeing.{forced_agree}
 use Rattle.closing_in.proofs.Strips.{rounds_least}
@@ -46,7 +46,7 @@ decided_agree m move f choice pairs allowed decided =
 pub rounds_end : (m : Instance) (move : Move) (f : ℕ → ℕ) (choice : ℕ → Choice) (rounds : List (List Strip)) (z : ℕ → Bool) → IsInstance m → IsAllowed m move f
     → Agree m.sites (move_value m move f) choice → AreRounds m.sites (move_value m move f) choice rounds
     → IsSmallestLeast m.sites (fixed_value (move_value m move f) (with_rounds choice rounds)) z
-    → IsSmallestLeast m.sites (move_value m move f) (fixed (with_rounds choice rounds) z)
+    → IsSmallestLeast m.sites (move_value m move f) (with_choices (with_rounds choice rounds) z)
 rounds_end m move f choice rounds z pairs allowed =
     rounds_least m.sites (move_value m move f) choice rounds z (move_falls m move f pairs allowed) (move_over m move f pairs)
 
@@ -111,7 +111,7 @@ no_gap z = omega (arith, ints)
 
 first_gap : (m : Instance) (move : Move) (f : ℕ → ℕ) (pair : Pair) (lead low high : Bool) → IsRegularPair m move f pair
     → ((lead ≡ true) × (low ≡ false) × (high ≡ true)) ⊎ ((lead ≡ false) × (high ≡ low))
-    → (pos (pair_entry m move f pair true high) -ℤ pos (pair_entry m move f pair false high)) +ℤ pos (counted lead (pair_surplus m move f pair))
+    → (pos (pair_entry m move f pair true high) -ℤ pos (pair_entry m move f pair false high)) +ℤ pos (count_if lead (pair_surplus m move f pair))
     ≡ pos (pair_entry m move f pair true low) -ℤ pos (pair_entry m move f pair false low)
 first_gap m move f pair true false true regular (inl h) =
     gap (pair_entry m move f pair false false) (pair_entry m move f pair false true) (pair_entry m move f pair true false) (pair_entry m move f pair true true) regular
@@ -126,7 +126,7 @@ first_gap m move f pair false false true regular (inr h) = absurd (let e = h.1 i
 
 second_gap : (m : Instance) (move : Move) (f : ℕ → ℕ) (pair : Pair) (lead low high : Bool) → IsRegularPair m move f pair
     → ((lead ≡ true) × (low ≡ false) × (high ≡ true)) ⊎ ((lead ≡ false) × (high ≡ low))
-    → (pos (pair_entry m move f pair high true) -ℤ pos (pair_entry m move f pair high false)) +ℤ pos (counted lead (pair_surplus m move f pair))
+    → (pos (pair_entry m move f pair high true) -ℤ pos (pair_entry m move f pair high false)) +ℤ pos (count_if lead (pair_surplus m move f pair))
     ≡ pos (pair_entry m move f pair low true) -ℤ pos (pair_entry m move f pair low false)
 second_gap m move f pair true false true regular (inl h) =
     gap_second (pair_entry m move f pair false false) (pair_entry m move f pair false true) (pair_entry m move f pair true false) (pair_entry m move f pair true true) regular
@@ -140,27 +140,27 @@ second_gap m move f pair false true false regular (inr h) = absurd (let e = h.1 
 second_gap m move f pair false false true regular (inr h) = absurd (let e = h.1 in cc (e))
 
 pair_gap : (m : Instance) (move : Move) (f : ℕ → ℕ) (choice : ℕ → Choice) (set x : ℕ → Bool) (p : ℕ) (pair : Pair) → IsPair m.sites pair → IsRegularPair m move f pair
-    → pair_rise m move f p (fixed (others_at One set choice) x) pair +ℤ pos (pair_border m move f choice set p pair)
-    ≡ pair_rise m move f p (fixed (others_at Zero set choice) x) pair
+    → pair_rise m move f p (with_choices (others_at One set choice) x) pair +ℤ pos (pair_border m move f choice set p pair)
+    ≡ pair_rise m move f p (with_choices (others_at Zero set choice) x) pair
 pair_gap m move f choice set x p pair is regular =
-    let low = fixed (others_at Zero set choice) x in
-    let high = fixed (others_at One set choice) x in
+    let low = with_choices (others_at Zero set choice) x in
+    let high = with_choices (others_at One set choice) x in
     elim (cases_eq pair.first p) [
       | inl here ↦
           let other : pair.second ≢ p = λ same. is.unequal (here ∙ sym same) in
           let lead = leads_first _ (is_beyond choice set pair.second) _ (is_beyond choice set pair.first) (test_true pair.first p here) (test_false pair.second p other) in
-          (λ j. pair_rise-first m move f p high pair here other j +ℤ pos (counted (lead j) (pair_surplus m move f pair)))
+          (λ j. pair_rise-first m move f p high pair here other j +ℤ pos (count_if (lead j) (pair_surplus m move f pair)))
           ∙ first_gap m move f pair (is_beyond choice set pair.second) (low pair.second) (high pair.second) regular (sides (choice pair.second) (set pair.second) (x pair.second))
           ∙ sym (pair_rise-first m move f p low pair here other)
       | inr apart ↦ elim (cases_eq pair.second p) [
         | inl there ↦
             let lead = leads_second _ (is_beyond choice set pair.second) _ (is_beyond choice set pair.first) (test_false pair.first p apart) (test_true pair.second p there) in
-            (λ j. pair_rise-second m move f p high pair apart there j +ℤ pos (counted (lead j) (pair_surplus m move f pair)))
+            (λ j. pair_rise-second m move f p high pair apart there j +ℤ pos (count_if (lead j) (pair_surplus m move f pair)))
             ∙ second_gap m move f pair (is_beyond choice set pair.first) (low pair.first) (high pair.first) regular (sides (choice pair.first) (set pair.first) (x pair.first))
             ∙ sym (pair_rise-second m move f p low pair apart there)
         | inr neither ↦
             let lead = leads_none _ (is_beyond choice set pair.second) _ (is_beyond choice set pair.first) (test_false pair.first p apart) (test_false pair.second p neither) in
-            (λ j. pair_rise-none m move f p high pair apart neither j +ℤ pos (counted (lead j) (pair_surplus m move f pair)))
+            (λ j. pair_rise-none m move f p high pair apart neither j +ℤ pos (count_if (lead j) (pair_surplus m move f pair)))
             ∙ sym (pair_rise-none m move f p low pair apart neither)
       ]
     ]
@@ -170,8 +170,8 @@ add_up a b c d e g s h k l = omega (arith, ints, h, k, l)
 
 pairs_gap : (m : Instance) (move : Move) (f : ℕ → ℕ) (choice : ℕ → Choice) (set x : ℕ → Bool) (p : ℕ) (pairs : List Pair)
     → All (IsPair m.sites) pairs → All (IsRegularPair m move f) pairs
-    → int_sum_by (pair_rise m move f p (fixed (others_at One set choice) x)) pairs +ℤ pos (sum_by (pair_border m move f choice set p) pairs)
-    ≡ int_sum_by (pair_rise m move f p (fixed (others_at Zero set choice) x)) pairs
+    → int_sum_by (pair_rise m move f p (with_choices (others_at One set choice) x)) pairs +ℤ pos (sum_by (pair_border m move f choice set p) pairs)
+    ≡ int_sum_by (pair_rise m move f p (with_choices (others_at Zero set choice) x)) pairs
 pairs_gap m move f choice set x p [] are regular = no_gap (pos 0)
 pairs_gap m move f choice set x p (q ∷ qs) are regular =
     add_up _ _ _ _ _ _ _
@@ -190,9 +190,9 @@ upper_rise m move f choice set x p pairs allowed l inside =
     let E = move_value m move f in
     rise_gap _ _ _ _ (data_rise m move f p) _ _ _
     (open_rise E (others_at One set choice) x p (inside_is_open (choice p) One (set p) inside))
-    (rise_parts m move f p (fixed (others_at One set choice) x) l)
+    (rise_parts m move f p (with_choices (others_at One set choice) x) l)
     (open_rise E (others_at Zero set choice) x p (inside_is_open (choice p) Zero (set p) inside))
-    (rise_parts m move f p (fixed (others_at Zero set choice) x) l)
+    (rise_parts m move f p (with_choices (others_at Zero set choice) x) l)
     (pairs_gap m move f choice set x p m.pairs pairs allowed)
 
 -- ---- the whole function, one site after another
@@ -235,7 +235,7 @@ step_one u v w l n o s t b rest h k p q r = omega (arith, ints, h, k, p, q, r)
 
 below_gap : (m : Instance) (move : Move) (f : ℕ → ℕ) (choice : ℕ → Choice) (set x : ℕ → Bool) (k : ℕ) → IsInstance m → IsAllowed m move f → k ≤ m.sites
     → upper_value (move_value m move f) choice set (below x k)
-    +ℤ pos (sum_below k (λ p. counted (is_inside choice set p && x p) (border_at m move f choice set p)))
+    +ℤ pos (sum_below k (λ p. count_if (is_inside choice set p && x p) (border_at m move f choice set p)))
     ≡ lower_value (move_value m move f) choice set (below x k)
     +ℤ (upper_value (move_value m move f) choice set (λ p. false) -ℤ lower_value (move_value m move f) choice set (λ p. false))
 below_gap m move f choice set x zero pairs allowed l = omega (arith, ints)
@@ -249,7 +249,7 @@ below_gap m move f choice set x (suc k) pairs allowed l =
       | inr none ↦
           let same = set_same G k (x k) (below_past x k k (omega arith) ∙ sym none) in
           step_none _ _ _ _ _ _ _ (value_same U _ _ same) (value_same L _ _ same)
-          (ap (λ b. counted b (border_at m move f choice set k)) (and_second (is_inside choice set k) (x k) none)) before
+          (ap (λ b. count_if b (border_at m move f choice set k)) (and_second (is_inside choice set k) (x k) none)) before
       | inl one ↦ elim (cases_Bool (is_inside choice set k)) [
         | inl inside ↦
             let same = set_same G k false (below_past x k k (omega arith)) in
@@ -259,12 +259,12 @@ below_gap m move f choice set x (suc k) pairs allowed l =
             step_one (U (set_bit G k (x k))) (U (set_bit G k false)) _ (L (set_bit G k (x k))) (L (set_bit G k false)) _ _ _ _ _
             ((λ j. (at_one j -ℤ U (set_bit G k false)) +ℤ pos (border_at m move f choice set k)) ∙ rises ∙ (λ j. sym low_one j -ℤ L (set_bit G k false)))
             (value_same U _ _ same) (value_same L _ _ same)
-            (ap (λ b. counted b (border_at m move f choice set k)) (and_both (is_inside choice set k) (x k) inside one)) before
+            (ap (λ b. count_if b (border_at m move f choice set k)) (and_both (is_inside choice set k) (x k) inside one)) before
         | inr outside ↦
             step_none _ _ _ _ _ _ _
             (value_same E _ _ (set_shut (others_at One set choice) G k (x k) (shut_side (choice k) One (set k) (λ a b. refl) outside)))
             (value_same E _ _ (set_shut (others_at Zero set choice) G k (x k) (shut_side (choice k) Zero (set k) (λ a b. refl) outside)))
-            (ap (λ b. counted b (border_at m move f choice set k)) (and_first (is_inside choice set k) (x k) outside)) before
+            (ap (λ b. count_if b (border_at m move f choice set k)) (and_first (is_inside choice set k) (x k) outside)) before
       ]
     ]
 
@@ -273,7 +273,7 @@ gap_along u v l n r s h k o = omega (arith, ints, h, k, o)
 
 pub upper_is_lower : (m : Instance) (move : Move) (f : ℕ → ℕ) (choice : ℕ → Choice) (set : ℕ → Bool) → IsInstance m → IsAllowed m move f
     → (rest : ℤ) × ((x : ℕ → Bool) → upper_value (move_value m move f) choice set x
-    +ℤ pos (border_of m move f choice set x) ≡ lower_value (move_value m move f) choice set x +ℤ rest)
+    +ℤ pos (border_sum m move f choice set x) ≡ lower_value (move_value m move f) choice set x +ℤ rest)
 upper_is_lower m move f choice set pairs allowed =
     let E = move_value m move f in
     let over = move_over m move f pairs in (
@@ -308,7 +308,7 @@ low_side Open false b h = sym (h refl)
 low_side Zero false b h = refl
 low_side One false b h = refl
 
-lone_low : (choice : ℕ → Choice) (set : ℕ → Bool) (u k : ℕ) → set u ≡ true → fixed (others_at Zero set choice) (λ p. p == u) k ≡ fixed choice (λ p. p == u) k
+lone_low : (choice : ℕ → Choice) (set : ℕ → Bool) (u k : ℕ) → set u ≡ true → with_choices (others_at Zero set choice) (λ p. p == u) k ≡ with_choices choice (λ p. p == u) k
 lone_low choice set u k inside = low_side (choice k) (set k) (k == u)
     (λ off. test_false k u (λ same. (let e = sym inside ∙ ap set (sym same) ∙ off in absurd (cc (e)))))
 
@@ -321,8 +321,8 @@ strip_weights m move f choice set weights are u l opened =
     let was = below_open (choice u) (set u) opened in
     let E = move_value m move f in
     differences _ _ _ _ _ (are u l was.0)
-    (value_same E (fixed (others_at Zero set choice) (λ p. p == u)) (fixed choice (λ p. p == u)) (λ k. lone_low choice set u k was.1))
-    (value_same E (fixed (others_at Zero set choice) (λ p. false)) (fixed choice (λ p. false)) (λ k. low_side (choice k) (set k) false (λ off. refl)))
+    (value_same E (with_choices (others_at Zero set choice) (λ p. p == u)) (with_choices choice (λ p. p == u)) (λ k. lone_low choice set u k was.1))
+    (value_same E (with_choices (others_at Zero set choice) (λ p. false)) (with_choices choice (λ p. false)) (λ k. low_side (choice k) (set k) false (λ off. refl)))
 
 -- a weight is a rise
 told_one : (b : Bool) → b ≡ cond b true false
@@ -391,16 +391,16 @@ more_bit One One b none = refl
 pub weights_go_on : (m : Instance) (move : Move) (f : ℕ → ℕ) (choice more : ℕ → Choice) (weights less : List ℤ) → IsInstance m → IsAllowed m move f
     → AreWeights m move f choice weights
     → ((p : ℕ) → p < m.sites → choice p ≡ Open → more p ≡ Open → weight_at weights p ≡ weight_at less p +ℤ pos (border_at m move f choice (not_ones more) p))
-    → AreWeights m move f (joined choice more) less
+    → AreWeights m move f (choices_or choice more) less
 weights_go_on m move f choice more weights less pairs allowed are lower u l opened =
     let E = move_value m move f in
     let were = both_open (choice u) (more u) opened in
     differences _ _ _ _ _
     (less_weight m move f choice (not_ones more) weights less u pairs allowed are l (not_one (choice u) (more u) were.0 were.1) (lower u l were.0 were.1))
-    (value_same E (fixed (joined choice more) (λ p. p == u)) (fixed (others_at One (not_ones more) choice) (λ p. p == u))
+    (value_same E (with_choices (choices_or choice more) (λ p. p == u)) (with_choices (others_at One (not_ones more) choice) (λ p. p == u))
     (λ k. more_bit (choice k) (more k) (k == u)
     (λ zero. test_false k u (λ same. (let e = sym were.1 ∙ ap more (sym same) ∙ zero in absurd (cc (e)))))))
-    (value_same E (fixed (joined choice more) (λ p. false)) (fixed (others_at One (not_ones more) choice) (λ p. false))
+    (value_same E (with_choices (choices_or choice more) (λ p. false)) (with_choices (others_at One (not_ones more) choice) (λ p. false))
     (λ k. more_bit (choice k) (more k) false (λ zero. refl)))
 
 -- ---- decided half way
@@ -437,7 +437,7 @@ below_is_sum (suc n) g = (let rest = below_is_sum n g in omega (arith, ints, res
 no_pair : (m : Instance) (move : Move) (f : ℕ → ℕ) (choice : ℕ → Choice) (set : ℕ → Bool) (p : ℕ) (pair : Pair) → pair.first ≢ p → pair.second ≢ p
     → pos (pair_border m move f choice set p pair) ≡ pos 0
 no_pair m move f choice set p pair off other =
-    ap (λ b. pos (counted b (pair_surplus m move f pair)))
+    ap (λ b. pos (count_if b (pair_surplus m move f pair)))
     (leads_none _ (is_beyond choice set pair.second) _ (is_beyond choice set pair.first) (test_false pair.first p off) (test_false pair.second p other))
 
 pub border_by_site : (m : Instance) (move : Move) (f : ℕ → ℕ) (choice : ℕ → Choice) (set : ℕ → Bool) (p : ℕ) (ends : Neighbours) → IsInstance m

@@ -8,7 +8,7 @@ use Rattle.move_energy.specs.declared.choice.Choice.TheVariants.{Open}
 use Rattle.move_energy.specs.Choices.{bit_of, choice_of}
 use Rattle.deciding.specs.Decisions.{IsSubmodular, IsOver, IsSmallestLeast}
 use Rattle.deciding.proofs.Putting.{value_same}
-use Rattle.closing_in.specs.Fixing.{fixed}
+use Rattle.closing_in.specs.Fixing.{with_choices}
 use Rattle.closing_in.proofs.Lattice.{both, either, both_second, both_and_either}
 use Rattle.closing_in.proofs.Fixing.{fixed_falls}
 
@@ -38,20 +38,20 @@ lone_is n k b h = grind (arith, nat_tests)
 lone_off : (n k : ℕ) (b : Bool) → k ≢ n → lone n b k ≡ Open
 lone_off n k b h = grind (arith, nat_tests)
 
-lone_at : (n k : ℕ) (b : Bool) (x : ℕ → Bool) → k ≡ n → fixed (lone n b) x k ≡ b
+lone_at : (n k : ℕ) (b : Bool) (x : ℕ → Bool) → k ≡ n → with_choices (lone n b) x k ≡ b
 lone_at n k b x h = ap (λ (c : Choice). bit_of c (x k)) (lone_is n k b h) ∙ told b (x k)
 
-lone_other : (n k : ℕ) (b : Bool) (x : ℕ → Bool) → k ≢ n → fixed (lone n b) x k ≡ x k
+lone_other : (n k : ℕ) (b : Bool) (x : ℕ → Bool) → k ≢ n → with_choices (lone n b) x k ≡ x k
 lone_other n k b x h = ap (λ (c : Choice). bit_of c (x k)) (lone_off n k b h)
 
-lone_same : (E : (ℕ → Bool) → ℤ) (n : ℕ) (b : Bool) (x : ℕ → Bool) → x n ≡ b → E (fixed (lone n b) x) ≡ E x
-lone_same E n b x h = value_same E (fixed (lone n b) x) x (λ k. elim (cases_eq k n) [
+lone_same : (E : (ℕ → Bool) → ℤ) (n : ℕ) (b : Bool) (x : ℕ → Bool) → x n ≡ b → E (with_choices (lone n b) x) ≡ E x
+lone_same E n b x h = value_same E (with_choices (lone n b) x) x (λ k. elim (cases_eq k n) [
   | inl same ↦ lone_at n k b x same ∙ sym h ∙ ap x (sym same)
   | inr other ↦ lone_other n k b x other
 ])
 
-lone_over : (n : ℕ) (E : (ℕ → Bool) → ℤ) (b : Bool) → IsOver (suc n) E → IsOver n (λ x. E (fixed (lone n b) x))
-lone_over n E b over x y same = over (fixed (lone n b) x) (fixed (lone n b) y) (λ k l. elim (cases_eq k n) [
+lone_over : (n : ℕ) (E : (ℕ → Bool) → ℤ) (b : Bool) → IsOver (suc n) E → IsOver n (λ x. E (with_choices (lone n b) x))
+lone_over n E b over x y same = over (with_choices (lone n b) x) (with_choices (lone n b) y) (λ k l. elim (cases_eq k n) [
   | inl here ↦ lone_at n k b x here ∙ sym (lone_at n k b y here)
   | inr other ↦ lone_other n k b x other ∙ same k (omega (arith, l, other)) ∙ sym (lone_other n k b y other)
 ])
@@ -67,9 +67,9 @@ le_refl a = omega (arith, ints)
 
 -- the better of the two values of the last variable is least
 least_of_two : (n : ℕ) (E : (ℕ → Bool) → ℤ) (t : ℕ → Bool) (x0 x1 : ℕ → Bool)
-    → ((y : ℕ → Bool) → E (fixed (lone n false) x0) ≤ℤ E (fixed (lone n false) y))
-    → ((y : ℕ → Bool) → E (fixed (lone n true) x1) ≤ℤ E (fixed (lone n true) y))
-    → E t ≤ℤ E (fixed (lone n false) x0) → E t ≤ℤ E (fixed (lone n true) x1) → (y : ℕ → Bool) → E t ≤ℤ E y
+    → ((y : ℕ → Bool) → E (with_choices (lone n false) x0) ≤ℤ E (with_choices (lone n false) y))
+    → ((y : ℕ → Bool) → E (with_choices (lone n true) x1) ≤ℤ E (with_choices (lone n true) y))
+    → E t ≤ℤ E (with_choices (lone n false) x0) → E t ≤ℤ E (with_choices (lone n true) x1) → (y : ℕ → Bool) → E t ≤ℤ E y
 least_of_two n E t x0 x1 low0 low1 le0 le1 y = elim (cases_Bool (y n)) [
   | inl one ↦ le_le _ _ _ _ le1 (low1 y) (lone_same E n true y one)
   | inr none ↦ le_le _ _ _ _ le0 (low0 y) (lone_same E n false y none)
@@ -85,10 +85,10 @@ clash : (b : Bool) → b ≡ true → b ≡ false → ⊥
 clash b h k = (let e = sym h ∙ k in cc (e))
 
 zero_case : (n : ℕ) (E : (ℕ → Bool) → ℤ) (x0 : ℕ → Bool) → IsSubmodular E → IsOver (suc n) E
-    → IsSmallestLeast n (λ x. E (fixed (lone n false) x)) x0 → ((y : ℕ → Bool) → E (fixed (lone n false) x0) ≤ℤ E y)
-    → IsSmallestLeast (suc n) E (fixed (lone n false) x0)
+    → IsSmallestLeast n (λ x. E (with_choices (lone n false) x)) x0 → ((y : ℕ → Bool) → E (with_choices (lone n false) x0) ≤ℤ E y)
+    → IsSmallestLeast (suc n) E (with_choices (lone n false) x0)
 zero_case n E x0 falls over best least =
-    let t = fixed (lone n false) x0 in
+    let t = with_choices (lone n false) x0 in
     record {
       least = least;
       smallest = λ y same k l one. elim (cases_eq k n) [
@@ -103,9 +103,9 @@ zero_case n E x0 falls over best least =
     }
 
 one_case : (n : ℕ) (E : (ℕ → Bool) → ℤ) (x0 x1 : ℕ → Bool)
-    → ((y : ℕ → Bool) → E (fixed (lone n false) x0) ≤ℤ E (fixed (lone n false) y))
-    → IsSmallestLeast n (λ x. E (fixed (lone n true) x)) x1 → E (fixed (lone n true) x1) <ℤ E (fixed (lone n false) x0)
-    → ((y : ℕ → Bool) → E (fixed (lone n true) x1) ≤ℤ E y) → IsSmallestLeast (suc n) E (fixed (lone n true) x1)
+    → ((y : ℕ → Bool) → E (with_choices (lone n false) x0) ≤ℤ E (with_choices (lone n false) y))
+    → IsSmallestLeast n (λ x. E (with_choices (lone n true) x)) x1 → E (with_choices (lone n true) x1) <ℤ E (with_choices (lone n false) x0)
+    → ((y : ℕ → Bool) → E (with_choices (lone n true) x1) ≤ℤ E y) → IsSmallestLeast (suc n) E (with_choices (lone n true) x1)
 one_case n E x0 x1 low0 best lower least = record {
   least = least;
   smallest = λ y same k l one. elim (cases_Bool (y n)) [
@@ -126,13 +126,13 @@ least_exists zero E falls over = (
   },
 )
 least_exists (suc n) E falls over =
-    let zeros = least_exists n (λ x. E (fixed (lone n false) x)) (fixed_falls E (lone n false) falls) (lone_over n E false over) in
-    let ones = least_exists n (λ x. E (fixed (lone n true) x)) (fixed_falls E (lone n true) falls) (lone_over n E true over) in
-    elim (le_or_lt (E (fixed (lone n false) zeros.0)) (E (fixed (lone n true) ones.0))) [
+    let zeros = least_exists n (λ x. E (with_choices (lone n false) x)) (fixed_falls E (lone n false) falls) (lone_over n E false over) in
+    let ones = least_exists n (λ x. E (with_choices (lone n true) x)) (fixed_falls E (lone n true) falls) (lone_over n E true over) in
+    elim (le_or_lt (E (with_choices (lone n false) zeros.0)) (E (with_choices (lone n true) ones.0))) [
       | inl le ↦
-          let least = least_of_two n E (fixed (lone n false) zeros.0) zeros.0 ones.0 zeros.1.least ones.1.least (le_refl _) le in
-          (fixed (lone n false) zeros.0, zero_case n E zeros.0 falls over zeros.1 least)
+          let least = least_of_two n E (with_choices (lone n false) zeros.0) zeros.0 ones.0 zeros.1.least ones.1.least (le_refl _) le in
+          (with_choices (lone n false) zeros.0, zero_case n E zeros.0 falls over zeros.1 least)
       | inr lt ↦
-          let least = least_of_two n E (fixed (lone n true) ones.0) zeros.0 ones.0 zeros.1.least ones.1.least (lt_weak _ _ lt) (le_refl _) in
-          (fixed (lone n true) ones.0, one_case n E zeros.0 ones.0 zeros.1.least ones.1 lt least)
+          let least = least_of_two n E (with_choices (lone n true) ones.0) zeros.0 ones.0 zeros.1.least ones.1.least (lt_weak _ _ lt) (le_refl _) in
+          (with_choices (lone n true) ones.0, one_case n E zeros.0 ones.0 zeros.1.least ones.1 lt least)
     ]

@@ -7,7 +7,7 @@ use Rattle.move_energy.specs.declared.choice.Choice.TheVariants.{Open, Zero, One
 use Rattle.move_energy.specs.Choices.{bit_of}
 use Rattle.deciding.specs.Decisions.{set_bit, rise, OnesWithin, IsSubmodular, IsOver, IsSmallestLeast}
 use Rattle.deciding.proofs.Putting.{set_at, set_other, value_same}
-use Rattle.closing_in.specs.Fixing.{fixed, fixed_value, IsLeast, HasZeros, HasOnes, LiesWithin}
+use Rattle.closing_in.specs.Fixing.{with_choices, fixed_value, IsLeast, HasZeros, HasOnes, OnesLieWithin}
 use Rattle.closing_in.proofs.Lattice.{both, either, both_second, both_and_either}
 
 bit_grows : (c : Choice) (a b : Bool) → (a ≡ true → b ≡ true) → bit_of c a ≡ true → bit_of c b ≡ true
@@ -15,21 +15,21 @@ bit_grows Open a b within h = within h
 bit_grows Zero a b within h = h
 bit_grows One a b within h = h
 
-fixed_within : (choice : ℕ → Choice) (x y : ℕ → Bool) → OnesWithin x y → OnesWithin (fixed choice x) (fixed choice y)
+fixed_within : (choice : ℕ → Choice) (x y : ℕ → Bool) → OnesWithin x y → OnesWithin (with_choices choice x) (with_choices choice y)
 fixed_within choice x y within k = bit_grows (choice k) (x k) (y k) (within k)
 
 -- a variable set before the others are fixed: set after it where it is open, else nothing
 set_open : (choice : ℕ → Choice) (x : ℕ → Bool) (i : ℕ) (b : Bool) → choice i ≡ Open → (k : ℕ)
-    → fixed choice (set_bit x i b) k ≡ set_bit (fixed choice x) i b k
+    → with_choices choice (set_bit x i b) k ≡ set_bit (with_choices choice x) i b k
 set_open choice x i b opened k = elim (cases_eq k i) [
   | inl same ↦
       ap (bit_of (choice k)) (set_at x i k b same) ∙ ap (λ j. bit_of (choice j) b) same ∙ ap (λ (c : Choice). bit_of c b) opened
-      ∙ sym (set_at (fixed choice x) i k b same)
-  | inr other ↦ ap (bit_of (choice k)) (set_other x i k b other) ∙ sym (set_other (fixed choice x) i k b other)
+      ∙ sym (set_at (with_choices choice x) i k b same)
+  | inr other ↦ ap (bit_of (choice k)) (set_other x i k b other) ∙ sym (set_other (with_choices choice x) i k b other)
 ]
 
 pub set_shut : (choice : ℕ → Choice) (x : ℕ → Bool) (i : ℕ) (b : Bool) → ((a c : Bool) → bit_of (choice i) a ≡ bit_of (choice i) c) → (k : ℕ)
-    → fixed choice (set_bit x i b) k ≡ fixed choice x k
+    → with_choices choice (set_bit x i b) k ≡ with_choices choice x k
 set_shut choice x i b shut k = elim (cases_eq k i) [
   | inl same ↦
       ap (bit_of (choice k)) (set_at x i k b same) ∙ ap (λ j. bit_of (choice j) b) same ∙ shut b (x i)
@@ -43,7 +43,7 @@ rises_alike a b c d e f h k l n = omega (arith, ints, h, k, l, n)
 shut_falls : (E : (ℕ → Bool) → ℤ) (choice : ℕ → Choice) (x y : ℕ → Bool) (i : ℕ) → ((a c : Bool) → bit_of (choice i) a ≡ bit_of (choice i) c)
     → rise (fixed_value E choice) i y ≤ℤ rise (fixed_value E choice) i x
 shut_falls E choice x y i shut =
-    rises_alike _ _ _ _ (E (fixed choice y)) (E (fixed choice x))
+    rises_alike _ _ _ _ (E (with_choices choice y)) (E (with_choices choice x))
     (value_same E _ _ (set_shut choice y i true shut)) (value_same E _ _ (set_shut choice y i false shut))
     (value_same E _ _ (set_shut choice x i true shut)) (value_same E _ _ (set_shut choice x i false shut))
 
@@ -56,11 +56,11 @@ open_falls E choice x y i falls within opened =
     rises_along _ _ _ _ _ _ _ _
     (value_same E _ _ (set_open choice y i true opened)) (value_same E _ _ (set_open choice y i false opened))
     (value_same E _ _ (set_open choice x i true opened)) (value_same E _ _ (set_open choice x i false opened))
-    (falls (fixed choice x) (fixed choice y) i (fixed_within choice x y within))
+    (falls (with_choices choice x) (with_choices choice y) i (fixed_within choice x y within))
 
 -- the rise of an open variable is that with the fixed values put in
 pub open_rise : (E : (ℕ → Bool) → ℤ) (choice : ℕ → Choice) (x : ℕ → Bool) (i : ℕ) → choice i ≡ Open
-    → rise (fixed_value E choice) i x ≡ rise E i (fixed choice x)
+    → rise (fixed_value E choice) i x ≡ rise E i (with_choices choice x)
 open_rise E choice x i opened =
     let one = value_same E _ _ (set_open choice x i true opened) in
     let none = value_same E _ _ (set_open choice x i false opened) in
@@ -78,11 +78,11 @@ fixed_falls E choice falls x y i within = elim (cases_choice (choice i)) [
 ]
 
 pub fixed_over : (n : ℕ) (E : (ℕ → Bool) → ℤ) (choice : ℕ → Choice) → IsOver n E → IsOver n (fixed_value E choice)
-fixed_over n E choice over x y same = over (fixed choice x) (fixed choice y) (λ k l. ap (bit_of (choice k)) (same k l))
+fixed_over n E choice over x y same = over (with_choices choice x) (with_choices choice y) (λ k l. ap (bit_of (choice k)) (same k l))
 
 pub fixed_same : (n : ℕ) (E : (ℕ → Bool) → ℤ) (choice other : ℕ → Choice) → IsOver n E → ((p : ℕ) → p < n → choice p ≡ other p)
     → (x : ℕ → Bool) → fixed_value E choice x ≡ fixed_value E other x
-fixed_same n E choice other over same x = over (fixed choice x) (fixed other x) (λ k l. ap (λ (c : Choice). bit_of c (x k)) (same k l))
+fixed_same n E choice other over same x = over (with_choices choice x) (with_choices other x) (λ k l. ap (λ (c : Choice). bit_of c (x k)) (same k l))
 
 -- ---- bounds
 
@@ -113,24 +113,24 @@ level a b h k = omega (arith, ints, h, k)
 
 pub least_rises : (n : ℕ) (E : (ℕ → Bool) → ℤ) (low high : ℕ → Choice) (x y : ℕ → Bool) → IsSubmodular E → IsOver n E
     → IsSmallestLeast n (fixed_value E low) x → IsLeast (fixed_value E high) y
-    → HasOnes n low (fixed high y) → HasZeros n high (fixed low x) → LiesWithin n (fixed low x) (fixed high y)
+    → HasOnes n low (with_choices high y) → HasZeros n high (with_choices low x) → OnesLieWithin n (with_choices low x) (with_choices high y)
 least_rises n E low high x y falls over best least ones zeros p l one =
-    let s = fixed low x in
-    let t = fixed high y in
-    let met = over (fixed low (both s t)) (both s t) (λ k below. met_fixed (low k) (x k) (t k) (ones k below)) in
-    let join = over (fixed high (either s t)) (either s t) (λ k below. joined_fixed (high k) (s k) (y k) (zeros k below)) in
+    let s = with_choices low x in
+    let t = with_choices high y in
+    let met = over (with_choices low (both s t)) (both s t) (λ k below. met_fixed (low k) (x k) (t k) (ones k below)) in
+    let join = over (with_choices high (either s t)) (either s t) (λ k below. joined_fixed (high k) (s k) (y k) (zeros k below)) in
     let same : fixed_value E low (both s t) ≡ fixed_value E low x =
     met_level _ _ _ _ _ _ (both_and_either n E s t falls over) (least (either s t)) join (best.least (both s t)) met in
     ones_as (low p) (x p) (t p) (ones p l) (λ own. both_second (s p) (t p) (best.smallest (both s t) same p l own)) one
 
 -- with nothing fixed on the one side
 pub ones_bound : (n : ℕ) (E : (ℕ → Bool) → ℤ) (choice : ℕ → Choice) (s z : ℕ → Bool) → IsSubmodular E → IsOver n E → IsSmallestLeast n E s
-    → HasZeros n choice s → IsLeast (fixed_value E choice) z → LiesWithin n s (fixed choice z)
+    → HasZeros n choice s → IsLeast (fixed_value E choice) z → OnesLieWithin n s (with_choices choice z)
 ones_bound n E choice s z falls over best zeros least =
     least_rises n E (λ p. Open) choice s z falls over best least (λ p l one. absurd (cc (one))) zeros
 
 pub zeros_bound : (n : ℕ) (E : (ℕ → Bool) → ℤ) (choice : ℕ → Choice) (s z : ℕ → Bool) → IsSubmodular E → IsOver n E → IsLeast E s
-    → HasOnes n choice s → IsSmallestLeast n (fixed_value E choice) z → LiesWithin n (fixed choice z) s
+    → HasOnes n choice s → IsSmallestLeast n (fixed_value E choice) z → OnesLieWithin n (with_choices choice z) s
 zeros_bound n E choice s z falls over least ones best =
     least_rises n E choice (λ p. Open) z s falls over best least ones (λ p l zero. absurd (cc (zero)))
 
@@ -148,11 +148,11 @@ same_then : (a b c : ℤ) → a ≡ b → c ≤ℤ a → b ≤ℤ c → b ≡ c
 same_then a b c h k l = omega (arith, ints, h, k, l)
 
 pub fixed_as_least : (n : ℕ) (E : (ℕ → Bool) → ℤ) (choice : ℕ → Choice) (s z : ℕ → Bool) → IsOver n E → IsSmallestLeast n E s
-    → HasZeros n choice s → HasOnes n choice s → IsSmallestLeast n (fixed_value E choice) z → IsSmallestLeast n E (fixed choice z)
+    → HasZeros n choice s → HasOnes n choice s → IsSmallestLeast n (fixed_value E choice) z → IsSmallestLeast n E (with_choices choice z)
 fixed_as_least n E choice s z over best zeros ones least =
-    let own : E (fixed choice s) ≡ E s = over (fixed choice s) s (λ k l. fixed_as (choice k) (s k) (zeros k l) (ones k l)) in
-    let level_s : E s ≡ E (fixed choice z) = level (E s) (E (fixed choice z)) (best.least (fixed choice z)) (le_then _ _ _ _ (least.least s) own (best.least s)) in
-    let within : (k : ℕ) → k < n → fixed choice z k ≡ true → s k ≡ true =
+    let own : E (with_choices choice s) ≡ E s = over (with_choices choice s) s (λ k l. fixed_as (choice k) (s k) (zeros k l) (ones k l)) in
+    let level_s : E s ≡ E (with_choices choice z) = level (E s) (E (with_choices choice z)) (best.least (with_choices choice z)) (le_then _ _ _ _ (least.least s) own (best.least s)) in
+    let within : (k : ℕ) → k < n → with_choices choice z k ≡ true → s k ≡ true =
     λ k l. ones_as (choice k) (z k) (s k) (ones k l) (least.smallest s (own ∙ level_s) k l) in
     record {
       least = λ y. le_then _ _ _ _ (least.least s) own (best.least y);

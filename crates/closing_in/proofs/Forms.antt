@@ -2,14 +2,14 @@
 use Rattle.std.proofs.Common.{◌≡◌, ◌≢◌, ◌+◌, zero, suc, eqb, List, inl, inr, ◌<◌, ◌&&◌, ℕ, Bool, true, false, cond, ℤ, pos, ◌+ℤ◌, ◌≤ℤ◌, vec_len, refl, sym, ap, ◌∙◌, arith, subst}
 use Rattle.std.proofs.lemmas.Int.{ints}
 use Rattle.std.proofs.lemmas.Bool.{cases_eq, cases_Bool}
-use Rattle.sums.specs.Sums.{sum_below, counted}
+use Rattle.sums.specs.Sums.{sum_below, count_if}
 use Rattle.sums.specs.IntegerSums.{int_sum_below, int_counted}
 use Rattle.sums.proofs.SumLemmas.{sum_below-same, sum_below-swap, sum_below-counted, sum_below-pick, sum_below-none, counted-same, counted-other}
 use Rattle.pseudo_bool.specs.Energies.{entry}
 use Rattle.compile_cut.specs.Weights.{weights_value, arcs_value}
 use Rattle.labellings.specs.declared.change.Move.{Move}
 use Rattle.labellings.specs.Energies.{Instance, IsInstance}
-use Rattle.labellings.specs.Moves.{label_in, made, IsAllowed}
+use Rattle.labellings.specs.Moves.{label_after, labelling_made, IsAllowed}
 use Rattle.labellings.proofs.Energy.{plain-same}
 use Rattle.compile_cut.specs.declared.quadratic.Quadratic.{Quadratic}
 use Rattle.compile_cut.specs.Quadratics.{quadratic_value}
@@ -18,10 +18,10 @@ use Rattle.move_energy.specs.declared.choice.Choice.TheVariants.{Open, Zero, One
 use Rattle.move_energy.specs.Choices.{bit_of, is_open, made_by, StandsFor}
 use Rattle.deciding.specs.Decisions.{IsSmallestLeast}
 use Rattle.deciding.specs.MoveValues.{move_value}
-use Rattle.closing_in.specs.Fixing.{fixed, fixed_value, IsLeast}
+use Rattle.closing_in.specs.Fixing.{with_choices, fixed_value, IsLeast}
 use Rattle.closing_in.specs.Agreeing.{or_else}
 use Rattle.closing_in.specs.Strips.{others_at, lower_value, upper_value}
-use Rattle.closing_in.specs.Borders.{is_inside, border_at, border_of}
+use Rattle.closing_in.specs.Borders.{is_inside, border_at, border_sum}
 use Rattle.closing_in.specs.Forms.{bits_by_site, IsOneToOne, IsReweighed}
 use Rattle.closing_in.proofs.Borders.{upper_is_lower}
 
@@ -46,8 +46,8 @@ site_value : (m : Instance) (move : Move) (f : ℕ → ℕ) (choice : ℕ → Ch
     → quadratic_value q (λ i. z (stands.site i)) +ℤ stands.rest ≡ fixed_value (move_value m move f) choice z
 site_value m move f choice q variable z pairs stands =
     stands.value (λ i. z (stands.site i))
-    ∙ ap pos (plain-same m (made_by move f choice variable (λ i. z (stands.site i))) (made move f (fixed choice z)) pairs
-    (λ p l. ap (label_in move (f p)) (same_bit (choice p) (z (stands.site (variable p))) (z p) (λ opened. ap z ((stands.covers p l opened).1)))))
+    ∙ ap pos (plain-same m (made_by move f choice variable (λ i. z (stands.site i))) (labelling_made move f (with_choices choice z)) pairs
+    (λ p l. ap (label_after move (f p)) (same_bit (choice p) (z (stands.site (variable p))) (z p) (λ opened. ap z ((stands.covers p l opened).1)))))
 
 -- and at any bits
 bits_value : (m : Instance) (move : Move) (f : ℕ → ℕ) (choice : ℕ → Choice) (q : Quadratic) (variable : ℕ → ℕ) (y : ℕ → Bool) → IsInstance m
@@ -55,8 +55,8 @@ bits_value : (m : Instance) (move : Move) (f : ℕ → ℕ) (choice : ℕ → Ch
     → quadratic_value q y +ℤ stands.rest ≡ fixed_value (move_value m move f) choice (bits_by_site choice variable y)
 bits_value m move f choice q variable y pairs stands =
     stands.value y
-    ∙ ap pos (plain-same m (made_by move f choice variable y) (made move f (fixed choice (bits_by_site choice variable y))) pairs
-    (λ p l. ap (label_in move (f p)) (sym (open_bit (choice p) (y (variable p))))))
+    ∙ ap pos (plain-same m (made_by move f choice variable y) (labelling_made move f (with_choices choice (bits_by_site choice variable y))) pairs
+    (λ p l. ap (label_after move (f p)) (sym (open_bit (choice p) (y (variable p))))))
 
 least_by : (a b c d r : ℤ) → a +ℤ r ≡ c → b +ℤ r ≡ d → a ≤ℤ b → c ≤ℤ d
 least_by a b c d r h k l = omega (arith, ints, h, k, l)
@@ -96,7 +96,7 @@ higher_by less q up low rest gap b h k l = omega (arith, ints, h, k, l)
 
 pub less_border_form : (m : Instance) (move : Move) (f : ℕ → ℕ) (choice : ℕ → Choice) (set : ℕ → Bool) (q less : Quadratic) (variable : ℕ → ℕ) → IsInstance m → IsAllowed m move f
     → StandsFor m move f (others_at Zero set choice) q variable → vec_len less.weights ≡ vec_len q.weights
-    → ((x : ℕ → Bool) → quadratic_value less x +ℤ pos (border_of m move f choice set (λ p. x (variable p))) ≡ quadratic_value q x)
+    → ((x : ℕ → Bool) → quadratic_value less x +ℤ pos (border_sum m move f choice set (λ p. x (variable p))) ≡ quadratic_value q x)
     → StandsFor m move f (others_at One set choice) less variable
 less_border_form m move f choice set q less variable pairs allowed stands size lower =
     let gap = upper_is_lower m move f choice set pairs allowed in
@@ -104,7 +104,7 @@ less_border_form m move f choice set q less variable pairs allowed stands size l
       rest = stands.rest +ℤ gap.0;
       site = stands.site;
       value = λ x. higher_by _ (quadratic_value q x) (upper_value (move_value m move f) choice set (λ p. x (variable p))) (lower_value (move_value m move f) choice set (λ p. x (variable p)))
-          stands.rest gap.0 (border_of m move f choice set (λ p. x (variable p))) (lower x) (stands.value x) (gap.1 (λ p. x (variable p)));
+          stands.rest gap.0 (border_sum m move f choice set (λ p. x (variable p))) (lower x) (stands.value x) (gap.1 (λ p. x (variable p)));
       covers = λ p l opened.
           let covered = stands.covers p l (still_open (choice p) (set p) opened) in
           let P : ℕ → Type 0 = λ k. variable p < k in
@@ -113,15 +113,15 @@ less_border_form m move f choice set q less variable pairs allowed stands size l
 
 -- ---- weight by weight
 
-counted_and : (a b : Bool) (z : ℕ) → a ≡ true → counted b z ≡ counted (a && b) z
+counted_and : (a b : Bool) (z : ℕ) → a ≡ true → count_if b z ≡ count_if (a && b) z
 counted_and true b z h = refl
 counted_and false b z h = absurd (cc (h))
 
-counted_none : (a b : Bool) (z : ℕ) → a ≡ false → 0 ≡ counted (a && b) z
+counted_none : (a b : Bool) (z : ℕ) → a ≡ false → 0 ≡ count_if (a && b) z
 counted_none true b z h = absurd (cc (h))
 counted_none false b z h = refl
 
-no_count : (b : Bool) (z : ℕ) → z ≡ 0 → counted b z ≡ 0
+no_count : (b : Bool) (z : ℕ) → z ≡ 0 → count_if b z ≡ 0
 no_count true z h = h
 no_count false z h = refl
 
@@ -132,39 +132,39 @@ not_there n chosen r variable site p k pairs l none same =
 
 -- that of a chosen one is one of them
 one_there : (n : ℕ) (chosen : ℕ → Bool) (r : ℕ) (variable site : ℕ → ℕ) (x : ℕ → Bool) (p k z : ℕ) → IsOneToOne n chosen r variable site → k < r → p < n → chosen p ≡ true
-    → counted (x k) (counted (eqb (site k) p) z) ≡ counted (eqb (variable p) k) (counted (x k) z)
+    → count_if (x k) (count_if (eqb (site k) p) z) ≡ count_if (eqb (variable p) k) (count_if (x k) z)
 one_there n chosen r variable site x p k z pairs l small is = elim (cases_eq k (variable p)) [
   | inl here ↦
       let at : p ≡ site k = sym (pairs.there p small is).1 ∙ ap site (sym here) in
-      ap (counted (x k)) (ap (λ q. counted (eqb (site k) q) z) at ∙ counted-same (site k) z)
-      ∙ sym (ap (λ v. counted (eqb v k) (counted (x k) z)) (sym here) ∙ counted-same k (counted (x k) z))
+      ap (count_if (x k)) (ap (λ q. count_if (eqb (site k) q) z) at ∙ counted-same (site k) z)
+      ∙ sym (ap (λ v. count_if (eqb v k) (count_if (x k) z)) (sym here) ∙ counted-same k (count_if (x k) z))
   | inr other ↦
-      no_count (x k) (counted (eqb (site k) p) z)
+      no_count (x k) (count_if (eqb (site k) p) z)
       (counted-other (site k) p z (λ same. other (sym (pairs.back k l).2 ∙ ap variable (sym same))))
-      ∙ sym (counted-other (variable p) k (counted (x k) z) other)
+      ∙ sym (counted-other (variable p) k (count_if (x k) z) other)
 ]
 
 -- the sum over the chosen sites, by variable
 by_variable : (n : ℕ) (chosen : ℕ → Bool) (r : ℕ) (variable site : ℕ → ℕ) (x : ℕ → Bool) (b : ℕ → ℕ) → IsOneToOne n chosen r variable site
-    → sum_below r (λ k. counted (x k) (b (site k))) ≡ sum_below n (λ p. counted (chosen p && x (variable p)) (b p))
+    → sum_below r (λ k. count_if (x k) (b (site k))) ≡ sum_below n (λ p. count_if (chosen p && x (variable p)) (b p))
 by_variable n chosen r variable site x b pairs =
-    sum_below-same r (λ k. counted (x k) (b (site k))) (λ k. sum_below n (λ p. counted (x k) (counted (eqb (site k) p) (b p))))
-    (λ k l. ap (counted (x k)) (sym (sum_below-pick n (site k) b (pairs.back k l).0)) ∙ sum_below-counted n (x k) (λ p. counted (eqb (site k) p) (b p)))
-    ∙ sum_below-swap r n (λ k p. counted (x k) (counted (eqb (site k) p) (b p)))
-    ∙ sum_below-same n (λ p. sum_below r (λ k. counted (x k) (counted (eqb (site k) p) (b p)))) (λ p. counted (chosen p && x (variable p)) (b p))
+    sum_below-same r (λ k. count_if (x k) (b (site k))) (λ k. sum_below n (λ p. count_if (x k) (count_if (eqb (site k) p) (b p))))
+    (λ k l. ap (count_if (x k)) (sym (sum_below-pick n (site k) b (pairs.back k l).0)) ∙ sum_below-counted n (x k) (λ p. count_if (eqb (site k) p) (b p)))
+    ∙ sum_below-swap r n (λ k p. count_if (x k) (count_if (eqb (site k) p) (b p)))
+    ∙ sum_below-same n (λ p. sum_below r (λ k. count_if (x k) (count_if (eqb (site k) p) (b p)))) (λ p. count_if (chosen p && x (variable p)) (b p))
     (λ p small. elim (cases_Bool (chosen p)) [
       | inl is ↦
-          sum_below-same r (λ k. counted (x k) (counted (eqb (site k) p) (b p))) (λ k. counted (eqb (variable p) k) (counted (x k) (b p)))
+          sum_below-same r (λ k. count_if (x k) (count_if (eqb (site k) p) (b p))) (λ k. count_if (eqb (variable p) k) (count_if (x k) (b p)))
           (λ k l. one_there n chosen r variable site x p k (b p) pairs l small is)
-          ∙ sum_below-pick r (variable p) (λ k. counted (x k) (b p)) (pairs.there p small is).0
+          ∙ sum_below-pick r (variable p) (λ k. count_if (x k) (b p)) (pairs.there p small is).0
           ∙ counted_and (chosen p) (x (variable p)) (b p) is
       | inr none ↦
-          sum_below-none r (λ k. counted (x k) (counted (eqb (site k) p) (b p)))
-          (λ k l. no_count (x k) (counted (eqb (site k) p) (b p)) (counted-other (site k) p (b p) (not_there n chosen r variable site p k pairs l none)))
+          sum_below-none r (λ k. count_if (x k) (count_if (eqb (site k) p) (b p)))
+          (λ k l. no_count (x k) (count_if (eqb (site k) p) (b p)) (counted-other (site k) p (b p) (not_there n chosen r variable site p k pairs l none)))
           ∙ counted_none (chosen p) (x (variable p)) (b p) none
     ])
 
-int_more : (b : Bool) (less old : ℤ) (c : ℕ) → less +ℤ pos c ≡ old → int_counted b less +ℤ pos (counted b c) ≡ int_counted b old
+int_more : (b : Bool) (less old : ℤ) (c : ℕ) → less +ℤ pos c ≡ old → int_counted b less +ℤ pos (count_if b c) ≡ int_counted b old
 int_more true less old c h = h
 int_more false less old c h = omega (arith, ints)
 
@@ -172,13 +172,13 @@ add_both : (a b c d : ℤ) (e g : ℕ) → a +ℤ pos e ≡ b → c +ℤ pos g �
 add_both a b c d e g h k = omega (arith, ints, h, k)
 
 weights_more : (r : ℕ) (less old : List ℤ) (x : ℕ → Bool) (c : ℕ → ℕ) → ((k : ℕ) → k < r → entry less k +ℤ pos (c k) ≡ entry old k)
-    → int_sum_below r (λ k. int_counted (x k) (entry less k)) +ℤ pos (sum_below r (λ k. counted (x k) (c k)))
+    → int_sum_below r (λ k. int_counted (x k) (entry less k)) +ℤ pos (sum_below r (λ k. count_if (x k) (c k)))
     ≡ int_sum_below r (λ k. int_counted (x k) (entry old k))
 weights_more zero less old x c more = refl
 weights_more (suc r) less old x c more =
     let rest = weights_more r less old x c (λ k l. more k (omega (arith, l))) in
     let own = int_more (x r) (entry less r) (entry old r) (c r) (more r (omega arith)) in
-    add_both (int_sum_below r (λ k. int_counted (x k) (entry less k))) _ (int_counted (x r) (entry less r)) _ (sum_below r (λ k. counted (x k) (c k))) (counted (x r) (c r)) rest own
+    add_both (int_sum_below r (λ k. int_counted (x k) (entry less k))) _ (int_counted (x r) (entry less r)) _ (sum_below r (λ k. count_if (x k) (c k))) (count_if (x r) (c r)) rest own
 
 value_less : (k k' w w' a : ℤ) (t : ℕ) → k ≡ k' → w +ℤ pos t ≡ w' → (k +ℤ w +ℤ a) +ℤ pos t ≡ k' +ℤ w' +ℤ a
 value_less k k' w w' a t h l = omega (arith, ints, h, l)
@@ -186,10 +186,10 @@ value_less k k' w w' a t h l = omega (arith, ints, h, l)
 -- the same form, each weight less by so much: its value is less by that of the ones
 pub reweighed_value : (q less : Quadratic) (much : ℕ → ℕ) (x : ℕ → Bool) → IsReweighed q less
     → ((k : ℕ) → k < vec_len q.weights → entry less.weights.items k +ℤ pos (much k) ≡ entry q.weights.items k)
-    → quadratic_value less x +ℤ pos (sum_below (vec_len q.weights) (λ k. counted (x k) (much k))) ≡ quadratic_value q x
+    → quadratic_value less x +ℤ pos (sum_below (vec_len q.weights) (λ k. count_if (x k) (much k))) ≡ quadratic_value q x
 reweighed_value q less much x again lower =
     let r = vec_len q.weights in
-    let t = sum_below r (λ k. counted (x k) (much k)) in
+    let t = sum_below r (λ k. count_if (x k) (much k)) in
     let weights = weights_more r less.weights.items q.weights.items x much lower
     ∙ ap (λ n. int_sum_below n (λ k. int_counted (x k) (entry q.weights.items k))) q.weights.ok.0 in
     let size : weights_value less.weights.items x ≡ int_sum_below r (λ k. int_counted (x k) (entry less.weights.items k)) =

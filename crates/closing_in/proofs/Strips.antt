@@ -10,9 +10,9 @@ use Rattle.move_energy.specs.Choices.{bit_of, choice_of}
 use Rattle.deciding.specs.Decisions.{set_bit, rise, IsSubmodular, IsOver, IsSmallestLeast}
 use Rattle.deciding.proofs.Putting.{set_at, set_other, value_same}
 use Rattle.deciding.proofs.SiteSums.{test_true, test_false}
-use Rattle.closing_in.specs.Fixing.{fixed, fixed_value, IsLeast}
-use Rattle.closing_in.specs.Agreeing.{Agree, IsAgreed, ChooseMore, TellsOne, with_one, or_else, joined}
-use Rattle.closing_in.specs.Strips.{Strip, others_at, lower_value, upper_value, IsBounded, told, told_by, with_strips, with_rounds, AreRounds}
+use Rattle.closing_in.specs.Fixing.{with_choices, fixed_value, IsLeast}
+use Rattle.closing_in.specs.Agreeing.{Agree, IsAgreed, ChooseMore, TellsOne, with_one, or_else, choices_or}
+use Rattle.closing_in.specs.Strips.{Strip, others_at, lower_value, upper_value, IsStripBounded, choice_of_bounds, told_by, with_strips, with_rounds, AreRounds}
 use Rattle.closing_in.proofs.Fixing.{least_rises, ones_bound, zeros_bound}
 use Rattle.closing_in.proofs.Agreeing.{each_agreed, rest_agrees}
 
@@ -43,7 +43,7 @@ zero_stays : (inside : Bool) (c v : Choice) (b : Bool) → c ≡ Zero → bit_of
 zero_stays true c v b h = ap (λ (d : Choice). bit_of d b) h
 zero_stays false c v b h = ap (λ (d : Choice). bit_of (or_else d v) b) h
 
-pub lower_within_upper : (n : ℕ) (E : (ℕ → Bool) → ℤ) (choice : ℕ → Choice) (strip : Strip) → IsSubmodular E → IsOver n E → IsBounded n E choice strip
+pub lower_within_upper : (n : ℕ) (E : (ℕ → Bool) → ℤ) (choice : ℕ → Choice) (strip : Strip) → IsSubmodular E → IsOver n E → IsStripBounded n E choice strip
     → (p : ℕ) → p < n → strip.set p ≡ true → choice p ≡ Open → strip.lower p ≡ true → strip.upper p ≡ true
 lower_within_upper n E choice strip falls over closed p l inside opened one =
     sym (inside_bit (strip.set p) (choice p) One (strip.upper p) inside opened)
@@ -54,7 +54,7 @@ lower_within_upper n E choice strip falls over closed p l inside opened one =
 
 -- ---- what a strip tells
 
-told_zero : (c : Choice) (inside lower upper : Bool) → or_else c (cond inside (told lower upper) Open) ≡ Zero
+told_zero : (c : Choice) (inside lower upper : Bool) → or_else c (cond inside (choice_of_bounds lower upper) Open) ≡ Zero
     → (c ≡ Zero) ⊎ ((c ≡ Open) × (inside ≡ true) × (upper ≡ false))
 told_zero Zero inside lower upper h = inl refl
 told_zero One inside lower upper h = absurd (cc (h))
@@ -63,7 +63,7 @@ told_zero Open true true upper h = absurd (cc (h))
 told_zero Open true false true h = absurd (cc (h))
 told_zero Open true false false h = inr (refl, refl, refl)
 
-told_one : (c : Choice) (inside lower upper : Bool) → or_else c (cond inside (told lower upper) Open) ≡ One
+told_one : (c : Choice) (inside lower upper : Bool) → or_else c (cond inside (choice_of_bounds lower upper) Open) ≡ One
     → (c ≡ One) ⊎ ((c ≡ Open) × (inside ≡ true) × (lower ≡ true))
 told_one One inside lower upper h = inl refl
 told_one Zero inside lower upper h = absurd (cc (h))
@@ -82,7 +82,7 @@ zero_above : (n : ℕ) (E : (ℕ → Bool) → ℤ) (choice : ℕ → Choice) (s
 zero_above n E choice set w s falls over agree least best p l opened inside none = elim (cases_Bool (s p)) [
   | inr zero ↦ zero
   | inl one ↦
-      let within : fixed (others_at One set choice) w p ≡ true =
+      let within : with_choices (others_at One set choice) w p ≡ true =
       ones_bound n E (others_at One set choice) s w falls over best
       (λ k below h. agree.zeros s best k below (others_zero (set k) (choice k) h)) least p l one in
       absurd (not_both (w p) (sym (inside_bit (set p) (choice p) One (w p) inside opened) ∙ within) none)
@@ -96,8 +96,8 @@ one_below n E choice set z s falls over agree least best p l opened inside one =
     (λ k below h. agree.ones s best k below (others_one (set k) (choice k) h)) least p l
     (inside_bit (set p) (choice p) Zero (z p) inside opened ∙ one)
 
-pub strip_agrees : (n : ℕ) (E : (ℕ → Bool) → ℤ) (choice : ℕ → Choice) (strip : Strip) → IsSubmodular E → IsOver n E → Agree n E choice → IsBounded n E choice strip
-    → Agree n E (joined choice (told_by strip))
+pub strip_agrees : (n : ℕ) (E : (ℕ → Bool) → ℤ) (choice : ℕ → Choice) (strip : Strip) → IsSubmodular E → IsOver n E → Agree n E choice → IsStripBounded n E choice strip
+    → Agree n E (choices_or choice (told_by strip))
 strip_agrees n E choice strip falls over agree closed = record {
   zeros = λ s best p l zero. elim (told_zero (choice p) (strip.set p) (strip.lower p) (strip.upper p) zero) [
     | inl before ↦ agree.zeros s best p l before
@@ -111,7 +111,7 @@ strip_agrees n E choice strip falls over agree closed = record {
 
 pub lower_agrees : (n : ℕ) (E : (ℕ → Bool) → ℤ) (choice : ℕ → Choice) (set z : ℕ → Bool) → IsSubmodular E → IsOver n E → Agree n E choice
     → IsSmallestLeast n (lower_value E choice set) z
-    → Agree n E (joined choice (told_by (record { set = set; lower = z; upper = λ p. true })))
+    → Agree n E (choices_or choice (told_by (record { set = set; lower = z; upper = λ p. true })))
 lower_agrees n E choice set z falls over agree least = record {
   zeros = λ s best p l zero. elim (told_zero (choice p) (set p) (z p) true zero) [
     | inl before ↦ agree.zeros s best p l before
@@ -125,7 +125,7 @@ lower_agrees n E choice set z falls over agree least = record {
 
 pub upper_agrees : (n : ℕ) (E : (ℕ → Bool) → ℤ) (choice : ℕ → Choice) (set w : ℕ → Bool) → IsSubmodular E → IsOver n E → Agree n E choice
     → IsLeast (upper_value E choice set) w
-    → Agree n E (joined choice (told_by (record { set = set; lower = λ p. false; upper = w })))
+    → Agree n E (choices_or choice (told_by (record { set = set; lower = λ p. false; upper = w })))
 upper_agrees n E choice set w falls over agree least = record {
   zeros = λ s best p l zero. elim (told_zero (choice p) (set p) false (w p) zero) [
     | inl before ↦ agree.zeros s best p l before
@@ -151,13 +151,13 @@ abbrev lone : ℕ → ℕ → Bool
 lone p k = k == p
 
 lone_is : (E : (ℕ → Bool) → ℤ) (choice : ℕ → Choice) (p : ℕ) (v : Bool) (y : ℕ → Bool) → choice p ≡ Open
-    → fixed_value E (others_at (choice_of v) (lone p) choice) y ≡ E (set_bit (fixed choice (λ k. v)) p (y p))
+    → fixed_value E (others_at (choice_of v) (lone p) choice) y ≡ E (set_bit (with_choices choice (λ k. v)) p (y p))
 lone_is E choice p v y opened = value_same E _ _ (λ k. elim (cases_eq k p) [
   | inl here ↦
       inside_bit (lone p k) (choice k) (choice_of v) (y k) (test_true k p here) (ap choice here ∙ opened) ∙ ap y here
-      ∙ sym (set_at (fixed choice (λ i. v)) p k (y p) here)
+      ∙ sym (set_at (with_choices choice (λ i. v)) p k (y p) here)
   | inr other ↦
-      outside_bit (lone p k) (choice k) v (y k) (test_false k p other) ∙ sym (set_other (fixed choice (λ i. v)) p k (y p) other)
+      outside_bit (lone p k) (choice k) v (y k) (test_false k p other) ∙ sym (set_other (with_choices choice (λ i. v)) p k (y p) other)
 ])
 
 level_then : (a b c d r : ℤ) → a ≡ c → b ≡ d → r ≡ (d -ℤ c) → pos 0 ≤ℤ r → a ≤ℤ b
@@ -175,31 +175,31 @@ lt_le a b h = omega (arith, ints, h)
 not_level : (a b : ℤ) → a <ℤ b → b ≡ a → ⊥
 not_level a b h k = omega (arith, ints, h, k)
 
-zero_least : (E : (ℕ → Bool) → ℤ) (choice : ℕ → Choice) (p : ℕ) → choice p ≡ Open → pos 0 ≤ℤ rise E p (fixed choice (λ k. true))
+zero_least : (E : (ℕ → Bool) → ℤ) (choice : ℕ → Choice) (p : ℕ) → choice p ≡ Open → pos 0 ≤ℤ rise E p (with_choices choice (λ k. true))
     → IsLeast (upper_value E choice (lone p)) (λ k. false)
 zero_least E choice p opened test y = elim (cases_Bool (y p)) [
   | inl one ↦ level_then _ _ _ _ _ (lone_is E choice p true (λ k. false) opened)
-      (lone_is E choice p true y opened ∙ ap (λ b. E (set_bit (fixed choice (λ k. true)) p b)) one) refl test
+      (lone_is E choice p true y opened ∙ ap (λ b. E (set_bit (with_choices choice (λ k. true)) p b)) one) refl test
   | inr none ↦ le_same _ _ _ (lone_is E choice p true (λ k. false) opened)
-      (lone_is E choice p true y opened ∙ ap (λ b. E (set_bit (fixed choice (λ k. true)) p b)) none)
+      (lone_is E choice p true y opened ∙ ap (λ b. E (set_bit (with_choices choice (λ k. true)) p b)) none)
 ]
 
 -- the one of a strip of one
-one_lower : (E : (ℕ → Bool) → ℤ) (choice : ℕ → Choice) (p : ℕ) (y : ℕ → Bool) → choice p ≡ Open → rise E p (fixed choice (λ k. false)) <ℤ pos 0 → y p ≡ false
+one_lower : (E : (ℕ → Bool) → ℤ) (choice : ℕ → Choice) (p : ℕ) (y : ℕ → Bool) → choice p ≡ Open → rise E p (with_choices choice (λ k. false)) <ℤ pos 0 → y p ≡ false
     → lower_value E choice (lone p) (lone p) <ℤ lower_value E choice (lone p) y
 one_lower E choice p y opened test none =
     lower_then _ _ _ _ _
-    (lone_is E choice p false (lone p) opened ∙ ap (λ b. E (set_bit (fixed choice (λ k. false)) p b)) (test_true p p refl))
-    (lone_is E choice p false y opened ∙ ap (λ b. E (set_bit (fixed choice (λ k. false)) p b)) none) refl test
+    (lone_is E choice p false (lone p) opened ∙ ap (λ b. E (set_bit (with_choices choice (λ k. false)) p b)) (test_true p p refl))
+    (lone_is E choice p false y opened ∙ ap (λ b. E (set_bit (with_choices choice (λ k. false)) p b)) none) refl test
 
-one_least : (n : ℕ) (E : (ℕ → Bool) → ℤ) (choice : ℕ → Choice) (p : ℕ) → choice p ≡ Open → rise E p (fixed choice (λ k. false)) <ℤ pos 0
+one_least : (n : ℕ) (E : (ℕ → Bool) → ℤ) (choice : ℕ → Choice) (p : ℕ) → choice p ≡ Open → rise E p (with_choices choice (λ k. false)) <ℤ pos 0
     → IsSmallestLeast n (lower_value E choice (lone p)) (lone p)
 one_least n E choice p opened test = record {
   least = λ y. elim (cases_Bool (y p)) [
     | inr none ↦ lt_le _ _ (one_lower E choice p y opened test none)
     | inl one ↦ le_same _ _ _
-        (lone_is E choice p false (lone p) opened ∙ ap (λ b. E (set_bit (fixed choice (λ k. false)) p b)) (test_true p p refl))
-        (lone_is E choice p false y opened ∙ ap (λ b. E (set_bit (fixed choice (λ k. false)) p b)) one)
+        (lone_is E choice p false (lone p) opened ∙ ap (λ b. E (set_bit (with_choices choice (λ k. false)) p b)) (test_true p p refl))
+        (lone_is E choice p false y opened ∙ ap (λ b. E (set_bit (with_choices choice (λ k. false)) p b)) one)
   ];
   smallest = λ y same k l own. elim (cases_eq k p) [
     | inr other ↦ absurd (not_both (lone p k) own (test_false k p other))
@@ -214,14 +214,14 @@ one_least n E choice p opened test = record {
 one_agreed : (n : ℕ) (E : (ℕ → Bool) → ℤ) (choice : ℕ → Choice) (p : ℕ) (value : Bool) → IsSubmodular E → IsOver n E → Agree n E choice → choice p ≡ Open
     → TellsOne E choice p value → IsAgreed n E p (choice_of value)
 one_agreed n E choice p false falls over agree opened test = (
-  joined choice (told_by (record { set = lone p; lower = λ k. false; upper = λ k. false })),
+  choices_or choice (told_by (record { set = lone p; lower = λ k. false; upper = λ k. false })),
   upper_agrees n E choice (lone p) (λ k. false) falls over agree (zero_least E choice p opened test),
   ap (λ (c : Choice). or_else c (cond (lone p p) Zero Open)) opened ∙ ap (λ b. cond b Zero Open) (test_true p p refl),
 )
 one_agreed n E choice p true falls over agree opened test = (
-  joined choice (told_by (record { set = lone p; lower = lone p; upper = λ k. true })),
+  choices_or choice (told_by (record { set = lone p; lower = lone p; upper = λ k. true })),
   lower_agrees n E choice (lone p) (lone p) falls over agree (one_least n E choice p opened test),
-  ap (λ (c : Choice). or_else c (cond (lone p p) (told (lone p p) true) Open)) opened ∙ ap (λ b. cond b (told b true) Open) (test_true p p refl),
+  ap (λ (c : Choice). or_else c (cond (lone p p) (choice_of_bounds (lone p p) true) Open)) opened ∙ ap (λ b. cond b (choice_of_bounds b true) Open) (test_true p p refl),
 )
 
 one_known : (k p : ℕ) → (k == p) ≡ true → k ≡ p
@@ -255,11 +255,11 @@ or_agreed n E p Zero d own other = own
 or_agreed n E p One d own other = own
 
 pub strip_adds : (n : ℕ) (E : (ℕ → Bool) → ℤ) (start choice : ℕ → Choice) (strip : Strip) → IsSubmodular E → IsOver n E → Agree n E start → Agree n E choice
-    → ChooseMore n start choice → IsBounded n E start strip
-    → Agree n E (joined choice (told_by strip)) × ChooseMore n start (joined choice (told_by strip))
+    → ChooseMore n start choice → IsStripBounded n E start strip
+    → Agree n E (choices_or choice (told_by strip)) × ChooseMore n start (choices_or choice (told_by strip))
 strip_adds n E start choice strip falls over first agree more bounded = (
-  each_agreed n E (joined choice (told_by strip)) (λ p l. inr (or_agreed n E p (choice p) (told_by strip p) (choice, agree, refl) (λ opened. (
-    joined start (told_by strip),
+  each_agreed n E (choices_or choice (told_by strip)) (λ p l. inr (or_agreed n E p (choice p) (told_by strip p) (choice, agree, refl) (λ opened. (
+    choices_or start (told_by strip),
     strip_agrees n E start strip falls over first bounded,
     ap (λ (c : Choice). or_else c (told_by strip p)) (more p l opened),
   )))),
@@ -267,14 +267,14 @@ strip_adds n E start choice strip falls over first agree more bounded = (
 )
 
 strips_add : (n : ℕ) (E : (ℕ → Bool) → ℤ) (choice : ℕ → Choice) (strips : List Strip) → IsSubmodular E → IsOver n E → Agree n E choice
-    → All (IsBounded n E choice) strips → Agree n E (with_strips choice strips) × ChooseMore n choice (with_strips choice strips)
+    → All (IsStripBounded n E choice) strips → Agree n E (with_strips choice strips) × ChooseMore n choice (with_strips choice strips)
 strips_add n E choice [] falls over agree bounded = (agree, λ p l opened. opened)
 strips_add n E choice (strip ∷ strips) falls over agree bounded =
-    let rest = strips_add n E choice strips falls over agree (All-tail (IsBounded n E choice) strip strips bounded) in
-    strip_adds n E choice (with_strips choice strips) strip falls over agree rest.0 rest.1 (All-head (IsBounded n E choice) strip strips bounded)
+    let rest = strips_add n E choice strips falls over agree (All-tail (IsStripBounded n E choice) strip strips bounded) in
+    strip_adds n E choice (with_strips choice strips) strip falls over agree rest.0 rest.1 (All-head (IsStripBounded n E choice) strip strips bounded)
 
 pub strips_agree : (n : ℕ) (E : (ℕ → Bool) → ℤ) (choice : ℕ → Choice) (strips : List Strip) → IsSubmodular E → IsOver n E → Agree n E choice
-    → All (IsBounded n E choice) strips → Agree n E (with_strips choice strips)
+    → All (IsStripBounded n E choice) strips → Agree n E (with_strips choice strips)
 strips_agree n E choice strips falls over agree bounded = (strips_add n E choice strips falls over agree bounded).0
 
 pub rounds_agree : (n : ℕ) (E : (ℕ → Bool) → ℤ) (choice : ℕ → Choice) (rounds : List (List Strip)) → IsSubmodular E → IsOver n E → Agree n E choice
@@ -285,6 +285,6 @@ rounds_agree n E choice (strips ∷ rounds) falls over agree closed =
 
 pub rounds_least : (n : ℕ) (E : (ℕ → Bool) → ℤ) (choice : ℕ → Choice) (rounds : List (List Strip)) (z : ℕ → Bool) → IsSubmodular E → IsOver n E → Agree n E choice
     → AreRounds n E choice rounds → IsSmallestLeast n (fixed_value E (with_rounds choice rounds)) z
-    → IsSmallestLeast n E (fixed (with_rounds choice rounds) z)
+    → IsSmallestLeast n E (with_choices (with_rounds choice rounds) z)
 rounds_least n E choice rounds z falls over agree closed least =
     rest_agrees n E (with_rounds choice rounds) z falls over (rounds_agree n E choice rounds falls over agree closed) least

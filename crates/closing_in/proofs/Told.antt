@@ -11,9 +11,9 @@ use Rattle.move_energy.specs.declared.choice.Choice.TheVariants.{Open, Zero, One
 use Rattle.move_energy.specs.Choices.{choice_at}
 use Rattle.deciding.specs.Decisions.{IsSubmodular, IsOver}
 use Rattle.deciding.proofs.SiteSums.{test_true, test_false}
-use Rattle.closing_in.specs.Agreeing.{Agree, ChooseMore, or_else, joined}
-use Rattle.closing_in.specs.Strips.{Strip, IsBounded, told, told_by}
-use Rattle.closing_in.specs.Telling.{IsListed}
+use Rattle.closing_in.specs.Agreeing.{Agree, ChooseMore, or_else, choices_or}
+use Rattle.closing_in.specs.Strips.{Strip, IsStripBounded, choice_of_bounds, told_by}
+use Rattle.closing_in.specs.Telling.{IsStripListed}
 use Rattle.closing_in.proofs.Agreeing.{each_agreed}
 use Rattle.closing_in.proofs.Strips.{strip_adds}
 
@@ -63,7 +63,7 @@ default_is : (sites : List ℕ) (i p : ℕ) → i < length sites → get_or site
 default_is sites i p l = sym (get_or_default_zero sites i p l)
 
 -- all of them
-among_all : (sites : List ℕ) (below above : List Bool) (strip : Strip) (p : ℕ) → IsListed sites below above strip → is_among sites (length sites) p ≡ strip.set p
+among_all : (sites : List ℕ) (below above : List Bool) (strip : Strip) (p : ℕ) → IsStripListed sites below above strip → is_among sites (length sites) p ≡ strip.set p
 among_all sites below above strip p listed =
     same_bool (is_among sites (length sites) p) (strip.set p)
     (λ among. (let at = among_is sites (length sites) p among in
@@ -77,8 +77,8 @@ among_all sites below above strip p listed =
 -- the first k sites have what their bounds tell
 pub record AreTold (sites : List ℕ) (below above : List Bool) (old : List Choice) (k : ℕ) (now : List Choice) : Type 0 where
   pub count : length now ≡ length old
-  pub each : (strip : Strip) → IsListed sites below above strip → (p : ℕ) → p < length old
-      → choice_at now p ≡ or_else (choice_at old p) (cond (is_among sites k p) (told (strip.lower p) (strip.upper p)) Open)
+  pub each : (strip : Strip) → IsStripListed sites below above strip → (p : ℕ) → p < length old
+      → choice_at now p ≡ or_else (choice_at old p) (cond (is_among sites k p) (choice_of_bounds (strip.lower p) (strip.upper p)) Open)
 
 else_open : (c : Choice) → c ≡ or_else c Open
 else_open Open = refl
@@ -98,7 +98,7 @@ twice Zero t seen here h = refl
 twice One t seen here h = refl
 
 pub told_more : (sites : List ℕ) (below above : List Bool) (old now new : List Choice) (k site : ℕ) (mark said : Choice) → k < length sites → site < length old
-    → site ≡ get_or sites k 0 → mark ≡ or_else (get_or now site Open) said → said ≡ told (slice_index_or below k false) (slice_index_or above k false)
+    → site ≡ get_or sites k 0 → mark ≡ or_else (get_or now site Open) said → said ≡ choice_of_bounds (slice_index_or below k false) (slice_index_or above k false)
     → new ≡ slice_set now site mark → AreTold sites below above old k now → AreTold sites below above old (k + 1) new
 told_more sites below above old now new k site mark said l inside is marks says sets before = rw add-one (record {
   count = ap length sets ∙ length-set now site mark ∙ before.count;
@@ -106,34 +106,34 @@ told_more sites below above old now new k site mark said l inside is marks says 
     | inl here ↦
         let lower : strip.lower p ≡ slice_index_or below k false = ap strip.lower (here ∙ is) ∙ listed.lower k l in
         let upper : strip.upper p ≡ slice_index_or above k false = ap strip.upper (here ∙ is) ∙ listed.upper k l in
-        let told_is : told (slice_index_or below k false) (slice_index_or above k false) ≡ told (strip.lower p) (strip.upper p) =
-        (λ j. told (sym lower j) (sym upper j)) in
+        let told_is : choice_of_bounds (slice_index_or below k false) (slice_index_or above k false) ≡ choice_of_bounds (strip.lower p) (strip.upper p) =
+        (λ j. choice_of_bounds (sym lower j) (sym upper j)) in
         ap (λ xs. choice_at xs p) sets ∙ ap (choice_at (slice_set now site mark)) here
         ∙ get_or-set_same now site mark Zero (omega (arith, inside, before.count)) ∙ marks
         ∙ ap (λ c. or_else c said) (get_or_default now site Open Zero (omega (arith, inside, before.count)))
         ∙ (λ j. or_else (choice_at now (sym here j)) ((says ∙ told_is) j))
-        ∙ ap (λ c. or_else c (told (strip.lower p) (strip.upper p))) (before.each strip listed p small)
-        ∙ twice (choice_at old p) (told (strip.lower p) (strip.upper p)) (is_among sites k p) (get_or sites k 0 == p) (test_true (get_or sites k 0) p (sym is ∙ sym here))
+        ∙ ap (λ c. or_else c (choice_of_bounds (strip.lower p) (strip.upper p))) (before.each strip listed p small)
+        ∙ twice (choice_at old p) (choice_of_bounds (strip.lower p) (strip.upper p)) (is_among sites k p) (get_or sites k 0 == p) (test_true (get_or sites k 0) p (sym is ∙ sym here))
     | inr other ↦
         ap (λ xs. choice_at xs p) sets ∙ get_or-set_other now site p mark Zero other ∙ before.each strip listed p small
-        ∙ ap (λ b. or_else (choice_at old p) (cond b (told (strip.lower p) (strip.upper p)) Open))
+        ∙ ap (λ b. or_else (choice_at old p) (cond b (choice_of_bounds (strip.lower p) (strip.upper p)) Open))
         (sym (or_none (is_among sites k p) (get_or sites k 0 == p) (test_false (get_or sites k 0) p (λ same. other (sym same ∙ sym is)))))
   ];
 })
 
 pub told_all : (sites : List ℕ) (below above : List Bool) (old new : List Choice) (k : ℕ) → k ≡ length sites → AreTold sites below above old k new
-    → (strip : Strip) → IsListed sites below above strip → (p : ℕ) → p < length old → choice_at new p ≡ joined (choice_at old) (told_by strip) p
+    → (strip : Strip) → IsStripListed sites below above strip → (p : ℕ) → p < length old → choice_at new p ≡ choices_or (choice_at old) (told_by strip) p
 told_all sites below above old new k whole done strip listed p l =
     done.each strip listed p l
-    ∙ ap (λ b. or_else (choice_at old p) (cond b (told (strip.lower p) (strip.upper p)) Open)) (ap (λ j. is_among sites j p) whole ∙ among_all sites below above strip p listed)
+    ∙ ap (λ b. or_else (choice_at old p) (cond b (choice_of_bounds (strip.lower p) (strip.upper p)) Open)) (ap (λ j. is_among sites j p) whole ∙ among_all sites below above strip p listed)
 
 -- what is told agrees
 pub told_agree : (n : ℕ) (E : (ℕ → Bool) → ℤ) (start : ℕ → Choice) (strip : Strip) (old new : List Choice) → n ≤ length old
-    → ((p : ℕ) → p < length old → choice_at new p ≡ joined (choice_at old) (told_by strip) p)
-    → IsSubmodular E → IsOver n E → IsBounded n E start strip → Agree n E start → Agree n E (choice_at old) → ChooseMore n start (choice_at old)
+    → ((p : ℕ) → p < length old → choice_at new p ≡ choices_or (choice_at old) (told_by strip) p)
+    → IsSubmodular E → IsOver n E → IsStripBounded n E start strip → Agree n E start → Agree n E (choice_at old) → ChooseMore n start (choice_at old)
     → Agree n E (choice_at new) × ChooseMore n start (choice_at new)
 told_agree n E start strip old new few same falls over bounded first agree more =
     let adds = strip_adds n E start (choice_at old) strip falls over first agree more bounded in (
-      each_agreed n E (choice_at new) (λ p l. inr (joined (choice_at old) (told_by strip), adds.0, sym (same p (omega (arith, l, few))))),
+      each_agreed n E (choice_at new) (λ p l. inr (choices_or (choice_at old) (told_by strip), adds.0, sym (same p (omega (arith, l, few))))),
       λ p l opened. adds.1 p l (sym (same p (omega (arith, l, few))) ∙ opened),
     )

@@ -4,8 +4,8 @@ use Rattle.std.specs.Prelude.{◌≡◌, ◌⊎◌, ◌==◌, ℕ, ◌<◌, Bool
 use Rattle.move_energy.specs.declared.choice.Choice.{Choice}
 use Rattle.move_energy.specs.declared.choice.Choice.TheVariants.{Open, Zero, One}
 use Rattle.move_energy.specs.Choices.{bit_of, choice_of}
-use Rattle.deciding.specs.Decisions.{Decision, put, rise}
-use Rattle.closing_in.specs.Fixing.{fixed, AreLeastZeros, AreLeastOnes}
+use Rattle.deciding.specs.Decisions.{Decision, with_decisions, rise}
+use Rattle.closing_in.specs.Fixing.{with_choices, AreLeastZeros, AreLeastOnes}
 
 -- the choices agree with the least assignment with the fewest ones
 pub record Agree (n : ℕ) (E : (ℕ → Bool) → ℤ) (choice : ℕ → Choice) : Type 0 where
@@ -26,13 +26,14 @@ ChooseMore n old new = (p : ℕ) → p < n → new p ≡ Open → old p ≡ Open
 
 -- the choices are those that the decisions make
 abbrev pub AreOfDecisions : ℕ → List Decision → (ℕ → Choice) → Type 0
-AreOfDecisions n ds choice = (x : ℕ → Bool) (p : ℕ) → p < n → put ds x p ≡ bit_of (choice p) (x p)
+AreOfDecisions n ds choice = (x : ℕ → Bool) (p : ℕ) → p < n
+    → with_decisions ds x p ≡ bit_of (choice p) (x p)
 
 -- the test of one variable: it may be 0 where its turning to 1 does not lower the value even if every other open one is
 -- 1, and is to be 1 where it lowers the value even if every other open one is 0
 abbrev pub TellsOne : ((ℕ → Bool) → ℤ) → (ℕ → Choice) → ℕ → Bool → Type 0
-TellsOne E choice p false = pos 0 ≤ℤ rise E p (fixed choice (λ k. true))
-TellsOne E choice p true = rise E p (fixed choice (λ k. false)) <ℤ pos 0
+TellsOne E choice p false = pos 0 ≤ℤ rise E p (with_choices choice (λ k. true))
+TellsOne E choice p true = rise E p (with_choices choice (λ k. false)) <ℤ pos 0
 
 -- the choices with one variable chosen
 abbrev pub with_one : (ℕ → Choice) → ℕ → Bool → ℕ → Choice
@@ -45,5 +46,5 @@ or_else Zero other = Zero
 or_else One other = One
 
 -- choices, and where they are open, others
-abbrev pub joined : (ℕ → Choice) → (ℕ → Choice) → ℕ → Choice
-joined choice other p = or_else (choice p) (other p)
+abbrev pub choices_or : (ℕ → Choice) → (ℕ → Choice) → ℕ → Choice
+choices_or choice other p = or_else (choice p) (other p)

@@ -2,7 +2,7 @@
 -- from the function with those at 0 at the strip's own sites alone.
 use Rattle.std.specs.Prelude.{◌==◌, ◌&&◌, ◌||◌, ℕ, Bool, true, false, not, nat_lt}
 use Rattle.std.specs.List.{sum_by}
-use Rattle.sums.specs.Sums.{sum_below, counted}
+use Rattle.sums.specs.Sums.{sum_below, count_if}
 use Rattle.label_field.specs.declared.pair.Pair.{Pair}
 use Rattle.labellings.specs.declared.change.Move.{Move}
 use Rattle.labellings.specs.Energies.{Instance}
@@ -40,13 +40,13 @@ leads_beyond choice set p pair =
 
 -- the surplus of a pair, if it does
 abbrev pub pair_border : Instance → Move → (ℕ → ℕ) → (ℕ → Choice) → (ℕ → Bool) → ℕ → Pair → ℕ
-pair_border m move f choice set p pair = counted (leads_beyond choice set p pair) (pair_surplus m move f pair)
+pair_border m move f choice set p pair = count_if (leads_beyond choice set p pair) (pair_surplus m move f pair)
 
 -- of all pairs of a site
 abbrev pub border_at : Instance → Move → (ℕ → ℕ) → (ℕ → Choice) → (ℕ → Bool) → ℕ → ℕ
 border_at m move f choice set p = sum_by (pair_border m move f choice set p) m.pairs
 
 -- and of all open sites of the set that are 1
-abbrev pub border_of : Instance → Move → (ℕ → ℕ) → (ℕ → Choice) → (ℕ → Bool) → (ℕ → Bool) → ℕ
-border_of m move f choice set x =
-    sum_below m.sites (λ p. counted (is_inside choice set p && x p) (border_at m move f choice set p))
+abbrev pub border_sum : Instance → Move → (ℕ → ℕ) → (ℕ → Choice) → (ℕ → Bool) → (ℕ → Bool) → ℕ
+border_sum m move f choice set x =
+    sum_below m.sites (λ p. count_if (is_inside choice set p && x p) (border_at m move f choice set p))

@@ -6,12 +6,12 @@ use Rattle.move_energy.specs.Choices.{bit_of}
 use Rattle.deciding.specs.Decisions.{IsSmallestLeast}
 
 -- the assignment with the chosen values put in, and as it is at the open variables
-abbrev pub fixed : (ℕ → Choice) → (ℕ → Bool) → ℕ → Bool
-fixed choice x p = bit_of (choice p) (x p)
+abbrev pub with_choices : (ℕ → Choice) → (ℕ → Bool) → ℕ → Bool
+with_choices choice x p = bit_of (choice p) (x p)
 
 -- the function of what is left: its value with the chosen values put in
 abbrev pub fixed_value : ((ℕ → Bool) → ℤ) → (ℕ → Choice) → (ℕ → Bool) → ℤ
-fixed_value E choice x = E (fixed choice x)
+fixed_value E choice x = E (with_choices choice x)
 
 -- an assignment of least value
 abbrev pub IsLeast : ((ℕ → Bool) → ℤ) → (ℕ → Bool) → Type 0
@@ -34,8 +34,8 @@ abbrev pub AreLeastOnes : ℕ → ((ℕ → Bool) → ℤ) → (ℕ → Choice) 
 AreLeastOnes n E choice = (s : ℕ → Bool) → IsSmallestLeast n E s → HasOnes n choice s
 
 -- of the first n variables, those that are 1 in x are 1 in y
-abbrev pub LiesWithin : ℕ → (ℕ → Bool) → (ℕ → Bool) → Type 0
-LiesWithin n x y = (p : ℕ) → p < n → x p ≡ true → y p ≡ true
+abbrev pub OnesLieWithin : ℕ → (ℕ → Bool) → (ℕ → Bool) → Type 0
+OnesLieWithin n x y = (p : ℕ) → p < n → x p ≡ true → y p ≡ true
 
 -- nothing of the set is fixed
 abbrev pub IsLeftOpen : ℕ → (ℕ → Choice) → (ℕ → Bool) → Type 0

@@ -19,10 +19,10 @@ use Rattle.deciding.specs.MoveValues.{move_value}
 use Rattle.deciding.specs.Decided.{AreDecided}
 use Rattle.deciding.specs.Working.{TellsValue, ArePartlyDecided}
 use Rattle.deciding.specs.declared.bounds.Bounds.{Bounds}
-use Rattle.closing_in.specs.Fixing.{fixed, fixed_value, IsLeast, HasZeros, HasOnes, LiesWithin}
-use Rattle.closing_in.specs.Agreeing.{Agree, IsAgreed, ChooseMore, AreOfDecisions, TellsOne, with_one, joined}
-use Rattle.closing_in.specs.Strips.{Strip, others_at, lower_value, upper_value, IsBounded, told_by, with_strips, with_rounds, AreRounds}
-use Rattle.closing_in.specs.Borders.{is_inside, not_ones, pair_border, border_at, border_of}
+use Rattle.closing_in.specs.Fixing.{with_choices, fixed_value, IsLeast, HasZeros, HasOnes, OnesLieWithin}
+use Rattle.closing_in.specs.Agreeing.{Agree, IsAgreed, ChooseMore, AreOfDecisions, TellsOne, with_one, choices_or}
+use Rattle.closing_in.specs.Strips.{Strip, others_at, lower_value, upper_value, IsStripBounded, told_by, with_strips, with_rounds, AreRounds}
+use Rattle.closing_in.specs.Borders.{is_inside, not_ones, pair_border, border_at, border_sum}
 use Rattle.closing_in.specs.Forms.{bits_by_site, IsOneToOne, IsReweighed}
 
 -- ---- bounds
@@ -34,7 +34,7 @@ abbrev pub LeastRises : Type 0
 LeastRises =
     (n : ℕ) (E : (ℕ → Bool) → ℤ) (low high : ℕ → Choice) (x y : ℕ → Bool)
     → IsSubmodular E → IsOver n E → IsSmallestLeast n (fixed_value E low) x → IsLeast (fixed_value E high) y
-    → HasOnes n low (fixed high y) → HasZeros n high (fixed low x) → LiesWithin n (fixed low x) (fixed high y)
+    → HasOnes n low (with_choices high y) → HasZeros n high (with_choices low x) → OnesLieWithin n (with_choices low x) (with_choices high y)
 
 -- where what is fixed to 0 is 0 in the least assignment with the fewest ones, its ones lie within those of
 -- every least assignment of what is left
@@ -42,7 +42,7 @@ abbrev pub OnesBoundLeast : Type 0
 OnesBoundLeast =
     (n : ℕ) (E : (ℕ → Bool) → ℤ) (choice : ℕ → Choice) (s z : ℕ → Bool)
     → IsSubmodular E → IsOver n E → IsSmallestLeast n E s → HasZeros n choice s
-    → IsLeast (fixed_value E choice) z → LiesWithin n s (fixed choice z)
+    → IsLeast (fixed_value E choice) z → OnesLieWithin n s (with_choices choice z)
 
 -- where what is fixed to 1 is 1 in a least assignment, its zeros lie within those of the least assignment
 -- with the fewest ones of what is left
@@ -50,7 +50,7 @@ abbrev pub ZerosBoundLeast : Type 0
 ZerosBoundLeast =
     (n : ℕ) (E : (ℕ → Bool) → ℤ) (choice : ℕ → Choice) (s z : ℕ → Bool)
     → IsSubmodular E → IsOver n E → IsLeast E s → HasOnes n choice s
-    → IsSmallestLeast n (fixed_value E choice) z → LiesWithin n (fixed choice z) s
+    → IsSmallestLeast n (fixed_value E choice) z → OnesLieWithin n (with_choices choice z) s
 
 -- where what is fixed is fixed as in the least assignment with the fewest ones, that of what is left, with
 -- what is fixed, is the whole's
@@ -58,7 +58,7 @@ abbrev pub RestAndFixedIsLeast : Type 0
 RestAndFixedIsLeast =
     (n : ℕ) (E : (ℕ → Bool) → ℤ) (choice : ℕ → Choice) (s z : ℕ → Bool)
     → IsOver n E → IsSmallestLeast n E s → HasZeros n choice s → HasOnes n choice s
-    → IsSmallestLeast n (fixed_value E choice) z → IsSmallestLeast n E (fixed choice z)
+    → IsSmallestLeast n (fixed_value E choice) z → IsSmallestLeast n E (with_choices choice z)
 
 -- ---- choices that agree
 
@@ -79,13 +79,13 @@ abbrev pub RestAgrees : Type 0
 RestAgrees =
     (n : ℕ) (E : (ℕ → Bool) → ℤ) (choice : ℕ → Choice) (z : ℕ → Bool)
     → IsSubmodular E → IsOver n E → Agree n E choice
-    → IsSmallestLeast n (fixed_value E choice) z → IsSmallestLeast n E (fixed choice z)
+    → IsSmallestLeast n (fixed_value E choice) z → IsSmallestLeast n E (with_choices choice z)
 
 -- what agrees with what is left, put to the choices that it was left by, agrees with the whole
 abbrev pub AgreeByRest : Type 0
 AgreeByRest =
     (n : ℕ) (E : (ℕ → Bool) → ℤ) (choice more : ℕ → Choice) → IsOver n E
-    → Agree n E choice → Agree n (fixed_value E choice) more → Agree n E (joined choice more)
+    → Agree n E choice → Agree n (fixed_value E choice) more → Agree n E (choices_or choice more)
 
 -- choices that are the same below n leave the same function
 abbrev pub SameChoicesSame : Type 0
@@ -99,27 +99,27 @@ SameChoicesSame =
 abbrev pub LowerWithinUpper : Type 0
 LowerWithinUpper =
     (n : ℕ) (E : (ℕ → Bool) → ℤ) (choice : ℕ → Choice) (strip : Strip)
-    → IsSubmodular E → IsOver n E → IsBounded n E choice strip
+    → IsSubmodular E → IsOver n E → IsStripBounded n E choice strip
     → (p : ℕ) → p < n → strip.set p ≡ true → choice p ≡ Open → strip.lower p ≡ true → strip.upper p ≡ true
 
 -- where the choices agree, they do with what a strip tells; and each of its sides can be left out
 abbrev pub StripAgrees : Type 0
 StripAgrees =
     (n : ℕ) (E : (ℕ → Bool) → ℤ) (choice : ℕ → Choice) (strip : Strip)
-    → IsSubmodular E → IsOver n E → Agree n E choice → IsBounded n E choice strip
-    → Agree n E (joined choice (told_by strip))
+    → IsSubmodular E → IsOver n E → Agree n E choice → IsStripBounded n E choice strip
+    → Agree n E (choices_or choice (told_by strip))
 
 abbrev pub LowerAgrees : Type 0
 LowerAgrees =
     (n : ℕ) (E : (ℕ → Bool) → ℤ) (choice : ℕ → Choice) (set z : ℕ → Bool)
     → IsSubmodular E → IsOver n E → Agree n E choice → IsSmallestLeast n (lower_value E choice set) z
-    → Agree n E (joined choice (told_by (record { set = set; lower = z; upper = λ p. true })))
+    → Agree n E (choices_or choice (told_by (record { set = set; lower = z; upper = λ p. true })))
 
 abbrev pub UpperAgrees : Type 0
 UpperAgrees =
     (n : ℕ) (E : (ℕ → Bool) → ℤ) (choice : ℕ → Choice) (set w : ℕ → Bool)
     → IsSubmodular E → IsOver n E → Agree n E choice → IsLeast (upper_value E choice set) w
-    → Agree n E (joined choice (told_by (record { set = set; lower = λ p. false; upper = w })))
+    → Agree n E (choices_or choice (told_by (record { set = set; lower = λ p. false; upper = w })))
 
 -- the test of one variable is a strip of one
 abbrev pub TestedAgree : Type 0
@@ -133,14 +133,15 @@ abbrev pub StripAddsLater : Type 0
 StripAddsLater =
     (n : ℕ) (E : (ℕ → Bool) → ℤ) (start choice : ℕ → Choice) (strip : Strip)
     → IsSubmodular E → IsOver n E → Agree n E start → Agree n E choice → ChooseMore n start choice
-    → IsBounded n E start strip
-    → Agree n E (joined choice (told_by strip)) × ChooseMore n start (joined choice (told_by strip))
+    → IsStripBounded n E start strip
+    → Agree n E (choices_or choice (told_by strip))
+    × ChooseMore n start (choices_or choice (told_by strip))
 
 -- strips that were bounded with the same choices, which agree, leave choices that agree
 abbrev pub StripsSideBySide : Type 0
 StripsSideBySide =
     (n : ℕ) (E : (ℕ → Bool) → ℤ) (choice : ℕ → Choice) (strips : List Strip)
-    → IsSubmodular E → IsOver n E → Agree n E choice → All (IsBounded n E choice) strips
+    → IsSubmodular E → IsOver n E → Agree n E choice → All (IsStripBounded n E choice) strips
     → Agree n E (with_strips choice strips)
 
 -- after any rounds of strips, the least assignment with the fewest ones of what is left is that of the whole
@@ -149,7 +150,7 @@ RoundsAndRestAreLeast =
     (n : ℕ) (E : (ℕ → Bool) → ℤ) (choice : ℕ → Choice) (rounds : List (List Strip)) (z : ℕ → Bool)
     → IsSubmodular E → IsOver n E → Agree n E choice → AreRounds n E choice rounds
     → IsSmallestLeast n (fixed_value E (with_rounds choice rounds)) z
-    → IsSmallestLeast n E (fixed (with_rounds choice rounds) z)
+    → IsSmallestLeast n E (with_choices (with_rounds choice rounds) z)
 
 -- ---- of the labellings that a move makes
 
@@ -179,7 +180,7 @@ RoundsEndMove =
     → IsInstance m → IsAllowed m move f → Agree m.sites (move_value m move f) choice
     → AreRounds m.sites (move_value m move f) choice rounds
     → IsSmallestLeast m.sites (fixed_value (move_value m move f) (with_rounds choice rounds)) z
-    → IsSmallestLeast m.sites (move_value m move f) (fixed (with_rounds choice rounds) z)
+    → IsSmallestLeast m.sites (move_value m move f) (with_choices (with_rounds choice rounds) z)
 
 -- the rise of an open site of a strip is lower with the others at 1 than with them at 0, by the surplus of its pairs that
 -- lead beyond the strip
@@ -204,7 +205,7 @@ UpperIsLowerWithBorder =
     (m : Instance) (move : Move) (f : ℕ → ℕ) (choice : ℕ → Choice) (set : ℕ → Bool)
     → IsInstance m → IsAllowed m move f
     → (rest : ℤ) × ((x : ℕ → Bool) → upper_value (move_value m move f) choice set x
-    +ℤ pos (border_of m move f choice set x) ≡ lower_value (move_value m move f) choice set x +ℤ rest)
+    +ℤ pos (border_sum m move f choice set x) ≡ lower_value (move_value m move f) choice set x +ℤ rest)
 
 -- the weights of the open sites are those of a strip with the others at 0; less the border, with the others at 1
 abbrev pub WeightsOfStrip : Type 0
@@ -228,7 +229,7 @@ WeightsGoOn =
     → IsInstance m → IsAllowed m move f → AreWeights m move f choice weights
     → ((p : ℕ) → p < m.sites → choice p ≡ Open → more p ≡ Open
     → weight_at weights p ≡ weight_at less p +ℤ pos (border_at m move f choice (not_ones more) p))
-    → AreWeights m move f (joined choice more) less
+    → AreWeights m move f (choices_or choice more) less
 
 -- ---- of the form that stands for a partly decided move
 
@@ -254,7 +255,7 @@ FormLessBorder =
     (variable : ℕ → ℕ)
     → IsInstance m → IsAllowed m move f → StandsFor m move f (others_at Zero set choice) q variable
     → vec_len less.weights ≡ vec_len q.weights
-    → ((x : ℕ → Bool) → quadratic_value less x +ℤ pos (border_of m move f choice set (λ p. x (variable p)))
+    → ((x : ℕ → Bool) → quadratic_value less x +ℤ pos (border_sum m move f choice set (λ p. x (variable p)))
     ≡ quadratic_value q x)
     → StandsFor m move f (others_at One set choice) less variable
 

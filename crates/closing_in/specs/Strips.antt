@@ -6,7 +6,7 @@ use Rattle.move_energy.specs.declared.choice.Choice.{Choice}
 use Rattle.move_energy.specs.declared.choice.Choice.TheVariants.{Open, Zero, One}
 use Rattle.deciding.specs.Decisions.{IsSmallestLeast}
 use Rattle.closing_in.specs.Fixing.{fixed_value, IsLeast}
-use Rattle.closing_in.specs.Agreeing.{or_else, joined}
+use Rattle.closing_in.specs.Agreeing.{or_else, choices_or}
 
 -- a set of variables, and two assignments that bound what its variables are, from below and from above
 pub record Strip : Type 0 where
@@ -27,22 +27,22 @@ upper_value E choice set = fixed_value E (others_at One set choice)
 
 -- the bounds of the strip, as the choices are: the least assignment with the fewest ones where all others are at 0, and
 -- one of the least where they are at 1
-pub record IsBounded (n : ℕ) (E : (ℕ → Bool) → ℤ) (choice : ℕ → Choice) (strip : Strip) : Type 0 where
+pub record IsStripBounded (n : ℕ) (E : (ℕ → Bool) → ℤ) (choice : ℕ → Choice) (strip : Strip) : Type 0 where
   pub lower : IsSmallestLeast n (lower_value E choice strip.set) strip.lower
   pub upper : IsLeast (upper_value E choice strip.set) strip.upper
 
 -- what two bounds tell: what is 1 below is 1, what is 0 above is 0, and the rest stays open
-abbrev pub told : Bool → Bool → Choice
-told lower upper = cond lower One (cond upper Open Zero)
+abbrev pub choice_of_bounds : Bool → Bool → Choice
+choice_of_bounds lower upper = cond lower One (cond upper Open Zero)
 
 -- what a strip tells
 abbrev pub told_by : Strip → ℕ → Choice
-told_by strip p = cond (strip.set p) (told (strip.lower p) (strip.upper p)) Open
+told_by strip p = cond (strip.set p) (choice_of_bounds (strip.lower p) (strip.upper p)) Open
 
 -- the choices, with what the strips tell of the open variables
 abbrev pub with_strips : (ℕ → Choice) → List Strip → ℕ → Choice
 with_strips choice [] = choice
-with_strips choice (strip ∷ strips) = joined (with_strips choice strips) (told_by strip)
+with_strips choice (strip ∷ strips) = choices_or (with_strips choice strips) (told_by strip)
 
 -- the choices after rounds of strips; the latest round stands first
 abbrev pub with_rounds : (ℕ → Choice) → List (List Strip) → ℕ → Choice
@@ -53,4 +53,4 @@ with_rounds choice (strips ∷ rounds) = with_strips (with_rounds choice rounds)
 abbrev pub AreRounds : ℕ → ((ℕ → Bool) → ℤ) → (ℕ → Choice) → List (List Strip) → Type 0
 AreRounds n E choice [] = Unit {0}
 AreRounds n E choice (strips ∷ rounds) =
-    AreRounds n E choice rounds × All (IsBounded n E (with_rounds choice rounds)) strips
+    AreRounds n E choice rounds × All (IsStripBounded n E (with_rounds choice rounds)) strips

@@ -3,7 +3,7 @@ ghost use Rattle.std.specs.Prelude.{◌≡◌, ◌<◌, ◌≤◌, ◌*◌, ℕ,
 ghost use Rattle.label_field.specs.PairLists.{IsPair};
 ghost use Rattle.labellings.specs.Energies.{labelling};
 ghost use Rattle.labellings.specs.Moves.{IsRegularPair, IsAllowed};
-ghost use Rattle.cost_store.specs.Posed.{IsPosed, IsAsked, Meant};
+ghost use Rattle.cost_store.specs.Posed.{IsPosed, IsAsked, WhereMeant};
 ghost use Rattle.move_energy.specs.BySite.{AreBySite, degree};
 ghost use Rattle.move_energy.specs.Choices.{choice_at};
 ghost use Rattle.move_energy.specs.Limits.{surplus_limit};
@@ -46,7 +46,7 @@ fn pair_border<F: Fn(u32, u32) -> i64 + Sync, V: Fn(u32, u32) -> i64 + Sync>(
     requires pair { IsPair (length at.now) pair }
     requires asked { IsAsked problem.now at.now change }
     requires choices { length choices.now ≡ length at.now }
-    ensures value { Meant F.Fn V.Fn problem.now (λ m. IsRegularPair m change (labelling at.now) pair →
+    ensures value { WhereMeant F.Fn V.Fn problem.now (λ m. IsRegularPair m change (labelling at.now) pair →
         result ≡ pos (border_of_pair m change (labelling at.now) (choice_at choices.now)
         (range_of from to) site pair)) }
     ensures range { unsigned_abs result ≤ surplus_limit }
@@ -74,7 +74,7 @@ pub fn border<F: Fn(u32, u32) -> i64 + Sync, V: Fn(u32, u32) -> i64 + Sync>(
     requires by_site { AreBySite problem.now.pairs ends.now }
     requires choices { length choices.now ≡ length at.now }
     requires site { site < length at.now }
-    ensures value { Meant F.Fn V.Fn problem.now (λ m. IsAllowed m change (labelling at.now) →
+    ensures value { WhereMeant F.Fn V.Fn problem.now (λ m. IsAllowed m change (labelling at.now) →
         result ≡ pos (border_at m change (labelling at.now) (choice_at choices.now) (range_of from to) site)) }
     ensures range { unsigned_abs result ≤ surplus_limit * degree ends.now site }
 {

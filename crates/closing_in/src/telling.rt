@@ -4,15 +4,15 @@ ghost use Rattle.std.specs.List.{All};
 ghost use Rattle.move_energy.specs.Choices.{choice_at};
 ghost use Rattle.move_energy.specs.declared.choice.Choice.{Choice as AnyChoice};
 ghost use Rattle.deciding.specs.Decisions.{IsSubmodular, IsOver};
-ghost use Rattle.closing_in.specs.Agreeing.{Agree, ChooseMore, or_else as else_of, joined};
-ghost use Rattle.closing_in.specs.Strips.{Strip, IsBounded, told as told_of, told_by};
-ghost use Rattle.closing_in.specs.Telling.{IsListed};
+ghost use Rattle.closing_in.specs.Agreeing.{Agree, ChooseMore, or_else as else_of, choices_or};
+ghost use Rattle.closing_in.specs.Strips.{Strip, IsStripBounded, choice_of_bounds, told_by};
+ghost use Rattle.closing_in.specs.Telling.{IsStripListed};
 
 use move_energy::Choice;
 
 /// What two bounds tell of an open site.
-fn told(lower: bool, upper: bool) -> Choice
-    ensures { result ≡ told_of lower upper }
+fn choice_of_bounds(lower: bool, upper: bool) -> Choice
+    ensures { result ≡ choice_of_bounds lower upper }
 {
     if lower {
         Choice::One
@@ -39,17 +39,17 @@ pub fn add_strip(choices: &mut [Choice], sites: &[u32], lower: &[bool], upper: &
     requires sites { All (λ p. p < length choices.old) sites.now }
     requires lower { length lower.now ≡ length sites.now }
     requires upper { length upper.now ≡ length sites.now }
-    ensures told { (strip : Strip) → IsListed sites.now lower.now upper.now strip → (p : ℕ) →
+    ensures told { (strip : Strip) → IsStripListed sites.now lower.now upper.now strip → (p : ℕ) →
         p < length choices.old →
-        choice_at choices.new p ≡ joined (choice_at choices.old) (told_by strip) p }
+        choice_at choices.new p ≡ choices_or (choice_at choices.old) (told_by strip) p }
     ensures agree { (n : ℕ) (E : (ℕ → Bool) → ℤ) (start : ℕ → AnyChoice) (strip : Strip) →
-        n ≤ length choices.old → IsSubmodular E → IsOver n E → IsListed sites.now lower.now upper.now strip →
-        IsBounded n E start strip → Agree n E start → Agree n E (choice_at choices.old) →
+        n ≤ length choices.old → IsSubmodular E → IsOver n E → IsStripListed sites.now lower.now upper.now strip →
+        IsStripBounded n E start strip → Agree n E start → Agree n E (choice_at choices.old) →
         ChooseMore n start (choice_at choices.old) →
         Agree n E (choice_at choices.new) × ChooseMore n start (choice_at choices.new) }
 {
     for place in 0..sites.len() {
         let site = sites[place] as usize;
-        choices[site] = or_else(choices[site], told(lower[place], upper[place]));
+        choices[site] = or_else(choices[site], choice_of_bounds(lower[place], upper[place]));
     }
 }

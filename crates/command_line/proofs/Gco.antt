@@ -6,7 +6,7 @@ use Rattle.clap.specs.declared.error.ErrorKind.{ErrorKind}
 use Rattle.clap.specs.declared.error.ErrorKind.TheVariants as kind
 use Rattle.clap.proofs.OnLiterals.{clap_on_literals}
 use Rattle.command_line.specs.App.{energy_app, gco_app, label_app, restore_app, segment_app, stereo_app}
-use Rattle.command_line.specs.Task.{IsHelp, IsNoTaskFor, IsNoTaskOf}
+use Rattle.command_line.specs.Task.{IsHelpKind, IsNoTaskFor, IsNoTaskOf}
 use Rattle.command_line.specs.declared.task.NoTask.{NoTask}
 use Rattle.command_line.specs.declared.task.NoTask.TheVariants.{OutOfMemory, Help, Refused, BadOption}
 
@@ -18,7 +18,7 @@ pub gco_is_free : is_simple_and_free gco_app ≡ true
 unfolding clap_on_literals gco_app energy_app label_app restore_app stereo_app segment_app
 gco_is_free = refl
 
-no_memory : (k : ErrorKind) → IsHelp k → k ≡ kind.OutOfMemory → ⊥
+no_memory : (k : ErrorKind) → IsHelpKind k → k ≡ kind.OutOfMemory → ⊥
 no_memory k help is = elim help [ inl e ↦ (cc) | inr e ↦ (cc) ]
 
 -- an error that is not of memory is one of those that the words have

@@ -3,7 +3,7 @@ use Rattle.block_net.specs.Limits.{block_limit}
 use Rattle.std.specs.Prelude.{◌≡◌, ◌≢◌, ◌↔◌, ℕ, ◌≤◌, Bool, IsTrue, Option, Some, None, option_and_then, IsSomeAnd, List, codes}
 use Rattle.std.specs.Str.Parse.{IsNumeral, digits_value, without_leading_plus}
 use Rattle.clap.specs.Words.{Row, Text, first_of, one_of}
-use Rattle.run_options.specs.Limits.{cap_limit, cycle_limit, label_cost_limit, maxval_limit, trunc_limit}
+use Rattle.run_options.specs.Limits.{cap_limit, cycle_limit, greatest_label_cost, greatest_sample, trunc_limit}
 use Rattle.run_options.specs.declared.options.Neighbours.{Neighbours}
 use Rattle.run_options.specs.declared.options.Neighbours.TheVariants.{Four, Eight}
 use Rattle.run_options.specs.declared.options.RestoreOptions.{RestoreOptions}
@@ -38,23 +38,23 @@ pub record HasNumber (rows : List Row) (name : Text) (least most n : ℕ) : Type
 abbrev pub smooth_of : List Row → Option Shape
 smooth_of rows = option_and_then shape_named (first_of (codes "smooth") rows)
 
-abbrev pub moves_of : List Row → Option Moves
-moves_of rows = option_and_then moves_named (first_of (codes "moves") rows)
+abbrev pub moves_option : List Row → Option Moves
+moves_option rows = option_and_then moves_named (first_of (codes "moves") rows)
 
 -- how many neighbours a pixel has, away from the border
-abbrev pub count_of : Neighbours → ℕ
-count_of Four = 4
-count_of Eight = 8
+abbrev pub neighbour_count : Neighbours → ℕ
+neighbour_count Four = 4
+neighbour_count Eight = 8
 
 abbrev pub HasNeighbours : List Row → Neighbours → Type 0
-HasNeighbours rows neighbours = HasNumber rows (codes "neighbours") 4 8 (count_of neighbours)
+HasNeighbours rows neighbours = HasNumber rows (codes "neighbours") 4 8 (neighbour_count neighbours)
 
 -- the three options whose value is a name
 pub record AreNames (rows : List Row) (smooth : Shape) (neighbours : Neighbours) (moves : Moves)
     : Type 0 where
   pub smooth_is : smooth_of rows ≡ Some smooth
   pub neighbours_are : HasNeighbours rows neighbours
-  pub moves_are : moves_of rows ≡ Some moves
+  pub moves_are : moves_option rows ≡ Some moves
 
 -- the flag of this name is up exactly where its value is `true`, as clap has it where the words have the flag
 abbrev pub HasFlag : List Row → Text → Bool → Type 0
@@ -70,8 +70,9 @@ pub record IsShared (rows : List Row) (o : Shared) : Type 0 where
 
 -- the cost of each label by itself, where it is asked for
 abbrev pub HasLabelCost : List Row → Option ℕ → Type 0
-HasLabelCost rows None = (cost : ℕ) → ¬ HasNumber rows (codes "label-cost") 0 label_cost_limit cost
-HasLabelCost rows (Some cost) = HasNumber rows (codes "label-cost") 0 label_cost_limit cost
+HasLabelCost rows None = (cost : ℕ)
+    → ¬ HasNumber rows (codes "label-cost") 0 greatest_label_cost cost
+HasLabelCost rows (Some cost) = HasNumber rows (codes "label-cost") 0 greatest_label_cost cost
 
 -- these are the options of `restore`
 abbrev pub restore_shared : RestoreOptions → Shared
@@ -107,11 +108,11 @@ pub record IsStereo (rows : List Row) (o : StereoOptions) : Type 0 where
   pub cap : HasNumber rows (codes "cap") 0 cap_limit o.cap
 
 pub record IsSegment (rows : List Row) (o : SegmentOptions) : Type 0 where
-  pub low : HasNumber rows (codes "low") 0 maxval_limit o.low
-  pub high : HasNumber rows (codes "high") 0 maxval_limit o.high
+  pub low : HasNumber rows (codes "low") 0 greatest_sample o.low
+  pub high : HasNumber rows (codes "high") 0 greatest_sample o.high
   pub strong : HasNumber rows (codes "strong") 0 weight_limit o.strong
   pub weak : HasNumber rows (codes "weak") 0 weight_limit o.weak
-  pub edge : HasNumber rows (codes "edge") 0 maxval_limit o.edge
+  pub edge : HasNumber rows (codes "edge") 0 greatest_sample o.edge
   pub neighbours : HasNeighbours rows o.neighbours
   pub cycles : HasNumber rows (codes "cycles") 0 cycle_limit o.cycles
 
@@ -132,7 +133,7 @@ HasWorkers rows (Some o) = AreWorkers rows o
 abbrev pub IsBad : List Row → OptionName → Type 0
 IsBad rows option.Smooth = smooth_of rows ≡ None
 IsBad rows option.Neighbours = (neighbours : Neighbours) → ¬ HasNeighbours rows neighbours
-IsBad rows option.Moves = moves_of rows ≡ None
+IsBad rows option.Moves = moves_option rows ≡ None
 
 -- and none before it in the order `smooth`, `neighbours`, `moves` is such
 abbrev pub IsFirstBad : List Row → OptionName → Type 0

@@ -5,7 +5,7 @@ use Rattle.clap.specs.declared.builder.action.ArgAction.TheVariants.{SetTrue}
 use Rattle.clap.specs.declared.builder.command.Command.{Command}
 use Rattle.clap.specs.declared.builder.command.Command.TheViews.{out-Command}
 use Rattle.clap.specs.declared.builder.value_parser.ValueParser.TheVariants.{Signed}
-use Rattle.run_options.specs.Limits.{cap_limit, cycle_limit, label_cost_limit, maxval_limit, trunc_limit}
+use Rattle.run_options.specs.Limits.{cap_limit, cycle_limit, greatest_label_cost, greatest_sample, trunc_limit}
 use Rattle.label_field.specs.Limits.{label_limit, weight_limit}
 use Rattle.block_net.specs.Limits.{block_limit}
 use Rattle.worker_options.specs.Limits.{ring_limit, round_limit, thread_limit, turn_limit}
@@ -56,7 +56,7 @@ shared_rules =
 
 -- those that `restore` has after these
 abbrev pub restore_rules : List Rule
-restore_rules = number_rule (codes "label-cost") 0 label_cost_limit ∷ bound_rule ∷ []
+restore_rules = number_rule (codes "label-cost") 0 greatest_label_cost ∷ bound_rule ∷ []
 
 -- and those that `stereo` has
 abbrev pub stereo_rules : List Rule
@@ -73,11 +73,11 @@ label_rules = bound_rule ∷ []
 -- the options of `segment`
 abbrev pub segment_rules : List Rule
 segment_rules =
-    required_rule (codes "low") 0 maxval_limit
-    ∷ required_rule (codes "high") 0 maxval_limit
+    required_rule (codes "low") 0 greatest_sample
+    ∷ required_rule (codes "high") 0 greatest_sample
     ∷ defaulted_rule (codes "strong") 0 weight_limit (codes "20")
     ∷ defaulted_rule (codes "weak") 0 weight_limit (codes "5")
-    ∷ defaulted_rule (codes "edge") 0 maxval_limit (codes "5")
+    ∷ defaulted_rule (codes "edge") 0 greatest_sample (codes "5")
     ∷ neighbours_rule
     ∷ cycles_rule
     ∷ []

@@ -20,8 +20,8 @@ use Rattle.command_line.specs.declared.values.Unmet.{Unmet}
 use Rattle.command_line.specs.declared.values.Unmet.TheVariants as unmet
 
 -- the words are a command line, by the rules of clap
-abbrev pub IsAccepted : List Text → Type 0
-IsAccepted words = fault_of gco_app words ≡ []
+abbrev pub AreWordsAccepted : List Text → Type 0
+AreWordsAccepted words = fault_of gco_app words ≡ []
 
 -- the image command of a subcommand and its options, by its name and its matches
 abbrev pub IsPictureOf : Text → List Row → PictureOptions → Type 0
@@ -47,12 +47,13 @@ IsBadOptionOf name rows option =
 
 -- the words are a command line that names a subcommand, and it asks for this
 abbrev pub Asks : List Text → Request → Type 0
-Asks words request = IsAccepted words × IsSomeAnd (subcommand_of gco_app words) (λ p. IsRequestOf p.0 p.1 request)
+Asks words request = AreWordsAccepted words × IsSomeAnd (subcommand_of gco_app words) (λ p. IsRequestOf p.0 p.1 request)
 
 -- the words are a command line, and this option of its subcommand is the first bad one
 abbrev pub NamesBadOption : List Text → OptionName → Type 0
 NamesBadOption words option =
-    IsAccepted words × IsSomeAnd (subcommand_of gco_app words) (λ p. IsBadOptionOf p.0 p.1 option)
+    AreWordsAccepted words
+    × IsSomeAnd (subcommand_of gco_app words) (λ p. IsBadOptionOf p.0 p.1 option)
 
 -- the options of an image command are in their ranges
 abbrev pub FitsPicture : PictureOptions → Type 0
@@ -71,18 +72,18 @@ abbrev pub FitsRequest : Request → Type 0
 FitsRequest request = FitsTask request.task × IfSome request.workers AreInRange
 
 -- what clap tells is help that was asked for
-abbrev pub IsHelp : ErrorKind → Type 0
-IsHelp k = (k ≡ kind.DisplayHelp) ⊎ (k ≡ kind.DisplayVersion)
+abbrev pub IsHelpKind : ErrorKind → Type 0
+IsHelpKind k = (k ≡ kind.DisplayHelp) ⊎ (k ≡ kind.DisplayVersion)
 
 -- the words ask for help, by an option or by the word `help`
 abbrev pub AsksForHelp : List Text → Type 0
-AsksForHelp words = (k : ErrorKind) × IsHelp k × IsAmong k (fault_of gco_app words)
+AsksForHelp words = (k : ErrorKind) × IsHelpKind k × IsAmong k (fault_of gco_app words)
 
 -- The words are no command line, for a cause that is not help; or they are one that has no task and no bad
 -- option. Of the word `help` both are said by clap: help, and that it is no subcommand.
 abbrev pub AreRefused : List Text → Type 0
-AreRefused words = ((k : ErrorKind) × (¬ IsHelp k) × IsAmong k (fault_of gco_app words))
-    ⊎ (IsAccepted words × ((request : Request) → ¬ Asks words request)
+AreRefused words = ((k : ErrorKind) × (¬ IsHelpKind k) × IsAmong k (fault_of gco_app words))
+    ⊎ (AreWordsAccepted words × ((request : Request) → ¬ Asks words request)
     × ((option : OptionName) → ¬ NamesBadOption words option))
 
 -- why these words give no task: memory may always be refused
@@ -102,8 +103,8 @@ HasText (BadOption option) = ⊤
 -- what becomes of an error of the parse
 abbrev pub IsNoTaskOf : Error → NoTask → Type 0
 IsNoTaskOf e OutOfMemory = ⊤
-IsNoTaskOf e (Help text) = IsHelp (kind_of e)
-IsNoTaskOf e (Refused text) = (kind_of e ≢ kind.OutOfMemory) × (¬ IsHelp (kind_of e))
+IsNoTaskOf e (Help text) = IsHelpKind (kind_of e)
+IsNoTaskOf e (Refused text) = (kind_of e ≢ kind.OutOfMemory) × (¬ IsHelpKind (kind_of e))
 IsNoTaskOf e (BadOption option) = ⊥
 
 -- why a subcommand does not give what it is asked for: a bad option, or none such and nothing to give

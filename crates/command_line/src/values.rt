@@ -2,7 +2,7 @@
 ghost use Rattle.std.specs.Prelude.{◌≡◌, ℕ, ◌≤◌, ◌<◌, ◌^◌, Some, option_map, IfOk, IfErr, IfSome, IfNone};
 ghost use Rattle.clap.specs.Words.{first_of, found_of, rows_of};
 ghost use Rattle.run_options.specs.declared.options.Neighbours.{Neighbours};
-ghost use Rattle.command_line.specs.Options.{AreNames, AreWorkers, HasFlag, HasLabelCost, HasNeighbours, HasNumber, HasValue, IsFirstBad, IsFirstNone, IsOnlyBad, IsRestore, IsSegment, IsShared, IsStereo, moves_of, smooth_of};
+ghost use Rattle.command_line.specs.Options.{AreNames, AreWorkers, HasFlag, HasLabelCost, HasNeighbours, HasNumber, HasValue, IsFirstBad, IsFirstNone, IsOnlyBad, IsRestore, IsSegment, IsShared, IsStereo, moves_option, smooth_of};
 ghost use Rattle.command_line.specs.Task.{HasNo};
 
 use crate::OptionName;
@@ -215,16 +215,16 @@ fn smooth_in(matches: &ArgMatches<'_>) -> Option<Shape>
     ensures { result ≡ smooth_of (rows_of (found_of matches.now)) }
 {
     match text_in(matches, "smooth") {
-        Some(name) => Shape::named(name),
+        Some(name) => Shape::from_name(name),
         None => None,
     }
 }
 
 fn moves_in(matches: &ArgMatches<'_>) -> Option<Moves>
-    ensures { result ≡ moves_of (rows_of (found_of matches.now)) }
+    ensures { result ≡ moves_option (rows_of (found_of matches.now)) }
 {
     match text_in(matches, "moves") {
-        Some(name) => Moves::named(name),
+        Some(name) => Moves::from_name(name),
         None => None,
     }
 }

@@ -2,7 +2,7 @@
 ghost use Rattle.std.specs.Prelude.{◌≡◌, ◌<◌, Some, None, OnOk, IfOk, IfErr, IsSomeAnd, MatchOption, length, map, string_bytes};
 ghost use Rattle.clap.specs.Words.{found_of, rows_of, subcommand_of, subcommand_rows_of};
 ghost use Rattle.command_line.specs.App.{gco_app};
-ghost use Rattle.command_line.specs.Task.{Asks, FitsRequest, HasNo, HasText, IsAccepted, IsBadOptionOf, IsNoTaskFor, IsNoTaskOf, IsPictureOf, IsRequestOf, IsTaskOf};
+ghost use Rattle.command_line.specs.Task.{Asks, FitsRequest, HasNo, HasText, AreWordsAccepted, IsBadOptionOf, IsNoTaskFor, IsNoTaskOf, IsPictureOf, IsRequestOf, IsTaskOf};
 
 use crate::app::gco_command;
 use crate::values::{Unmet, flag_in, restore_in, segment_in, stereo_in, workers_in};
@@ -37,7 +37,7 @@ pub fn parse<S: AsStr>(alloc: Global, words: &[S]) -> Result<Request, NoTask>
 }
 
 fn matches_of<'a, S: AsStr>(alloc: Global, words: &'a [S]) -> Result<ArgMatches<'a>, NoTask>
-    ensures accepted { OnOk result (IsAccepted (map S.text words.entry.now)) }
+    ensures accepted { OnOk result (AreWordsAccepted (map S.text words.entry.now)) }
     ensures matches { IfOk result (λ m. subcommand_rows_of m
         ≡ subcommand_of gco_app (map S.text words.entry.now)) }
     ensures refused { IfErr result (IsNoTaskFor (map S.text words.entry.now)) }
@@ -86,14 +86,14 @@ fn entered_request(matches: &ArgMatches<'_>) -> Result<Request, Unmet>
         (λ request. IsSomeAnd (subcommand_rows_of matches.now) (λ p. IsRequestOf p.0 p.1 request))
         (λ option. IsSomeAnd (subcommand_rows_of matches.now) (λ p. IsBadOptionOf p.0 p.1 option))) }
 {
-    match entered(matches) {
+    match task_entered(matches) {
         Some((name, inner)) => request_of(name, inner),
         None => Err(Unmet::NoTask),
     }
 }
 
 // The subcommand that was used, with its name.
-fn entered<'m, 'a>(matches: &'m ArgMatches<'a>) -> Option<(&'a str, &'m ArgMatches<'a>)>
+fn task_entered<'m, 'a>(matches: &'m ArgMatches<'a>) -> Option<(&'a str, &'m ArgMatches<'a>)>
     ensures { MatchOption result (subcommand_rows_of matches.now ≡ None)
         (λ p. subcommand_rows_of matches.now ≡ Some (p.0.now, rows_of (found_of p.1.now))) }
 {

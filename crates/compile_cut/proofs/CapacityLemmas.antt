@@ -3,7 +3,7 @@ use Rattle.std.proofs.Common.{◌≡◌, ℕ, zero, suc, ◌+◌, ◌≤◌, ◌
 use Rattle.std.proofs.lemmas.Int.{ints}
 use Rattle.std.proofs.lemmas.List.{length-map}
 use Rattle.std.proofs.lemmas.List.Sums.{sum_by-cons}
-use Rattle.sums.specs.Sums.{sum_below, counted}
+use Rattle.sums.specs.Sums.{sum_below, count_if}
 use Rattle.sums.specs.IntegerSums.{int_counted}
 use Rattle.sums.proofs.SumLemmas.{sum_below-front}
 use Rattle.sums.proofs.IntegerSumLemmas.{int_sum_below-front}
@@ -12,21 +12,21 @@ use Rattle.flow_network.specs.declared.arc.Arc.{Arc}
 use Rattle.flow_network.specs.Cut.{capacity_of, IsArc, IsNet}
 use Rattle.compile_cut.specs.Weights.{weights_value, weights_size, arcs_value, arcs_size, source_part, sink_part}
 
-weight_parts : (b : Bool) (w : ℤ) → pos (counted b (source_part w) + counted (not b) (sink_part w)) ≡ int_counted b w +ℤ pos (sink_part w)
+weight_parts : (b : Bool) (w : ℤ) → pos (count_if b (source_part w) + count_if (not b) (sink_part w)) ≡ int_counted b w +ℤ pos (sink_part w)
 weight_parts true (pos n) = omega (arith, ints)
 weight_parts true (negsuc n) = omega (arith, ints)
 weight_parts false (pos n) = omega (arith, ints)
 weight_parts false (negsuc n) = omega (arith, ints)
 
 pub weights_as_capacities : (ws : List ℤ) (x : ℕ → Bool)
-    → pos (sum_below (length (map source_part ws)) (λ v. counted (x v) (slice_index (map source_part ws) v))
-    + sum_below (length (map source_part ws)) (λ v. counted (not (x v)) (slice_index (map sink_part ws) v)))
+    → pos (sum_below (length (map source_part ws)) (λ v. count_if (x v) (slice_index (map source_part ws) v))
+    + sum_below (length (map source_part ws)) (λ v. count_if (not (x v)) (slice_index (map sink_part ws) v)))
     ≡ weights_value ws x +ℤ pos (sum (map sink_part ws))
 weights_as_capacities [] x = refl
 weights_as_capacities (w ∷ ws) x =
     let rest = weights_as_capacities ws (λ i. x (suc i)) in
-    let one = sum_below-front (length (map source_part ws)) (λ v. counted (x v) (slice_index (map source_part (w ∷ ws)) v)) in
-    let two = sum_below-front (length (map source_part ws)) (λ v. counted (not (x v)) (slice_index (map sink_part (w ∷ ws)) v)) in
+    let one = sum_below-front (length (map source_part ws)) (λ v. count_if (x v) (slice_index (map source_part (w ∷ ws)) v)) in
+    let two = sum_below-front (length (map source_part ws)) (λ v. count_if (not (x v)) (slice_index (map sink_part (w ∷ ws)) v)) in
     let three = int_sum_below-front (length ws) (λ v. int_counted (x v) (entry (w ∷ ws) v)) in
     omega (arith, ints, rest, one, two, three, weight_parts (x 0) w, sum_by-cons (λ n. n) (sink_part w) (map sink_part ws))
 

@@ -1,7 +1,7 @@
 -- Tables as constants, weights and arcs, and what the machine's numbers give.
 use Rattle.std.proofs.Common.{◌≡◌, ℕ, ◌+◌, ◌*◌, ◌≤◌, Bool, true, false, not, ◌&&◌, List, ℤ, pos, ◌+ℤ◌, ◌-ℤ◌, neg_ℤ, unsigned_abs, w64, FitsSigned, to_z, of_z, arith, ◌∙◌}
 use Rattle.std.proofs.lemmas.Int.{ints, to_z-of_z}
-use Rattle.sums.specs.Sums.{counted}
+use Rattle.sums.specs.Sums.{count_if}
 use Rattle.sums.specs.IntegerSums.{int_counted}
 use Rattle.sums.proofs.IntegerSumLemmas.{within_fits, add_is, abs-add, abs-sub}
 use Rattle.pseudo_bool.specs.Energies.{entry, digit}
@@ -14,7 +14,7 @@ one_parts table k w false hk hw = omega (arith, ints)
 
 pub pair_parts : (table : List ℤ) (k f s : ℤ) (g : ℕ) (b c : Bool) → k ≡ entry table 0 → f ≡ entry table 2 -ℤ entry table 0
     → s ≡ entry table 3 -ℤ entry table 2 → pos g ≡ entry table 1 +ℤ entry table 2 -ℤ entry table 0 -ℤ entry table 3
-    → entry table (2 * digit b + digit c) ≡ k +ℤ int_counted b f +ℤ int_counted c s +ℤ pos (counted (c && not b) g)
+    → entry table (2 * digit b + digit c) ≡ k +ℤ int_counted b f +ℤ int_counted c s +ℤ pos (count_if (c && not b) g)
 pair_parts table k f s g true true hk hf hs hg = omega (arith, ints)
 pair_parts table k f s g true false hk hf hs hg = omega (arith, ints)
 pair_parts table k f s g false true hk hf hs hg = omega (arith, ints)

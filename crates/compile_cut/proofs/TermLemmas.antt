@@ -16,7 +16,7 @@ use Rattle.flow_network.specs.Cut.{IsArc}
 use Rattle.compile_cut.specs.declared.quadratic.Quadratic.{Quadratic}
 use Rattle.compile_cut.specs.Shown.{Shows, three_digit, three_count}
 use Rattle.compile_cut.specs.Weights.{weights_value, weights_size, arcs_value, IsAbove}
-use Rattle.compile_cut.specs.Quadratics.{quadratic_value, IsBounded, IsConstant, AddsTerm, SaysValues}
+use Rattle.compile_cut.specs.Quadratics.{quadratic_value, IsQuadraticBounded, IsConstant, AddsTerm, SaysValues}
 
 -- ---- assignments that agree on the variables have one value
 
@@ -42,7 +42,7 @@ term-weaker n m (One first table) l h = (omega (arith, h.0), h.1)
 term-weaker n m (Two first second table) l h = (omega (arith, h.0), omega (arith, h.1), h.2, h.3)
 term-weaker n m (Three first second third table) l h = (omega (arith, h.0), omega (arith, h.1), omega (arith, h.2), h.3, h.4, h.5, h.6)
 
-pub bounded-weaker : (i k : ℕ) (q : Quadratic) → i ≤ k → IsBounded i q → IsBounded k q
+pub bounded-weaker : (i k : ℕ) (q : Quadratic) → i ≤ k → IsQuadraticBounded i q → IsQuadraticBounded k q
 bounded-weaker i k q l h =
     record { constant = omega (arith, h.constant); size = omega (arith, h.size); arcs = h.arcs; above = h.above }
 
@@ -60,7 +60,7 @@ adds_exactly old new t is =
 
 pub record HasAdded (e : Energy) (i : ℕ) (q : Quadratic) : Type 0 where
   pub values : SaysValues (record e { terms = take i e.terms }) q
-  pub bounded : IsBounded i q
+  pub bounded : IsQuadraticBounded i q
   pub variables : e.variables ≤ vec_len q.weights
   pub hidden : vec_len q.weights ≤ e.variables + sum_by three_digit (take i e.terms)
 
@@ -83,7 +83,7 @@ step_values e i t old new l is term within values adds =
     }
 
 pub step : (e : Energy) (i : ℕ) (t : Term) (old new : Quadratic) → i < length e.terms → slice_get e.terms i ≡ Some t → IsTerm e.variables t
-    → HasAdded e i old → AddsTerm old new t → IsBounded (i + 1) new → vec_len new.weights ≡ vec_len old.weights + three_digit t
+    → HasAdded e i old → AddsTerm old new t → IsQuadraticBounded (i + 1) new → vec_len new.weights ≡ vec_len old.weights + three_digit t
     → HasAdded e (i + 1) new
 step e i t old new l is term had adds bounded len =
     let more = sum_by_more three_digit e.terms i t l in
@@ -121,7 +121,7 @@ constant_value k n q is x =
 pub constant_nodes : (k : ℤ) (n : ℕ) (q : Quadratic) → IsConstant k n q → vec_len q.weights ≡ n
 constant_nodes k n q is = q.weights.ok.0 ∙ ap length is.weights ∙ length-replicate n (pos 0)
 
-pub constant_bounded : (k : ℤ) (n : ℕ) (q : Quadratic) → unsigned_abs k ≤ 1000000000000000 → IsConstant k n q → IsBounded 0 q
+pub constant_bounded : (k : ℤ) (n : ℕ) (q : Quadratic) → unsigned_abs k ≤ 1000000000000000 → IsConstant k n q → IsQuadraticBounded 0 q
 constant_bounded k n q small is =
     record {
       constant = omega (arith, small, ap unsigned_abs is.constant_is);

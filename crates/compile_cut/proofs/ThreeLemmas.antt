@@ -1,7 +1,7 @@
 -- The parts of a table of three variables have its values as their least over the hidden node.
 use Rattle.std.proofs.Common.{◌≡◌, ℕ, zero, suc, ◌+◌, ◌<◌, Bool, true, false, not, ◌&&◌, List, ℤ, pos, ◌+ℤ◌, ◌-ℤ◌, neg_ℤ, ◌≤ℤ◌, ◌<ℤ◌, unsigned_abs, refl, ap, subst, ◌∙◌, arith}
 use Rattle.std.proofs.lemmas.Int.{ints}
-use Rattle.sums.specs.Sums.{counted}
+use Rattle.sums.specs.Sums.{count_if}
 use Rattle.pseudo_bool.specs.Energies.{entry}
 use Rattle.compile_cut.specs.declared.three.ThreePart.{ThreePart}
 use Rattle.regular.specs.declared.fixed.Fixed.{Fixed}
@@ -21,10 +21,10 @@ pub record AtZeros (table : List ℤ) (p : ThreePart) (n : ℕ) : Type 0 where
 
 -- what arcs into the hidden node carry, and arcs out of it
 abbrev pub into : ℕ → Bool → Bool → Bool → Bool → ℕ
-into n w x y z = counted (w && not x) n + counted (w && not y) n + counted (w && not z) n
+into n w x y z = count_if (w && not x) n + count_if (w && not y) n + count_if (w && not z) n
 
 abbrev pub out_of : ℕ → Bool → Bool → Bool → Bool → ℕ
-out_of n w x y z = counted (x && not w) n + counted (y && not w) n + counted (z && not w) n
+out_of n w x y z = count_if (x && not w) n + count_if (y && not w) n + count_if (z && not w) n
 
 lower_zeros : (table : List ℤ) (p : ThreePart) (n carried : ℕ) (w x y z : Bool) → AtZeros table p n → carried ≡ into n w x y z
     → entry_of_three table x y z ≤ℤ part_sum p w x y z carried
@@ -56,7 +56,7 @@ reached_zeros table p n carried false true false h e = omega (arith, ints)
 reached_zeros table p n carried false false true h e = omega (arith, ints)
 reached_zeros table p n carried false false false h e = omega (arith, ints)
 
-counted-nothing : (b : Bool) → counted b 0 ≡ 0
+counted-nothing : (b : Bool) → count_if b 0 ≡ 0
 counted-nothing true = refl
 counted-nothing false = refl
 

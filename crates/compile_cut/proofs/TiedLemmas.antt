@@ -7,7 +7,7 @@ use Rattle.sums.proofs.IntegerSumLemmas.{abs-add, within_fits}
 use Rattle.std.proofs.lemmas.Bool.{cases_Bool}
 use Rattle.std.proofs.lemmas.List.Sums.{sum_by-cons}
 use Rattle.std.proofs.lemmas.List.Elements.{All-head, All-tail}
-use Rattle.sums.specs.Sums.{counted}
+use Rattle.sums.specs.Sums.{count_if}
 use Rattle.sums.specs.IntegerSums.{int_counted}
 use Rattle.sums.proofs.SumLemmas.{counted-le}
 use Rattle.compile_cut.specs.Shown.{Shows}
@@ -16,15 +16,15 @@ use Rattle.compile_cut.proofs.WeightLemmas.{extended, extended-at, extended-belo
 
 -- a cost for each node that passes a test: at least the cost where one does, and nothing where none does
 abbrev pub paid : (ℕ → Bool) → List ℕ → ℕ → ℕ
-paid t nodes cost = sum_by (λ node. counted (t node) cost) nodes
+paid t nodes cost = sum_by (λ node. count_if (t node) cost) nodes
 
-paid_by : (b a : Bool) (cost s : ℕ) → counted a cost ≤ s → counted (b || a) cost ≤ counted b cost + s
+paid_by : (b a : Bool) (cost s : ℕ) → count_if a cost ≤ s → count_if (b || a) cost ≤ count_if b cost + s
 paid_by true a cost s k = omega arith
 paid_by false a cost s k = omega (arith, k)
 
-pub paid_once : (t : ℕ → Bool) (nodes : List ℕ) (cost : ℕ) → counted (list_any t nodes) cost ≤ paid t nodes cost
+pub paid_once : (t : ℕ → Bool) (nodes : List ℕ) (cost : ℕ) → count_if (list_any t nodes) cost ≤ paid t nodes cost
 paid_once t [] cost = omega arith
-paid_once t (v ∷ vs) cost = omega (arith, paid_by (t v) (list_any t vs) cost (paid t vs cost) (paid_once t vs cost), sum_by-cons (λ node. counted (t node) cost) v vs)
+paid_once t (v ∷ vs) cost = omega (arith, paid_by (t v) (list_any t vs) cost (paid t vs cost) (paid_once t vs cost), sum_by-cons (λ node. count_if (t node) cost) v vs)
 
 none_of : (a b : Bool) → (a || b) ≡ false → (a ≡ false) × (b ≡ false)
 none_of true b h = absurd (cc (h))
@@ -34,8 +34,8 @@ pub paid_never : (t : ℕ → Bool) (nodes : List ℕ) (cost : ℕ) → list_any
 paid_never t [] cost h = refl
 paid_never t (v ∷ vs) cost h =
     let parts = none_of (t v) (list_any t vs) h in
-    let one : counted (t v) cost ≡ 0 = ap (λ (b : Bool). counted b cost) parts.0 in
-    omega (arith, one, paid_never t vs cost parts.1, sum_by-cons (λ node. counted (t node) cost) v vs)
+    let one : count_if (t v) cost ≡ 0 = ap (λ (b : Bool). count_if b cost) parts.0 in
+    omega (arith, one, paid_never t vs cost parts.1, sum_by-cons (λ node. count_if (t node) cost) v vs)
 
 not_both : (a b : Bool) → (not a || not b) ≡ not (a && b)
 not_both true b = refl
@@ -63,23 +63,23 @@ pub record IsTiedAt (m : ℕ) (f g : (ℕ → Bool) → ℤ) (cost : ℕ) (some 
   pub either : (b : Bool) → (b ≡ pays) ⊎ (b ≡ saves)
   pub at_pays : (x : ℕ → Bool) → x m ≡ pays → g x ≡ f x +ℤ pos cost
   pub at_saves : (x : ℕ → Bool) → x m ≡ saves → g x ≡ f x +ℤ pos (s x)
-  pub once : (x : ℕ → Bool) → counted (some x) cost ≤ s x
+  pub once : (x : ℕ → Bool) → count_if (some x) cost ≤ s x
   pub never : (x : ℕ → Bool) → some x ≡ false → s x ≡ 0
   pub old_same : (x y : ℕ → Bool) → Shows m x y → f y ≡ f x
   pub some_same : (x y : ℕ → Bool) → Shows m x y → some y ≡ some x
 
 pub tied_lower : (m : ℕ) (f g : (ℕ → Bool) → ℤ) (cost : ℕ) (some : (ℕ → Bool) → Bool) (s : (ℕ → Bool) → ℕ) (pays saves : Bool)
-    → IsTiedAt m f g cost some s pays saves → (x : ℕ → Bool) → (f x +ℤ pos (counted (some x) cost)) ≤ℤ g x
+    → IsTiedAt m f g cost some s pays saves → (x : ℕ → Bool) → (f x +ℤ pos (count_if (some x) cost)) ≤ℤ g x
 tied_lower m f g cost some s pays saves h x = elim (h.either (x m)) [
   | inl is ↦ omega (arith, ints, h.at_pays x is, counted-le (some x) cost)
   | inr is ↦ omega (arith, ints, h.at_saves x is, h.once x)
 ]
 
-counted_of : (b c : Bool) (cost : ℕ) → b ≡ c → counted b cost ≡ counted c cost
-counted_of b c cost same = ap (λ (d : Bool). counted d cost) same
+counted_of : (b c : Bool) (cost : ℕ) → b ≡ c → count_if b cost ≡ count_if c cost
+counted_of b c cost same = ap (λ (d : Bool). count_if d cost) same
 
 pub tied_reached : (m : ℕ) (f g : (ℕ → Bool) → ℤ) (cost : ℕ) (some : (ℕ → Bool) → Bool) (s : (ℕ → Bool) → ℕ) (pays saves : Bool)
-    → IsTiedAt m f g cost some s pays saves → (x : ℕ → Bool) → (y : ℕ → Bool) × Shows m x y × (g y ≡ f x +ℤ pos (counted (some x) cost))
+    → IsTiedAt m f g cost some s pays saves → (x : ℕ → Bool) → (y : ℕ → Bool) × Shows m x y × (g y ≡ f x +ℤ pos (count_if (some x) cost))
 tied_reached m f g cost some s pays saves h x =
     let at = λ (w : Bool). extended x m w in
     let shown : (w : Bool) → Shows m x (at w) = λ w v l. extended-below x m w v l in
@@ -109,31 +109,31 @@ pub sum_none : (nodes : List ℕ) → sum_by (λ (v : ℕ). 0) nodes ≡ 0
 sum_none [] = refl
 sum_none (v ∷ vs) = omega (arith, sum_none vs, sum_by-cons (λ (v : ℕ). 0) v vs)
 
-none_into : (b c : Bool) (cost : ℕ) → b ≡ false → counted (b && c) cost ≡ 0
-none_into b c cost is = ap (λ (d : Bool). counted (d && c) cost) is
+none_into : (b c : Bool) (cost : ℕ) → b ≡ false → count_if (b && c) cost ≡ 0
+none_into b c cost is = ap (λ (d : Bool). count_if (d && c) cost) is
 
-some_into : (b c : Bool) (cost : ℕ) → b ≡ true → counted (b && c) cost ≡ counted c cost
-some_into b c cost is = ap (λ (d : Bool). counted (d && c) cost) is
+some_into : (b c : Bool) (cost : ℕ) → b ≡ true → count_if (b && c) cost ≡ count_if c cost
+some_into b c cost is = ap (λ (d : Bool). count_if (d && c) cost) is
 
-none_out : (c : Bool) (cost : ℕ) → counted (c && false) cost ≡ 0
+none_out : (c : Bool) (cost : ℕ) → count_if (c && false) cost ≡ 0
 none_out true cost = refl
 none_out false cost = refl
 
-some_out : (c : Bool) (cost : ℕ) → counted (c && true) cost ≡ counted c cost
+some_out : (c : Bool) (cost : ℕ) → count_if (c && true) cost ≡ count_if c cost
 some_out true cost = refl
 some_out false cost = refl
 
-pub into_none : (x : ℕ → Bool) (m : ℕ) (nodes : List ℕ) (cost : ℕ) → x m ≡ false → sum_by (λ node. counted (x m && not (x node)) cost) nodes ≡ 0
+pub into_none : (x : ℕ → Bool) (m : ℕ) (nodes : List ℕ) (cost : ℕ) → x m ≡ false → sum_by (λ node. count_if (x m && not (x node)) cost) nodes ≡ 0
 into_none x m nodes cost is = sum_as _ (λ v. 0) nodes (λ v. none_into (x m) (not (x v)) cost is) ∙ sum_none nodes
 
-pub into_some : (x : ℕ → Bool) (m : ℕ) (nodes : List ℕ) (cost : ℕ) → x m ≡ true → sum_by (λ node. counted (x m && not (x node)) cost) nodes ≡ paid (λ v. not (x v)) nodes cost
-into_some x m nodes cost is = sum_as _ (λ v. counted (not (x v)) cost) nodes (λ v. some_into (x m) (not (x v)) cost is)
+pub into_some : (x : ℕ → Bool) (m : ℕ) (nodes : List ℕ) (cost : ℕ) → x m ≡ true → sum_by (λ node. count_if (x m && not (x node)) cost) nodes ≡ paid (λ v. not (x v)) nodes cost
+into_some x m nodes cost is = sum_as _ (λ v. count_if (not (x v)) cost) nodes (λ v. some_into (x m) (not (x v)) cost is)
 
-pub out_none : (x : ℕ → Bool) (m : ℕ) (nodes : List ℕ) (cost : ℕ) → x m ≡ true → sum_by (λ node. counted (x node && not (x m)) cost) nodes ≡ 0
-out_none x m nodes cost is = sum_as _ (λ v. 0) nodes (λ v. ap (λ (b : Bool). counted (x v && not b) cost) is ∙ none_out (x v) cost) ∙ sum_none nodes
+pub out_none : (x : ℕ → Bool) (m : ℕ) (nodes : List ℕ) (cost : ℕ) → x m ≡ true → sum_by (λ node. count_if (x node && not (x m)) cost) nodes ≡ 0
+out_none x m nodes cost is = sum_as _ (λ v. 0) nodes (λ v. ap (λ (b : Bool). count_if (x v && not b) cost) is ∙ none_out (x v) cost) ∙ sum_none nodes
 
-pub out_some : (x : ℕ → Bool) (m : ℕ) (nodes : List ℕ) (cost : ℕ) → x m ≡ false → sum_by (λ node. counted (x node && not (x m)) cost) nodes ≡ paid x nodes cost
-out_some x m nodes cost is = sum_as _ (λ v. counted (x v) cost) nodes (λ v. ap (λ (b : Bool). counted (x v && not b) cost) is ∙ some_out (x v) cost)
+pub out_some : (x : ℕ → Bool) (m : ℕ) (nodes : List ℕ) (cost : ℕ) → x m ≡ false → sum_by (λ node. count_if (x node && not (x m)) cost) nodes ≡ paid x nodes cost
+out_some x m nodes cost is = sum_as _ (λ v. count_if (x v) cost) nodes (λ v. ap (λ (b : Bool). count_if (x v && not b) cost) is ∙ some_out (x v) cost)
 
 -- the values of the new form
 pub unless_pays : (q v v' : ℤ) (a a' s cost : ℕ) (b : Bool) → v' ≡ v +ℤ int_counted b (neg_ℤ (pos cost)) → a' ≡ a + s → b ≡ false → s ≡ 0

@@ -8,7 +8,7 @@ use Rattle.std.proofs.Math.Seq.{get_or-append_seam}
 use Rattle.std.proofs.lemmas.List.{length-append}
 use Rattle.std.proofs.lemmas.List.Elements.{All-head, All-tail}
 use Rattle.std.proofs.lemmas.List.Sums.{get_or-le-sum_by, sum_by-cons}
-use Rattle.sums.specs.Sums.{counted}
+use Rattle.sums.specs.Sums.{count_if}
 use Rattle.sums.specs.IntegerSums.{int_sum_below, int_counted}
 use Rattle.sums.proofs.IntegerSumLemmas.{int_sum_below-change, int_sum_below-same}
 use Rattle.pseudo_bool.specs.Energies.{entry, digit}
@@ -50,7 +50,7 @@ pub one_more : (k0 k w v v' : ℤ) (a : ℕ) (table : List ℤ) (b : Bool)
 one_more k0 k w v v' a table b hv hk hw = omega (arith, ints, one_parts table k w b hk hw, hv)
 
 pub pair_more : (k0 k f s v v' v'' : ℤ) (g a a' : ℕ) (table : List ℤ) (b c : Bool)
-    → v' ≡ v +ℤ int_counted b f → v'' ≡ v' +ℤ int_counted c s → a' ≡ a + counted (c && not b) g
+    → v' ≡ v +ℤ int_counted b f → v'' ≡ v' +ℤ int_counted c s → a' ≡ a + count_if (c && not b) g
     → k ≡ entry table 0 → f ≡ entry table 2 -ℤ entry table 0 → s ≡ entry table 3 -ℤ entry table 2
     → pos g ≡ entry table 1 +ℤ entry table 2 -ℤ entry table 0 -ℤ entry table 3
     → k0 +ℤ k +ℤ v'' +ℤ pos a' ≡ k0 +ℤ v +ℤ pos a +ℤ entry table (2 * digit b + digit c)
@@ -80,18 +80,18 @@ enters-same n x y arc s h =
 pub arcs_value-same : (n : ℕ) (arcs : List Arc) (x y : ℕ → Bool) → Shows n x y → All (IsArc n) arcs → arcs_value arcs y ≡ arcs_value arcs x
 arcs_value-same n [] x y s h = refl
 arcs_value-same n (arc ∷ arcs) x y s h =
-    let one = ap (λ b. counted b arc.capacity) (enters-same n x y arc s (All-head (IsArc n) arc arcs h)) in
+    let one = ap (λ b. count_if b arc.capacity) (enters-same n x y arc s (All-head (IsArc n) arc arcs h)) in
     omega (
       arith,
       one,
       arcs_value-same n arcs x y s (All-tail (IsArc n) arc arcs h),
-      sum_by-cons (λ (a : Arc). counted (enters y a) a.capacity) arc arcs,
-      sum_by-cons (λ (a : Arc). counted (enters x a) a.capacity) arc arcs,
+      sum_by-cons (λ (a : Arc). count_if (enters y a) a.capacity) arc arcs,
+      sum_by-cons (λ (a : Arc). count_if (enters x a) a.capacity) arc arcs,
     )
 
 pub three_more : (q v v1 v2 : ℤ) (a a1 a2 : ℕ) (p : ThreePart) (w x y z : Bool)
     → v1 ≡ v +ℤ int_counted w p.hidden → v2 ≡ v1 +ℤ int_counted x p.first +ℤ int_counted y p.second +ℤ int_counted z p.third
-    → a1 ≡ a + counted (y && not x) p.arcs.first_second + counted (z && not x) p.arcs.first_third + counted (z && not y) p.arcs.second_third
+    → a1 ≡ a + count_if (y && not x) p.arcs.first_second + count_if (z && not x) p.arcs.first_third + count_if (z && not y) p.arcs.second_third
     → a2 ≡ a1 + hidden_value p.hidden w x y z
     → q +ℤ p.constant +ℤ v2 +ℤ pos a2 ≡ q +ℤ v +ℤ pos a +ℤ part_value p w x y z
 three_more q v v1 v2 a a1 a2 p w x y z hv hv2 ha ha2 = omega (arith, ints, hv, hv2, ha, ha2)

@@ -13,7 +13,7 @@ abbrev pub quadratic_value : Quadratic → (ℕ → Bool) → ℤ
 quadratic_value q x = q.constant +ℤ weights_value q.weights.items x +ℤ pos (arcs_value q.arcs.items x)
 
 -- what is true after this many terms
-pub record IsBounded (terms : ℕ) (q : Quadratic) : Type 0 where
+pub record IsQuadraticBounded (terms : ℕ) (q : Quadratic) : Type 0 where
   pub constant : unsigned_abs q.constant ≤ constant_limit + value_limit * terms
   pub size : weights_size q.weights.items + arcs_size q.arcs.items ≤ term_size * terms
   pub arcs : All (IsArc (vec_len q.weights)) q.arcs.items
@@ -42,7 +42,7 @@ pub record AddsLeast (old new : Quadratic) (cost : (ℕ → Bool) → ℕ) : Typ
 -- one node more, and at most as many terms more as come to that many times the cost
 pub record IsTied (times cost : ℕ) (old new : Quadratic) : Type 0 where
   pub nodes : vec_len new.weights ≡ vec_len old.weights + 1
-  pub bounded : (k terms : ℕ) → cost * times ≤ value_limit * terms → IsBounded k old → IsBounded (k + terms) new
+  pub bounded : (k terms : ℕ) → cost * times ≤ value_limit * terms → IsQuadraticBounded k old → IsQuadraticBounded (k + terms) new
 
 -- of the sets that show an assignment, the least value is the energy's
 pub record SaysValues (e : Energy) (q : Quadratic) : Type 0 where

@@ -1,5 +1,5 @@
 use Rattle.std.specs.Prelude.{◌≡◌, ℕ, suc, ◌+◌, ◌*◌, ◌≤◌, Bool, not, ◌&&◌, List, [], ◌∷◌, ℤ, pos, negsuc, ◌+ℤ◌, ◌-ℤ◌, ◌≤ℤ◌, unsigned_abs}
-use Rattle.sums.specs.Sums.{counted}
+use Rattle.sums.specs.Sums.{count_if}
 use Rattle.sums.specs.IntegerSums.{int_counted}
 use Rattle.pseudo_bool.specs.Limits.{value_limit}
 use Rattle.pseudo_bool.specs.Energies.{entry, digit, IsValue}
@@ -20,17 +20,17 @@ turned_table table =
 -- what the arcs between a hidden node of this weight and three others carry into a set:
 -- where the weight is above 0 they lead to the three, and where it is below 0 to the hidden node
 abbrev pub hidden_value : ℤ → Bool → Bool → Bool → Bool → ℕ
-hidden_value (pos n) w x y z = counted (x && not w) n + counted (y && not w) n + counted (z && not w) n
+hidden_value (pos n) w x y z = count_if (x && not w) n + count_if (y && not w) n + count_if (z && not w) n
 hidden_value (negsuc n) w x y z =
-    counted (w && not x) (suc n) + counted (w && not y) (suc n) + counted (w && not z) (suc n)
+    count_if (w && not x) (suc n) + count_if (w && not y) (suc n) + count_if (w && not z) (suc n)
 
 -- the value of the parts, where the hidden node's arcs carry this much
 abbrev pub part_sum : ThreePart → Bool → Bool → Bool → Bool → ℕ → ℤ
 part_sum p w x y z carried =
     p.constant +ℤ int_counted x p.first +ℤ int_counted y p.second +ℤ int_counted z p.third
     +ℤ int_counted w p.hidden
-    +ℤ pos (counted (y && not x) p.arcs.first_second + counted (z && not x) p.arcs.first_third
-    + counted (z && not y) p.arcs.second_third + carried)
+    +ℤ pos (count_if (y && not x) p.arcs.first_second + count_if (z && not x) p.arcs.first_third
+    + count_if (z && not y) p.arcs.second_third + carried)
 
 -- the value of the parts, where the hidden node is in the set or not
 abbrev pub part_value : ThreePart → Bool → Bool → Bool → Bool → ℤ
@@ -46,7 +46,7 @@ pub record IsLeastOverHidden (table : List ℤ) (p : ThreePart) : Type 0 where
   pub reached : (x y z : Bool) → (w : Bool) × (part_value p w x y z ≡ entry_of_three table x y z)
 
 -- the parts are small
-pub record IsSmall (p : ThreePart) : Type 0 where
+pub record IsThreePartSmall (p : ThreePart) : Type 0 where
   pub constant : IsValue p.constant
   pub first : unsigned_abs p.first ≤ 8 * value_limit
   pub second : unsigned_abs p.second ≤ 2 * value_limit

@@ -1,5 +1,5 @@
 use Rattle.std.specs.Prelude.{ℕ, suc, ◌<◌, Bool, List, length, sum_by, ℤ, pos, negsuc, unsigned_abs}
-use Rattle.sums.specs.Sums.{counted}
+use Rattle.sums.specs.Sums.{count_if}
 use Rattle.sums.specs.IntegerSums.{int_sum_below, int_counted}
 use Rattle.pseudo_bool.specs.Energies.{entry}
 use Rattle.flow_network.specs.declared.arc.Arc.{Arc}
@@ -15,7 +15,7 @@ weights_size weights = sum_by unsigned_abs weights
 
 -- what the arcs carry into the set
 abbrev pub arcs_value : List Arc → (ℕ → Bool) → ℕ
-arcs_value arcs x = sum_by (λ arc. counted (enters x arc) arc.capacity) arcs
+arcs_value arcs x = sum_by (λ arc. count_if (enters x arc) arc.capacity) arcs
 
 -- all that the arcs can carry
 abbrev pub arcs_size : List Arc → ℕ

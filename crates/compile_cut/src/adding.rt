@@ -1,11 +1,11 @@
 ghost use Rattle.std.specs.Prelude.{◌≡◌, ℕ, ◌+◌, ◌*◌, ◌<◌, ◌≤◌, Bool, not, ◌&&◌, All, ◌+ℤ◌, unsigned_abs, vec_len, OnOk};
-ghost use Rattle.sums.specs.Sums.{counted};
+ghost use Rattle.sums.specs.Sums.{count_if};
 ghost use Rattle.sums.specs.IntegerSums.{int_counted};
 ghost use Rattle.pseudo_bool.specs.Limits.{value_limit};
 ghost use Rattle.flow_network.specs.Cut.{IsArc};
 ghost use Rattle.compile_cut.specs.Limits.{term_size, form_size};
 ghost use Rattle.compile_cut.specs.Weights.{weights_value, weights_size, arcs_value, arcs_size, IsAbove};
-ghost use Rattle.compile_cut.specs.Three.{hidden_value, IsSmall};
+ghost use Rattle.compile_cut.specs.Three.{hidden_value, IsThreePartSmall};
 
 use crate::three::{ThreeArcs, ThreePart};
 use flow_network::Arc;
@@ -27,7 +27,7 @@ pub fn add_weight(weights: &mut Vec<i64>, at: u32, by: i64)
 /// Adds an arc, if it carries anything.
 pub fn add_arc(arcs: &mut Vec<Arc>, from: u32, to: u32, capacity: u64) -> Result<(), AllocError>
     ensures value { OnOk result ((x : ℕ → Bool) → arcs_value arcs.new.items x ≡ arcs_value arcs.old.items x
-        + counted (x to && not (x from)) capacity) }
+        + count_if (x to && not (x from)) capacity) }
     ensures size { OnOk result (arcs_size arcs.new.items ≡ arcs_size arcs.old.items + capacity) }
     ensures nodes { OnOk result ((n : ℕ) → from < n → to < n → All (IsArc n) arcs.old.items
         → All (IsArc n) arcs.new.items) }
@@ -53,7 +53,7 @@ pub fn add_three_weights(weights: &mut Vec<i64>, nodes: Nodes, part: &ThreePart)
     requires second { nodes.second < vec_len weights.old }
     requires third { nodes.third < vec_len weights.old }
     requires room { weights_size weights.old.items + 12 * value_limit ≤ form_size + term_size }
-    requires small { IsSmall part.now }
+    requires small { IsThreePartSmall part.now }
     ensures len { vec_len weights.new ≡ vec_len weights.old }
     ensures value { (x : ℕ → Bool) → weights_value weights.new.items x ≡ weights_value weights.old.items x
         +ℤ int_counted (x nodes.first) part.now.first
@@ -68,9 +68,9 @@ pub fn add_three_weights(weights: &mut Vec<i64>, nodes: Nodes, part: &ThreePart)
 /// Adds the arcs among three variables, each from an earlier to a later.
 pub fn add_three_arcs(arcs: &mut Vec<Arc>, nodes: Nodes, part: &ThreeArcs) -> Result<(), AllocError>
     ensures value { OnOk result ((x : ℕ → Bool) → arcs_value arcs.new.items x ≡ arcs_value arcs.old.items x
-        + counted (x nodes.second && not (x nodes.first)) part.now.first_second
-        + counted (x nodes.third && not (x nodes.first)) part.now.first_third
-        + counted (x nodes.third && not (x nodes.second)) part.now.second_third) }
+        + count_if (x nodes.second && not (x nodes.first)) part.now.first_second
+        + count_if (x nodes.third && not (x nodes.first)) part.now.first_third
+        + count_if (x nodes.third && not (x nodes.second)) part.now.second_third) }
     ensures size { OnOk result (arcs_size arcs.new.items ≡ arcs_size arcs.old.items + part.now.first_second
         + part.now.first_third + part.now.second_third) }
     ensures nodes { OnOk result ((n : ℕ) → nodes.first < n → nodes.second < n → nodes.third < n

@@ -5,7 +5,7 @@ ghost use Rattle.flow_network.specs.Cut.{nodes, capacity_of, total_capacity, IsN
 ghost use Rattle.compile_cut.specs.Limits.{form_nodes, form_size, form_constant, compiled_constant};
 ghost use Rattle.compile_cut.specs.Weights.{weights_size, arcs_size, source_part, sink_part};
 ghost use Rattle.compile_cut.specs.Weights.{IsAbove};
-ghost use Rattle.compile_cut.specs.Quadratics.{quadratic_value, IsBounded};
+ghost use Rattle.compile_cut.specs.Quadratics.{quadratic_value, IsQuadraticBounded};
 
 use crate::Compiled;
 use crate::quadratic::Quadratic;
@@ -60,7 +60,7 @@ fn less_all(constant: i64, numbers: &[u64]) -> i64
 /// The net of a sum of terms, the second half of `compile`: a weight above 0 is a capacity of the
 /// source, one below 0 a capacity of the sink and a constant. Refuses only where memory runs out.
 pub fn net_of(alloc: Global, form: Quadratic) -> Result<Compiled, AllocError>
-    requires bounded { IsBounded term_limit form }
+    requires bounded { IsQuadraticBounded term_limit form }
     requires len { vec_len form.weights ≤ form_nodes }
     ensures value { IfOk result (λ c. (x : ℕ → Bool) → pos (capacity_of c.net x) +ℤ c.constant
         ≡ quadratic_value form x) }

@@ -1,5 +1,5 @@
 ghost use Rattle.std.specs.Prelude.{◌≡◌, ℕ, ◌+◌, ◌*◌, ◌<◌, ◌≤◌, Bool, not, ◌&&◌, All, length, ◌+ℤ◌, ◌≤ℤ◌, unsigned_abs, sum_by, slice_index_or, pos, vec_len, OnOk, IfOk};
-ghost use Rattle.sums.specs.Sums.{counted};
+ghost use Rattle.sums.specs.Sums.{count_if};
 ghost use Rattle.sums.specs.IntegerSums.{int_counted};
 ghost use Rattle.pseudo_bool.specs.Limits.{term_limit};
 ghost use Rattle.pseudo_bool.specs.Energies.{entry, digit, IsValue, IsTerm, IsEnergy, value_at};
@@ -8,7 +8,7 @@ ghost use Rattle.regular.specs.declared.fixed.Fixed.{Fixed};
 ghost use Rattle.flow_network.specs.Cut.{IsArc};
 ghost use Rattle.compile_cut.specs.Limits.{form_nodes};
 ghost use Rattle.compile_cut.specs.Weights.{weights_value, weights_size, arcs_value, arcs_size, IsAbove};
-ghost use Rattle.compile_cut.specs.Quadratics.{quadratic_value, IsBounded, IsConstant, AddsTerm, SaysValues};
+ghost use Rattle.compile_cut.specs.Quadratics.{quadratic_value, IsQuadraticBounded, IsConstant, AddsTerm, SaysValues};
 ghost use Rattle.compile_cut.specs.Shown.{three_count, three_digit};
 
 use crate::adding::{
@@ -60,13 +60,14 @@ impl Quadratic {
 
     /// Adds a term of one variable, whose node is there: what it costs where the variable is 0 and where it is 1, each
     /// number from `-VALUE_LIMIT` to `VALUE_LIMIT` of `pseudo_bool`. As many terms as an energy has at most may be
-    /// added to a form; `IsBounded` counts them. It takes no memory (Kolmogorov and Zabih, PAMI 2004, section 4.1).
+    /// added to a form; `IsQuadraticBounded` counts them. It takes no memory (Kolmogorov and Zabih, PAMI 2004, section 4.1).
     pub fn add_one(&mut self, first: u32, table: &[i64; 2])
-        requires bounded { IsBounded term_limit self.old }
+        requires bounded { IsQuadraticBounded term_limit self.old }
         requires first { first < vec_len self.old.weights }
         requires values { All IsValue table.now }
         ensures len { vec_len self.new.weights ≡ vec_len self.old.weights }
-        ensures bounded { (k : ℕ) → IsBounded k self.old → IsBounded (k + 1) self.new }
+        ensures bounded { (k : ℕ) → IsQuadraticBounded k self.old
+            → IsQuadraticBounded (k + 1) self.new }
         ensures value { (x : ℕ → Bool) → quadratic_value self.new x ≡ quadratic_value self.old x
             +ℤ entry table.now (digit (x first)) }
     {
@@ -80,13 +81,13 @@ impl Quadratic {
     /// most may be added to a form. Refuses only where memory runs out, and then nothing is said of the form
     /// (Kolmogorov and Zabih, PAMI 2004, section 4.1).
     pub fn add_pair(&mut self, first: u32, second: u32, table: &[i64; 4]) -> Result<(), AllocError>
-        requires bounded { IsBounded term_limit self.old }
+        requires bounded { IsQuadraticBounded term_limit self.old }
         requires first { first < vec_len self.old.weights }
         requires second { second < vec_len self.old.weights }
         requires values { All IsValue table.now }
         requires regular { IsRegularTable table.now }
         ensures len { vec_len self.new.weights ≡ vec_len self.old.weights }
-        ensures bounded { OnOk result ((k : ℕ) → IsBounded k self.old → IsBounded (k + 1) self.new) }
+        ensures bounded { OnOk result ((k : ℕ) → IsQuadraticBounded k self.old → IsQuadraticBounded (k + 1) self.new) }
         ensures value { OnOk result ((x : ℕ → Bool) → quadratic_value self.new x
             ≡ quadratic_value self.old x +ℤ entry table.now (2 * digit (x first) + digit (x second))) }
     {
@@ -100,7 +101,7 @@ impl Quadratic {
 
     /// Adds a regular table over three variables, with a hidden node.
     fn add_three(&mut self, nodes: Nodes, table: &[i64; 8]) -> Result<(), AllocError>
-        requires bounded { IsBounded term_limit self.old }
+        requires bounded { IsQuadraticBounded term_limit self.old }
         requires room { vec_len self.old.weights < form_nodes }
         requires first { nodes.first < vec_len self.old.weights }
         requires second { nodes.second < vec_len self.old.weights }
@@ -109,7 +110,7 @@ impl Quadratic {
         requires regular { (fixed : Fixed) → fixed.position < 3
             → IsRegularTable (projection table.now fixed) }
         ensures len { OnOk result (vec_len self.new.weights ≡ vec_len self.old.weights + 1) }
-        ensures bounded { OnOk result ((k : ℕ) → IsBounded k self.old → IsBounded (k + 1) self.new) }
+        ensures bounded { OnOk result ((k : ℕ) → IsQuadraticBounded k self.old → IsQuadraticBounded (k + 1) self.new) }
         ensures value { OnOk result (AddsTerm self.old self.new
             (Term.Three nodes.first nodes.second nodes.third table.now)) }
     {
@@ -125,13 +126,13 @@ impl Quadratic {
 
     /// Adds a regular term over variables that have their nodes.
     fn add_term(&mut self, term: &Term) -> Result<(), AllocError>
-        requires bounded { IsBounded term_limit self.old }
+        requires bounded { IsQuadraticBounded term_limit self.old }
         requires term { IsTerm (vec_len self.old.weights) term.now }
         requires regular { IsRegularTerm term.now }
         requires room { vec_len self.old.weights < form_nodes }
         ensures len { OnOk result (vec_len self.new.weights ≡ vec_len self.old.weights
             + three_digit term.now) }
-        ensures bounded { OnOk result ((k : ℕ) → IsBounded k self.old → IsBounded (k + 1) self.new) }
+        ensures bounded { OnOk result ((k : ℕ) → IsQuadraticBounded k self.old → IsQuadraticBounded (k + 1) self.new) }
         ensures value { OnOk result (AddsTerm self.old self.new term.now) }
     {
         match term {
@@ -167,7 +168,7 @@ fn without_terms(alloc: Global, energy: &Energy) -> Result<Quadratic, AllocError
 pub fn quadratic_of(alloc: Global, energy: &Energy) -> Result<Quadratic, AllocError>
     requires { IsRegular energy.now }
     ensures values { IfOk result (λ form. SaysValues energy.now form) }
-    ensures bounded { IfOk result (λ form. IsBounded term_limit form) }
+    ensures bounded { IfOk result (λ form. IsQuadraticBounded term_limit form) }
     ensures variables { IfOk result (λ form. energy.now.variables ≤ vec_len form.weights) }
     ensures hidden { IfOk result (λ form. vec_len form.weights ≤ energy.now.variables
         + three_count energy.now) }

@@ -3,7 +3,7 @@ ghost use Rattle.pseudo_bool.specs.Limits.{value_limit};
 ghost use Rattle.pseudo_bool.specs.Energies.{entry, IsValue};
 ghost use Rattle.regular.specs.declared.fixed.Fixed.{Fixed};
 ghost use Rattle.regular.specs.Regularity.{IsRegularTable, projection};
-ghost use Rattle.compile_cut.specs.Three.{cubic_weight, turned_table, part_value, IsLeastOverHidden, IsSmall};
+ghost use Rattle.compile_cut.specs.Three.{cubic_weight, turned_table, part_value, IsLeastOverHidden, IsThreePartSmall};
 
 use crate::parts::{balance, difference, gain, sum};
 
@@ -35,7 +35,7 @@ pub fn split_three(table: &[i64; 8]) -> ThreePart
     requires values { All IsValue table.now }
     requires regular { (fixed : Fixed) → fixed.position < 3 → IsRegularTable (projection table.now fixed) }
     ensures value { IsLeastOverHidden table.now result }
-    ensures small { IsSmall result }
+    ensures small { IsThreePartSmall result }
 {
     let product = product_weight(table);
     if product <= 0 {
@@ -70,14 +70,14 @@ fn turned_table(table: &[i64; 8]) -> [i64; 8]
 /// The parts of a table from those of the turned one. The constant is what the turned parts have where all
 /// four are 1.
 fn turned_part(part: &ThreePart, constant: i64) -> ThreePart
-    requires small { IsSmall part.now }
+    requires small { IsThreePartSmall part.now }
     requires sign { part.now.hidden ≤ℤ pos 0 }
     requires constant { constant ≡ part.now.constant +ℤ part.now.first +ℤ part.now.second +ℤ part.now.third
         +ℤ part.now.hidden }
     requires range { IsValue constant }
     ensures value { (w x y z : Bool) → part_value result w x y z
         ≡ part_value part.now (not w) (not z) (not y) (not x) }
-    ensures small { IsSmall result }
+    ensures small { IsThreePartSmall result }
 {
     ThreePart {
         constant,
@@ -112,7 +112,7 @@ fn split_at_zeros(table: &[i64; 8], hidden: i64) -> ThreePart
     ensures second_third { pos result.arcs.second_third ≡ entry table.now 1
         +ℤ entry table.now 2 -ℤ entry table.now 0 -ℤ entry table.now 3 }
     ensures hidden { result.hidden ≡ hidden }
-    ensures small { IsSmall result }
+    ensures small { IsThreePartSmall result }
 {
     ThreePart {
         constant: table[0],

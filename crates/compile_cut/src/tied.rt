@@ -1,11 +1,11 @@
 ghost use Rattle.std.specs.Prelude.{◌≡◌, ℕ, ◌+◌, ◌*◌, ◌<◌, ◌≤◌, Bool, not, ◌&&◌, All, length, sum_by, vec_len, OnOk};
 ghost use Rattle.std.specs.List.{list_all, list_any};
-ghost use Rattle.sums.specs.Sums.{counted};
+ghost use Rattle.sums.specs.Sums.{count_if};
 ghost use Rattle.pseudo_bool.specs.Limits.{value_limit, term_limit};
 ghost use Rattle.flow_network.specs.Cut.{IsArc};
 ghost use Rattle.compile_cut.specs.Limits.{form_nodes};
 ghost use Rattle.compile_cut.specs.Weights.{arcs_value, arcs_size, IsAbove};
-ghost use Rattle.compile_cut.specs.Quadratics.{IsBounded, AddsLeast, IsTied};
+ghost use Rattle.compile_cut.specs.Quadratics.{IsQuadraticBounded, AddsLeast, IsTied};
 
 use crate::adding::add_arc;
 use crate::quadratic::Quadratic;
@@ -15,7 +15,7 @@ use std::alloc::AllocError;
 /// Adds an arc from each node to one node.
 fn add_arcs_to(arcs: &mut Vec<Arc>, nodes: &[u32], to: u32, capacity: u64) -> Result<(), AllocError>
     ensures value { OnOk result ((x : ℕ → Bool) → arcs_value arcs.new.items x ≡ arcs_value arcs.old.items x
-        + sum_by (λ node. counted (x to && not (x node)) capacity) nodes.now) }
+        + sum_by (λ node. count_if (x to && not (x node)) capacity) nodes.now) }
     ensures size { OnOk result (arcs_size arcs.new.items ≡ arcs_size arcs.old.items
         + capacity * length nodes.now) }
     ensures nodes { OnOk result ((n : ℕ) → to < n → All (λ node. node < n) nodes.now
@@ -36,7 +36,7 @@ fn add_arcs_from(
     capacity: u64,
 ) -> Result<(), AllocError>
     ensures value { OnOk result ((x : ℕ → Bool) → arcs_value arcs.new.items x ≡ arcs_value arcs.old.items x
-        + sum_by (λ node. counted (x node && not (x from)) capacity) nodes.now) }
+        + sum_by (λ node. count_if (x node && not (x from)) capacity) nodes.now) }
     ensures size { OnOk result (arcs_size arcs.new.items ≡ arcs_size arcs.old.items
         + capacity * length nodes.now) }
     ensures nodes { OnOk result ((n : ℕ) → from < n → All (λ node. node < n) nodes.now
@@ -54,13 +54,13 @@ impl Quadratic {
     /// the same on the other nodes, the least value is the old one and the cost, or the old one where each is 1. Refuses
     /// only where memory runs out, and then nothing is said of the form.
     pub fn add_unless_all(&mut self, nodes: &[u32], cost: u64) -> Result<(), AllocError>
-        requires bounded { IsBounded term_limit self.old }
+        requires bounded { IsQuadraticBounded term_limit self.old }
         requires room { vec_len self.old.weights < form_nodes }
         requires nodes { All (λ node. node < vec_len self.old.weights) nodes.now }
         requires cost { cost ≤ value_limit }
         ensures tied { OnOk result (IsTied (length nodes.now + 1) cost self.old self.new) }
         ensures value { OnOk result (AddsLeast self.old self.new
-            (λ x. counted (not (list_all x nodes.now)) cost)) }
+            (λ x. count_if (not (list_all x nodes.now)) cost)) }
     {
         let hidden = self.weights.len() as u32;
         self.weights.push(-(cost as i64))?;
@@ -71,12 +71,12 @@ impl Quadratic {
 
     /// Adds a cost that is paid if any of these nodes is 1, by a hidden node, as `add_unless_all` does.
     pub fn add_if_any(&mut self, nodes: &[u32], cost: u64) -> Result<(), AllocError>
-        requires bounded { IsBounded term_limit self.old }
+        requires bounded { IsQuadraticBounded term_limit self.old }
         requires room { vec_len self.old.weights < form_nodes }
         requires nodes { All (λ node. node < vec_len self.old.weights) nodes.now }
         requires cost { cost ≤ value_limit }
         ensures tied { OnOk result (IsTied (length nodes.now + 1) cost self.old self.new) }
-        ensures value { OnOk result (AddsLeast self.old self.new (λ x. counted (list_any x nodes.now) cost)) }
+        ensures value { OnOk result (AddsLeast self.old self.new (λ x. count_if (list_any x nodes.now) cost)) }
     {
         let hidden = self.weights.len() as u32;
         self.weights.push(cost as i64)?;

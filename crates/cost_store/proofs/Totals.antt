@@ -6,7 +6,7 @@ use Rattle.std.proofs.lemmas.List.Sums.{sum_by_more}
 use Rattle.std.proofs.lemmas.List.{take_all}
 use Rattle.std.proofs.lemmas.Option.{get_or_from_slice_get}
 use Rattle.std.proofs.lemmas.Int.{ints, to_z_pos, to_z-of_z}
-use Rattle.sums.specs.Sums.{sum_below, counted}
+use Rattle.sums.specs.Sums.{sum_below, count_if}
 use Rattle.sums.proofs.SumLemmas.{sum_below-same, sum_below-none}
 use Rattle.std.specs.Global.{Vec}
 use Rattle.std.proofs.lemmas.List.Elements.{All-nil}
@@ -64,19 +64,19 @@ sum_of_three x y z a b c lx hx ly hy lz hz xa yb zc =
     let most : a + b + c ≤ 52431360000000 = omega (arith, ints, hx, hy, hz, xa, yb, zc) in
     rw (two, three) (to_z-of_z w64 (pos (a + b + c)) (within_fits 52431360000000 (pos (a + b + c)) most (omega arith)))
 
-none_paid : (b : Bool) (cost : ℕ) → cost ≡ 0 → counted b cost ≡ 0
+none_paid : (b : Bool) (cost : ℕ) → cost ≡ 0 → count_if b cost ≡ 0
 none_paid true cost h = h
 none_paid false cost h = refl
 
 -- what the labels cost by themselves, summed over the costs that were set
 pub label_total : (m : Instance) (costs : Option (Vec ℤ)) (g : ℕ → ℕ) → AreLabelCosts m.labels costs → HasCosts m costs
-    → sum_below (length (costs_of costs)) (λ label. counted (is_used m.sites g label) (cost_at (costs_of costs) label)) ≡ label_energy m g
+    → sum_below (length (costs_of costs)) (λ label. count_if (is_used m.sites g label) (cost_at (costs_of costs) label)) ≡ label_energy m g
 label_total m None g are has =
-    sym (sum_below-none m.labels (λ label. counted (is_used m.sites g label) (m.label_cost label)) (λ label l. none_paid (is_used m.sites g label) (m.label_cost label) (has.each label l)))
+    sym (sum_below-none m.labels (λ label. count_if (is_used m.sites g label) (m.label_cost label)) (λ label l. none_paid (is_used m.sites g label) (m.label_cost label) (has.each label l)))
 label_total m (Some costs) g are has =
-    ap (λ (n : ℕ). sum_below n (λ label. counted (is_used m.sites g label) (cost_at costs.items label))) are.0
-    ∙ sum_below-same m.labels (λ label. counted (is_used m.sites g label) (cost_at costs.items label)) (λ label. counted (is_used m.sites g label) (m.label_cost label))
-    (λ label l. ap (counted (is_used m.sites g label)) (sym (has.each label l)))
+    ap (λ (n : ℕ). sum_below n (λ label. count_if (is_used m.sites g label) (cost_at costs.items label))) are.0
+    ∙ sum_below-same m.labels (λ label. count_if (is_used m.sites g label) (cost_at costs.items label)) (λ label. count_if (is_used m.sites g label) (m.label_cost label))
+    (λ label l. ap (count_if (is_used m.sites g label)) (sym (has.each label l)))
 
 pub few_set : (labels : ℕ) (costs : Option (Vec ℤ)) → AreLabelCosts labels costs → length (costs_of costs) ≤ labels
 few_set labels None are = omega arith

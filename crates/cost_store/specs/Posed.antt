@@ -55,8 +55,8 @@ instance_of_costs pairs labels at_sites between = record {
 }
 
 -- this holds of each instance that the problem means
-abbrev pub Meant : {F V : Type 0} → Closure F → Closure V → Problem F V → (Instance → Type 0) → Type 0
-Meant {F} {V} f v p P = (m : Instance) → IsMeant f v p m → P m
+abbrev pub WhereMeant : {F V : Type 0} → Closure F → Closure V → Problem F V → (Instance → Type 0) → Type 0
+WhereMeant {F} {V} f v p P = (m : Instance) → IsMeant f v p m → P m
 
 -- a labelling of the problem's sites by its labels
 pub record FitsProblem {F V : Type 0} (p : Problem F V) (field : LabelField) : Type 0 where

@@ -1,6 +1,6 @@
 //! What labels cost by themselves.
 ghost use Rattle.std.specs.Prelude.{◌≡◌, ◌≤◌, pos, unsigned_abs, All, length, IsTrue, IsFalse};
-ghost use Rattle.sums.specs.Sums.{sum_below, counted};
+ghost use Rattle.sums.specs.Sums.{sum_below, count_if};
 ghost use Rattle.labellings.specs.Energies.{labelling as labels_of, is_used as is_used_in};
 ghost use Rattle.label_field.specs.Limits.{label_limit};
 ghost use Rattle.cost_store.specs.Limits.{label_cost_limit, label_energy_limit};
@@ -33,9 +33,9 @@ pub fn has_cost(costs: &[i64]) -> bool
 }
 
 /// What a label costs by itself, where some site has it.
-fn paid(used: bool, cost: i64) -> u64
+fn cost_if_used(used: bool, cost: i64) -> u64
     requires { IsCost (pos label_cost_limit) cost }
-    ensures value { result ≡ counted used (unsigned_abs cost) }
+    ensures value { result ≡ count_if used (unsigned_abs cost) }
     ensures range { result ≤ label_cost_limit }
 {
     if used { cost.unsigned_abs() } else { 0 }
@@ -46,13 +46,13 @@ pub(crate) fn total_paid(at: &[u8], costs: &[i64]) -> u64
     requires few { length costs.now ≤ label_limit }
     requires costs { All (IsCost (pos label_cost_limit)) costs.now }
     ensures value { result ≡ sum_below (length costs.now) (λ label.
-        counted (is_used_in (length at.now) (labels_of at.now) label) (cost_at costs.now label)) }
+        count_if (is_used_in (length at.now) (labels_of at.now) label) (cost_at costs.now label)) }
     ensures range { result ≤ label_energy_limit }
 {
     let marks = mark_used(at);
     let mut total = 0u64;
     for label in 0..costs.len() {
-        total += paid(marks[label], costs[label]);
+        total += cost_if_used(marks[label], costs[label]);
     }
     total
 }

@@ -1,11 +1,11 @@
 //! Which labels some site has.
 ghost use Rattle.std.specs.Prelude.{length};
 ghost use Rattle.labellings.specs.Energies.{labelling};
-ghost use Rattle.cost_store.specs.LabelCosts.{AreMarks};
+ghost use Rattle.cost_store.specs.LabelCosts.{AreLabelMarks};
 
 /// Of each label that there can be whether some site has it, in one pass over the sites.
 pub fn mark_used(at: &[u8]) -> [bool; 256]
-    ensures { AreMarks (length at.now) (labelling at.now) result }
+    ensures { AreLabelMarks (length at.now) (labelling at.now) result }
 {
     let mut marks = [false; 256];
     for site in 0..at.len() {

@@ -10,7 +10,7 @@ ghost use Rattle.labellings.specs.Energies.{pair_cost as cost_of_pair};
 ghost use Rattle.cost_store.specs.Limits.{data_limit, data_energy_limit, smooth_energy_limit};
 ghost use Rattle.cost_store.specs.Limits.{label_energy_limit, site_cost_limit, pair_cost_limit};
 ghost use Rattle.cost_store.specs.LabelCosts.{costs_of as costs_in, AreLabelCosts, IsSetRefusal};
-ghost use Rattle.cost_store.specs.Posed.{IsPosed, IsMeant, Meant, FitsProblem, instance_of_costs};
+ghost use Rattle.cost_store.specs.Posed.{IsPosed, IsMeant, WhereMeant, FitsProblem, instance_of_costs};
 ghost use Rattle.cost_store.specs.Promises.{AnswersTable, Keeps, KeepsSmooth};
 
 use crate::by_label::total_paid;
@@ -63,16 +63,16 @@ impl<F: Fn(u32, u32) -> i64 + Sync, V: Fn(u32, u32) -> i64 + Sync> Problem<F, V>
     /// stored as one. It does nothing.
     pub fn means(&self)
         requires posed { IsPosed F.Fn V.Fn self.now }
-        ensures instance { Meant F.Fn V.Fn self.now IsInstance }
+        ensures instance { WhereMeant F.Fn V.Fn self.now IsInstance }
         ensures metric { IsTrue self.now.smooth_cost.by_metric →
-            Meant F.Fn V.Fn self.now (λ m. IsMetric m.labels m.smooth_cost) }
+            WhereMeant F.Fn V.Fn self.now (λ m. IsMetric m.labels m.smooth_cost) }
     {}
 
     /// What a label costs a site. It takes no memory.
     pub fn site_cost(&self, site: u32, label: u32) -> i64
         requires posed { IsPosed F.Fn V.Fn self.now }
         requires inside { (site < self.now.pairs.sites) × (label < self.now.data_cost.labels) }
-        ensures cost { Meant F.Fn V.Fn self.now (λ m. result ≡ pos (m.data_cost site label)) }
+        ensures cost { WhereMeant F.Fn V.Fn self.now (λ m. result ≡ pos (m.data_cost site label)) }
         ensures range { (pos 0 ≤ℤ result) × (result ≤ℤ pos site_cost_limit) }
     {
         self.data_cost.cost(site, label)
@@ -84,7 +84,7 @@ impl<F: Fn(u32, u32) -> i64 + Sync, V: Fn(u32, u32) -> i64 + Sync> Problem<F, V>
         requires posed { IsPosed F.Fn V.Fn self.now }
         requires weight { weight ≤ weight_limit }
         requires inside { (first < self.now.data_cost.labels) × (second < self.now.data_cost.labels) }
-        ensures cost { Meant F.Fn V.Fn self.now
+        ensures cost { WhereMeant F.Fn V.Fn self.now
             (λ m. result ≡ pos (weight * m.smooth_cost first second)) }
         ensures range { (pos 0 ≤ℤ result) × (result ≤ℤ pos pair_cost_limit) }
     {
@@ -95,7 +95,7 @@ impl<F: Fn(u32, u32) -> i64 + Sync, V: Fn(u32, u32) -> i64 + Sync> Problem<F, V>
     pub fn data_energy(&self, labelling: &Labelling) -> i64
         requires posed { IsPosed F.Fn V.Fn self.now }
         requires fits { FitsProblem self.now labelling.now }
-        ensures energy { Meant F.Fn V.Fn self.now
+        ensures energy { WhereMeant F.Fn V.Fn self.now
             (λ m. result ≡ pos (data_of m (labels_of labelling.now.at))) }
         ensures range { (pos 0 ≤ℤ result) × (result ≤ℤ pos data_energy_limit) }
     {
@@ -112,7 +112,7 @@ impl<F: Fn(u32, u32) -> i64 + Sync, V: Fn(u32, u32) -> i64 + Sync> Problem<F, V>
         requires posed { IsPosed F.Fn V.Fn self.now }
         requires site { (site < length at.now) × (length at.now ≡ self.now.pairs.sites) }
         requires labels { All (λ label. label < self.now.data_cost.labels) at.now }
-        ensures cost { Meant F.Fn V.Fn self.now
+        ensures cost { WhereMeant F.Fn V.Fn self.now
             (λ m. result ≡ m.data_cost site (labels_of at.now site)) }
         ensures range { result ≤ site_cost_limit }
     {
@@ -124,7 +124,7 @@ impl<F: Fn(u32, u32) -> i64 + Sync, V: Fn(u32, u32) -> i64 + Sync> Problem<F, V>
     pub fn smooth_energy(&self, labelling: &Labelling) -> i64
         requires posed { IsPosed F.Fn V.Fn self.now }
         requires fits { FitsProblem self.now labelling.now }
-        ensures energy { Meant F.Fn V.Fn self.now
+        ensures energy { WhereMeant F.Fn V.Fn self.now
             (λ m. result ≡ pos (smooth_of m (labels_of labelling.now.at))) }
         ensures range { (pos 0 ≤ℤ result) × (result ≤ℤ pos smooth_energy_limit) }
     {
@@ -141,7 +141,7 @@ impl<F: Fn(u32, u32) -> i64 + Sync, V: Fn(u32, u32) -> i64 + Sync> Problem<F, V>
         requires posed { IsPosed F.Fn V.Fn self.now }
         requires pair { IsPair (length at.now) pair }
         requires labels { All (λ label. label < self.now.data_cost.labels) at.now }
-        ensures cost { Meant F.Fn V.Fn self.now
+        ensures cost { WhereMeant F.Fn V.Fn self.now
             (λ m. result ≡ cost_of_pair m (labels_of at.now) pair) }
         ensures range { result ≤ pair_cost_limit }
     {
@@ -154,7 +154,7 @@ impl<F: Fn(u32, u32) -> i64 + Sync, V: Fn(u32, u32) -> i64 + Sync> Problem<F, V>
     pub fn label_energy(&self, labelling: &Labelling) -> i64
         requires posed { IsPosed F.Fn V.Fn self.now }
         requires fits { FitsProblem self.now labelling.now }
-        ensures energy { Meant F.Fn V.Fn self.now
+        ensures energy { WhereMeant F.Fn V.Fn self.now
             (λ m. result ≡ pos (label_of m (labels_of labelling.now.at))) }
         ensures range { (pos 0 ≤ℤ result) × (result ≤ℤ pos label_energy_limit) }
     {
@@ -166,7 +166,7 @@ impl<F: Fn(u32, u32) -> i64 + Sync, V: Fn(u32, u32) -> i64 + Sync> Problem<F, V>
     pub fn energy(&self, labelling: &Labelling) -> i64
         requires posed { IsPosed F.Fn V.Fn self.now }
         requires fits { FitsProblem self.now labelling.now }
-        ensures { Meant F.Fn V.Fn self.now
+        ensures { WhereMeant F.Fn V.Fn self.now
             (λ m. result ≡ pos (energy_of m (labels_of labelling.now.at))) }
     {
         let plain = self.data_energy(labelling) + self.smooth_energy(labelling);

@@ -14,9 +14,9 @@ use Rattle.move_energy.specs.declared.choice.Choice.TheVariants.{Open}
 use Rattle.move_energy.specs.Choices.{bit_of, choice_at}
 use Rattle.move_energy.proofs.PairEnds.{Touches, touching_found}
 use Rattle.deciding.specs.declared.bounds.Bounds.{Bounds}
-use Rattle.deciding.specs.Decisions.{set_bit, put, rise}
+use Rattle.deciding.specs.Decisions.{set_bit, with_decisions, rise}
 use Rattle.deciding.specs.MoveValues.{move_value, data_rise, pair_rise}
-use Rattle.deciding.specs.Working.{AvoidsSite, HasNoneBefore, bound_at, left, IsSummed, IsMarked, IsAnswered, TellsValue, AreWaiting, AreWaitingBut, ArePartlyDecided}
+use Rattle.deciding.specs.Working.{AvoidsSite, HasNoneBefore, bound_at, open_ends, IsSummed, IsMarked, IsAnswered, TellsValue, AreWaiting, AreWaitingBut, ArePartlyDecided}
 use Rattle.deciding.proofs.Putting.{set_at, set_other}
 use Rattle.deciding.proofs.Rises.{pair_rise-none}
 use Rattle.deciding.proofs.Seeing.{pair_rise-same}
@@ -73,11 +73,11 @@ marked_decides m move f ends site value old new are b inside none opened tells m
       decisions = record { variable = site; value = value } ∷ ds;
       passed = (decided.passed, passes_of m move f (site + 1) site value old decided (omega arith) opened tells);
       shown = λ x p l. elim (cases_eq p site) [
-        | inl same ↦ set_at (put ds x) site p value same ∙ sym (marked.own (x p)) ∙ ap (λ q. bit_of (choice_at new.choices.items q) (x p)) (sym same)
-        | inr other ↦ set_other (put ds x) site p value other ∙ decided.shown x p l ∙ ap (λ (c : Choice). bit_of c (x p)) (sym (marked.others p other))
+        | inl same ↦ set_at (with_decisions ds x) site p value same ∙ sym (marked.own (x p)) ∙ ap (λ q. bit_of (choice_at new.choices.items q) (x p)) (sym same)
+        | inr other ↦ set_other (with_decisions ds x) site p value other ∙ decided.shown x p l ∙ ap (λ (c : Choice). bit_of c (x p)) (sym (marked.others p other))
       ];
-      least = λ u l now. ap (λ (v : _). bound_at v.items u) marked.least ∙ decided.least u l (was u now) ∙ stays u l now (put ds (λ v. true));
-      greatest = λ u l now. ap (λ (v : _). bound_at v.items u) marked.greatest ∙ decided.greatest u l (was u now) ∙ stays u l now (put ds (λ v. false));
+      least = λ u l now. ap (λ (v : _). bound_at v.items u) marked.least ∙ decided.least u l (was u now) ∙ stays u l now (with_decisions ds (λ v. true));
+      greatest = λ u l now. ap (λ (v : _). bound_at v.items u) marked.greatest ∙ decided.greatest u l (was u now) ∙ stays u l now (with_decisions ds (λ v. false));
     }
 
 -- ---- the two ways
@@ -102,8 +102,8 @@ answered_waits n site beside old new l (inl calls) but = called_waits n site old
 answered_waits n site beside old new l (inr marks) but = decided_waits n site marks.0 old new marks.1 but
 
 pub answered_left : (ends : Neighbours) (n site : ℕ) (beside : Bool) (old new : Bounds) → site < n → choice_at old.choices.items site ≡ Open → IsAnswered site beside old new
-    → left ends n new.choices.items ≤ left ends n old.choices.items
-answered_left ends n site beside old new l opened (inl calls) = (let same = ap (λ (v : _). left ends n v.items) calls.1 in omega (arith, same))
+    → open_ends ends n new.choices.items ≤ open_ends ends n old.choices.items
+answered_left ends n site beside old new l opened (inl calls) = (let same = ap (λ (v : _). open_ends ends n v.items) calls.1 in omega (arith, same))
 answered_left ends n site beside old new l opened (inr marks) =
     let less = left_less ends n site old.choices.items new.choices.items l opened marks.1.closed marks.1.others in
     omega (arith, less)

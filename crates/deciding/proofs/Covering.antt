@@ -7,7 +7,7 @@ use Rattle.std.proofs.lemmas.List.Elements.{All-get_or, All-push}
 use Rattle.label_field.specs.declared.pair.Pair.{Pair}
 use Rattle.label_field.specs.PairLists.{IsPair}
 use Rattle.move_energy.specs.declared.by_site.Neighbours.{Neighbours}
-use Rattle.move_energy.specs.BySite.{pair_from, pair_beside, is_first, head_at, weight_at}
+use Rattle.move_energy.specs.BySite.{pair_from, pair_beside, is_first, neighbour_at, weight_at}
 use Rattle.deciding.specs.declared.table.RiseTable.{RiseTable}
 use Rattle.deciding.specs.Parts.{own_at}
 
@@ -26,7 +26,7 @@ pub covered_weight : (ends : Neighbours) (table : RiseTable) (site place : ℕ) 
     → table.weight ≡ pair.weight
 covered_weight ends table site place pair even weight is =
     let here : weight_at ends place ≡ ends.weight = ap (λ b. cond b ends.weight (slice_index ends.weights.items place)) even in
-    weight ∙ sym here ∙ sym (from_weight (is_first ends site place) site (head_at ends place) (weight_at ends place)) ∙ sym (ap (λ (p : Pair). p.weight) is)
+    weight ∙ sym here ∙ sym (from_weight (is_first ends site place) site (neighbour_at ends place) (weight_at ends place)) ∙ sym (ap (λ (p : Pair). p.weight) is)
 
 pub inside_pair : (n : ℕ) (at : List ℕ) (pair : Pair) → length at ≡ n → IsPair n pair → IsPair (length at) pair
 inside_pair n at pair same is = (let P : ℕ → Type 0 = λ k. IsPair k pair in subst P (sym same) is)

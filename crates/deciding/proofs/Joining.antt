@@ -8,40 +8,40 @@ use Rattle.labellings.specs.Moves.{IsAllowed}
 use Rattle.move_energy.specs.declared.choice.Choice.{Choice}
 use Rattle.move_energy.specs.declared.choice.Choice.TheVariants.{Open, Zero, One}
 use Rattle.move_energy.specs.Choices.{bit_of, choice_at}
-use Rattle.deciding.specs.Decisions.{Decision, set_bit, put, rise, OnesWithin, IsSubmodular, Passes, HavePassed}
+use Rattle.deciding.specs.Decisions.{Decision, set_bit, with_decisions, rise, OnesWithin, IsSubmodular, Passes, HavePassed}
 use Rattle.deciding.specs.MoveValues.{move_value}
-use Rattle.deciding.specs.Working.{valued}
+use Rattle.deciding.specs.Working.{decided_or}
 use Rattle.deciding.specs.Parts.{ArePassedChoices}
 use Rattle.deciding.proofs.Putting.{set_at, set_other, cases_put, le_le}
 use Rattle.deciding.proofs.Rises.{rise_over, move_falls}
 
 -- ---- one list of decisions before another
 
-put_joined : (ds ks : List Decision) (x : ℕ → Bool) → put (ds ++ ks) x ≡ put ds (put ks x)
+put_joined : (ds ks : List Decision) (x : ℕ → Bool) → with_decisions (ds ++ ks) x ≡ with_decisions ds (with_decisions ks x)
 put_joined [] ks x = refl
 put_joined (d ∷ ds) ks x = ap (λ (y : ℕ → Bool). set_bit y d.variable d.value) (put_joined ds ks x)
 
-put_within : (ds : List Decision) (x y : ℕ → Bool) → OnesWithin x y → OnesWithin (put ds x) (put ds y)
+put_within : (ds : List Decision) (x y : ℕ → Bool) → OnesWithin x y → OnesWithin (with_decisions ds x) (with_decisions ds y)
 put_within ds x y within k one = elim (cases_put ds k) [
   | inl free ↦ free y ∙ within k (sym (free x) ∙ one)
   | inr decided ↦ decided.1 y ∙ sym (decided.1 x) ∙ one
 ]
 
 -- more is 0, and more is 1, once more is decided
-fewer_ones : (ds ks : List Decision) → OnesWithin (put (ds ++ ks) (λ k. true)) (put ds (λ k. true))
+fewer_ones : (ds ks : List Decision) → OnesWithin (with_decisions (ds ++ ks) (λ k. true)) (with_decisions ds (λ k. true))
 fewer_ones ds ks k one =
-    put_within ds (put ks (λ j. true)) (λ j. true) (λ j h. refl) k (sym (ap (λ (y : ℕ → Bool). y k) (put_joined ds ks (λ j. true))) ∙ one)
+    put_within ds (with_decisions ks (λ j. true)) (λ j. true) (λ j h. refl) k (sym (ap (λ (y : ℕ → Bool). y k) (put_joined ds ks (λ j. true))) ∙ one)
 
-more_ones : (ds ks : List Decision) → OnesWithin (put ds (λ k. false)) (put (ds ++ ks) (λ k. false))
+more_ones : (ds ks : List Decision) → OnesWithin (with_decisions ds (λ k. false)) (with_decisions (ds ++ ks) (λ k. false))
 more_ones ds ks k one =
-    ap (λ (y : ℕ → Bool). y k) (put_joined ds ks (λ j. false)) ∙ put_within ds (λ j. false) (put ks (λ j. false)) (λ j h. absurd (cc (h))) k one
+    ap (λ (y : ℕ → Bool). y k) (put_joined ds ks (λ j. false)) ∙ put_within ds (λ j. false) (with_decisions ks (λ j. false)) (λ j h. absurd (cc (h))) k one
 
 lt_along : (a b c : ℤ) → a ≤ℤ b → b <ℤ c → a <ℤ c
 lt_along a b c h k = omega (arith, ints, h, k)
 
 still_passes : (E : (ℕ → Bool) → ℤ) (ds ks : List Decision) (i : ℕ) (b : Bool) → IsSubmodular E → Passes E ds i b → Passes E (ds ++ ks) i b
-still_passes E ds ks i false falls test = le_le _ _ _ test (falls (put (ds ++ ks) (λ k. true)) (put ds (λ k. true)) i (fewer_ones ds ks))
-still_passes E ds ks i true falls test = lt_along _ _ _ (falls (put ds (λ k. false)) (put (ds ++ ks) (λ k. false)) i (more_ones ds ks)) test
+still_passes E ds ks i false falls test = le_le _ _ _ test (falls (with_decisions (ds ++ ks) (λ k. true)) (with_decisions ds (λ k. true)) i (fewer_ones ds ks))
+still_passes E ds ks i true falls test = lt_along _ _ _ (falls (with_decisions ds (λ k. false)) (with_decisions (ds ++ ks) (λ k. false)) i (more_ones ds ks)) test
 
 pub joined_passed : (E : (ℕ → Bool) → ℤ) (ds ks : List Decision) → IsSubmodular E → HavePassed E ds → HavePassed E ks → HavePassed E (ds ++ ks)
 joined_passed E [] ks falls first second = second
@@ -63,7 +63,7 @@ choices_joined m move f one other both are allowed joins first second = record {
   decisions = first.decisions ++ second.decisions;
   passed = joined_passed (move_value m move f) first.decisions second.decisions (move_falls m move f are allowed) first.passed second.passed;
   shown = λ x p l.
-      ap (λ (y : ℕ → Bool). y p) (put_joined first.decisions second.decisions x) ∙ first.shown (put second.decisions x) p l
+      ap (λ (y : ℕ → Bool). y p) (put_joined first.decisions second.decisions x) ∙ first.shown (with_decisions second.decisions x) p l
       ∙ ap (bit_of (one p)) (second.shown x p l) ∙ joins p (x p);
 }
 
@@ -77,25 +77,25 @@ choices_more m move f u value old new passed test own others =
       decisions = record { variable = u; value = value } ∷ ds;
       passed = (passed.passed, test);
       shown = λ x p l. elim (cases_eq p u) [
-        | inl same ↦ set_at (put ds x) u p value same ∙ sym (own (x p)) ∙ ap (λ q. bit_of (new q) (x p)) (sym same)
-        | inr other ↦ set_other (put ds x) u p value other ∙ passed.shown x p l ∙ ap (λ (c : Choice). bit_of c (x p)) (sym (others p other))
+        | inl same ↦ set_at (with_decisions ds x) u p value same ∙ sym (own (x p)) ∙ ap (λ q. bit_of (new q) (x p)) (sym same)
+        | inr other ↦ set_other (with_decisions ds x) u p value other ∙ passed.shown x p l ∙ ap (λ (c : Choice). bit_of c (x p)) (sym (others p other))
       ];
     }
 
 -- ---- the rises of a site by what is known
 
 rise_known : (m : Instance) (move : Move) (f : ℕ → ℕ) (u : ℕ) (b : Bool) (known : List Choice) → IsInstance m → (passed : ArePassedChoices m move f (choice_at known))
-    → rise (move_value m move f) u (valued known b) ≡ rise (move_value m move f) u (put passed.decisions (λ v. b))
-rise_known m move f u b known are passed = rise_over m move f u (valued known b) (put passed.decisions (λ v. b)) are (λ p l. sym (passed.shown (λ v. b) p l))
+    → rise (move_value m move f) u (decided_or known b) ≡ rise (move_value m move f) u (with_decisions passed.decisions (λ v. b))
+rise_known m move f u b known are passed = rise_over m move f u (decided_or known b) (with_decisions passed.decisions (λ v. b)) are (λ p l. sym (passed.shown (λ v. b) p l))
 
 pub passes_low : (m : Instance) (move : Move) (f : ℕ → ℕ) (u : ℕ) (known : List Choice) (least : ℤ) → IsInstance m → (passed : ArePassedChoices m move f (choice_at known))
-    → least ≡ rise (move_value m move f) u (valued known true) → pos 0 ≤ℤ least → Passes (move_value m move f) passed.decisions u false
+    → least ≡ rise (move_value m move f) u (decided_or known true) → pos 0 ≤ℤ least → Passes (move_value m move f) passed.decisions u false
 passes_low m move f u known least are passed is test =
     let same = is ∙ rise_known m move f u true known are passed in
     omega (arith, ints, same, test)
 
 pub passes_high : (m : Instance) (move : Move) (f : ℕ → ℕ) (u : ℕ) (known : List Choice) (greatest : ℤ) → IsInstance m → (passed : ArePassedChoices m move f (choice_at known))
-    → greatest ≡ rise (move_value m move f) u (valued known false) → greatest <ℤ pos 0 → Passes (move_value m move f) passed.decisions u true
+    → greatest ≡ rise (move_value m move f) u (decided_or known false) → greatest <ℤ pos 0 → Passes (move_value m move f) passed.decisions u true
 passes_high m move f u known greatest are passed is test =
     let same = is ∙ rise_known m move f u false known are passed in
     omega (arith, ints, same, test)
@@ -105,7 +105,7 @@ not_both : (a b : ℤ) → a <ℤ pos 0 → a ≡ b → pos 0 ≤ℤ b → ⊥
 not_both a b h k l = omega (arith, ints, h, k, l)
 
 pub not_untold : (m : Instance) (move : Move) (f : ℕ → ℕ) (u : ℕ) (b : Bool) (known : List Choice) (least greatest : ℤ) → IsInstance m → (passed : ArePassedChoices m move f (choice_at known))
-    → least ≡ rise (move_value m move f) u (valued known true) → greatest ≡ rise (move_value m move f) u (valued known false)
+    → least ≡ rise (move_value m move f) u (decided_or known true) → greatest ≡ rise (move_value m move f) u (decided_or known false)
     → Passes (move_value m move f) passed.decisions u b → (least <ℤ pos 0) × (pos 0 ≤ℤ greatest) → ⊥
 not_untold m move f u false known least greatest are passed low high test neither =
     not_both least _ neither.0 (low ∙ rise_known m move f u true known are passed) test
@@ -129,12 +129,12 @@ pub passes_still : (m : Instance) (move : Move) (f : ℕ → ℕ) (u : ℕ) (b :
     → (was : ArePassedChoices m move f (choice_at old)) → (is : ArePassedChoices m move f (choice_at new))
     → Passes (move_value m move f) was.decisions u b → Passes (move_value m move f) is.decisions u b
 passes_still m move f u false old new are allowed kept was is test =
-    let falls = move_falls m move f are allowed (valued new true) (valued old true) u (λ p one. kept_ones (choice_at old p) (choice_at new p) (kept p) one) in
+    let falls = move_falls m move f are allowed (decided_or new true) (decided_or old true) u (λ p one. kept_ones (choice_at old p) (choice_at new p) (kept p) one) in
     let before = rise_known m move f u true old are was in
     let after = rise_known m move f u true new are is in
     omega (arith, ints, falls, before, after, test)
 passes_still m move f u true old new are allowed kept was is test =
-    let falls = move_falls m move f are allowed (valued old false) (valued new false) u (λ p one. kept_zeros (choice_at old p) (choice_at new p) (kept p) one) in
+    let falls = move_falls m move f are allowed (decided_or old false) (decided_or new false) u (λ p one. kept_zeros (choice_at old p) (choice_at new p) (kept p) one) in
     let before = rise_known m move f u false old are was in
     let after = rise_known m move f u false new are is in
     omega (arith, ints, falls, before, after, test)

@@ -5,14 +5,14 @@ use Rattle.move_energy.specs.declared.by_site.Neighbours.{Neighbours}
 use Rattle.grouping.specs.Grouping.{IsGrouped}
 use Rattle.label_field.specs.declared.pair.Pair.{Pair}
 use Rattle.label_field.specs.PairLists.{IsPair, PairList, IsPairList}
-use Rattle.move_energy.specs.BySite.{ends_of, start_at, grouped_at, AreBySite, AreNeighboursOf}
+use Rattle.move_energy.specs.BySite.{pair_ends, neighbours_start, grouped_at, AreBySite, AreNeighboursOf}
 use Rattle.labellings.specs.declared.change.Move.{Move}
 use Rattle.labellings.specs.Energies.{Instance, IsInstance}
 use Rattle.move_energy.specs.declared.choice.Choice.{Choice}
 use Rattle.move_energy.specs.declared.choice.Choice.TheVariants.{Open}
 use Rattle.move_energy.specs.Choices.{bit_of, choice_at}
 use Rattle.deciding.specs.declared.bounds.Bounds.{Bounds}
-use Rattle.deciding.specs.Decisions.{put}
+use Rattle.deciding.specs.Decisions.{with_decisions}
 use Rattle.deciding.specs.Working.{bound_at, budget_of, IsWithinRange, IsLooking, IsMarked, AreWaiting, AreWaitingBut, ArePartlyDecided, CanDecide}
 use Rattle.deciding.proofs.Ranges.{range_wider, below_not, tells_same}
 use Rattle.deciding.proofs.Left.{degree_most}
@@ -23,10 +23,10 @@ meant_pairs m pairs same sites list =
     let Q : List Pair → Type 0 = λ ps. All (IsPair m.sites) ps in
     subst Q (sym same) (subst P (sym sites) list.each)
 
-pub meant_grouped : (m : Instance) (pairs : PairList) (ends : Neighbours) → m.pairs ≡ pairs.list → m.sites ≡ pairs.sites → (b : AreBySite pairs ends) → IsGrouped m.sites (ends_of m.pairs) (grouped_at ends b.places)
+pub meant_grouped : (m : Instance) (pairs : PairList) (ends : Neighbours) → m.pairs ≡ pairs.list → m.sites ≡ pairs.sites → (b : AreBySite pairs ends) → IsGrouped m.sites (pair_ends m.pairs) (grouped_at ends b.places)
 meant_grouped m pairs ends same sites b =
-    let P : ℕ → Type 0 = λ n. IsGrouped n (ends_of pairs.list) (grouped_at ends b.places) in
-    let Q : List Pair → Type 0 = λ ps. IsGrouped m.sites (ends_of ps) (grouped_at ends b.places) in
+    let P : ℕ → Type 0 = λ n. IsGrouped n (pair_ends pairs.list) (grouped_at ends b.places) in
+    let Q : List Pair → Type 0 = λ ps. IsGrouped m.sites (pair_ends ps) (grouped_at ends b.places) in
     subst Q (sym same) (subst P (sym sites) b.grouped)
 
 pub meant_beside : (m : Instance) (pairs : PairList) (ends : Neighbours) → m.pairs ≡ pairs.list → m.sites ≡ pairs.sites → AreBySite pairs ends → AreNeighboursOf m ends
@@ -43,8 +43,8 @@ range_step start place first old new l looking range most within =
     range_wider (most + 20000000 * (place - start) + 20000000 * 1) (most + 20000000 * (place + 1 - start)) new (omega (arith, l))
     (looking.range (most + 20000000 * (place - start)) (range most within))
 
-pub range_enough : (pairs : PairList) (ends : Neighbours) (site place : ℕ) (first now : Bounds) → AreBySite pairs ends → IsPairList pairs → site < pairs.sites → start_at ends site ≤ place → place < start_at ends (site + 1)
-    → ((most : ℕ) → IsWithinRange most first → IsWithinRange (most + 20000000 * (place - start_at ends site)) now) → IsWithinRange 576460752303423488 first
+pub range_enough : (pairs : PairList) (ends : Neighbours) (site place : ℕ) (first now : Bounds) → AreBySite pairs ends → IsPairList pairs → site < pairs.sites → neighbours_start ends site ≤ place → place < neighbours_start ends (site + 1)
+    → ((most : ℕ) → IsWithinRange most first → IsWithinRange (most + 20000000 * (place - neighbours_start ends site)) now) → IsWithinRange 576460752303423488 first
     → IsWithinRange 1152921504606846976 now
 range_enough pairs ends site place first now by_site list inside from to range within =
     let most = degree_most pairs ends site by_site inside in
@@ -58,7 +58,7 @@ range_start old new site value marked most within u =
 
 -- the loop's facts of a problem
 pub site_free : (m : Instance) (move : Move) (f : ℕ → ℕ) (site : ℕ) (b : Bool) (old : Bounds) (n : ℕ) → (decided : ArePartlyDecided m move f n old) → site < m.sites → choice_at old.choices.items site ≡ Open
-    → put decided.decisions (λ v. b) site ≡ b
+    → with_decisions decided.decisions (λ v. b) site ≡ b
 site_free m move f site b old n decided l opened = decided.shown (λ v. b) site l ∙ ap (λ (c : Choice). bit_of c b) opened
 
 -- ---- one site after another

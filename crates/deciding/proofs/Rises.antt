@@ -11,7 +11,7 @@ use Rattle.label_field.specs.declared.pair.Pair.{Pair}
 use Rattle.label_field.specs.PairLists.{IsPair}
 use Rattle.labellings.specs.declared.change.Move.{Move}
 use Rattle.labellings.specs.Energies.{Instance, IsInstance, data_energy, pair_cost}
-use Rattle.labellings.specs.Moves.{label_in, made, pair_entry, IsRegularPair, IsAllowed}
+use Rattle.labellings.specs.Moves.{label_after, labelling_made, pair_entry, IsRegularPair, IsAllowed}
 use Rattle.labellings.proofs.Energy.{plain-same}
 use Rattle.deciding.specs.Decisions.{set_bit, rise, OnesWithin, IsSubmodular, IsOver}
 use Rattle.deciding.specs.MoveValues.{move_value, data_rise, pair_rise}
@@ -19,7 +19,7 @@ use Rattle.deciding.proofs.Putting.{set_at, set_other}
 
 -- the energy depends on the values of the sites alone
 pub move_over : (m : Instance) (move : Move) (f : ℕ → ℕ) → IsInstance m → IsOver m.sites (move_value m move f)
-move_over m move f pairs x y same = ap pos (plain-same m (made move f x) (made move f y) pairs (λ p l. ap (label_in move (f p)) (same p l)))
+move_over m move f pairs x y same = ap pos (plain-same m (labelling_made move f x) (labelling_made move f y) pairs (λ p l. ap (label_after move (f p)) (same p l)))
 
 -- so does its rise
 pub rise_over : (m : Instance) (move : Move) (f : ℕ → ℕ) (u : ℕ) (x y : ℕ → Bool) → IsInstance m → ((p : ℕ) → p < m.sites → x p ≡ y p)
@@ -34,16 +34,16 @@ rise_over m move f u x y pairs same =
     (λ i. one i -ℤ none i)
 
 data_parts : (m : Instance) (move : Move) (f : ℕ → ℕ) (u : ℕ) (x : ℕ → Bool) → u < m.sites
-    → pos (data_energy m (made move f (set_bit x u true))) -ℤ pos (data_energy m (made move f (set_bit x u false))) ≡ data_rise m move f u
+    → pos (data_energy m (labelling_made move f (set_bit x u true))) -ℤ pos (data_energy m (labelling_made move f (set_bit x u false))) ≡ data_rise m move f u
 data_parts m move f u x l =
     let one = set_at x u u true refl in
     let none = set_at x u u false refl in
-    let turned = λ (p : ℕ). m.data_cost p (made move f (set_bit x u true) p) in
-    let stayed = λ (p : ℕ). m.data_cost p (made move f (set_bit x u false) p) in
-    let here : turned u ≡ m.data_cost u (label_in move (f u) true) = ap (λ b. m.data_cost u (label_in move (f u) b)) one in
-    let there : stayed u ≡ m.data_cost u (label_in move (f u) false) = ap (λ b. m.data_cost u (label_in move (f u) b)) none in
+    let turned = λ (p : ℕ). m.data_cost p (labelling_made move f (set_bit x u true) p) in
+    let stayed = λ (p : ℕ). m.data_cost p (labelling_made move f (set_bit x u false) p) in
+    let here : turned u ≡ m.data_cost u (label_after move (f u) true) = ap (λ b. m.data_cost u (label_after move (f u) b)) one in
+    let there : stayed u ≡ m.data_cost u (label_after move (f u) false) = ap (λ b. m.data_cost u (label_after move (f u) b)) none in
     let sums = sum_below-change m.sites u stayed turned l
-    (λ p k other. ap (λ b. m.data_cost p (label_in move (f p) b)) (set_other x u p false other ∙ sym (set_other x u p true other))) in
+    (λ p k other. ap (λ b. m.data_cost p (label_after move (f p) b)) (set_other x u p false other ∙ sym (set_other x u p true other))) in
     omega (arith, ints, here, there, sums)
 
 add_differences : (a b c d : ℤ) → (a -ℤ b) +ℤ (c -ℤ d) ≡ (a +ℤ c) -ℤ (b +ℤ d)
@@ -54,12 +54,12 @@ zero_difference = omega (arith, ints)
 
 smooth_parts : (m : Instance) (move : Move) (f : ℕ → ℕ) (u : ℕ) (x : ℕ → Bool) (pairs : List Pair)
     → int_sum_by (pair_rise m move f u x) pairs
-    ≡ pos (sum_by (pair_cost m (made move f (set_bit x u true))) pairs) -ℤ pos (sum_by (pair_cost m (made move f (set_bit x u false))) pairs)
+    ≡ pos (sum_by (pair_cost m (labelling_made move f (set_bit x u true))) pairs) -ℤ pos (sum_by (pair_cost m (labelling_made move f (set_bit x u false))) pairs)
 smooth_parts m move f u x [] = zero_difference
 smooth_parts m move f u x (p ∷ ps) =
     let rest = smooth_parts m move f u x ps in
-    let turned = sum_by-cons (pair_cost m (made move f (set_bit x u true))) p ps in
-    let stayed = sum_by-cons (pair_cost m (made move f (set_bit x u false))) p ps in
+    let turned = sum_by-cons (pair_cost m (labelling_made move f (set_bit x u true))) p ps in
+    let stayed = sum_by-cons (pair_cost m (labelling_made move f (set_bit x u false))) p ps in
     omega (arith, ints, rest, turned, stayed)
 
 -- all together

@@ -12,7 +12,7 @@ use Rattle.move_energy.specs.Choices.{choice_at}
 use Rattle.deciding.specs.declared.bounds.Bounds.{Bounds}
 use Rattle.deciding.specs.Decisions.{set_bit}
 use Rattle.deciding.specs.MoveValues.{pair_rise}
-use Rattle.move_energy.specs.Weights.{surplus_of, term_of}
+use Rattle.move_energy.specs.Weights.{surplus_of, pair_table}
 use Rattle.deciding.specs.Working.{bound_at, AreEnds, Shifts, SeesPair, least_shift, greatest_shift}
 use Rattle.deciding.proofs.Putting.{set_at}
 use Rattle.deciding.proofs.Rises.{pair_rise-first, pair_rise-second, pair_rise-none}
@@ -26,22 +26,22 @@ rises_by m move f pair true b = pos (pair_entry m move f pair b true) -ℤ pos (
 rises_by m move f pair false b = pos (pair_entry m move f pair true b) -ℤ pos (pair_entry m move f pair false b)
 
 least_by_first : (m : Instance) (move : Move) (f : ℕ → ℕ) (pair : Pair) (value : Bool)
-    → rises_by m move f pair true value -ℤ rises_by m move f pair true true ≡ least_shift value (surplus_of (term_of m move f pair))
+    → rises_by m move f pair true value -ℤ rises_by m move f pair true true ≡ least_shift value (surplus_of (pair_table m move f pair))
 least_by_first m move f pair true = omega (arith, ints)
 least_by_first m move f pair false = omega (arith, ints)
 
 least_by_second : (m : Instance) (move : Move) (f : ℕ → ℕ) (pair : Pair) (value : Bool)
-    → rises_by m move f pair false value -ℤ rises_by m move f pair false true ≡ least_shift value (surplus_of (term_of m move f pair))
+    → rises_by m move f pair false value -ℤ rises_by m move f pair false true ≡ least_shift value (surplus_of (pair_table m move f pair))
 least_by_second m move f pair true = omega (arith, ints)
 least_by_second m move f pair false = omega (arith, ints)
 
 greatest_by_first : (m : Instance) (move : Move) (f : ℕ → ℕ) (pair : Pair) (value : Bool)
-    → rises_by m move f pair true value -ℤ rises_by m move f pair true false ≡ greatest_shift value (surplus_of (term_of m move f pair))
+    → rises_by m move f pair true value -ℤ rises_by m move f pair true false ≡ greatest_shift value (surplus_of (pair_table m move f pair))
 greatest_by_first m move f pair true = omega (arith, ints)
 greatest_by_first m move f pair false = omega (arith, ints)
 
 greatest_by_second : (m : Instance) (move : Move) (f : ℕ → ℕ) (pair : Pair) (value : Bool)
-    → rises_by m move f pair false value -ℤ rises_by m move f pair false false ≡ greatest_shift value (surplus_of (term_of m move f pair))
+    → rises_by m move f pair false value -ℤ rises_by m move f pair false false ≡ greatest_shift value (surplus_of (pair_table m move f pair))
 greatest_by_second m move f pair true = omega (arith, ints)
 greatest_by_second m move f pair false = omega (arith, ints)
 
@@ -61,9 +61,9 @@ difference_of a b c d e h k l = omega (arith, ints, h, k, l)
 pub seen_change : (m : Instance) (move : Move) (f : ℕ → ℕ) (pair : Pair) (site other : ℕ) (value before : Bool) (x : ℕ → Bool)
     → AreEnds pair site other → site ≢ other → x site ≡ before
     → (shift : Bool → ℤ → ℤ)
-    → ((v : Bool) → rises_by m move f pair true v -ℤ rises_by m move f pair true before ≡ shift v (surplus_of (term_of m move f pair)))
-    → ((v : Bool) → rises_by m move f pair false v -ℤ rises_by m move f pair false before ≡ shift v (surplus_of (term_of m move f pair)))
-    → pair_rise m move f other (set_bit x site value) pair -ℤ pair_rise m move f other x pair ≡ shift value (surplus_of (term_of m move f pair))
+    → ((v : Bool) → rises_by m move f pair true v -ℤ rises_by m move f pair true before ≡ shift v (surplus_of (pair_table m move f pair)))
+    → ((v : Bool) → rises_by m move f pair false v -ℤ rises_by m move f pair false before ≡ shift v (surplus_of (pair_table m move f pair)))
+    → pair_rise m move f other (set_bit x site value) pair -ℤ pair_rise m move f other x pair ≡ shift value (surplus_of (pair_table m move f pair))
 seen_change m move f pair site other value before x (inl ends) apart is shift by_first by_second =
     let off : pair.first ≢ other = λ same. apart (sym ends.0 ∙ same) in
     difference_of _ _ _ _ _ (second_by m move f other (set_bit x site value) pair value off ends.1 (set_at x site pair.first value ends.0))
@@ -105,7 +105,7 @@ at_third new old d h k = omega (arith, ints, h, k)
 -- the other end is open: its bounds are shifted
 pub sees_open : (m : Instance) (move : Move) (f : ℕ → ℕ) (k : ℕ) (pair : Pair) (site other : ℕ) (value : Bool) (surplus : ℤ) (old new : Bounds)
     → AreEnds pair site other → site ≢ other
-    → surplus ≡ surplus_of (term_of m move f pair) → Shifts other value surplus old new → SeesPair m move f k site value pair old new
+    → surplus ≡ surplus_of (pair_table m move f pair) → Shifts other value surplus old new → SeesPair m move f k site value pair old new
 sees_open m move f k pair site other value surplus old new ends apart is shifts = record {
   least = λ x u one below off opened. elim (cases_eq u other) [
     | inl same ↦ at_other _ _ _ _
@@ -148,10 +148,10 @@ other_inside pair site other n (inr ends) first second = omega (arith, ends.0, f
 
 -- ---- regular terms
 
-pub regular_term : (m : Instance) (move : Move) (f : ℕ → ℕ) (pair : Pair) → pos 0 ≤ℤ surplus_of (term_of m move f pair) → IsRegularPair m move f pair
+pub regular_term : (m : Instance) (move : Move) (f : ℕ → ℕ) (pair : Pair) → pos 0 ≤ℤ surplus_of (pair_table m move f pair) → IsRegularPair m move f pair
 regular_term m move f pair h = omega (arith, ints, h)
 
-pub regular_surplus : (m : Instance) (move : Move) (f : ℕ → ℕ) (pair : Pair) → IsRegularPair m move f pair → pos 0 ≤ℤ surplus_of (term_of m move f pair)
+pub regular_surplus : (m : Instance) (move : Move) (f : ℕ → ℕ) (pair : Pair) → IsRegularPair m move f pair → pos 0 ≤ℤ surplus_of (pair_table m move f pair)
 regular_surplus m move f pair h = omega (arith, ints, h)
 
 -- the ends of a pair have labels of the problem
@@ -161,7 +161,7 @@ labels_below k at sites pair same below is =
     (below pair.first 0 (omega (arith, same, is.first)), below pair.second 0 (omega (arith, same, is.second)))
 
 -- whether a term is regular, told by the surplus of its table
-pub told_regular : (m : Instance) (told : Bool) (table : List ℤ) (move : Move) (f : ℕ → ℕ) (pair : Pair) → table ≡ term_of m move f pair → (IsTrue told ↔ (pos 0 ≤ℤ surplus_of table))
+pub told_regular : (m : Instance) (told : Bool) (table : List ℤ) (move : Move) (f : ℕ → ℕ) (pair : Pair) → table ≡ pair_table m move f pair → (IsTrue told ↔ (pos 0 ≤ℤ surplus_of table))
     → IsTrue told ↔ IsRegularPair m move f pair
 told_regular m told table move f pair is tells =
     let S : List ℤ → Type 0 = λ t. pos 0 ≤ℤ surplus_of t in (

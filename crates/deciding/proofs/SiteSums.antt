@@ -7,11 +7,11 @@ use Rattle.sums.specs.IntegerSums.{int_sum_below}
 use Rattle.sums.proofs.IntegerSumLemmas.{within_fits, abs-add}
 use Rattle.move_energy.specs.declared.by_site.Neighbours.{Neighbours}
 use Rattle.label_field.specs.declared.pair.Pair.{Pair}
-use Rattle.move_energy.specs.BySite.{AreNeighboursOf, degree, start_at, pair_beside, pair_of}
+use Rattle.move_energy.specs.BySite.{AreNeighboursOf, degree, neighbours_start, pair_beside, pair_of}
 use Rattle.move_energy.proofs.Beside.{site_sum}
 use Rattle.labellings.specs.declared.change.Move.{Move}
 use Rattle.labellings.specs.Energies.{Instance, IsInstance}
-use Rattle.labellings.specs.Moves.{label_in}
+use Rattle.labellings.specs.Moves.{label_after}
 use Rattle.deciding.specs.Decisions.{rise}
 use Rattle.deciding.specs.MoveValues.{move_value, data_rise, pair_rise}
 use Rattle.deciding.specs.Working.{AreEnds, AreTurned, end_rise, budget_of}
@@ -35,22 +35,22 @@ first_other pair site other (inr ends) apart = ends
 
 -- what is asked of a pair is its rise
 pub asked_rise : (m : Instance) (move : Move) (f : ℕ → ℕ) (site other : ℕ) (x : ℕ → Bool) (pair : Pair) (stays turns label : ℕ)
-    → AreEnds pair site other → pair.first ≢ pair.second → AreTurned move (f site) stays turns → label ≡ label_in move (f other) (x other)
+    → AreEnds pair site other → pair.first ≢ pair.second → AreTurned move (f site) stays turns → label ≡ label_after move (f other) (x other)
     → end_rise m pair.weight (pair.first == site) stays turns label ≡ pair_rise m move f site x pair
 asked_rise m move f site other x pair stays turns label ends unequal turned is = elim (cases_eq pair.first site) [
   | inl here ↦
       let there = second_other pair site other ends unequal here in
-      let one : turns ≡ label_in move (f pair.first) true = turned.1 ∙ ap (λ s. label_in move (f s) true) (sym here) in
-      let none : stays ≡ label_in move (f pair.first) false = turned.0 ∙ ap (λ s. label_in move (f s) false) (sym here) in
-      let beside : label ≡ label_in move (f pair.second) (x pair.second) = is ∙ ap (λ s. label_in move (f s) (x s)) (sym there) in
+      let one : turns ≡ label_after move (f pair.first) true = turned.1 ∙ ap (λ s. label_after move (f s) true) (sym here) in
+      let none : stays ≡ label_after move (f pair.first) false = turned.0 ∙ ap (λ s. label_after move (f s) false) (sym here) in
+      let beside : label ≡ label_after move (f pair.second) (x pair.second) = is ∙ ap (λ s. label_after move (f s) (x s)) (sym there) in
       ap (λ b. end_rise m pair.weight b stays turns label) (test_true pair.first site here)
       ∙ (λ i. pos (pair.weight * m.smooth_cost (one i) (beside i)) -ℤ pos (pair.weight * m.smooth_cost (none i) (beside i)))
       ∙ sym (pair_rise-first m move f site x pair here (λ same. unequal (here ∙ sym same)))
   | inr apart ↦
       let swapped = first_other pair site other ends apart in
-      let one : turns ≡ label_in move (f pair.second) true = turned.1 ∙ ap (λ s. label_in move (f s) true) (sym swapped.1) in
-      let none : stays ≡ label_in move (f pair.second) false = turned.0 ∙ ap (λ s. label_in move (f s) false) (sym swapped.1) in
-      let beside : label ≡ label_in move (f pair.first) (x pair.first) = is ∙ ap (λ s. label_in move (f s) (x s)) (sym swapped.0) in
+      let one : turns ≡ label_after move (f pair.second) true = turned.1 ∙ ap (λ s. label_after move (f s) true) (sym swapped.1) in
+      let none : stays ≡ label_after move (f pair.second) false = turned.0 ∙ ap (λ s. label_after move (f s) false) (sym swapped.1) in
+      let beside : label ≡ label_after move (f pair.first) (x pair.first) = is ∙ ap (λ s. label_after move (f s) (x s)) (sym swapped.0) in
       ap (λ b. end_rise m pair.weight b stays turns label) (test_false pair.first site apart)
       ∙ (λ i. pos (pair.weight * m.smooth_cost (beside i) (one i)) -ℤ pos (pair.weight * m.smooth_cost (beside i) (none i)))
       ∙ sym (pair_rise-second m move f site x pair apart swapped.1)
@@ -59,7 +59,7 @@ asked_rise m move f site other x pair stays turns label ends unequal turned is =
 -- as the machine passes it on
 pub passed_rise : (m : Instance) (move : Move) (f : ℕ → ℕ) (site other : ℕ) (x : ℕ → Bool) (pair : Pair) (stays turns asked label : ℕ) (z : ℤ) → unsigned_abs z ≤ 10000000
     → z ≡ end_rise m pair.weight (pair.first == site) stays turns asked
-    → AreEnds pair site other → pair.first ≢ pair.second → AreTurned move (f site) stays turns → label ≡ asked → label ≡ label_in move (f other) (x other)
+    → AreEnds pair site other → pair.first ≢ pair.second → AreTurned move (f site) stays turns → label ≡ asked → label ≡ label_after move (f other) (x other)
     → to_z w64 (of_z w64 z) ≡ pair_rise m move f site x pair
 passed_rise m move f site other x pair stays turns asked label z small rises ends unequal turned same is =
     to_z-of_z w64 z (within_fits 10000000 z small (lit< tt)) ∙ rises ∙ asked_rise m move f site other x pair stays turns asked ends unequal turned (sym same ∙ is)
@@ -79,14 +79,14 @@ next_place start place l = omega (arith, l)
 here_place : (start place : ℕ) → start ≤ place → start + (place - start) ≡ place
 here_place start place l = omega (arith, l)
 
-pub risen_more : (m : Instance) (move : Move) (f : ℕ → ℕ) (ends : Neighbours) (site : ℕ) (x : ℕ → Bool) (place : ℕ) (pair : Pair) (old added new : ℤ) → start_at ends site ≤ place
+pub risen_more : (m : Instance) (move : Move) (f : ℕ → ℕ) (ends : Neighbours) (site : ℕ) (x : ℕ → Bool) (place : ℕ) (pair : Pair) (old added new : ℤ) → neighbours_start ends site ≤ place
     → pair_beside ends site place ≡ pair → added ≡ pair_rise m move f site x pair → new ≡ old +ℤ added
-    → old ≡ risen m move f ends site x (place - start_at ends site) → new ≡ risen m move f ends site x (place + 1 - start_at ends site)
+    → old ≡ risen m move f ends site x (place - neighbours_start ends site) → new ≡ risen m move f ends site x (place + 1 - neighbours_start ends site)
 risen_more m move f ends site x place pair old added new from read is sum before =
-    let here : pair_of ends site (place - start_at ends site) ≡ pair = ap (pair_beside ends site) (here_place (start_at ends site) place from) ∙ read in
-    sum_more old (data_rise m move f site) _ added (pair_rise m move f site x (pair_of ends site (place - start_at ends site))) new
+    let here : pair_of ends site (place - neighbours_start ends site) ≡ pair = ap (pair_beside ends site) (here_place (neighbours_start ends site) place from) ∙ read in
+    sum_more old (data_rise m move f site) _ added (pair_rise m move f site x (pair_of ends site (place - neighbours_start ends site))) new
     before (is ∙ ap (pair_rise m move f site x) (sym here)) sum
-    ∙ ap (risen m move f ends site x) (next_place (start_at ends site) place from)
+    ∙ ap (risen m move f ends site x) (next_place (neighbours_start ends site) place from)
 
 pub risen_all : (m : Instance) (move : Move) (f : ℕ → ℕ) (ends : Neighbours) (site : ℕ) (x : ℕ → Bool) → IsInstance m → AreNeighboursOf m ends → site < m.sites
     → risen m move f ends site x (degree ends site) ≡ rise (move_value m move f) site x
@@ -98,10 +98,10 @@ risen_all m move f ends site x pairs grouped inside =
 risen_first : (z : ℤ) → z ≡ z +ℤ pos 0
 risen_first z = omega (arith, ints)
 
-pub risen_none : (m : Instance) (move : Move) (f : ℕ → ℕ) (ends : Neighbours) (site : ℕ) (x : ℕ → Bool) (own : ℤ) (place : ℕ) → own ≡ data_rise m move f site → place ≡ start_at ends site
-    → own ≡ risen m move f ends site x (place - start_at ends site)
+pub risen_none : (m : Instance) (move : Move) (f : ℕ → ℕ) (ends : Neighbours) (site : ℕ) (x : ℕ → Bool) (own : ℤ) (place : ℕ) → own ≡ data_rise m move f site → place ≡ neighbours_start ends site
+    → own ≡ risen m move f ends site x (place - neighbours_start ends site)
 risen_none m move f ends site x own place is at =
-    let none : 0 ≡ place - start_at ends site = omega (arith, at) in
+    let none : 0 ≡ place - neighbours_start ends site = omega (arith, at) in
     is ∙ risen_first (data_rise m move f site) ∙ ap (risen m move f ends site x) none
 
 -- ---- the sums, as the machine counts them

@@ -10,14 +10,14 @@ use Rattle.grouping.specs.declared.Groups.{Groups}
 use Rattle.grouping.specs.Grouping.{IsGrouped, start_of, place_at}
 use Rattle.label_field.specs.declared.pair.Pair.{Pair}
 use Rattle.label_field.specs.PairLists.{IsPair}
-use Rattle.move_energy.specs.BySite.{ends_of}
+use Rattle.move_energy.specs.BySite.{pair_ends}
 use Rattle.labellings.specs.declared.change.Move.{Move}
 use Rattle.labellings.specs.Energies.{Instance, IsInstance}
 use Rattle.move_energy.specs.declared.choice.Choice.{Choice}
 use Rattle.move_energy.specs.declared.choice.Choice.TheVariants.{Open}
 use Rattle.move_energy.specs.Choices.{bit_of, choice_at}
 use Rattle.deciding.specs.declared.bounds.Bounds.{Bounds}
-use Rattle.deciding.specs.Decisions.{Decision, set_bit, put, rise, Passes}
+use Rattle.deciding.specs.Decisions.{Decision, set_bit, with_decisions, rise, Passes}
 use Rattle.deciding.specs.MoveValues.{move_value, data_rise, pair_rise}
 use Rattle.deciding.specs.Working.{bound_at, TellsValue, IsMarked, ArePartlyDecided, SeesPair}
 use Rattle.deciding.proofs.Putting.{set_at, set_other}
@@ -73,24 +73,24 @@ pub record IsSpread (m : Instance) (move : Move) (f : ℕ → ℕ) (n : ℕ) (ds
   pub seen : ℕ → Bool
   pub least : (u : ℕ) → u < n → u ≢ site → choice_at b.choices.items u ≡ Open
       → bound_at b.least.items u ≡ data_rise m move f u +ℤ int_sum_below (length m.pairs)
-      (mixed seen (λ k. pair_rise m move f u (put ds (λ v. true)) (pair_in m.pairs k)) (λ k. pair_rise m move f u (set_bit (put ds (λ v. true)) site value) (pair_in m.pairs k)))
+      (mixed seen (λ k. pair_rise m move f u (with_decisions ds (λ v. true)) (pair_in m.pairs k)) (λ k. pair_rise m move f u (set_bit (with_decisions ds (λ v. true)) site value) (pair_in m.pairs k)))
   pub greatest : (u : ℕ) → u < n → u ≢ site → choice_at b.choices.items u ≡ Open
       → bound_at b.greatest.items u ≡ data_rise m move f u +ℤ int_sum_below (length m.pairs)
-      (mixed seen (λ k. pair_rise m move f u (put ds (λ v. false)) (pair_in m.pairs k)) (λ k. pair_rise m move f u (set_bit (put ds (λ v. false)) site value) (pair_in m.pairs k)))
+      (mixed seen (λ k. pair_rise m move f u (with_decisions ds (λ v. false)) (pair_in m.pairs k)) (λ k. pair_rise m move f u (set_bit (with_decisions ds (λ v. false)) site value) (pair_in m.pairs k)))
   pub to_see : (k : ℕ) → k < length m.pairs → seen k ≡ false → Touches site (pair_in m.pairs k)
       → (p : ℕ) × (place ≤ p) × (p < start_of ends (site + 1)) × (place_at ends p / 2 ≡ k)
   pub unseen : (p : ℕ) → place ≤ p → p < start_of ends (site + 1) → seen (place_at ends p / 2) ≡ false
 
 -- before the first: the site's own choice was set
 pub spread_start : (m : Instance) (move : Move) (f : ℕ → ℕ) (site : ℕ) (value : Bool) (ends : Groups) (old new : Bounds) (n : ℕ) → n ≤ m.sites
-    → IsGrouped m.sites (ends_of m.pairs) ends → (decided : ArePartlyDecided m move f n old) → IsMarked site value old new
+    → IsGrouped m.sites (pair_ends m.pairs) ends → (decided : ArePartlyDecided m move f n old) → IsMarked site value old new
     → IsSpread m move f n decided.decisions site value ends (start_of ends site) new
 spread_start m move f site value ends old new n most grouped decided marked = record {
   seen = λ k. false;
   least = λ u l off opened.
-      ap (λ (v : _). bound_at v.items u) marked.least ∙ decided.least u l (sym (marked.others u off) ∙ opened) ∙ rise_by_places m move f u (put decided.decisions (λ v. true)) (omega (arith, l, most));
+      ap (λ (v : _). bound_at v.items u) marked.least ∙ decided.least u l (sym (marked.others u off) ∙ opened) ∙ rise_by_places m move f u (with_decisions decided.decisions (λ v. true)) (omega (arith, l, most));
   greatest = λ u l off opened.
-      ap (λ (v : _). bound_at v.items u) marked.greatest ∙ decided.greatest u l (sym (marked.others u off) ∙ opened) ∙ rise_by_places m move f u (put decided.decisions (λ v. false)) (omega (arith, l, most));
+      ap (λ (v : _). bound_at v.items u) marked.greatest ∙ decided.greatest u l (sym (marked.others u off) ∙ opened) ∙ rise_by_places m move f u (with_decisions decided.decisions (λ v. false)) (omega (arith, l, most));
   to_see = λ k l un touches. touching_found m.pairs m.sites site k _ ends grouped l touches;
   unseen = λ p from to. refl;
 }
@@ -100,8 +100,8 @@ later a b h k = omega (arith, h, k)
 
 -- one more
 pub spread_step : (m : Instance) (move : Move) (f : ℕ → ℕ) (n : ℕ) (ds : List Decision) (site : ℕ) (value : Bool) (ends : Groups) (place : ℕ) (pair : Pair) (old new : Bounds)
-    → IsInstance m → IsGrouped m.sites (ends_of m.pairs) ends → site < m.sites → start_of ends site ≤ place → place < start_of ends (site + 1)
-    → pair_in m.pairs (place_at ends place / 2) ≡ pair → put ds (λ v. true) site ≡ true → put ds (λ v. false) site ≡ false
+    → IsInstance m → IsGrouped m.sites (pair_ends m.pairs) ends → site < m.sites → start_of ends site ≤ place → place < start_of ends (site + 1)
+    → pair_in m.pairs (place_at ends place / 2) ≡ pair → with_decisions ds (λ v. true) site ≡ true → with_decisions ds (λ v. false) site ≡ false
     → new.choices ≡ old.choices → SeesPair m move f n site value pair old new → IsSpread m move f n ds site value ends place old
     → IsSpread m move f n ds site value ends (place + 1) new
 spread_step m move f n ds site value ends place pair old new are grouped inside from to read one none same sees spread =
@@ -114,16 +114,16 @@ spread_step m move f n ds site value ends place pair old new are grouped inside 
       seen = and_at spread.seen here;
       least = λ u l off opened.
           step_one (length m.pairs) here spread.seen (data_rise m move f u) (bound_at old.least.items u) (bound_at new.least.items u)
-          (λ k. pair_rise m move f u (put ds (λ v. true)) (pair_in m.pairs k)) (λ k. pair_rise m move f u (set_bit (put ds (λ v. true)) site value) (pair_in m.pairs k)) within fresh
+          (λ k. pair_rise m move f u (with_decisions ds (λ v. true)) (pair_in m.pairs k)) (λ k. pair_rise m move f u (set_bit (with_decisions ds (λ v. true)) site value) (pair_in m.pairs k)) within fresh
           (spread.least u l off (was u opened))
-          (sees.least (put ds (λ v. true)) u one l off (was u opened)
-          ∙ ap (λ p. bound_at old.least.items u +ℤ (pair_rise m move f u (set_bit (put ds (λ v. true)) site value) p -ℤ pair_rise m move f u (put ds (λ v. true)) p)) (sym read));
+          (sees.least (with_decisions ds (λ v. true)) u one l off (was u opened)
+          ∙ ap (λ p. bound_at old.least.items u +ℤ (pair_rise m move f u (set_bit (with_decisions ds (λ v. true)) site value) p -ℤ pair_rise m move f u (with_decisions ds (λ v. true)) p)) (sym read));
       greatest = λ u l off opened.
           step_one (length m.pairs) here spread.seen (data_rise m move f u) (bound_at old.greatest.items u) (bound_at new.greatest.items u)
-          (λ k. pair_rise m move f u (put ds (λ v. false)) (pair_in m.pairs k)) (λ k. pair_rise m move f u (set_bit (put ds (λ v. false)) site value) (pair_in m.pairs k)) within fresh
+          (λ k. pair_rise m move f u (with_decisions ds (λ v. false)) (pair_in m.pairs k)) (λ k. pair_rise m move f u (set_bit (with_decisions ds (λ v. false)) site value) (pair_in m.pairs k)) within fresh
           (spread.greatest u l off (was u opened))
-          (sees.greatest (put ds (λ v. false)) u none l off (was u opened)
-          ∙ ap (λ p. bound_at old.greatest.items u +ℤ (pair_rise m move f u (set_bit (put ds (λ v. false)) site value) p -ℤ pair_rise m move f u (put ds (λ v. false)) p)) (sym read));
+          (sees.greatest (with_decisions ds (λ v. false)) u none l off (was u opened)
+          ∙ ap (λ p. bound_at old.greatest.items u +ℤ (pair_rise m move f u (set_bit (with_decisions ds (λ v. false)) site value) p -ℤ pair_rise m move f u (with_decisions ds (λ v. false)) p)) (sym read));
       to_see = λ k l un touches. elim (cases_eq k here) [
         | inl equal ↦ absurd (let e = sym (ap (and_at spread.seen here) equal ∙ at_here spread.seen here) ∙ un in cc (e))
         | inr other ↦
@@ -176,13 +176,13 @@ spread_end m move f n site value ends place old mid new are most inside decided 
       decisions = record { variable = site; value = value } ∷ ds;
       passed = (decided.passed, passes_of m move f n site value old decided inside was tells);
       shown = λ x p l. elim (cases_eq p site) [
-        | inl same ↦ set_at (put ds x) site p value same ∙ sym (own (x p)) ∙ ap (λ q. bit_of (choice_at new.choices.items q) (x p)) (sym same)
-        | inr other ↦ set_other (put ds x) site p value other ∙ decided.shown x p l ∙ ap (λ (c : Choice). bit_of c (x p)) (sym (others p other))
+        | inl same ↦ set_at (with_decisions ds x) site p value same ∙ sym (own (x p)) ∙ ap (λ q. bit_of (choice_at new.choices.items q) (x p)) (sym same)
+        | inr other ↦ set_other (with_decisions ds x) site p value other ∙ decided.shown x p l ∙ ap (λ (c : Choice). bit_of c (x p)) (sym (others p other))
       ];
       least = λ u l opened.
-          spread.least u l (another u opened) opened ∙ ap (λ s. data_rise m move f u +ℤ s) (all_seen m move f site value u (put ds (λ v. true)) spread.seen are none)
-          ∙ sym (rise_by_places m move f u (set_bit (put ds (λ v. true)) site value) (omega (arith, l, most)));
+          spread.least u l (another u opened) opened ∙ ap (λ s. data_rise m move f u +ℤ s) (all_seen m move f site value u (with_decisions ds (λ v. true)) spread.seen are none)
+          ∙ sym (rise_by_places m move f u (set_bit (with_decisions ds (λ v. true)) site value) (omega (arith, l, most)));
       greatest = λ u l opened.
-          spread.greatest u l (another u opened) opened ∙ ap (λ s. data_rise m move f u +ℤ s) (all_seen m move f site value u (put ds (λ v. false)) spread.seen are none)
-          ∙ sym (rise_by_places m move f u (set_bit (put ds (λ v. false)) site value) (omega (arith, l, most)));
+          spread.greatest u l (another u opened) opened ∙ ap (λ s. data_rise m move f u +ℤ s) (all_seen m move f site value u (with_decisions ds (λ v. false)) spread.seen are none)
+          ∙ sym (rise_by_places m move f u (set_bit (with_decisions ds (λ v. false)) site value) (omega (arith, l, most)));
     }

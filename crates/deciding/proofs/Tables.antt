@@ -10,13 +10,13 @@ use Rattle.label_field.specs.declared.pair.Pair.{Pair}
 use Rattle.label_field.specs.PairLists.{IsPair}
 use Rattle.labellings.specs.declared.change.Move.{Move}
 use Rattle.labellings.specs.Energies.{Instance, labelling}
-use Rattle.labellings.specs.Moves.{label_in, pair_entry}
-use Rattle.move_energy.specs.Weights.{surplus_of, term_of}
+use Rattle.labellings.specs.Moves.{label_after, pair_entry}
+use Rattle.move_energy.specs.Weights.{surplus_of, pair_table}
 use Rattle.deciding.specs.MoveValues.{pair_rise}
 use Rattle.deciding.specs.Working.{AreEnds}
 use Rattle.deciding.specs.declared.table.EndRises.{EndRises}
 use Rattle.deciding.specs.declared.table.RiseTable.{RiseTable}
-use Rattle.deciding.specs.Rising.{place_of, rises_at, AreRises, AreSmall, IsSized, IsTableOf, label_rise}
+use Rattle.deciding.specs.Rising.{entry_place, rises_at, AreRises, AreRisesSmall, IsRiseTable, IsTableOf, label_rise}
 use Rattle.deciding.proofs.SiteSums.{asked_rise}
 
 -- by the neighbour's value
@@ -25,7 +25,7 @@ told_rise : (m : Instance) (move : Move) (weight : ℕ) (first : Bool) (own othe
 told_rise m move weight first own other rises true are = are.1
 told_rise m move weight first own other rises false are = are.0
 
-told_small : (rises : EndRises) (b : Bool) → AreSmall rises → unsigned_abs (cond b rises.high rises.low) ≤ 10000000
+told_small : (rises : EndRises) (b : Bool) → AreRisesSmall rises → unsigned_abs (cond b rises.high rises.low) ≤ 10000000
 told_small rises true small = small.1
 told_small rises false small = small.0
 
@@ -54,10 +54,10 @@ table_rise m move f pair site other x table k z all labels is ends stands weight
     z_is ∙ told_rise m move table.weight (pair.first == site) (labelling f site) (labelling f other) rises (x other)
     (told stands (pair.first == site) (labelling f site) (labelling f other) (omega (arith, own, labels)) (omega (arith, beside, labels)))
     ∙ ap (λ w. label_rise m move w (pair.first == site) (labelling f site) (labelling f other) (x other)) weight
-    ∙ asked_rise m move (labelling f) site other x pair (label_in move (labelling f site) false) (label_in move (labelling f site) true) _ ends is.unequal (refl, refl) refl
+    ∙ asked_rise m move (labelling f) site other x pair (label_after move (labelling f site) false) (label_after move (labelling f site) true) _ ends is.unequal (refl, refl) refl
 
 pub table_small : (f : List ℕ) (pair : Pair) (site other : ℕ) (b : Bool) (table : RiseTable) (k : ℕ) (z : ℤ) → All (λ label. label < k) f
-    → IsPair (length f) pair → AreEnds pair site other → table.stands ≡ true → IsSized k table
+    → IsPair (length f) pair → AreEnds pair site other → table.stands ≡ true → IsRiseTable k table
     → z ≡ cond b (rises_at table (pair.first == site) (labelling f site) (labelling f other)).high (rises_at table (pair.first == site) (labelling f site) (labelling f other)).low
     → unsigned_abs z ≤ 10000000
 table_small f pair site other b table k z all is ends stands sized z_is =
@@ -71,7 +71,7 @@ difference : (low high a b c d : ℤ) → low ≡ c -ℤ a → high ≡ d -ℤ b
 difference low high a b c d l h = omega (arith, ints, l, h)
 
 told_surplus : (m : Instance) (move : Move) (f : ℕ → ℕ) (pair : Pair) (rises : EndRises) → AreRises m move pair.weight true (f pair.first) (f pair.second) rises
-    → rises.low -ℤ rises.high ≡ surplus_of (term_of m move f pair)
+    → rises.low -ℤ rises.high ≡ surplus_of (pair_table m move f pair)
 told_surplus m move f pair rises are =
     difference rises.low rises.high (pos (pair_entry m move f pair false false)) (pos (pair_entry m move f pair false true))
     (pos (pair_entry m move f pair true false)) (pos (pair_entry m move f pair true true)) are.0 are.1
@@ -79,7 +79,7 @@ told_surplus m move f pair rises are =
 pub table_surplus : (m : Instance) (move : Move) (f : List ℕ) (pair : Pair) (table : RiseTable) (k : ℕ) → All (λ label. label < k) f → m.labels ≡ k
     → IsPair (length f) pair → table.stands ≡ true → table.weight ≡ pair.weight → IsTableOf m move table
     → (rises_at table true (labelling f pair.first) (labelling f pair.second)).low -ℤ (rises_at table true (labelling f pair.first) (labelling f pair.second)).high
-    ≡ surplus_of (term_of m move (labelling f) pair)
+    ≡ surplus_of (pair_table m move (labelling f) pair)
 table_surplus m move f pair table k all labels is stands weight told =
     let own = label_inside k f pair.first all is.first in
     let beside = label_inside k f pair.second all is.second in
@@ -87,7 +87,7 @@ table_surplus m move f pair table k all labels is stands weight told =
     let P : ℕ → Type 0 = λ w. AreRises m move w true (labelling f pair.first) (labelling f pair.second) rises in
     told_surplus m move (labelling f) pair rises (subst P weight (told stands true (labelling f pair.first) (labelling f pair.second) (omega (arith, own, labels)) (omega (arith, beside, labels))))
 
-pub surplus_small : (f : List ℕ) (pair : Pair) (table : RiseTable) (k : ℕ) (z : ℤ) → All (λ label. label < k) f → IsPair (length f) pair → table.stands ≡ true → IsSized k table
+pub surplus_small : (f : List ℕ) (pair : Pair) (table : RiseTable) (k : ℕ) (z : ℤ) → All (λ label. label < k) f → IsPair (length f) pair → table.stands ≡ true → IsRiseTable k table
     → z ≡ (rises_at table true (labelling f pair.first) (labelling f pair.second)).low -ℤ (rises_at table true (labelling f pair.first) (labelling f pair.second)).high
     → unsigned_abs z ≤ 20000000
 surplus_small f pair table k z all is stands sized z_is =
@@ -97,7 +97,7 @@ surplus_small f pair table k z all is stands sized z_is =
 
 -- ---- the table, as it is filled
 
-pub place_within : (first : Bool) (own other : ℕ) → own < 64 → other < 64 → place_of first own other < 8192
+pub place_within : (first : Bool) (own other : ℕ) → own < 64 → other < 64 → entry_place first own other < 8192
 place_within true own other l h = omega (arith, l, h)
 place_within false own other l h = omega (arith, l, h)
 
@@ -123,35 +123,35 @@ row_others xs base n i r at l k (inl before) = get_or-set_other xs i k r none (�
 row_others xs base n i r at l k (inr past) = get_or-set_other xs i k r none (λ same. absurd (omega (arith, at, past, l, same)))
 
 abbrev SameBut : Bool → ℕ → List EndRises → List EndRises → Type 0
-SameBut first n xs ys = (k : ℕ) → (k < place_of first n 0) ⊎ (place_of first n 64 ≤ k) → get_or ys k none ≡ get_or xs k none
+SameBut first n xs ys = (k : ℕ) → (k < entry_place first n 0) ⊎ (entry_place first n 64 ≤ k) → get_or ys k none ≡ get_or xs k none
 
-earlier_row : (first : Bool) (own n other : ℕ) → own < n → other < 64 → place_of first own other < place_of first n 0
+earlier_row : (first : Bool) (own n other : ℕ) → own < n → other < 64 → entry_place first own other < entry_place first n 0
 earlier_row true own n other l h = omega (arith, l, h)
 earlier_row false own n other l h = omega (arith, l, h)
 
 pub rows_more : (P : Bool → ℕ → ℕ → EndRises → Type 0) (xs ys zs : List EndRises) (n labels : ℕ) → n < 64 → labels ≤ 64 → SameBut true n xs ys → SameBut false n ys zs
-    → ((first : Bool) (own other : ℕ) → own < n → other < labels → P first own other (get_or xs (place_of first own other) none))
-    → ((other : ℕ) → other < labels → P true n other (get_or ys (place_of true n other) none))
-    → ((other : ℕ) → other < labels → P false n other (get_or zs (place_of false n other) none))
-    → (first : Bool) (own other : ℕ) → own < n + 1 → other < labels → P first own other (get_or zs (place_of first own other) none)
+    → ((first : Bool) (own other : ℕ) → own < n → other < labels → P first own other (get_or xs (entry_place first own other) none))
+    → ((other : ℕ) → other < labels → P true n other (get_or ys (entry_place true n other) none))
+    → ((other : ℕ) → other < labels → P false n other (get_or zs (entry_place false n other) none))
+    → (first : Bool) (own other : ℕ) → own < n + 1 → other < labels → P first own other (get_or zs (entry_place first own other) none)
 rows_more P xs ys zs n labels few most one two before first_row second_row true own other l h = elim (cases_eq own n) [
   | inl same ↦
       let Q : EndRises → Type 0 = λ v. P true own other v in
-      let R : ℕ → Type 0 = λ u. P true u other (get_or ys (place_of true u other) none) in
-      subst Q (sym (two (place_of true own other) (inl (omega (arith, same, few, h, most))))) (subst R (sym same) (first_row other h))
+      let R : ℕ → Type 0 = λ u. P true u other (get_or ys (entry_place true u other) none) in
+      subst Q (sym (two (entry_place true own other) (inl (omega (arith, same, few, h, most))))) (subst R (sym same) (first_row other h))
   | inr off ↦
       let less : own < n = omega (arith, l, off) in
       let Q : EndRises → Type 0 = λ v. P true own other v in
-      subst Q (sym (two (place_of true own other) (inl (omega (arith, less, few, h, most))) ∙ one (place_of true own other) (inl (earlier_row true own n other less (omega (arith, h, most))))))
+      subst Q (sym (two (entry_place true own other) (inl (omega (arith, less, few, h, most))) ∙ one (entry_place true own other) (inl (earlier_row true own n other less (omega (arith, h, most))))))
       (before true own other less h)
 ]
 rows_more P xs ys zs n labels few most one two before first_row second_row false own other l h = elim (cases_eq own n) [
   | inl same ↦
-      let R : ℕ → Type 0 = λ u. P false u other (get_or zs (place_of false u other) none) in
+      let R : ℕ → Type 0 = λ u. P false u other (get_or zs (entry_place false u other) none) in
       subst R (sym same) (second_row other h)
   | inr off ↦
       let less : own < n = omega (arith, l, off) in
       let Q : EndRises → Type 0 = λ v. P false own other v in
-      subst Q (sym (two (place_of false own other) (inl (earlier_row false own n other less (omega (arith, h, most)))) ∙ one (place_of false own other) (inr (omega (arith, few)))))
+      subst Q (sym (two (entry_place false own other) (inl (earlier_row false own n other less (omega (arith, h, most)))) ∙ one (entry_place false own other) (inr (omega (arith, few)))))
       (before false own other less h)
 ]

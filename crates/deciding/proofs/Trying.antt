@@ -12,7 +12,7 @@ use Rattle.move_energy.specs.declared.choice.Choice.TheVariants.{Open, Zero, One
 use Rattle.move_energy.specs.Choices.{bit_of, choice_at}
 use Rattle.deciding.specs.Decisions.{rise}
 use Rattle.deciding.specs.MoveValues.{move_value}
-use Rattle.deciding.specs.Working.{valued}
+use Rattle.deciding.specs.Working.{decided_or}
 use Rattle.deciding.specs.Parts.{ArePassedChoices}
 use Rattle.deciding.proofs.Joining.{choices_same, choices_more, passes_low, passes_high}
 
@@ -24,7 +24,7 @@ set_there xs u p c off = get_or-set_other xs u p c Zero (λ same. off (omega (ar
 
 pub tried_passed : (m : Instance) (move : Move) (f : ℕ → ℕ) (u : ℕ) (told : Choice) (least greatest : ℤ) (known : List Choice) → IsInstance m → u < length known → choice_at known u ≡ Open
     → (told ≡ Zero → pos 0 ≤ℤ least) → (told ≡ One → greatest <ℤ pos 0)
-    → least ≡ rise (move_value m move f) u (valued known true) → greatest ≡ rise (move_value m move f) u (valued known false)
+    → least ≡ rise (move_value m move f) u (decided_or known true) → greatest ≡ rise (move_value m move f) u (decided_or known false)
     → ArePassedChoices m move f (choice_at known) → ArePassedChoices m move f (choice_at (slice_set known u told))
 tried_passed m move f u Open least greatest known are l opened zero one low high passed =
     choices_same m move f (choice_at known) (choice_at (slice_set known u Open)) (λ p. elim (cases_eq p u) [

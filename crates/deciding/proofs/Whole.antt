@@ -12,9 +12,9 @@ use Rattle.deciding.proofs.SiteSums.{test_true, test_false}
 use Rattle.deciding.proofs.Rises.{rise_over, move_over}
 use Rattle.deciding.proofs.Ranges.{AreAdded, least_before, least_at}
 use Rattle.deciding.specs.declared.bounds.Bounds.{Bounds}
-use Rattle.deciding.specs.Decisions.{set_bit, put, rise, Passes}
+use Rattle.deciding.specs.Decisions.{set_bit, with_decisions, rise, Passes}
 use Rattle.deciding.specs.MoveValues.{move_value}
-use Rattle.deciding.specs.Working.{bound_at, valued, CanDecide, AreUndecided, AreUnsummed, ArePartlyDecided}
+use Rattle.deciding.specs.Working.{bound_at, decided_or, CanDecide, AreUndecided, AreUnsummed, ArePartlyDecided}
 use Rattle.deciding.specs.Parts.{ArePassedChoices}
 use Rattle.deciding.specs.Decided.{AreDecided}
 use Rattle.deciding.proofs.Fixed.{fixed_site, shown_by, shown_put, shown_passed}
@@ -55,11 +55,11 @@ partly_begun m move f b chosen = record {
 -- one site more is summed
 pub partly_more : (m : Instance) (move : Move) (f : ℕ → ℕ) (k : ℕ) (least greatest : ℤ) (old new : Bounds) → IsInstance m → AreAdded k least greatest old new
     → (choice_at old.choices.items k ≡ Open
-    → (least ≡ rise (move_value m move f) k (valued old.choices.items true)) × (greatest ≡ rise (move_value m move f) k (valued old.choices.items false)))
+    → (least ≡ rise (move_value m move f) k (decided_or old.choices.items true)) × (greatest ≡ rise (move_value m move f) k (decided_or old.choices.items false)))
     → ArePartlyDecided m move f k old → ArePartlyDecided m move f (k + 1) new
 partly_more m move f k least greatest old new pairs added rises decided =
     let was = λ (u : ℕ) (opened : choice_at new.choices.items u ≡ Open). ap (λ (v : _). choice_at v.items u) (sym added.choices) ∙ opened in
-    let shown = λ (b : Bool). rise_over m move f k (valued old.choices.items b) (put decided.decisions (λ v. b)) pairs (λ p l. sym (decided.shown (λ v. b) p l)) in
+    let shown = λ (b : Bool). rise_over m move f k (decided_or old.choices.items b) (with_decisions decided.decisions (λ v. b)) pairs (λ p l. sym (decided.shown (λ v. b) p l)) in
     let at = least_at k least greatest old new added in
     record {
       decisions = decided.decisions;
@@ -68,7 +68,7 @@ partly_more m move f k least greatest old new pairs added rises decided =
       least = λ u l opened. elim (cases_eq u k) [
         | inl same ↦
             ap (bound_at new.least.items) same ∙ at.0 ∙ (rises (sym (ap (choice_at old.choices.items) same) ∙ was u opened)).0 ∙ shown true
-            ∙ sym (ap (λ v. rise (move_value m move f) v (put decided.decisions (λ w. true))) same)
+            ∙ sym (ap (λ v. rise (move_value m move f) v (with_decisions decided.decisions (λ w. true))) same)
         | inr other ↦
             let before : u < k = omega (arith, l, other) in
             (least_before k u least greatest old new added before).0 ∙ decided.least u before (was u opened)
@@ -76,7 +76,7 @@ partly_more m move f k least greatest old new pairs added rises decided =
       greatest = λ u l opened. elim (cases_eq u k) [
         | inl same ↦
             ap (bound_at new.greatest.items) same ∙ at.1 ∙ (rises (sym (ap (choice_at old.choices.items) same) ∙ was u opened)).1 ∙ shown false
-            ∙ sym (ap (λ v. rise (move_value m move f) v (put decided.decisions (λ w. false))) same)
+            ∙ sym (ap (λ v. rise (move_value m move f) v (with_decisions decided.decisions (λ w. false))) same)
         | inr other ↦
             let before : u < k = omega (arith, l, other) in
             (least_before k u least greatest old new added before).1 ∙ decided.greatest u before (was u opened)
@@ -120,7 +120,7 @@ zeros_set choices x u k opened is = elim (cases_eq k u) [
 pub partly_weights : (m : Instance) (move : Move) (f : ℕ → ℕ) (n : ℕ) (b : Bounds) → IsInstance m → m.sites ≤ n → ArePartlyDecided m move f n b
     → AreWeights m move f (choice_at b.choices.items) b.greatest.items
 partly_weights m move f n b pairs most decided u l opened =
-    let x = put decided.decisions (λ v. false) in
+    let x = with_decisions decided.decisions (λ v. false) in
     let one = move_over m move f pairs (set_bit x u true) (λ k. bit_of (choice_at b.choices.items k) (k == u))
     (λ k within. ones_set b.choices.items x u k opened (decided.shown (λ v. false) k within)) in
     let none = move_over m move f pairs (set_bit x u false) (λ k. bit_of (choice_at b.choices.items k) false)

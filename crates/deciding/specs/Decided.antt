@@ -8,14 +8,15 @@ use Rattle.move_energy.specs.declared.choice.Choice.TheVariants.{Open}
 use Rattle.move_energy.specs.declared.error.BuildError.{BuildError}
 use Rattle.move_energy.specs.Choices.{bit_of, choice_at}
 use Rattle.move_energy.specs.Problems.{IsPrepareRefusal}
-use Rattle.deciding.specs.Decisions.{Decision, put, Passes, HavePassed}
+use Rattle.deciding.specs.Decisions.{Decision, with_decisions, Passes, HavePassed}
 use Rattle.deciding.specs.MoveValues.{move_value}
 
 -- the sites were decided one after another, each by the test, and none that is open passes it
 pub record AreDecided (m : Instance) (move : Move) (f : ℕ → ℕ) (choice : ℕ → Choice) : Type 0 where
   pub decisions : List Decision
   pub passed : HavePassed (move_value m move f) decisions
-  pub shown : (x : ℕ → Bool) (p : ℕ) → p < m.sites → put decisions x p ≡ bit_of (choice p) (x p)
+  pub shown : (x : ℕ → Bool) (p : ℕ) → p < m.sites
+      → with_decisions decisions x p ≡ bit_of (choice p) (x p)
   pub none_left : (p : ℕ) (b : Bool) → p < m.sites → choice p ≡ Open
       → ¬ Passes (move_value m move f) decisions p b
 

@@ -12,15 +12,15 @@ abbrev pub set_bit : (ℕ → Bool) → ℕ → Bool → ℕ → Bool
 set_bit x i b k = cond (k == i) b (x k)
 
 -- the assignment with all decided variables set; the latest decision stands first
-abbrev pub put : List Decision → (ℕ → Bool) → ℕ → Bool
-put [] x = x
-put (d ∷ ds) x = set_bit (put ds x) d.variable d.value
+abbrev pub with_decisions : List Decision → (ℕ → Bool) → ℕ → Bool
+with_decisions [] x = x
+with_decisions (d ∷ ds) x = set_bit (with_decisions ds x) d.variable d.value
 
 -- whatever the other variables are: a variable may be 0 where its 1 never has a lower value, and is to be 1
 -- where its 1 always has a lower value
 abbrev pub IsForced : ((ℕ → Bool) → ℤ) → List Decision → ℕ → Bool → Type 0
-IsForced E ds i false = (x : ℕ → Bool) → E (set_bit (put ds x) i false) ≤ℤ E (set_bit (put ds x) i true)
-IsForced E ds i true = (x : ℕ → Bool) → E (set_bit (put ds x) i true) <ℤ E (set_bit (put ds x) i false)
+IsForced E ds i false = (x : ℕ → Bool) → E (set_bit (with_decisions ds x) i false) ≤ℤ E (set_bit (with_decisions ds x) i true)
+IsForced E ds i true = (x : ℕ → Bool) → E (set_bit (with_decisions ds x) i true) <ℤ E (set_bit (with_decisions ds x) i false)
 
 -- each decision is forced, given those before it
 abbrev pub AreForced : ((ℕ → Bool) → ℤ) → List Decision → Type 0
@@ -42,8 +42,8 @@ IsSubmodular E = (x y : ℕ → Bool) (i : ℕ) → OnesWithin x y → rise E i 
 -- the test: a variable may be 0 where its turning to 1 does not lower the value even if every undecided one
 -- is 1, and is to be 1 where it lowers the value even if every undecided one is 0
 abbrev pub Passes : ((ℕ → Bool) → ℤ) → List Decision → ℕ → Bool → Type 0
-Passes E ds i false = pos 0 ≤ℤ rise E i (put ds (λ k. true))
-Passes E ds i true = rise E i (put ds (λ k. false)) <ℤ pos 0
+Passes E ds i false = pos 0 ≤ℤ rise E i (with_decisions ds (λ k. true))
+Passes E ds i true = rise E i (with_decisions ds (λ k. false)) <ℤ pos 0
 
 -- each decision passed the test, given those before it
 abbrev pub HavePassed : ((ℕ → Bool) → ℤ) → List Decision → Type 0
@@ -61,12 +61,12 @@ pub record IsSmallestLeast (n : ℕ) (E : (ℕ → Bool) → ℤ) (x : ℕ → B
 
 -- the decisions leave this variable as it is
 abbrev pub IsFree : List Decision → ℕ → Type 0
-IsFree ds i = (x : ℕ → Bool) → put ds x i ≡ x i
+IsFree ds i = (x : ℕ → Bool) → with_decisions ds x i ≡ x i
 
 -- a function of the variables that are left, `number` being each one's number in it and `variable` the way
 -- back: but for a fixed number, its value is that of the whole with the decisions put in
 pub record IsRest (n : ℕ) (E : (ℕ → Bool) → ℤ) (ds : List Decision) (r : ℕ) (R : (ℕ → Bool) → ℤ)
     (number variable : ℕ → ℕ) : Type 0 where
   pub offset : ℤ
-  pub value : (z : ℕ → Bool) → R z +ℤ offset ≡ E (put ds (λ i. z (number i)))
+  pub value : (z : ℕ → Bool) → R z +ℤ offset ≡ E (with_decisions ds (λ i. z (number i)))
   pub covers : (i : ℕ) → i < n → IsFree ds i → (number i < r) × (variable (number i) ≡ i)

@@ -1,14 +1,14 @@
 -- The lists of the sites that a move has left to look at, made where these are few.
 use Rattle.std.specs.Prelude.{◌≡◌, ◌↔◌, ◌==◌, ◌||◌, ℕ, ◌*◌, ◌≤◌, Bool, false, not, IsTrue, List, [], length}
 use Rattle.labellings.specs.declared.change.Move.{Move}
-use Rattle.labellings.specs.Moves.{label_in}
+use Rattle.labellings.specs.Moves.{label_after}
 use Rattle.move_energy.specs.BySite.{IsListing}
 use Rattle.move_energy.specs.declared.choice.Choice.{Choice}
 use Rattle.move_energy.specs.Choices.{bit_of, choice_at, open_count, open_at, AreOpenSites}
 use Rattle.deciding.specs.declared.listing.Lists.{Lists}
 
 -- nothing is counted, and no site is listed
-pub record AreEmpty (lists : Lists) : Type 0 where
+pub record AreListsEmpty (lists : Lists) : Type 0 where
   pub count : lists.count ≡ 0
   pub listed : lists.listed ≡ false
   pub opened : lists.opened.items ≡ []
@@ -17,7 +17,7 @@ pub record AreEmpty (lists : Lists) : Type 0 where
 -- which sites are open, or decided to get another label than they have
 abbrev pub changes : Move → (ℕ → ℕ) → List Choice → ℕ → Bool
 changes move f choices p =
-    open_at choices p || not (label_in move (f p) (bit_of (choice_at choices p) false) == f p)
+    open_at choices p || not (label_after move (f p) (bit_of (choice_at choices p) false) == f p)
 
 -- the open sites are counted; where they are an eighth of all at most, they are listed, and so are the sites
 -- whose labels can still become others

@@ -12,17 +12,18 @@ use Rattle.move_energy.specs.BySite.{AreBySite}
 use Rattle.move_energy.specs.declared.choice.Choice.{Choice}
 use Rattle.move_energy.specs.declared.choice.Choice.TheVariants.{Open, Zero, One}
 use Rattle.move_energy.specs.Choices.{bit_of, choice_at}
-use Rattle.deciding.specs.Decisions.{Decision, put, Passes, HavePassed}
+use Rattle.deciding.specs.Decisions.{Decision, with_decisions, Passes, HavePassed}
 use Rattle.deciding.specs.MoveValues.{move_value, data_rise}
 use Rattle.deciding.specs.declared.table.RiseTable.{RiseTable}
-use Rattle.deciding.specs.Rising.{IsSized, IsTableOf}
+use Rattle.deciding.specs.Rising.{IsRiseTable, IsTableOf}
 
 -- the choices are those of decisions that each passed the test, given those before it
 pub record ArePassedChoices (m : Instance) (move : Move) (f : ℕ → ℕ)
     (choice : ℕ → Choice) : Type 0 where
   pub decisions : List Decision
   pub passed : HavePassed (move_value m move f) decisions
-  pub shown : (x : ℕ → Bool) (p : ℕ) → p < m.sites → put decisions x p ≡ bit_of (choice p) (x p)
+  pub shown : (x : ℕ → Bool) (p : ℕ) → p < m.sites
+      → with_decisions decisions x p ≡ bit_of (choice p) (x p)
 
 -- the own rise of a site, as a list has it
 abbrev pub own_at : List ℤ → ℕ → ℤ
@@ -41,7 +42,7 @@ pub record AreReadable (pairs : PairList) (ends : Neighbours) (table : RiseTable
   pub stands : table.stands ≡ true
   pub weight : table.weight ≡ ends.weight
   pub labels : ℕ
-  pub sized : IsSized labels table
+  pub sized : IsRiseTable labels table
   pub few : All (λ label. label < labels) at
 
 -- they are the rises of a move that is allowed

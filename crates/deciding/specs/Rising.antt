@@ -2,7 +2,7 @@
 use Rattle.std.specs.Prelude.{◌≡◌, ℕ, ◌+◌, ◌*◌, ◌<◌, ◌≤◌, Bool, true, false, cond, length, slice_index_or, ℤ, pos, unsigned_abs}
 use Rattle.labellings.specs.declared.change.Move.{Move}
 use Rattle.labellings.specs.Energies.{Instance}
-use Rattle.labellings.specs.Moves.{label_in}
+use Rattle.labellings.specs.Moves.{label_after}
 use Rattle.cost_store.specs.Limits.{pair_cost_limit}
 use Rattle.deciding.specs.declared.table.EndRises.{EndRises}
 use Rattle.deciding.specs.declared.table.RiseTable.{RiseTable}
@@ -13,18 +13,18 @@ abbrev pub table_labels : ℕ
 table_labels = 64
 
 -- where the rises of these labels stand: a row for each own label, those of first ends before those of second ends
-abbrev pub place_of : Bool → ℕ → ℕ → ℕ
-place_of first own other = (cond first 0 64 + own) * 64 + other
+abbrev pub entry_place : Bool → ℕ → ℕ → ℕ
+entry_place first own other = (cond first 0 64 + own) * 64 + other
 
 -- the rises of an end of this label, the first or the second, whose neighbour has the other label
 abbrev pub rises_at : RiseTable → Bool → ℕ → ℕ → EndRises
 rises_at table first own other =
-    slice_index_or table.entries.items (place_of first own other) (record { low = pos 0; high = pos 0 })
+    slice_index_or table.entries.items (entry_place first own other) (record { low = pos 0; high = pos 0 })
 
 -- by how much the cost of a pair of this weight rises where such an end turns, while the neighbour's value is this bit
 abbrev pub label_rise : Instance → Move → ℕ → Bool → ℕ → ℕ → Bool → ℤ
 label_rise m move weight first own other bit =
-    end_rise m weight first (label_in move own false) (label_in move own true) (label_in move other bit)
+    end_rise m weight first (label_after move own false) (label_after move own true) (label_after move other bit)
 
 -- these are the rises, while the neighbour's value is 0 and while it is 1
 abbrev pub AreRises : Instance → Move → ℕ → Bool → ℕ → ℕ → EndRises → Type 0
@@ -33,15 +33,15 @@ AreRises m move weight first own other rises =
     × (rises.high ≡ label_rise m move weight first own other true)
 
 -- neither is larger than a pair's cost
-abbrev pub AreSmall : EndRises → Type 0
-AreSmall rises = (unsigned_abs rises.low ≤ pair_cost_limit) × (unsigned_abs rises.high ≤ pair_cost_limit)
+abbrev pub AreRisesSmall : EndRises → Type 0
+AreRisesSmall rises = (unsigned_abs rises.low ≤ pair_cost_limit) × (unsigned_abs rises.high ≤ pair_cost_limit)
 
 -- a table that stands has a place for each two of so many labels, and small rises there
-pub record IsSized (labels : ℕ) (table : RiseTable) : Type 0 where
+pub record IsRiseTable (labels : ℕ) (table : RiseTable) : Type 0 where
   pub few : table.stands ≡ true → labels ≤ table_labels
   pub size : table.stands ≡ true → length table.entries.items ≡ 8192
   pub small : table.stands ≡ true → (first : Bool) (own other : ℕ) → own < labels → other < labels
-      → AreSmall (rises_at table first own other)
+      → AreRisesSmall (rises_at table first own other)
 
 -- a table that stands has the move's rises
 abbrev pub IsTableOf : Instance → Move → RiseTable → Type 0

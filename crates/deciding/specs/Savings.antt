@@ -5,13 +5,13 @@ use Rattle.label_field.specs.PairLists.{IsPair}
 use Rattle.labellings.specs.declared.change.Move.{Move}
 use Rattle.labellings.specs.Energies.{Instance, labelling}
 use Rattle.deciding.specs.declared.table.RiseTable.{RiseTable}
-use Rattle.deciding.specs.Rising.{IsSized, IsTableOf}
+use Rattle.deciding.specs.Rising.{IsRiseTable, IsTableOf}
 
 -- the table stands, and it has a place for each two labels of these sites
 pub record HasLabels (table : RiseTable) (at : List ℕ) : Type 0 where
   pub labels : ℕ
   pub stands : table.stands ≡ true
-  pub sized : IsSized labels table
+  pub sized : IsRiseTable labels table
   pub within : All (λ label. label < labels) at
 
 -- it has the rises of this pair of these sites

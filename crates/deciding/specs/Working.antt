@@ -1,21 +1,21 @@
 -- What is kept while sites are decided.
 use Rattle.std.specs.Prelude.{◌≡◌, ◌≢◌, ◌⊎◌, ℕ, ◌+◌, ◌-◌, ◌*◌, ◌<◌, ◌≤◌, Bool, true, false, List, [], ◌∷◌, ◌++◌, length, replicate, slice_index_or, unsigned_abs, ℤ, pos, ◌+ℤ◌, ◌-ℤ◌, ◌≤ℤ◌, ◌<ℤ◌, Result, Ok, Err}
 use Rattle.std.specs.List.{All, Contains, sum_by}
-use Rattle.sums.specs.Sums.{sum_below, counted}
+use Rattle.sums.specs.Sums.{sum_below, count_if}
 use Rattle.move_energy.specs.declared.by_site.Neighbours.{Neighbours}
 use Rattle.label_field.specs.declared.pair.Pair.{Pair}
 use Rattle.labellings.specs.declared.change.Move.{Move}
 use Rattle.labellings.specs.Energies.{Instance}
-use Rattle.labellings.specs.Moves.{label_in, IsAllowed}
+use Rattle.labellings.specs.Moves.{label_after, IsAllowed}
 use Rattle.move_energy.specs.declared.error.BuildError.{BuildError}
 use Rattle.move_energy.specs.Problems.{IsPrepareRefusal}
 use Rattle.move_energy.specs.declared.choice.Choice.{Choice}
 use Rattle.move_energy.specs.declared.choice.Choice.TheVariants.{Open}
-use Rattle.move_energy.specs.BySite.{degree, start_at, pair_beside}
+use Rattle.move_energy.specs.BySite.{degree, neighbours_start, pair_beside}
 use Rattle.move_energy.specs.Choices.{bit_of, choice_at, is_open, AreAllOpen}
 use Rattle.move_energy.specs.Limits.{surplus_limit}
 use Rattle.deciding.specs.Limits.{bound_limit}
-use Rattle.deciding.specs.Decisions.{Decision, set_bit, put, rise, HavePassed}
+use Rattle.deciding.specs.Decisions.{Decision, set_bit, with_decisions, rise, HavePassed}
 use Rattle.deciding.specs.MoveValues.{move_value, pair_rise}
 use Rattle.deciding.specs.declared.bounds.Bounds.{Bounds}
 
@@ -31,7 +31,8 @@ AvoidsSite u pair = (pair.first ≢ u) × (pair.second ≢ u)
 -- no open site before this one has a pair with it
 abbrev pub HasNoneBefore : List Choice → Neighbours → ℕ → Type 0
 HasNoneBefore choices ends site =
-    (place u : ℕ) → start_at ends site ≤ place → place < start_at ends (site + 1) → u < site
+    (place u : ℕ) → neighbours_start ends site ≤ place
+    → place < neighbours_start ends (site + 1) → u < site
     → choice_at choices u ≡ Open → AvoidsSite u (pair_beside ends site place)
 
 -- the bound of a site
@@ -39,8 +40,9 @@ abbrev pub bound_at : List ℤ → ℕ → ℤ
 bound_at bounds u = slice_index_or bounds u (pos 0)
 
 -- how many ends lie at open sites: those that may still be looked at
-abbrev pub left : Neighbours → ℕ → List Choice → ℕ
-left ends n choices = sum_below n (λ u. counted (is_open (choice_at choices u)) (degree ends u))
+abbrev pub open_ends : Neighbours → ℕ → List Choice → ℕ
+open_ends ends n choices =
+    sum_below n (λ u. count_if (is_open (choice_at choices u)) (degree ends u))
 
 -- how large a bound may be while so many ends are left: each end that is looked at changes one by at most a
 -- surplus
@@ -57,8 +59,8 @@ abbrev pub CanDecide : Bounds → ℕ → Type 0
 CanDecide b u = TellsValue b u false ⊎ TellsValue b u true
 
 -- how many sites were summed: those that have bounds
-abbrev pub summed : Bounds → ℕ
-summed b = length b.least.items
+abbrev pub summed_count : Bounds → ℕ
+summed_count b = length b.least.items
 
 -- a choice of each of n sites, and two bounds of each that was summed
 pub record IsSummed (n : ℕ) (b : Bounds) : Type 0 where
@@ -118,7 +120,7 @@ AreTermsTested m move f (Err e) = IsPrepareRefusal m move f e
 
 -- the labels that the move gives a site of this label, at 0 and at 1
 abbrev pub AreTurned : Move → ℕ → ℕ → ℕ → Type 0
-AreTurned move old stays turns = (stays ≡ label_in move old false) × (turns ≡ label_in move old true)
+AreTurned move old stays turns = (stays ≡ label_after move old false) × (turns ≡ label_after move old true)
 
 -- by how much a pair's cost rises where its first end, or its second, turns from the one label to the other
 abbrev pub end_rise : Instance → ℕ → Bool → ℕ → ℕ → ℕ → ℤ
@@ -128,8 +130,8 @@ end_rise m weight false stays turns other =
     pos (weight * m.smooth_cost other turns) -ℤ pos (weight * m.smooth_cost other stays)
 
 -- the decided sites have their values, and all others this one
-abbrev pub valued : List Choice → Bool → ℕ → Bool
-valued choices b p = bit_of (choice_at choices p) b
+abbrev pub decided_or : List Choice → Bool → ℕ → Bool
+decided_or choices b p = bit_of (choice_at choices p) b
 
 -- the sites were decided one after another, each by the test, and the bounds of each open site below k are its
 -- rises with all undecided sites at 1 and at 0
@@ -137,11 +139,13 @@ pub record ArePartlyDecided (m : Instance) (move : Move) (f : ℕ → ℕ) (k : 
   pub decisions : List Decision
   pub passed : HavePassed (move_value m move f) decisions
   pub shown : (x : ℕ → Bool) (p : ℕ) → p < m.sites
-      → put decisions x p ≡ bit_of (choice_at b.choices.items p) (x p)
+      → with_decisions decisions x p ≡ bit_of (choice_at b.choices.items p) (x p)
   pub least : (u : ℕ) → u < k → choice_at b.choices.items u ≡ Open
-      → bound_at b.least.items u ≡ rise (move_value m move f) u (put decisions (λ v. true))
+      → bound_at b.least.items u
+      ≡ rise (move_value m move f) u (with_decisions decisions (λ v. true))
   pub greatest : (u : ℕ) → u < k → choice_at b.choices.items u ≡ Open
-      → bound_at b.greatest.items u ≡ rise (move_value m move f) u (put decisions (λ v. false))
+      → bound_at b.greatest.items u
+      ≡ rise (move_value m move f) u (with_decisions decisions (λ v. false))
 
 -- these are the bounds of one site more
 pub record AddsBounds (low high : ℤ) (old new : Bounds) : Type 0 where

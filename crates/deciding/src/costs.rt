@@ -1,9 +1,9 @@
 //! What a site and a pair cost in a move.
 ghost use Rattle.std.specs.Prelude.{◌≡◌, ◌<◌, ◌≤◌, pos, ◌-ℤ◌, ◌≤ℤ◌, true, false, All, unsigned_abs, IsTrue, ◌↔◌};
-ghost use Rattle.labellings.specs.Moves.{label_in, IsMoveOf};
+ghost use Rattle.labellings.specs.Moves.{label_after, IsMoveOf};
 ghost use Rattle.cost_store.specs.Limits.{site_cost_limit, pair_cost_limit};
 ghost use Rattle.cost_store.specs.Promises.{IsCost};
-ghost use Rattle.cost_store.specs.Posed.{IsPosed, Meant};
+ghost use Rattle.cost_store.specs.Posed.{IsPosed, WhereMeant};
 ghost use Rattle.deciding.specs.MoveValues.{data_rise as data_rise_of};
 ghost use Rattle.move_energy.specs.Weights.{surplus_of};
 
@@ -22,8 +22,8 @@ pub fn data_rise<F: Fn(u32, u32) -> i64 + Sync, V: Fn(u32, u32) -> i64 + Sync>(
     requires posed { IsPosed F.Fn V.Fn problem.now }
     requires inside { (site < problem.now.pairs.sites) × (label < problem.now.data_cost.labels) }
     requires change { IsMoveOf problem.now.data_cost.labels change }
-    ensures rise { Meant F.Fn V.Fn problem.now (λ m. result ≡ pos (m.data_cost site (label_in change label
-        true)) -ℤ pos (m.data_cost site (label_in change label false))) }
+    ensures rise { WhereMeant F.Fn V.Fn problem.now (λ m. result ≡ pos (m.data_cost site (label_after change label
+        true)) -ℤ pos (m.data_cost site (label_after change label false))) }
     ensures range { unsigned_abs result ≤ site_cost_limit }
 {
     let turns = change.label(label, true);

@@ -2,10 +2,10 @@
 ghost use Rattle.std.specs.Prelude.{◌≡◌, ◌↔◌, ◌==◌, ◌||◌, ◌<◌, ◌≤◌, ◌++◌, ◌∷◌, [], ℕ, cond, not, false, length, IsTrue, OnOk, OnErr};
 ghost use Rattle.move_energy.specs.BySite.{IsListing};
 ghost use Rattle.labellings.specs.Energies.{labelling};
-ghost use Rattle.labellings.specs.Moves.{label_in};
+ghost use Rattle.labellings.specs.Moves.{label_after};
 ghost use Rattle.label_field.specs.Limits.{site_limit};
 ghost use Rattle.move_energy.specs.Choices.{bit_of, open_count, is_open, open_at, AreOpenSites};
-ghost use Rattle.deciding.specs.Listed.{changes, AreListed, AreEmpty};
+ghost use Rattle.deciding.specs.Listed.{changes, AreListed, AreListsEmpty};
 
 use labellings::Move;
 use move_energy::Choice;
@@ -44,7 +44,7 @@ fn count_open(choices: &[Choice]) -> usize
 
 /// Whether the label of a site can still become another.
 fn can_change(choice: Choice, change: Move, label: u32) -> bool
-    ensures { result ≡ (is_open choice || not (label_in change label (bit_of choice false) == label)) }
+    ensures { result ≡ (is_open choice || not (label_after change label (bit_of choice false) == label)) }
 {
     choice.is_open() || change.label(label, choice.bit(false)) != label
 }
@@ -77,7 +77,7 @@ fn add_chosen(list: &mut Vec<u32>, site: u32, chosen: bool) -> Result<(), AllocE
 impl Lists {
     /// No list. It takes no memory.
     pub fn empty(alloc: Global) -> Lists
-        ensures { AreEmpty result }
+        ensures { AreListsEmpty result }
     {
         Lists {
             count: 0,
@@ -98,7 +98,8 @@ impl Lists {
         ensures opened { OnOk result (self.new.opened.items ≡
             self.old.opened.items ++ cond (is_open choice) (site ∷ []) []) }
         ensures changing { OnOk result (self.new.changing.items ≡ self.old.changing.items ++ cond (is_open
-            choice || not (label_in change label (bit_of choice false) == label)) (site ∷ []) []) }
+            choice || not (label_after change label (bit_of choice false) == label))
+            (site ∷ []) []) }
         ensures same { (self.new.count ≡ self.old.count) × (self.new.listed ≡ self.old.listed) }
     {
         add_chosen(&mut self.opened, site, choice.is_open())?;

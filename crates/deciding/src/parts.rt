@@ -1,13 +1,13 @@
 //! Deciding by parts of the sites, side by side. Each part is decided by what was known before all
 //! parts, and what they tell is put together.
 ghost use Rattle.std.specs.Prelude.{◌≡◌, ◌≢◌, ◌⊎◌, ◌+◌, ◌-◌, ◌<◌, ◌≤◌, ℕ, true, length, vec_len, IfOk, OnOk};
-ghost use Rattle.cost_store.specs.Posed.{IsPosed, IsAsked, Meant};
+ghost use Rattle.cost_store.specs.Posed.{IsPosed, IsAsked, WhereMeant};
 ghost use Rattle.labellings.specs.Energies.{Instance, IsInstance, labelling};
 ghost use Rattle.labellings.specs.Moves.{IsAllowed};
 ghost use Rattle.label_field.specs.Limits.{site_limit};
 ghost use Rattle.move_energy.specs.BySite.{AreBySite};
 ghost use Rattle.move_energy.specs.Choices.{choice_at};
-ghost use Rattle.deciding.specs.Rising.{IsSized, IsTableOf};
+ghost use Rattle.deciding.specs.Rising.{IsRiseTable, IsTableOf};
 ghost use Rattle.deciding.specs.Working.{AreUndecided, AreUnsummed, ArePartlyDecided};
 ghost use Rattle.deciding.specs.Parts.{AreReadable, ArePassedChoices, ArePartCodes, IsPartDecided, OfParts, FillsPart, IsPartJoined, choice_of_code, coded_at, known_or, part_start as start_of};
 
@@ -204,11 +204,12 @@ impl Bounds {
         requires posed { IsPosed F.Fn V.Fn problem.now }
         requires asked { IsAsked problem.now at.now change }
         requires by_site { AreBySite problem.now.pairs ends.now }
-        requires labels { IsSized problem.now.data_cost.labels table.now }
-        requires table { Meant F.Fn V.Fn problem.now (λ m. IsTableOf m change table.now) }
+        requires labels { IsRiseTable problem.now.data_cost.labels table.now }
+        requires table { WhereMeant F.Fn V.Fn problem.now (λ m. IsTableOf m change table.now) }
         requires undecided { AreUndecided change at.now self.old }
         ensures unsummed { OnOk result (AreUnsummed (length at.now) self.new) }
-        ensures begun { Meant F.Fn V.Fn problem.now (λ m. IsAllowed m change (labelling at.now) →
+        ensures begun { WhereMeant F.Fn V.Fn problem.now
+            (λ m. IsAllowed m change (labelling at.now) →
             OnOk result (ArePartlyDecided m change (labelling at.now) 0 self.new)) }
     {
         let count = how.parts(at.len()).min(at.len());

@@ -4,12 +4,12 @@ ghost use Rattle.std.specs.Prelude.{◌≡◌, ◌≢◌, ◌⊎◌, ◌<◌, �
 ghost use Rattle.labellings.specs.declared.change.Move.{Move};
 ghost use Rattle.labellings.specs.Energies.{Instance, labelling};
 ghost use Rattle.cost_store.specs.Limits.{site_cost_limit};
-ghost use Rattle.cost_store.specs.Posed.{IsPosed, IsAsked, Meant};
+ghost use Rattle.cost_store.specs.Posed.{IsPosed, IsAsked, WhereMeant};
 ghost use Rattle.move_energy.specs.declared.choice.Choice.TheVariants.{Open, Zero, One};
 ghost use Rattle.move_energy.specs.Choices.{choice_at};
 ghost use Rattle.deciding.specs.Decisions.{rise, Passes};
 ghost use Rattle.deciding.specs.MoveValues.{move_value, data_rise as data_rise_of};
-ghost use Rattle.deciding.specs.Working.{valued};
+ghost use Rattle.deciding.specs.Working.{decided_or};
 ghost use Rattle.deciding.specs.Parts.{own_at, AreReadable, AreRisesOf, ArePassedChoices};
 
 use crate::costs::data_rise;
@@ -31,7 +31,7 @@ fn own_rise<F: Fn(u32, u32) -> i64 + Sync, V: Fn(u32, u32) -> i64 + Sync>(
     requires posed { IsPosed F.Fn V.Fn problem.now }
     requires asked { IsAsked problem.now at.now change }
     requires site { site < length at.now }
-    ensures rise { Meant F.Fn V.Fn problem.now
+    ensures rise { WhereMeant F.Fn V.Fn problem.now
         (λ m. result ≡ data_rise_of m change (labelling at.now) site) }
     ensures range { unsigned_abs result ≤ site_cost_limit }
 {
@@ -49,7 +49,8 @@ pub(crate) fn list_own_rises<F: Fn(u32, u32) -> i64 + Sync, V: Fn(u32, u32) -> i
     requires asked { IsAsked problem.now at.now change }
     ensures count { OnOk result (length own.new.items ≡ length at.now) }
     ensures small { OnOk result (All (λ z. unsigned_abs z ≤ site_cost_limit) own.new.items) }
-    ensures rises { OnOk result (Meant F.Fn V.Fn problem.now (λ m. (u : ℕ) → u < length at.now →
+    ensures rises { OnOk result
+        (WhereMeant F.Fn V.Fn problem.now (λ m. (u : ℕ) → u < length at.now →
         own_at own.new.items u ≡ data_rise_of m change (labelling at.now) u)) }
 {
     own.clear();
@@ -75,10 +76,11 @@ fn read_rises(
     requires known { length known.now ≡ length at.now }
     requires site { site < length at.now }
     ensures least { (m : Instance) (move : Move) → AreRisesOf m move pairs.now table.now own.now
-        at.now → result.least ≡ rise (move_value m move (labelling at.now)) site (valued known.now
+        at.now → result.least
+        ≡ rise (move_value m move (labelling at.now)) site (decided_or known.now
         true) }
     ensures greatest { (m : Instance) (move : Move) → AreRisesOf m move pairs.now table.now own.now
-        at.now → result.greatest ≡ rise (move_value m move (labelling at.now)) site (valued
+        at.now → result.greatest ≡ rise (move_value m move (labelling at.now)) site (decided_or
         known.now false) }
 {
     let mut least = i64::from(own[site as usize]);

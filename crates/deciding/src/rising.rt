@@ -4,15 +4,15 @@ ghost use Rattle.label_field.specs.Limits.{weight_limit};
 ghost use Rattle.label_field.specs.PairLists.{IsPair};
 ghost use Rattle.move_energy.specs.BySite.{degree, AreBySite};
 ghost use Rattle.labellings.specs.Energies.{labelling};
-ghost use Rattle.labellings.specs.Moves.{label_in};
+ghost use Rattle.labellings.specs.Moves.{label_after};
 ghost use Rattle.cost_store.specs.Limits.{site_cost_limit, pair_cost_limit};
-ghost use Rattle.cost_store.specs.Posed.{IsPosed, IsAsked, Meant};
+ghost use Rattle.cost_store.specs.Posed.{IsPosed, IsAsked, WhereMeant};
 ghost use Rattle.deciding.specs.Decisions.{rise};
 ghost use Rattle.deciding.specs.MoveValues.{move_value, pair_rise};
 ghost use Rattle.move_energy.specs.declared.choice.Choice.TheVariants.{Open};
 ghost use Rattle.move_energy.specs.Choices.{bit_of, choice_at};
-ghost use Rattle.deciding.specs.Rising.{rises_at, table_labels, IsSized, IsTableOf};
-ghost use Rattle.deciding.specs.Working.{AreEnds, AreTurned, AvoidsSite, HasNoneBefore, end_rise as end_rise_of, valued};
+ghost use Rattle.deciding.specs.Rising.{rises_at, table_labels, IsRiseTable, IsTableOf};
+ghost use Rattle.deciding.specs.Working.{AreEnds, AreTurned, AvoidsSite, HasNoneBefore, end_rise as end_rise_of, decided_or};
 
 use crate::costs::data_rise;
 use crate::table::{EndRises, RiseTable};
@@ -72,7 +72,8 @@ pub(crate) fn other_end(pair: Pair, site: u32) -> u32
 fn label_by(choices: &[Choice], at: &[u8], change: Move, site: u32, value: bool) -> u32
     requires site { site < length at.now }
     requires choices { length choices.now ≡ length at.now }
-    ensures { result ≡ label_in change (labelling at.now site) (valued choices.now value site) }
+    ensures { result ≡ label_after change (labelling at.now site)
+        (decided_or choices.now value site) }
 {
     change.label(
         u32::from(at[site as usize]),
@@ -93,7 +94,7 @@ pub(crate) fn end_rise<F: Fn(u32, u32) -> i64 + Sync, V: Fn(u32, u32) -> i64 + S
     requires turn { (turn.stays < problem.now.data_cost.labels)
         × (turn.turns < problem.now.data_cost.labels) }
     requires other { other < problem.now.data_cost.labels }
-    ensures rise { Meant F.Fn V.Fn problem.now
+    ensures rise { WhereMeant F.Fn V.Fn problem.now
         (λ m. result ≡ end_rise_of m weight first turn.stays turn.turns other) }
     ensures range { unsigned_abs result ≤ pair_cost_limit }
 {
@@ -121,10 +122,10 @@ fn asked_rises<F: Fn(u32, u32) -> i64 + Sync, V: Fn(u32, u32) -> i64 + Sync>(
     requires pair { IsPair (length at.now) pair }
     requires end { (pair.first ≡ site) ⊎ (pair.second ≡ site) }
     requires turn { AreTurned change (labelling at.now site) turn.stays turn.turns }
-    ensures least { Meant F.Fn V.Fn problem.now (λ m. result.least ≡ pair_rise m change
-        (labelling at.now) site (valued choices.now true) pair) }
-    ensures greatest { Meant F.Fn V.Fn problem.now (λ m. result.greatest ≡ pair_rise m change
-        (labelling at.now) site (valued choices.now false) pair) }
+    ensures least { WhereMeant F.Fn V.Fn problem.now (λ m. result.least ≡ pair_rise m change
+        (labelling at.now) site (decided_or choices.now true) pair) }
+    ensures greatest { WhereMeant F.Fn V.Fn problem.now (λ m. result.greatest ≡ pair_rise m change
+        (labelling at.now) site (decided_or choices.now false) pair) }
     ensures range { (unsigned_abs result.least ≤ pair_cost_limit)
         × (unsigned_abs result.greatest ≤ pair_cost_limit) }
 {
@@ -183,10 +184,10 @@ pub(crate) fn table_rises(
     requires choices { length choices.now ≡ length at.now }
     requires few { All (λ label. label < table_labels) at.now }
     requires size { length table.now.entries.items ≡ 8192 }
-    ensures least { (other : ℕ) → AreEnds pair site other → result.least ≡ cond (valued choices.now true other)
+    ensures least { (other : ℕ) → AreEnds pair site other → result.least ≡ cond (decided_or choices.now true other)
         (rises_at table.now (pair.first == site) (labelling at.now site) (labelling at.now other)).high
         (rises_at table.now (pair.first == site) (labelling at.now site) (labelling at.now other)).low }
-    ensures greatest { (other : ℕ) → AreEnds pair site other → result.greatest ≡ cond (valued choices.now false other)
+    ensures greatest { (other : ℕ) → AreEnds pair site other → result.greatest ≡ cond (decided_or choices.now false other)
         (rises_at table.now (pair.first == site) (labelling at.now site) (labelling at.now other)).high
         (rises_at table.now (pair.first == site) (labelling at.now site) (labelling at.now other)).low }
 {
@@ -211,16 +212,16 @@ fn pair_rises<F: Fn(u32, u32) -> i64 + Sync, V: Fn(u32, u32) -> i64 + Sync>(
 ) -> Rises
     requires posed { IsPosed F.Fn V.Fn problem.now }
     requires asked { IsAsked problem.now at.now change }
-    requires sized { IsSized problem.now.data_cost.labels table.now }
-    requires table { Meant F.Fn V.Fn problem.now (λ m. IsTableOf m change table.now) }
+    requires sized { IsRiseTable problem.now.data_cost.labels table.now }
+    requires table { WhereMeant F.Fn V.Fn problem.now (λ m. IsTableOf m change table.now) }
     requires choices { length choices.now ≡ length at.now }
     requires pair { IsPair (length at.now) pair }
     requires end { (pair.first ≡ site) ⊎ (pair.second ≡ site) }
     requires turn { AreTurned change (labelling at.now site) turn.stays turn.turns }
-    ensures least { Meant F.Fn V.Fn problem.now (λ m. result.least ≡ pair_rise m change
-        (labelling at.now) site (valued choices.now true) pair) }
-    ensures greatest { Meant F.Fn V.Fn problem.now (λ m. result.greatest ≡ pair_rise m change
-        (labelling at.now) site (valued choices.now false) pair) }
+    ensures least { WhereMeant F.Fn V.Fn problem.now (λ m. result.least ≡ pair_rise m change
+        (labelling at.now) site (decided_or choices.now true) pair) }
+    ensures greatest { WhereMeant F.Fn V.Fn problem.now (λ m. result.greatest ≡ pair_rise m change
+        (labelling at.now) site (decided_or choices.now false) pair) }
     ensures range { (unsigned_abs result.least ≤ pair_cost_limit)
         × (unsigned_abs result.greatest ≤ pair_cost_limit) }
 {
@@ -263,15 +264,16 @@ pub(crate) fn site_rises<F: Fn(u32, u32) -> i64 + Sync, V: Fn(u32, u32) -> i64 +
 ) -> SiteRises
     requires posed { IsPosed F.Fn V.Fn problem.now }
     requires asked { IsAsked problem.now at.now change }
-    requires sized { IsSized problem.now.data_cost.labels table.now }
-    requires table { Meant F.Fn V.Fn problem.now (λ m. IsTableOf m change table.now) }
+    requires sized { IsRiseTable problem.now.data_cost.labels table.now }
+    requires table { WhereMeant F.Fn V.Fn problem.now (λ m. IsTableOf m change table.now) }
     requires by_site { AreBySite problem.now.pairs ends.now }
     requires choices { length choices.now ≡ length at.now }
     requires site { site < length at.now }
-    ensures least { Meant F.Fn V.Fn problem.now (λ m. result.least ≡ rise (move_value m change
-        (labelling at.now)) site (valued choices.now true)) }
-    ensures greatest { Meant F.Fn V.Fn problem.now (λ m. result.greatest ≡ rise (move_value m change
-        (labelling at.now)) site (valued choices.now false)) }
+    ensures least { WhereMeant F.Fn V.Fn problem.now (λ m. result.least ≡ rise (move_value m change
+        (labelling at.now)) site (decided_or choices.now true)) }
+    ensures greatest { WhereMeant F.Fn V.Fn problem.now
+        (λ m. result.greatest ≡ rise (move_value m change
+        (labelling at.now)) site (decided_or choices.now false)) }
     ensures range { (unsigned_abs result.least ≤ site_cost_limit + pair_cost_limit * degree ends.now site)
         × (unsigned_abs result.greatest ≤ site_cost_limit + pair_cost_limit * degree ends.now site) }
     ensures alone { result.beside ≡ false → HasNoneBefore choices.now ends.now site }

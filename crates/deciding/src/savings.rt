@@ -4,7 +4,7 @@ ghost use Rattle.std.specs.Prelude.{◌≡◌, ◌≤◌, ℕ, length, unsigned_
 ghost use Rattle.labellings.specs.declared.change.Move.{Move};
 ghost use Rattle.labellings.specs.Energies.{Instance};
 ghost use Rattle.move_energy.specs.Limits.{surplus_limit};
-ghost use Rattle.move_energy.specs.Weights.{surplus_of, term_of};
+ghost use Rattle.move_energy.specs.Weights.{surplus_of, pair_table};
 ghost use Rattle.deciding.specs.Savings.{CoversPair, IsTableFrom};
 
 use crate::settling::table_surplus;
@@ -18,7 +18,7 @@ pub fn told_surplus(table: &RiseTable, at: &[u8], pair: Pair) -> i64
     requires covered { CoversPair table.now at.now pair }
     ensures value { (m : Instance) (move : Move) (f : ℕ → ℕ)
         → IsTableFrom table.now at.now m move f →
-        result ≡ surplus_of (term_of m move f pair) }
+        result ≡ surplus_of (pair_table m move f pair) }
     ensures range { unsigned_abs result ≤ surplus_limit }
 {
     table_surplus(table, at, pair)

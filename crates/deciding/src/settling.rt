@@ -5,15 +5,15 @@ ghost use Rattle.label_field.specs.PairLists.{IsPair, IsPairList};
 ghost use Rattle.move_energy.specs.BySite.{degree, AreBySite};
 ghost use Rattle.labellings.specs.Energies.{labelling};
 ghost use Rattle.labellings.specs.Moves.{IsAllowed};
-ghost use Rattle.cost_store.specs.Posed.{IsPosed, IsAsked, Meant};
+ghost use Rattle.cost_store.specs.Posed.{IsPosed, IsAsked, WhereMeant};
 ghost use Rattle.move_energy.specs.declared.choice.Choice.{Choice};
 ghost use Rattle.move_energy.specs.declared.choice.Choice.TheVariants.{Open};
 ghost use Rattle.move_energy.specs.Choices.{choice_at, bit_of};
 ghost use Rattle.cost_store.specs.Limits.{site_cost_limit};
 ghost use Rattle.move_energy.specs.Limits.{surplus_limit};
-ghost use Rattle.move_energy.specs.Weights.{surplus_of, term_of};
-ghost use Rattle.deciding.specs.Rising.{rises_at, table_labels, IsSized, IsTableOf};
-ghost use Rattle.deciding.specs.Working.{bound_at, summed, CanDecide, TellsValue, IsMarked, IsSummed, IsWithinRange, AreWaiting, AreWaitingBut, ArePartlyDecided, SeesPair, IsLooking, Shifts, least_shift as least_shift_of, greatest_shift as greatest_shift_of, left, budget_of, greatest_total};
+ghost use Rattle.move_energy.specs.Weights.{surplus_of, pair_table};
+ghost use Rattle.deciding.specs.Rising.{rises_at, table_labels, IsRiseTable, IsTableOf};
+ghost use Rattle.deciding.specs.Working.{bound_at, summed_count, CanDecide, TellsValue, IsMarked, IsSummed, IsWithinRange, AreWaiting, AreWaitingBut, ArePartlyDecided, SeesPair, IsLooking, Shifts, least_shift as least_shift_of, greatest_shift as greatest_shift_of, open_ends, budget_of, greatest_total};
 
 use crate::Bounds;
 use crate::rising::other_end;
@@ -25,7 +25,7 @@ use move_energy::{Choice, Neighbours, pair_beside, surplus, term};
 use std::alloc::AllocError;
 
 /// What is known of a variable once it has a value.
-fn decided(value: bool) -> Choice
+fn choice_of(value: bool) -> Choice
     ensures bit { (b : Bool) → bit_of result b ≡ value }
     ensures closed { result ≢ Open }
 {
@@ -77,10 +77,10 @@ pub fn pair_surplus<F: Fn(u32, u32) -> i64 + Sync, V: Fn(u32, u32) -> i64 + Sync
     requires posed { IsPosed F.Fn V.Fn problem.now }
     requires asked { IsAsked problem.now at.now change }
     requires pair { IsPair (length at.now) pair }
-    requires labels { IsSized problem.now.data_cost.labels table.now }
-    requires table { Meant F.Fn V.Fn problem.now (λ m. IsTableOf m change table.now) }
-    ensures value { Meant F.Fn V.Fn problem.now
-        (λ m. result ≡ surplus_of (term_of m change (labelling at.now) pair)) }
+    requires labels { IsRiseTable problem.now.data_cost.labels table.now }
+    requires table { WhereMeant F.Fn V.Fn problem.now (λ m. IsTableOf m change table.now) }
+    ensures value { WhereMeant F.Fn V.Fn problem.now
+        (λ m. result ≡ surplus_of (pair_table m change (labelling at.now) pair)) }
     ensures range { unsigned_abs result ≤ surplus_limit }
 {
     if !table.covers(pair.weight) {
@@ -133,7 +133,7 @@ impl Bounds {
     fn has_bounds(&self, site: u32) -> bool
         requires { site < length self.now.choices.items }
         ensures { IsTrue result ↔
-            ((site < summed self.now) × (choice_at self.now.choices.items site ≡ Open)) }
+            ((site < summed_count self.now) × (choice_at self.now.choices.items site ≡ Open)) }
     {
         (site as usize) < self.least.len() && self.choices[site as usize].is_open()
     }
@@ -150,18 +150,18 @@ impl Bounds {
         value: bool,
     ) -> Result<(), AllocError>
         requires posed { IsPosed F.Fn V.Fn problem.now }
-        requires labels { IsSized problem.now.data_cost.labels table.now }
-        requires table { Meant F.Fn V.Fn problem.now (λ m. IsTableOf m change table.now) }
+        requires labels { IsRiseTable problem.now.data_cost.labels table.now }
+        requires table { WhereMeant F.Fn V.Fn problem.now (λ m. IsTableOf m change table.now) }
         requires asked { IsAsked problem.now at.now change }
         requires pair { IsPair (length at.now) pair }
         requires end { (pair.first ≡ site) ⊎ (pair.second ≡ site) }
         requires sized { IsSummed (length at.now) self.old }
         requires range { IsWithinRange (2 ^ 60) self.old }
-        requires waiting { AreWaiting (summed self.old) self.old }
+        requires waiting { AreWaiting (summed_count self.old) self.old }
         ensures looking { OnOk result (IsLooking 1 self.old self.new) }
-        ensures waiting { OnOk result (AreWaiting (summed self.old) self.new) }
-        ensures sees { OnOk result (Meant F.Fn V.Fn problem.now (λ m. SeesPair m change
-            (labelling at.now) (summed self.old) site value pair self.old self.new)) }
+        ensures waiting { OnOk result (AreWaiting (summed_count self.old) self.new) }
+        ensures sees { OnOk result (WhereMeant F.Fn V.Fn problem.now (λ m. SeesPair m change
+            (labelling at.now) (summed_count self.old) site value pair self.old self.new)) }
     {
         let other = other_end(pair, site);
         if !self.has_bounds(other) {
@@ -176,7 +176,7 @@ impl Bounds {
         requires { site < length self.old.choices.items }
         ensures { IsMarked site value self.old self.new }
     {
-        self.choices[site] = decided(value);
+        self.choices[site] = choice_of(value);
     }
 
     /// Decides a site, and sees each of its pairs with its value.
@@ -193,26 +193,27 @@ impl Bounds {
         requires posed { IsPosed F.Fn V.Fn problem.now }
         requires asked { IsAsked problem.now at.now change }
         requires by_site { AreBySite problem.now.pairs ends.now }
-        requires labels { IsSized problem.now.data_cost.labels table.now }
-        requires table { Meant F.Fn V.Fn problem.now (λ m. IsTableOf m change table.now) }
-        requires site { (site < summed self.old) × (choice_at self.old.choices.items site ≡ Open) }
+        requires labels { IsRiseTable problem.now.data_cost.labels table.now }
+        requires table { WhereMeant F.Fn V.Fn problem.now (λ m. IsTableOf m change table.now) }
+        requires site { (site < summed_count self.old)
+            × (choice_at self.old.choices.items site ≡ Open) }
         requires sized { IsSummed (length at.now) self.old }
         requires range { IsWithinRange (2 ^ 59) self.old }
-        requires waiting { AreWaitingBut (summed self.old) site self.old }
+        requires waiting { AreWaitingBut (summed_count self.old) site self.old }
         ensures sized { OnOk result (IsSummed (length at.now) self.new) }
-        ensures same { OnOk result (summed self.new ≡ summed self.old) }
-        ensures waiting { OnOk result (AreWaiting (summed self.old) self.new) }
+        ensures same { OnOk result (summed_count self.new ≡ summed_count self.old) }
+        ensures waiting { OnOk result (AreWaiting (summed_count self.old) self.new) }
         ensures range { OnOk result ((most : ℕ) → IsWithinRange most self.old →
             IsWithinRange (most + surplus_limit * degree ends.now site) self.new) }
         ensures total { OnOk result (greatest_total self.new ≤
             greatest_total self.old + surplus_limit * degree ends.now site) }
         ensures more { OnOk result (length self.new.waiting.items ≤
             length self.old.waiting.items + degree ends.now site) }
-        ensures left { OnOk result (left ends.now (length at.now) self.new.choices.items
-            + degree ends.now site ≡ left ends.now (length at.now) self.old.choices.items) }
-        ensures decided { OnOk result (Meant F.Fn V.Fn problem.now (λ m. TellsValue self.old site value →
-            ArePartlyDecided m change (labelling at.now) (summed self.old) self.old →
-            ArePartlyDecided m change (labelling at.now) (summed self.old) self.new)) }
+        ensures left { OnOk result (open_ends ends.now (length at.now) self.new.choices.items
+            + degree ends.now site ≡ open_ends ends.now (length at.now) self.old.choices.items) }
+        ensures decided { OnOk result (WhereMeant F.Fn V.Fn problem.now (λ m. TellsValue self.old site value →
+            ArePartlyDecided m change (labelling at.now) (summed_count self.old) self.old →
+            ArePartlyDecided m change (labelling at.now) (summed_count self.old) self.new)) }
     {
         self.mark(site as usize, value);
         for place in ends.starts[site as usize]..ends.starts[site as usize + 1] {
@@ -244,31 +245,32 @@ impl Bounds {
         requires posed { IsPosed F.Fn V.Fn problem.now }
         requires asked { IsAsked problem.now at.now change }
         requires by_site { AreBySite problem.now.pairs ends.now }
-        requires labels { IsSized problem.now.data_cost.labels table.now }
-        requires table { Meant F.Fn V.Fn problem.now (λ m. IsTableOf m change table.now) }
-        requires site { site < summed self.old }
+        requires labels { IsRiseTable problem.now.data_cost.labels table.now }
+        requires table { WhereMeant F.Fn V.Fn problem.now (λ m. IsTableOf m change table.now) }
+        requires site { site < summed_count self.old }
         requires sized { IsSummed (length at.now) self.old }
-        requires left { left ends.now (length at.now) self.old.choices.items ≤ 2 * length
+        requires left { open_ends ends.now (length at.now) self.old.choices.items ≤ 2 * length
             problem.now.pairs.list }
         requires range { IsWithinRange
-            (budget_of (left ends.now (length at.now) self.old.choices.items)) self.old }
-        requires waiting { AreWaitingBut (summed self.old) site self.old }
+            (budget_of (open_ends ends.now (length at.now) self.old.choices.items)) self.old }
+        requires waiting { AreWaitingBut (summed_count self.old) site self.old }
         ensures sized { OnOk result (IsSummed (length at.now) self.new) }
-        ensures same { OnOk result (summed self.new ≡ summed self.old) }
-        ensures waiting { OnOk result (AreWaiting (summed self.old) self.new) }
-        ensures left { OnOk result (left ends.now (length at.now) self.new.choices.items ≤
+        ensures same { OnOk result (summed_count self.new ≡ summed_count self.old) }
+        ensures waiting { OnOk result (AreWaiting (summed_count self.old) self.new) }
+        ensures left { OnOk result (open_ends ends.now (length at.now) self.new.choices.items ≤
             2 * length problem.now.pairs.list) }
         ensures range { OnOk result (IsWithinRange
-            (budget_of (left ends.now (length at.now) self.new.choices.items)) self.new) }
+            (budget_of (open_ends ends.now (length at.now) self.new.choices.items)) self.new) }
         ensures total { OnOk result (greatest_total self.new
-            + surplus_limit * left ends.now (length at.now) self.new.choices.items ≤ greatest_total self.old
-            + surplus_limit * left ends.now (length at.now) self.old.choices.items) }
+            + surplus_limit * open_ends ends.now (length at.now) self.new.choices.items ≤ greatest_total self.old
+            + surplus_limit * open_ends ends.now (length at.now) self.old.choices.items) }
         ensures less { OnOk result (length self.new.waiting.items
-            + left ends.now (length at.now) self.new.choices.items ≤ length self.old.waiting.items
-            + left ends.now (length at.now) self.old.choices.items) }
-        ensures decided { OnOk result (Meant F.Fn V.Fn problem.now (λ m. ArePartlyDecided m change (labelling
-            at.now) (summed self.old) self.old →
-            ArePartlyDecided m change (labelling at.now) (summed self.old) self.new)) }
+            + open_ends ends.now (length at.now) self.new.choices.items
+            ≤ length self.old.waiting.items
+            + open_ends ends.now (length at.now) self.old.choices.items) }
+        ensures decided { OnOk result (WhereMeant F.Fn V.Fn problem.now (λ m. ArePartlyDecided m change (labelling
+            at.now) (summed_count self.old) self.old →
+            ArePartlyDecided m change (labelling at.now) (summed_count self.old) self.new)) }
     {
         let place = site as usize;
         if !self.choices[place].is_open() || !self.can_decide(place) {
@@ -290,28 +292,28 @@ impl Bounds {
         requires posed { IsPosed F.Fn V.Fn problem.now }
         requires asked { IsAsked problem.now at.now change }
         requires by_site { AreBySite problem.now.pairs ends.now }
-        requires labels { IsSized problem.now.data_cost.labels table.now }
-        requires table { Meant F.Fn V.Fn problem.now (λ m. IsTableOf m change table.now) }
+        requires labels { IsRiseTable problem.now.data_cost.labels table.now }
+        requires table { WhereMeant F.Fn V.Fn problem.now (λ m. IsTableOf m change table.now) }
         requires sized { IsSummed (length at.now) self.old }
-        requires left { left ends.now (length at.now) self.old.choices.items ≤ 2 * length
+        requires left { open_ends ends.now (length at.now) self.old.choices.items ≤ 2 * length
             problem.now.pairs.list }
         requires range { IsWithinRange
-            (budget_of (left ends.now (length at.now) self.old.choices.items)) self.old }
-        requires waiting { AreWaiting (summed self.old) self.old }
+            (budget_of (open_ends ends.now (length at.now) self.old.choices.items)) self.old }
+        requires waiting { AreWaiting (summed_count self.old) self.old }
         ensures sized { OnOk result (IsSummed (length at.now) self.new) }
-        ensures same { OnOk result (summed self.new ≡ summed self.old) }
-        ensures waiting { OnOk result (AreWaiting (summed self.old) self.new) }
+        ensures same { OnOk result (summed_count self.new ≡ summed_count self.old) }
+        ensures waiting { OnOk result (AreWaiting (summed_count self.old) self.new) }
         ensures none { OnOk result (self.new.waiting.items ≡ []) }
-        ensures left { OnOk result (left ends.now (length at.now) self.new.choices.items ≤
+        ensures left { OnOk result (open_ends ends.now (length at.now) self.new.choices.items ≤
             2 * length problem.now.pairs.list) }
         ensures range { OnOk result (IsWithinRange
-            (budget_of (left ends.now (length at.now) self.new.choices.items)) self.new) }
+            (budget_of (open_ends ends.now (length at.now) self.new.choices.items)) self.new) }
         ensures total { OnOk result (greatest_total self.new
-            + surplus_limit * left ends.now (length at.now) self.new.choices.items ≤ greatest_total self.old
-            + surplus_limit * left ends.now (length at.now) self.old.choices.items) }
-        ensures decided { OnOk result (Meant F.Fn V.Fn problem.now (λ m. ArePartlyDecided m change (labelling
-            at.now) (summed self.old) self.old →
-            ArePartlyDecided m change (labelling at.now) (summed self.old) self.new)) }
+            + surplus_limit * open_ends ends.now (length at.now) self.new.choices.items ≤ greatest_total self.old
+            + surplus_limit * open_ends ends.now (length at.now) self.old.choices.items) }
+        ensures decided { OnOk result (WhereMeant F.Fn V.Fn problem.now (λ m. ArePartlyDecided m change (labelling
+            at.now) (summed_count self.old) self.old →
+            ArePartlyDecided m change (labelling at.now) (summed_count self.old) self.new)) }
     {
         'settling: while let Some(site) = self.waiting.pop() {
             self.settle(problem, ends, table, at, change, site)?;

@@ -6,10 +6,10 @@ ghost use Rattle.move_energy.specs.Choices.{choice_at};
 ghost use Rattle.move_energy.specs.Limits.{weights_limit};
 ghost use Rattle.move_energy.specs.Weights.{AreWeights};
 ghost use Rattle.labellings.specs.Energies.{labelling};
-ghost use Rattle.cost_store.specs.Posed.{IsPosed, IsAsked, Meant};
+ghost use Rattle.cost_store.specs.Posed.{IsPosed, IsAsked, WhereMeant};
 ghost use Rattle.deciding.specs.Decided.{IsDecidedMove};
-ghost use Rattle.deciding.specs.Listed.{AreListed, AreEmpty};
-ghost use Rattle.deciding.specs.Rising.{IsSized, IsTableOf};
+ghost use Rattle.deciding.specs.Listed.{AreListed, AreListsEmpty};
+ghost use Rattle.deciding.specs.Rising.{IsRiseTable, IsTableOf};
 ghost use Rattle.deciding.specs.Working.{AreOfSites, AreOfNoSites};
 
 use crate::table::RiseTable;
@@ -38,7 +38,7 @@ impl Deciding {
         ensures listed { result.lists.listed ≡ false }
         ensures ends { (result.ends.starts.items ≡ []) × (result.ends.heads.items ≡ []) }
         ensures bounds { AreOfNoSites result.bounds }
-        ensures lists { AreEmpty result.lists }
+        ensures lists { AreListsEmpty result.lists }
     {
         Deciding {
             ends: Neighbours::empty(alloc),
@@ -53,7 +53,7 @@ impl Deciding {
     pub fn new(alloc: Global, pairs: &Pairs) -> Result<Deciding, AllocError>
         ensures by_site { IfOk result (λ d. AreBySite pairs.now d.ends) }
         ensures bounds { IfOk result (λ d. AreOfNoSites d.bounds) }
-        ensures lists { IfOk result (λ d. AreEmpty d.lists) }
+        ensures lists { IfOk result (λ d. AreListsEmpty d.lists) }
     {
         Ok(Deciding {
             ends: group_pairs(alloc, pairs)?,
@@ -88,13 +88,13 @@ impl Deciding {
         ensures kept { self.new.ends ≡ self.old.ends }
         ensures count { OnOk result (length self.new.bounds.choices.items ≡ length at.now) }
         ensures sized { OnOk result (AreOfSites (length at.now) self.new.bounds) }
-        ensures weights { Meant F.Fn V.Fn problem.now (λ m. OnOk result (AreWeights m change
+        ensures weights { WhereMeant F.Fn V.Fn problem.now (λ m. OnOk result (AreWeights m change
             (labelling at.now) (choice_at self.new.bounds.choices.items) self.new.bounds.greatest.items)) }
         ensures small { OnOk result (weights_size self.new.bounds.greatest.items ≤ weights_limit) }
-        ensures decided { Meant F.Fn V.Fn problem.now (λ m. IsDecidedMove m change at.now
+        ensures decided { WhereMeant F.Fn V.Fn problem.now (λ m. IsDecidedMove m change at.now
             self.new.bounds.choices.items result) }
-        ensures table { OnOk result (IsSized problem.now.data_cost.labels self.new.table) }
-        ensures rises { Meant F.Fn V.Fn problem.now (λ m.
+        ensures table { OnOk result (IsRiseTable problem.now.data_cost.labels self.new.table) }
+        ensures rises { WhereMeant F.Fn V.Fn problem.now (λ m.
             OnOk result (IsTableOf m change self.new.table)) }
         ensures listed { OnOk result (AreListed change (labelling at.now) self.new.bounds.choices.items
             self.new.lists) }
@@ -128,13 +128,13 @@ impl Deciding {
         ensures kept { self.new.ends ≡ self.old.ends }
         ensures count { OnOk result (length self.new.bounds.choices.items ≡ length at.now) }
         ensures sized { OnOk result (AreOfSites (length at.now) self.new.bounds) }
-        ensures weights { Meant F.Fn V.Fn problem.now (λ m. OnOk result (AreWeights m change
+        ensures weights { WhereMeant F.Fn V.Fn problem.now (λ m. OnOk result (AreWeights m change
             (labelling at.now) (choice_at self.new.bounds.choices.items) self.new.bounds.greatest.items)) }
         ensures small { OnOk result (weights_size self.new.bounds.greatest.items ≤ weights_limit) }
-        ensures decided { Meant F.Fn V.Fn problem.now (λ m. IsDecidedMove m change at.now
+        ensures decided { WhereMeant F.Fn V.Fn problem.now (λ m. IsDecidedMove m change at.now
             self.new.bounds.choices.items result) }
-        ensures table { OnOk result (IsSized problem.now.data_cost.labels self.new.table) }
-        ensures rises { Meant F.Fn V.Fn problem.now (λ m.
+        ensures table { OnOk result (IsRiseTable problem.now.data_cost.labels self.new.table) }
+        ensures rises { WhereMeant F.Fn V.Fn problem.now (λ m.
             OnOk result (IsTableOf m change self.new.table)) }
         ensures listed { OnOk result (AreListed change (labelling at.now) self.new.bounds.choices.items
             self.new.lists) }

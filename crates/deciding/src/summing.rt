@@ -5,11 +5,11 @@ ghost use Rattle.move_energy.specs.BySite.{AreBySite, degree};
 ghost use Rattle.move_energy.specs.Limits.{weights_limit};
 ghost use Rattle.cost_store.specs.Limits.{site_cost_limit, pair_cost_limit};
 ghost use Rattle.labellings.specs.Energies.{labelling};
-ghost use Rattle.cost_store.specs.Posed.{IsPosed, IsAsked, Meant};
+ghost use Rattle.cost_store.specs.Posed.{IsPosed, IsAsked, WhereMeant};
 ghost use Rattle.move_energy.specs.declared.choice.Choice.TheVariants.{Open, One};
 ghost use Rattle.move_energy.specs.Choices.{choice_at, Changes};
-ghost use Rattle.deciding.specs.Rising.{IsSized, IsTableOf};
-ghost use Rattle.deciding.specs.Working.{summed, CanDecide, AreOfSites, IsSummed, IsWithinRange, IsAnswered, AddsBounds, PassesClosed, AreUndecided, AreUnsummed, AreWaiting, ArePartlyDecided, left, budget_of, greatest_total};
+ghost use Rattle.deciding.specs.Rising.{IsRiseTable, IsTableOf};
+ghost use Rattle.deciding.specs.Working.{summed_count, CanDecide, AreOfSites, IsSummed, IsWithinRange, IsAnswered, AddsBounds, PassesClosed, AreUndecided, AreUnsummed, AreWaiting, ArePartlyDecided, open_ends, budget_of, greatest_total};
 
 use crate::Bounds;
 use crate::rising::site_rises;
@@ -146,26 +146,26 @@ impl Bounds {
         requires posed { IsPosed F.Fn V.Fn problem.now }
         requires asked { IsAsked problem.now at.now change }
         requires by_site { AreBySite problem.now.pairs ends.now }
-        requires labels { IsSized problem.now.data_cost.labels table.now }
-        requires table { Meant F.Fn V.Fn problem.now (λ m. IsTableOf m change table.now) }
-        requires site { (site < length at.now) × (summed self.old ≡ site) }
+        requires labels { IsRiseTable problem.now.data_cost.labels table.now }
+        requires table { WhereMeant F.Fn V.Fn problem.now (λ m. IsTableOf m change table.now) }
+        requires site { (site < length at.now) × (summed_count self.old ≡ site) }
         requires opened { choice_at self.old.choices.items site ≡ Open }
         requires sized { IsSummed (length at.now) self.old }
-        requires left { left ends.now (length at.now) self.old.choices.items ≤ 2 * length
+        requires left { open_ends ends.now (length at.now) self.old.choices.items ≤ 2 * length
             problem.now.pairs.list }
         requires range { IsWithinRange
-            (budget_of (left ends.now (length at.now) self.old.choices.items)) self.old }
+            (budget_of (open_ends ends.now (length at.now) self.old.choices.items)) self.old }
         requires waiting { AreWaiting site self.old }
-        ensures left { OnOk result (left ends.now (length at.now) self.new.choices.items ≤
-            left ends.now (length at.now) self.old.choices.items) }
-        ensures summed { OnOk result (summed self.new ≡ site + 1) }
+        ensures left { OnOk result (open_ends ends.now (length at.now) self.new.choices.items ≤
+            open_ends ends.now (length at.now) self.old.choices.items) }
+        ensures summed { OnOk result (summed_count self.new ≡ site + 1) }
         ensures sized { OnOk result (IsSummed (length at.now) self.new) }
         ensures range { OnOk result (IsWithinRange
-            (budget_of (left ends.now (length at.now) self.old.choices.items)) self.new) }
+            (budget_of (open_ends ends.now (length at.now) self.old.choices.items)) self.new) }
         ensures total { OnOk result (greatest_total self.new ≤ greatest_total self.old + site_cost_limit
             + pair_cost_limit * degree ends.now site) }
         ensures waiting { OnOk result (AreWaiting (site + 1) self.new) }
-        ensures decided { OnOk result (Meant F.Fn V.Fn problem.now (λ m. ArePartlyDecided m change (labelling
+        ensures decided { OnOk result (WhereMeant F.Fn V.Fn problem.now (λ m. ArePartlyDecided m change (labelling
             at.now) site self.old → ArePartlyDecided m change (labelling at.now) (site + 1) self.new)) }
     {
         let rises = site_rises(problem, ends, table, &self.choices, at, change, site);
@@ -187,16 +187,17 @@ impl Bounds {
         requires posed { IsPosed F.Fn V.Fn problem.now }
         requires asked { IsAsked problem.now at.now change }
         requires by_site { AreBySite problem.now.pairs ends.now }
-        requires labels { IsSized problem.now.data_cost.labels table.now }
-        requires table { Meant F.Fn V.Fn problem.now (λ m. IsTableOf m change table.now) }
+        requires labels { IsRiseTable problem.now.data_cost.labels table.now }
+        requires table { WhereMeant F.Fn V.Fn problem.now (λ m. IsTableOf m change table.now) }
         requires unsummed { AreUnsummed (length at.now) self.old }
-        requires begun { Meant F.Fn V.Fn problem.now (λ m. ArePartlyDecided m change (labelling at.now) 0
+        requires begun { WhereMeant F.Fn V.Fn problem.now (λ m. ArePartlyDecided m change (labelling at.now) 0
             self.old) }
         ensures sized { OnOk result (AreOfSites (length at.now) self.new) }
         ensures total { OnOk result (greatest_total self.new ≤ weights_limit) }
         ensures none { OnOk result ((u : ℕ) → u < length at.now → choice_at self.new.choices.items u ≡ Open →
             ¬ CanDecide self.new u) }
-        ensures decided { OnOk result (Meant F.Fn V.Fn problem.now (λ m. ArePartlyDecided m change
+        ensures decided { OnOk result
+            (WhereMeant F.Fn V.Fn problem.now (λ m. ArePartlyDecided m change
             (labelling at.now) (length at.now) self.new)) }
     {
         let mut site = 0usize;

@@ -3,9 +3,9 @@
 ghost use Rattle.std.specs.Prelude.{◌≡◌, ◌⊎◌, ◌+◌, ◌*◌, ◌<◌, ◌≤◌, ℕ, Bool, true, false, pos, length, slice_index_or, unsigned_abs, OnOk};
 ghost use Rattle.label_field.specs.Limits.{weight_limit};
 ghost use Rattle.labellings.specs.Moves.{IsMoveOf};
-ghost use Rattle.cost_store.specs.Posed.{IsPosed, Meant};
+ghost use Rattle.cost_store.specs.Posed.{IsPosed, WhereMeant};
 ghost use Rattle.move_energy.specs.Choices.{bit_of};
-ghost use Rattle.deciding.specs.Rising.{place_of, rises_at, AreRises, AreSmall, IsSized, IsTableOf, table_labels};
+ghost use Rattle.deciding.specs.Rising.{entry_place, rises_at, AreRises, AreRisesSmall, IsRiseTable, IsTableOf, table_labels};
 
 use crate::rising::{Turn, end_rise};
 use cost_store::Problem;
@@ -39,14 +39,14 @@ pub struct RiseTable {
 #[inline]
 fn place(first: bool, own: u32, other: u32) -> usize
     requires { (own < table_labels) × (other < table_labels) }
-    ensures { result ≡ place_of first own other }
+    ensures { result ≡ entry_place first own other }
 {
     let row = if first { own } else { TABLE_LABELS + own };
     (row * TABLE_LABELS + other) as usize
 }
 
 /// The rises of an end of this label whose neighbour has the other label.
-fn asked<F: Fn(u32, u32) -> i64 + Sync, V: Fn(u32, u32) -> i64 + Sync>(
+fn ask_rises<F: Fn(u32, u32) -> i64 + Sync, V: Fn(u32, u32) -> i64 + Sync>(
     problem: &Problem<F, V>,
     change: Move,
     weight: u32,
@@ -58,8 +58,8 @@ fn asked<F: Fn(u32, u32) -> i64 + Sync, V: Fn(u32, u32) -> i64 + Sync>(
     requires change { IsMoveOf problem.now.data_cost.labels change }
     requires weight { weight ≤ weight_limit }
     requires inside { (own < problem.now.data_cost.labels) × (other < problem.now.data_cost.labels) }
-    ensures rises { Meant F.Fn V.Fn problem.now (λ m. AreRises m change weight first own other result) }
-    ensures small { AreSmall result }
+    ensures rises { WhereMeant F.Fn V.Fn problem.now (λ m. AreRises m change weight first own other result) }
+    ensures small { AreRisesSmall result }
 {
     let turn = Turn::of(change, own);
     let low = end_rise(problem, weight, first, turn, change.label(other, false));
@@ -114,11 +114,11 @@ impl RiseTable {
         requires few { problem.now.data_cost.labels ≤ table_labels }
         requires own { own < problem.now.data_cost.labels }
         requires size { length self.old.entries.items ≡ 8192 }
-        ensures rises { Meant F.Fn V.Fn problem.now (λ m. (other : ℕ) → other < problem.now.data_cost.labels →
+        ensures rises { WhereMeant F.Fn V.Fn problem.now (λ m. (other : ℕ) → other < problem.now.data_cost.labels →
             AreRises m change self.old.weight first own other (rises_at self.new first own other)) }
         ensures small { (other : ℕ) → other < problem.now.data_cost.labels →
-            AreSmall (rises_at self.new first own other) }
-        ensures others { (k : ℕ) → (k < place_of first own 0) ⊎ (place_of first own 64 ≤ k) →
+            AreRisesSmall (rises_at self.new first own other) }
+        ensures others { (k : ℕ) → (k < entry_place first own 0) ⊎ (entry_place first own 64 ≤ k) →
             slice_index_or self.new.entries.items k (record { low = pos 0; high = pos 0 })
             ≡ slice_index_or self.old.entries.items k (record { low = pos 0; high = pos 0 }) }
         ensures size { length self.new.entries.items ≡ 8192 }
@@ -126,7 +126,7 @@ impl RiseTable {
     {
         let weight = self.weight;
         for other in 0..problem.data_cost.labels {
-            let rises = asked(problem, change, weight, first, own, other);
+            let rises = ask_rises(problem, change, weight, first, own, other);
             self.entries[place(first, own, other)] = rises;
         }
     }
@@ -142,8 +142,8 @@ impl RiseTable {
         requires weight { self.old.weight ≤ weight_limit }
         requires few { problem.now.data_cost.labels ≤ table_labels }
         requires size { length self.old.entries.items ≡ 8192 }
-        ensures sized { IsSized problem.now.data_cost.labels self.new }
-        ensures rises { Meant F.Fn V.Fn problem.now (λ m. IsTableOf m change self.new) }
+        ensures sized { IsRiseTable problem.now.data_cost.labels self.new }
+        ensures rises { WhereMeant F.Fn V.Fn problem.now (λ m. IsTableOf m change self.new) }
     {
         for own in 0..problem.data_cost.labels {
             self.fill_row(problem, change, true, own);
@@ -162,8 +162,8 @@ impl RiseTable {
     ) -> Result<(), AllocError>
         requires posed { IsPosed F.Fn V.Fn problem.now }
         requires change { IsMoveOf problem.now.data_cost.labels change }
-        ensures sized { OnOk result (IsSized problem.now.data_cost.labels self.new) }
-        ensures rises { OnOk result (Meant F.Fn V.Fn problem.now (λ m. IsTableOf m change self.new)) }
+        ensures sized { OnOk result (IsRiseTable problem.now.data_cost.labels self.new) }
+        ensures rises { OnOk result (WhereMeant F.Fn V.Fn problem.now (λ m. IsTableOf m change self.new)) }
     {
         self.stands = false;
         self.weight = weight;

@@ -3,7 +3,7 @@ ghost use Rattle.std.specs.Prelude.{◌≡◌, ◌↔◌, ◌⊎◌, length, IsT
 ghost use Rattle.label_field.specs.PairLists.{IsPair};
 ghost use Rattle.labellings.specs.Energies.{labelling};
 ghost use Rattle.labellings.specs.Moves.{IsRegularPair};
-ghost use Rattle.cost_store.specs.Posed.{IsPosed, IsAsked, Meant};
+ghost use Rattle.cost_store.specs.Posed.{IsPosed, IsAsked, WhereMeant};
 ghost use Rattle.move_energy.specs.Choices.{Changes};
 ghost use Rattle.deciding.specs.Working.{AreTermsTested};
 
@@ -33,7 +33,7 @@ fn is_term_regular<F: Fn(u32, u32) -> i64 + Sync, V: Fn(u32, u32) -> i64 + Sync>
     requires posed { IsPosed F.Fn V.Fn problem.now }
     requires asked { IsAsked problem.now at.now change }
     requires pair { IsPair (length at.now) pair }
-    ensures { Meant F.Fn V.Fn problem.now
+    ensures { WhereMeant F.Fn V.Fn problem.now
         (λ m. IsTrue result ↔ IsRegularPair m change (labelling at.now) pair) }
 {
     if !can_change_end(at, change, pair) {
@@ -52,7 +52,8 @@ pub(crate) fn test_terms<F: Fn(u32, u32) -> i64 + Sync, V: Fn(u32, u32) -> i64 +
 ) -> Result<(), BuildError>
     requires posed { IsPosed F.Fn V.Fn problem.now }
     requires asked { IsAsked problem.now at.now change }
-    ensures { Meant F.Fn V.Fn problem.now (λ m. AreTermsTested m change (labelling at.now) result) }
+    ensures { WhereMeant F.Fn V.Fn problem.now
+        (λ m. AreTermsTested m change (labelling at.now) result) }
 {
     if problem.smooth_cost.by_metric {
         return Ok(());

@@ -1,7 +1,7 @@
 //! Cuts that show values, and minima of small energies. The values were worked by hand.
 ghost use Rattle.std.specs.Prelude.{◌≡◌, vec_len, IfOk};
 ghost use Rattle.pseudo_bool.specs.Limits.{term_limit};
-ghost use Rattle.compile_cut.specs.Quadratics.{IsBounded};
+ghost use Rattle.compile_cut.specs.Quadratics.{IsQuadraticBounded};
 
 use crate::rows::expect;
 use compile_cut::{Net, Quadratic, compile, net_of};
@@ -54,7 +54,7 @@ const CASES: &[Case] = &[
 
 /// The capacities of the cuts that show 00, 01, 10 and 11 in a net of two nodes, each with the
 /// constant added.
-fn shown(rt: &impl Abort, net: &Net, constant: i64) -> [i64; 4] {
+fn cut_values(rt: &impl Abort, net: &Net, constant: i64) -> [i64; 4] {
     let mut values = [constant; 4];
     for (place, value) in values.iter_mut().enumerate() {
         let side = [place / 2 == 1, place % 2 == 1];
@@ -83,7 +83,7 @@ fn is_right(
     let compiled = compile(alloc, check(energy).expect(rt, "regular"))?;
     let minimum = minimise(alloc, check(energy).expect(rt, "regular"))?;
     Ok(
-        shown(rt, &compiled.net, compiled.constant) == case.3
+        cut_values(rt, &compiled.net, compiled.constant) == case.3
             && minimum.value == case.4
             && minimum.assignment.as_slice() == case.5.as_slice(),
     )
@@ -91,7 +91,7 @@ fn is_right(
 
 /// The form of the first case, its terms added one after another.
 fn first_form(alloc: Global) -> Result<Quadratic, AllocError>
-    ensures bounded { IfOk result (IsBounded term_limit) }
+    ensures bounded { IfOk result (IsQuadraticBounded term_limit) }
     ensures nodes { IfOk result (λ form. vec_len form.weights ≡ 2) }
 {
     let mut form = Quadratic::zero(alloc, 2)?;
@@ -115,6 +115,6 @@ fn cuts_show_values_and_minima(rt: HostRuntime) -> Result<(), Fail> {
 #[test]
 fn cuts_show_a_form(rt: HostRuntime) -> Result<(), Fail> {
     let compiled = net_of(rt.alloc(), first_form(rt.alloc())?)?;
-    assert!(rt; shown(&rt, &compiled.net, compiled.constant) == CASES[0].3);
+    assert!(rt; cut_values(&rt, &compiled.net, compiled.constant) == CASES[0].3);
     Ok(())
 }

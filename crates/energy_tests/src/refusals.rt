@@ -110,7 +110,7 @@ const TRIED: &[Tried] = &[
     ),
 ];
 
-fn named(expected: Option<(usize, Option<(usize, bool)>)>) -> Option<NotRegular> {
+fn not_regular(expected: Option<(usize, Option<(usize, bool)>)>) -> Option<NotRegular> {
     let (term, fixed) = expected?;
     Some(NotRegular {
         term,
@@ -127,7 +127,7 @@ fn is_told(energy: &mut Energy, tried: &Tried) -> bool {
     energy.clear(3);
     add_term(energy, *first) == Ok(())
         && add_term(energy, *second) == Ok(())
-        && check(energy).err() == named(*expected)
+        && check(energy).err() == not_regular(*expected)
 }
 
 #[test]

@@ -1,7 +1,7 @@
 -- Sums that the code makes stay below the capacities together.
 use Rattle.std.proofs.Common.{◌≡◌, ◌≢◌, ◌↔◌, IsTrue, eqb, Result, Ok, Err, IfOk, ℕ, zero, suc, ◌+◌, ◌<◌, ◌≤◌, Bool, true, false, not, List, length, get_or, slice_index, sum, sum_by, take, sym, ◌∙◌, ap, arith}
 use Rattle.std.proofs.lemmas.List.Sums.{sum_by_more_le_part, sum_by-le-sum_by}
-use Rattle.sums.specs.Sums.{sum_below, counted}
+use Rattle.sums.specs.Sums.{sum_below, count_if}
 use Rattle.flow_network.specs.declared.arc.Arc.{Arc}
 use Rattle.flow_network.specs.Cut.{Network, nodes, enters, capacity_of, total_capacity, IsNet}
 use Rattle.flow_network.specs.declared.solved.Solved.{Solved}
@@ -16,13 +16,13 @@ pub sum_is : (xs : List ℕ) → sum xs ≡ sum_below (length xs) (slice_index x
 sum_is xs = sum_by-sum_below (λ x. x) xs 0
 
 -- what is counted before k, and the term at k, are within the sum
-pub counted-more-le : (n k : ℕ) (b : ℕ → Bool) (f : ℕ → ℕ) → k < n → sum_below k (λ i. counted (b i) (f i)) + f k ≤ sum_below n f
+pub counted-more-le : (n k : ℕ) (b : ℕ → Bool) (f : ℕ → ℕ) → k < n → sum_below k (λ i. count_if (b i) (f i)) + f k ≤ sum_below n f
 counted-more-le n k b f l =
-    omega (arith, sum_below-le k (λ i. counted (b i) (f i)) f (λ i h. counted-le (b i) (f i)), sum_below-le-longer (suc k) n f (omega arith))
+    omega (arith, sum_below-le k (λ i. count_if (b i) (f i)) f (λ i h. counted-le (b i) (f i)), sum_below-le-longer (suc k) n f (omega arith))
 
 pub flow-le-capacities : (net : Network) (flow : ℕ → ℕ) (b : ℕ → Bool) (k : ℕ) → k < length net.arcs
     → ((i : ℕ) → i < length net.arcs → flow i ≤ (arc_at net i).capacity)
-    → sum_below k (λ i. counted (b i) (flow i)) + flow k ≤ sum_by (λ arc. arc.capacity) net.arcs
+    → sum_below k (λ i. count_if (b i) (flow i)) + flow k ≤ sum_by (λ arc. arc.capacity) net.arcs
 flow-le-capacities net flow b k l within =
     omega (
       arith,
@@ -40,17 +40,17 @@ pub sum-le-sum : (xs ys : List ℕ) → length xs ≡ length ys → ((v : ℕ) �
 sum-le-sum xs ys e within =
     omega (arith, sum_is xs, sum_is ys, ap (λ n. sum_below n (slice_index xs)) e, sum_below-le (length ys) (slice_index xs) (slice_index ys) within)
 
-one_of : (t : Bool) (f g : ℕ) → counted t f + counted (not t) g ≤ f + g
+one_of : (t : Bool) (f g : ℕ) → count_if t f + count_if (not t) g ≤ f + g
 one_of true f g = omega arith
 one_of false f g = omega arith
 
 sides-le : (n : ℕ) (b : ℕ → Bool) (f g : ℕ → ℕ)
-    → sum_below n (λ v. counted (b v) (f v)) + sum_below n (λ v. counted (not (b v)) (g v)) ≤ sum_below n f + sum_below n g
+    → sum_below n (λ v. count_if (b v) (f v)) + sum_below n (λ v. count_if (not (b v)) (g v)) ≤ sum_below n f + sum_below n g
 sides-le zero b f g = omega arith
 sides-le (suc n) b f g = omega (arith, sides-le n b f g, one_of (b n) (f n) (g n))
 
 pub sides-more-le : (xs ys : List ℕ) (b : ℕ → Bool) (v : ℕ) → v < length xs → length ys ≡ length xs
-    → sum_below v (λ v. counted (b v) (slice_index xs v)) + sum_below v (λ v. counted (not (b v)) (slice_index ys v))
+    → sum_below v (λ v. count_if (b v) (slice_index xs v)) + sum_below v (λ v. count_if (not (b v)) (slice_index ys v))
     + (slice_index xs v + slice_index ys v) ≤ sum xs + sum ys
 sides-more-le xs ys b v l e =
     omega (
@@ -64,16 +64,16 @@ sides-more-le xs ys b v l e =
     )
 
 pub sides-all-le : (xs ys : List ℕ) (b : ℕ → Bool) → length ys ≡ length xs
-    → sum_below (length xs) (λ v. counted (b v) (slice_index xs v)) + sum_below (length xs) (λ v. counted (not (b v)) (slice_index ys v))
+    → sum_below (length xs) (λ v. count_if (b v) (slice_index xs v)) + sum_below (length xs) (λ v. count_if (not (b v)) (slice_index ys v))
     ≤ sum xs + sum ys
 sides-all-le xs ys b e =
     omega (arith, sides-le (length xs) b (slice_index xs) (slice_index ys), sum_is xs, sum_is ys, ap (λ n. sum_below n (slice_index ys)) e)
 
 pub arcs-more-le : (arcs : List Arc) (b : Arc → Bool) (k : ℕ) → k < length arcs
-    → sum_by (λ arc. counted (b arc) arc.capacity) (take k arcs) + (get_or arcs k (record { from = 0; to = 0; capacity = 0 })).capacity
+    → sum_by (λ arc. count_if (b arc) arc.capacity) (take k arcs) + (get_or arcs k (record { from = 0; to = 0; capacity = 0 })).capacity
     ≤ sum_by (λ arc. arc.capacity) arcs
 arcs-more-le arcs b k l =
-    sum_by_more_le_part (λ (arc : Arc). counted (b arc) arc.capacity) (λ arc. arc.capacity) arcs k (record { from = 0; to = 0; capacity = 0 }) l
+    sum_by_more_le_part (λ (arc : Arc). count_if (b arc) arc.capacity) (λ arc. arc.capacity) arcs k (record { from = 0; to = 0; capacity = 0 }) l
     (λ arc. counted-le (b arc) arc.capacity)
 
 -- no cut can do more than all capacities together
@@ -82,7 +82,7 @@ capacity-le-total net side h =
     omega (
       arith,
       sides-all-le net.sources net.sinks side h.same,
-      sum_by-le-sum_by (λ arc. counted (enters side arc) arc.capacity) (λ arc. arc.capacity) net.arcs (λ arc. counted-le (enters side arc) arc.capacity),
+      sum_by-le-sum_by (λ arc. count_if (enters side arc) arc.capacity) (λ arc. arc.capacity) net.arcs (λ arc. counted-le (enters side arc) arc.capacity),
     )
 
 -- a preflow whose value is told: what is left to test

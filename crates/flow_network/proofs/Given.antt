@@ -5,23 +5,23 @@ use Rattle.std.proofs.lemmas.List.{get_or_past, length-set}
 use Rattle.std.specs.Simd.Lanes.{zip2}
 use Rattle.std.proofs.lemmas.Simd.{length-zip2, get_or-zip2}
 use Rattle.flow_network.specs.Cut.{Network, nodes, IsNet}
-use Rattle.flow_network.specs.Preflow.{given, AreRooms}
+use Rattle.flow_network.specs.Preflow.{sink_flows, AreRooms}
 
-pub length-given : (net : Network) (rooms : List ℕ) → IsNet net → AreRooms net rooms → length (given net rooms) ≡ nodes net
+pub length-given : (net : Network) (rooms : List ℕ) → IsNet net → AreRooms net rooms → length (sink_flows net rooms) ≡ nodes net
 length-given net rooms h r = length-zip2 (λ sink room. sink - room) net.sinks rooms (h.same ∙ sym r.len) ∙ h.same
 
 pub given_at : (net : Network) (rooms : List ℕ) (v : ℕ) → IsNet net → AreRooms net rooms → v < nodes net
-    → slice_index (given net rooms) v ≡ slice_index net.sinks v - slice_index rooms v
+    → slice_index (sink_flows net rooms) v ≡ slice_index net.sinks v - slice_index rooms v
 given_at net rooms v h r l = get_or-zip2 (λ sink room. sink - room) net.sinks rooms v 0 0 0 (omega (arith, h.same, l)) (omega (arith, r.len, l))
 
 -- where a node has room, it can give more than it gives
 pub room_left : (net : Network) (rooms : List ℕ) (v : ℕ) → IsNet net → AreRooms net rooms → v < nodes net
-    → 0 < slice_index rooms v → slice_index (given net rooms) v < slice_index net.sinks v
+    → 0 < slice_index rooms v → slice_index (sink_flows net rooms) v < slice_index net.sinks v
 room_left net rooms v h r l some = omega (arith, given_at net rooms v h r l, r.within v l, some)
 
 -- where it can give more than it gives, it has room
 pub left_room : (net : Network) (rooms : List ℕ) (v : ℕ) → IsNet net → AreRooms net rooms → v < nodes net
-    → slice_index (given net rooms) v < slice_index net.sinks v → 0 < slice_index rooms v
+    → slice_index (sink_flows net rooms) v < slice_index net.sinks v → 0 < slice_index rooms v
 left_room net rooms v h r l more = omega (arith, given_at net rooms v h r l, more)
 
 less_set : (sinks rooms : List ℕ) (v room : ℕ)
@@ -33,10 +33,10 @@ less_set (x ∷ xs) (y ∷ ys) (suc v) room = ap (λ (rest : List ℕ). (x - y) 
 
 -- where a room falls, the node gives so much more
 pub given_set : (net : Network) (rooms : List ℕ) (v z : ℕ) → IsNet net → AreRooms net rooms → v < nodes net → z ≤ slice_index rooms v
-    → given net (set rooms v (slice_index rooms v - z)) ≡ set (given net rooms) v (slice_index (given net rooms) v + z)
+    → sink_flows net (set rooms v (slice_index rooms v - z)) ≡ set (sink_flows net rooms) v (slice_index (sink_flows net rooms) v + z)
 given_set net rooms v z h r l small =
-    let more : slice_index net.sinks v - (slice_index rooms v - z) ≡ slice_index (given net rooms) v + z = omega (arith, given_at net rooms v h r l, r.within v l, small) in
-    less_set net.sinks rooms v (slice_index rooms v - z) ∙ ap (λ amount. set (given net rooms) v amount) more
+    let more : slice_index net.sinks v - (slice_index rooms v - z) ≡ slice_index (sink_flows net rooms) v + z = omega (arith, given_at net rooms v h r l, r.within v l, small) in
+    less_set net.sinks rooms v (slice_index rooms v - z) ∙ ap (λ amount. set (sink_flows net rooms) v amount) more
 
 -- a room may fall
 pub rooms_set : (net : Network) (rooms : List ℕ) (v room : ℕ) → AreRooms net rooms → v < nodes net → room ≤ slice_index rooms v
@@ -58,8 +58,8 @@ pub sinks_rooms : (net : Network) → IsNet net → AreRooms net net.sinks
 sinks_rooms net h = record { len = h.same; within = λ v l. omega arith }
 
 -- and then nothing is given
-pub given_none : (net : Network) (v : ℕ) → IsNet net → slice_index (given net net.sinks) v ≡ 0
+pub given_none : (net : Network) (v : ℕ) → IsNet net → slice_index (sink_flows net net.sinks) v ≡ 0
 given_none net v h = elim (cases_lt v (nodes net)) [
   | inl l ↦ omega (arith, given_at net net.sinks v h (sinks_rooms net h) l)
-  | inr past ↦ get_or_past (given net net.sinks) v 0 (omega (arith, length-given net net.sinks h (sinks_rooms net h), past))
+  | inr past ↦ get_or_past (sink_flows net net.sinks) v 0 (omega (arith, length-given net net.sinks h (sinks_rooms net h), past))
 ]

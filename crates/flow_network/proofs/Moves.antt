@@ -6,7 +6,7 @@ use Rattle.sums.specs.Sums.{sum_below}
 use Rattle.flow_network.specs.Cut.{Network, nodes, IsNet, total_capacity}
 use Rattle.flow_network.specs.Preflow.{arc_at, Flow, excess, sink_gets, IsPreflow, IsResidual, ReachesIn}
 use Rattle.flow_network.specs.Labels.{IsLabelling}
-use Rattle.flow_network.specs.Progress.{top, IsSound, rise_left, work_left}
+use Rattle.flow_network.specs.Progress.{top, IsLabelledPreflow, rise_left, work_left}
 use Rattle.sums.proofs.SumLemmas.{sum_below-zero, sum_below-change, sum_by-sum_below, term-le-sum_below}
 use Rattle.flow_network.proofs.Duality.{capacity_is, arc_is}
 use Rattle.flow_network.proofs.Bounds.{sum_is}
@@ -26,7 +26,7 @@ excess_total net flow h p =
       sum_by-sum_below (λ arc. 0) net.arcs (record { from = 0; to = 0; capacity = 0 }),
     )
 
-pub kept-le-total : (net : Network) (flow : Flow) (kept labels : List ℕ) → IsNet net → IsSound net flow kept labels
+pub kept-le-total : (net : Network) (flow : Flow) (kept labels : List ℕ) → IsNet net → IsLabelledPreflow net flow kept labels
     → (v : ℕ) → v < nodes net → slice_index kept v ≤ total_capacity net
 kept-le-total net flow kept labels h s v l =
     omega (arith, excess_total net flow h s.preflow, term-le-sum_below (nodes net) (excess net flow) v l, s.told v l)
@@ -44,12 +44,12 @@ arcs_after net fs k y e l fits old i li = elim (cases_eq i k) [
   | inr other ↦ omega (arith, old i li, get_or-set_other fs k i y 0 other)
 ]
 
-pub push_sound : (net : Network) (flow : Flow) (kept labels : List ℕ) (k y u w z : ℕ) → IsSound net flow kept labels
+pub push_sound : (net : Network) (flow : Flow) (kept labels : List ℕ) (k y u w z : ℕ) → IsLabelledPreflow net flow kept labels
     → k < length net.arcs → y ≤ (arc_at net k).capacity → u < nodes net → w < nodes net → z ≤ slice_index kept u
     → slice_index labels u ≡ slice_index labels w + 1
     → IsMoved net flow (record { arcs = set flow.arcs k y; sinks = flow.sinks }) u w z
     → ((a b : ℕ) → IsResidual net (record { arcs = set flow.arcs k y; sinks = flow.sinks }) a b → IsResidual net flow a b ⊎ ((a ≡ w) × (b ≡ u)))
-    → IsSound net (record { arcs = set flow.arcs k y; sinks = flow.sinks }) (moved kept u w z) labels
+    → IsLabelledPreflow net (record { arcs = set flow.arcs k y; sinks = flow.sinks }) (moved kept u w z) labels
 push_sound net flow kept labels k y u w z s l fits lu lw le down m new =
     let flow' : Flow = record { arcs = set flow.arcs k y; sinks = flow.sinks } in
     let ne : u ≢ w = λ e. (let same = ap (slice_index labels) e in omega (arith, same, down)) in
@@ -68,20 +68,20 @@ push_sound net flow kept labels k y u w z s l fits lu lw le down m new =
       below_top = s.below_top;
     }
 
-pub forward_sound : (net : Network) (flow : Flow) (kept labels : List ℕ) (k z : ℕ) → IsNet net → IsSound net flow kept labels
+pub forward_sound : (net : Network) (flow : Flow) (kept labels : List ℕ) (k z : ℕ) → IsNet net → IsLabelledPreflow net flow kept labels
     → k < length net.arcs → z ≤ slice_index kept (arc_at net k).from → slice_index flow.arcs k + z ≤ (arc_at net k).capacity
     → slice_index flow.arcs k < (arc_at net k).capacity
     → slice_index labels (arc_at net k).from ≡ slice_index labels (arc_at net k).to + 1
-    → IsSound net (record { arcs = set flow.arcs k (slice_index flow.arcs k + z); sinks = flow.sinks }) (moved kept (arc_at net k).from (arc_at net k).to z) labels
+    → IsLabelledPreflow net (record { arcs = set flow.arcs k (slice_index flow.arcs k + z); sinks = flow.sinks }) (moved kept (arc_at net k).from (arc_at net k).to z) labels
 forward_sound net flow kept labels k z h s l le fits room down =
     push_sound net flow kept labels k (slice_index flow.arcs k + z) (arc_at net k).from (arc_at net k).to z s l fits
     (arc_is net h k l).from (arc_is net h k l).to le down (moved_forward net flow k z l s.preflow.arcs_len)
     (forward_new net flow k (slice_index flow.arcs k + z) room (omega arith))
 
-pub back_sound : (net : Network) (flow : Flow) (kept labels : List ℕ) (k z : ℕ) → IsNet net → IsSound net flow kept labels
+pub back_sound : (net : Network) (flow : Flow) (kept labels : List ℕ) (k z : ℕ) → IsNet net → IsLabelledPreflow net flow kept labels
     → k < length net.arcs → z ≤ slice_index kept (arc_at net k).to → z ≤ slice_index flow.arcs k → 0 < slice_index flow.arcs k
     → slice_index labels (arc_at net k).to ≡ slice_index labels (arc_at net k).from + 1
-    → IsSound net (record { arcs = set flow.arcs k (slice_index flow.arcs k - z); sinks = flow.sinks }) (moved kept (arc_at net k).to (arc_at net k).from z) labels
+    → IsLabelledPreflow net (record { arcs = set flow.arcs k (slice_index flow.arcs k - z); sinks = flow.sinks }) (moved kept (arc_at net k).to (arc_at net k).from z) labels
 back_sound net flow kept labels k z h s l le fits some down =
     push_sound net flow kept labels k (slice_index flow.arcs k - z) (arc_at net k).to (arc_at net k).from z s l (omega (arith, s.preflow.arcs k l))
     (arc_is net h k l).to (arc_is net h k l).from le down (moved_back net flow k z l s.preflow.arcs_len fits)
@@ -89,9 +89,9 @@ back_sound net flow kept labels k z h s l le fits some down =
 
 -- ---- a gift to the sink
 
-pub give_sound : (net : Network) (flow : Flow) (kept labels : List ℕ) (u z : ℕ) → IsSound net flow kept labels → u < nodes net
+pub give_sound : (net : Network) (flow : Flow) (kept labels : List ℕ) (u z : ℕ) → IsLabelledPreflow net flow kept labels → u < nodes net
     → z ≤ slice_index kept u → slice_index flow.sinks u + z ≤ slice_index net.sinks u
-    → IsSound net (record { arcs = flow.arcs; sinks = set flow.sinks u (slice_index flow.sinks u + z) }) (set kept u (slice_index kept u - z)) labels
+    → IsLabelledPreflow net (record { arcs = flow.arcs; sinks = set flow.sinks u (slice_index flow.sinks u + z) }) (set kept u (slice_index kept u - z)) labels
 give_sound net flow kept labels u z s lu le fits =
     let y = slice_index flow.sinks u + z in
     let flow' : Flow = record { arcs = flow.arcs; sinks = set flow.sinks u y } in
@@ -144,11 +144,11 @@ give_sound net flow kept labels u z s lu le fits =
 
 -- ---- a new label
 
-pub relabel_sound : (net : Network) (flow : Flow) (kept labels : List ℕ) (u j : ℕ) → IsSound net flow kept labels → u < nodes net
+pub relabel_sound : (net : Network) (flow : Flow) (kept labels : List ℕ) (u j : ℕ) → IsLabelledPreflow net flow kept labels → u < nodes net
     → slice_index labels u ≤ j → j ≤ top net
     → (slice_index flow.sinks u < slice_index net.sinks u → j ≤ 1)
     → ((b : ℕ) → IsResidual net flow u b → j ≤ slice_index labels b + 1)
-    → IsSound net flow kept (set labels u j)
+    → IsLabelledPreflow net flow kept (set labels u j)
 relabel_sound net flow kept labels u j s lu up fits sinks arcs =
     let here : slice_index (set labels u j) u ≡ j = get_or-set_same labels u j 0 (omega (arith, s.labelling.len)) in
     let grown : (b : ℕ) → slice_index labels b ≤ slice_index (set labels u j) b = λ b. elim (cases_eq b u) [
@@ -187,7 +187,7 @@ relabel_sound net flow kept labels u j s lu up fits sinks arcs =
       ];
     }
 
-pub relabel_lowers_all : (net : Network) (flow : Flow) (kept labels : List ℕ) (u j : ℕ) → IsNet net → IsSound net flow kept labels → u < nodes net
+pub relabel_lowers_all : (net : Network) (flow : Flow) (kept labels : List ℕ) (u j : ℕ) → IsNet net → IsLabelledPreflow net flow kept labels → u < nodes net
     → slice_index labels u < j → j ≤ top net
     → work_left net kept (set labels u j) < work_left net kept labels
 relabel_lowers_all net flow kept labels u j h s lu up fits =

@@ -2,26 +2,26 @@
 use Rattle.std.proofs.Common.{◌≡◌, ◌≢◌, ℕ, ◌+◌, ◌-◌, ◌*◌, ◌<◌, ◌≤◌, ◌⊎◌, inl, inr, Bool, true, false, eqb, List, length, set, slice_index, refl, sym, ◌∙◌, ap, arith, get_or-set_same, get_or-set_other}
 use Rattle.std.proofs.lemmas.List.{length-set}
 use Rattle.std.proofs.lemmas.Bool.{cases_eq}
-use Rattle.sums.specs.Sums.{sum_below, counted}
+use Rattle.sums.specs.Sums.{sum_below, count_if}
 use Rattle.flow_network.specs.Cut.{Network, nodes}
-use Rattle.flow_network.specs.Preflow.{arc_at, Flow, gets, gives, excess, IsResidual}
+use Rattle.flow_network.specs.Preflow.{arc_at, Flow, gets, total_outflow, excess, IsResidual}
 use Rattle.flow_network.specs.Labels.{IsLabelling}
-use Rattle.flow_network.specs.Progress.{height, work_left}
+use Rattle.flow_network.specs.Progress.{excess_height, work_left}
 use Rattle.sums.proofs.SumLemmas.{sum_below-change, counted-same, counted-other}
 
 -- ---- sums after a write
 
 -- what the arcs of some kind carry, after a write
 pub ends_set : (m k : ℕ) (end : ℕ → Bool) (fs : List ℕ) (y : ℕ) → k < m → k < length fs
-    → sum_below m (λ i. counted (end i) (slice_index (set fs k y) i)) + counted (end k) (slice_index fs k)
-    ≡ sum_below m (λ i. counted (end i) (slice_index fs i)) + counted (end k) y
+    → sum_below m (λ i. count_if (end i) (slice_index (set fs k y) i)) + count_if (end k) (slice_index fs k)
+    ≡ sum_below m (λ i. count_if (end i) (slice_index fs i)) + count_if (end k) y
 ends_set m k end fs y l l' =
     let here : slice_index (set fs k y) k ≡ y = get_or-set_same fs k y 0 l' in
-    let change = sum_below-change m k (λ i. counted (end i) (slice_index fs i)) (λ i. counted (end i) (slice_index (set fs k y) i)) l
-    (λ i h ne. ap (counted (end i)) (sym (get_or-set_other fs k i y 0 ne))) in
-    omega (arith, change, ap (counted (end k)) here)
+    let change = sum_below-change m k (λ i. count_if (end i) (slice_index fs i)) (λ i. count_if (end i) (slice_index (set fs k y) i)) l
+    (λ i h ne. ap (count_if (end i)) (sym (get_or-set_other fs k i y 0 ne))) in
+    omega (arith, change, ap (count_if (end k)) here)
 
-counted-add : (b : Bool) (y z : ℕ) → counted b (y + z) ≡ counted b y + counted b z
+counted-add : (b : Bool) (y z : ℕ) → count_if b (y + z) ≡ count_if b y + count_if b z
 counted-add true y z = refl
 counted-add false y z = refl
 
@@ -29,7 +29,7 @@ counted-add false y z = refl
 
 pub record IsMoved (net : Network) (flow flow' : Flow) (u w z : ℕ) : Type 0 where
   pub balance : (v : ℕ) → v < nodes net
-      → gets net flow' v + gives net flow v + counted (eqb u v) z ≡ gives net flow' v + gets net flow v + counted (eqb w v) z
+      → gets net flow' v + total_outflow net flow v + count_if (eqb u v) z ≡ total_outflow net flow' v + gets net flow v + count_if (eqb w v) z
 
 pub moved_forward : (net : Network) (flow : Flow) (k z : ℕ) → k < length net.arcs → length flow.arcs ≡ length net.arcs
     → IsMoved net flow (record { arcs = set flow.arcs k (slice_index flow.arcs k + z); sinks = flow.sinks }) (arc_at net k).from (arc_at net k).to z
@@ -58,10 +58,10 @@ moved_back net flow k z l e le =
         arith,
         ends_set (length net.arcs) k (λ i. eqb (arc_at net i).to v) flow.arcs f l l',
         counted-add (eqb (arc_at net k).to v) f z,
-        ap (counted (eqb (arc_at net k).to v)) whole,
+        ap (count_if (eqb (arc_at net k).to v)) whole,
         ends_set (length net.arcs) k (λ i. eqb (arc_at net i).from v) flow.arcs f l l',
         counted-add (eqb (arc_at net k).from v) f z,
-        ap (counted (eqb (arc_at net k).from v)) whole,
+        ap (count_if (eqb (arc_at net k).from v)) whole,
       );
     }
 
@@ -70,7 +70,7 @@ abbrev pub moved : List ℕ → ℕ → ℕ → ℕ → List ℕ
 moved kept u w z = set (set kept u (slice_index kept u - z)) w (slice_index kept w + z)
 
 pub record IsKept (net : Network) (flow : Flow) (kept : List ℕ) (v : ℕ) : Type 0 where
-  pub covered : gives net flow v ≤ gets net flow v
+  pub covered : total_outflow net flow v ≤ gets net flow v
   pub told : slice_index kept v ≡ excess net flow v
 
 balance_at_from : (a b a' b' z e : ℕ) → a' + b + z ≡ b' + a → b ≤ a → e ≡ a - b → z ≤ e → (b' ≤ a') × ((e - z) ≡ a' - b')
@@ -88,35 +88,35 @@ kept_moved net flow flow' kept u w z m ne len lu lw le old v lv =
     let b = m.balance v lv in
     elim (cases_eq v u) [
       | inl here ↦
-          let c1 : counted (eqb u v) z ≡ z = ap (λ i. counted (eqb u i) z) here ∙ counted-same u z in
-          let c2 : counted (eqb w v) z ≡ 0 = counted-other w v z (λ e. ne (sym here ∙ e)) in
+          let c1 : count_if (eqb u v) z ≡ z = ap (λ i. count_if (eqb u i) z) here ∙ counted-same u z in
+          let c2 : count_if (eqb w v) z ≡ 0 = counted-other w v z (λ e. ne (sym here ∙ e)) in
           let r1 : slice_index (moved kept u w z) v ≡ slice_index (set kept u (slice_index kept u - z)) v =
           get_or-set_other (set kept u (slice_index kept u - z)) w v (slice_index kept w + z) 0 (λ e. ne (sym here ∙ e)) in
           let r2 : slice_index (set kept u (slice_index kept u - z)) v ≡ slice_index kept u - z =
           ap (slice_index (set kept u (slice_index kept u - z))) here ∙ get_or-set_same kept u (slice_index kept u - z) 0 (omega arith) in
           let same : slice_index kept v ≡ slice_index kept u = ap (slice_index kept) here in
-          let at = balance_at_from (gets net flow v) (gives net flow v) (gets net flow' v) (gives net flow' v) z (slice_index kept u)
+          let at = balance_at_from (gets net flow v) (total_outflow net flow v) (gets net flow' v) (total_outflow net flow' v) z (slice_index kept u)
           (omega (arith, b, c1, c2)) o.covered (sym same ∙ o.told) le in
           record { covered = at.0; told = r1 ∙ (r2 ∙ at.1) }
       | inr off ↦ elim (cases_eq v w) [
         | inl there ↦
-            let c1 : counted (eqb u v) z ≡ 0 = counted-other u v z off in
-            let c2 : counted (eqb w v) z ≡ z = ap (λ i. counted (eqb w i) z) there ∙ counted-same w z in
+            let c1 : count_if (eqb u v) z ≡ 0 = counted-other u v z off in
+            let c2 : count_if (eqb w v) z ≡ z = ap (λ i. count_if (eqb w i) z) there ∙ counted-same w z in
             let r1 : slice_index (moved kept u w z) v ≡ slice_index kept w + z =
             ap (slice_index (moved kept u w z)) there ∙ get_or-set_same (set kept u (slice_index kept u - z)) w (slice_index kept w + z) 0
             (omega (arith, length-set kept u (slice_index kept u - z))) in
             let same : slice_index kept v ≡ slice_index kept w = ap (slice_index kept) there in
-            let at = balance_at_to (gets net flow v) (gives net flow v) (gets net flow' v) (gives net flow' v) z (slice_index kept w)
+            let at = balance_at_to (gets net flow v) (total_outflow net flow v) (gets net flow' v) (total_outflow net flow' v) z (slice_index kept w)
             (omega (arith, b, c1, c2)) o.covered (sym same ∙ o.told) in
             record { covered = at.0; told = r1 ∙ at.1 }
         | inr away ↦
-            let c1 : counted (eqb u v) z ≡ 0 = counted-other u v z off in
-            let c2 : counted (eqb w v) z ≡ 0 = counted-other w v z away in
+            let c1 : count_if (eqb u v) z ≡ 0 = counted-other u v z off in
+            let c2 : count_if (eqb w v) z ≡ 0 = counted-other w v z away in
             let r1 : slice_index (moved kept u w z) v ≡ slice_index (set kept u (slice_index kept u - z)) v =
             get_or-set_other (set kept u (slice_index kept u - z)) w v (slice_index kept w + z) 0 away in
             let r2 : slice_index (set kept u (slice_index kept u - z)) v ≡ slice_index kept v =
             get_or-set_other kept u v (slice_index kept u - z) 0 off in
-            let at = balance_at_to (gets net flow v) (gives net flow v) (gets net flow' v) (gives net flow' v) 0 (slice_index kept v)
+            let at = balance_at_to (gets net flow v) (total_outflow net flow v) (gets net flow' v) (total_outflow net flow' v) 0 (slice_index kept v)
             (omega (arith, b, c1, c2)) o.covered o.told in
             record { covered = at.0; told = r1 ∙ (r2 ∙ omega (arith, at.1)) }
       ]
@@ -174,7 +174,7 @@ one_more_times z d = grind arith
 
 -- a write to one number of the list
 pub height_set : (net : Network) (kept labels : List ℕ) (u y : ℕ) → u < nodes net → length kept ≡ nodes net
-    → height net (set kept u y) labels + slice_index kept u * (slice_index labels u + 1) ≡ height net kept labels + y * (slice_index labels u + 1)
+    → excess_height net (set kept u y) labels + slice_index kept u * (slice_index labels u + 1) ≡ excess_height net kept labels + y * (slice_index labels u + 1)
 height_set net kept labels u y l e =
     let here : slice_index (set kept u y) u ≡ y = get_or-set_same kept u y 0 (omega arith) in
     let change = sum_below-change (nodes net) u (λ v. slice_index kept v * (slice_index labels v + 1)) (λ v. slice_index (set kept u y) v * (slice_index labels v + 1)) l

@@ -1,7 +1,7 @@
 -- Where no node that reaches the sink has excess, the nodes that reach it are the smallest least cut.
 use Rattle.std.proofs.Common.{◌≡◌, ℕ, zero, suc, ◌-◌, ◌<◌, ◌≤◌, inl, inr, Bool, true, false, not, ◌&&◌, length, slice_index, refl, ◌∙◌, ap, arith}
 use Rattle.std.proofs.lemmas.Bool.{cases_lt, cases_Bool}
-use Rattle.sums.specs.Sums.{counted}
+use Rattle.sums.specs.Sums.{count_if}
 use Rattle.flow_network.specs.Cut.{Network, nodes, enters, capacity_of, IsSmallestLeastCut, IsNet}
 use Rattle.flow_network.specs.Preflow.{arc_at, Flow, excess, sink_gets, IsPreflow, IsResidual, ReachesIn, Reaches, IsReach}
 use Rattle.sums.proofs.SumLemmas.{counted-true, counted-zero, sum_below-none, term-le-sum_below}
@@ -67,30 +67,30 @@ capacity_of_reach net flow side h p r still =
     omega (
       arith,
       capacity_is net flow side h p,
-      sum_below-none (nodes net) (λ v. counted (side v) (excess net flow v)) (λ v l. counted-zero (side v) _ (still v l)),
-      sum_below-none (nodes net) (λ v. counted (not (side v)) (slice_index net.sinks v - slice_index flow.sinks v))
+      sum_below-none (nodes net) (λ v. count_if (side v) (excess net flow v)) (λ v l. counted-zero (side v) _ (still v l)),
+      sum_below-none (nodes net) (λ v. count_if (not (side v)) (slice_index net.sinks v - slice_index flow.sinks v))
           (λ v l. counted-zero (not (side v)) _ (sinks_full net flow side r v l)),
-      sum_below-none (length net.arcs) (λ k. counted (enters side (arc_at net k)) ((arc_at net k).capacity - slice_index flow.arcs k))
+      sum_below-none (length net.arcs) (λ k. count_if (enters side (arc_at net k)) ((arc_at net k).capacity - slice_index flow.arcs k))
           (λ k l. counted-zero (enters side (arc_at net k)) _ (inwards_full net flow side h r k l)),
-      sum_below-none (length net.arcs) (λ k. counted (side (arc_at net k).from && not (side (arc_at net k).to)) (slice_index flow.arcs k))
+      sum_below-none (length net.arcs) (λ k. count_if (side (arc_at net k).from && not (side (arc_at net k).to)) (slice_index flow.arcs k))
           (λ k l. counted-zero (side (arc_at net k).from && not (side (arc_at net k).to)) _ (outwards_empty net flow side h r k l)),
     )
 
 -- ---- a set whose capacity is what the sink gets: no path leads into it
 
 pub record IsTight (net : Network) (flow : Flow) (side : ℕ → Bool) : Type 0 where
-  pub sinks : (v : ℕ) → v < nodes net → counted (not (side v)) (slice_index net.sinks v - slice_index flow.sinks v) ≡ 0
-  pub inwards : (k : ℕ) → k < length net.arcs → counted (enters side (arc_at net k)) ((arc_at net k).capacity - slice_index flow.arcs k) ≡ 0
-  pub outwards : (k : ℕ) → k < length net.arcs → counted (side (arc_at net k).from && not (side (arc_at net k).to)) (slice_index flow.arcs k) ≡ 0
+  pub sinks : (v : ℕ) → v < nodes net → count_if (not (side v)) (slice_index net.sinks v - slice_index flow.sinks v) ≡ 0
+  pub inwards : (k : ℕ) → k < length net.arcs → count_if (enters side (arc_at net k)) ((arc_at net k).capacity - slice_index flow.arcs k) ≡ 0
+  pub outwards : (k : ℕ) → k < length net.arcs → count_if (side (arc_at net k).from && not (side (arc_at net k).to)) (slice_index flow.arcs k) ≡ 0
 
 pub tight : (net : Network) (flow : Flow) (side : ℕ → Bool) → IsNet net → IsPreflow net flow
     → capacity_of net side ≤ sink_gets net flow → IsTight net flow side
 tight net flow side h p low =
     let total = capacity_is net flow side h p in
     record {
-      sinks = λ v l. omega (arith, total, low, term-le-sum_below (nodes net) (λ v. counted (not (side v)) (slice_index net.sinks v - slice_index flow.sinks v)) v l);
-      inwards = λ k l. omega (arith, total, low, term-le-sum_below (length net.arcs) (λ k. counted (enters side (arc_at net k)) ((arc_at net k).capacity - slice_index flow.arcs k)) k l);
-      outwards = λ k l. omega (arith, total, low, term-le-sum_below (length net.arcs) (λ k. counted (side (arc_at net k).from && not (side (arc_at net k).to)) (slice_index flow.arcs k)) k l);
+      sinks = λ v l. omega (arith, total, low, term-le-sum_below (nodes net) (λ v. count_if (not (side v)) (slice_index net.sinks v - slice_index flow.sinks v)) v l);
+      inwards = λ k l. omega (arith, total, low, term-le-sum_below (length net.arcs) (λ k. count_if (enters side (arc_at net k)) ((arc_at net k).capacity - slice_index flow.arcs k)) k l);
+      outwards = λ k l. omega (arith, total, low, term-le-sum_below (length net.arcs) (λ k. count_if (side (arc_at net k).from && not (side (arc_at net k).to)) (slice_index flow.arcs k)) k l);
     }
 
 -- a node that reaches the sink is in each tight set

@@ -4,8 +4,8 @@ use Rattle.std.proofs.lemmas.List.Sums.{sum_by-cons}
 use Rattle.std.specs.Simd.Lanes.{zip2}
 use Rattle.std.proofs.lemmas.Simd.{length-zip2, get_or-zip2}
 use Rattle.flow_network.specs.Limits.{capacity_limit}
-use Rattle.flow_network.specs.Cut.{Network, nodes, widened, total_capacity, AreExtras, IsNet}
-use Rattle.flow_network.specs.Preflow.{given, AreRooms}
+use Rattle.flow_network.specs.Cut.{Network, nodes, with_larger_sinks, total_capacity, AreExtras, IsNet}
+use Rattle.flow_network.specs.Preflow.{sink_flows, AreRooms}
 
 -- a list with so much more at each place
 abbrev pub added : List ℕ → List ℕ → List ℕ
@@ -26,7 +26,7 @@ added_at xs more v e l = get_or-zip2 (λ sink extra. sink + extra) xs more v 0 0
 
 -- all capacities of the wider net together
 pub widened-total : (net : Network) (more : List ℕ) → IsNet net → length more ≡ nodes net
-    → total_capacity (widened net more) ≡ total_capacity net + sum more
+    → total_capacity (with_larger_sinks net more) ≡ total_capacity net + sum more
 widened-total net more h e = omega (arith, sum-added net.sinks more (omega (arith, e, h.same)))
 
 -- where they stay within the limit, it is a net
@@ -56,11 +56,11 @@ given-added (x ∷ xs) (y ∷ ys) (m ∷ more) e f =
     rw here (ap (λ (rest : List ℕ). (x - y) ∷ rest) (given-added xs ys more (omega arith) (omega arith)))
 
 pub given_widened : (net : Network) (rooms more : List ℕ) → IsNet net → AreRooms net rooms → length more ≡ nodes net
-    → given (widened net more) (added rooms more) ≡ given net rooms
+    → sink_flows (with_larger_sinks net more) (added rooms more) ≡ sink_flows net rooms
 given_widened net rooms more h r e = given-added net.sinks rooms more (omega (arith, r.len, h.same)) (omega (arith, e, h.same))
 
 pub widened_rooms : (net : Network) (rooms more : List ℕ) → IsNet net → AreRooms net rooms → length more ≡ nodes net
-    → AreRooms (widened net more) (added rooms more)
+    → AreRooms (with_larger_sinks net more) (added rooms more)
 widened_rooms net rooms more h r e = record {
   len = length-added rooms more (omega (arith, e, r.len)) ∙ r.len;
   within = λ v l. omega (

@@ -1,7 +1,7 @@
 -- Nets and cuts (Ford, Fulkerson 1956; Boykov, Veksler, Zabih 2001, section 3).
 use Rattle.std.specs.Prelude.{◌≡◌, ℕ, ◌+◌, ◌<◌, ◌≤◌, Bool, true, false, not, ◌&&◌, List, length, slice_index, slice_index_or, sum, sum_by, All}
 use Rattle.std.specs.Simd.Lanes.{zip2}
-use Rattle.sums.specs.Sums.{sum_below, counted}
+use Rattle.sums.specs.Sums.{sum_below, count_if}
 use Rattle.flow_network.specs.declared.arc.Arc.{Arc}
 use Rattle.flow_network.specs.Limits.{node_limit, capacity_limit}
 
@@ -31,9 +31,9 @@ enters side arc = side arc.to && not (side arc.from)
 -- nodes in the set, what the nodes outside can send the sink, and what can enter the set by arcs
 abbrev pub capacity_of : Network → (ℕ → Bool) → ℕ
 capacity_of net side =
-    sum_below (nodes net) (λ v. counted (side v) (slice_index net.sources v)) +
-    sum_below (nodes net) (λ v. counted (not (side v)) (slice_index net.sinks v)) +
-    sum_by (λ arc. counted (enters side arc) arc.capacity) net.arcs
+    sum_below (nodes net) (λ v. count_if (side v) (slice_index net.sources v)) +
+    sum_below (nodes net) (λ v. count_if (not (side v)) (slice_index net.sinks v)) +
+    sum_by (λ arc. count_if (enters side arc) arc.capacity) net.arcs
 
 -- no set of nodes has a lower capacity
 abbrev pub IsLeastCut : Network → (ℕ → Bool) → Type 0
@@ -65,10 +65,10 @@ pub record IsNet (net : Network) : Type 0 where
   pub total : total_capacity net ≤ capacity_limit
 
 -- the net in which each node can send the sink so much more
-abbrev pub widened : Network → List ℕ → Network
-widened net more = network_of net.sources (zip2 (λ sink extra. sink + extra) net.sinks more) net.arcs
+abbrev pub with_larger_sinks : Network → List ℕ → Network
+with_larger_sinks net more = network_of net.sources (zip2 (λ sink extra. sink + extra) net.sinks more) net.arcs
 
 -- a number for each node, and the net stays within the limits with so much more
 pub record AreExtras (net : Network) (more : List ℕ) : Type 0 where
   pub len : length more ≡ nodes net
-  pub fits : IsNet (widened net more)
+  pub fits : IsNet (with_larger_sinks net more)

@@ -2,7 +2,7 @@
 -- maximum-flow problem", section 2).
 use Rattle.std.specs.Prelude.{◌≡◌, ℕ, zero, suc, ◌+◌, ◌-◌, ◌<◌, ◌≤◌, ◌⊎◌, Bool, true, ◌==◌, List, length, slice_index, slice_index_or}
 use Rattle.std.specs.Simd.Lanes.{zip2}
-use Rattle.sums.specs.Sums.{sum_below, counted}
+use Rattle.sums.specs.Sums.{sum_below, count_if}
 use Rattle.flow_network.specs.declared.arc.Arc.{Arc}
 use Rattle.flow_network.specs.Cut.{Network, nodes, capacity_of}
 
@@ -33,30 +33,30 @@ pub record AreRooms (net : Network) (rooms : List ℕ) : Type 0 where
   pub within : (v : ℕ) → v < nodes net → slice_index rooms v ≤ slice_index net.sinks v
 
 -- what each node gives the sink, told by what it can still give it
-abbrev pub given : Network → List ℕ → List ℕ
-given net rooms = zip2 (λ sink room. sink - room) net.sinks rooms
+abbrev pub sink_flows : Network → List ℕ → List ℕ
+sink_flows net rooms = zip2 (λ sink room. sink - room) net.sinks rooms
 
 -- what comes to a node by arcs
 abbrev pub inflow : Network → Flow → ℕ → ℕ
 inflow net flow v =
-    sum_below (length net.arcs) (λ k. counted ((arc_at net k).to == v) (slice_index flow.arcs k))
+    sum_below (length net.arcs) (λ k. count_if ((arc_at net k).to == v) (slice_index flow.arcs k))
 
 -- what leaves a node by arcs
 abbrev pub outflow : Network → Flow → ℕ → ℕ
 outflow net flow v =
-    sum_below (length net.arcs) (λ k. counted ((arc_at net k).from == v) (slice_index flow.arcs k))
+    sum_below (length net.arcs) (λ k. count_if ((arc_at net k).from == v) (slice_index flow.arcs k))
 
 -- what a node gets: the arcs from the source are always full
 abbrev pub gets : Network → Flow → ℕ → ℕ
 gets net flow v = slice_index net.sources v + inflow net flow v
 
 -- what a node passes on, to other nodes and to the sink
-abbrev pub gives : Network → Flow → ℕ → ℕ
-gives net flow v = outflow net flow v + slice_index flow.sinks v
+abbrev pub total_outflow : Network → Flow → ℕ → ℕ
+total_outflow net flow v = outflow net flow v + slice_index flow.sinks v
 
 -- what a node gets and does not pass on; in a preflow no node passes on more than it gets
 abbrev pub excess : Network → Flow → ℕ → ℕ
-excess net flow v = gets net flow v - gives net flow v
+excess net flow v = gets net flow v - total_outflow net flow v
 
 -- what the sink gets
 abbrev pub sink_gets : Network → Flow → ℕ
@@ -68,7 +68,7 @@ pub record IsPreflow (net : Network) (flow : Flow) : Type 0 where
   pub sinks_len : length flow.sinks ≡ nodes net
   pub arcs : IsWithinArcs net flow.arcs
   pub sinks : IsWithinSinks net flow.sinks
-  pub covered : (v : ℕ) → v < nodes net → gives net flow v ≤ gets net flow v
+  pub covered : (v : ℕ) → v < nodes net → total_outflow net flow v ≤ gets net flow v
 
 -- by a preflow the sink gets what the cut's capacity is, and that is the value
 pub record IsCertified (net : Network) (flow : Flow) (side : ℕ → Bool) (value : ℕ) : Type 0 where

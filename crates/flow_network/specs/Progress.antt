@@ -15,7 +15,7 @@ abbrev pub top : Network → ℕ
 top net = top_label (nodes net)
 
 -- a preflow, its excess in a list, and labels that fit it
-pub record IsSound (net : Network) (flow : Flow) (kept labels : List ℕ) : Type 0 where
+pub record IsLabelledPreflow (net : Network) (flow : Flow) (kept labels : List ℕ) : Type 0 where
   pub preflow : IsPreflow net flow
   pub kept_len : length kept ≡ nodes net
   pub told : (v : ℕ) → v < nodes net → slice_index kept v ≡ excess net flow v
@@ -27,9 +27,10 @@ abbrev pub rise_left : Network → List ℕ → ℕ
 rise_left net labels = sum_below (nodes net) (λ v. top net - slice_index labels v)
 
 -- how far the excess stands above the sink
-abbrev pub height : Network → List ℕ → List ℕ → ℕ
-height net kept labels = sum_below (nodes net) (λ v. slice_index kept v * (slice_index labels v + 1))
+abbrev pub excess_height : Network → List ℕ → List ℕ → ℕ
+excess_height net kept labels = sum_below (nodes net) (λ v. slice_index kept v * (slice_index labels v + 1))
 
 -- what each push and each new label lowers
 abbrev pub work_left : Network → List ℕ → List ℕ → ℕ
-work_left net kept labels = rise_left net labels * (total_capacity net + 1) + height net kept labels
+work_left net kept labels =
+    rise_left net labels * (total_capacity net + 1) + excess_height net kept labels

@@ -1,8 +1,8 @@
 ghost use Rattle.std.specs.Prelude.{◌≡◌, ◌+◌, ◌<◌, ◌≤◌, ◌↔◌, ℕ, IfOk, IsTrue, length, sum, slice_index, not};
-ghost use Rattle.sums.specs.Sums.{sum_below, counted};
+ghost use Rattle.sums.specs.Sums.{sum_below, count_if};
 ghost use Rattle.flow_network.specs.Limits.{capacity_limit};
 ghost use Rattle.flow_network.specs.Cut.{nodes, set_of, capacity_of, IsNet};
-ghost use Rattle.flow_network.specs.Preflow.{flow_by, gets, gives, IsWithinArcs, IsWithinSinks, IsPreflow};
+ghost use Rattle.flow_network.specs.Preflow.{flow_by, gets, total_outflow, IsWithinArcs, IsWithinSinks, IsPreflow};
 ghost use Rattle.flow_network.specs.Preflow.{IsCertified};
 ghost use Rattle.flow_network.specs.Answer.{IsRightCut, side_of};
 ghost use Rattle.flow_network.specs.Laws.{IsLeastCutOf};
@@ -68,7 +68,7 @@ fn gives_of(
     requires sinks_within { IsWithinSinks net.now sink_flow.now }
     ensures len { IfOk result (λ totals. length totals.items ≡ nodes net.now) }
     ensures value { IfOk result (λ totals. (v : ℕ) → v < nodes net.now →
-        slice_index totals.items v ≡ gives net.now (flow_by arc_flow.now sink_flow.now) v) }
+        slice_index totals.items v ≡ total_outflow net.now (flow_by arc_flow.now sink_flow.now) v) }
 {
     let arcs = net.arcs();
     let mut totals = Vec::from_slice(alloc, sink_flow)?;
@@ -106,8 +106,8 @@ fn nodes_capacity(sources: &[u64], sinks: &[u64], side: &[bool]) -> u64
     requires sinks_len { length sinks.now ≡ length sources.now }
     requires small { sum sources.now + sum sinks.now ≤ capacity_limit }
     ensures { result ≡
-        sum_below (length sources.now) (λ v. counted (set_of side.now v) (slice_index sources.now v)) +
-        sum_below (length sources.now) (λ v. counted (not (set_of side.now v)) (slice_index sinks.now v)) }
+        sum_below (length sources.now) (λ v. count_if (set_of side.now v) (slice_index sources.now v)) +
+        sum_below (length sources.now) (λ v. count_if (not (set_of side.now v)) (slice_index sinks.now v)) }
 {
     let mut total = 0;
     for v in 0..sources.len() {

@@ -21,7 +21,7 @@ use Rattle.gco_c.specs.declared.outcome.GcoOutcome.{GcoOutcome}
 use Rattle.gco_c.specs.declared.ready.Ready.{Ready}
 
 -- the arrays of a call
-pub record Asked : Type 0 where
+pub record CallArrays : Type 0 where
   pub label_count : ℕ
   pub data_costs : List ℤ
   pub smooth_costs : List ℤ
@@ -29,8 +29,8 @@ pub record Asked : Type 0 where
   pub pairs : List GcoPair
   pub start : List ℕ
 
-abbrev pub asked : ℕ → List ℤ → List ℤ → List ℤ → List GcoPair → List ℕ → Asked
-asked labels data_costs smooth_costs label_costs pairs start = record {
+abbrev pub call_arrays : ℕ → List ℤ → List ℤ → List ℤ → List GcoPair → List ℕ → CallArrays
+call_arrays labels data_costs smooth_costs label_costs pairs start = record {
   label_count = labels;
   data_costs = data_costs;
   smooth_costs = smooth_costs;
@@ -40,16 +40,16 @@ asked labels data_costs smooth_costs label_costs pairs start = record {
 }
 
 -- the pair of sites that C hands over
-abbrev pub pair_of : GcoPair → Pair
-pair_of given = record { first = given.first; second = given.second; weight = given.weight }
+abbrev pub pair_from_c : GcoPair → Pair
+pair_from_c given = record { first = given.first; second = given.second; weight = given.weight }
 
 -- the list of the pairs, in their order
 abbrev pub list_given : ℕ → List GcoPair → PairList
-list_given sites pairs = record { sites = sites; list = map pair_of pairs }
+list_given sites pairs = record { sites = sites; list = map pair_from_c pairs }
 
 -- the problem that the arrays of a call are: site by site the cost of each label, label by label the cost of
 -- each beside it, the pairs in their order, and label by label what it costs by itself, 0 where there are no such costs
-abbrev pub instance_given : Asked → Instance
+abbrev pub instance_given : CallArrays → Instance
 instance_given a =
     instance_of (list_given (length a.start) a.pairs) a.label_count (cost_in a.label_count a.data_costs) a.smooth_costs a.label_costs
 
@@ -61,28 +61,28 @@ pub record AreCounted (sites labels data_count smooth_count cost_count : ℕ) : 
   pub costs_are : (cost_count ≡ 0) ⊎ (cost_count ≡ labels)
 
 -- so are those of a call
-abbrev pub AreLong : Asked → Type 0
+abbrev pub AreLong : CallArrays → Type 0
 AreLong a = AreCounted (length a.start) a.label_count (length a.data_costs) (length a.smooth_costs) (length a.label_costs)
 
 -- each cost is in its range
-pub record AreInRange (data_costs smooth_costs label_costs : List ℤ) : Type 0 where
+pub record AreCostsInRange (data_costs smooth_costs label_costs : List ℤ) : Type 0 where
   pub data_range : All (IsCost data_limit) data_costs
   pub smooth_range : All (IsCost smooth_limit) smooth_costs
   pub label_range : All (IsCost (pos label_cost_limit)) label_costs
 
 -- the tables of a call are as long as they must be, and each cost is in its range
-pub record AreTables (a : Asked) : Type 0 where
+pub record AreTables (a : CallArrays) : Type 0 where
   pub long : AreLong a
-  pub ranges : AreInRange a.data_costs a.smooth_costs a.label_costs
+  pub ranges : AreCostsInRange a.data_costs a.smooth_costs a.label_costs
 
 -- all that a call was given is in order
-pub record IsGiven (a : Asked) : Type 0 where
+pub record IsGiven (a : CallArrays) : Type 0 where
   pub tables : AreTables a
   pub pairs : IsPairList (list_given (length a.start) a.pairs)
   pub start : All (λ label. label < a.label_count) a.start
 
 -- the parts of a problem that are made of it
-pub record IsReady (a : Asked) (ready : Ready) : Type 0 where
+pub record ArePartsOf (a : CallArrays) (ready : Ready) : Type 0 where
   pub given : IsGiven a
   pub pairs_are : ready.pairs ≡ list_given (length a.start) a.pairs
   pub start_is : ready.start ≡ record { labels = a.label_count; at = a.start }
@@ -90,15 +90,15 @@ pub record IsReady (a : Asked) (ready : Ready) : Type 0 where
   pub costs_kept : AreLabelCosts a.label_count ready.label_costs
 
 -- the number of the moves
-abbrev pub number_of : Moves → ℕ
-number_of Expansion = 0
-number_of Swap = 1
+abbrev pub moves_number : Moves → ℕ
+moves_number Expansion = 0
+moves_number Swap = 1
 
 -- the run from the start ended at the labels, and the outcome tells its cycles, whether it settled, the three parts of the
 -- energy there, its bound, where it has one, and nothing else
-pub record IsRunTold (a : Asked) (number cycles : ℕ) (labels : List ℕ) (told : GcoOutcome) : Type 0 where
+pub record IsRunTold (a : CallArrays) (number cycles : ℕ) (labels : List ℕ) (told : GcoOutcome) : Type 0 where
   pub moves : Moves
-  pub numbered : number ≡ number_of moves
+  pub numbered : number ≡ moves_number moves
   pub made : ℕ
   pub settled : Bool
   pub chain : IsChain (instance_given a) (moves_of moves a.label_count) cycles a.start labels made settled
@@ -109,7 +109,8 @@ pub record IsRunTold (a : Asked) (number cycles : ℕ) (labels : List ℕ) (told
 
 -- one move from the start reached the labels, and the outcome tells whether they are others, the three parts of the
 -- energy there, and nothing else
-pub record IsMoveTold (a : Asked) (move : Move) (labels : List ℕ) (told : GcoOutcome) : Type 0 where
+pub record IsMoveTold (a : CallArrays) (move : Move) (labels : List ℕ)
+    (told : GcoOutcome) : Type 0 where
   pub changed : Bool
   pub moved : IsMoved (instance_given a) move a.start labels (Ok changed)
   pub told_is : told ≡ move_told (energy_told (instance_given a) labels) changed

@@ -25,8 +25,8 @@ three_of given = Three given.first given.second given.third (three_numbers given
 
 -- the energy that the arrays of a call are: the constant, the terms of one variable, then those of two, then those of
 -- three
-abbrev pub formula_given : ℕ → ℤ → List GcoOne → List GcoTwo → List GcoThree → Energy
-formula_given variables constant ones twos threes = record {
+abbrev pub energy_given : ℕ → ℤ → List GcoOne → List GcoTwo → List GcoThree → Energy
+energy_given variables constant ones twos threes = record {
   constant = constant;
   variables = variables;
   terms = map one_of ones ++ map two_of twos ++ map three_of threes;

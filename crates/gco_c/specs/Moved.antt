@@ -2,7 +2,7 @@
 use Rattle.std.specs.Prelude.{◌≡◌, ℕ, List, pos, Result, Ok, Err}
 use Rattle.labellings.specs.declared.change.Move.{Move}
 use Rattle.labellings.specs.Energies.{Instance, labelling, data_energy, smooth_energy, label_energy}
-use Rattle.moves.specs.Problems.{IsMoved, IsRefusal}
+use Rattle.moves.specs.Problems.{IsMoved, IsCauseOfRefusal}
 use Rattle.moves.specs.declared.error.MoveError.{MoveError}
 use Rattle.gco_c.specs.declared.moving.Moved.{Moved}
 
@@ -13,4 +13,4 @@ IsMovedTo m move start (Ok moved) =
     × (moved.«data» ≡ pos (data_energy m (labelling moved.labelling.at)))
     × (moved.smooth ≡ pos (smooth_energy m (labelling moved.labelling.at)))
     × (moved.label ≡ pos (label_energy m (labelling moved.labelling.at)))
-IsMovedTo m move start (Err e) = IsRefusal m move start e
+IsMovedTo m move start (Err e) = IsCauseOfRefusal m move start e

@@ -29,14 +29,15 @@ refusal_told refusal =
     record nothing_told { place = told_place refusal; alpha = (labels_of refusal).0; beta = (labels_of refusal).1 }
 
 -- the three parts of an energy are told
-abbrev pub parts_told : ℤ → ℤ → ℤ → GcoOutcome
-parts_told data_part smooth_part label_part =
+abbrev pub outcome_of_parts : ℤ → ℤ → ℤ → GcoOutcome
+outcome_of_parts data_part smooth_part label_part =
     record nothing_told { «data» = data_part; smooth = smooth_part; label = label_part }
 
 -- those of the energy of labels
 abbrev pub energy_told : Instance → List ℕ → GcoOutcome
 energy_told m labels =
-    parts_told (pos (data_energy m (labelling labels))) (pos (smooth_energy m (labelling labels)))
+    outcome_of_parts (pos (data_energy m (labelling labels)))
+    (pos (smooth_energy m (labelling labels)))
     (pos (label_energy m (labelling labels)))
 
 -- the two numbers of a bound, or 0 and 0

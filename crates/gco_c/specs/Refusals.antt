@@ -4,7 +4,7 @@ use Rattle.std.specs.Prelude.{◌≡◌, ◌≢◌, ◌⊎◌, ℕ, ◌*◌, ◌
 use Rattle.label_field.specs.LabelFields.{AreSizes}
 use Rattle.label_field.specs.Limits.{site_limit, label_limit}
 use Rattle.label_field.specs.PairLists.{PairList, IsPairList}
-use Rattle.label_field.specs.PairLists.{IsRefusal as IsPairRefusal}
+use Rattle.label_field.specs.PairLists.{IsPairRefusal}
 use Rattle.label_field.specs.declared.error.LabelFieldError.{LabelFieldError}
 use Rattle.label_field.specs.declared.error.LabelFieldError.TheVariants as pair_why
 use Rattle.cost_store.specs.Limits.{data_limit, smooth_limit, label_cost_limit}
@@ -12,12 +12,12 @@ use Rattle.cost_store.specs.Promises.{IsCost, IsFirstOutside}
 use Rattle.cost_store.specs.declared.error.CostError.TheVariants.{CostRange}
 use Rattle.labellings.specs.declared.change.Move.{Move}
 use Rattle.moves.specs.Runs.{AnswersRun}
-use Rattle.moves.specs.Problems.{IsRefusal, IsRunRefusal}
+use Rattle.moves.specs.Problems.{IsCauseOfRefusal, IsRunRefusal}
 use Rattle.solvers.specs.declared.solve_error.SolveError.TheVariants.{OutOfMemory as NoMemory}
 use Rattle.moves.specs.declared.error.MoveError.{MoveError}
 use Rattle.moves.specs.declared.error.MoveError.TheVariants as move_why
 use Rattle.labellings.specs.declared.cycles.Moves.{Moves}
-use Rattle.gco_c.specs.Calls.{Asked, AreLong, AreTables, IsGiven, instance_given, list_given, number_of}
+use Rattle.gco_c.specs.Calls.{CallArrays, AreLong, AreTables, IsGiven, instance_given, list_given, moves_number}
 use Rattle.gco_c.specs.Outcomes.{refusal_told}
 use Rattle.gco_c.specs.Statuses.{status_of}
 use Rattle.gco_c.specs.declared.outcome.GcoOutcome.{GcoOutcome}
@@ -79,7 +79,7 @@ IsStartRefusal labels start why.OutOfMemory = Unit {0}
 IsStartRefusal labels start _ = ⊥
 
 -- what a call was given is not in order
-abbrev pub IsGivenRefusal : Asked → Refusal → Type 0
+abbrev pub IsGivenRefusal : CallArrays → Refusal → Type 0
 IsGivenRefusal a refusal =
     IsCountRefusal (length a.start) a.label_count (length a.data_costs) (length a.smooth_costs) (length a.label_costs) refusal
     ⊎ (AreLong a × IsRangeRefusal a.data_costs a.smooth_costs a.label_costs refusal)
@@ -94,7 +94,7 @@ move_refusal move_why.NoSuchLabel = why.NoSuchMove
 move_refusal _ = why.OutOfMemory
 
 -- why a run is refused: what it was given, or the chain's next move
-abbrev pub IsLabelRefusal : Asked → Moves → ℕ → Refusal → Type 0
+abbrev pub IsLabelRefusal : CallArrays → Moves → ℕ → Refusal → Type 0
 IsLabelRefusal a moves cycles refusal =
     IsGivenRefusal a refusal
     ⊎ (IsGiven a × ((error : MoveError) × IsRunRefusal (λ e. e ≡ NoMemory) error
@@ -107,20 +107,21 @@ pub record IsTold (refusal : Refusal) (status : ℕ) (told : GcoOutcome) : Type 
 
 -- the status and the outcome tell a refusal, and its cause holds: the number names no moves, or what a run of the
 -- moves that it names refuses
-pub record IsRefusalTold (a : Asked) (number cycles status : ℕ) (told : GcoOutcome) : Type 0 where
+pub record IsRefusalTold (a : CallArrays) (number cycles status : ℕ)
+    (told : GcoOutcome) : Type 0 where
   pub refusal : Refusal
   pub is_told : IsTold refusal status told
   pub cause : ((refusal ≡ why.NoSuchMoves) × (number ≢ 0) × (number ≢ 1))
-      ⊎ ((moves : Moves) × (number ≡ number_of moves) × IsLabelRefusal a moves cycles refusal)
+      ⊎ ((moves : Moves) × (number ≡ moves_number moves) × IsLabelRefusal a moves cycles refusal)
 
 -- why one move is refused: what it was given, or the move
-abbrev pub IsMoveCause : Asked → Move → Refusal → Type 0
+abbrev pub IsMoveCause : CallArrays → Move → Refusal → Type 0
 IsMoveCause a move refusal =
     IsGivenRefusal a refusal
-    ⊎ (IsGiven a × ((error : MoveError) × IsRefusal (instance_given a) move a.start error × (refusal ≡ move_refusal error)))
+    ⊎ (IsGiven a × ((error : MoveError) × IsCauseOfRefusal (instance_given a) move a.start error × (refusal ≡ move_refusal error)))
 
 -- the status and the outcome tell a refusal of one move, and its cause holds
-pub record IsMoveRefusalTold (a : Asked) (move : Move) (status : ℕ) (told : GcoOutcome) : Type 0 where
+pub record IsMoveRefusalTold (a : CallArrays) (move : Move) (status : ℕ) (told : GcoOutcome) : Type 0 where
   pub refusal : Refusal
   pub is_told : IsTold refusal status told
   pub cause : IsMoveCause a move refusal

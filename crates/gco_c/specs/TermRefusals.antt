@@ -2,7 +2,7 @@
 use Rattle.std.specs.Prelude.{◌≡◌, ℕ, ◌<◌, List, [], ◌∷◌, ◌++◌, length, ◌⊎◌, Option}
 use Rattle.pseudo_bool.specs.Energies.{Energy, IsEnergy, IsValue}
 use Rattle.pseudo_bool.specs.Limits.{variable_limit}
-use Rattle.pseudo_bool.specs.Refusals.{IsRefusal}
+use Rattle.pseudo_bool.specs.Refusals.{IsTermRefusal}
 use Rattle.pseudo_bool.specs.declared.error.EnergyError.{EnergyError}
 use Rattle.pseudo_bool.specs.declared.error.EnergyError.TheVariants as term_why
 use Rattle.pseudo_bool.specs.declared.term.Term.{Term}
@@ -25,7 +25,7 @@ term_refusal place term_why.OutOfMemory = why.OutOfMemory
 -- a term is refused beside those of an energy, and told by their number
 abbrev pub IsTermTold : Energy → Term → Refusal → Type 0
 IsTermTold e term refusal =
-    IsEnergy e × ((error : EnergyError) × IsRefusal e term error × (refusal ≡ term_refusal (length e.terms) error))
+    IsEnergy e × ((error : EnergyError) × IsTermRefusal e term error × (refusal ≡ term_refusal (length e.terms) error))
 
 -- of terms that were to be added to an energy one is refused, and each before it was added
 pub record AreTermsRefused (e : Energy) (terms : List Term) (refusal : Refusal) : Type 0 where

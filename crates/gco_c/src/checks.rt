@@ -1,6 +1,6 @@
 //! Whether the arrays of a call are as long as they must be, and their costs in their ranges.
 ghost use Rattle.std.specs.Prelude.{◌≡◌, pos, IfOk, IfErr};
-ghost use Rattle.gco_c.specs.Calls.{AreCounted, AreInRange};
+ghost use Rattle.gco_c.specs.Calls.{AreCounted, AreCostsInRange};
 ghost use Rattle.gco_c.specs.Refusals.{IsCountRefusal, IsRangeRefusal};
 
 use crate::refusal::Refusal;
@@ -40,7 +40,7 @@ pub(crate) fn check_counts(
 
 /// Whether each cost is in its range.
 pub(crate) fn check_ranges(data: &[i64], smooth: &[i64], label_costs: &[i64]) -> Result<(), Refusal>
-    ensures ok { IfOk result (λ _. AreInRange data.now smooth.now label_costs.now) }
+    ensures ok { IfOk result (λ _. AreCostsInRange data.now smooth.now label_costs.now) }
     ensures refused { IfErr result (IsRangeRefusal data.now smooth.now label_costs.now) }
 {
     if let Err(CostError::CostRange(place)) = check_table(data, DATA_LIMIT) {

@@ -8,7 +8,7 @@ ghost use Rattle.moves.specs.Runs.{AnswersRun, IsRunInRange};
 ghost use Rattle.cost_store.specs.LabelCosts.{AreLabelCosts, costs_of};
 ghost use Rattle.moves.specs.Problems.{IsRunRefusal};
 ghost use Rattle.solvers.specs.declared.solve_error.SolveError.TheVariants.{OutOfMemory};
-ghost use Rattle.gco_c.specs.Calls.{AreInRange, IsGiven, IsReady, IsRunTold, asked, instance_given};
+ghost use Rattle.gco_c.specs.Calls.{AreCostsInRange, IsGiven, ArePartsOf, IsRunTold, call_arrays, instance_given};
 ghost use Rattle.gco_c.specs.Refusals.{IsGivenRefusal, IsLabelRefusal, IsRangeRefusal};
 ghost use Rattle.gco_c.specs.Refusals.{IsRefusalTold};
 
@@ -41,13 +41,14 @@ pub extern "C" fn gco_label_int32(
     outcome: &mut GcoOutcome,
 ) -> u32
     ensures given { result ≡ 0 →
-        IsGiven (asked label_count data.now smooth.now label_costs.now pairs.now labels.old) }
+        IsGiven (call_arrays label_count data.now smooth.now label_costs.now pairs.now labels.old) }
     ensures ran { result ≡ 0 →
-        IsRunTold (asked label_count data.now smooth.now label_costs.now pairs.now labels.old)
+        IsRunTold (call_arrays label_count data.now smooth.now label_costs.now pairs.now labels.old)
         moves cycles labels.new outcome.new }
     ensures unchanged { result ≢ 0 → labels.new ≡ labels.old }
     ensures refused { result ≢ 0 →
-        IsRefusalTold (asked label_count data.now smooth.now label_costs.now pairs.now labels.old)
+        IsRefusalTold (call_arrays label_count data.now smooth.now label_costs.now
+        pairs.now labels.old)
         moves cycles result outcome.new }
 {
     let Some(kind) = moves_of(moves) else {
@@ -87,17 +88,17 @@ fn run_call(
     at: &[u32],
 ) -> Result<Run, Refusal>
     ensures given { IfOk result (λ _.
-        IsGiven (asked labels data.now smooth.now label_costs.now given.now at.now)) }
+        IsGiven (call_arrays labels data.now smooth.now label_costs.now given.now at.now)) }
     ensures run { IfOk result (λ run.
-        AnswersRun (instance_given (asked labels data.now smooth.now label_costs.now given.now at.now))
+        AnswersRun (instance_given (call_arrays labels data.now smooth.now label_costs.now given.now at.now))
         moves cycles at.now (Ok run)) }
     ensures sized { IfOk result (λ run. length run.labelling.at ≡ length at.now) }
     ensures refused { IfErr result
-        (IsLabelRefusal (asked labels data.now smooth.now label_costs.now given.now at.now)
+        (IsLabelRefusal (call_arrays labels data.now smooth.now label_costs.now given.now at.now)
         moves cycles) }
 {
     let ready = ready_of(alloc, labels, data, smooth, label_costs, given, at)?;
-    let Ok(smooth) = widened(alloc, smooth) else {
+    let Ok(smooth) = widen(alloc, smooth) else {
         return Err(Refusal::OutOfMemory);
     };
     match run_over(alloc, ready, data, &smooth, moves, cycles) {
@@ -117,9 +118,9 @@ fn ready_of(
     at: &[u32],
 ) -> Result<Ready, Refusal>
     ensures ready { IfOk result
-        (IsReady (asked labels data.now smooth.now label_costs.now given.now at.now)) }
+        (ArePartsOf (call_arrays labels data.now smooth.now label_costs.now given.now at.now)) }
     ensures refused { IfErr result
-        (IsGivenRefusal (asked labels data.now smooth.now label_costs.now given.now at.now)) }
+        (IsGivenRefusal (call_arrays labels data.now smooth.now label_costs.now given.now at.now)) }
 {
     let sites = check_counts(
         at.len(),
@@ -141,7 +142,7 @@ fn ready_of(
 
 /// Whether each cost is in its range.
 fn check_ranges(data: &[i32], smooth: &[i32], label_costs: &[i32]) -> Result<(), Refusal>
-    ensures ok { IfOk result (λ _. AreInRange data.now smooth.now label_costs.now) }
+    ensures ok { IfOk result (λ _. AreCostsInRange data.now smooth.now label_costs.now) }
     ensures refused { IfErr result (IsRangeRefusal data.now smooth.now label_costs.now) }
 {
     if let Err(CostError::CostRange(place)) = check_table(data, DATA_LIMIT) {
@@ -186,14 +187,14 @@ fn costs_given(alloc: Global, given: &[i32]) -> Result<Option<Vec<i64>>, Refusal
     if given.is_empty() {
         return Ok(None);
     }
-    match widened(alloc, given) {
+    match widen(alloc, given) {
         Ok(costs) => Ok(Some(costs)),
         Err(_) => Err(Refusal::OutOfMemory),
     }
 }
 
 /// A copy of 64 bits.
-fn widened(alloc: Global, given: &[i32]) -> Result<Vec<i64>, AllocError>
+fn widen(alloc: Global, given: &[i32]) -> Result<Vec<i64>, AllocError>
     ensures { IfOk result (λ wide. wide.items ≡ given.now) }
 {
     let mut wide = Vec::with_capacity(alloc, given.len())?;

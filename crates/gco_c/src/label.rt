@@ -1,7 +1,7 @@
 //! Runs of moves for C.
 ghost use Rattle.std.specs.Prelude.{◌≡◌, ◌≢◌, length, IfSome, IfOk, IfErr, None, Ok};
 ghost use Rattle.moves.specs.Runs.{AnswersRun};
-ghost use Rattle.gco_c.specs.Calls.{IsGiven, IsRunTold, asked, instance_given, number_of};
+ghost use Rattle.gco_c.specs.Calls.{IsGiven, IsRunTold, call_arrays, instance_given, moves_number};
 ghost use Rattle.gco_c.specs.Refusals.{IsRefusalTold, IsLabelRefusal};
 
 use crate::outcome::{GcoOutcome, refuse, tell_run};
@@ -30,13 +30,14 @@ pub extern "C" fn gco_label(
     outcome: &mut GcoOutcome,
 ) -> u32
     ensures given { result ≡ 0 →
-        IsGiven (asked label_count data.now smooth.now label_costs.now pairs.now labels.old) }
+        IsGiven (call_arrays label_count data.now smooth.now label_costs.now pairs.now labels.old) }
     ensures ran { result ≡ 0 →
-        IsRunTold (asked label_count data.now smooth.now label_costs.now pairs.now labels.old)
+        IsRunTold (call_arrays label_count data.now smooth.now label_costs.now pairs.now labels.old)
         moves cycles labels.new outcome.new }
     ensures unchanged { result ≢ 0 → labels.new ≡ labels.old }
     ensures refused { result ≢ 0 →
-        IsRefusalTold (asked label_count data.now smooth.now label_costs.now pairs.now labels.old)
+        IsRefusalTold (call_arrays label_count data.now smooth.now label_costs.now
+        pairs.now labels.old)
         moves cycles result outcome.new }
 {
     let Some(kind) = moves_of(moves) else {
@@ -75,13 +76,13 @@ fn run_call(
     at: &[u32],
 ) -> Result<Run, Refusal>
     ensures given { IfOk result (λ _.
-        IsGiven (asked labels data.now smooth.now label_costs.now given.now at.now)) }
+        IsGiven (call_arrays labels data.now smooth.now label_costs.now given.now at.now)) }
     ensures run { IfOk result (λ run.
-        AnswersRun (instance_given (asked labels data.now smooth.now label_costs.now given.now at.now))
+        AnswersRun (instance_given (call_arrays labels data.now smooth.now label_costs.now given.now at.now))
         moves cycles at.now (Ok run)) }
     ensures sized { IfOk result (λ run. length run.labelling.at ≡ length at.now) }
     ensures refused { IfErr result
-        (IsLabelRefusal (asked labels data.now smooth.now label_costs.now given.now at.now)
+        (IsLabelRefusal (call_arrays labels data.now smooth.now label_costs.now given.now at.now)
         moves cycles) }
 {
     let ready = ready_of(alloc, labels, data, smooth, label_costs, given, at)?;
@@ -93,7 +94,7 @@ fn run_call(
 
 /// The moves that a number names.
 pub(crate) fn moves_of(number: u32) -> Option<Moves>
-    ensures some { IfSome result (λ moves. number ≡ number_of moves) }
+    ensures some { IfSome result (λ moves. number ≡ moves_number moves) }
     ensures none { result ≡ None → (number ≢ 0) × (number ≢ 1) }
 {
     match number {

@@ -3,7 +3,7 @@ ghost use Rattle.std.specs.Prelude.{◌≡◌, ◌≢◌, ◌≤◌, length, map
 ghost use Rattle.pseudo_bool.specs.Limits.{variable_limit};
 ghost use Rattle.pseudo_bool.specs.Energies.{IsEnergy, assignment, value_at};
 ghost use Rattle.compile_cut.specs.Shown.{IsSmallestLeastAssignment};
-ghost use Rattle.gco_c.specs.Energies.{bits, digit_of, formula_given};
+ghost use Rattle.gco_c.specs.Energies.{bits, digit_of, energy_given};
 ghost use Rattle.gco_c.specs.Outcomes.{value_told};
 ghost use Rattle.gco_c.specs.TermRefusals.{IsMinimumTold, IsMinimumRefusal, IsRefusedIn};
 
@@ -41,16 +41,16 @@ pub extern "C" fn gco_minimise(
     minimum: &mut GcoMinimum,
 ) -> u32
     ensures given { result ≡ 0 →
-        IsEnergy (formula_given (length assignment.old) constant ones.now twos.now threes.now) }
+        IsEnergy (energy_given (length assignment.old) constant ones.now twos.now threes.now) }
     ensures best { result ≡ 0 → IsSmallestLeastAssignment
-        (formula_given (length assignment.old) constant ones.now twos.now threes.now)
+        (energy_given (length assignment.old) constant ones.now twos.now threes.now)
         (bits assignment.new) }
     ensures value { result ≡ 0 → minimum.new ≡ value_told (value_at
-        (formula_given (length assignment.old) constant ones.now twos.now threes.now)
+        (energy_given (length assignment.old) constant ones.now twos.now threes.now)
         (bits assignment.new)) }
     ensures unchanged { result ≢ 0 → assignment.new ≡ assignment.old }
     ensures refused { result ≢ 0 → IsMinimumTold
-        (formula_given (length assignment.old) constant ones.now twos.now threes.now)
+        (energy_given (length assignment.old) constant ones.now twos.now threes.now)
         result minimum.new }
 {
     match least(alloc, assignment.len(), constant, ones, twos, threes) {
@@ -72,16 +72,16 @@ fn least(
     threes: &[GcoThree],
 ) -> Result<Minimum, Refusal>
     ensures given { IfOk result (λ m. IsEnergy
-        (formula_given variables constant ones.now twos.now threes.now)) }
+        (energy_given variables constant ones.now twos.now threes.now)) }
     ensures count { IfOk result (λ m. length m.assignment.items ≡ variables) }
     ensures best { IfOk result (λ m. IsSmallestLeastAssignment
-        (formula_given variables constant ones.now twos.now threes.now)
+        (energy_given variables constant ones.now twos.now threes.now)
         (assignment m.assignment.items)) }
     ensures value { IfOk result (λ m. m.value ≡ value_at
-        (formula_given variables constant ones.now twos.now threes.now)
+        (energy_given variables constant ones.now twos.now threes.now)
         (assignment m.assignment.items)) }
     ensures refused { IfErr result (IsMinimumRefusal
-        (formula_given variables constant ones.now twos.now threes.now)) }
+        (energy_given variables constant ones.now twos.now threes.now)) }
 {
     if variables > VARIABLE_LIMIT as usize {
         return Err(Refusal::TooManySites);
@@ -134,7 +134,7 @@ fn refuse(minimum: &mut GcoMinimum, refusal: Refusal) -> u32
     ensures some { result ≢ 0 }
     ensures told { IsRefusedIn refusal result minimum.new }
 {
-    let (fixed, fixed_at) = refusal.fixed();
+    let (fixed, fixed_at) = refusal.fixed_numbers();
     *minimum = GcoMinimum {
         value: 0,
         place: refusal.place() as u64,

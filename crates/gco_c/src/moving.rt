@@ -4,12 +4,12 @@ ghost use Rattle.cost_store.specs.Limits.{data_limit, smooth_limit};
 ghost use Rattle.cost_store.specs.Promises.{IsCost, cost_in, entry_at};
 ghost use Rattle.labellings.specs.declared.change.Move.TheVariants.{Expand, Swap};
 ghost use Rattle.moves.specs.Instances.{instance_of};
-ghost use Rattle.cost_store.specs.Posed.{IsPosed, Meant, FitsProblem, AreOfOneSize};
+ghost use Rattle.cost_store.specs.Posed.{IsPosed, WhereMeant, FitsProblem, AreOfOneSize};
 ghost use Rattle.cost_store.specs.LabelCosts.{AreLabelCosts, costs_of};
 ghost use Rattle.moves.specs.Problems.{IsMoved};
-ghost use Rattle.gco_c.specs.Calls.{IsGiven, IsMoveTold, asked, instance_given};
+ghost use Rattle.gco_c.specs.Calls.{IsGiven, IsMoveTold, call_arrays, instance_given};
 ghost use Rattle.gco_c.specs.Moved.{IsMovedTo};
-ghost use Rattle.gco_c.specs.Outcomes.{move_told, parts_told};
+ghost use Rattle.gco_c.specs.Outcomes.{move_told, outcome_of_parts};
 ghost use Rattle.gco_c.specs.Refusals.{IsMoveCause, IsMoveRefusalTold};
 
 use crate::label::copy_labels;
@@ -49,13 +49,14 @@ pub extern "C" fn gco_expand(
     outcome: &mut GcoOutcome,
 ) -> u32
     ensures given { result ≡ 0 →
-        IsGiven (asked label_count data.now smooth.now label_costs.now pairs.now labels.old) }
+        IsGiven (call_arrays label_count data.now smooth.now label_costs.now pairs.now labels.old) }
     ensures moved { result ≡ 0 →
-        IsMoveTold (asked label_count data.now smooth.now label_costs.now pairs.now labels.old)
+        IsMoveTold (call_arrays label_count data.now smooth.now label_costs.now
+        pairs.now labels.old)
         (Expand alpha) labels.new outcome.new }
     ensures unchanged { result ≢ 0 → labels.new ≡ labels.old }
     ensures refused { result ≢ 0 →
-        IsMoveRefusalTold (asked label_count data.now smooth.now label_costs.now pairs.now labels.old)
+        IsMoveRefusalTold (call_arrays label_count data.now smooth.now label_costs.now pairs.now labels.old)
         (Expand alpha) result outcome.new }
 {
     let change = Move::Expand(alpha);
@@ -88,13 +89,14 @@ pub extern "C" fn gco_swap(
     outcome: &mut GcoOutcome,
 ) -> u32
     ensures given { result ≡ 0 →
-        IsGiven (asked label_count data.now smooth.now label_costs.now pairs.now labels.old) }
+        IsGiven (call_arrays label_count data.now smooth.now label_costs.now pairs.now labels.old) }
     ensures moved { result ≡ 0 →
-        IsMoveTold (asked label_count data.now smooth.now label_costs.now pairs.now labels.old)
+        IsMoveTold (call_arrays label_count data.now smooth.now label_costs.now
+        pairs.now labels.old)
         (Swap alpha beta) labels.new outcome.new }
     ensures unchanged { result ≢ 0 → labels.new ≡ labels.old }
     ensures refused { result ≢ 0 →
-        IsMoveRefusalTold (asked label_count data.now smooth.now label_costs.now pairs.now labels.old)
+        IsMoveRefusalTold (call_arrays label_count data.now smooth.now label_costs.now pairs.now labels.old)
         (Swap alpha beta) result outcome.new }
 {
     let change = Move::Swap(alpha, beta);
@@ -124,13 +126,14 @@ fn make(
     outcome: &mut GcoOutcome,
 ) -> u32
     ensures given { result ≡ 0 →
-        IsGiven (asked label_count data.now smooth.now label_costs.now pairs.now labels.old) }
+        IsGiven (call_arrays label_count data.now smooth.now label_costs.now pairs.now labels.old) }
     ensures moved { result ≡ 0 →
-        IsMoveTold (asked label_count data.now smooth.now label_costs.now pairs.now labels.old)
+        IsMoveTold (call_arrays label_count data.now smooth.now label_costs.now
+        pairs.now labels.old)
         change labels.new outcome.new }
     ensures unchanged { result ≢ 0 → labels.new ≡ labels.old }
     ensures refused { result ≢ 0 →
-        IsMoveRefusalTold (asked label_count data.now smooth.now label_costs.now pairs.now labels.old)
+        IsMoveRefusalTold (call_arrays label_count data.now smooth.now label_costs.now pairs.now labels.old)
         change result outcome.new }
 {
     match move_call(
@@ -164,13 +167,14 @@ fn move_call(
     at: &[u32],
 ) -> Result<Moved, Refusal>
     ensures given { IfOk result (λ _.
-        IsGiven (asked labels data.now smooth.now label_costs.now given.now at.now)) }
+        IsGiven (call_arrays labels data.now smooth.now label_costs.now given.now at.now)) }
     ensures moved { IfOk result (λ moved.
-        IsMovedTo (instance_given (asked labels data.now smooth.now label_costs.now given.now at.now))
+        IsMovedTo (instance_given (call_arrays labels data.now smooth.now label_costs.now given.now at.now))
         change at.now (Ok moved)) }
     ensures sized { IfOk result (λ moved. length moved.labelling.at ≡ length at.now) }
     ensures refused { IfErr result
-        (IsMoveCause (asked labels data.now smooth.now label_costs.now given.now at.now) change) }
+        (IsMoveCause (call_arrays labels data.now smooth.now label_costs.now given.now
+        at.now) change) }
 {
     let ready = ready_of(alloc, labels, data, smooth, label_costs, given, at)?;
     match move_over(alloc, ready, data, smooth, change) {
@@ -234,7 +238,7 @@ fn move_problem<F: Fn(u32, u32) -> i64 + Sync, V: Fn(u32, u32) -> i64 + Sync>(
 ) -> Result<Moved, MoveError>
     requires posed { IsPosed F.Fn V.Fn problem.now }
     requires fits { FitsProblem problem.now start }
-    ensures moved { Meant F.Fn V.Fn problem.now (λ m. IsMovedTo m change start.at result) }
+    ensures moved { WhereMeant F.Fn V.Fn problem.now (λ m. IsMovedTo m change start.at result) }
     ensures sized { IfOk result (λ moved. length moved.labelling.at ≡ length start.at) }
 {
     let mut labelling = start;
@@ -265,7 +269,7 @@ fn make_move<F: Fn(u32, u32) -> i64 + Sync, V: Fn(u32, u32) -> i64 + Sync>(
     requires posed { IsPosed F.Fn V.Fn problem.now }
     requires fits { FitsProblem problem.now labelling.old }
     ensures sizes { AreOfOneSize labelling.old labelling.new }
-    ensures moved { Meant F.Fn V.Fn problem.now
+    ensures moved { WhereMeant F.Fn V.Fn problem.now
         (λ m. IsMoved m change labelling.old.at labelling.new.at result) }
 {
     match change {
@@ -277,7 +281,7 @@ fn make_move<F: Fn(u32, u32) -> i64 + Sync, V: Fn(u32, u32) -> i64 + Sync>(
 /// Tells where a move ended, and nothing else.
 fn tell_move(outcome: &mut GcoOutcome, moved: &Moved)
     ensures { outcome.new
-        ≡ move_told (parts_told moved.now.«data» moved.now.smooth moved.now.label) moved.now.changed }
+        ≡ move_told (outcome_of_parts moved.now.«data» moved.now.smooth moved.now.label) moved.now.changed }
 {
     *outcome = GcoOutcome {
         data: moved.data,

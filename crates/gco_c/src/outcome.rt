@@ -1,6 +1,6 @@
 //! What a call tells beside its status.
 ghost use Rattle.std.specs.Prelude.{◌≡◌, ◌≢◌, cond};
-ghost use Rattle.gco_c.specs.Outcomes.{bound_numbers, parts_told, run_told};
+ghost use Rattle.gco_c.specs.Outcomes.{bound_numbers, outcome_of_parts, run_told};
 ghost use Rattle.gco_c.specs.Refusals.{IsTold};
 
 use crate::refusal::Refusal;
@@ -66,7 +66,7 @@ fn numbers(bound: Option<Bound>) -> (u64, u64)
 
 /// Tells where a run ended, and nothing else.
 pub(crate) fn tell_run(outcome: &mut GcoOutcome, run: &Run)
-    ensures { outcome.new ≡ run_told (parts_told run.now.«data» run.now.smooth run.now.label)
+    ensures { outcome.new ≡ run_told (outcome_of_parts run.now.«data» run.now.smooth run.now.label)
         run.now.ended.cycles run.now.ended.settled run.now.bound }
 {
     let (vmin, vmax) = numbers(run.bound);

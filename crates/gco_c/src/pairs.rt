@@ -2,7 +2,7 @@
 ghost use Rattle.std.specs.Prelude.{◌≡◌, ◌≤◌, ◌++◌, [], ◌∷◌, All, length, IfOk, IfErr, OnOk};
 ghost use Rattle.label_field.specs.Limits.{pair_limit, site_limit};
 ghost use Rattle.label_field.specs.PairLists.{IsPair, IsPairList};
-ghost use Rattle.gco_c.specs.Calls.{list_given, pair_of};
+ghost use Rattle.gco_c.specs.Calls.{list_given, pair_from_c};
 ghost use Rattle.gco_c.specs.Refusals.{IsListRefusal, IsPairTold, pair_refusal};
 
 use crate::refusal::Refusal;
@@ -36,7 +36,7 @@ pub(crate) fn pairs_of(alloc: Global, sites: u32, given: &[GcoPair]) -> Result<P
 /// Adds the pair that was given at a place.
 fn add_pair(pairs: &mut Pairs, place: usize, given: GcoPair) -> Result<(), Refusal>
     ensures added { OnOk result (pairs.new
-        ≡ record pairs.old { list = pairs.old.list ++ pair_of given ∷ [] }) }
+        ≡ record pairs.old { list = pairs.old.list ++ pair_from_c given ∷ [] }) }
     ensures known { IfErr result (λ refusal. All (IsPair pairs.old.sites) pairs.old.list
         × (length pairs.old.list ≤ pair_limit)) }
     ensures refused { IfErr result (IsPairTold pairs.old given place) }

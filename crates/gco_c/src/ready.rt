@@ -1,7 +1,7 @@
 //! What a call was given, once it is tested.
 ghost use Rattle.std.specs.Prelude.{◌≡◌, length, IfOk, IfErr, None};
 ghost use Rattle.cost_store.specs.LabelCosts.{costs_of};
-ghost use Rattle.gco_c.specs.Calls.{IsReady, asked};
+ghost use Rattle.gco_c.specs.Calls.{ArePartsOf, call_arrays};
 ghost use Rattle.gco_c.specs.Refusals.{IsGivenRefusal};
 
 use crate::checks::{check_counts, check_ranges};
@@ -30,9 +30,9 @@ pub(crate) fn ready_of(
     at: &[u32],
 ) -> Result<Ready, Refusal>
     ensures ready { IfOk result
-        (IsReady (asked labels data.now smooth.now label_costs.now given.now at.now)) }
+        (ArePartsOf (call_arrays labels data.now smooth.now label_costs.now given.now at.now)) }
     ensures refused { IfErr result
-        (IsGivenRefusal (asked labels data.now smooth.now label_costs.now given.now at.now)) }
+        (IsGivenRefusal (call_arrays labels data.now smooth.now label_costs.now given.now at.now)) }
 {
     let sites = check_counts(
         at.len(),

@@ -118,7 +118,7 @@ impl Refusal {
     }
 
     /// The variable of a term of three that is fixed, and its value: 3 and 0 of all else.
-    pub(crate) fn fixed(self) -> (u64, u64)
+    pub(crate) fn fixed_numbers(self) -> (u64, u64)
         ensures { result ≡ fixed_of self }
     {
         match self {

@@ -15,13 +15,13 @@ pub(crate) fn start_of(alloc: Global, labels: u32, given: &[u32]) -> Result<Labe
     ensures refused { IfErr result (IsStartRefusal labels given.now) }
 {
     match Labelling::new(alloc, given.len() as u32, labels) {
-        Ok(start) => filled(start, given),
+        Ok(start) => fill(start, given),
         Err(_) => Err(Refusal::OutOfMemory),
     }
 }
 
 /// The labelling with the labels that were given.
-fn filled(start: Labelling, given: &[u32]) -> Result<Labelling, Refusal>
+fn fill(start: Labelling, given: &[u32]) -> Result<Labelling, Refusal>
     requires { length start.at ≡ length given.now }
     ensures start { IfOk result (λ filled. filled ≡ record start { at = given.now }) }
     ensures below { IfOk result (λ filled. All (λ label. label < start.labels) given.now) }

@@ -2,7 +2,7 @@
 ghost use Rattle.std.specs.Prelude.{◌≡◌, ◌≤◌, ◌++◌, [], ◌∷◌, ◌+ℤ◌, pos, map, IfOk, IfErr, OnOk};
 ghost use Rattle.pseudo_bool.specs.Limits.{variable_limit};
 ghost use Rattle.pseudo_bool.specs.Energies.{IsEnergy, IsValue};
-ghost use Rattle.gco_c.specs.Energies.{formula_given, one_of, three_numbers, three_of, two_numbers, two_of};
+ghost use Rattle.gco_c.specs.Energies.{energy_given, one_of, three_numbers, three_of, two_numbers, two_of};
 ghost use Rattle.gco_c.specs.TermRefusals.{AreTermsRefused, IsTermTold, IsTermsRefusal, term_refusal};
 
 use crate::refusal::Refusal;
@@ -61,11 +61,11 @@ pub(crate) fn energy_of(
 ) -> Result<Energy, Refusal>
     requires { variables ≤ variable_limit }
     ensures energy { IfOk result (λ energy. energy
-        ≡ formula_given variables constant ones.now twos.now threes.now) }
+        ≡ energy_given variables constant ones.now twos.now threes.now) }
     ensures ok { IfOk result (λ energy.
-        IsEnergy (formula_given variables constant ones.now twos.now threes.now)) }
+        IsEnergy (energy_given variables constant ones.now twos.now threes.now)) }
     ensures refused { IfErr result (IsTermsRefusal
-        (formula_given variables constant ones.now twos.now threes.now)) }
+        (energy_given variables constant ones.now twos.now threes.now)) }
 {
     let mut energy = Energy::new(alloc);
     energy.clear(variables);

@@ -7,9 +7,9 @@ use Rattle.byte_streams.specs.declared.input.ReadError.{ReadError}
 use Rattle.byte_streams.specs.declared.sink.WriteFailed.{WriteFailed}
 use Rattle.command_line.specs.declared.task.PictureOptions.{PictureOptions}
 use Rattle.command_line.specs.declared.task.PictureOptions.TheVariants.{Restore, Stereo, Segment}
-use Rattle.pgm_image.specs.Written.{written}
+use Rattle.pgm_image.specs.Written.{written_form}
 use Rattle.solvers.specs.declared.solve_error.SolveError.{SolveError}
-use Rattle.vision.specs.Faults.{IsWrite, Leaves}
+use Rattle.vision.specs.Faults.{IsWrite, LeavesWriter}
 use Rattle.vision.specs.Jobs.{WritesPicture, Job, StopsAfter, Reports, picture_of}
 use Rattle.vision.specs.declared.error.VisionError.{VisionError}
 use Rattle.vision.specs.declared.report.Report.{Report}
@@ -18,7 +18,7 @@ use Rattle.gco_cli.specs.declared.fault.Fault.TheVariants.{Write}
 use Rattle.gco_cli.proofs.FaultKinds.{error_not_write, picture_plain, read_own}
 use Rattle.gco_cli.proofs.InputLemmas.{IsWhole, of_read, of_refusal}
 use Rattle.gco_cli.specs.Faults.{picture_fault, read_fault}
-use Rattle.gco_cli.specs.Pictures.{AnswersJob, AnswersPicture, HasPictureError, HasPictureFault, IsPictureJob, asks_bound, parts_at, parts_told, picture_lines, tells_labels}
+use Rattle.gco_cli.specs.Pictures.{AnswersJob, AnswersPicture, HasPictureError, HasPictureFault, IsPictureJob, asks_bound, parts_at, report_parts, picture_lines, tells_labels}
 use Rattle.gco_cli.specs.Run.{IsCut, Refuses, Writes, is_write}
 use Rattle.byte_streams.specs.Streams.{Stream}
 use Rattle.gco_cli.specs.Inputs.{OfSomeInput}
@@ -39,7 +39,7 @@ due o bytes text said source job is of answers =
     of_read source bytes (λ input. AnswersPicture o input text said) is.0 (is.1, (job, of, answers))
 
 parts_same : (job : Job) (labels : List ℕ) (settled : Bool) (report : Report) → Reports job labels settled report
-    → parts_told report ≡ parts_at job labels
+    → report_parts report ≡ parts_at job labels
 parts_same job labels settled report told = rw (told.energy_is, told.data_is, told.smooth_is, told.label_is) refl
 
 -- the job asks for a bound where the options do
@@ -53,15 +53,15 @@ pub wrote : (o : PictureOptions) (tells asked : Bool) (bytes said : List ℕ) (s
     → tells ≡ tells_labels o → asked ≡ asks_bound o
     → IsInput bytes source
     → (job : Job) × IsPictureJob o bytes job × WritesPicture job old new report
-    → said ≡ picture_lines tells asked (parts_told report) report.bound
+    → said ≡ picture_lines tells asked (report_parts report) report.bound
     → Writes (Due o source) old new said
 wrote o tells asked bytes said source old new report labels_are bound_is is (job, of, does) line =
     let parts = parts_same job does.labels does.ends.settled report does.tells in
     let bound = bound_is ∙ same_bound o bytes job of in
     let says : said ≡ picture_lines (tells_labels o) job.bound (parts_at job does.labels) report.bound =
     line ∙ (λ i. picture_lines (labels_are i) (bound i) (parts i) report.bound) in (
-      written (picture_of job does.labels),
-      due o bytes (written (picture_of job does.labels)) said source job is of
+      written_form (picture_of job does.labels),
+      due o bytes (written_form (picture_of job does.labels)) said source job is of
           (record {
             labels = does.labels;
             ends = does.ends;
@@ -78,7 +78,7 @@ stopped : (o : PictureOptions) (bytes : List ℕ) (source old new : Stream) (sto
     → IsInput bytes source → IsPictureJob o bytes job → StopsAfter job old new stop.count → fault ≡ Write stop
     → IsCut (Due o source) old new fault
 stopped o bytes source old new stop fault job is of stops tells =
-    let text = written (picture_of job stops.labels) in
+    let text = written_form (picture_of job stops.labels) in
     let said = picture_lines (tells_labels o) job.bound (parts_at job stops.labels) stops.report.bound in (
       text,
       said,
@@ -97,7 +97,7 @@ stopped o bytes source old new stop fault job is of stops tells =
 -- a refusal of the command leaves what it must: nothing was written, and the fault is one of the input, or the sink failed
 pub refuses : (cut : SolveError → Type 0) (o : PictureOptions) (bytes : List ℕ) (source old new : Stream)
     (e : VisionError) (fault : Fault) → IsInput bytes source
-    → Leaves (IsPictureJob o bytes) (HasPictureError cut o bytes) old new e
+    → LeavesWriter (IsPictureJob o bytes) (HasPictureError cut o bytes) old new e
     → ((¬ IsWrite e) → new ≡ old) → fault ≡ picture_fault e → Refuses (Due o source) (Fault_of cut o source) old new fault
 refuses cut o bytes source old new e fault is (inl has) kept tells =
     let quiet = error_not_write cut o bytes e has in

@@ -12,8 +12,8 @@ use Rattle.gco_cli.specs.declared.fault.Fault.TheVariants as fault
 use Rattle.command_line.specs.declared.task.Task.{Task}
 use Rattle.gco_cli.proofs.FaultKinds.{task_own}
 use Rattle.gco_cli.specs.Commands.{IsDueFor, IsFaultFor, StandsForAsked, cuts_refuse}
-use Rattle.gco_cli.specs.Refusals.{IsHelp, IsRefusalFor, IsRefusalOf, SaysRefusal, ShowsHelp, status_of}
-use Rattle.gco_cli.specs.Run.{IsCut, IsCutIn, IsDue, IsRun, Leaves, Refuses, Streams, Writes, is_failed_read, is_bad_option}
+use Rattle.gco_cli.specs.Refusals.{TellsHelp, IsRefusalFor, IsRefusalOf, SaysRefusal, ShowsHelp, exit_status}
+use Rattle.gco_cli.specs.Run.{IsCut, IsCutIn, IsDue, IsRun, LeavesSource, Refuses, Streams, Writes, is_failed_read, is_bad_option}
 use Rattle.byte_streams.specs.Streams.{Stream, Took, failures_after}
 use Rattle.gco_cli.specs.declared.refusal.Refusal.{Refusal}
 use Rattle.gco_cli.specs.declared.refusal.Refusal.TheVariants.{Fault as Faulty, Words}
@@ -29,7 +29,7 @@ cut_weaker : (Due Due' : List ℕ → List ℕ → Type 0) (old new : Stream) (f
 cut_weaker Due Due' old new fault due k = (k.0, k.1, due k.0 k.1 k.2, k.3)
 
 leaves : (old new : Stream) (fault : Fault) → is_bad_option fault ≡ false
-    → new.failures ≡ failures_after (is_failed_read fault) old.failures → Leaves old new fault
+    → new.failures ≡ failures_after (is_failed_read fault) old.failures → LeavesSource old new fault
 leaves old new fault is failed = record { failed = failed; unread = λ is_too. cc }
 
 -- the refusal of a command is for no option
@@ -52,14 +52,14 @@ of_command words request source source_new old new fault asks refuses read = (
   leaves source source_new fault (not_asked request source old new fault refuses) read,
 )
 
-unread : (source : Stream) (fault : Fault) → is_failed_read fault ≡ false → Leaves source source fault
+unread : (source : Stream) (fault : Fault) → is_failed_read fault ≡ false → LeavesSource source source fault
 unread source fault is = record { failed = rw is refl; unread = λ is_too. refl }
 
 -- help that was cut is a refusal of a run that was asked for help
 of_help : (help : List ℕ) (words : List (List ℕ)) (source old new : Stream) (fault : Fault) → AsksForHelp words
-    → IsCut (IsHelp help) old new fault → IsRefusalFor words source source old new (Faulty fault)
+    → IsCut (TellsHelp help) old new fault → IsRefusalFor words source source old new (Faulty fault)
 of_help help words source old new fault asks stops = (
-  inr (cut_weaker (IsHelp help) (IsDue words source) old new fault (λ text said is. inl (asks, is.1, is.2)) stops),
+  inr (cut_weaker (TellsHelp help) (IsDue words source) old new fault (λ text said is. inl (asks, is.1, is.2)) stops),
   unread source fault (rw stops.3.1 refl),
 )
 
@@ -95,7 +95,7 @@ pub run_of : {T : Type 0} (bytes : T → List ℕ) (words : List (List ℕ)) (ol
     → IfOk end (λ said. Writes (IsDue words old.source) old.sink new.sink (bytes said)
     × (new.source.failures ≡ old.source.failures))
     → IfErr end (IsRefusalFor words old.source new.source old.sink new.sink)
-    → IsRun words old new (status_of end)
+    → IsRun words old new (exit_status end)
 run_of bytes words old new (Ok said) told done refused = record {
   done = λ is. record { said = bytes said; written = done.0; told = told; read = done.1 };
   refused = λ is. absurd (omega (arith, is));

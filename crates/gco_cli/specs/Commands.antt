@@ -7,7 +7,7 @@ use Rattle.command_line.specs.declared.task.Task.TheVariants.{Energy, Label, Pic
 use Rattle.solvers.specs.declared.solve_error.SolveError.{SolveError}
 use Rattle.solvers.specs.declared.solve_error.SolveError.TheVariants.{OutOfMemory}
 use Rattle.worker_options.specs.declared.options.Options.{Options}
-use Rattle.rounds.specs.SolveErrors.{MayRefuse}
+use Rattle.rounds.specs.SolveErrors.{MayFailToSolve}
 use Rattle.gco_cli.specs.declared.fault.Fault.{Fault}
 use Rattle.gco_cli.specs.Energy.{AnswersInput, HasEnergyFault}
 use Rattle.gco_cli.specs.Label.{AnswersLabels, HasLabelFault}
@@ -29,7 +29,7 @@ HasFaultFor refuses (Picture o) input fault = HasPictureFault refuses o input fa
 -- what the cuts may refuse: one thread memory alone, workers also that the system starts none
 abbrev pub cuts_refuse : Option Options → SolveError → Type 0
 cuts_refuse None e = e ≡ OutOfMemory
-cuts_refuse (Some options) e = MayRefuse options e
+cuts_refuse (Some options) e = MayFailToSolve options e
 
 -- the same of some input that the source may give
 abbrev pub IsDueFor : Task → Stream → List ℕ → List ℕ → Type 0

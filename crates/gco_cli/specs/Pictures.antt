@@ -7,7 +7,7 @@ use Rattle.labellings.specs.Energies.{data_energy, energy, label_energy, labelli
 use Rattle.moves.specs.Runs.{TellsBound}
 use Rattle.moves.specs.declared.bound.Bound.{Bound}
 use Rattle.solvers.specs.declared.solve_error.SolveError.{SolveError}
-use Rattle.pgm_image.specs.Written.{written}
+use Rattle.pgm_image.specs.Written.{written_form}
 use Rattle.vision.specs.Jobs.{EndsAt, Job, picture_of}
 use Rattle.vision.specs.Faults.{HasRestoreError, HasSegmentError, HasStereoError}
 use Rattle.vision.specs.Inputs.{IsRestoreJob, IsSegmentJob, IsStereoJob}
@@ -28,8 +28,8 @@ parts_at job labels = record {
 }
 
 -- those that a report tells
-abbrev pub parts_told : Report → Parts
-parts_told report = record {
+abbrev pub report_parts : Report → Parts
+report_parts report = record {
   whole = unsigned_abs report.energy;
   sites = unsigned_abs report.data_part;
   pairs = unsigned_abs report.smooth_part;
@@ -48,7 +48,7 @@ pub record AnswersJob (tells : Bool) (job : Job) (text said : List ℕ) : Type 0
   pub ends : EndsAt job labels
   pub bound : Option Bound
   pub near : IsTrue job.bound → TellsBound job.problem job.moves labels ends.settled bound
-  pub is : text ≡ written (picture_of job labels)
+  pub is : text ≡ written_form (picture_of job labels)
   pub says : said ≡ picture_lines tells job.bound (parts_at job labels) bound
 
 -- the job that the options of an image command and an input name

@@ -5,7 +5,7 @@ use Rattle.command_line.specs.declared.task.NoTask.{NoTask}
 use Rattle.command_line.specs.declared.task.NoTask.TheVariants.{OutOfMemory, Help, Refused, BadOption}
 use Rattle.gco_cli.specs.FaultLine.{fault_line}
 use Rattle.gco_cli.specs.declared.fault.Fault.TheVariants as fault
-use Rattle.gco_cli.specs.Run.{IsCut, IsDue, Leaves, Refuses, IsFaultOf, Writes}
+use Rattle.gco_cli.specs.Run.{IsCut, IsDue, LeavesSource, Refuses, IsFaultOf, Writes}
 use Rattle.byte_streams.specs.Streams.{Stream, Took}
 use Rattle.gco_cli.specs.declared.refusal.Refusal.{Refusal}
 use Rattle.gco_cli.specs.declared.refusal.Refusal.TheVariants.{Fault, Words}
@@ -14,24 +14,24 @@ use Rattle.gco_cli.specs.declared.refusal.Refusal.TheVariants.{Fault, Words}
 abbrev pub IsRefusalFor : List (List ℕ) → Stream → Stream → Stream → Stream → Refusal → Type 0
 IsRefusalFor words source source_new sink sink_new (Fault fault) =
     Refuses (IsDue words source) (IsFaultOf words source) sink sink_new fault
-    × Leaves source source_new fault
+    × LeavesSource source source_new fault
 IsRefusalFor words source source_new sink sink_new (Words text) =
     IsNoTaskFor words (Refused text) × (source_new ≡ source) × (sink_new ≡ sink) × (0 < length (string_bytes text))
 
 -- this help, which is not empty, and nothing is said beside it
-abbrev pub IsHelp : List ℕ → List ℕ → List ℕ → Type 0
-IsHelp help text said = (text ≡ help) × (0 < length text) × (said ≡ [])
+abbrev pub TellsHelp : List ℕ → List ℕ → List ℕ → Type 0
+TellsHelp help text said = (text ≡ help) × (0 < length text) × (said ≡ [])
 
 -- help was asked for, and the text that the words were answered with was written
 abbrev pub ShowsHelp : NoTask → Stream → Stream → List ℕ → Type 0
-ShowsHelp (Help text) old new said = Writes (IsHelp (string_bytes text)) old new said
+ShowsHelp (Help text) old new said = Writes (TellsHelp (string_bytes text)) old new said
 ShowsHelp OutOfMemory old new said = ⊥
 ShowsHelp (Refused text) old new said = ⊥
 ShowsHelp (BadOption option) old new said = ⊥
 
 -- the sink failed within this help
 abbrev pub IsCutHelp : List ℕ → Stream → Stream → Refusal → Type 0
-IsCutHelp help old new (Fault fault) = IsCut (IsHelp help) old new fault
+IsCutHelp help old new (Fault fault) = IsCut (TellsHelp help) old new fault
 IsCutHelp help old new (Words text) = ⊥
 
 -- words without a task are refused for this: help was cut, or nothing was written
@@ -47,7 +47,7 @@ SaysRefusal old new (Fault fault) = Took old new (fault_line fault)
 SaysRefusal old new (Words text) = Took old new (string_bytes text)
 
 -- the exit status
-abbrev pub status_of : {T : Type 0} → Result T Refusal → ℕ
-status_of (Ok said) = 0
-status_of (Err (Fault fault)) = 1
-status_of (Err (Words text)) = 2
+abbrev pub exit_status : {T : Type 0} → Result T Refusal → ℕ
+exit_status (Ok said) = 0
+exit_status (Err (Fault fault)) = 1
+exit_status (Err (Words text)) = 2

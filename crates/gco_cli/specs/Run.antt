@@ -65,7 +65,7 @@ TellsRead old new (Err fault) = new.failures ≡ failures_after (is_failed_read 
 
 -- in a refused run a call of the source failed exactly where its fault says so, and nothing was read where an option
 -- was refused
-pub record Leaves (old new : Stream) (fault : Fault) : Type 0 where
+pub record LeavesSource (old new : Stream) (fault : Fault) : Type 0 where
   pub failed : new.failures ≡ failures_after (is_failed_read fault) old.failures
   pub unread : is_bad_option fault ≡ true → new ≡ old
 
@@ -90,7 +90,7 @@ pub record IsRefused (words : List (List ℕ)) (old new : Streams) : Type 0 wher
   pub fault : Fault
   pub stands : Refuses (IsDue words old.source) (IsFaultOf words old.source) old.sink new.sink fault
   pub told : Took old.faults new.faults (fault_line fault)
-  pub read : Leaves old.source new.source fault
+  pub read : LeavesSource old.source new.source fault
 
 -- status 2: the words were refused with a text that is not empty, it was said, and nothing was read or written
 pub record IsRejected (words : List (List ℕ)) (old new : Streams) : Type 0 where

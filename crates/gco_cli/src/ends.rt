@@ -1,6 +1,6 @@
 //! What is said at the end of a run, and its exit status.
 ghost use Rattle.std.specs.Prelude.{◌≡◌, MatchResult};
-ghost use Rattle.gco_cli.specs.Refusals.{SaysRefusal, status_of};
+ghost use Rattle.gco_cli.specs.Refusals.{SaysRefusal, exit_status};
 ghost use Rattle.byte_streams.specs.Streams.{Took};
 
 use crate::fault_line::{Line, line_of};
@@ -11,7 +11,7 @@ use byte_streams::{Sink, put_text};
 pub fn say_end<E: Sink>(faults: &mut E, end: Result<Line, Refusal>) -> u8
     ensures told { MatchResult end (λ said. Took (E.stream faults.old) (E.stream faults.new) said.bytes)
         (SaysRefusal (E.stream faults.old) (E.stream faults.new)) }
-    ensures status { result ≡ status_of end }
+    ensures status { result ≡ exit_status end }
     ensures kept { E.loan faults.new ≡ E.loan faults.old }
 {
     match end {

@@ -2,12 +2,12 @@
 ghost use Rattle.std.specs.Prelude.{◌≡◌, ◌≤◌, ◌++◌, decimal, OnOk, IfOk, IfErr, IfSome};
 ghost use Rattle.command_line.specs.declared.task.Task.TheVariants.{Label as LabelTask};
 ghost use Rattle.problem_files.specs.Limits.{IsInLimits};
-ghost use Rattle.problem_files.specs.Names.{told};
+ghost use Rattle.problem_files.specs.Names.{problem_view};
 ghost use Rattle.label_field.specs.LabelFields.{LabelField};
 ghost use Rattle.moves.specs.Problems.{IsRunRefusal};
 ghost use Rattle.moves.specs.Runs.{AnswersRun, IsRunInRange};
 ghost use Rattle.gco_cli.specs.Instances.{instance_named};
-ghost use Rattle.run_options.specs.Limits.{smooth_limit};
+ghost use Rattle.run_options.specs.Limits.{greatest_smooth_cost};
 ghost use Rattle.gco_cli.specs.Commands.{IsDueFor, IsFaultFor};
 ghost use Rattle.gco_cli.specs.Label.{AnswersProblem, HasReadingFault, HoldsProblem, IsRunFault};
 ghost use Rattle.gco_cli.specs.Label.{numbers_text, parts_of, run_text};
@@ -50,8 +50,8 @@ pub fn answer_label<H: How, R: Source>(
 // The problem that the input names.
 fn read_problem<R: Source>(alloc: Global, source: &mut R) -> Result<LabelProblem, Fault>
     ensures named { IfOk result (λ problem. OfSomeInput (R.stream source.old)
-        (λ input. HoldsProblem input (told problem))) }
-    ensures limits { IfOk result (λ problem. IsInLimits (told problem)) }
+        (λ input. HoldsProblem input (problem_view problem))) }
+    ensures limits { IfOk result (λ problem. IsInLimits (problem_view problem)) }
     ensures stands { IfErr result (λ fault. OfSomeInput (R.stream source.old)
         (λ input. HasReadingFault input fault)) }
     ensures read { TellsRead (R.stream source.old) (R.stream source.new) result }
@@ -67,10 +67,10 @@ fn answer_problem<H: How>(
     bound: bool,
     how: &H,
 ) -> Result<Vec<u8>, Fault>
-    requires limits { IsInLimits (told problem) }
+    requires limits { IsInLimits (problem_view problem) }
     requires ready { H.ready how.now }
-    ensures told { IfOk result (λ text. AnswersProblem (told problem) bound text.items) }
-    ensures refused { IfErr result (IsRunFault (H.refuses how.now) (told problem)) }
+    ensures told { IfOk result (λ text. AnswersProblem (problem_view problem) bound text.items) }
+    ensures refused { IfErr result (IsRunFault (H.refuses how.now) (problem_view problem)) }
 {
     let tells = problem.label_costs.is_some();
     match run_named(alloc, problem, how) {
@@ -85,13 +85,14 @@ fn answer_problem<H: How>(
 // costs something by itself; `PairNotRegular` where the next move of the chain has a term that is
 // not regular; what `how` refuses; and out of memory.
 fn run_named<H: How>(alloc: Global, problem: LabelProblem, how: &H) -> Result<Run, MoveError>
-    requires limits { IsInLimits (told problem) }
+    requires limits { IsInLimits (problem_view problem) }
     requires ready { H.ready how.now }
-    ensures run { AnswersRun (instance_named (told problem)) problem.moves problem.cycles problem.start.at
+    ensures run { AnswersRun (instance_named (problem_view problem)) problem.moves problem.cycles problem.start.at
         result }
     ensures refused { IfErr result (IsRunRefusal (H.refuses how.now)) }
     ensures sized { IfOk result (IsRunInRange problem.start) }
-    ensures bounded { IfOk result (λ run. IfSome run.bound (λ bound. bound.vmax ≤ smooth_limit)) }
+    ensures bounded { IfOk result
+        (λ run. IfSome run.bound (λ bound. bound.vmax ≤ greatest_smooth_cost)) }
 {
     let pairs = problem.pairs;
     let start = problem.start;
@@ -116,7 +117,7 @@ fn run_named<H: How>(alloc: Global, problem: LabelProblem, how: &H) -> Result<Ru
 // where it is asked for.
 fn run_text(alloc: Global, run: &Run, tells: bool, bound: bool) -> Result<Vec<u8>, AllocError>
     requires sized { (start : LabelField) × IsRunInRange start run.now }
-    requires bounded { IfSome run.now.bound (λ bound. bound.vmax ≤ smooth_limit) }
+    requires bounded { IfSome run.now.bound (λ bound. bound.vmax ≤ greatest_smooth_cost) }
     ensures { IfOk result (λ text. text.items ≡ run_text tells bound run.now) }
 {
     let mut text = Vec::new(alloc);

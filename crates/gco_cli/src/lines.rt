@@ -1,9 +1,9 @@
 //! The lines that tell an energy, and how near it is to the least. They take no memory.
 ghost use Rattle.std.specs.Prelude.{◌≡◌, ◌≤◌, ◌+◌, ◌++◌, IfSome, decimal, length};
 ghost use Rattle.arrayvec.specs.ArrayString.{array_string_len};
-ghost use Rattle.run_options.specs.Limits.{smooth_limit};
+ghost use Rattle.run_options.specs.Limits.{greatest_smooth_cost};
 ghost use Rattle.gco_cli.specs.Lines.{bound_line, energy_words, label_words, near_words};
-ghost use Rattle.gco_cli.specs.Pictures.{parts_told, picture_lines};
+ghost use Rattle.gco_cli.specs.Pictures.{report_parts, picture_lines};
 
 use crate::fault_line::{LINE_LIMIT, Line};
 use arrayvec::ArrayString;
@@ -26,8 +26,8 @@ pub struct Parts {
 /// What is said beside a picture: the line of its energy, in which the cost of the labels by themselves stands where it
 /// is to be told, and the line of the bound where that is asked for.
 pub fn report_lines(report: &Report, tells: bool, asked: bool) -> Line
-    requires { IfSome report.now.bound (λ bound. bound.vmax ≤ smooth_limit) }
-    ensures { result.bytes ≡ picture_lines tells asked (parts_told report.now) report.now.bound }
+    requires { IfSome report.now.bound (λ bound. bound.vmax ≤ greatest_smooth_cost) }
+    ensures { result.bytes ≡ picture_lines tells asked (report_parts report.now) report.now.bound }
 {
     let parts = Parts {
         whole: report.energy.unsigned_abs(),
@@ -67,7 +67,7 @@ fn push_label(line: &mut Line, labels: u64, tells: bool)
 
 /// The line of a bound, where it is asked for.
 pub fn bound_line(bound: Option<Bound>, asked: bool) -> Line
-    requires { IfSome bound (λ bound. bound.vmax ≤ smooth_limit) }
+    requires { IfSome bound (λ bound. bound.vmax ≤ greatest_smooth_cost) }
     ensures bytes { result.bytes ≡ bound_line asked bound }
     ensures len { array_string_len result ≤ 90 }
 {
@@ -83,7 +83,7 @@ pub fn bound_line(bound: Option<Bound>, asked: bool) -> Line
 // How near an energy is to the least, where it is known.
 fn push_near(line: &mut Line, bound: Option<Bound>)
     requires room { array_string_len line.old ≤ 6 }
-    requires range { IfSome bound (λ bound. bound.vmax ≤ smooth_limit) }
+    requires range { IfSome bound (λ bound. bound.vmax ≤ greatest_smooth_cost) }
     ensures bytes { line.new.bytes ≡ line.old.bytes ++ near_words bound }
     ensures len { array_string_len line.new ≤ array_string_len line.old + 80 }
 {

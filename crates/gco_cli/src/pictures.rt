@@ -2,7 +2,7 @@
 ghost use Rattle.std.specs.Prelude.{◌≡◌, IfOk, IfErr};
 ghost use Rattle.command_line.specs.Task.{FitsPicture};
 ghost use Rattle.command_line.specs.declared.task.Task.TheVariants.{Picture};
-ghost use Rattle.vision.specs.Faults.{IsWrite, Leaves};
+ghost use Rattle.vision.specs.Faults.{IsWrite, LeavesWriter};
 ghost use Rattle.vision.specs.Jobs.{WritesPicture, Job};
 ghost use Rattle.gco_cli.specs.Commands.{IsDueFor, IsFaultFor};
 ghost use Rattle.gco_cli.specs.Pictures.{HasPictureError, IsPictureJob, asks_bound, tells_labels};
@@ -55,7 +55,7 @@ fn run_picture<H: How, W: Sink>(
     requires ready { H.ready how.now }
     ensures done { IfOk result (λ report. (job : Job) × IsPictureJob options.now input.now job
         × WritesPicture job (W.stream sink.old) (W.stream sink.new) report) }
-    ensures refused { IfErr result (Leaves (IsPictureJob options.now input.now)
+    ensures refused { IfErr result (LeavesWriter (IsPictureJob options.now input.now)
         (HasPictureError (H.refuses how.now) options.now input.now) (W.stream sink.old) (W.stream sink.new)) }
     ensures unchanged { IfErr result (λ e. (¬ IsWrite e) → sink.new ≡ sink.old) }
     ensures kept { W.loan sink.new ≡ W.loan sink.old }

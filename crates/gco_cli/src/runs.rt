@@ -2,7 +2,7 @@
 ghost use Rattle.std.specs.Prelude.{◌≡◌, IfOk, IfErr, MatchResult, map};
 ghost use Rattle.std.specs.IoError.{error_kind};
 ghost use Rattle.command_line.specs.Task.{FitsRequest, FitsTask};
-ghost use Rattle.rounds.specs.SolveErrors.{MayRefuse};
+ghost use Rattle.rounds.specs.SolveErrors.{MayFailToSolve};
 ghost use Rattle.gco_cli.specs.Commands.{IsDueFor, IsFaultFor, StandsForAsked};
 ghost use Rattle.gco_cli.specs.Refusals.{IsRefusalFor};
 ghost use Rattle.gco_cli.specs.Run.{IsDue, IsRun, IsUnread, Refuses, TellsRead, Writes, streams};
@@ -149,7 +149,7 @@ fn run_by_workers<A: Threads + Wait + Sync, R: Source, W: Sink>(
     ensures done { IfOk result (λ said. Writes (IsDueFor task (R.stream source.old))
         (W.stream sink.old) (W.stream sink.new) said.bytes) }
     ensures refused { IfErr result (Refuses (IsDueFor task (R.stream source.old))
-        (IsFaultFor (MayRefuse options) task (R.stream source.old)) (W.stream sink.old) (W.stream sink.new)) }
+        (IsFaultFor (MayFailToSolve options) task (R.stream source.old)) (W.stream sink.old) (W.stream sink.new)) }
     ensures read { TellsRead (R.stream source.old) (R.stream source.new) result }
     ensures kept { W.loan sink.new ≡ W.loan sink.old }
 {

@@ -2,7 +2,7 @@
 ghost use Rattle.std.specs.Prelude.{◌≡◌, ◌<◌, length, IfOk, IfErr};
 ghost use Rattle.command_line.specs.Task.{FitsTask, HasText};
 ghost use Rattle.gco_cli.specs.Commands.{IsDueFor, IsFaultFor};
-ghost use Rattle.gco_cli.specs.Refusals.{IsCutHelp, IsHelp, IsRefusalOf, ShowsHelp};
+ghost use Rattle.gco_cli.specs.Refusals.{IsCutHelp, TellsHelp, IsRefusalOf, ShowsHelp};
 ghost use Rattle.gco_cli.specs.Run.{Refuses, TellsRead, Writes};
 
 use crate::energy::answer_energy;
@@ -67,7 +67,7 @@ pub fn end_without_task<W: Sink>(no_task: NoTask, sink: &mut W) -> Result<Line, 
 fn show_help<W: Sink>(sink: &mut W, text: &str) -> Result<Line, Refusal>
     requires { 0 < length text.now }
     ensures done { IfOk result (λ said.
-        Writes (IsHelp text.now) (W.stream sink.old) (W.stream sink.new) said.bytes) }
+        Writes (TellsHelp text.now) (W.stream sink.old) (W.stream sink.new) said.bytes) }
     ensures cut { IfErr result (IsCutHelp text.now (W.stream sink.old) (W.stream sink.new)) }
     ensures kept { W.loan sink.new ≡ W.loan sink.old }
 {

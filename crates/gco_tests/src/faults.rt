@@ -1,5 +1,5 @@
 //! Writers that stop and readers that fail, at each byte, of each command.
-use crate::images::striped;
+use crate::images::stripes;
 use crate::rows::expect;
 use crate::streams::{CutWriter, ROOM, SlowReader, ends, run};
 use byte_streams::{Watched, WatchedReader};
@@ -127,7 +127,7 @@ const LONG_STOPS: &[Stop] = &[
 
 #[test]
 fn writers_that_stop_in_a_picture(rt: HostRuntime) {
-    let picture = striped(rt.alloc()).expect(&rt, "memory");
+    let picture = stripes(rt.alloc()).expect(&rt, "memory");
     let picture = picture.as_slice();
     let words = &["gco", "restore", "--weight", "1", "--cycles", "1"];
     assert!(rt; picture.len() == 4_107);

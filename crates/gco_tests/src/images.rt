@@ -320,7 +320,7 @@ const SHARED: &[&[&str]] = &[
 ];
 
 /// A picture of 64 by 64 samples, 3 in each fourth column and else 0.
-pub fn striped(alloc: Global) -> Result<Vec<u8>, AllocError> {
+pub fn stripes(alloc: Global) -> Result<Vec<u8>, AllocError> {
     let mut picture = Vec::from_slice(alloc, b"P5\n64 64\n3\n")?;
     for _ in 0..1024 {
         picture.extend_from_slice(&[0, 3, 0, 0])?;
@@ -331,7 +331,7 @@ pub fn striped(alloc: Global) -> Result<Vec<u8>, AllocError> {
 // In each row a stripe costs 2, its two borders, and would cost 3 if it were black.
 #[test]
 fn stripes(rt: HostRuntime) {
-    let picture = striped(rt.alloc()).expect(&rt, "memory");
+    let picture = stripes(rt.alloc()).expect(&rt, "memory");
     let said = "energy 2048 data 0 smooth 2048\n";
     for (place, words) in SHARED.iter().enumerate() {
         let mut reader = SlowReader::new(picture.as_slice(), ROOM, false);

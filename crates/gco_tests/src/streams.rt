@@ -133,7 +133,7 @@ pub const WORKERS: &[&[&str]] = &[
 ];
 
 /// Words, and further ones after them.
-pub fn joined<'a>(
+pub fn join_words<'a>(
     alloc: Global,
     words: &[&'a str],
     more: &[&'a str],
@@ -154,7 +154,7 @@ pub fn ends_alike(
     said: &str,
 ) -> bool {
     for more in WORKERS {
-        let Ok(words) = joined(rt.alloc(), words, more) else {
+        let Ok(words) = join_words(rt.alloc(), words, more) else {
             return false;
         };
         let mut reader = SlowReader::new(input, ROOM, false);

@@ -4,7 +4,7 @@ use Rattle.std.proofs.lemmas.Bool.Decides.{nat_tests}
 use Rattle.std.proofs.lemmas.List.{ext_get_or, length-map}
 use Rattle.std.proofs.lemmas.List.FromFn.{length-map-range_with_len}
 use Rattle.flow_network.specs.Cut.{Network, nodes, set_of}
-use Rattle.flow_network.specs.Preflow.{Flow, flow_by, given, AreRooms}
+use Rattle.flow_network.specs.Preflow.{Flow, flow_by, sink_flows, AreRooms}
 use Rattle.flow_network.specs.Progress.{top}
 use Rattle.flow_network.proofs.Given.{length-given, given_at}
 use Rattle.sink_distances.specs.Distances.{IsExactLabel, AreDistances}
@@ -68,10 +68,10 @@ rooms_are s rooms sound len at = record { len = len; within = λ v l. omega (ari
 pub rooms_shown : (s : State) (xs rooms : List ℕ) → IsSound s → length xs ≡ length s.net.arcs → length rooms ≡ nodes s.net
     → ((k : ℕ) → k < length s.net.arcs → slice_index xs k ≡ residual_of s (backward k))
     → ((v : ℕ) → v < nodes s.net → slice_index rooms v ≡ room_of s v)
-    → flow_by xs (given s.net rooms) ≡ shown_flow s
+    → flow_by xs (sink_flows s.net rooms) ≡ shown_flow s
 rooms_shown s xs rooms sound lx lr arcs at =
     let are = rooms_are s rooms sound lr at in
-    flow_shown s xs (given s.net rooms) sound lx (length-given s.net rooms sound.sized.net are) arcs
+    flow_shown s xs (sink_flows s.net rooms) sound lx (length-given s.net rooms sound.sized.net are) arcs
     (λ v l. omega (arith, given_at s.net rooms v sound.sized.net are l, at v l))
 
 -- ---- the nodes whose exact label is below the top one reach the sink

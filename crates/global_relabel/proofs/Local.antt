@@ -4,7 +4,7 @@ use Rattle.flow_network.specs.Cut.{nodes, IsNet}
 use Rattle.flow_network.specs.Progress.{top}
 use Rattle.block_events.specs.Directions.{far}
 use Rattle.block_events.specs.States.{State}
-use Rattle.block_events.specs.Reach.{ReachesIn, IsExact, AreExact}
+use Rattle.block_events.specs.Reach.{ReachesSinkIn, IsExact, AreExact}
 use Rattle.block_events.proofs.Ends.{near_in, far_in}
 use Rattle.global_relabel.specs.Local.{AreLocallyExact, IsLocallyExact}
 
@@ -13,7 +13,7 @@ module _ (s : State) (labels : List ℕ) (net : IsNet s.net) (local : AreLocally
   label v = slice_index labels v
 
   -- a label is at most the length of each path
-  least : (d v : ℕ) → v < nodes s.net → ReachesIn s d v → label v ≤ d
+  least : (d v : ℕ) → v < nodes s.net → ReachesSinkIn s d v → label v ≤ d
   least zero v l path = absurd path
   least (suc zero) v l path = (local.each v l).sink path.1
   least (suc (suc d)) v l (x, lx, at, some, path) =
@@ -21,7 +21,7 @@ module _ (s : State) (labels : List ℕ) (net : IsNet s.net) (local : AreLocally
       omega (arith, rest, (local.each v l).steps (label (far s.net x)) (x, lx, at, some, refl))
 
   -- from a node with the top label no path leads to the sink: each label on it is the top one
-  none : (d v : ℕ) → v < nodes s.net → label v ≡ top s.net → ReachesIn s d v → ⊥
+  none : (d v : ℕ) → v < nodes s.net → label v ≡ top s.net → ReachesSinkIn s d v → ⊥
   none zero v l is path = path
   none (suc zero) v l is path = omega (arith, is, (local.each v l).sink path.1)
   none (suc (suc d)) v l is (x, lx, at, some, path) =
@@ -33,7 +33,7 @@ module _ (s : State) (labels : List ℕ) (net : IsNet s.net) (local : AreLocally
       ]
 
   -- a label that is not the top one is the length of a path
-  path_of : (d v : ℕ) → v < nodes s.net → label v ≡ d → d ≤ nodes s.net → ReachesIn s d v
+  path_of : (d v : ℕ) → v < nodes s.net → label v ≡ d → d ≤ nodes s.net → ReachesSinkIn s d v
   path_of zero v l is low = elim ((local.each v l).reason (omega (arith, is, low))) [
     | inl one ↦ absurd (omega (arith, is, one.0))
     | inr more ↦ absurd (omega (arith, is, more.2))

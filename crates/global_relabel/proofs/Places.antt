@@ -10,7 +10,7 @@ use Rattle.block_events.proofs.Ends.{far_in}
 use Rattle.block_events.proofs.Lanes.{near_opposite, border_opposite}
 use Rattle.block_net.specs.declared.lanes.Border.{Border}
 use Rattle.block_net.specs.Views.{CellsView, lane_in, border_in, first_lane, first_border}
-use Rattle.block_net.specs.Whole.{Whole, block_at, block_with, home, place, slot, is_outer, border_of, shown, StandsAt}
+use Rattle.block_net.specs.Whole.{Whole, block_at, block_with, home, place, slot, is_outer, border_of, state_shown, StandsAt}
 use Rattle.laid_blocks.specs.Views.{blocks_in, IsLaid, IsSpot, IsRow}
 use Rattle.laid_blocks.proofs.Steps.{IsAt, lane_below, border_below, inner_read, border_read, far_spot, back_row, back_spot}
 
@@ -45,7 +45,7 @@ pub record IsLaneEnd (w : Whole) (B : CellsView) (first j : ℕ) (x : Direction)
   pub stands : first + (lane_in B j).far ≡ far w.net x
   pub node : far w.net x < nodes w.net
   pub back : (lane_in B j).opposite < length B.lanes
-  pub residual : (lane_in B (lane_in B j).opposite).residual ≡ (core.lane_at (shown w).lanes (opposite x)).residual
+  pub residual : (lane_in B (lane_in B j).opposite).residual ≡ (core.lane_at (state_shown w).lanes (opposite x)).residual
 
 lane_end : (w : Whole) (b : ℕ) (B : CellsView) (u p j : ℕ) (x : Direction) → IsAt w (blocks_in w) b B → IsSpot w u b p → StandsAt w false u j x
     → IsLaneEnd w B (slice_index w.firsts b) j x
@@ -67,7 +67,7 @@ pub record IsBorderEnd (w : Whole) (border : Border) (x : Direction) : Type 0 wh
   pub back : border.opposite < length (block_at w border.to).borders
   pub stands : slice_index w.firsts border.to + (border_in (block_at w border.to) border.opposite).near ≡ far w.net x
   pub node : far w.net x < nodes w.net
-  pub residual : (border_in (block_at w border.to) border.opposite).residual ≡ (core.lane_at (shown w).lanes (opposite x)).residual
+  pub residual : (border_in (block_at w border.to) border.opposite).residual ≡ (core.lane_at (state_shown w).lanes (opposite x)).residual
 
 border_is : (w : Whole) (b : ℕ) (B : CellsView) (x : Direction) (j : ℕ) → block_at w b ≡ B → IsRow w x true b j → border_of w x ≡ border_in B j
 border_is w b B x j is row =

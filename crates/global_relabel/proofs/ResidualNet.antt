@@ -9,7 +9,7 @@ use Rattle.sums.specs.Sums.{sum_below}
 use Rattle.sums.proofs.SumLemmas.{sum_below-le, sum_by-sum_below}
 use Rattle.flow_network.specs.declared.arc.Arc.{Arc}
 use Rattle.flow_network.specs.Cut.{Network, network_of, nodes, IsArc, IsNet}
-use Rattle.flow_network.specs.Preflow.{Flow, flow_by, given, arc_at, IsResidual}
+use Rattle.flow_network.specs.Preflow.{Flow, flow_by, sink_flows, arc_at, IsResidual}
 use Rattle.flow_network.proofs.Bounds.{sum-le-sum}
 use Rattle.flow_network.proofs.Duality.{arc_is}
 use Rattle.flow_network.proofs.Given.{given_none, sinks_rooms}
@@ -18,12 +18,12 @@ use Rattle.block_events.specs.States.{State, residual_of, room_of}
 use Rattle.block_events.specs.Soundness.{IsSound}
 use Rattle.block_events.proofs.Showing.{IsShown}
 use Rattle.block_events.specs.Reach.{AreExact}
-use Rattle.sink_distances.specs.Search.{Found, label_of, node_at, AreStarts, Grows}
+use Rattle.sink_distances.specs.Search.{Search, search_label, node_at, AreStarts, Grows}
 use Rattle.sink_distances.proofs.Searching.{IsSearched, searched_begins, searched_more, searched_exact}
 use Rattle.block_net.specs.declared.parts.Parts.{Parts}
-use Rattle.block_net.specs.Whole.{shown, whole_of}
+use Rattle.block_net.specs.Whole.{state_shown, whole_of}
 use Rattle.block_core.specs.Parts.{IsIn}
-use Rattle.global_relabel.specs.Search.{LeadsTo}
+use Rattle.global_relabel.specs.Search.{HasResidualLane}
 use Rattle.global_relabel.proofs.Bridge.{exact_of}
 use Rattle.global_relabel.proofs.Seeing.{grows_because}
 
@@ -42,7 +42,7 @@ abbrev taken_back : State → List ℕ
 taken_back s = map (λ k. residual_of s (backward k)) (range_with_len 0 (length s.net.arcs))
 
 abbrev residual_flow : State → Flow
-residual_flow s = flow_by (taken_back s) (given (residual_net s) (residual_net s).sinks)
+residual_flow s = flow_by (taken_back s) (sink_flows (residual_net s) (residual_net s).sinks)
 
 abbrev no_arc : Arc
 no_arc = record { from = 0; to = 0; capacity = 0 }
@@ -115,11 +115,11 @@ residual_at s net flow shown k true l some =
 residual_at s net flow shown k false l some =
     (k, omega (arith, l, shown.arcs), inl (shown.from k l, shown.to k l, omega (arith, some, shown.carried k l, shown.full k l)))
 
-to_residual : (s : State) (net : Network) (flow : Flow) → IsShown s net flow → (w v : ℕ) → LeadsTo s.net s.lanes w v → IsResidual net flow v w
+to_residual : (s : State) (net : Network) (flow : Flow) → IsShown s net flow → (w v : ℕ) → HasResidualLane s.net s.lanes w v → IsResidual net flow v w
 to_residual s net flow shown w v (x, l, at_v, at_w, some) =
     subst (λ n. IsResidual net flow n w) at_v (subst (λ n. IsResidual net flow (near s.net x) n) at_w (residual_at s net flow shown x.arc x.back l some))
 
-from_residual : (s : State) (net : Network) (flow : Flow) → IsShown s net flow → (w v : ℕ) → IsResidual net flow v w → LeadsTo s.net s.lanes w v
+from_residual : (s : State) (net : Network) (flow : Flow) → IsShown s net flow → (w v : ℕ) → IsResidual net flow v w → HasResidualLane s.net s.lanes w v
 from_residual s net flow shown w v (k, in_net, inl forth) =
     let l : k < length s.net.arcs = omega (arith, in_net, shown.arcs) in
     (forward k, l, sym (shown.from k l) ∙ forth.0, sym (shown.to k l) ∙ forth.1, omega (arith, forth.2, shown.carried k l, shown.full k l))
@@ -129,23 +129,23 @@ from_residual s net flow shown w v (k, in_net, inr back) =
 
 -- the directions that the blocks of a state show are its own
 abbrev LeadsIn : Network → Parts → ℕ → ℕ → Type 0
-LeadsIn net p w v = LeadsTo net (shown (whole_of net p)).lanes w v
+LeadsIn net p w v = HasResidualLane net (state_shown (whole_of net p)).lanes w v
 
-leads_in : (s : State) (net : Network) (p : Parts) → net ≡ s.net → IsIn s p → (w v : ℕ) → LeadsIn net p w v → LeadsTo s.net s.lanes w v
+leads_in : (s : State) (net : Network) (p : Parts) → net ≡ s.net → IsIn s p → (w v : ℕ) → LeadsIn net p w v → HasResidualLane s.net s.lanes w v
 leads_in s net p same is w v leads =
-    subst (λ lanes. LeadsTo s.net lanes w v) (ap (λ (q : State). q.lanes) is.shown) (subst (λ n. LeadsIn n p w v) same leads)
+    subst (λ lanes. HasResidualLane s.net lanes w v) (ap (λ (q : State). q.lanes) is.shown) (subst (λ n. LeadsIn n p w v) same leads)
 
-leads_from : (s : State) (net : Network) (p : Parts) → net ≡ s.net → IsIn s p → (w v : ℕ) → LeadsTo s.net s.lanes w v → LeadsIn net p w v
+leads_from : (s : State) (net : Network) (p : Parts) → net ≡ s.net → IsIn s p → (w v : ℕ) → HasResidualLane s.net s.lanes w v → LeadsIn net p w v
 leads_from s net p same is w v leads =
-    subst (λ n. LeadsIn n p w v) (sym same) (subst (λ lanes. LeadsTo s.net lanes w v) (sym (ap (λ (q : State). q.lanes) is.shown)) leads)
+    subst (λ n. LeadsIn n p w v) (sym same) (subst (λ lanes. HasResidualLane s.net lanes w v) (sym (ap (λ (q : State). q.lanes) is.shown)) leads)
 
 -- ---- the search
 
 -- the nodes at places before next of the order are expanded
-abbrev pub IsExpanded : State → ℕ → Found → Type 0
+abbrev pub IsExpanded : State → ℕ → Search → Type 0
 IsExpanded s next found = IsSearched (residual_net s) (residual_flow s) next found
 
-pub expanded_begins : (s : State) (found : Found) → IsSound s → AreStarts s.net s.rooms (nodes s.net) found → IsExpanded s 0 found
+pub expanded_begins : (s : State) (found : Search) → IsSound s → AreStarts s.net s.rooms (nodes s.net) found → IsExpanded s 0 found
 expanded_begins s found sound starts =
     let net = residual_net s in
     let count = count_shown s in
@@ -166,22 +166,22 @@ expanded_begins s found sound starts =
     })
 
 -- the node at the next place is expanded
-pub expanded_more : (s : State) (net : Network) (p : Parts) (next : ℕ) (old new : Found) → IsSound s → net ≡ s.net → IsIn s p → IsExpanded s next old → next < old.count
-    → Grows (label_of old (node_at old next) + 1) (LeadsIn net p (node_at old next)) old new
-    → ((v : ℕ) → LeadsIn net p (node_at old next) v → label_of new v ≤ label_of old (node_at old next) + 1)
+pub expanded_more : (s : State) (net : Network) (p : Parts) (next : ℕ) (old new : Search) → IsSound s → net ≡ s.net → IsIn s p → IsExpanded s next old → next < old.count
+    → Grows (search_label old (node_at old next) + 1) (LeadsIn net p (node_at old next)) old new
+    → ((v : ℕ) → LeadsIn net p (node_at old next) v → search_label new v ≤ search_label old (node_at old next) + 1)
     → IsExpanded s (next + 1) new
 expanded_more s net p next old new sound same is before l grows marked =
     let w = node_at old next in
     let flow = residual_flow s in
     let shown_so = residual_shown s sound in
     searched_more (residual_net s) flow next old new before l
-    (grows_because (label_of old w + 1) (LeadsIn net p w) (λ v. IsResidual (residual_net s) flow v w) old new
+    (grows_because (search_label old w + 1) (LeadsIn net p w) (λ v. IsResidual (residual_net s) flow v w) old new
     (λ v leads. to_residual s (residual_net s) flow shown_so w v (leads_in s net p same is w v leads)) grows)
     (λ v step. marked v (leads_from s net p same is w v (from_residual s (residual_net s) flow shown_so w v step)))
     (residual_is_net s sound)
 
 -- where each node of the order is expanded, the labels are exact
-pub expanded_all : (s : State) (next : ℕ) (found : Found) → IsSound s → IsExpanded s next found → found.count ≤ next → AreExact s found.labels
+pub expanded_all : (s : State) (next : ℕ) (found : Search) → IsSound s → IsExpanded s next found → found.count ≤ next → AreExact s found.labels
 expanded_all s next found sound expanded done =
     exact_of s (residual_net s) (residual_flow s) (residual_shown s sound) found.labels
     (searched_exact (residual_net s) (residual_flow s) next found (residual_is_net s sound) expanded done)

@@ -7,8 +7,8 @@ use Rattle.block_events.specs.declared.event.Event.TheVariants.{RaiseAll}
 use Rattle.block_events.specs.declared.lane.Lane.{Lane}
 use Rattle.block_events.specs.States.{State, excess_of}
 use Rattle.block_events.specs.Directions.{far}
-use Rattle.block_events.specs.Reach.{ReachesIn, Reaches, AreExact}
-use Rattle.block_events.specs.Events.{IsQuiet, Happens, raised}
+use Rattle.block_events.specs.Reach.{ReachesSinkIn, ReachesSink, AreExact}
+use Rattle.block_events.specs.Events.{IsQuiet, Happens, after_raise_all}
 use Rattle.block_events.specs.Soundness.{IsFinished}
 use Rattle.block_events.proofs.Raising.{told_is}
 use Rattle.block_net.specs.declared.parts.Parts.{Parts}
@@ -20,7 +20,7 @@ use Rattle.laid_blocks.proofs.Steps.{excess_read}
 use Rattle.global_relabel.specs.Rest.{IsAtRest}
 
 -- a path is one after the labels have changed, too
-path_raised : (s : State) (labels : List ℕ) (d v : ℕ) → ReachesIn s d v → ReachesIn (raised s labels) d v
+path_raised : (s : State) (labels : List ℕ) (d v : ℕ) → ReachesSinkIn s d v → ReachesSinkIn (after_raise_all s labels) d v
 path_raised s labels zero v path = absurd path
 path_raised s labels (suc zero) v path = path
 path_raised s labels (suc (suc d)) v (x, is, near, some, rest) =
@@ -30,7 +30,7 @@ path_raised s labels (suc (suc d)) v (x, is, near, some, rest) =
 pub unfinished_raised : (s t : State) → IsQuiet s → Happens s RaiseAll t → ¬ IsFinished s → ¬ IsFinished t
 unfinished_raised s t quiet happens unfinished = λ done.
     let labels = happens.effect.0 in
-    let after : IsFinished (raised s labels) = subst IsFinished happens.effect.2 done in
+    let after : IsFinished (after_raise_all s labels) = subst IsFinished happens.effect.2 done in
     unfinished (record {
       quiet = quiet;
       ended = λ v l some path. after.ended v l some (path.0, path_raised s labels path.0 v path.1);
@@ -46,13 +46,13 @@ module _ (s : State) (p : Parts) (labels : List ℕ) (is : IsIn s p) (exact : Ar
   first b = slice_index p.firsts.items b
 
   -- a node with a label below the top one reaches the sink, and no other does
-  low_leads : (v : ℕ) → v < nodes s.net → slice_index labels v < top s.net → Reaches s v
+  low_leads : (v : ℕ) → v < nodes s.net → slice_index labels v < top s.net → ReachesSink s v
   low_leads v l low = elim (exact.exact v l) [
     | inl near ↦ (slice_index labels v, near.1)
     | inr far ↦ absurd (omega (arith, far.0, low))
   ]
 
-  high_ends : (v : ℕ) → v < nodes s.net → top s.net ≤ slice_index labels v → ¬ Reaches s v
+  high_ends : (v : ℕ) → v < nodes s.net → top s.net ≤ slice_index labels v → ¬ ReachesSink s v
   high_ends v l high = elim (exact.exact v l) [
     | inl near ↦ absurd (omega (arith, near.0, high))
     | inr far ↦ far.1

@@ -2,7 +2,7 @@
 use Rattle.std.proofs.Common.{◌≡◌, ℕ, ◌+◌, ◌<◌, ◌≤◌, length, slice_index, inl, inr, refl, ◌∙◌, ap, arith}
 use Rattle.std.proofs.lemmas.Bool.{cases_lt}
 use Rattle.flow_network.specs.Cut.{nodes}
-use Rattle.sink_distances.specs.Search.{Found, label_of, Grows, AreStarts}
+use Rattle.sink_distances.specs.Search.{Search, search_label, Grows, AreStarts}
 use Rattle.sink_distances.proofs.Order.{grows_falls}
 use Rattle.block_events.specs.States.{State, room_of}
 use Rattle.block_net.specs.declared.parts.Parts.{Parts}
@@ -36,10 +36,10 @@ module _ (s : State) (p : Parts) (is : IsIn s p) where
       omega (arith, number_of b q there.0 there.1, there.1.node)
 
   -- one more block is seen
-  pub starts_more : (b f : ℕ) (B : CellsView) (old new : Found) → b < length p.blocks.items → f ≡ first b → block_at w b ≡ B → AreStarts s.net s.rooms 0 old
-      → ((v : ℕ) → v < nodes s.net → home w v < b → 0 < room_of s v → label_of old v ≤ 1)
-      → Grows 1 (GivesIn B f) old new → ((v : ℕ) → GivesIn B f v → label_of new v ≤ 1)
-      → AreStarts s.net s.rooms 0 new × ((v : ℕ) → v < nodes s.net → home w v < b + 1 → 0 < room_of s v → label_of new v ≤ 1)
+  pub starts_more : (b f : ℕ) (B : CellsView) (old new : Search) → b < length p.blocks.items → f ≡ first b → block_at w b ≡ B → AreStarts s.net s.rooms 0 old
+      → ((v : ℕ) → v < nodes s.net → home w v < b → 0 < room_of s v → search_label old v ≤ 1)
+      → Grows 1 (GivesIn B f) old new → ((v : ℕ) → GivesIn B f v → search_label new v ≤ 1)
+      → AreStarts s.net s.rooms 0 new × ((v : ℕ) → v < nodes s.net → home w v < b + 1 → 0 < room_of s v → search_label new v ≤ 1)
   starts_more b f B old new lb from at starts before g marked =
       let size = ap (λ (q : CellsView). count q) at in (
         record {

@@ -1,14 +1,14 @@
 ghost use Rattle.std.specs.Prelude.{◌≡◌, ◌+◌, ◌<◌, ◌≤◌, ℕ, true, false, length, slice_index};
 ghost use Rattle.flow_network.specs.Limits.{node_limit};
 ghost use Rattle.flow_network.specs.Cut.{nodes, IsNet};
-ghost use Rattle.sink_distances.specs.Search.{found_of, AreStarts, IsReady, Grows};
+ghost use Rattle.sink_distances.specs.Search.{found_of, AreStarts, IsNextLabel, Grows};
 ghost use Rattle.block_events.specs.Reach.{AreExact};
 ghost use Rattle.block_net.specs.Views.{lane_in, border_in};
-ghost use Rattle.block_net.specs.Whole.{shown, whole_of};
+ghost use Rattle.block_net.specs.Whole.{state_shown, whole_of};
 ghost use Rattle.laid_blocks.specs.Views.{IsLaid, IsSpot};
-ghost use Rattle.global_relabel.specs.Search.{AreWithin, GivesIn, LeadsTo, AreMarked};
+ghost use Rattle.global_relabel.specs.Search.{AreNodesWithin, GivesIn, HasResidualLane, AreNeighboursLabelled};
 ghost use Rattle.global_relabel.specs.Homes.{AreHomes};
-ghost use Rattle.global_relabel.specs.Workspaces.{IsListed};
+ghost use Rattle.global_relabel.specs.Workspaces.{IsLabelOrder};
 
 use block_core::State;
 use block_net::{Cells, Parts};
@@ -51,9 +51,9 @@ fn mark_block(
     order: &mut [u32],
     mut count: usize,
 ) -> usize
-    requires inside { AreWithin cells.now first (length labels.old) }
+    requires inside { AreNodesWithin cells.now first (length labels.old) }
     requires few { length labels.old ≤ node_limit }
-    requires ready { IsReady 1 (found_of labels.old order.old count) }
+    requires ready { IsNextLabel 1 (found_of labels.old order.old count) }
     ensures grows { Grows 1 (GivesIn cells.now first)
         (found_of labels.old order.old count) (found_of labels.new order.new result) }
     ensures marked { (v : ℕ) → GivesIn cells.now first v → slice_index labels.new v ≤ 1 }
@@ -99,7 +99,7 @@ fn mark_lane(
     requires opposite { (lane_in cells.now j).opposite < length cells.now.lanes }
     requires node { first + (lane_in cells.now j).far < length labels.old }
     requires few { length labels.old ≤ node_limit }
-    requires ready { IsReady label (found_of labels.old order.old count) }
+    requires ready { IsNextLabel label (found_of labels.old order.old count) }
     ensures grows { Grows label
         (λ u. (u ≡ first + (lane_in cells.now j).far)
         × (0 < (lane_in cells.now (lane_in cells.now j).opposite).residual))
@@ -129,12 +129,13 @@ fn mark_lanes(
     requires spot { IsSpot (whole_of split.now.net.now split.now.parts.now)
         at.node at.block at.place }
     requires len { length labels.old ≡ nodes split.now.net.now }
-    requires ready { IsReady label (found_of labels.old order.old count) }
+    requires ready { IsNextLabel label (found_of labels.old order.old count) }
     ensures grows { Grows label
-        (LeadsTo split.now.net.now
-        (shown (whole_of split.now.net.now split.now.parts.now)).lanes at.node)
+        (HasResidualLane split.now.net.now
+        (state_shown (whole_of split.now.net.now split.now.parts.now)).lanes at.node)
         (found_of labels.old order.old count) (found_of labels.new order.new result) }
-    ensures marked { AreMarked (whole_of split.now.net.now split.now.parts.now) false at.node label
+    ensures marked { AreNeighboursLabelled (whole_of split.now.net.now split.now.parts.now)
+        false at.node label
         labels.new }
 {
     let cells = &split.parts.blocks[at.block];
@@ -160,7 +161,7 @@ fn mark_border(
     requires place { j < length cells.now.borders }
     requires node { first + (border_in cells.now j).near < length labels.old }
     requires few { length labels.old ≤ node_limit }
-    requires ready { IsReady label (found_of labels.old order.old count) }
+    requires ready { IsNextLabel label (found_of labels.old order.old count) }
     ensures grows { Grows label
         (λ u. (u ≡ first + (border_in cells.now j).near) × (0 < (border_in cells.now j).residual))
         (found_of labels.old order.old count) (found_of labels.new order.new result) }
@@ -194,12 +195,13 @@ fn mark_borders(
     requires spot { IsSpot (whole_of split.now.net.now split.now.parts.now)
         at.node at.block at.place }
     requires len { length labels.old ≡ nodes split.now.net.now }
-    requires ready { IsReady label (found_of labels.old order.old count) }
+    requires ready { IsNextLabel label (found_of labels.old order.old count) }
     ensures grows { Grows label
-        (LeadsTo split.now.net.now
-        (shown (whole_of split.now.net.now split.now.parts.now)).lanes at.node)
+        (HasResidualLane split.now.net.now
+        (state_shown (whole_of split.now.net.now split.now.parts.now)).lanes at.node)
         (found_of labels.old order.old count) (found_of labels.new order.new result) }
-    ensures marked { AreMarked (whole_of split.now.net.now split.now.parts.now) true at.node label
+    ensures marked { AreNeighboursLabelled (whole_of split.now.net.now split.now.parts.now)
+        true at.node label
         labels.new }
 {
     let parts = split.parts;
@@ -236,13 +238,15 @@ fn mark_within(
     requires one { length split.now.parts.now.blocks.items ≡ 1 }
     requires node { w < nodes split.now.net.now }
     requires len { length labels.old ≡ nodes split.now.net.now }
-    requires ready { IsReady (slice_index labels.old w + 1) (found_of labels.old order.old count) }
+    requires ready { IsNextLabel (slice_index labels.old w + 1)
+        (found_of labels.old order.old count) }
     ensures grows { Grows (slice_index labels.old w + 1)
-        (LeadsTo split.now.net.now (shown (whole_of split.now.net.now split.now.parts.now)).lanes w)
+        (HasResidualLane split.now.net.now
+        (state_shown (whole_of split.now.net.now split.now.parts.now)).lanes w)
         (found_of labels.old order.old count) (found_of labels.new order.new result) }
     ensures marked { (v : ℕ) →
-        LeadsTo split.now.net.now
-        (shown (whole_of split.now.net.now split.now.parts.now)).lanes w v →
+        HasResidualLane split.now.net.now
+        (state_shown (whole_of split.now.net.now split.now.parts.now)).lanes w v →
         slice_index labels.new v ≤ slice_index labels.old w + 1 }
 {
     let at = Spot {
@@ -267,13 +271,15 @@ fn mark_into(
         split.now.homes.now }
     requires node { w < nodes split.now.net.now }
     requires len { length labels.old ≡ nodes split.now.net.now }
-    requires ready { IsReady (slice_index labels.old w + 1) (found_of labels.old order.old count) }
+    requires ready { IsNextLabel (slice_index labels.old w + 1)
+        (found_of labels.old order.old count) }
     ensures grows { Grows (slice_index labels.old w + 1)
-        (LeadsTo split.now.net.now (shown (whole_of split.now.net.now split.now.parts.now)).lanes w)
+        (HasResidualLane split.now.net.now
+        (state_shown (whole_of split.now.net.now split.now.parts.now)).lanes w)
         (found_of labels.old order.old count) (found_of labels.new order.new result) }
     ensures marked { (v : ℕ) →
-        LeadsTo split.now.net.now
-        (shown (whole_of split.now.net.now split.now.parts.now)).lanes w v →
+        HasResidualLane split.now.net.now
+        (state_shown (whole_of split.now.net.now split.now.parts.now)).lanes w v →
         slice_index labels.new v ≤ slice_index labels.old w + 1 }
 {
     let found = spot_of(split, w);
@@ -296,7 +302,7 @@ pub(crate) fn write_exact(state: &State, homes: &[u8], labels: &mut [u32], order
     requires len { length labels.old ≡ nodes state.now.net }
     requires order_len { length order.old ≡ nodes state.now.net }
     ensures exact { AreExact state.now labels.new }
-    ensures order { IsListed labels.new order.new }
+    ensures order { IsLabelOrder labels.new order.new }
 {
     let split = Split {
         net: state.net(),

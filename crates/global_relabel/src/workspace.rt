@@ -3,7 +3,7 @@ ghost use Rattle.block_events.specs.declared.event.Event.TheVariants.{RaiseAll};
 ghost use Rattle.block_events.specs.Reach.{AreExact};
 ghost use Rattle.block_events.specs.Events.{IsQuiet, Happens};
 ghost use Rattle.global_relabel.specs.Homes.{AreHomes};
-ghost use Rattle.global_relabel.specs.Workspaces.{IsListed, Serves};
+ghost use Rattle.global_relabel.specs.Workspaces.{IsLabelOrder, Serves};
 
 use crate::homes::write_homes;
 use crate::search::write_exact;
@@ -43,7 +43,7 @@ impl Workspace {
         requires { Serves state.now.net self.old }
         ensures serves { Serves state.now.net self.new }
         ensures exact { AreExact state.now self.new.labels.items }
-        ensures order { IsListed self.new.labels.items self.new.order.items }
+        ensures order { IsLabelOrder self.new.labels.items self.new.order.items }
         ensures homes { AreHomes state.now.net state.now.blocks self.new.homes.items }
     {
         self.order.as_mut_slice().fill(u32::MAX);
@@ -65,7 +65,7 @@ impl Workspace {
         ensures serves { Serves state.new.net self.new }
         ensures raised { Happens state.old RaiseAll state.new }
         ensures exact { AreExact state.old self.new.labels.items }
-        ensures order { IsListed self.new.labels.items self.new.order.items }
+        ensures order { IsLabelOrder self.new.labels.items self.new.order.items }
         ensures homes { AreHomes state.old.net state.old.blocks self.new.homes.items }
     {
         self.find(state);

@@ -5,7 +5,7 @@ use Rattle.std.proofs.lemmas.List.Elements.{Contains-get_or}
 use Rattle.std.proofs.lemmas.Nat.{mod_below}
 use Rattle.label_field.specs.declared.pair.Pair.{Pair}
 use Rattle.label_field.specs.declared.grid.Step.{Step}
-use Rattle.label_field.specs.Grids.{column, row, steps4, steps8, stays, landing, pairs_at, grid, IsSmall, IsForward, ShareEdge, Touch, ListsOnce}
+use Rattle.label_field.specs.Grids.{column, row, steps4, steps8, stays, step_end, pairs_of_steps, grid, IsSmallStep, IsForward, ShareEdge, Touch, ListsOnce}
 use Rattle.label_field.proofs.Members.{contains_none, contains_cases, from_map}
 use Rattle.label_field.proofs.Apart.{Ahead, Apart, Apart-filter, Apart-map, Apart-front, AllPairs-from_apart}
 use Rattle.label_field.proofs.GridSteps.{stays_parts, ends_inside, ends_later, site_at-column}
@@ -29,7 +29,7 @@ Apart-weaker P Q implies (x ∷ xs) h = (Ahead-weaker P Q implies x xs h.0, Apar
 
 -- two steps that stay and end at one place are alike
 unlike_ends : (width height x y : ℕ) (s t : Step) → Unlike s t → stays width height x y s ≡ true → stays width height x y t ≡ true
-    → landing width x y s ≡ landing width x y t → ⊥
+    → step_end width x y s ≡ step_end width x y t → ⊥
 unlike_ends width height x y s t unlike s_stays t_stays same =
     let columns : x + s.right - s.left ≡ x + t.right - t.left =
     sym (column-landing width height x y s s_stays) ∙ ap (column width) same ∙ column-landing width height x y t t_stays in
@@ -39,27 +39,27 @@ unlike_ends width height x y s t unlike s_stays t_stays same =
     let t_left : t.left ≤ x = (stays_parts width height x y t t_stays).0 in
     unlike (omega (arith, columns, s_left, t_left)) (omega (arith, rows))
 
-pairs_in_order : (width height weight : ℕ) (steps : List Step) (site : ℕ) → Apart Unlike steps → Apart InOrder (pairs_at width height weight steps site)
+pairs_in_order : (width height weight : ℕ) (steps : List Step) (site : ℕ) → Apart Unlike steps → Apart InOrder (pairs_of_steps width height weight steps site)
 pairs_in_order width height weight steps site apart =
     let x : ℕ = column width site in
     let y : ℕ = row width site in
-    let make : Step → Pair = λ step. record { first = site; second = landing width x y step; weight = weight } in
+    let make : Step → Pair = λ step. record { first = site; second = step_end width x y step; weight = weight } in
     Apart-map InOrder make (filter (stays width height x y) steps)
     (Apart-filter (λ s t. InOrder (make s) (make t)) (stays width height x y) steps
     (Apart-weaker Unlike (λ s t. stays width height x y s ≡ true → stays width height x y t ≡ true → InOrder (make s) (make t))
     (λ s t unlike s_stays t_stays. (omega arith, λ same. unlike_ends width height x y s t unlike s_stays t_stays (ap (λ (p : Pair). p.second) same)))
     steps apart))
 
-pair_of : (width height weight : ℕ) (steps : List Step) (site : ℕ) (pair : Pair) → Contains (pairs_at width height weight steps site) pair → pair.first ≡ site
+pair_of : (width height weight : ℕ) (steps : List Step) (site : ℕ) (pair : Pair) → Contains (pairs_of_steps width height weight steps site) pair → pair.first ≡ site
 pair_of width height weight steps site pair h =
-    let make : Step → Pair = λ step. record { first = site; second = landing width (column width site) (row width site) step; weight = weight } in
+    let make : Step → Pair = λ step. record { first = site; second = step_end width (column width site) (row width site) step; weight = weight } in
     let (step, among, is) = from_map make (filter (stays width height (column width site) (row width site)) steps) pair h in
     ap (λ (p : Pair). p.first) (sym is)
 
 -- the pairs of a grid are in order
 grid_in_order : (width height weight : ℕ) (steps : List Step) → Apart Unlike steps → Apart InOrder (grid width height weight steps)
 grid_in_order width height weight steps apart =
-    Apart-front InOrder (pairs_at width height weight steps) 0 (width * height) (λ site. pairs_in_order width height weight steps site apart)
+    Apart-front InOrder (pairs_of_steps width height weight steps) 0 (width * height) (λ site. pairs_in_order width height weight steps site apart)
     (λ p q later a b a_in b_in.
     let a_first : a.first ≡ p = pair_of width height weight steps p a a_in in
     let b_first : b.first ≡ q = pair_of width height weight steps q b b_in in
@@ -181,7 +181,7 @@ grid8_lists width height weight =
     lists_once width height weight steps8 (Touch width) unlike8
     (each_of8 IsForward (inl (omega arith)) (inr (omega arith)) (inr (omega arith)) (inr (omega arith)))
     (λ pair leads.
-    let small = each_of8 IsSmall (omega arith, omega arith, omega arith) (omega arith, omega arith, omega arith) (omega arith, omega arith, omega arith) (omega arith, omega arith, omega arith) leads.step leads.listed in
+    let small = each_of8 IsSmallStep (omega arith, omega arith, omega arith) (omega arith, omega arith, omega arith) (omega arith, omega arith, omega arith) (omega arith, omega arith, omega arith) leads.step leads.listed in
     (omega (arith, small.0, small.1, leads.left, leads.in_column), omega (arith, small.2, leads.in_row)))
     (λ pair wide later inside touch light.
     let rows = row_rises width pair.first pair.second wide later in

@@ -44,8 +44,8 @@ stays width height x y step =
     nat_le step.left x && nat_lt (x + step.right) (width + step.left) && nat_lt (y + step.down) height
 
 -- the site where a step from a column and a row ends
-abbrev pub landing : ℕ → ℕ → ℕ → Step → ℕ
-landing width x y step = site_at width (x + step.right - step.left) (y + step.down)
+abbrev pub step_end : ℕ → ℕ → ℕ → Step → ℕ
+step_end width x y step = site_at width (x + step.right - step.left) (y + step.down)
 
 -- how many pairs of sites of an image share an edge, and how many a corner alone
 abbrev pub edge_count : ℕ → ℕ → ℕ
@@ -55,27 +55,27 @@ abbrev pub corner_count : ℕ → ℕ → ℕ
 corner_count width height = 2 * ((width - 1) * (height - 1))
 
 -- a step of at most one place each way
-abbrev pub IsSmall : Step → Type 0
-IsSmall step = (step.right ≤ 1) × (step.left ≤ 1) × (step.down ≤ 1)
+abbrev pub IsSmallStep : Step → Type 0
+IsSmallStep step = (step.right ≤ 1) × (step.left ≤ 1) × (step.down ≤ 1)
 
 -- it leads to a later site
 abbrev pub IsForward : Step → Type 0
 IsForward step = (step.left < step.right) ⊎ (0 < step.down)
 
 -- at most four such steps
-pub record IsSteps (steps : List Step) : Type 0 where
+pub record AreSmallSteps (steps : List Step) : Type 0 where
   pub count : length steps ≤ 4
-  pub small : All IsSmall steps
+  pub small : All IsSmallStep steps
   pub forward : All IsForward steps
 
 -- the pair of a site with the site where a step from it ends
 abbrev pub pair_to : ℕ → ℕ → ℕ → Step → Pair
 pair_to width weight site step =
-    record { first = site; second = landing width (column width site) (row width site) step; weight = weight }
+    record { first = site; second = step_end width (column width site) (row width site) step; weight = weight }
 
 -- the pairs of a site with the places of the image where the steps from it end, in the order of the steps
-abbrev pub pairs_at : ℕ → ℕ → ℕ → List Step → ℕ → List Pair
-pairs_at width height weight steps site =
+abbrev pub pairs_of_steps : ℕ → ℕ → ℕ → List Step → ℕ → List Pair
+pairs_of_steps width height weight steps site =
     map
     (λ step. pair_to width weight site step)
     (filter (stays width height (column width site) (row width site)) steps)
@@ -83,7 +83,7 @@ pairs_at width height weight steps site =
 -- those of each site of an image, site by site
 abbrev pub grid : ℕ → ℕ → ℕ → List Step → List Pair
 grid width height weight steps =
-    flat_map (pairs_at width height weight steps) (range_with_len 0 (width * height))
+    flat_map (pairs_of_steps width height weight steps) (range_with_len 0 (width * height))
 
 -- how far two numbers are apart
 abbrev pub distance : ℕ → ℕ → ℕ

@@ -28,7 +28,7 @@ abbrev pub IsWeight : ℤ → Type 0
 IsWeight weight = (pos 0 ≤ℤ weight) × (weight ≤ℤ pos weight_limit)
 
 -- a pair that may be added: two unequal sites, room in the list, a weight in its range
-pub record IsAccepted (pairs : PairList) (first second : ℕ) (weight : ℤ) : Type 0 where
+pub record IsPairAccepted (pairs : PairList) (first second : ℕ) (weight : ℤ) : Type 0 where
   pub first_site : first < pairs.sites
   pub second_site : second < pairs.sites
   pub unequal : first ≢ second
@@ -36,13 +36,13 @@ pub record IsAccepted (pairs : PairList) (first second : ℕ) (weight : ℤ) : T
   pub in_range : IsWeight weight
 
 -- why a pair is refused: the first cause that holds, and out of memory only where none does
-abbrev pub IsRefusal : PairList → ℕ → ℕ → ℤ → LabelFieldError → Type 0
-IsRefusal pairs first second weight NoSuchSite = (pairs.sites ≤ first) ⊎ (pairs.sites ≤ second)
-IsRefusal pairs first second weight SamePair = (first < pairs.sites) × (first ≡ second)
-IsRefusal pairs first second weight TooManyPairs =
+abbrev pub IsPairRefusal : PairList → ℕ → ℕ → ℤ → LabelFieldError → Type 0
+IsPairRefusal pairs first second weight NoSuchSite = (pairs.sites ≤ first) ⊎ (pairs.sites ≤ second)
+IsPairRefusal pairs first second weight SamePair = (first < pairs.sites) × (first ≡ second)
+IsPairRefusal pairs first second weight TooManyPairs =
     (first < pairs.sites) × (second < pairs.sites) × (first ≢ second) × (pair_limit ≤ length pairs.list)
-IsRefusal pairs first second weight WeightRange =
+IsPairRefusal pairs first second weight WeightRange =
     (first < pairs.sites) × (second < pairs.sites) × (first ≢ second) × (length pairs.list < pair_limit)
     × (¬ IsWeight weight)
-IsRefusal pairs first second weight (OutOfMemory _) = IsAccepted pairs first second weight
-IsRefusal pairs first second weight NoSuchLabel = ⊥
+IsPairRefusal pairs first second weight (OutOfMemory _) = IsPairAccepted pairs first second weight
+IsPairRefusal pairs first second weight NoSuchLabel = ⊥

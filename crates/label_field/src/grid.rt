@@ -2,8 +2,8 @@
 ghost use Rattle.std.specs.Prelude.{◌≡◌, ℕ, ◌+◌, ◌-◌, ◌*◌, ◌<◌, ◌≤◌, ◌++◌, ◌↔◌, IsTrue, IfOk, OnOk, if◌then◌else◌, Some, None, length};
 ghost use Rattle.std.specs.List.{All};
 ghost use Rattle.label_field.specs.Limits.{site_limit, weight_limit};
-ghost use Rattle.label_field.specs.Grids.{IsImage, IsSmall, IsSteps, edge_count, corner_count};
-ghost use Rattle.label_field.specs.Grids.{column, row, stays, landing, pair_to, pairs_at};
+ghost use Rattle.label_field.specs.Grids.{IsImage, IsSmallStep, AreSmallSteps, edge_count, corner_count};
+ghost use Rattle.label_field.specs.Grids.{column, row, stays, step_end, pair_to, pairs_of_steps};
 ghost use Rattle.label_field.specs.Grids.{grid as grid_list, steps4, steps8};
 
 use crate::{Pair, Pairs, SITE_LIMIT};
@@ -74,11 +74,11 @@ impl Image {
 impl Step {
     // The site where the step from this place ends, if that is in the image.
     fn end(&self, image: Image, x: u32, y: u32) -> Option<u32>
-        requires small { IsSmall self.now }
+        requires small { IsSmallStep self.now }
         requires column { x < image.width }
         requires row { y < image.height }
         ensures { result ≡ (if stays image.width image.height x y self.now
-            then Some (landing image.width x y self.now) else None) }
+            then Some (step_end image.width x y self.now) else None) }
     {
         let in_image = self.left <= x
             && x + self.right < image.width + self.left
@@ -94,7 +94,7 @@ impl Step {
 // The pair of a site with the place of the image where a step from it ends, if there is one.
 fn pair_at(image: Image, site: u32, step: &Step, weight: u32) -> Option<Pair>
     requires site { site < image.width * image.height }
-    requires small { IsSmall step.now }
+    requires small { IsSmallStep step.now }
     ensures { result ≡ (if stays image.width image.height (column image.width site)
         (row image.width site) step.now then Some (pair_to image.width weight site step.now) else None) }
 {
@@ -115,9 +115,9 @@ fn push_pairs(
     weight: u32,
 ) -> Result<(), AllocError>
     requires site { site < image.width * image.height }
-    requires small { All IsSmall steps.now }
+    requires small { All IsSmallStep steps.now }
     ensures { OnOk result (list.new.items
-        ≡ list.old.items ++ pairs_at image.width image.height weight steps.now site) }
+        ≡ list.old.items ++ pairs_of_steps image.width image.height weight steps.now site) }
 {
     for step in steps {
         if let Some(pair) = pair_at(image, site, step, weight) {
@@ -135,7 +135,7 @@ fn grid(
     steps: &[Step],
     count: usize,
 ) -> Result<Pairs, AllocError>
-    requires steps { IsSteps steps.now }
+    requires steps { AreSmallSteps steps.now }
     requires weight { weight ≤ weight_limit }
     ensures { IfOk result (λ pairs. pairs ≡ record {
       sites = image.width * image.height;

@@ -2,7 +2,7 @@
 ghost use Rattle.std.specs.Prelude.{◌≡◌, ◌<◌, ◌≤◌, ◌++◌, [], ◌∷◌, ◌↔◌, IsTrue, IfOk, IfErr, IfSome, OnOk, OnErr, SomeIff, Some, length, unsigned_abs, slice_set};
 ghost use Rattle.std.specs.List.{All, slice_get};
 ghost use Rattle.label_field.specs.Limits.{site_limit, pair_limit, weight_limit};
-ghost use Rattle.label_field.specs.PairLists.{IsPair, IsPairList, IsWeight, IsAccepted, IsRefusal};
+ghost use Rattle.label_field.specs.PairLists.{IsPair, IsPairList, IsWeight, IsPairAccepted, IsPairRefusal};
 
 use crate::{LabelFieldError, Pair, SITE_LIMIT};
 use std::alloc::Global;
@@ -74,13 +74,13 @@ impl Pairs {
     /// `TooManyPairs` where there are `PAIR_LIMIT` pairs already, `WeightRange` where the weight is not from
     /// 0 to `WEIGHT_LIMIT`, and `OutOfMemory` where the list has to grow and cannot.
     pub fn add(&mut self, first: u32, second: u32, weight: i64) -> Result<(), LabelFieldError>
-        ensures accepted { OnOk result (IsAccepted self.old first second weight) }
+        ensures accepted { OnOk result (IsPairAccepted self.old first second weight) }
         ensures added { OnOk result (self.new ≡ record self.old {
           list = self.old.list
               ++ record { first = first; second = second; weight = unsigned_abs weight } ∷ [];
         }) }
 
-        ensures refused { IfErr result (IsRefusal self.old first second weight) }
+        ensures refused { IfErr result (IsPairRefusal self.old first second weight) }
         ensures unchanged { OnErr result (self.new ≡ self.old) }
     {
         if first >= self.sites || second >= self.sites {

@@ -5,7 +5,7 @@ use Rattle.label_field.specs.PairLists.{IsPair}
 use Rattle.labellings.specs.declared.change.Move.{Move}
 use Rattle.labellings.specs.declared.change.Move.TheVariants.{Expand, Swap}
 use Rattle.labellings.specs.Energies.{Instance, IsInstance, labelling}
-use Rattle.labellings.specs.Moves.{IsOneOf, MayBecome, IsBest, label_in, IsRegularPair, IsAllowed}
+use Rattle.labellings.specs.Moves.{IsOneOf, MayBecome, IsBest, label_after, IsRegularPair, IsAllowed}
 use Rattle.labellings.proofs.Reaching.{cases_one, neither, swap_one}
 use Rattle.labellings.proofs.Best.{stays-reached}
 
@@ -31,12 +31,12 @@ best_again m move f g best = record {
 
 -- a label that a move made: the move has the same two labels for it as before, or one at both values
 made_again : (move : Move) (old new : ℕ) → MayBecome move old new
-    → ((bit : Bool) → label_in move new bit ≡ label_in move old bit) ⊎ (label_in move new true ≡ label_in move new false)
+    → ((bit : Bool) → label_after move new bit ≡ label_after move old bit) ⊎ (label_after move new true ≡ label_after move new false)
 made_again (Expand a) old new (inl stays) = inl (λ bit. ap (λ (label : ℕ). cond bit a label) stays)
 made_again (Expand a) old new (inr turns) = inr (sym turns)
 made_again (Swap a b) old new may = elim (cases_one a b old) [
   | inl one ↦ inl (λ bit. swap_one a b new bit (may.0 one) ∙ sym (swap_one a b old bit one))
-  | inr other ↦ inl (λ bit. ap (λ (label : ℕ). label_in (Swap a b) label bit) (may.1 (neither a b old other.0 other.1)))
+  | inr other ↦ inl (λ bit. ap (λ (label : ℕ). label_after (Swap a b) label bit) (may.1 (neither a b old other.0 other.1)))
 ]
 
 -- so the term of a pair stays regular

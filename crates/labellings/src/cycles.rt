@@ -18,7 +18,7 @@ pub enum Moves {
 
 impl Moves {
     /// The moves that go by a name, `expansion` or `swap`.
-    pub fn named(name: &str) -> Option<Moves>
+    pub fn from_name(name: &str) -> Option<Moves>
         ensures { result ≡ moves_named name.now }
     {
         match name {

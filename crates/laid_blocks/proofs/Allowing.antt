@@ -7,7 +7,7 @@ use Rattle.block_events.specs.declared.lane.Lane.{Lane}
 use Rattle.block_events.specs.declared.direction.Direction.{Direction}
 use Rattle.block_events.specs.Directions.{IsDirection, forward, backward, near, far}
 use Rattle.block_events.specs.States as core
-use Rattle.block_events.specs.Events.{least_below, is_open, allowed, highest_label}
+use Rattle.block_events.specs.Events.{least_below, is_open_direction, allowed_label, highest_label}
 use Rattle.block_events.proofs.Inside.{least-le-start, least-le}
 use Rattle.block_net.specs.Views.{CellsView, lane_in, label_in, room_in, first_lane, first_border, least_span, lane_allows, border_allows, highest}
 use Rattle.block_net.specs.Whole.{Whole, block_at, block_with, home, place, slot, is_outer, StandsAt}
@@ -77,7 +77,7 @@ module _ (w : Whole) (v : BlocksView) (b : ℕ) (B : CellsView) (u p : ℕ) (at 
   border_view : (x : Direction) → is_outer w x ≡ core.is_border v.net v.blocks x
   border_view x = ap (λ (q : BlocksView). core.is_border q.net q.blocks x) at.view
 
-  outer_allows : (j : ℕ) (x : Direction) → StandsAt w true u j x → border_allows B j ≡ allowed (still v) u x
+  outer_allows : (j : ℕ) (x : Direction) → StandsAt w true u j x → border_allows B j ≡ allowed_label (still v) u x
   outer_allows j x stands =
       let row = row_at true j x stands in
       let lane = border_read w v b B x j at row in
@@ -85,13 +85,13 @@ module _ (w : Whole) (v : BlocksView) (b : ℕ) (B : CellsView) (u p : ℕ) (at 
       let border : core.is_border v.net v.blocks x ≡ true = sym (border_view x) ∙ stands.outer in
       ap (λ (q : Lane). cond (nat_lt 0 q.residual || is_some q.flight) (q.known + 1) B.top) lane
       ∙ (ap (λ t. cond (nat_lt 0 (core.residual_of (still v) x) || is_some (core.flight_of (still v) x)) (core.known_of (still v) x + 1) t) (top_read w v b B at)
-      ∙ sym (ap (λ (t : Bool). cond (t && is_open (still v) x) (core.seen (still v) x + 1) (top (still v).net)) here
+      ∙ sym (ap (λ (t : Bool). cond (t && is_open_direction (still v) x) (core.seen_label (still v) x + 1) (top (still v).net)) here
       ∙ ap (λ (t : Bool). cond (nat_lt 0 (core.residual_of (still v) x) || (t && is_some (core.flight_of (still v) x))) (cond t (core.known_of (still v) x) (core.label_of (still v) (far (still v).net x)) + 1) (top (still v).net)) border))
 
   far_label : (j : ℕ) (x : Direction) → IsRow w x false b j → label_in B (lane_in B j).far ≡ slice_index v.labels (far v.net x)
   far_label j x row = label_read w v b B (far v.net x) (lane_in B j).far at (far_spot w v b B x j at row)
 
-  inner_allows : (j : ℕ) (x : Direction) → StandsAt w false u j x → lane_allows B j ≡ allowed (still v) u x
+  inner_allows : (j : ℕ) (x : Direction) → StandsAt w false u j x → lane_allows B j ≡ allowed_label (still v) u x
   inner_allows j x stands =
       let row = row_at false j x stands in
       let lane = inner_read w v b B x j at row in
@@ -101,7 +101,7 @@ module _ (w : Whole) (v : BlocksView) (b : ℕ) (B : CellsView) (u p : ℕ) (at 
       ap (λ (q : Lane). cond (nat_lt 0 q.residual) (label_in B (lane_in B j).far + 1) B.top) lane
       ∙ (ap (λ n. cond (nat_lt 0 (core.residual_of (still v) x)) (n + 1) B.top) d
       ∙ (ap (λ t. cond (nat_lt 0 (core.residual_of (still v) x)) (core.label_of (still v) (far (still v).net x) + 1) t) (top_read w v b B at)
-      ∙ sym (ap (λ (t : Bool). cond (t && is_open (still v) x) (core.seen (still v) x + 1) (top (still v).net)) here
+      ∙ sym (ap (λ (t : Bool). cond (t && is_open_direction (still v) x) (core.seen_label (still v) x + 1) (top (still v).net)) here
       ∙ (ap (λ (t : Bool). cond (nat_lt 0 (core.residual_of (still v) x) || (t && is_some (core.flight_of (still v) x))) (cond t (core.known_of (still v) x) (core.label_of (still v) (far (still v).net x)) + 1) (top (still v).net)) border
       ∙ ap (λ (t : Bool). cond t (core.label_of (still v) (far (still v).net x) + 1) (top (still v).net)) (or_false (nat_lt 0 (core.residual_of (still v) x)))))))
 
@@ -140,7 +140,7 @@ module _ (w : Whole) (v : BlocksView) (b : ℕ) (B : CellsView) (u p : ℕ) (at 
   starts_are : (f : CellsView → List ℕ) (g : ℕ → ℕ) → slice_index (f (block_with w u)) (g (place w u)) ≡ slice_index (f B) (g p)
   starts_are f g = ap (λ q. slice_index (f (block_with w u)) (g q)) spot.place ∙ ap (λ (q : CellsView). slice_index (f q) (g p)) block_is
 
-  le_own : (x : Direction) → IsDirection w.net x → near w.net x ≡ u → highest B p ≤ allowed (still v) u x
+  le_own : (x : Direction) → IsDirection w.net x → near w.net x ≡ u → highest B p ≤ allowed_label (still v) u x
   le_own x l here = elim (cases_Bool (is_outer w x)) [
     | inl outer ↦
         let stands : StandsAt w true u (slot w x) x = record { direction = l; near = here; outer = outer; slot = refl } in
@@ -158,26 +158,26 @@ module _ (w : Whole) (v : BlocksView) (b : ℕ) (B : CellsView) (u p : ℕ) (at 
         omega (arith, le, inner_allows (slot w x) x stands)
   ]
 
-  le_each : (x : Direction) → IsDirection w.net x → highest B p ≤ allowed (still v) u x
+  le_each : (x : Direction) → IsDirection w.net x → highest B p ≤ allowed_label (still v) u x
   le_each x l = elim (cases_eq (near v.net x) u) [
     | inl here ↦ le_own x l (near_view x ∙ here)
     | inr off ↦
-        let none : allowed (still v) u x ≡ top (still v).net = ap (λ (t : Bool). cond (t && is_open (still v) x) (core.seen (still v) x + 1) (top (still v).net)) (ne_eqb (near v.net x) u off) in
+        let none : allowed_label (still v) u x ≡ top (still v).net = ap (λ (t : Bool). cond (t && is_open_direction (still v) x) (core.seen_label (still v) x + 1) (top (still v).net)) (ne_eqb (near v.net x) u off) in
         omega (arith, none, below_start, start_top)
   ]
 
   arcs_are : length w.net.arcs ≡ length v.net.arcs
   arcs_are = ap (λ (q : BlocksView). length q.net.arcs) at.view
 
-  all_within : (x : Direction) → IsDirection w.net x → highest_label (still v) u ≤ allowed (still v) u x
+  all_within : (x : Direction) → IsDirection w.net x → highest_label (still v) u ≤ allowed_label (still v) u x
   all_within x l =
-      let both = λ (k : ℕ). min (allowed (still v) u (forward k)) (allowed (still v) u (backward k)) in
+      let both = λ (k : ℕ). min (allowed_label (still v) u (forward k)) (allowed_label (still v) u (backward k)) in
       let le = least-le (length (still v).net.arcs) both (cond (nat_lt 0 (core.room_of (still v) u)) 1 (top (still v).net)) x.arc (omega (arith, l, arcs_are)) in
-      sense_le x.arc x.back (allowed (still v) u) (highest_label (still v) u) le
+      sense_le x.arc x.back (allowed_label (still v) u) (highest_label (still v) u) le
 
   pub highest_is : highest B p ≡ highest_label (still v) u
   highest_is =
-      let both = λ (k : ℕ). min (allowed (still v) u (forward k)) (allowed (still v) u (backward k)) in
+      let both = λ (k : ℕ). min (allowed_label (still v) u (forward k)) (allowed_label (still v) u (backward k)) in
       let up : highest B p ≤ highest_label (still v) u = le-least (length (still v).net.arcs) both (cond (nat_lt 0 (core.room_of (still v) u)) 1 (top (still v).net)) (highest B p)
       (omega (arith, below_start, start_is))
       (λ k l.

@@ -19,9 +19,9 @@ use Rattle.block_net.proofs.Tables.{table_at}
 use Rattle.block_net.proofs.Spans.{length_range, range_at}
 use Rattle.block_events.specs.Effects.{BlocksView}
 use Rattle.laid_blocks.specs.Views.{blocks_in, IsLaid, IsSpot, IsRow}
-use Rattle.block_events.specs.Effects.{told, told_lane}
+use Rattle.block_events.specs.Effects.{blocks_with_known_labels, told_lane}
 use Rattle.laid_blocks.specs.Raising.{told_one}
-use Rattle.laid_blocks.specs.ByBlock.{direction_at, told_at, IsTelling, IsLabelled, IsToldFrom, IsRelabelled}
+use Rattle.laid_blocks.specs.ByBlock.{direction_at, told_at, IsTelling, HasLabelsInBlock, IsToldFrom, IsRelabelled}
 use Rattle.laid_blocks.proofs.Writing.{IsLike, laid_put, home_put, place_put, block_same, block_other, numbers_same, lanes_keep}
 use Rattle.laid_blocks.proofs.Steps.{IsAt, informed_at}
 use Rattle.laid_blocks.proofs.Opened.{laid_long}
@@ -78,14 +78,14 @@ told_inner v x e =
 
 pub informed : (w : Whole) (b j : ℕ) → IsLaid w → b < length w.blocks → j < length (block_at w b).borders
     → IsAt (told_at w b j) (told_one (blocks_in w) (direction_at w b j)) b
-    (block.informed (block_at w b) j (slice_index (blocks_in w).labels (far w.net (direction_at w b j))))
+    (block.cells_with_known (block_at w b) j (slice_index (blocks_in w).labels (far w.net (direction_at w b j))))
 informed w b j laid lb lj =
     let x = direction_at w b j in
     let v = blocks_in w in
     let row = (far_at w b j laid lb lj).row in
     let at : IsAt w v b (block_at w b) = record { laid = laid; view = refl; block = lb; is = refl } in
     let made = informed_at w v b (block_at w b) x j (slice_index v.labels (far w.net x)) at row in
-    subst (λ (q : Lane). IsAt (told_at w b j) (record v { lanes = core.put_lane v.lanes x q }) b (block.informed (block_at w b) j (slice_index v.labels (far w.net x))))
+    subst (λ (q : Lane). IsAt (told_at w b j) (record v { lanes = core.put_lane v.lanes x q }) b (block.cells_with_known (block_at w b) j (slice_index v.labels (far w.net x))))
     (told_here v x row.outer) made
 
 pub told_same : (a : BlocksView) (lanes : core.Lanes) (x : Direction) → core.lane_at lanes x ≡ core.lane_at a.lanes x
@@ -135,7 +135,7 @@ telling_more w u t b j telling lb lj is laid =
     let view : blocks_in t ≡ record a { lanes = core.put_lane v.lanes x lane } =
     ap blocks_in is ∙ ((informed u b j telling.laid lb lj).view ∙ (ap (λ (q : BlocksView). told_one q x) telling.rest ∙ told_same a v.lanes x was)) in
     let lanes : (blocks_in t).lanes ≡ core.put_lane v.lanes x lane = ap (λ (q : BlocksView). q.lanes) view in
-    let new = block.informed (block_at u b) j (slice_index v.labels (far u.net x)) in
+    let new = block.cells_with_known (block_at u b) j (slice_index v.labels (far u.net x)) in
     let made : block_at t b ≡ new = ap (λ (q : Whole). block_at q b) is ∙ block_same u b new lb in
     record {
       laid = laid;
@@ -176,7 +176,7 @@ same_view : (n : Network) (k k' : ℕ) (e e' l r r' : List ℕ) (q q' : core.Lan
 same_view n k k' e e' l r r' q q' e1 e2 e3 e4 = rw (e1, e2, e3, e4) refl
 
 module _ (w : Whole) (b : ℕ) (labels : List ℕ) (laid : IsLaid w) (lb : b < length w.blocks) where
-  pub labelled_none : count (block_at w b) ≡ 0 → IsLabelled w w b labels
+  pub labelled_none : count (block_at w b) ≡ 0 → HasLabelsInBlock w w b labels
   labelled_none none = record {
     laid = laid;
     rest = refl;
@@ -214,7 +214,7 @@ module _ (w : Whole) (b : ℕ) (labels : List ℕ) (laid : IsLaid w) (lb : b < l
       ∙ (ap (slice_index (block_with u v).labels) (place_put w b new_block v)
       ∙ ap (λ h. slice_index (block_at u h).labels (place w v)) (home_put w b new_block v))
 
-  pub labelled_block : slice_index w.firsts b + count (block_at w b) ≤ length labels → IsLabelled w (put_block w b new_block) b labels
+  pub labelled_block : slice_index w.firsts b + count (block_at w b) ≤ length labels → HasLabelsInBlock w (put_block w b new_block) b labels
   labelled_block le =
       let u = put_block w b new_block in
       let first = slice_index w.firsts b in
@@ -276,7 +276,7 @@ told_view w u b laid lb telling =
       others = λ x l off. telling.others x l (λ o h. absurd (off h));
     }
 
-pub relabelled_view : (w u : Whole) (b : ℕ) (labels : List ℕ) → IsLabelled w u b labels → IsRelabelled (blocks_in w) (blocks_in u) b labels
+pub relabelled_view : (w u : Whole) (b : ℕ) (labels : List ℕ) → HasLabelsInBlock w u b labels → IsRelabelled (blocks_in w) (blocks_in u) b labels
 relabelled_view w u b labels is =
     let net : u.net ≡ w.net = ap (λ (q : BlocksView). q.net) is.rest in
     record {
@@ -331,7 +331,7 @@ same_lanes a b forth back =
     let c : core.Lanes = record { forth = b.forth; back = a.back } in
     ap (λ (q : List Lane). let r : core.Lanes = record { forth = q; back = a.back } in r) forth ∙ ap (λ (q : List Lane). let r : core.Lanes = record { forth = b.forth; back = q } in r) back
 
-pub told_done : (a b : BlocksView) → 1 ≤ a.blocks → IsToldBelow a b a.blocks → b ≡ told a
+pub told_done : (a b : BlocksView) → 1 ≤ a.blocks → IsToldBelow a b a.blocks → b ≡ blocks_with_known_labels a
 told_done a b some below =
     let m = length a.net.arcs in
     let long = below.long some in

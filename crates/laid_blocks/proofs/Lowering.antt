@@ -3,16 +3,16 @@ use Rattle.std.proofs.Common.{eqb, add-one, ◌≡◌, ℕ, zero, suc, ◌+◌, 
 use Rattle.std.proofs.lemmas.List.{length-set}
 use Rattle.std.proofs.lemmas.Bool.{cases_eq, cases_lt, cases_Bool}
 use Rattle.std.proofs.lemmas.List.Sums.{sum_by-set}
-use Rattle.sums.specs.Sums.{sum_below, counted}
+use Rattle.sums.specs.Sums.{sum_below, count_if}
 use Rattle.sums.proofs.SumLemmas.{sum_below-le, sum_below-swap, sum_below-pick, sum_below-none, term-le-sum_below, counted-other, counted-same}
 use Rattle.flow_network.specs.Cut.{nodes, IsNet}
 use Rattle.flow_network.specs.Progress.{top}
 use Rattle.block_events.specs.declared.direction.Direction.{Direction}
 use Rattle.block_events.specs.Directions.{IsDirection, near, far}
-use Rattle.block_events.specs.Reach.{ReachesIn, IsExact, AreExact}
+use Rattle.block_events.specs.Reach.{ReachesSinkIn, IsExact, AreExact}
 use Rattle.block_events.specs.States as core
 use Rattle.block_events.proofs.Ends.{near_in, far_in}
-use Rattle.block_events.specs.Effects.{BlocksView, labelled}
+use Rattle.block_events.specs.Effects.{BlocksView, blocks_after_relabel}
 use Rattle.laid_blocks.specs.Raising.{bare, AreLengths, IsLowered, IsStableAlong, IsStable}
 
 -- ---- as many levels as nodes
@@ -21,16 +21,16 @@ sum_ones : (n : ℕ) → sum_below n (λ i. 1) ≡ n
 sum_ones zero = refl
 sum_ones (suc n) = omega (arith, sum_ones n)
 
-one_at_most : (m u : ℕ) → sum_below m (λ i. counted (eqb u i) 1) ≤ 1
+one_at_most : (m u : ℕ) → sum_below m (λ i. count_if (eqb u i) 1) ≤ 1
 one_at_most m u = elim (cases_lt u m) [
   | inl l ↦ omega (arith, sum_below-pick m u (λ i. 1) l)
-  | inr out ↦ omega (arith, sum_below-none m (λ i. counted (eqb u i) 1) (λ i li. counted-other u i 1 (λ e. omega (arith, e, li, out))))
+  | inr out ↦ omega (arith, sum_below-none m (λ i. count_if (eqb u i) 1) (λ i li. counted-other u i 1 (λ e. omega (arith, e, li, out))))
 ]
 
 -- numbers that n nodes take, each below m, are at most n
 pub levels : (n m : ℕ) (f : ℕ → ℕ) → ((i : ℕ) → i < m → (v : ℕ) × (v < n) × (f v ≡ i)) → m ≤ n
 levels n m f at =
-    let hit = λ (i v : ℕ). counted (eqb (f v) i) 1 in
+    let hit = λ (i v : ℕ). count_if (eqb (f v) i) 1 in
     let some = sum_below-le m (λ i. 1) (λ i. sum_below n (hit i)) (λ i li.
     let (v, lv, is) = at i li in
     let here : hit i v ≡ 1 = rw is (counted-same i 1) in
@@ -43,13 +43,13 @@ levels n m f at =
 module _ (s : core.State) (labels : List ℕ) (net : IsNet s.net)
     (rooms : (v : ℕ) → v < nodes s.net → 0 < core.room_of s v → slice_index labels v ≤ 1)
     (steps : (x : Direction) → IsDirection s.net x → 0 < core.residual_of s x → slice_index labels (near s.net x) ≤ slice_index labels (far s.net x) + 1)
-    (reached : (v : ℕ) → v < nodes s.net → (slice_index labels v ≡ top s.net) ⊎ ((slice_index labels v < top s.net) × ReachesIn s (slice_index labels v) v)) where
-  starts_in : (d v : ℕ) → ReachesIn s d v → v < nodes s.net
+    (reached : (v : ℕ) → v < nodes s.net → (slice_index labels v ≡ top s.net) ⊎ ((slice_index labels v < top s.net) × ReachesSinkIn s (slice_index labels v) v)) where
+  starts_in : (d v : ℕ) → ReachesSinkIn s d v → v < nodes s.net
   starts_in zero v path = absurd path
   starts_in (suc zero) v path = path.0
   starts_in (suc (suc d)) v path = rw (sym path.2) (near_in s.net path.0 net path.1)
 
-  le_path : (d v : ℕ) → ReachesIn s d v → slice_index labels v ≤ d
+  le_path : (d v : ℕ) → ReachesSinkIn s d v → slice_index labels v ≤ d
   le_path zero v path = absurd path
   le_path (suc zero) v path = rooms v path.0 path.1
   le_path (suc (suc d)) v path =
@@ -57,7 +57,7 @@ module _ (s : core.State) (labels : List ℕ) (net : IsNet s.net)
       omega (arith, step, le_path (suc d) (far s.net path.0) path.4)
 
   -- below a node that is as high as a path is long there is a node of each label
-  each_level : (d v : ℕ) → slice_index labels v ≡ d → ReachesIn s d v → (i : ℕ) → i < d → (u : ℕ) × (u < nodes s.net) × (slice_index labels u - 1 ≡ i)
+  each_level : (d v : ℕ) → slice_index labels v ≡ d → ReachesSinkIn s d v → (i : ℕ) → i < d → (u : ℕ) × (u < nodes s.net) × (slice_index labels u - 1 ≡ i)
   each_level zero v is path i l = absurd path
   each_level (suc zero) v is path i l = (v, path.0, omega (arith, is, l))
   each_level (suc (suc d)) v is path i l = elim (cases_lt i (suc d)) [
@@ -68,7 +68,7 @@ module _ (s : core.State) (labels : List ℕ) (net : IsNet s.net)
     | inr not_below ↦ (v, starts_in (suc (suc d)) v path, omega (arith, is, l, not_below))
   ]
 
-  low : (v : ℕ) → ReachesIn s (slice_index labels v) v → slice_index labels v ≤ nodes s.net
+  low : (v : ℕ) → ReachesSinkIn s (slice_index labels v) v → slice_index labels v ≤ nodes s.net
   low v path = levels (nodes s.net) (slice_index labels v) (λ u. slice_index labels u - 1) (each_level (slice_index labels v) v refl path)
 
   below_top : (v : ℕ) → v < nodes s.net → slice_index labels v < top s.net → slice_index labels v ≤ nodes s.net
@@ -77,7 +77,7 @@ module _ (s : core.State) (labels : List ℕ) (net : IsNet s.net)
     | inr found ↦ low v found.1
   ]
 
-  le_nodes : (d v : ℕ) → ReachesIn s d v → slice_index labels v ≤ nodes s.net
+  le_nodes : (d v : ℕ) → ReachesSinkIn s d v → slice_index labels v ≤ nodes s.net
   le_nodes zero v path = absurd path
   le_nodes (suc zero) v path = below_top v path.0 (omega (arith, rooms v path.0 path.1))
   le_nodes (suc (suc d)) v path =
@@ -95,7 +95,7 @@ module _ (s : core.State) (labels : List ℕ) (net : IsNet s.net)
 
 -- ---- one label comes down
 
-one_more : (s : core.State) (x : Direction) (d : ℕ) → IsDirection s.net x → 0 < core.residual_of s x → ReachesIn s d (far s.net x) → ReachesIn s (d + 1) (near s.net x)
+one_more : (s : core.State) (x : Direction) (d : ℕ) → IsDirection s.net x → 0 < core.residual_of s x → ReachesSinkIn s d (far s.net x) → ReachesSinkIn s (d + 1) (near s.net x)
 one_more s x zero l residual path = absurd path
 one_more s x (suc d) l residual path = rw add-one (x, l, refl, residual, path)
 
@@ -106,7 +106,7 @@ pub not_lowered : (b : BlocksView) → IsLowered b b false
 not_lowered b = record { rest = refl; len = refl; reached = λ r. r; less = λ e. true_false e; still = λ e. refl }
 
 pub lowered_label : (b : BlocksView) (v d : ℕ) → v < nodes b.net → length b.labels ≡ nodes b.net → d < slice_index b.labels v
-    → (AreLengths b → (d < top b.net) × ReachesIn (bare b) d v) → IsLowered b (labelled b v d) true
+    → (AreLengths b → (d < top b.net) × ReachesSinkIn (bare b) d v) → IsLowered b (blocks_after_relabel b v d) true
 lowered_label b v d l long below reached = record {
   rest = refl;
   len = length-set b.labels v d;
@@ -162,7 +162,7 @@ pub record IsSearch (old now : BlocksView) : Type 0 where
 
 pub step_down : (b : BlocksView) (x : Direction) → IsNet b.net → IsDirection b.net x → 0 < (core.lane_at b.lanes x).residual
     → slice_index b.labels (far b.net x) + 1 < slice_index b.labels (near b.net x) → AreLengths b
-    → (slice_index b.labels (far b.net x) + 1 < top b.net) × ReachesIn (bare b) (slice_index b.labels (far b.net x) + 1) (near b.net x)
+    → (slice_index b.labels (far b.net x) + 1 < top b.net) × ReachesSinkIn (bare b) (slice_index b.labels (far b.net x) + 1) (near b.net x)
 step_down b x net l residual above r =
     let at_near : slice_index b.labels (near b.net x) ≤ top b.net = elim (r.each (near b.net x) (near_in b.net x net l)) [
       | inl at_top ↦ omega (arith, at_top)
@@ -174,7 +174,7 @@ step_down b x net l residual above r =
       | inr found ↦ (less, one_more (bare b) x (slice_index b.labels (far b.net x)) l residual found.1)
     ]
 
-pub filled_more : (a b c : BlocksView) (f : ℕ → ℕ) (v d : ℕ) → IsFilled a b f v → c ≡ labelled b v d → v < nodes a.net → d ≡ f v → IsFilled a c f (v + 1)
+pub filled_more : (a b c : BlocksView) (f : ℕ → ℕ) (v d : ℕ) → IsFilled a b f v → c ≡ blocks_after_relabel b v d → v < nodes a.net → d ≡ f v → IsFilled a c f (v + 1)
 filled_more a b c f v d made is l at_v = rw is record {
   rest = ap (λ (w : BlocksView). record w { labels = set b.labels v d }) made.rest;
   len = length-set b.labels v d ∙ made.len;

@@ -7,14 +7,14 @@ use Rattle.block_net.specs.declared.parts.Parts.{Parts}
 use Rattle.block_net.specs.Split.{CanSplit, IsSplit}
 use Rattle.block_net.proofs.Tables.{length_table}
 use Rattle.block_events.specs.Effects.{BlocksView}
-use Rattle.laid_blocks.specs.Views.{blocks_in, IsLaid, IsLong, first_of}
+use Rattle.laid_blocks.specs.Views.{blocks_in, IsLaid, IsLong, opening_blocks}
 
 -- what a state shows of its blocks
 abbrev blocks_shown : core.State → BlocksView
 blocks_shown s = record { net = s.net; blocks = s.blocks; excess = s.excess; labels = s.labels; rooms = s.rooms; lanes = s.lanes }
 
 pub opened_view : (net : Network) (blocks : ℕ) (parts : Parts) → IsSplit net blocks parts.firsts.items parts.slots.items parts.blocks.items
-    → blocks_in (whole_of net parts) ≡ first_of net blocks
+    → blocks_in (whole_of net parts) ≡ opening_blocks net blocks
 opened_view net blocks parts split = ap blocks_shown split.opening
 
 pub opened_laid : (net : Network) (blocks : ℕ) (parts : Parts) → IsNet net → CanSplit net blocks → IsSplit net blocks parts.firsts.items parts.slots.items parts.blocks.items

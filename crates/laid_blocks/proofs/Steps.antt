@@ -21,7 +21,7 @@ use Rattle.block_net.specs.Views as block
 use Rattle.block_net.specs.Views.{CellsView, no_row, no_border, count, excess_in, label_in, room_in, lane_in, border_in, out_of, parcel_of}
 use Rattle.block_net.specs.Whole.{Whole, no_block, block_at, block_with, home, place, slot, is_outer, lane_of, border_of, shown_lane, shown_border, put_block}
 use Rattle.block_net.proofs.Tables.{table_at}
-use Rattle.block_events.specs.Effects.{BlocksView, given, labelled, pushed, sent, accepted, settled, returned}
+use Rattle.block_events.specs.Effects.{BlocksView, blocks_after_sink_push, blocks_after_relabel, blocks_after_push, blocks_after_send, blocks_after_accept, blocks_after_settle, blocks_after_return}
 use Rattle.laid_blocks.specs.Views.{blocks_in, IsLaid, IsSpot, IsRow}
 use Rattle.laid_blocks.proofs.Writing.{IsLike, spot_put, row_put, numbers_same, numbers_set, numbers, lanes_keep, lane_shown, border_shown, lane_read, inner_shown, outer_shown, same_spot, laid_put, set_other, block_same}
 
@@ -387,21 +387,21 @@ seen_as w v v' b B e at = subst (λ (q : BlocksView). IsAt w q b B) e at
 -- ---- the calls of a block
 
 pub gave_at : (w : Whole) (v : BlocksView) (b : ℕ) (B : CellsView) (u p a : ℕ) → IsAt w v b B → IsSpot w u b p → p < length B.rooms
-    → IsAt (put_block w b (block.given B p a)) (given v u a) b (block.given B p a)
+    → IsAt (put_block w b (block.cells_after_sink_push B p a)) (blocks_after_sink_push v u a) b (block.cells_after_sink_push B p a)
 gave_at w v b B u p a at spot l =
     let e = excess_in B p - a in
     let r = room_in B p - a in
     let one : CellsView = record B { excess = set B.excess p e } in
     let first = excess_step w v b B at u p e spot in
     let second = rooms_step (put_block w b one) _ b one first u p r (spot_put w u b p b one spot) l in
-    seen_as _ _ (given v u a) b _ (rw (excess_read w v b B u p at spot, room_read w v b B u p at spot) refl) (joined w b one (block.given B p a) _ second)
+    seen_as _ _ (blocks_after_sink_push v u a) b _ (rw (excess_read w v b B u p at spot, room_read w v b B u p at spot) refl) (joined w b one (block.cells_after_sink_push B p a) _ second)
 
 pub labelled_at : (w : Whole) (v : BlocksView) (b : ℕ) (B : CellsView) (u p d : ℕ) → IsAt w v b B → IsSpot w u b p → p < length B.labels
-    → IsAt (put_block w b (block.labelled B p d)) (labelled v u d) b (block.labelled B p d)
+    → IsAt (put_block w b (block.cells_after_relabel B p d)) (blocks_after_relabel v u d) b (block.cells_after_relabel B p d)
 labelled_at w v b B u p d at spot l = labels_step w v b B at u p d spot l
 
 pub sent_at : (w : Whole) (v : BlocksView) (b : ℕ) (B : CellsView) (x : Direction) (j p a : ℕ) → IsAt w v b B → IsRow w x true b j → IsSpot w (near v.net x) b p
-    → IsAt (put_block w b (block.sent B p j a)) (sent v x a) b (block.sent B p j a)
+    → IsAt (put_block w b (block.cells_after_send B p j a)) (blocks_after_send v x a) b (block.cells_after_send B p j a)
 sent_at w v b B x j p a at row spot =
     let u = near v.net x in
     let e = excess_in B p - a in
@@ -410,24 +410,24 @@ sent_at w v b B x j p a at row spot =
     let new : Border = record (border_in B j) { residual = (border_in B j).residual - a; flight = Some (record { amount = a; label = label_in B p }) } in
     let second = border_step (put_block w b one) _ b one first x j new (row_put w x true b j b one row) (record { direction = refl; near = refl; to = refl; opposite = refl; capacity = refl }) in
     let lane = border_read w v b B x j at row in
-    seen_as _ _ (sent v x a) b _ (rw (excess_read w v b B u p at spot, label_read w v b B u p at spot, ← lane) refl) (joined w b one (block.sent B p j a) _ second)
+    seen_as _ _ (blocks_after_send v x a) b _ (rw (excess_read w v b B u p at spot, label_read w v b B u p at spot, ← lane) refl) (joined w b one (block.cells_after_send B p j a) _ second)
 
 pub settled_at : (w : Whole) (v : BlocksView) (b : ℕ) (B : CellsView) (x : Direction) (j : ℕ) → IsAt w v b B → IsRow w x true b j
-    → IsAt (put_block w b (block.settled B j)) (settled v x) b (block.settled B j)
+    → IsAt (put_block w b (block.cells_after_settle B j)) (blocks_after_settle v x) b (block.cells_after_settle B j)
 settled_at w v b B x j at row =
     let new : Border = record (border_in B j) { flight = None } in
     let first = border_step w v b B at x j new row (record { direction = refl; near = refl; to = refl; opposite = refl; capacity = refl }) in
-    seen_as _ _ (settled v x) b _ (rw (← border_read w v b B x j at row) refl) first
+    seen_as _ _ (blocks_after_settle v x) b _ (rw (← border_read w v b B x j at row) refl) first
 
 pub informed_at : (w : Whole) (v : BlocksView) (b : ℕ) (B : CellsView) (x : Direction) (j d : ℕ) → IsAt w v b B → IsRow w x true b j
-    → IsAt (put_block w b (block.informed B j d)) (record v { lanes = core.put_lane v.lanes x (record (core.lane_at v.lanes x) { known = d }) }) b (block.informed B j d)
+    → IsAt (put_block w b (block.cells_with_known B j d)) (record v { lanes = core.put_lane v.lanes x (record (core.lane_at v.lanes x) { known = d }) }) b (block.cells_with_known B j d)
 informed_at w v b B x j d at row =
     let new : Border = record (border_in B j) { known = d } in
     let first = border_step w v b B at x j new row (record { direction = refl; near = refl; to = refl; opposite = refl; capacity = refl }) in
     seen_as _ _ _ b _ (rw (← border_read w v b B x j at row) refl) first
 
 pub returned_at : (w : Whole) (v : BlocksView) (b : ℕ) (B : CellsView) (x : Direction) (j a told : ℕ) → IsAt w v b B → IsRow w x true b j → IsSpot w (near v.net x) b (border_in B j).near
-    → IsAt (put_block w b (block.returned B j a told)) (returned v x a told) b (block.returned B j a told)
+    → IsAt (put_block w b (block.cells_after_return B j a told)) (blocks_after_return v x a told) b (block.cells_after_return B j a told)
 returned_at w v b B x j a told at row spot =
     let u = near v.net x in
     let p = (border_in B j).near in
@@ -437,11 +437,11 @@ returned_at w v b B x j a told at row spot =
     let new : Border = record (border_in B j) { residual = (border_in B j).residual + a; known = told; flight = None } in
     let second = border_step (put_block w b one) _ b one first x j new (row_put w x true b j b one row) (record { direction = refl; near = refl; to = refl; opposite = refl; capacity = refl }) in
     let lane = border_read w v b B x j at row in
-    seen_as _ _ (returned v x a told) b _ (rw (excess_read w v b B u p at spot, ← lane) refl) (joined w b one (block.returned B j a told) _ second)
+    seen_as _ _ (blocks_after_return v x a told) b _ (rw (excess_read w v b B u p at spot, ← lane) refl) (joined w b one (block.cells_after_return B j a told) _ second)
 
 -- the parcel of x is taken at the slot of its opposite
 pub accepted_at : (w : Whole) (v : BlocksView) (b : ℕ) (B : CellsView) (x : Direction) (j a d : ℕ) → IsAt w v b B → IsRow w (opposite x) true b j → IsSpot w (far v.net x) b (border_in B j).near
-    → IsAt (put_block w b (block.accepted B j a d)) (accepted v x a d) b (block.accepted B j a d)
+    → IsAt (put_block w b (block.cells_after_accept B j a d)) (blocks_after_accept v x a d) b (block.cells_after_accept B j a d)
 accepted_at w v b B x j a d at row spot =
     let u = far v.net x in
     let p = (border_in B j).near in
@@ -452,12 +452,12 @@ accepted_at w v b B x j a d at row spot =
     let new : Border = record old { residual = old.residual + a; known = cond (is_some old.flight) old.known (max old.known d) } in
     let second = border_step (put_block w b one) _ b one first (opposite x) j new (row_put w (opposite x) true b j b one row) (record { direction = refl; near = refl; to = refl; opposite = refl; capacity = refl }) in
     let lane = border_read w v b B (opposite x) j at row in
-    seen_as _ _ (accepted v x a d) b _ (rw (excess_read w v b B u p at spot, ← lane) refl) (joined w b one (block.accepted B j a d) _ second)
+    seen_as _ _ (blocks_after_accept v x a d) b _ (rw (excess_read w v b B u p at spot, ← lane) refl) (joined w b one (block.cells_after_accept B j a d) _ second)
 
 -- a push within a block: the far end's place and the opposite's slot stand in the lane
 pub pushed_at : (w : Whole) (v : BlocksView) (b : ℕ) (B : CellsView) (x : Direction) (j p a : ℕ) → IsAt w v b B → IsRow w x false b j → IsSpot w (near v.net x) b p
     → IsRow w (opposite x) false b (lane_in B j).opposite → IsSpot w (far v.net x) b (lane_in B j).far
-    → IsAt (put_block w b (block.pushed B p j a)) (pushed v x a) b (block.pushed B p j a)
+    → IsAt (put_block w b (block.cells_after_push B p j a)) (blocks_after_push v x a) b (block.cells_after_push B p j a)
 pushed_at w v b B x j p a at row spot back away =
     let u = near v.net x in
     let t = far v.net x in
@@ -480,7 +480,7 @@ pushed_at w v b B x j p a at row spot back away =
     let back3 = row_put w2 (opposite x) false b o b three (row_put w1 (opposite x) false b o b two (row_put w (opposite x) false b o b one back)) in
     let lane' : InnerLane = record (lane_in three o) { residual = (lane_in three o).residual + a } in
     let at4 = lane_step w3 _ b three at3 (opposite x) o lane' back3 refl refl in
-    let joined4 = joined w b one (block.pushed B p j a) _ (joined w1 b two (block.pushed B p j a) _ (joined w2 b three (block.pushed B p j a) _ at4)) in
+    let joined4 = joined w b one (block.cells_after_push B p j a) _ (joined w1 b two (block.cells_after_push B p j a) _ (joined w2 b three (block.cells_after_push B p j a) _ at4)) in
     let read1 = excess_read w v b B u p at spot in
     let read2 = excess_read w1 _ b one t q at1 away1 in
     let read3 = inner_read w v b B x j at row in
@@ -488,10 +488,10 @@ pushed_at w v b B x j p a at row spot back away =
     let less = λ (n : ℕ). set v.excess u (n - a) in
     let gone = λ (l : Lane). core.put_lane v.lanes x (record l { residual = l.residual - a }) in
     let come = λ (ls : core.Lanes) (l : Lane). core.put_lane ls (opposite x) (record l { residual = l.residual + a }) in
-    let excess : set (set v.excess u e) t e2 ≡ (pushed v x a).excess =
+    let excess : set (set v.excess u e) t e2 ≡ (blocks_after_push v x a).excess =
     ap (λ n. set (set v.excess u e) t (n + a)) read2 ∙ ap (λ n. set (less n) t (slice_index (less n) t + a)) read1 in
-    let lanes : come (gone (shown_lane (lane_in B j))) (shown_lane (lane_in three o)) ≡ (pushed v x a).lanes =
+    let lanes : come (gone (shown_lane (lane_in B j))) (shown_lane (lane_in three o)) ≡ (blocks_after_push v x a).lanes =
     ap (come (gone (shown_lane (lane_in B j)))) read4 ∙ ap (λ (l : Lane). come (gone l) (core.lane_at (gone l) (opposite x))) read3 in
     let same = ap (λ (xs : List ℕ). record v { excess = xs; lanes = come (gone (shown_lane (lane_in B j))) (shown_lane (lane_in three o)) }) excess
-    ∙ ap (λ (ls : core.Lanes). record v { excess = (pushed v x a).excess; lanes = ls }) lanes in
-    seen_as _ _ (pushed v x a) b _ same joined4
+    ∙ ap (λ (ls : core.Lanes). record v { excess = (blocks_after_push v x a).excess; lanes = ls }) lanes in
+    seen_as _ _ (blocks_after_push v x a) b _ same joined4

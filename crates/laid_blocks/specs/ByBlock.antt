@@ -6,7 +6,7 @@ use Rattle.block_events.specs.declared.direction.Direction.{Direction}
 use Rattle.block_events.specs.Directions.{IsDirection, near, far}
 use Rattle.block_events.specs.States as core
 use Rattle.block_events.specs.Effects.{BlocksView, told_lane}
-use Rattle.block_net.specs.Views.{border_in, informed}
+use Rattle.block_net.specs.Views.{border_in, cells_with_known}
 use Rattle.block_net.specs.Whole.{Whole, block_at, home, near_home, slot, is_outer, put_block}
 use Rattle.laid_blocks.specs.Views.{blocks_in, IsLaid}
 
@@ -18,7 +18,8 @@ direction_at w b j = (border_in (block_at w b) j).direction
 abbrev pub told_at : Whole → ℕ → ℕ → Whole
 told_at w b j =
     put_block w b
-    (informed (block_at w b) j (slice_index (blocks_in w).labels (far w.net (direction_at w b j))))
+    (cells_with_known (block_at w b) j
+    (slice_index (blocks_in w).labels (far w.net (direction_at w b j))))
 
 -- the first so many directions from a block to others know the labels of their far ends, and
 -- nothing else changed
@@ -36,7 +37,7 @@ pub record IsTelling (old now : Whole) (b many : ℕ) : Type 0 where
       → core.lane_at (blocks_in now).lanes x ≡ core.lane_at (blocks_in old).lanes x
 
 -- the nodes of a block have the labels that stand in a list, and nothing else changed
-pub record IsLabelled (old now : Whole) (b : ℕ) (labels : List ℕ) : Type 0 where
+pub record HasLabelsInBlock (old now : Whole) (b : ℕ) (labels : List ℕ) : Type 0 where
   pub laid : IsLaid now
   pub rest : blocks_in now ≡ record (blocks_in old) { labels = (blocks_in now).labels }
   pub here : (v : ℕ) → v < nodes old.net → home old v ≡ b → slice_index (blocks_in now).labels v

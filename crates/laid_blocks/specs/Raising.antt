@@ -4,7 +4,7 @@ use Rattle.flow_network.specs.Cut.{nodes}
 use Rattle.flow_network.specs.Progress.{top}
 use Rattle.block_events.specs.declared.direction.Direction.{Direction}
 use Rattle.block_events.specs.Directions.{near, far, forward, backward}
-use Rattle.block_events.specs.Reach.{ReachesIn}
+use Rattle.block_events.specs.Reach.{ReachesSinkIn}
 use Rattle.block_events.specs.States as core
 use Rattle.block_events.specs.Effects.{BlocksView, state_of, told_lane}
 
@@ -16,7 +16,7 @@ bare b = state_of (record b { labels = [] }) [] 0
 pub record AreLengths (b : BlocksView) : Type 0 where
   pub each : (v : ℕ) → v < nodes b.net
       → (slice_index b.labels v ≡ top b.net)
-      ⊎ ((slice_index b.labels v < top b.net) × ReachesIn (bare b) (slice_index b.labels v) v)
+      ⊎ ((slice_index b.labels v < top b.net) × ReachesSinkIn (bare b) (slice_index b.labels v) v)
 
 -- labels came down, where any did, and the rest is as it was
 pub record IsLowered (old new : BlocksView) (changed : Bool) : Type 0 where

@@ -7,17 +7,17 @@ use Rattle.block_events.specs.declared.direction.Direction.{Direction}
 use Rattle.block_events.specs.Directions.{IsDirection}
 use Rattle.block_events.specs.Effects.{BlocksView}
 use Rattle.block_net.specs.Limits.{arc_limit, block_limit}
-use Rattle.block_net.specs.Whole.{Whole, home, place, near_home, slot, is_outer, shown, IsPlaced, IsFilled}
+use Rattle.block_net.specs.Whole.{Whole, home, place, near_home, slot, is_outer, state_shown, IsPlaced, IsFilled}
 
 -- what a whole of blocks shows, without the messages on the way
 abbrev pub blocks_in : Whole → BlocksView
 blocks_in w = record {
   net = w.net;
   blocks = length w.blocks;
-  excess = (shown w).excess;
-  labels = (shown w).labels;
-  rooms = (shown w).rooms;
-  lanes = (shown w).lanes;
+  excess = (state_shown w).excess;
+  labels = (state_shown w).labels;
+  rooms = (state_shown w).rooms;
+  lanes = (state_shown w).lanes;
 }
 
 -- what is kept of the blocks of a net
@@ -62,8 +62,8 @@ abbrev pub first_lanes : Bool → List Arc → List Lane
 first_lanes back arcs =
     map (λ arc. record { residual = cond back 0 arc.capacity; known = 0; flight = None }) arcs
 
-abbrev pub first_of : Network → ℕ → BlocksView
-first_of net blocks = record {
+abbrev pub opening_blocks : Network → ℕ → BlocksView
+opening_blocks net blocks = record {
   net = net;
   blocks = blocks;
   excess = net.sources;

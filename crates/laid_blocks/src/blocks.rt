@@ -11,8 +11,8 @@ ghost use Rattle.block_events.specs.Events.{highest_label};
 ghost use Rattle.block_net.specs.Limits.{arc_limit, block_limit};
 ghost use Rattle.block_net.specs.Split.{CanSplit, homes_made};
 ghost use Rattle.block_net.specs.Whole.{index_of, is_outer, whole_of};
-ghost use Rattle.block_events.specs.Effects.{state_of, given, labelled, pushed, sent, accepted, settled, returned};
-ghost use Rattle.laid_blocks.specs.Views.{blocks_in, IsLaid, IsLong, IsSpot, IsRow, first_of};
+ghost use Rattle.block_events.specs.Effects.{state_of, blocks_after_sink_push, blocks_after_relabel, blocks_after_push, blocks_after_send, blocks_after_accept, blocks_after_settle, blocks_after_return};
+ghost use Rattle.laid_blocks.specs.Views.{blocks_in, IsLaid, IsLong, IsSpot, IsRow, opening_blocks};
 ghost use Rattle.laid_blocks.specs.ByBlock.{IsToldFrom, IsRelabelled};
 
 use crate::by_block::{label_block, tell_block};
@@ -123,7 +123,7 @@ impl Blocks {
     /// the net over.
     pub fn open(alloc: Global, net: Net, blocks: usize) -> Result<Blocks, AllocError>
         requires { CanSplit net blocks }
-        ensures first { IfOk result (λ b. b ≡ first_of net blocks) }
+        ensures first { IfOk result (λ b. b ≡ opening_blocks net blocks) }
         ensures limits { IsNet net }
     {
         // Asking the net for a number brings its limits to hand.
@@ -348,7 +348,7 @@ impl Blocks {
     /// Excess of a node goes to the sink: as much as the node can still give it. Answers that amount.
     pub fn give(&mut self, v: usize) -> u64
         requires { v < nodes self.old.net }
-        ensures given { self.new ≡ given self.old v
+        ensures given { self.new ≡ blocks_after_sink_push self.old v
             (min (slice_index self.old.excess v) (slice_index self.old.rooms v)) }
         ensures amount { result ≡ min (slice_index self.old.excess v) (slice_index self.old.rooms v) }
     {
@@ -360,7 +360,7 @@ impl Blocks {
     pub fn relabel(&mut self, v: usize, label: u32)
         requires node { v < nodes self.old.net }
         requires limit { label ≤ top self.old.net }
-        ensures { self.new ≡ labelled self.old v label }
+        ensures { self.new ≡ blocks_after_relabel self.old v label }
     {
         let (block, place) = spot(&self.net, &self.parts, v);
         self.parts.blocks[block].relabel(place, label);
@@ -371,7 +371,7 @@ impl Blocks {
         requires direction { IsDirection self.old.net direction }
         requires inner { is_border self.old.net self.old.blocks direction ≡ false }
         requires other { near self.old.net direction ≢ far self.old.net direction }
-        ensures { self.new ≡ pushed self.old direction
+        ensures { self.new ≡ blocks_after_push self.old direction
             (min (slice_index self.old.excess (near self.old.net direction))
             (lane_at self.old.lanes direction).residual) }
     {
@@ -386,7 +386,7 @@ impl Blocks {
         requires direction { IsDirection self.old.net direction }
         requires border { is_border self.old.net self.old.blocks direction ≡ true }
         requires idle { (lane_at self.old.lanes direction).flight ≡ None }
-        ensures sent { self.new ≡ sent self.old direction
+        ensures sent { self.new ≡ blocks_after_send self.old direction
             (min (slice_index self.old.excess (near self.old.net direction))
             (lane_at self.old.lanes direction).residual) }
         ensures parcel { result ≡ Parcel direction
@@ -429,7 +429,7 @@ impl Blocks {
             + amount_out (lane_at self.old.lanes (opposite direction)).flight + amount
             ≤ (arc_at self.old.net direction.arc).capacity }
         requires label { label ≤ top self.old.net }
-        ensures accepted { self.new ≡ accepted self.old direction amount label }
+        ensures accepted { self.new ≡ blocks_after_accept self.old direction amount label }
         ensures answer { result ≡ Accepted direction amount }
     {
         let (block, slot) = row(&self.net, &self.parts, opposite_of(direction));
@@ -452,7 +452,7 @@ impl Blocks {
     pub fn settle(&mut self, direction: Direction)
         requires direction { IsDirection self.old.net direction }
         requires border { is_border self.old.net self.old.blocks direction ≡ true }
-        ensures { self.new ≡ settled self.old direction }
+        ensures { self.new ≡ blocks_after_settle self.old direction }
     {
         let (block, slot) = row(&self.net, &self.parts, direction);
         self.parts.blocks[block].settle(slot);
@@ -464,7 +464,7 @@ impl Blocks {
         requires border { is_border self.old.net self.old.blocks direction ≡ true }
         requires fits { amount ≤ amount_out (lane_at self.old.lanes direction).flight }
         requires told { told ≤ top self.old.net }
-        ensures { self.new ≡ returned self.old direction amount told }
+        ensures { self.new ≡ blocks_after_return self.old direction amount told }
     {
         let (block, slot) = row(&self.net, &self.parts, direction);
         self.parts.blocks[block].take_back(slot, amount, told);

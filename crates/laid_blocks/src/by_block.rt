@@ -4,7 +4,7 @@ ghost use Rattle.flow_network.specs.Progress.{top};
 ghost use Rattle.block_events.specs.Directions.{far};
 ghost use Rattle.block_net.specs.Whole.{block_at, whole_of};
 ghost use Rattle.laid_blocks.specs.Views.{blocks_in, IsLaid, IsRow};
-ghost use Rattle.laid_blocks.specs.ByBlock.{direction_at, told_at, IsTelling, IsLabelled};
+ghost use Rattle.laid_blocks.specs.ByBlock.{direction_at, told_at, IsTelling, HasLabelsInBlock};
 
 use crate::blocks::near_of;
 use block_net::{Parts, opposite_of};
@@ -58,7 +58,7 @@ pub fn label_block(net: &Net, parts: &mut Parts, block: usize, labels: &[u32])
     requires block { block < length parts.old.blocks.items }
     requires len { length labels.now ≡ nodes net.now }
     requires limit { (v : ℕ) → v < nodes net.now → slice_index labels.now v ≤ top net.now }
-    ensures { IsLabelled (whole_of net.now parts.old) (whole_of net.now parts.new) block labels.now }
+    ensures { HasLabelsInBlock (whole_of net.now parts.old) (whole_of net.now parts.new) block labels.now }
 {
     let nodes = parts.blocks[block].len();
     if nodes == 0 {

@@ -4,7 +4,7 @@ ghost use Rattle.flow_network.specs.Progress.{top};
 ghost use Rattle.block_events.specs.Reach.{AreExact};
 ghost use Rattle.block_events.specs.Directions.{IsDirection, forward, backward};
 ghost use Rattle.block_events.specs.States.{lane_at};
-ghost use Rattle.block_events.specs.Effects.{told};
+ghost use Rattle.block_events.specs.Effects.{blocks_with_known_labels};
 ghost use Rattle.laid_blocks.specs.Raising.{bare, AreLengths, IsLowered, IsStableAt, IsStableAlong, IsStable};
 ghost use Rattle.block_events.specs.Effects.{BlocksView};
 ghost use Rattle.laid_blocks.specs.Views.{IsLong};
@@ -119,7 +119,7 @@ impl Blocks {
 
     /// Each direction to another block knows the label of its far end: one pass over the directions between blocks.
     fn tell_all(&mut self)
-        ensures { self.new ≡ told self.old }
+        ensures { self.new ≡ blocks_with_known_labels self.old }
     {
         'each: for block in 0..self.count() {
             self.tell_from(block);
@@ -141,7 +141,7 @@ impl Blocks {
     pub fn raise_to(&mut self, labels: &[u32])
         requires len { length labels.now ≡ nodes self.old.net }
         requires limit { (v : ℕ) → v < nodes self.old.net → slice_index labels.now v ≤ top self.old.net }
-        ensures { self.new ≡ told (record self.old { labels = labels.now }) }
+        ensures { self.new ≡ blocks_with_known_labels (record self.old { labels = labels.now }) }
     {
         self.set_labels(labels);
         self.tell_all();
@@ -150,7 +150,7 @@ impl Blocks {
     /// Each label becomes the exact one, and each direction to another block knows that of its far end.
     pub fn raise(&mut self)
         ensures { (labels : List ℕ) × AreExact (bare self.old) labels
-            × (self.new ≡ told (record self.old { labels = labels })) }
+            × (self.new ≡ blocks_with_known_labels (record self.old { labels = labels })) }
     {
         self.find_labels();
         self.tell_all();

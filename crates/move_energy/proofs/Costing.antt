@@ -2,10 +2,10 @@
 use Rattle.std.proofs.Common.{◌≡◌, ℕ, suc, ◌+◌, ◌*◌, ◌≤◌, Bool, true, false, List, vec_len, ℤ, pos, ◌+ℤ◌, ◌≤ℤ◌, refl, ap, ◌∙◌, subst, arith}
 use Rattle.std.proofs.lemmas.Int.{ints}
 use Rattle.std.proofs.lemmas.Nat.{mul-le}
-use Rattle.sums.specs.Sums.{counted}
+use Rattle.sums.specs.Sums.{count_if}
 use Rattle.compile_cut.specs.declared.quadratic.Quadratic.{Quadratic}
 use Rattle.compile_cut.specs.Shown.{Shows}
-use Rattle.compile_cut.specs.Quadratics.{quadratic_value, IsBounded, AddsLeast, IsTied}
+use Rattle.compile_cut.specs.Quadratics.{quadratic_value, IsQuadraticBounded, AddsLeast, IsTied}
 use Rattle.compile_cut.proofs.TermLemmas.{bounded-weaker}
 use Rattle.move_energy.specs.declared.choice.Choice.{Choice}
 use Rattle.cost_store.specs.LabelCosts.{cost_at}
@@ -91,17 +91,17 @@ wider_more i a b c one two = record {
   bounded = λ k h.
       let there = two.bounded (k + 10486 * i) (one.bounded k h) in
       let same : (k + 10486 * i) + 10486 ≡ k + 10486 * (i + 1) = omega arith in
-      let P : ℕ → Type 0 = λ n. IsBounded n c in
+      let P : ℕ → Type 0 = λ n. IsQuadraticBounded n c in
       subst P same there;
 }
 
-pub none_paid : (b : Bool) (cost : ℕ) → cost ≡ 0 → counted b cost ≡ 0
+pub none_paid : (b : Bool) (cost : ℕ) → cost ≡ 0 → count_if b cost ≡ 0
 none_paid true cost h = h
 none_paid false cost h = refl
 
 pub more_costs : (i alpha : ℕ) (f : List ℕ) (choices : List Choice) (costs : List ℤ) (x : ℕ → Bool) (cost : ℕ) → cost ≡ cost_at costs i
-    → costs_below i alpha f choices costs x + counted (uses alpha f choices i x) cost ≡ costs_below (i + 1) alpha f choices costs x
+    → costs_below i alpha f choices costs x + count_if (uses alpha f choices i x) cost ≡ costs_below (i + 1) alpha f choices costs x
 more_costs i alpha f choices costs x cost is =
     let step : suc i ≡ i + 1 = omega arith in
-    ap (λ (c : ℕ). costs_below i alpha f choices costs x + counted (uses alpha f choices i x) c) is
+    ap (λ (c : ℕ). costs_below i alpha f choices costs x + count_if (uses alpha f choices i x) c) is
     ∙ ap (λ (n : ℕ). costs_below n alpha f choices costs x) step

@@ -5,7 +5,7 @@ use Rattle.std.proofs.lemmas.Option.{get_or_from_slice_get}
 use Rattle.std.proofs.lemmas.Int.{ints, to_z-of_z}
 use Rattle.std.proofs.lemmas.List.{length-append, append-nil, map-append, take_all}
 use Rattle.std.proofs.lemmas.List.Sums.{sum_by-cons, sum_by_push, sum_by_more}
-use Rattle.sums.specs.Sums.{counted}
+use Rattle.sums.specs.Sums.{count_if}
 use Rattle.sums.specs.IntegerSums.{int_sum_below, int_counted}
 use Rattle.sums.proofs.IntegerSumLemmas.{int_sum_below-same, within_fits}
 use Rattle.flow_network.specs.Cut.{IsArc}
@@ -13,21 +13,21 @@ use Rattle.flow_network.specs.declared.arc.Arc.{Arc}
 use Rattle.label_field.specs.declared.pair.Pair.{Pair}
 use Rattle.label_field.specs.PairLists.{PairList, IsPair}
 use Rattle.move_energy.specs.declared.by_site.Neighbours.{Neighbours}
-use Rattle.move_energy.specs.BySite.{AreBySite, has_chosen, listing, met_at}
+use Rattle.move_energy.specs.BySite.{AreBySite, has_chosen, rising_sites, met_at}
 use Rattle.move_energy.proofs.Beside.{pairs_are_met_once}
 use Rattle.labellings.specs.declared.change.Move.{Move}
 use Rattle.labellings.specs.Energies.{Instance}
-use Rattle.labellings.specs.Moves.{label_in, pair_entry, IsRegularPair, IsAllowed}
+use Rattle.labellings.specs.Moves.{label_after, pair_entry, IsRegularPair, IsAllowed}
 use Rattle.pseudo_bool.specs.Energies.{entry, digit}
 use Rattle.compile_cut.specs.declared.quadratic.Quadratic.{Quadratic}
-use Rattle.compile_cut.specs.Quadratics.{quadratic_value, IsBounded}
+use Rattle.compile_cut.specs.Quadratics.{quadratic_value, IsQuadraticBounded}
 use Rattle.compile_cut.specs.Weights.{weights_value, weights_size, arcs_value, arcs_size, IsAbove}
 use Rattle.compile_cut.proofs.WeightLemmas.{weights_value-push}
 use Rattle.move_energy.specs.declared.choice.Choice.{Choice}
 use Rattle.move_energy.specs.declared.choice.Choice.TheVariants.{Open, Zero as DecidedZero, One as DecidedOne}
-use Rattle.move_energy.specs.Choices.{choice_at, openness, is_open, open_at, rank, open_count, IsNumbering, AreOpenSites, StandsFor}
+use Rattle.move_energy.specs.Choices.{choice_at, openness, is_open, open_at, open_rank, open_count, IsNumbering, AreOpenSites, StandsFor}
 use Rattle.move_energy.specs.Built.{AddsCost}
-use Rattle.move_energy.specs.Weights.{weight_at, open_energy, AreWeights, pair_surplus, are_open, unsaved, open_weights, IsOfWeights, term_of, surplus_of}
+use Rattle.move_energy.specs.Weights.{weight_at, open_energy, AreWeights, pair_surplus, are_open, unsaved_surplus, open_weights, IsOfWeights, pair_table, surplus_of}
 use Rattle.move_energy.proofs.Opened.{true_open}
 use Rattle.move_energy.proofs.Numbers.{rank_below, open_site, open_site_is}
 use Rattle.move_energy.proofs.Joins.{read_at}
@@ -42,7 +42,7 @@ length_more Open xs w = length-append xs (w ∷ [])
 length_more DecidedZero xs w = length-append xs []
 length_more DecidedOne xs w = length-append xs []
 
-pub weights_length : (choices : List Choice) (weights : List ℤ) (n : ℕ) → length (open_weights choices weights n) ≡ rank choices n
+pub weights_length : (choices : List Choice) (weights : List ℤ) (n : ℕ) → length (open_weights choices weights n) ≡ open_rank choices n
 weights_length choices weights zero = refl
 weights_length choices weights (suc n) =
     omega (arith, length_more (choice_at choices n) (open_weights choices weights n) (weight_at weights n), weights_length choices weights n)
@@ -55,7 +55,7 @@ value_more DecidedOne xs w x = omega (arith, ints, ap (λ (ys : List ℤ). weigh
 
 pub weights_sum : (choices : List Choice) (weights : List ℤ) (x : ℕ → Bool) (n : ℕ)
     → weights_value (open_weights choices weights n) x
-    ≡ int_sum_below n (λ u. int_counted (is_open (choice_at choices u) && x (rank choices u)) (weight_at weights u))
+    ≡ int_sum_below n (λ u. int_counted (is_open (choice_at choices u) && x (open_rank choices u)) (weight_at weights u))
 weights_sum choices weights x zero = refl
 weights_sum choices weights x (suc n) =
     let place = ap (λ i. int_counted (is_open (choice_at choices n) && x i) (weight_at weights n)) (weights_length choices weights n) in
@@ -93,7 +93,7 @@ form_value weights q x is =
     let arcs = ap (λ (ys : List Arc). arcs_value ys x) is.arcs in
     omega (arith, ints, is.constant, ws, arcs)
 
-pub form_bounded : (weights : List ℤ) (q : Quadratic) → weights_size weights ≤ 500000000000000 → IsOfWeights weights q → IsBounded 1048576 q
+pub form_bounded : (weights : List ℤ) (q : Quadratic) → weights_size weights ≤ 500000000000000 → IsOfWeights weights q → IsQuadraticBounded 1048576 q
 form_bounded weights q small is =
     let ws = ap (λ (ys : List ℤ). weights_size ys) is.weights_are in
     let arcs = ap (λ (ys : List Arc). arcs_size ys) is.arcs in
@@ -109,12 +109,12 @@ form_bounded weights q small is =
 
 pub form_nodes : (choices : List Choice) (weights : List ℤ) (q : Quadratic) (n : ℕ) → n ≡ length choices → IsOfWeights (open_weights choices weights n) q
     → vec_len q.weights ≡ open_count choices
-form_nodes choices weights q n all is = q.weights.ok.0 ∙ ap (λ (ws : List ℤ). length ws) is.weights_are ∙ weights_length choices weights n ∙ ap (rank choices) all
+form_nodes choices weights q n all is = q.weights.ok.0 ∙ ap (λ (ws : List ℤ). length ws) is.weights_are ∙ weights_length choices weights n ∙ ap (open_rank choices) all
 
 -- ---- what a pair saves
 
 saved : (s : ℕ) (table : List ℤ) (z : ℤ) (a b : Bool) → table ≡ pos 0 ∷ pos 0 ∷ pos 0 ∷ (pos 0 -ℤ z) ∷ [] → z ≡ pos s
-    → entry table (2 * digit a + digit b) +ℤ pos s ≡ pos (counted (not (a && b)) s)
+    → entry table (2 * digit a + digit b) +ℤ pos s ≡ pos (count_if (not (a && b)) s)
 saved s table z true true is size = rw is (omega (arith, ints, size))
 saved s table z true false is size = rw is (omega (arith, ints))
 saved s table z false true is size = rw is (omega (arith, ints))
@@ -122,7 +122,7 @@ saved s table z false false is size = rw is (omega (arith, ints))
 
 pub saving_adds : (old new : Quadratic) (v w s : ℕ) (table : List ℤ) (z : ℤ) → table ≡ pos 0 ∷ pos 0 ∷ pos 0 ∷ (pos 0 -ℤ z) ∷ [] → z ≡ pos s
     → ((x : ℕ → Bool) → quadratic_value new x ≡ quadratic_value old x +ℤ entry table (2 * digit (x v) + digit (x w)))
-    → AddsCost old new (λ x. counted (not (x v && x w)) s)
+    → AddsCost old new (λ x. count_if (not (x v && x w)) s)
 saving_adds old new v w s table z is size adds = record {
   rest = pos s;
   value = λ x. omega (arith, ints, adds x, saved s table z (x v) (x w) is size);
@@ -151,77 +151,77 @@ first_open choice pair both = true_open (choice pair.first) (first_of (is_open (
 pub second_open : (choice : ℕ → Choice) (pair : Pair) → are_open choice pair ≡ true → choice pair.second ≡ Open
 second_open choice pair both = true_open (choice pair.second) (second_of (is_open (choice pair.first)) (is_open (choice pair.second)) both)
 
-counted_yes : (b : Bool) (s : ℕ) → b ≡ true → counted b s ≡ s
+counted_yes : (b : Bool) (s : ℕ) → b ≡ true → count_if b s ≡ s
 counted_yes true s h = refl
 counted_yes false s h = absurd (cc h)
 
-counted_no : (b : Bool) (s : ℕ) → b ≡ false → counted b s ≡ 0
+counted_no : (b : Bool) (s : ℕ) → b ≡ false → count_if b s ≡ 0
 counted_no true s h = absurd (cc h)
 counted_no false s h = refl
 
 -- the surplus of a pair, counted where both its ends are open
-pub surplus_uncounted : (b : Bool) (s : ℕ) → b ≡ false → pos 0 ≡ pos (counted b s)
+pub surplus_uncounted : (b : Bool) (s : ℕ) → b ≡ false → pos 0 ≡ pos (count_if b s)
 surplus_uncounted b s h = ap pos (sym (counted_no b s h))
 
 regular_surplus : (a b c d : ℕ) → a + d ≤ b + c → (pos b +ℤ pos c) -ℤ (pos a +ℤ pos d) ≡ pos (b + c - (a + d))
 regular_surplus a b c d h = omega (arith, ints, h)
 
 pub surplus_counted : (m : Instance) (move : Move) (f : ℕ → ℕ) (pair : Pair) (b : Bool) (z : ℤ) → b ≡ true → IsRegularPair m move f pair
-    → z ≡ surplus_of (term_of m move f pair) → z ≡ pos (counted b (pair_surplus m move f pair))
+    → z ≡ surplus_of (pair_table m move f pair) → z ≡ pos (count_if b (pair_surplus m move f pair))
 surplus_counted m move f pair b z h regular is =
     is ∙ regular_surplus (pair_entry m move f pair false false) (pair_entry m move f pair false true) (pair_entry m move f pair true false) (pair_entry m move f pair true true) regular
     ∙ ap pos (sym (counted_yes b (pair_surplus m move f pair) h))
 
-unsaved_none : (o b : Bool) (s : ℕ) → counted o s ≡ 0 → counted o (counted b s) ≡ 0
+unsaved_none : (o b : Bool) (s : ℕ) → count_if o s ≡ 0 → count_if o (count_if b s) ≡ 0
 unsaved_none true true s none = none
 unsaved_none true false s none = refl
 unsaved_none false b s none = refl
 
 -- what is added for a pair: nothing where its surplus is 0
 pub surplus_none : (m : Instance) (move : Move) (f : ℕ → ℕ) (choice : ℕ → Choice) (variable : ℕ → ℕ) (q : Quadratic) (pair : Pair) (z : ℤ)
-    → z ≡ pos (counted (are_open choice pair) (pair_surplus m move f pair)) → z ≤ℤ pos 0 → AddsCost q q (λ x. unsaved m move f choice variable x pair)
+    → z ≡ pos (count_if (are_open choice pair) (pair_surplus m move f pair)) → z ≤ℤ pos 0 → AddsCost q q (λ x. unsaved_surplus m move f choice variable x pair)
 surplus_none m move f choice variable q pair z is none =
-    let empty : counted (are_open choice pair) (pair_surplus m move f pair) ≡ 0 = omega (arith, ints, is, none) in
-    cost_none q (λ x. unsaved m move f choice variable x pair)
+    let empty : count_if (are_open choice pair) (pair_surplus m move f pair) ≡ 0 = omega (arith, ints, is, none) in
+    cost_none q (λ x. unsaved_surplus m move f choice variable x pair)
     (λ x. unsaved_none (are_open choice pair) (not (x (variable pair.first) && x (variable pair.second))) (pair_surplus m move f pair) empty)
 
 pub surplus_adds : (m : Instance) (move : Move) (f : ℕ → ℕ) (choice : ℕ → Choice) (variable : ℕ → ℕ) (old new : Quadratic) (pair : Pair) (v w s : ℕ) (z : ℤ)
     → v ≡ variable pair.first → w ≡ variable pair.second → are_open choice pair ≡ true
-    → z ≡ pos (counted (are_open choice pair) (pair_surplus m move f pair)) → s ≡ unsigned_abs z
-    → AddsCost old new (λ x. counted (not (x v && x w)) s) → AddsCost old new (λ x. unsaved m move f choice variable x pair)
+    → z ≡ pos (count_if (are_open choice pair) (pair_surplus m move f pair)) → s ≡ unsigned_abs z
+    → AddsCost old new (λ x. count_if (not (x v && x w)) s) → AddsCost old new (λ x. unsaved_surplus m move f choice variable x pair)
 surplus_adds m move f choice variable old new pair v w s z first second h is size adds =
     let amount : s ≡ pair_surplus m move f pair = size ∙ ap unsigned_abs is ∙ counted_yes (are_open choice pair) (pair_surplus m move f pair) h in
-    adds_same old new (λ x. counted (not (x v && x w)) s) (λ x. unsaved m move f choice variable x pair)
-    (λ x. (λ i. counted (not (x (first i) && x (second i))) (amount i))
-    ∙ sym (counted_yes (are_open choice pair) (counted (not (x (variable pair.first) && x (variable pair.second))) (pair_surplus m move f pair)) h)) adds
+    adds_same old new (λ x. count_if (not (x v && x w)) s) (λ x. unsaved_surplus m move f choice variable x pair)
+    (λ x. (λ i. count_if (not (x (first i) && x (second i))) (amount i))
+    ∙ sym (counted_yes (are_open choice pair) (count_if (not (x (variable pair.first) && x (variable pair.second))) (pair_surplus m move f pair)) h)) adds
 
 -- the number of an open site, as it was read
 pub number_read : (choices : List Choice) (variables : List ℕ) (p r : ℕ) → IsNumbering choices variables → p < length choices → choice_at choices p ≡ Open
-    → r ≡ get_or variables p r → r ≡ rank choices p
+    → r ≡ get_or variables p r → r ≡ open_rank choices p
 number_read choices variables p r numbering l opened is = read_at variables p r 0 (omega (arith, numbering.count, l)) is ∙ numbering.each p l opened
 
 -- the pairs one after another
 pub savings_more : (m : Instance) (move : Move) (f : ℕ → ℕ) (choice : ℕ → Choice) (variable : ℕ → ℕ) (first old new : Quadratic) (i : ℕ) (list : List Pair) (pair : Pair)
     → m.pairs ≡ list → i < length list → slice_get list i ≡ Some pair → IsAllowed m move f
-    → AddsCost first old (λ x. sum_by (unsaved m move f choice variable x) (take i m.pairs))
-    → (IsRegularPair m move f pair → AddsCost old new (λ x. unsaved m move f choice variable x pair))
-    → AddsCost first new (λ x. sum_by (unsaved m move f choice variable x) (take (i + 1) m.pairs))
+    → AddsCost first old (λ x. sum_by (unsaved_surplus m move f choice variable x) (take i m.pairs))
+    → (IsRegularPair m move f pair → AddsCost old new (λ x. unsaved_surplus m move f choice variable x pair))
+    → AddsCost first new (λ x. sum_by (unsaved_surplus m move f choice variable x) (take (i + 1) m.pairs))
 savings_more m move f choice variable first old new i list pair same within here allowed so_far adds =
     let l : i < length m.pairs = omega (arith, within, ap (λ (xs : List Pair). length xs) same) in
     let read : get_or m.pairs i pair ≡ pair = ap (λ (xs : List Pair). get_or xs i pair) same ∙ get_or_from_slice_get list i pair pair here in
     let P : Pair → Type 0 = λ p. IsRegularPair m move f p in
-    cost_more first old new (λ x. sum_by (unsaved m move f choice variable x) (take i m.pairs)) (λ x. unsaved m move f choice variable x pair)
-    (λ x. sum_by (unsaved m move f choice variable x) (take (i + 1) m.pairs)) so_far (adds (subst P read (allowed i pair l)))
-    (λ x. sum_by_more (unsaved m move f choice variable x) m.pairs i pair l
-    ∙ ap (λ p. sum_by (unsaved m move f choice variable x) (take i m.pairs) + unsaved m move f choice variable x p) read)
+    cost_more first old new (λ x. sum_by (unsaved_surplus m move f choice variable x) (take i m.pairs)) (λ x. unsaved_surplus m move f choice variable x pair)
+    (λ x. sum_by (unsaved_surplus m move f choice variable x) (take (i + 1) m.pairs)) so_far (adds (subst P read (allowed i pair l)))
+    (λ x. sum_by_more (unsaved_surplus m move f choice variable x) m.pairs i pair l
+    ∙ ap (λ p. sum_by (unsaved_surplus m move f choice variable x) (take i m.pairs) + unsaved_surplus m move f choice variable x p) read)
 
 pub savings_all : (m : Instance) (move : Move) (f : ℕ → ℕ) (choice : ℕ → Choice) (variable : ℕ → ℕ) (first now : Quadratic) (i : ℕ) (list : List Pair)
-    → m.pairs ≡ list → length list ≤ i → AddsCost first now (λ x. sum_by (unsaved m move f choice variable x) (take i m.pairs))
-    → AddsCost first now (λ x. sum_by (unsaved m move f choice variable x) m.pairs)
+    → m.pairs ≡ list → length list ≤ i → AddsCost first now (λ x. sum_by (unsaved_surplus m move f choice variable x) (take i m.pairs))
+    → AddsCost first now (λ x. sum_by (unsaved_surplus m move f choice variable x) m.pairs)
 savings_all m move f choice variable first now i list same past adds =
     let count = ap (λ (xs : List Pair). length xs) same in
-    adds_same first now (λ x. sum_by (unsaved m move f choice variable x) (take i m.pairs)) (λ x. sum_by (unsaved m move f choice variable x) m.pairs)
-    (λ x. ap (λ (ps : List Pair). sum_by (unsaved m move f choice variable x) ps) (take_all i m.pairs (omega (arith, past, count)))) adds
+    adds_same first now (λ x. sum_by (unsaved_surplus m move f choice variable x) (take i m.pairs)) (λ x. sum_by (unsaved_surplus m move f choice variable x) m.pairs)
+    (λ x. ap (λ (ps : List Pair). sum_by (unsaved_surplus m move f choice variable x) ps) (take_all i m.pairs (omega (arith, past, count)))) adds
 
 -- ---- all together
 
@@ -234,24 +234,24 @@ weight_counted DecidedOne b y z same = refl
 pub weighted_stands : (m : Instance) (move : Move) (f : ℕ → ℕ) (choices : List Choice) (weights : List ℤ) (first new : Quadratic) → All (IsPair m.sites) m.pairs
     → length choices ≡ m.sites → IsAllowed m move f → AreWeights m move f (choice_at choices) weights
     → IsOfWeights (open_weights choices weights (length choices)) first → vec_len new.weights ≡ vec_len first.weights
-    → AddsCost first new (λ x. sum_by (unsaved m move f (choice_at choices) (rank choices) x) m.pairs)
-    → StandsFor m move f (choice_at choices) new (rank choices)
+    → AddsCost first new (λ x. sum_by (unsaved_surplus m move f (choice_at choices) (open_rank choices) x) m.pairs)
+    → StandsFor m move f (choice_at choices) new (open_rank choices)
 weighted_stands m move f choices weights first new all size allowed are_weights is nodes adds =
     let choice = choice_at choices in
-    let own : ℕ → Bool → ℕ = λ p b. m.data_cost p (label_in move (f p) b) in
+    let own : ℕ → Bool → ℕ = λ p b. m.data_cost p (label_after move (f p) b) in
     let both : Pair → Bool → Bool → ℕ = λ pair a b. pair_entry m move f pair a b in
-    let most : ℕ = sum_by (λ pair. counted (are_open choice pair) (pair_surplus m move f pair)) m.pairs in
+    let most : ℕ = sum_by (λ pair. count_if (are_open choice pair) (pair_surplus m move f pair)) m.pairs in
     record {
       rest = adds.rest +ℤ (open_energy m move f choice (λ p. false) -ℤ pos most);
       site = open_site choices (length choices);
       value = λ x.
-          let law = costs_law m.sites own both choice (λ p. x (rank choices p)) m.pairs all allowed in
+          let law = costs_law m.sites own both choice (λ p. x (open_rank choices p)) m.pairs all allowed in
           let sums = weights_sum choices weights x m.sites in
           let of_weights = form_value (open_weights choices weights (length choices)) first x is in
           let whole = ap (λ n. weights_value (open_weights choices weights n) x) size in
-          let same = int_sum_below-same m.sites (λ u. int_counted (is_open (choice u) && x (rank choices u)) (weight_at weights u))
-          (λ u. int_counted (is_open (choice u) && x (rank choices u)) (open_energy m move f choice (λ p. p == u) -ℤ open_energy m move f choice (λ p. false)))
-          (λ u l. weight_counted (choice u) (x (rank choices u)) _ _ (are_weights u l)) in
+          let same = int_sum_below-same m.sites (λ u. int_counted (is_open (choice u) && x (open_rank choices u)) (weight_at weights u))
+          (λ u. int_counted (is_open (choice u) && x (open_rank choices u)) (open_energy m move f choice (λ p. p == u) -ℤ open_energy m move f choice (λ p. false)))
+          (λ u l. weight_counted (choice u) (x (open_rank choices u)) _ _ (are_weights u l)) in
           omega (arith, ints, law, sums, of_weights, whole, same, adds.value x);
       covers = λ p l opened.
           let within : p < length choices = omega (arith, l, size) in
@@ -265,10 +265,10 @@ chosen_weight : (weights : List ℤ) (b : Bool) (n : ℕ) → map (weight_at wei
 chosen_weight weights true n = refl
 chosen_weight weights false n = refl
 
-listing_weights : (choices : List Choice) (weights : List ℤ) (n : ℕ) → map (weight_at weights) (listing (open_at choices) n) ≡ open_weights choices weights n
+listing_weights : (choices : List Choice) (weights : List ℤ) (n : ℕ) → map (weight_at weights) (rising_sites (open_at choices) n) ≡ open_weights choices weights n
 listing_weights choices weights zero = refl
 listing_weights choices weights (suc n) =
-    map-append (weight_at weights) (listing (open_at choices) n) (cond (open_at choices n) (n ∷ []) [])
+    map-append (weight_at weights) (rising_sites (open_at choices) n) (cond (open_at choices n) (n ∷ []) [])
     ∙ (λ i. listing_weights choices weights n i ++ chosen_weight weights (open_at choices n) n i)
 
 pub listed_weights_are : (choices : List Choice) (weights : List ℤ) (opened : List ℕ) → AreOpenSites choices opened
@@ -276,7 +276,7 @@ pub listed_weights_are : (choices : List Choice) (weights : List ℤ) (opened : 
 listed_weights_are choices weights opened listed =
     ap (λ (xs : List ℕ). map (weight_at weights) xs) listed ∙ listing_weights choices weights (length choices)
 
-met_unsaved : (a b : Bool) (z : ℕ) → counted (a || b) (counted (a && b) z) ≡ counted (a && b) z
+met_unsaved : (a b : Bool) (z : ℕ) → count_if (a || b) (count_if (a && b) z) ≡ count_if (a && b) z
 met_unsaved true b z = refl
 met_unsaved false true z = refl
 met_unsaved false false z = refl
@@ -288,19 +288,19 @@ sum_same f g (x ∷ xs) same = omega (arith, sum_by-cons f x xs, sum_by-cons g x
 -- the pairs of the listed sites are all that save anything
 pub listed_savings : (m : Instance) (move : Move) (f : ℕ → ℕ) (choices : List Choice) (opened : List ℕ) (pairs : PairList) (ends : Neighbours) (first new : Quadratic)
     → m.sites ≡ pairs.sites → m.pairs ≡ pairs.list → All (IsPair m.sites) m.pairs → AreBySite pairs ends → length choices ≡ pairs.sites → AreOpenSites choices opened
-    → AddsCost first new (λ x. sum_by (met_at ends (open_at choices) (unsaved m move f (choice_at choices) (rank choices) x)) opened)
-    → AddsCost first new (λ x. sum_by (unsaved m move f (choice_at choices) (rank choices) x) m.pairs)
+    → AddsCost first new (λ x. sum_by (met_at ends (open_at choices) (unsaved_surplus m move f (choice_at choices) (open_rank choices) x)) opened)
+    → AddsCost first new (λ x. sum_by (unsaved_surplus m move f (choice_at choices) (open_rank choices) x) m.pairs)
 listed_savings m move f choices opened pairs ends first new same_sites same_pairs all by_site size listed adds =
     let P : ℕ → List Pair → Type 0 = λ n ps. All (IsPair n) ps in
     let Q : ℕ → Type 0 = λ n. P n m.pairs in
     let R : List Pair → Type 0 = λ ps. P pairs.sites ps in
     let every = subst R same_pairs (subst Q same_sites all) in
-    let is : opened ≡ listing (open_at choices) pairs.sites = listed ∙ ap (λ k. listing (open_at choices) k) size in
-    adds_same first new (λ x. sum_by (met_at ends (open_at choices) (unsaved m move f (choice_at choices) (rank choices) x)) opened)
-    (λ x. sum_by (unsaved m move f (choice_at choices) (rank choices) x) m.pairs)
-    (λ x. (let value : Pair → ℕ = unsaved m move f (choice_at choices) (rank choices) x in
+    let is : opened ≡ rising_sites (open_at choices) pairs.sites = listed ∙ ap (λ k. rising_sites (open_at choices) k) size in
+    adds_same first new (λ x. sum_by (met_at ends (open_at choices) (unsaved_surplus m move f (choice_at choices) (open_rank choices) x)) opened)
+    (λ x. sum_by (unsaved_surplus m move f (choice_at choices) (open_rank choices) x) m.pairs)
+    (λ x. (let value : Pair → ℕ = unsaved_surplus m move f (choice_at choices) (open_rank choices) x in
     ap (λ (xs : List ℕ). sum_by (met_at ends (open_at choices) value) xs) is
     ∙ pairs_are_met_once pairs ends (open_at choices) value every by_site
-    ∙ sum_same (λ (pair : Pair). counted (has_chosen (open_at choices) pair) (value pair)) value pairs.list
+    ∙ sum_same (λ (pair : Pair). count_if (has_chosen (open_at choices) pair) (value pair)) value pairs.list
     (λ pair. met_unsaved (open_at choices pair.first) (open_at choices pair.second) _)
     ∙ ap (λ (ps : List Pair). sum_by value ps) (sym same_pairs))) adds

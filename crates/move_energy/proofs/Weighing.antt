@@ -7,7 +7,7 @@ use Rattle.std.proofs.lemmas.Bool.{cases_eq}
 use Rattle.std.proofs.lemmas.Bool.Decides.{nat_tests}
 use Rattle.std.proofs.lemmas.List.Elements.{All-head, All-tail}
 use Rattle.std.proofs.lemmas.List.Sums.{sum_by-cons}
-use Rattle.sums.specs.Sums.{sum_below, counted}
+use Rattle.sums.specs.Sums.{sum_below, count_if}
 use Rattle.sums.specs.IntegerSums.{int_sum_below, int_counted}
 use Rattle.sums.proofs.SumLemmas.{sum_below-change}
 use Rattle.sums.proofs.IntegerSumLemmas.{int_sum_below-zero, int_sum_below-change}
@@ -117,11 +117,11 @@ abbrev surplus_in : (Bool → Bool → ℕ) → ℕ
 surplus_in g = g false true + g true false - (g false false + g true true)
 
 pair_law : (c d : Choice) (g : Bool → Bool → ℕ) (s t : Bool) → g false false + g true true ≤ g false true + g true false
-    → pos (g (bit_of c s) (bit_of d t)) +ℤ pos (counted (is_open c && is_open d) (surplus_in g))
+    → pos (g (bit_of c s) (bit_of d t)) +ℤ pos (count_if (is_open c && is_open d) (surplus_in g))
     ≡ pos (g (bit_of c false) (bit_of d false))
     +ℤ int_counted (is_open c && s) (pos (g (bit_of c true) (bit_of d false)) -ℤ pos (g (bit_of c false) (bit_of d false)))
     +ℤ int_counted (is_open d && t) (pos (g (bit_of c false) (bit_of d true)) -ℤ pos (g (bit_of c false) (bit_of d false)))
-    +ℤ pos (counted (is_open c && is_open d) (counted (not (s && t)) (surplus_in g)))
+    +ℤ pos (count_if (is_open c && is_open d) (count_if (not (s && t)) (surplus_in g)))
 pair_law Open Open g true true h = omega (arith, ints, h)
 pair_law Open Open g true false h = omega (arith, ints)
 pair_law Open Open g false true h = omega (arith, ints)
@@ -165,10 +165,10 @@ counted_parts false y z = omega (arith, ints)
 -- ---- all together
 
 abbrev saved_at_most : (Pair → Bool → Bool → ℕ) → (ℕ → Choice) → List Pair → ℕ
-saved_at_most both choice ps = sum_by (λ pair. counted (are_open choice pair) (surplus_in (both pair))) ps
+saved_at_most both choice ps = sum_by (λ pair. count_if (are_open choice pair) (surplus_in (both pair))) ps
 
 abbrev unsaved_in : (Pair → Bool → Bool → ℕ) → (ℕ → Choice) → (ℕ → Bool) → List Pair → ℕ
-unsaved_in both choice x ps = sum_by (λ pair. counted (are_open choice pair) (counted (not (x pair.first && x pair.second)) (surplus_in (both pair)))) ps
+unsaved_in both choice x ps = sum_by (λ pair. count_if (are_open choice pair) (count_if (not (x pair.first && x pair.second)) (surplus_in (both pair)))) ps
 
 abbrev ones_rise : ℕ → (ℕ → Bool → ℕ) → (Pair → Bool → Bool → ℕ) → (ℕ → Choice) → (ℕ → Bool) → List Pair → ℤ
 ones_rise n own both choice x ps = int_sum_below n (λ u. int_counted (is_one choice x u) (own_rise n own both choice ps u))
@@ -214,6 +214,6 @@ costs_law n own both choice x (pair ∷ ps) all regular =
       ones_more n own both choice x pair ps,
       sum_by-cons (λ (p : Pair). both p (valued choice x p.first) (valued choice x p.second)) pair ps,
       sum_by-cons (λ (p : Pair). both p (zeros choice p.first) (zeros choice p.second)) pair ps,
-      sum_by-cons (λ (p : Pair). counted (are_open choice p) (surplus_in (both p))) pair ps,
-      sum_by-cons (λ (p : Pair). counted (are_open choice p) (counted (not (x p.first && x p.second)) (surplus_in (both p)))) pair ps,
+      sum_by-cons (λ (p : Pair). count_if (are_open choice p) (surplus_in (both p))) pair ps,
+      sum_by-cons (λ (p : Pair). count_if (are_open choice p) (count_if (not (x p.first && x p.second)) (surplus_in (both p)))) pair ps,
     )

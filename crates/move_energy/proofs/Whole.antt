@@ -8,7 +8,7 @@ use Rattle.label_field.specs.declared.pair.Pair.{Pair}
 use Rattle.label_field.specs.PairLists.{IsPair}
 use Rattle.labellings.specs.declared.change.Move.{Move}
 use Rattle.labellings.specs.Energies.{Instance, IsInstance, labelling}
-use Rattle.labellings.specs.Moves.{label_in, IsRegularPair}
+use Rattle.labellings.specs.Moves.{label_after, IsRegularPair}
 use Rattle.labellings.proofs.Reaching.{cases_label_in}
 use Rattle.move_energy.specs.declared.building.MoveEnergy.{MoveEnergy}
 use Rattle.move_energy.specs.declared.choice.Choice.{Choice}
@@ -60,16 +60,16 @@ open_all move f choices n all below = record {
 }
 
 -- a pair of which the move cannot change one end makes a regular term
-fixed_first : (m : Instance) (move : Move) (f : ℕ → ℕ) (pair : Pair) → label_in move (f pair.first) true ≡ label_in move (f pair.first) false → IsRegularPair m move f pair
+fixed_first : (m : Instance) (move : Move) (f : ℕ → ℕ) (pair : Pair) → label_after move (f pair.first) true ≡ label_after move (f pair.first) false → IsRegularPair m move f pair
 fixed_first m move f pair fixed =
-    let p = ap (λ l. pair.weight * m.smooth_cost l (label_in move (f pair.second) true)) fixed in
-    let q = ap (λ l. pair.weight * m.smooth_cost l (label_in move (f pair.second) false)) fixed in
+    let p = ap (λ l. pair.weight * m.smooth_cost l (label_after move (f pair.second) true)) fixed in
+    let q = ap (λ l. pair.weight * m.smooth_cost l (label_after move (f pair.second) false)) fixed in
     omega (arith, p, q)
 
-fixed_second : (m : Instance) (move : Move) (f : ℕ → ℕ) (pair : Pair) → label_in move (f pair.second) true ≡ label_in move (f pair.second) false → IsRegularPair m move f pair
+fixed_second : (m : Instance) (move : Move) (f : ℕ → ℕ) (pair : Pair) → label_after move (f pair.second) true ≡ label_after move (f pair.second) false → IsRegularPair m move f pair
 fixed_second m move f pair fixed =
-    let p = ap (λ l. pair.weight * m.smooth_cost (label_in move (f pair.first) true) l) fixed in
-    let q = ap (λ l. pair.weight * m.smooth_cost (label_in move (f pair.first) false) l) fixed in
+    let p = ap (λ l. pair.weight * m.smooth_cost (label_after move (f pair.first) true) l) fixed in
+    let q = ap (λ l. pair.weight * m.smooth_cost (label_after move (f pair.first) false) l) fixed in
     omega (arith, p, q)
 
 -- so where the open sites are those that it can change, the pairs with two open ends are all that matter

@@ -9,12 +9,13 @@ use Rattle.move_energy.specs.declared.listed_pairs.Adds.{Adds}
 use Rattle.move_energy.specs.declared.listed_pairs.Adds.TheVariants.{Costs, Savings}
 use Rattle.move_energy.specs.Choices.{made_by}
 use Rattle.move_energy.specs.Problems.{IsFitPair}
-use Rattle.move_energy.specs.Weights.{unsaved}
+use Rattle.move_energy.specs.Weights.{unsaved_surplus}
 
 -- what a pair adds: what it costs, or what of its surplus is not saved
-abbrev pub added : Adds → Instance → Move → (ℕ → ℕ) → (ℕ → Choice) → (ℕ → ℕ) → (ℕ → Bool) → Pair → ℕ
-added Costs m move f choice variable x = pair_cost m (made_by move f choice variable x)
-added Savings m move f choice variable x = unsaved m move f choice variable x
+abbrev pub added_by_pair : Adds → Instance → Move → (ℕ → ℕ) → (ℕ → Choice) → (ℕ → ℕ)
+    → (ℕ → Bool) → Pair → ℕ
+added_by_pair Costs m move f choice variable x = pair_cost m (made_by move f choice variable x)
+added_by_pair Savings m move f choice variable x = unsaved_surplus m move f choice variable x
 
 -- the pair's term is right for that: regular, and for costs only if both of its ends are open
 abbrev pub IsRightFor : Adds → Instance → Move → (ℕ → ℕ) → (ℕ → Choice) → Pair → Type 0

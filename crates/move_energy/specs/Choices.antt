@@ -5,7 +5,7 @@ use Rattle.sums.specs.Sums.{sum_below}
 use Rattle.move_energy.specs.BySite.{IsListing}
 use Rattle.labellings.specs.declared.change.Move.{Move}
 use Rattle.labellings.specs.Energies.{Instance, labelling, plain_energy}
-use Rattle.labellings.specs.Moves.{label_in, made}
+use Rattle.labellings.specs.Moves.{label_after, labelling_made}
 use Rattle.pseudo_bool.specs.Energies.{assignment}
 use Rattle.compile_cut.specs.declared.quadratic.Quadratic.{Quadratic}
 use Rattle.compile_cut.specs.Quadratics.{quadratic_value}
@@ -24,7 +24,7 @@ choice_at choices p = slice_index_or choices p Zero
 
 -- can the move change this label?
 abbrev pub Changes : Move → ℕ → Type 0
-Changes move old = label_in move old true ≢ label_in move old false
+Changes move old = label_after move old true ≢ label_after move old false
 
 -- nothing is decided: exactly the sites that the move can change are open, and no other is at 1
 pub record AreAllOpen (move : Move) (f : List ℕ) (choices : List Choice) : Type 0 where
@@ -39,19 +39,19 @@ openness Zero = 0
 openness One = 0
 
 -- how many of the first n choices are open
-abbrev pub rank : List Choice → ℕ → ℕ
-rank choices n = sum_below n (λ p. openness (choice_at choices p))
+abbrev pub open_rank : List Choice → ℕ → ℕ
+open_rank choices n = sum_below n (λ p. openness (choice_at choices p))
 
 -- how many choices are open
 abbrev pub open_count : List Choice → ℕ
-open_count choices = rank choices (length choices)
+open_count choices = open_rank choices (length choices)
 
 -- the variable of an open site is the number of the open sites before it; what stands at the others
 -- means nothing
 pub record IsNumbering (choices : List Choice) (variables : List ℕ) : Type 0 where
   pub count : length variables ≡ length choices
   pub each : (p : ℕ) → p < length choices → choice_at choices p ≡ Open → labelling variables p
-      ≡ rank choices p
+      ≡ open_rank choices p
 
 -- is nothing known of the variable?
 abbrev pub is_open : Choice → Bool
@@ -74,7 +74,7 @@ choice_of false = Zero
 
 -- the value of each site's variable: what was decided, else the bit of its rank
 abbrev pub value_of : List Choice → List Bool → ℕ → Bool
-value_of choices bits p = bit_of (choice_at choices p) (assignment bits (rank choices p))
+value_of choices bits p = bit_of (choice_at choices p) (assignment bits (open_rank choices p))
 
 -- each choice has its value, and none is open
 pub record AreSettled (old : List Choice) (bits : List Bool) (new : List Choice) : Type 0 where
@@ -83,7 +83,7 @@ pub record AreSettled (old : List Choice) (bits : List Bool) (new : List Choice)
 
 -- the labelling that an assignment and what was decided make
 abbrev pub made_by : Move → (ℕ → ℕ) → (ℕ → Choice) → (ℕ → ℕ) → (ℕ → Bool) → ℕ → ℕ
-made_by move f choice variable x = made move f (λ p. bit_of (choice p) (x (variable p)))
+made_by move f choice variable x = labelling_made move f (λ p. bit_of (choice p) (x (variable p)))
 
 -- the form stands for the partly decided move from f: but for a fixed number, its value at each assignment
 -- is what the labels that the assignment and what was decided make cost the sites and the pairs. `variable` is each

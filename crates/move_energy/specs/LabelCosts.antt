@@ -1,14 +1,14 @@
 -- What labels cost by themselves in an expansion of which nothing is decided.
 use Rattle.std.specs.Prelude.{◌≡◌, ◌++◌, ℕ, zero, suc, ◌+◌, ◌<◌, ◌≤◌, Bool, cond, List, [], ◌∷◌, length, ℤ, pos, ◌+ℤ◌, ◌≤ℤ◌, vec_len}
-use Rattle.sums.specs.Sums.{sum_below, counted}
+use Rattle.sums.specs.Sums.{sum_below, count_if}
 use Rattle.labellings.specs.declared.change.Move.TheVariants.{Expand}
 use Rattle.labellings.specs.Energies.{Instance, labelling, is_used}
 use Rattle.cost_store.specs.LabelCosts.{cost_at}
 use Rattle.compile_cut.specs.declared.quadratic.Quadratic.{Quadratic}
 use Rattle.compile_cut.specs.Shown.{Shows}
-use Rattle.compile_cut.specs.Quadratics.{quadratic_value, IsBounded}
+use Rattle.compile_cut.specs.Quadratics.{quadratic_value, IsQuadraticBounded}
 use Rattle.move_energy.specs.declared.choice.Choice.{Choice}
-use Rattle.move_energy.specs.Choices.{choice_at, rank, made_by}
+use Rattle.move_energy.specs.Choices.{choice_at, open_rank, made_by}
 
 -- the costs are the problem's, one for each label
 pub record AreCostsOf (m : Instance) (costs : List ℤ) : Type 0 where
@@ -18,17 +18,17 @@ pub record AreCostsOf (m : Instance) (costs : List ℤ) : Type 0 where
 -- the nodes of the chosen ones of the first n sites
 abbrev pub nodes_of : (ℕ → Bool) → List Choice → ℕ → List ℕ
 nodes_of chosen choices zero = []
-nodes_of chosen choices (suc n) = nodes_of chosen choices n ++ cond (chosen n) (rank choices n ∷ []) []
+nodes_of chosen choices (suc n) = nodes_of chosen choices n ++ cond (chosen n) (open_rank choices n ∷ []) []
 
 -- does some site have the label, once the open sites have these values?
 abbrev pub uses : ℕ → List ℕ → List Choice → ℕ → (ℕ → Bool) → Bool
 uses alpha f choices label x =
-    is_used (length f) (made_by (Expand alpha) (labelling f) (choice_at choices) (rank choices) x) label
+    is_used (length f) (made_by (Expand alpha) (labelling f) (choice_at choices) (open_rank choices) x) label
 
 -- what the first n labels cost by themselves then
 abbrev pub costs_below : ℕ → ℕ → List ℕ → List Choice → List ℤ → (ℕ → Bool) → ℕ
 costs_below n alpha f choices costs x =
-    sum_below n (λ label. counted (uses alpha f choices label x) (cost_at costs label))
+    sum_below n (λ label. count_if (uses alpha f choices label x) (cost_at costs label))
 
 -- of the sets that are the same on the old nodes, the least new value is, but for a fixed number, the old one and a cost
 pub record AddsHidden (old new : Quadratic) (cost : (ℕ → Bool) → ℕ) : Type 0 where
@@ -42,4 +42,4 @@ pub record AddsHidden (old new : Quadratic) (cost : (ℕ → Bool) → ℕ) : Ty
 -- at most so many nodes and terms more
 pub record GrowsBy (more terms : ℕ) (old new : Quadratic) : Type 0 where
   pub nodes : vec_len new.weights ≤ vec_len old.weights + more
-  pub bounded : (k : ℕ) → IsBounded k old → IsBounded (k + terms) new
+  pub bounded : (k : ℕ) → IsQuadraticBounded k old → IsQuadraticBounded (k + terms) new

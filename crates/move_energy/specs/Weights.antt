@@ -1,10 +1,10 @@
 -- What the open sites of a partly decided move weigh, and what pairs of two of them save.
 use Rattle.std.specs.Prelude.{◌≡◌, ◌==◌, ◌&&◌, ◌++◌, ◌∷◌, [], ℕ, zero, suc, ◌+◌, ◌-◌, ◌<◌, Bool, true, false, not, cond, List, slice_index_or, ℤ, pos, ◌+ℤ◌, ◌-ℤ◌}
-use Rattle.sums.specs.Sums.{counted}
+use Rattle.sums.specs.Sums.{count_if}
 use Rattle.label_field.specs.declared.pair.Pair.{Pair}
 use Rattle.labellings.specs.declared.change.Move.{Move}
 use Rattle.labellings.specs.Energies.{Instance, plain_energy}
-use Rattle.labellings.specs.Moves.{made, pair_entry}
+use Rattle.labellings.specs.Moves.{labelling_made, pair_entry}
 use Rattle.pseudo_bool.specs.Energies.{entry}
 use Rattle.compile_cut.specs.declared.quadratic.Quadratic.{Quadratic}
 use Rattle.move_energy.specs.declared.choice.Choice.{Choice}
@@ -17,7 +17,8 @@ weight_at weights p = slice_index_or weights p (pos 0)
 
 -- what the sites and the pairs cost where the open sites have these values
 abbrev pub open_energy : Instance → Move → (ℕ → ℕ) → (ℕ → Choice) → (ℕ → Bool) → ℤ
-open_energy m move f choice x = pos (plain_energy m (made move f (λ p. bit_of (choice p) (x p))))
+open_energy m move f choice x =
+    pos (plain_energy m (labelling_made move f (λ p. bit_of (choice p) (x p))))
 
 -- the weight of each open site is by how much that rises where this site turns from 0 to 1, every other open one
 -- being at 0
@@ -37,10 +38,11 @@ abbrev pub are_open : (ℕ → Choice) → Pair → Bool
 are_open choice pair = is_open (choice pair.first) && is_open (choice pair.second)
 
 -- what of the surplus of a pair of two open sites is not saved: all of it, unless both are at 1
-abbrev pub unsaved : Instance → Move → (ℕ → ℕ) → (ℕ → Choice) → (ℕ → ℕ) → (ℕ → Bool) → Pair → ℕ
-unsaved m move f choice variable x pair =
-    counted (are_open choice pair)
-    (counted (not (x (variable pair.first) && x (variable pair.second))) (pair_surplus m move f pair))
+abbrev pub unsaved_surplus : Instance → Move → (ℕ → ℕ) → (ℕ → Choice) → (ℕ → ℕ)
+    → (ℕ → Bool) → Pair → ℕ
+unsaved_surplus m move f choice variable x pair =
+    count_if (are_open choice pair)
+    (count_if (not (x (variable pair.first) && x (variable pair.second))) (pair_surplus m move f pair))
 
 -- the weights of the open ones of the first n sites
 abbrev pub open_weights : List Choice → List ℤ → ℕ → List ℤ
@@ -55,8 +57,8 @@ pub record IsOfWeights (weights : List ℤ) (q : Quadratic) : Type 0 where
   pub arcs : q.arcs.items ≡ []
 
 -- what a pair costs at the values 00, 01, 10 and 11 of its ends
-abbrev pub term_of : Instance → Move → (ℕ → ℕ) → Pair → List ℤ
-term_of m move f pair =
+abbrev pub pair_table : Instance → Move → (ℕ → ℕ) → Pair → List ℤ
+pair_table m move f pair =
     pos (pair_entry m move f pair false false) ∷ pos (pair_entry m move f pair false true)
     ∷ pos (pair_entry m move f pair true false) ∷ pos (pair_entry m move f pair true true) ∷ []
 

@@ -3,13 +3,13 @@ ghost use Rattle.std.specs.Prelude.{◌≡◌, ◌<◌, ◌≤◌, ◌*◌, ◌�
 ghost use Rattle.label_field.specs.Limits.{weight_limit};
 ghost use Rattle.label_field.specs.PairLists.{IsPair};
 ghost use Rattle.labellings.specs.Energies.{labelling};
-ghost use Rattle.labellings.specs.Moves.{label_in, IsMoveOf};
+ghost use Rattle.labellings.specs.Moves.{label_after, IsMoveOf};
 ghost use Rattle.pseudo_bool.specs.Energies.{IsWithin};
 ghost use Rattle.cost_store.specs.Promises.{IsCost};
-ghost use Rattle.cost_store.specs.Posed.{IsPosed, IsAsked, Meant};
+ghost use Rattle.cost_store.specs.Posed.{IsPosed, IsAsked, WhereMeant};
 ghost use Rattle.cost_store.specs.Limits.{pair_cost_limit};
 ghost use Rattle.move_energy.specs.Limits.{surplus_limit};
-ghost use Rattle.move_energy.specs.Weights.{surplus_of, term_of};
+ghost use Rattle.move_energy.specs.Weights.{surplus_of, pair_table};
 
 use cost_store::Problem;
 use label_field::Pair;
@@ -35,10 +35,10 @@ impl Known {
         requires posed { IsPosed F.Fn V.Fn problem.now }
         requires weight { weight ≤ weight_limit }
         requires inside { (first < problem.now.data_cost.labels) × (second < problem.now.data_cost.labels) }
-        requires known { Meant F.Fn V.Fn problem.now (λ m. self.cost ≡ pos
+        requires known { WhereMeant F.Fn V.Fn problem.now (λ m. self.cost ≡ pos
             (weight * m.smooth_cost self.first self.second)) }
         requires range { (pos 0 ≤ℤ self.cost) × (self.cost ≤ℤ pos pair_cost_limit) }
-        ensures cost { Meant F.Fn V.Fn problem.now (λ m. result ≡ pos (weight * m.smooth_cost first second)) }
+        ensures cost { WhereMeant F.Fn V.Fn problem.now (λ m. result ≡ pos (weight * m.smooth_cost first second)) }
         ensures range { (pos 0 ≤ℤ result) × (result ≤ℤ pos pair_cost_limit) }
     {
         if first == self.first && second == self.second {
@@ -59,8 +59,8 @@ impl Turn {
     /// The labels that a move gives an end of this label.
     fn of(change: Move, label: u32) -> Turn
         ensures { result ≡ record {
-          stays = label_in change label false;
-          turns = label_in change label true;
+          stays = label_after change label false;
+          turns = label_after change label true;
         } }
     {
         Turn {
@@ -83,7 +83,7 @@ fn corner_costs<F: Fn(u32, u32) -> i64 + Sync, V: Fn(u32, u32) -> i64 + Sync>(
         (first.turns < problem.now.data_cost.labels) }
     requires second { (second.stays < problem.now.data_cost.labels) ×
         (second.turns < problem.now.data_cost.labels) }
-    ensures table { Meant F.Fn V.Fn problem.now (λ m. result ≡ pos (weight * m.smooth_cost first.stays
+    ensures table { WhereMeant F.Fn V.Fn problem.now (λ m. result ≡ pos (weight * m.smooth_cost first.stays
         second.stays) ∷ pos (weight * m.smooth_cost first.stays second.turns) ∷ pos (weight * m.smooth_cost
         first.turns second.stays) ∷ pos (weight * m.smooth_cost first.turns second.turns) ∷ []) }
     ensures range { All (IsCost (pos pair_cost_limit)) result }
@@ -117,11 +117,13 @@ pub fn pair_table<F: Fn(u32, u32) -> i64 + Sync, V: Fn(u32, u32) -> i64 + Sync>(
     requires weight { weight ≤ weight_limit }
     requires inside { (first < problem.now.data_cost.labels) × (second < problem.now.data_cost.labels) }
     requires change { IsMoveOf problem.now.data_cost.labels change }
-    ensures table { Meant F.Fn V.Fn problem.now (λ m. result ≡ pos (weight * m.smooth_cost
-        (label_in change first false) (label_in change second false))
-        ∷ pos (weight * m.smooth_cost (label_in change first false) (label_in change second true))
-        ∷ pos (weight * m.smooth_cost (label_in change first true) (label_in change second false))
-        ∷ pos (weight * m.smooth_cost (label_in change first true) (label_in change second true)) ∷ []) }
+    ensures table { WhereMeant F.Fn V.Fn problem.now (λ m. result ≡ pos (weight * m.smooth_cost
+        (label_after change first false) (label_after change second false))
+        ∷ pos (weight * m.smooth_cost (label_after change first false)
+        (label_after change second true))
+        ∷ pos (weight * m.smooth_cost (label_after change first true)
+        (label_after change second false))
+        ∷ pos (weight * m.smooth_cost (label_after change first true) (label_after change second true)) ∷ []) }
     ensures range { All (IsCost (pos pair_cost_limit)) result }
     ensures within { All (IsWithin pair_cost_limit) result }
 {
@@ -143,7 +145,7 @@ pub fn term<F: Fn(u32, u32) -> i64 + Sync, V: Fn(u32, u32) -> i64 + Sync>(
     requires posed { IsPosed F.Fn V.Fn problem.now }
     requires pair { IsPair (length at.now) pair }
     requires asked { IsAsked problem.now at.now change }
-    ensures table { Meant F.Fn V.Fn problem.now (λ m. result ≡ term_of m change (labelling at.now) pair) }
+    ensures table { WhereMeant F.Fn V.Fn problem.now (λ m. result ≡ pair_table m change (labelling at.now) pair) }
     ensures range { All (IsCost (pos pair_cost_limit)) result }
     ensures size { length result ≡ 4 }
 {

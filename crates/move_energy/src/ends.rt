@@ -1,10 +1,10 @@
 //! The term of a pair of two sites.
 ghost use Rattle.std.specs.Prelude.{◌≡◌, ◌<◌, ◌≤◌, ◌*◌, ℕ, vec_len, IfOk, OnOk};
 ghost use Rattle.label_field.specs.Limits.{weight_limit};
-ghost use Rattle.labellings.specs.Moves.{label_in, IsMoveOf};
+ghost use Rattle.labellings.specs.Moves.{label_after, IsMoveOf};
 ghost use Rattle.pseudo_bool.specs.Limits.{term_limit};
-ghost use Rattle.compile_cut.specs.Quadratics.{IsBounded};
-ghost use Rattle.cost_store.specs.Posed.{IsPosed, Meant};
+ghost use Rattle.compile_cut.specs.Quadratics.{IsQuadraticBounded};
+ghost use Rattle.cost_store.specs.Posed.{IsPosed, WhereMeant};
 ghost use Rattle.move_energy.specs.declared.choice.Choice.TheVariants.{Open};
 ghost use Rattle.move_energy.specs.Built.{AddsCost, AddsEnds, IsLonger};
 
@@ -33,9 +33,9 @@ fn add_both<F: Fn(u32, u32) -> i64 + Sync, V: Fn(u32, u32) -> i64 + Sync>(
     requires opened { (first.choice ≡ Open) × (second.choice ≡ Open) }
     requires variables { (first.variable < vec_len form.old.weights)
         × (second.variable < vec_len form.old.weights) }
-    requires bounded { IsBounded term_limit form.old }
+    requires bounded { IsQuadraticBounded term_limit form.old }
     ensures longer { OnOk result (IsLonger 1 form.old form.new) }
-    ensures adds { IfOk result (λ fits. Meant F.Fn V.Fn problem.now
+    ensures adds { IfOk result (λ fits. WhereMeant F.Fn V.Fn problem.now
         (λ m. AddsEnds weight m.smooth_cost change first second form.old form.new fits)) }
 {
     let table = pair_table(problem, change, weight, first.label, second.label);
@@ -60,10 +60,10 @@ fn add_first<F: Fn(u32, u32) -> i64 + Sync, V: Fn(u32, u32) -> i64 + Sync>(
     requires inside { (end.label < problem.now.data_cost.labels) × (other < problem.now.data_cost.labels) }
     requires change { IsMoveOf problem.now.data_cost.labels change }
     requires variable { end.variable < vec_len form.old.weights }
-    requires bounded { IsBounded term_limit form.old }
+    requires bounded { IsQuadraticBounded term_limit form.old }
     ensures longer { IsLonger 1 form.old form.new }
-    ensures adds { Meant F.Fn V.Fn problem.now (λ m. AddsCost form.old form.new (λ x. weight * m.smooth_cost
-        (label_in change end.label (x end.variable)) other)) }
+    ensures adds { WhereMeant F.Fn V.Fn problem.now (λ m. AddsCost form.old form.new (λ x. weight * m.smooth_cost
+        (label_after change end.label (x end.variable)) other)) }
 {
     let stays = problem.pair_cost(weight, change.label(end.label, false), other);
     let turns = problem.pair_cost(weight, change.label(end.label, true), other);
@@ -84,10 +84,10 @@ fn add_second<F: Fn(u32, u32) -> i64 + Sync, V: Fn(u32, u32) -> i64 + Sync>(
     requires inside { (end.label < problem.now.data_cost.labels) × (other < problem.now.data_cost.labels) }
     requires change { IsMoveOf problem.now.data_cost.labels change }
     requires variable { end.variable < vec_len form.old.weights }
-    requires bounded { IsBounded term_limit form.old }
+    requires bounded { IsQuadraticBounded term_limit form.old }
     ensures longer { IsLonger 1 form.old form.new }
-    ensures adds { Meant F.Fn V.Fn problem.now (λ m. AddsCost form.old form.new (λ x. weight * m.smooth_cost
-        other (label_in change end.label (x end.variable)))) }
+    ensures adds { WhereMeant F.Fn V.Fn problem.now (λ m. AddsCost form.old form.new (λ x. weight * m.smooth_cost
+        other (label_after change end.label (x end.variable)))) }
 {
     let stays = problem.pair_cost(weight, other, change.label(end.label, false));
     let turns = problem.pair_cost(weight, other, change.label(end.label, true));
@@ -110,9 +110,9 @@ pub fn add_ends<F: Fn(u32, u32) -> i64 + Sync, V: Fn(u32, u32) -> i64 + Sync>(
     requires change { IsMoveOf problem.now.data_cost.labels change }
     requires first { first.choice ≡ Open → first.variable < vec_len form.old.weights }
     requires second { second.choice ≡ Open → second.variable < vec_len form.old.weights }
-    requires bounded { IsBounded term_limit form.old }
+    requires bounded { IsQuadraticBounded term_limit form.old }
     ensures longer { OnOk result (IsLonger 1 form.old form.new) }
-    ensures adds { IfOk result (λ fits. Meant F.Fn V.Fn problem.now
+    ensures adds { IfOk result (λ fits. WhereMeant F.Fn V.Fn problem.now
         (λ m. AddsEnds weight m.smooth_cost change first second form.old form.new fits)) }
 {
     if first.choice.is_open() {

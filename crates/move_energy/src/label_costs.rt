@@ -1,12 +1,12 @@
 //! What labels cost by themselves, added to the form of an expansion.
 ghost use Rattle.std.specs.Prelude.{◌≡◌, ◌≢◌, ◌+◌, ◌<◌, ◌≤◌, ℕ, Bool, pos, All, length, vec_len, OnOk};
-ghost use Rattle.sums.specs.Sums.{counted};
+ghost use Rattle.sums.specs.Sums.{count_if};
 ghost use Rattle.label_field.specs.Limits.{site_limit, pair_limit, label_limit};
 ghost use Rattle.labellings.specs.declared.change.Move.TheVariants.{Expand};
 ghost use Rattle.labellings.specs.Energies.{labelling, is_used};
 ghost use Rattle.pseudo_bool.specs.Limits.{term_limit};
 ghost use Rattle.compile_cut.specs.Limits.{form_nodes};
-ghost use Rattle.compile_cut.specs.Quadratics.{IsBounded};
+ghost use Rattle.compile_cut.specs.Quadratics.{IsQuadraticBounded};
 ghost use Rattle.cost_store.specs.Promises.{IsCost};
 ghost use Rattle.move_energy.specs.Choices.{open_count, AreAllOpen, IsNumbering};
 ghost use Rattle.cost_store.specs.Limits.{label_cost_limit};
@@ -36,10 +36,10 @@ fn add_own(
     requires cost { cost ≤ label_cost_limit }
     requires nodes { open_count variables.now.choices.items ≤ vec_len form.old.weights }
     requires room { vec_len form.old.weights < form_nodes }
-    requires bounded { IsBounded term_limit form.old }
+    requires bounded { IsQuadraticBounded term_limit form.old }
     ensures wider { OnOk result (GrowsBy 1 label_terms form.old form.new) }
     ensures adds { OnOk result (AddsHidden form.old form.new
-        (λ x. counted (uses alpha at.now variables.now.choices.items alpha x) cost)) }
+        (λ x. count_if (uses alpha at.now variables.now.choices.items alpha x) cost)) }
 {
     if used {
         return Ok(());
@@ -68,10 +68,10 @@ fn add_other(
     requires cost { cost ≤ label_cost_limit }
     requires nodes { open_count variables.now.choices.items ≤ vec_len form.old.weights }
     requires room { vec_len form.old.weights < form_nodes }
-    requires bounded { IsBounded term_limit form.old }
+    requires bounded { IsQuadraticBounded term_limit form.old }
     ensures wider { OnOk result (GrowsBy 1 label_terms form.old form.new) }
     ensures adds { OnOk result (AddsHidden form.old form.new
-        (λ x. counted (uses alpha at.now variables.now.choices.items label x) cost)) }
+        (λ x. count_if (uses alpha at.now variables.now.choices.items label x) cost)) }
 {
     if !used {
         return Ok(());
@@ -98,10 +98,10 @@ fn add_label(
     requires cost { cost ≤ label_cost_limit }
     requires nodes { open_count variables.now.choices.items ≤ vec_len form.old.weights }
     requires room { vec_len form.old.weights < form_nodes }
-    requires bounded { IsBounded term_limit form.old }
+    requires bounded { IsQuadraticBounded term_limit form.old }
     ensures wider { OnOk result (GrowsBy 1 label_terms form.old form.new) }
     ensures adds { OnOk result (AddsHidden form.old form.new
-        (λ x. counted (uses alpha at.now variables.now.choices.items label x) cost)) }
+        (λ x. count_if (uses alpha at.now variables.now.choices.items label x) cost)) }
 {
     if cost == 0 {
         return Ok(());
@@ -129,9 +129,9 @@ pub fn add_label_costs(
     requires few { (length at.now ≤ site_limit) × (length costs.now ≤ label_limit) }
     requires costs { All (IsCost (pos label_cost_limit)) costs.now }
     requires nodes { vec_len form.old.weights ≡ open_count variables.now.choices.items }
-    requires bounded { IsBounded (site_limit + pair_limit) form.old }
+    requires bounded { IsQuadraticBounded (site_limit + pair_limit) form.old }
     ensures nodes { OnOk result (vec_len form.new.weights ≤ vec_len form.old.weights + label_limit) }
-    ensures bounded { OnOk result (IsBounded term_limit form.new) }
+    ensures bounded { OnOk result (IsQuadraticBounded term_limit form.new) }
     ensures adds { OnOk result (AddsHidden form.old form.new
         (costs_below (length costs.now) alpha at.now variables.now.choices.items costs.now)) }
 {

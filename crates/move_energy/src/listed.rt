@@ -4,9 +4,9 @@ ghost use Rattle.label_field.specs.Limits.{site_limit};
 ghost use Rattle.move_energy.specs.BySite.{AreBySite};
 ghost use Rattle.labellings.specs.Energies.{labelling};
 ghost use Rattle.pseudo_bool.specs.Limits.{term_limit};
-ghost use Rattle.compile_cut.specs.Quadratics.{IsBounded};
-ghost use Rattle.cost_store.specs.Posed.{IsPosed, IsAsked, Meant};
-ghost use Rattle.move_energy.specs.Choices.{choice_at, rank, open_count, made_by, IsNumbering, AreOpenSites};
+ghost use Rattle.compile_cut.specs.Quadratics.{IsQuadraticBounded};
+ghost use Rattle.cost_store.specs.Posed.{IsPosed, IsAsked, WhereMeant};
+ghost use Rattle.move_energy.specs.Choices.{choice_at, open_rank, open_count, made_by, IsNumbering, AreOpenSites};
 ghost use Rattle.move_energy.specs.Built.{AddsCost, IsLonger};
 ghost use Rattle.move_energy.specs.Problems.{IsFitPair, Stands};
 
@@ -33,13 +33,13 @@ fn add_listed_sites<F: Fn(u32, u32) -> i64 + Sync, V: Fn(u32, u32) -> i64 + Sync
     requires choices { length variables.now.choices.items ≡ length at.now }
     requires numbering { IsNumbering variables.now.choices.items variables.now.of_sites.items }
     requires variables { vec_len form.old.weights ≡ open_count variables.now.choices.items }
-    requires bounded { IsBounded 0 form.old }
+    requires bounded { IsQuadraticBounded 0 form.old }
     requires listed { All (λ site. site < length at.now) opened.now }
     requires few { length opened.now ≤ site_limit }
     ensures longer { IsLonger (length opened.now) form.old form.new }
-    ensures adds { Meant F.Fn V.Fn problem.now (λ m. AddsCost form.old form.new (λ x. sum_by
+    ensures adds { WhereMeant F.Fn V.Fn problem.now (λ m. AddsCost form.old form.new (λ x. sum_by
         (λ p. m.data_cost p (made_by change (labelling at.now)
-        (choice_at variables.now.choices.items) (rank variables.now.choices.items) x p)) opened.now)) }
+        (choice_at variables.now.choices.items) (open_rank variables.now.choices.items) x p)) opened.now)) }
 {
     for index in 0..opened.len() {
         let end = variables.end(at, opened[index]);
@@ -67,16 +67,17 @@ impl MoveEnergy {
         requires posed { IsPosed F.Fn V.Fn problem.now }
         requires by_site { AreBySite problem.now.pairs ends.now }
         requires listed { AreOpenSites self.old.variables.choices.items opened.now }
-        requires fit { Meant F.Fn V.Fn problem.now (λ m. All (IsFitPair m change (labelling at.now)
+        requires fit { WhereMeant F.Fn V.Fn problem.now
+            (λ m. All (IsFitPair m change (labelling at.now)
             (choice_at self.old.variables.choices.items)) m.pairs) }
         ensures kept { self.new.variables.choices.items ≡ self.old.variables.choices.items }
-        ensures bounded { OnOk result (IsBounded term_limit self.new.form) }
+        ensures bounded { OnOk result (IsQuadraticBounded term_limit self.new.form) }
         ensures few { OnOk result (vec_len self.new.form.weights ≤ site_limit) }
         ensures numbering { OnOk result (IsNumbering self.new.variables.choices.items
             self.new.variables.of_sites.items) }
         ensures variables { OnOk result (vec_len self.new.form.weights ≡ open_count
             self.new.variables.choices.items) }
-        ensures built { Meant F.Fn V.Fn problem.now (λ m. OnOk result (Stands m change at.now self.new)) }
+        ensures built { WhereMeant F.Fn V.Fn problem.now (λ m. OnOk result (Stands m change at.now self.new)) }
     {
         let count = self.variables.number_listed(opened)?;
         let form = Quadratic::zero(alloc, count)?;

@@ -1,16 +1,16 @@
 //! What the pairs of the open sites add to a form where these sites are listed. Each pair is met once, at one of its open
 //! ends.
 ghost use Rattle.std.specs.Prelude.{◌≡◌, ◌<◌, ◌≤◌, ◌-◌, All, length, vec_len, OnOk, sum_by};
-ghost use Rattle.sums.specs.Sums.{counted};
+ghost use Rattle.sums.specs.Sums.{count_if};
 ghost use Rattle.label_field.specs.Limits.{site_limit};
 ghost use Rattle.label_field.specs.PairLists.{IsPair};
 ghost use Rattle.labellings.specs.Energies.{labelling};
 ghost use Rattle.pseudo_bool.specs.Limits.{term_limit};
-ghost use Rattle.compile_cut.specs.Quadratics.{IsBounded};
-ghost use Rattle.cost_store.specs.Posed.{IsPosed, IsAsked, Meant};
-ghost use Rattle.move_energy.specs.Added.{added, IsRightFor};
+ghost use Rattle.compile_cut.specs.Quadratics.{IsQuadraticBounded};
+ghost use Rattle.cost_store.specs.Posed.{IsPosed, IsAsked, WhereMeant};
+ghost use Rattle.move_energy.specs.Added.{added_by_pair, IsRightFor};
 ghost use Rattle.move_energy.specs.BySite.{AreBySite, is_counted, met_at};
-ghost use Rattle.move_energy.specs.Choices.{choice_at, open_at, rank, open_count, IsNumbering, AreOpenSites};
+ghost use Rattle.move_energy.specs.Choices.{choice_at, open_at, open_rank, open_count, IsNumbering, AreOpenSites};
 ghost use Rattle.move_energy.specs.Built.{AddsCost, IsLonger};
 
 use crate::building::add_pair;
@@ -48,11 +48,11 @@ fn add_of_pair<F: Fn(u32, u32) -> i64 + Sync, V: Fn(u32, u32) -> i64 + Sync>(
     requires choices { length variables.now.choices.items ≡ length at.now }
     requires numbering { IsNumbering variables.now.choices.items variables.now.of_sites.items }
     requires variables { vec_len form.old.weights ≡ open_count variables.now.choices.items }
-    requires bounded { IsBounded term_limit form.old }
+    requires bounded { IsQuadraticBounded term_limit form.old }
     ensures longer { OnOk result (IsLonger 1 form.old form.new) }
-    ensures adds { OnOk result (Meant F.Fn V.Fn problem.now (λ m. IsRightFor adds m change (labelling at.now)
-        (choice_at variables.now.choices.items) pair → AddsCost form.old form.new (λ x. added adds m change
-        (labelling at.now) (choice_at variables.now.choices.items) (rank variables.now.choices.items) x
+    ensures adds { OnOk result (WhereMeant F.Fn V.Fn problem.now (λ m. IsRightFor adds m change (labelling at.now)
+        (choice_at variables.now.choices.items) pair → AddsCost form.old form.new (λ x. added_by_pair adds m change
+        (labelling at.now) (choice_at variables.now.choices.items) (open_rank variables.now.choices.items) x
         pair))) }
 {
     match adds {
@@ -89,13 +89,14 @@ fn add_counted<F: Fn(u32, u32) -> i64 + Sync, V: Fn(u32, u32) -> i64 + Sync>(
     requires choices { length variables.now.choices.items ≡ length at.now }
     requires numbering { IsNumbering variables.now.choices.items variables.now.of_sites.items }
     requires variables { vec_len form.old.weights ≡ open_count variables.now.choices.items }
-    requires bounded { IsBounded term_limit form.old }
-    ensures longer { OnOk result (IsLonger (counted (is_counted (open_at variables.now.choices.items) site
+    requires bounded { IsQuadraticBounded term_limit form.old }
+    ensures longer { OnOk result (IsLonger (count_if (is_counted (open_at variables.now.choices.items) site
         pair) 1) form.old form.new) }
-    ensures adds { OnOk result (Meant F.Fn V.Fn problem.now (λ m. IsRightFor adds m change (labelling at.now)
-        (choice_at variables.now.choices.items) pair → AddsCost form.old form.new (λ x. counted (is_counted
-        (open_at variables.now.choices.items) site pair) (added adds m change (labelling at.now)
-        (choice_at variables.now.choices.items) (rank variables.now.choices.items) x pair)))) }
+    ensures adds { OnOk result (WhereMeant F.Fn V.Fn problem.now (λ m. IsRightFor adds m change (labelling at.now)
+        (choice_at variables.now.choices.items) pair → AddsCost form.old form.new (λ x. count_if (is_counted
+        (open_at variables.now.choices.items) site pair)
+        (added_by_pair adds m change (labelling at.now)
+        (choice_at variables.now.choices.items) (open_rank variables.now.choices.items) x pair)))) }
 {
     if counts_at(variables, site, pair) {
         add_of_pair(problem, form, at, change, variables, pair, adds)?;
@@ -123,15 +124,15 @@ fn add_pairs_at<F: Fn(u32, u32) -> i64 + Sync, V: Fn(u32, u32) -> i64 + Sync>(
     requires site { site < length at.now }
     requires met { met_at ends.now (open_at variables.now.choices.items) (λ pair. 1)
         site ≤ term_limit }
-    requires bounded { IsBounded (term_limit - met_at ends.now
+    requires bounded { IsQuadraticBounded (term_limit - met_at ends.now
         (open_at variables.now.choices.items) (λ pair. 1) site) form.old }
     ensures longer { OnOk result (IsLonger (met_at ends.now
         (open_at variables.now.choices.items) (λ pair. 1) site) form.old form.new) }
-    ensures adds { OnOk result (Meant F.Fn V.Fn problem.now (λ m. All (IsRightFor adds m change
+    ensures adds { OnOk result (WhereMeant F.Fn V.Fn problem.now (λ m. All (IsRightFor adds m change
         (labelling at.now) (choice_at variables.now.choices.items)) problem.now.pairs.list →
         AddsCost form.old form.new (λ x. met_at ends.now
-        (open_at variables.now.choices.items) (added adds m change (labelling at.now)
-        (choice_at variables.now.choices.items) (rank variables.now.choices.items) x) site))) }
+        (open_at variables.now.choices.items) (added_by_pair adds m change (labelling at.now)
+        (choice_at variables.now.choices.items) (open_rank variables.now.choices.items) x) site))) }
 {
     for index in 0..ends_at(&problem.pairs, ends, site) {
         let pair = pair_at(&problem.pairs, ends, site, index);
@@ -158,14 +159,14 @@ pub(crate) fn add_listed_pairs<F: Fn(u32, u32) -> i64 + Sync, V: Fn(u32, u32) ->
     requires numbering { IsNumbering variables.now.choices.items variables.now.of_sites.items }
     requires variables { vec_len form.old.weights ≡ open_count variables.now.choices.items }
     requires listed { AreOpenSites variables.now.choices.items opened.now }
-    requires bounded { IsBounded site_limit form.old }
+    requires bounded { IsQuadraticBounded site_limit form.old }
     ensures nodes { OnOk result (vec_len form.new.weights ≡ vec_len form.old.weights) }
-    ensures bounded { OnOk result (IsBounded term_limit form.new) }
-    ensures adds { OnOk result (Meant F.Fn V.Fn problem.now (λ m. All (IsRightFor adds m change
+    ensures bounded { OnOk result (IsQuadraticBounded term_limit form.new) }
+    ensures adds { OnOk result (WhereMeant F.Fn V.Fn problem.now (λ m. All (IsRightFor adds m change
         (labelling at.now) (choice_at variables.now.choices.items)) problem.now.pairs.list →
         AddsCost form.old form.new (λ x. sum_by (met_at ends.now
-        (open_at variables.now.choices.items) (added adds m change (labelling at.now)
-        (choice_at variables.now.choices.items) (rank variables.now.choices.items) x)) opened.now))) }
+        (open_at variables.now.choices.items) (added_by_pair adds m change (labelling at.now)
+        (choice_at variables.now.choices.items) (open_rank variables.now.choices.items) x)) opened.now))) }
 {
     for index in 0..opened.len() {
         add_pairs_at(

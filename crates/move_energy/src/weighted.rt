@@ -1,7 +1,7 @@
 //! The yes-no energy of a partly decided move from the weights of its open sites, which who decided the others knows. Then no
 //! site is asked what it costs, and of the pairs only those of two open sites.
 ghost use Rattle.std.specs.Prelude.{◌≡◌, ◌<◌, ◌≤◌, ◌+◌, ◌-ℤ◌, ◌<ℤ◌, ◌++◌, ◌∷◌, [], cond, ℕ, ℤ, pos, true, not, ◌&&◌, All, length, unsigned_abs, vec_len, IfOk, OnOk, sum_by};
-ghost use Rattle.sums.specs.Sums.{counted};
+ghost use Rattle.sums.specs.Sums.{count_if};
 ghost use Rattle.label_field.specs.Limits.{site_limit, pair_limit};
 ghost use Rattle.label_field.specs.PairLists.{IsPair};
 ghost use Rattle.labellings.specs.Energies.{labelling};
@@ -9,14 +9,14 @@ ghost use Rattle.labellings.specs.Moves.{IsRegularPair, IsAllowed};
 ghost use Rattle.pseudo_bool.specs.Energies.{IsValue};
 ghost use Rattle.pseudo_bool.specs.Limits.{term_limit};
 ghost use Rattle.regular.specs.Regularity.{IsRegularTable};
-ghost use Rattle.compile_cut.specs.Quadratics.{IsBounded};
+ghost use Rattle.compile_cut.specs.Quadratics.{IsQuadraticBounded};
 ghost use Rattle.compile_cut.specs.Weights.{weights_size};
-ghost use Rattle.cost_store.specs.Posed.{IsPosed, IsAsked, Meant};
-ghost use Rattle.move_energy.specs.Choices.{choice_at, rank, open_count, IsNumbering};
+ghost use Rattle.cost_store.specs.Posed.{IsPosed, IsAsked, WhereMeant};
+ghost use Rattle.move_energy.specs.Choices.{choice_at, open_rank, open_count, IsNumbering};
 ghost use Rattle.move_energy.specs.Built.{AddsCost, IsLonger};
 ghost use Rattle.move_energy.specs.Problems.{Stands};
 ghost use Rattle.move_energy.specs.Limits.{surplus_limit, weights_limit};
-ghost use Rattle.move_energy.specs.Weights.{AreWeights, IsOfWeights, are_open, open_weights as weights_of, pair_surplus, unsaved, weight_at};
+ghost use Rattle.move_energy.specs.Weights.{AreWeights, IsOfWeights, are_open, open_weights as weights_of, pair_surplus, unsaved_surplus, weight_at};
 
 use crate::MoveEnergy;
 use crate::costs::{surplus, term};
@@ -83,8 +83,8 @@ fn open_surplus<F: Fn(u32, u32) -> i64 + Sync, V: Fn(u32, u32) -> i64 + Sync>(
     requires pair { IsPair (length at.now) pair }
     requires asked { IsAsked problem.now at.now change }
     requires choices { length variables.now.choices.items ≡ length at.now }
-    ensures value { Meant F.Fn V.Fn problem.now (λ m. IsRegularPair m change (labelling at.now) pair →
-        result ≡ pos (counted (are_open (choice_at variables.now.choices.items) pair)
+    ensures value { WhereMeant F.Fn V.Fn problem.now (λ m. IsRegularPair m change (labelling at.now) pair →
+        result ≡ pos (count_if (are_open (choice_at variables.now.choices.items) pair)
         (pair_surplus m change (labelling at.now) pair))) }
     ensures range { unsigned_abs result ≤ surplus_limit }
     ensures open { pos 0 <ℤ result → are_open (choice_at variables.now.choices.items) pair ≡ true }
@@ -112,10 +112,10 @@ fn add_saving(form: &mut Quadratic, first: u32, second: u32, surplus: i64) -> Re
     requires first { first < vec_len form.old.weights }
     requires second { second < vec_len form.old.weights }
     requires surplus { (pos 0 <ℤ surplus) × (unsigned_abs surplus ≤ surplus_limit) }
-    requires bounded { IsBounded term_limit form.old }
+    requires bounded { IsQuadraticBounded term_limit form.old }
     ensures longer { OnOk result (IsLonger 1 form.old form.new) }
     ensures adds { OnOk result (AddsCost form.old form.new
-        (λ x. counted (not (x first && x second)) (unsigned_abs surplus))) }
+        (λ x. count_if (not (x first && x second)) (unsigned_abs surplus))) }
 {
     let table = saving(surplus);
     form.add_pair(first, second, &table)
@@ -137,11 +137,11 @@ pub(crate) fn add_surplus<F: Fn(u32, u32) -> i64 + Sync, V: Fn(u32, u32) -> i64 
     requires choices { length variables.now.choices.items ≡ length at.now }
     requires numbering { IsNumbering variables.now.choices.items variables.now.of_sites.items }
     requires variables { vec_len form.old.weights ≡ open_count variables.now.choices.items }
-    requires bounded { IsBounded term_limit form.old }
+    requires bounded { IsQuadraticBounded term_limit form.old }
     ensures longer { OnOk result (IsLonger 1 form.old form.new) }
-    ensures adds { OnOk result (Meant F.Fn V.Fn problem.now (λ m. IsRegularPair m change (labelling at.now)
-        pair → AddsCost form.old form.new (λ x. unsaved m change (labelling at.now)
-        (choice_at variables.now.choices.items) (rank variables.now.choices.items) x pair))) }
+    ensures adds { OnOk result (WhereMeant F.Fn V.Fn problem.now (λ m. IsRegularPair m change (labelling at.now)
+        pair → AddsCost form.old form.new (λ x. unsaved_surplus m change (labelling at.now)
+        (choice_at variables.now.choices.items) (open_rank variables.now.choices.items) x pair))) }
 {
     let surplus = open_surplus(problem, at, change, variables, pair);
     if surplus <= 0 {
@@ -165,12 +165,13 @@ fn add_surpluses<F: Fn(u32, u32) -> i64 + Sync, V: Fn(u32, u32) -> i64 + Sync>(
     requires choices { length variables.now.choices.items ≡ length at.now }
     requires numbering { IsNumbering variables.now.choices.items variables.now.of_sites.items }
     requires variables { vec_len form.old.weights ≡ open_count variables.now.choices.items }
-    requires bounded { IsBounded site_limit form.old }
+    requires bounded { IsQuadraticBounded site_limit form.old }
     ensures nodes { OnOk result (vec_len form.new.weights ≡ vec_len form.old.weights) }
-    ensures small { OnOk result (IsBounded (site_limit + pair_limit) form.new) }
-    ensures adds { OnOk result (Meant F.Fn V.Fn problem.now (λ m. IsAllowed m change (labelling at.now) →
-        AddsCost form.old form.new (λ x. sum_by (unsaved m change (labelling at.now)
-        (choice_at variables.now.choices.items) (rank variables.now.choices.items) x) m.pairs))) }
+    ensures small { OnOk result (IsQuadraticBounded (site_limit + pair_limit) form.new) }
+    ensures adds { OnOk result (WhereMeant F.Fn V.Fn problem.now (λ m. IsAllowed m change (labelling at.now) →
+        AddsCost form.old form.new (λ x. sum_by (unsaved_surplus m change (labelling at.now)
+        (choice_at variables.now.choices.items)
+        (open_rank variables.now.choices.items) x) m.pairs))) }
 {
     for index in 0..problem.pairs.len() {
         let pair = problem.pairs.get(index);
@@ -196,17 +197,18 @@ impl MoveEnergy {
         requires posed { IsPosed F.Fn V.Fn problem.now }
         requires count { length weights.now ≡ length at.now }
         requires size { weights_size weights.now ≤ weights_limit }
-        requires weights { Meant F.Fn V.Fn problem.now (λ m. AreWeights m change (labelling at.now)
+        requires weights { WhereMeant F.Fn V.Fn problem.now
+            (λ m. AreWeights m change (labelling at.now)
             (choice_at self.old.variables.choices.items) weights.now) }
-        requires allowed { Meant F.Fn V.Fn problem.now (λ m. IsAllowed m change (labelling at.now)) }
+        requires allowed { WhereMeant F.Fn V.Fn problem.now (λ m. IsAllowed m change (labelling at.now)) }
         ensures kept { self.new.variables.choices.items ≡ self.old.variables.choices.items }
-        ensures small { OnOk result (IsBounded (site_limit + pair_limit) self.new.form) }
+        ensures small { OnOk result (IsQuadraticBounded (site_limit + pair_limit) self.new.form) }
         ensures few { OnOk result (vec_len self.new.form.weights ≤ site_limit) }
         ensures numbering { OnOk result (IsNumbering self.new.variables.choices.items
             self.new.variables.of_sites.items) }
         ensures variables { OnOk result (vec_len self.new.form.weights ≡ open_count
             self.new.variables.choices.items) }
-        ensures built { Meant F.Fn V.Fn problem.now (λ m. OnOk result (Stands m change at.now self.new)) }
+        ensures built { WhereMeant F.Fn V.Fn problem.now (λ m. OnOk result (Stands m change at.now self.new)) }
     {
         let count = self.variables.number()?;
         let form = open_weights(alloc, &self.variables, count, weights)?;

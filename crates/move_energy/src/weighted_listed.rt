@@ -5,9 +5,9 @@ ghost use Rattle.label_field.specs.Limits.{site_limit};
 ghost use Rattle.labellings.specs.Energies.{labelling};
 ghost use Rattle.labellings.specs.Moves.{IsAllowed};
 ghost use Rattle.pseudo_bool.specs.Limits.{term_limit};
-ghost use Rattle.compile_cut.specs.Quadratics.{IsBounded};
+ghost use Rattle.compile_cut.specs.Quadratics.{IsQuadraticBounded};
 ghost use Rattle.compile_cut.specs.Weights.{weights_size};
-ghost use Rattle.cost_store.specs.Posed.{IsPosed, IsAsked, Meant};
+ghost use Rattle.cost_store.specs.Posed.{IsPosed, IsAsked, WhereMeant};
 ghost use Rattle.move_energy.specs.BySite.{AreBySite};
 ghost use Rattle.move_energy.specs.Choices.{choice_at, open_count, IsNumbering, AreOpenSites};
 ghost use Rattle.move_energy.specs.Problems.{Stands};
@@ -59,9 +59,9 @@ impl MoveEnergy {
         requires form { IsOfWeights self.old.form.weights.items self.old.form }
         requires count { length self.old.form.weights.items ≡ length opened.now }
         requires size { weights_size self.old.form.weights.items ≤ form_weights_limit }
-        requires allowed { Meant F.Fn V.Fn problem.now (λ m. IsAllowed m change (labelling at.now)) }
+        requires allowed { WhereMeant F.Fn V.Fn problem.now (λ m. IsAllowed m change (labelling at.now)) }
         ensures kept { self.new.variables.choices.items ≡ self.old.variables.choices.items }
-        ensures bounded { OnOk result (IsBounded term_limit self.new.form) }
+        ensures bounded { OnOk result (IsQuadraticBounded term_limit self.new.form) }
         ensures few { OnOk result (vec_len self.new.form.weights ≤ site_limit) }
         ensures numbering { OnOk result (IsNumbering self.new.variables.choices.items
             self.new.variables.of_sites.items) }
@@ -69,7 +69,7 @@ impl MoveEnergy {
             self.new.variables.choices.items) }
         ensures built { (weights : List ℤ) →
             self.old.form.weights.items ≡ map (weight_at weights) opened.now →
-            Meant F.Fn V.Fn problem.now (λ m. AreWeights m change (labelling at.now)
+            WhereMeant F.Fn V.Fn problem.now (λ m. AreWeights m change (labelling at.now)
             (choice_at self.old.variables.choices.items) weights →
             OnOk result (Stands m change at.now self.new)) }
     {
@@ -105,17 +105,18 @@ impl MoveEnergy {
         requires listed { AreOpenSites self.old.variables.choices.items opened.now }
         requires count { length weights.now ≡ length at.now }
         requires size { weights_size weights.now ≤ weights_limit }
-        requires weights { Meant F.Fn V.Fn problem.now (λ m. AreWeights m change (labelling at.now)
+        requires weights { WhereMeant F.Fn V.Fn problem.now
+            (λ m. AreWeights m change (labelling at.now)
             (choice_at self.old.variables.choices.items) weights.now) }
-        requires allowed { Meant F.Fn V.Fn problem.now (λ m. IsAllowed m change (labelling at.now)) }
+        requires allowed { WhereMeant F.Fn V.Fn problem.now (λ m. IsAllowed m change (labelling at.now)) }
         ensures kept { self.new.variables.choices.items ≡ self.old.variables.choices.items }
-        ensures bounded { OnOk result (IsBounded term_limit self.new.form) }
+        ensures bounded { OnOk result (IsQuadraticBounded term_limit self.new.form) }
         ensures few { OnOk result (vec_len self.new.form.weights ≤ site_limit) }
         ensures numbering { OnOk result (IsNumbering self.new.variables.choices.items
             self.new.variables.of_sites.items) }
         ensures variables { OnOk result (vec_len self.new.form.weights ≡ open_count
             self.new.variables.choices.items) }
-        ensures built { Meant F.Fn V.Fn problem.now (λ m. OnOk result (Stands m change at.now self.new)) }
+        ensures built { WhereMeant F.Fn V.Fn problem.now (λ m. OnOk result (Stands m change at.now self.new)) }
     {
         let form = listed_weights(alloc, opened, weights)?;
         self.form = form;

@@ -145,7 +145,7 @@ fn is_right<H: How>(
             sites,
             labels,
         ),
-        smooth_cost: SmoothCost::stored(cost, labels, is_metric(smooth, labels)),
+        smooth_cost: SmoothCost::with_metric(cost, labels, is_metric(smooth, labels)),
         label_costs: None,
     };
     let Ok(()) = problem.set_label_costs(alloc, &costs_of(row)[..labels as usize]) else {

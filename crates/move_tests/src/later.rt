@@ -98,7 +98,7 @@ fn expands<H: How>(
             4096,
             4,
         ),
-        smooth_cost: SmoothCost::stored(
+        smooth_cost: SmoothCost::with_metric(
             |first: u32, second: u32| -> i64
                 requires { first * 4 + second < length smooth.now }
                 ensures { result ≡ entry_at 4 smooth.entry.now first second }
@@ -135,7 +135,7 @@ fn labels_after<H: How>(
 }
 
 /// How many cuts a run has, and how many sites these have; none where it is refused.
-fn counted(
+fn count_cuts(
     rt: &impl Abort,
     alloc: Global,
     unlike: i64,
@@ -155,7 +155,7 @@ fn counted(
 #[test]
 fn later_expansions_open_few_sites(rt: HostRuntime) -> Result<(), Fail> {
     for (unlike, cycles, cuts, sites) in RUNS {
-        let told = counted(&rt, rt.alloc(), *unlike, *cycles)?;
+        let told = count_cuts(&rt, rt.alloc(), *unlike, *cycles)?;
         let (told_cuts, told_sites) = told.unwrap_or((0, 0));
         assert!(rt;
             told == Some((*cuts, *sites)),

@@ -71,7 +71,7 @@ pub fn open_in<F: Fn(u32, u32) -> i64 + Sync, V: Fn(u32, u32) -> i64 + Sync>(
 
 /// Expands a label, and answers how many sites are left open, and how many change; none where it
 /// was refused.
-fn expanded<F: Fn(u32, u32) -> i64 + Sync, V: Fn(u32, u32) -> i64 + Sync>(
+fn expand_label<F: Fn(u32, u32) -> i64 + Sync, V: Fn(u32, u32) -> i64 + Sync>(
     alloc: Global,
     problem: &Problem<F, V>,
     labelling: &mut Labelling,
@@ -121,7 +121,7 @@ fn expand_picture(
         ),
         label_costs: None,
     };
-    expanded(alloc, &problem, labelling, alpha)
+    expand_label(alloc, &problem, labelling, alpha)
 }
 
 #[test]

@@ -185,7 +185,7 @@ fn are_labels(labels: &[u8], row: &[u8; BYTES], at: usize) -> bool
 
 /// What a move or a run is to say: whether it changed or is settled, and how many cycles were done,
 /// of a move none.
-fn wanted(row: &[u8; BYTES]) -> Result<(bool, u32), MoveError> {
+fn answer_wanted(row: &[u8; BYTES]) -> Result<(bool, u32), MoveError> {
     let number = digit(row, 6);
     match digit(row, 5) {
         0 => Ok((false, number)),
@@ -269,12 +269,12 @@ pub fn is_answered<F: Fn(u32, u32) -> i64 + Sync, V: Fn(u32, u32) -> i64 + Sync,
 {
     let first = answer_of(problem, alloc, labelling, row, how);
     if first != Err(MoveError::OutOfMemory) {
-        return first == wanted(row) && is_after(problem, labelling, row, label_energy);
+        return first == answer_wanted(row) && is_after(problem, labelling, row, label_energy);
     }
     let stands = are_labels(labelling.as_slice(), row, 49)
         || chain.iter().any(|it| labelling.as_slice() == it.as_slice());
     let again = answer_of(problem, alloc, labelling, row, how);
-    let is_told = again == wanted(row) || matches!(again, Ok((true, _)));
+    let is_told = again == answer_wanted(row) || matches!(again, Ok((true, _)));
     stands && is_told && is_after(problem, labelling, row, label_energy)
 }
 

@@ -7,28 +7,28 @@ use Rattle.std.proofs.lemmas.Bool.{cases_lt, cases_Bool}
 use Rattle.std.proofs.lemmas.Bool.Decides.{nat_tests}
 use Rattle.std.proofs.lemmas.List.{length-set, get_or-set_same, get_or-set_other, take_all}
 use Rattle.std.proofs.lemmas.List.Sums.{sum_by-cons, sum_by_more, sum_by-take-le}
-use Rattle.sums.specs.Sums.{sum_below, counted}
+use Rattle.sums.specs.Sums.{sum_below, count_if}
 use Rattle.sums.proofs.SumLemmas.{sum_below-same, counted-le}
 use Rattle.sums.proofs.IntegerSumLemmas.{within_fits, abs-add}
 use Rattle.move_energy.specs.declared.by_site.Neighbours.{Neighbours}
 use Rattle.label_field.specs.declared.pair.Pair.{Pair}
 use Rattle.label_field.specs.PairLists.{PairList, IsPair}
-use Rattle.move_energy.specs.BySite.{AreBySite, IsListing, listing, is_counted, has_chosen, pair_of, met_below, met_at}
+use Rattle.move_energy.specs.BySite.{AreBySite, IsListing, rising_sites, is_counted, has_chosen, pair_of, met_below, met_at}
 use Rattle.move_energy.proofs.Listings.{chosen_below, listing_place, listing_has, listing_short, listed_sites_are_summed}
 use Rattle.move_energy.proofs.Beside.{pairs_are_met_once}
 use Rattle.labellings.specs.declared.change.Move.{Move}
 use Rattle.labellings.specs.Energies.{Instance, labelling, pair_cost}
-use Rattle.labellings.specs.Moves.{made, label_in}
+use Rattle.labellings.specs.Moves.{labelling_made, label_after}
 use Rattle.labellings.proofs.Best.{lists_agree}
 use Rattle.pseudo_bool.specs.Energies.{assignment}
 use Rattle.move_energy.specs.declared.choice.Choice.{Choice}
 use Rattle.move_energy.specs.declared.choice.Choice.TheVariants.{Open, Zero as DecidedZero, One as DecidedOne}
-use Rattle.move_energy.specs.Choices.{bit_of, choice_at, choice_of, is_open, rank, value_of, AreSettled}
+use Rattle.move_energy.specs.Choices.{bit_of, choice_at, choice_of, is_open, open_rank, value_of, AreSettled}
 use Rattle.deciding.specs.declared.listing.Lists.{Lists}
 use Rattle.deciding.specs.declared.sites.Deciding.{Deciding}
 use Rattle.deciding.specs.Listed.{AreListed, changes}
 use Rattle.moves.specs.declared.workspace.Workspace.{Workspace}
-use Rattle.moves.specs.Building.{site_values, moves_site, moved_met, HasChanges, AreChangesListed, IsNear, IsRestListed}
+use Rattle.moves.specs.Building.{site_values, moves_site, moved_met, HasChanges, AreChangesListed, HasListsOfMove, IsRestListed}
 
 not_false : (b : Bool) → not b ≡ false → b ≡ true
 not_false true is = refl
@@ -38,12 +38,12 @@ same_of : (a b : ℕ) → eqb a b ≡ true → a ≡ b
 same_of a b h = grind (arith, nat_tests)
 
 -- a site that is not moved keeps its label
-pub unmoved : (move : Move) (f : ℕ → ℕ) (choices : List Choice) (p : ℕ) → moves_site move f choices p ≡ false → made move f (site_values choices) p ≡ f p
-unmoved move f choices p is = same_of (made move f (site_values choices) p) (f p) (not_false (eqb (made move f (site_values choices) p) (f p)) is)
+pub unmoved : (move : Move) (f : ℕ → ℕ) (choices : List Choice) (p : ℕ) → moves_site move f choices p ≡ false → labelling_made move f (site_values choices) p ≡ f p
+unmoved move f choices p is = same_of (labelling_made move f (site_values choices) p) (f p) (not_false (eqb (labelling_made move f (site_values choices) p) (f p)) is)
 
 -- and one that is not chosen
 pub unchosen : (move : Move) (f : List ℕ) (choices : List Choice) (sites : List ℕ) (p : ℕ) → (changes : HasChanges move f choices sites) → p < length f
-    → changes.chosen p ≡ false → made move (labelling f) (site_values choices) p ≡ labelling f p
+    → changes.chosen p ≡ false → labelling_made move (labelling f) (site_values choices) p ≡ labelling f p
 unchosen move f choices sites p changes l is = elim (cases_Bool (moves_site move (labelling f) choices p)) [
   | inl so ↦ (let chosen = changes.each p l so in absurd (cc (chosen, is)))
   | inr not_so ↦ unmoved move (labelling f) choices p not_so
@@ -69,10 +69,10 @@ near_changes pairs move f before after bits size rest same settled =
       chosen = rest.chosen;
       listed = rest.listed;
       each = λ p l moved.
-          let test : Bool → Bool = λ v. not (label_in move (labelling f p) v == labelling f p) in
+          let test : Bool → Bool = λ v. not (label_after move (labelling f p) v == labelling f p) in
           let told : bit_of (choice_at new p) false ≡ value_of old bits p =
           ap (λ (c : Choice). bit_of c false) (settled.each p (omega (arith, l, size))) ∙ bit_of_choice (value_of old bits p) in
-          rest.each p l (change_of (choice_at old p) (assignment bits (rank old p)) test (sym (ap test told) ∙ moved));
+          rest.each p l (change_of (choice_at old p) (assignment bits (open_rank old p)) test (sym (ap test told) ∙ moved));
     } in
     record {
       by_site = subst (λ (d : Deciding). AreBySite pairs d.ends) (sym same) rest.by_site;
@@ -81,12 +81,12 @@ near_changes pairs move f before after bits size rest same settled =
 
 -- what deciding listed is what is left
 pub near_rest : (pairs : PairList) (move : Move) (f : List ℕ) (space : Workspace) → length space.built.variables.choices.items ≡ length f
-    → IsNear pairs move f space → IsTrue space.deciding.lists.listed → IsRestListed pairs move f space
+    → HasListsOfMove pairs move f space → IsTrue space.deciding.lists.listed → IsRestListed pairs move f space
 near_rest pairs move f space size near is_listed = record {
   by_site = near.by_site;
   opened = near.lists.opened is_listed;
   chosen = changes move (labelling f) space.built.variables.choices.items;
-  listed = near.lists.changing is_listed ∙ ap (λ n. listing (changes move (labelling f) space.built.variables.choices.items) n) size;
+  listed = near.lists.changing is_listed ∙ ap (λ n. rising_sites (changes move (labelling f) space.built.variables.choices.items) n) size;
   each = λ p l is. is;
 }
 
@@ -103,7 +103,7 @@ more_chosen DecidedOne now test opened kept is = ap (λ (c : Choice). is_open c 
 pub site_has : (chosen : ℕ → Bool) (n : ℕ) (sites : List ℕ) (i : ℕ) → IsListing chosen n sites → i < length sites
     → (get_or sites i 0 < n) × (chosen (get_or sites i 0) ≡ true) × (chosen_below chosen (get_or sites i 0) ≡ i)
 site_has chosen n sites i listed l =
-    let same : get_or sites i 0 ≡ get_or (listing chosen n) i 0 = ap (λ (xs : List ℕ). get_or xs i 0) listed in
+    let same : get_or sites i 0 ≡ get_or (rising_sites chosen n) i 0 = ap (λ (xs : List ℕ). get_or xs i 0) listed in
     let e = ap (λ (xs : List ℕ). length xs) listed in
     let found = listing_has chosen n i (omega (arith, l, e)) in
     (omega (arith, same, found.0), ap chosen same ∙ found.1, ap (chosen_below chosen) same ∙ found.2)
@@ -187,7 +187,7 @@ written_at_more old now new label sites i n y was next told so_far at within apa
     }
 
 abbrev pub label_at : Move → List ℕ → List Choice → ℕ → ℕ
-label_at move f choices p = label_in move (slice_index f p) (site_values choices p)
+label_at move f choices p = label_after move (slice_index f p) (site_values choices p)
 
 pub written_at_each : (move : Move) (old new : List ℕ) (choices : List Choice) (sites : List ℕ) (i : ℕ) (changed : Bool) → HasChanges move old choices sites → i ≡ length sites
     → AreWrittenAt old new (label_at move old choices) sites i changed → (p : ℕ) → p < length old → slice_index new p ≡ label_at move old choices p
@@ -229,12 +229,12 @@ pub rise_all : (g f : ℕ → ℕ) (xs : List ℕ) (i : ℕ) (total : ℤ) → l
     → total ≡ pos (sum_by g xs) -ℤ pos (sum_by f xs)
 rise_all g f xs i total l so_far = so_far ∙ ap (λ (ys : List ℕ). pos (sum_by g ys) -ℤ pos (sum_by f ys)) (take_all i xs l)
 
-left_of : (b : Bool) (y z : ℕ) → (b ≡ false → y ≡ z) → counted b y + z ≡ y + counted b z
+left_of : (b : Bool) (y z : ℕ) → (b ≡ false → y ≡ z) → count_if b y + z ≡ y + count_if b z
 left_of true y z same = omega arith
 left_of false y z same = (let e = same refl in omega (arith, e))
 
 elsewhere_same : (chosen : ℕ → Bool) (n : ℕ) (g f : ℕ → ℕ) → ((p : ℕ) → p < n → chosen p ≡ false → g p ≡ f p)
-    → sum_below n (λ p. counted (chosen p) (g p)) + sum_below n f ≡ sum_below n g + sum_below n (λ p. counted (chosen p) (f p))
+    → sum_below n (λ p. count_if (chosen p) (g p)) + sum_below n f ≡ sum_below n g + sum_below n (λ p. count_if (chosen p) (f p))
 elsewhere_same chosen zero g f same = refl
 elsewhere_same chosen (suc n) g f same =
     omega (arith, elsewhere_same chosen n g f (λ p l. same p (omega (arith, l))), left_of (chosen n) (g n) (f n) (same n (omega arith)))
@@ -254,13 +254,13 @@ sites_rise chosen n sites g f total listed same is =
 
 pub met_more : (ends : Neighbours) (moved : ℕ → Bool) (g f : Pair → ℕ) (site k : ℕ) (total r : ℤ) (pair : Pair) → pair ≡ pair_of ends site k
     → total ≡ pos (met_below ends moved g site k) -ℤ pos (met_below ends moved f site k)
-    → r ≡ pos (counted (is_counted moved site pair) (g pair)) -ℤ pos (counted (is_counted moved site pair) (f pair))
+    → r ≡ pos (count_if (is_counted moved site pair) (g pair)) -ℤ pos (count_if (is_counted moved site pair) (f pair))
     → total +ℤ r ≡ pos (met_below ends moved g site (k + 1)) -ℤ pos (met_below ends moved f site (k + 1))
 met_more ends moved g f site k total r pair read so_far own =
     let next_g = ap (λ n. met_below ends moved g site n) (add-one k) in
     let next_f = ap (λ n. met_below ends moved f site n) (add-one k) in
-    let of_g = ap (λ (p : Pair). counted (is_counted moved site p) (g p)) read in
-    let of_f = ap (λ (p : Pair). counted (is_counted moved site p) (f p)) read in
+    let of_g = ap (λ (p : Pair). count_if (is_counted moved site p) (g p)) read in
+    let of_f = ap (λ (p : Pair). count_if (is_counted moved site p) (f p)) read in
     omega (arith, ints, so_far, own, next_g, next_f, of_g, of_f)
 
 -- how many of a site's first pairs are counted
@@ -268,10 +268,10 @@ abbrev pub met_count : Neighbours → (ℕ → Bool) → ℕ → ℕ → ℕ
 met_count ends moved site k = met_below ends moved (λ pair. 1) site k
 
 pub met_count_more : (ends : Neighbours) (moved : ℕ → Bool) (site k : ℕ) (pair : Pair) → pair ≡ pair_of ends site k
-    → met_count ends moved site (k + 1) ≡ met_count ends moved site k + counted (is_counted moved site pair) 1
+    → met_count ends moved site (k + 1) ≡ met_count ends moved site k + count_if (is_counted moved site pair) 1
 met_count_more ends moved site k pair read =
     let next = ap (λ n. met_count ends moved site n) (add-one k) in
-    let of = ap (λ (p : Pair). counted (is_counted moved site p) 1) read in
+    let of = ap (λ (p : Pair). count_if (is_counted moved site p) 1) read in
     omega (arith, next, of)
 
 pub met_count_few : (ends : Neighbours) (moved : ℕ → Bool) (site k : ℕ) → met_count ends moved site k ≤ k
@@ -299,7 +299,7 @@ rise_within y r i j k h l few small is =
     let e = ap unsigned_abs (rise_adds y r j k h l few small) in
     omega (arith, e, abs-add y r, h, l, is)
 
-covered : (a b : Bool) (z : ℕ) → (b ≡ true → a ≡ true) → counted a (counted b z) ≡ counted b z
+covered : (a b : Bool) (z : ℕ) → (b ≡ true → a ≡ true) → count_if a (count_if b z) ≡ count_if b z
 covered true b z h = refl
 covered false true z h = absurd (cc (h refl))
 covered false false z h = refl
@@ -307,19 +307,19 @@ covered false false z h = refl
 -- the pairs of the sites that move, each once
 pub moved_pairs : (pairs : PairList) (ends : Neighbours) (chosen moved : ℕ → Bool) (sites : List ℕ) (value : Pair → ℕ) → All (IsPair pairs.sites) pairs.list → AreBySite pairs ends
     → IsListing chosen pairs.sites sites → ((p : ℕ) → p < pairs.sites → moved p ≡ true → chosen p ≡ true)
-    → sum_by (moved_met ends moved value) sites ≡ sum_by (λ pair. counted (has_chosen moved pair) (value pair)) pairs.list
+    → sum_by (moved_met ends moved value) sites ≡ sum_by (λ pair. count_if (has_chosen moved pair) (value pair)) pairs.list
 moved_pairs pairs ends chosen moved sites value all by_site listed within =
     let met = met_at ends moved value in
     ap (λ (xs : List ℕ). sum_by (moved_met ends moved value) xs) listed
     ∙ listed_sites_are_summed chosen pairs.sites (moved_met ends moved value)
-    ∙ sum_below-same pairs.sites (λ p. counted (chosen p) (counted (moved p) (met p))) (λ p. counted (moved p) (met p)) (λ p l. covered (chosen p) (moved p) (met p) (within p l))
+    ∙ sum_below-same pairs.sites (λ p. count_if (chosen p) (count_if (moved p) (met p))) (λ p. count_if (moved p) (met p)) (λ p l. covered (chosen p) (moved p) (met p) (within p l))
     ∙ sym (listed_sites_are_summed moved pairs.sites met)
     ∙ pairs_are_met_once pairs ends moved value all by_site
 
-pairs_at_most : (moved : ℕ → Bool) (list : List Pair) → sum_by (λ pair. counted (has_chosen moved pair) 1) list ≤ length list
+pairs_at_most : (moved : ℕ → Bool) (list : List Pair) → sum_by (λ pair. count_if (has_chosen moved pair) 1) list ≤ length list
 pairs_at_most moved [] = omega arith
 pairs_at_most moved (p ∷ ps) =
-    omega (arith, sum_by-cons (λ pair. counted (has_chosen moved pair) 1) p ps, counted-le (has_chosen moved p) 1, pairs_at_most moved ps)
+    omega (arith, sum_by-cons (λ pair. count_if (has_chosen moved pair) 1) p ps, counted-le (has_chosen moved p) 1, pairs_at_most moved ps)
 
 -- so many of them are met at the first listed sites
 pub counts_whole : (pairs : PairList) (ends : Neighbours) (move : Move) (f : List ℕ) (choices : List Choice) (sites : List ℕ) (i : ℕ) → All (IsPair pairs.sites) pairs.list
@@ -327,7 +327,7 @@ pub counts_whole : (pairs : PairList) (ends : Neighbours) (move : Move) (f : Lis
     → sum_by (moved_met ends (moves_site move (labelling f) choices) (λ pair. 1)) (take i sites) ≤ length pairs.list
 counts_whole pairs ends move f choices sites i all by_site size changes =
     let moved = moves_site move (labelling f) choices in
-    let listed : IsListing changes.chosen pairs.sites sites = changes.listed ∙ ap (λ n. listing changes.chosen n) size in
+    let listed : IsListing changes.chosen pairs.sites sites = changes.listed ∙ ap (λ n. rising_sites changes.chosen n) size in
     let within : (p : ℕ) → p < pairs.sites → moved p ≡ true → changes.chosen p ≡ true = λ p l. changes.each p (omega (arith, l, size)) in
     let whole = moved_pairs pairs ends changes.chosen moved sites (λ pair. 1) all by_site listed within in
     omega (arith, whole, pairs_at_most moved pairs.list, sum_by-take-le (moved_met ends moved (λ pair. 1)) sites i)
@@ -345,15 +345,15 @@ counts_few pairs ends move f choices sites i all by_site size changes l =
     (before, omega (arith, next, more))
 
 elsewhere_pairs : (has : Pair → Bool) (g f : Pair → ℕ) (list : List Pair) → ((pair : Pair) → has pair ≡ false → g pair ≡ f pair)
-    → sum_by (λ pair. counted (has pair) (g pair)) list + sum_by f list ≡ sum_by g list + sum_by (λ pair. counted (has pair) (f pair)) list
+    → sum_by (λ pair. count_if (has pair) (g pair)) list + sum_by f list ≡ sum_by g list + sum_by (λ pair. count_if (has pair) (f pair)) list
 elsewhere_pairs has g f [] same = refl
 elsewhere_pairs has g f (p ∷ ps) same =
     omega (
       arith,
-      sum_by-cons (λ pair. counted (has pair) (g pair)) p ps,
+      sum_by-cons (λ pair. count_if (has pair) (g pair)) p ps,
       sum_by-cons f p ps,
       sum_by-cons g p ps,
-      sum_by-cons (λ pair. counted (has pair) (f pair)) p ps,
+      sum_by-cons (λ pair. count_if (has pair) (f pair)) p ps,
       left_of (has p) (g p) (f p) (same p),
       elsewhere_pairs has g f ps same,
     )
@@ -364,23 +364,23 @@ neither false b is = (refl, is)
 
 -- a pair of two sites that keep their labels costs what it did
 pair_same : (m : Instance) (move : Move) (f : ℕ → ℕ) (choices : List Choice) (pair : Pair) → has_chosen (moves_site move f choices) pair ≡ false
-    → pair_cost m (made move f (site_values choices)) pair ≡ pair_cost m f pair
+    → pair_cost m (labelling_made move f (site_values choices)) pair ≡ pair_cost m f pair
 pair_same m move f choices pair is =
     let kept = neither (moves_site move f choices pair.first) (moves_site move f choices pair.second) is in
     let first = unmoved move f choices pair.first kept.0 in
     let second = unmoved move f choices pair.second kept.1 in
-    ap (λ a. pair.weight * m.smooth_cost a (made move f (site_values choices) pair.second)) first ∙ ap (λ b. pair.weight * m.smooth_cost (f pair.first) b) second
+    ap (λ a. pair.weight * m.smooth_cost a (labelling_made move f (site_values choices) pair.second)) first ∙ ap (λ b. pair.weight * m.smooth_cost (f pair.first) b) second
 
 pub pairs_rise : (m : Instance) (pairs : PairList) (ends : Neighbours) (move : Move) (f : List ℕ) (choices : List Choice) (sites : List ℕ) (total : ℤ) → m.pairs ≡ pairs.list
     → All (IsPair pairs.sites) pairs.list → AreBySite pairs ends → length f ≡ pairs.sites → HasChanges move f choices sites
-    → total ≡ pos (sum_by (moved_met ends (moves_site move (labelling f) choices) (pair_cost m (made move (labelling f) (site_values choices)))) sites)
+    → total ≡ pos (sum_by (moved_met ends (moves_site move (labelling f) choices) (pair_cost m (labelling_made move (labelling f) (site_values choices)))) sites)
     -ℤ pos (sum_by (moved_met ends (moves_site move (labelling f) choices) (pair_cost m (labelling f))) sites)
-    → total ≡ pos (sum_by (pair_cost m (made move (labelling f) (site_values choices))) m.pairs) -ℤ pos (sum_by (pair_cost m (labelling f)) m.pairs)
+    → total ≡ pos (sum_by (pair_cost m (labelling_made move (labelling f) (site_values choices))) m.pairs) -ℤ pos (sum_by (pair_cost m (labelling f)) m.pairs)
 pairs_rise m pairs ends move f choices sites total same all by_site size changes is =
     let moved = moves_site move (labelling f) choices in
-    let g = pair_cost m (made move (labelling f) (site_values choices)) in
+    let g = pair_cost m (labelling_made move (labelling f) (site_values choices)) in
     let h = pair_cost m (labelling f) in
-    let listed : IsListing changes.chosen pairs.sites sites = changes.listed ∙ ap (λ n. listing changes.chosen n) size in
+    let listed : IsListing changes.chosen pairs.sites sites = changes.listed ∙ ap (λ n. rising_sites changes.chosen n) size in
     let within : (p : ℕ) → p < pairs.sites → moved p ≡ true → changes.chosen p ≡ true = λ p l. changes.each p (omega (arith, l, size)) in
     let of_g = moved_pairs pairs ends changes.chosen moved sites g all by_site listed within in
     let of_h = moved_pairs pairs ends changes.chosen moved sites h all by_site listed within in

@@ -5,10 +5,10 @@ use Rattle.std.proofs.lemmas.Bool.{cases_Bool}
 use Rattle.std.proofs.lemmas.Bool.Decides.{nat_tests}
 use Rattle.labellings.specs.declared.change.Move.{Move}
 use Rattle.labellings.specs.declared.change.Move.TheVariants.{Expand}
-use Rattle.sums.specs.Sums.{sum_below, counted}
+use Rattle.sums.specs.Sums.{sum_below, count_if}
 use Rattle.sums.proofs.SumLemmas.{sum_below-same}
 use Rattle.labellings.specs.Energies.{Instance, IsInstance, plain_energy, label_energy, is_used, energy, AreLabelsFree, labelling, Agrees}
-use Rattle.labellings.specs.Moves.{label_in, made, favoured, IsReached, IsBest, IsAllowed, LabelsWithin}
+use Rattle.labellings.specs.Moves.{label_after, labelling_made, favoured_label, IsReached, IsBest, IsAllowed, LabelsWithin}
 use Rattle.labellings.proofs.Energy.{plain-same, energy-same, free-plain}
 use Rattle.labellings.proofs.Reaching.{label_in-favoured, label_in-fixed, label_in-one, cases_label_in}
 use Rattle.labellings.proofs.Best.{made-reached, stays-reached, expand-kept, lists_agree, reached-same}
@@ -21,12 +21,12 @@ use Rattle.move_energy.specs.LabelCosts.{AreCostsOf, costs_below, AddsHidden}
 use Rattle.deciding.proofs.Hiding.{hidden_least}
 use Rattle.move_energy.specs.declared.choice.Choice.{Choice}
 use Rattle.move_energy.specs.declared.choice.Choice.TheVariants.{Open, Zero as DecidedZero, One as DecidedOne}
-use Rattle.move_energy.specs.Choices.{bit_of, choice_at, choice_of, value_of, rank, made_by, AreAllOpen, AreSettled, StandsFor}
+use Rattle.move_energy.specs.Choices.{bit_of, choice_at, choice_of, value_of, open_rank, made_by, AreAllOpen, AreSettled, StandsFor}
 use Rattle.moves.specs.Building.{site_values, made_value}
 use Rattle.deciding.specs.Decisions.{IsSmallestLeast}
 use Rattle.deciding.specs.MoveValues.{move_value}
 use Rattle.deciding.proofs.Rises.{move_falls, move_over}
-use Rattle.closing_in.specs.Fixing.{fixed}
+use Rattle.closing_in.specs.Fixing.{with_choices}
 use Rattle.closing_in.specs.Agreeing.{Agree}
 use Rattle.closing_in.specs.Forms.{bits_by_site}
 use Rattle.closing_in.proofs.Agreeing.{rest_agrees}
@@ -41,41 +41,41 @@ antisym y z h k = omega (arith, ints)
 -- ---- the values of all sites
 
 stands_for : (m : Instance) (move : Move) (f h : ℕ → ℕ) → IsInstance m → IsReached move m.sites f h
-    → energy m (made move f (λ p. eqb (h p) (favoured move))) ≡ energy m h
+    → energy m (labelling_made move f (λ p. eqb (h p) (favoured_label move))) ≡ energy m h
 stands_for m move f h pairs reached =
-    energy-same m (made move f (λ p. eqb (h p) (favoured move))) h pairs (λ p l. label_in-favoured move (f p) (h p) (reached p l))
+    energy-same m (labelling_made move f (λ p. eqb (h p) (favoured_label move))) h pairs (λ p l. label_in-favoured move (f p) (h p) (reached p l))
 
 lowest_of : (m : Instance) (move : Move) (f h : ℕ → ℕ) (x : ℕ → Bool) → IsInstance m → IsSmallestLeast m.sites (made_value m move f) x → IsReached move m.sites f h
-    → energy m (made move f x) ≤ energy m h
+    → energy m (labelling_made move f x) ≤ energy m h
 lowest_of m move f h x pairs least reached =
-    let below = least.least (λ p. eqb (h p) (favoured move)) in
+    let below = least.least (λ p. eqb (h p) (favoured_label move)) in
     let same = stands_for m move f h pairs reached in
     omega (arith, ints, below, same)
 
 smallest_of : (m : Instance) (move : Move) (f h : ℕ → ℕ) (x : ℕ → Bool) → IsInstance m → IsSmallestLeast m.sites (made_value m move f) x → IsReached move m.sites f h
-    → energy m h ≤ energy m (made move f x) → LabelsWithin m.sites (favoured move) (made move f x) h
+    → energy m h ≤ energy m (labelling_made move f x) → LabelsWithin m.sites (favoured_label move) (labelling_made move f x) h
 smallest_of m move f h x pairs least reached low p l is =
-    let bits = λ (q : ℕ). eqb (h q) (favoured move) in
+    let bits = λ (q : ℕ). eqb (h q) (favoured_label move) in
     let same = stands_for m move f h pairs reached in
     let below = least.least bits in
     let level : made_value m move f bits ≡ made_value m move f x = antisym _ _ (omega (arith, ints, same, low)) below in
     elim (cases_label_in move (f p)) [
       | inl fixed ↦ sym (label_in-favoured move (f p) (h p) (reached p l)) ∙ label_in-fixed move (f p) (bits p) (x p) fixed ∙ is
       | inr changes ↦ elim (cases_Bool (x p)) [
-        | inl one ↦ is_eqb (h p) (favoured move) (least.smallest bits level p l one)
-        | inr none ↦ absurd (changes (label_in-one move (f p) changes ∙ sym is ∙ ap (label_in move (f p)) none))
+        | inl one ↦ is_eqb (h p) (favoured_label move) (least.smallest bits level p l one)
+        | inr none ↦ absurd (changes (label_in-one move (f p) changes ∙ sym is ∙ ap (label_after move (f p)) none))
       ]
     ]
 
 -- the labelling that the least values make is the best one, if it is the labelling itself where it is no lower
 best_of : (m : Instance) (move : Move) (f g : List ℕ) (x : ℕ → Bool) → IsInstance m → IsSmallestLeast m.sites (made_value m move (labelling f)) x
-    → length g ≡ length f → Agrees m.sites (labelling g) (made move (labelling f) x)
+    → length g ≡ length f → Agrees m.sites (labelling g) (labelling_made move (labelling f) x)
     → (energy m (labelling f) ≤ energy m (labelling g) → g ≡ f) → IsBest m move f g
 best_of m move f g x pairs least same agrees kept =
-    let here = energy-same m (labelling g) (made move (labelling f) x) pairs agrees in
+    let here = energy-same m (labelling g) (labelling_made move (labelling f) x) pairs agrees in
     record {
       sites = same;
-      reached = reached-same move m.sites (labelling f) (labelling g) (made move (labelling f) x) agrees (made-reached move m.sites (labelling f) x);
+      reached = reached-same move m.sites (labelling f) (labelling g) (labelling_made move (labelling f) x) agrees (made-reached move m.sites (labelling f) x);
       lowest = λ h to. omega (arith, here, lowest_of m move (labelling f) h x pairs least to);
       kept = kept;
       smallest = λ lower h to low p l is. smallest_of m move (labelling f) h x pairs least to (omega (arith, here, low)) p l (sym (agrees p l) ∙ is);
@@ -83,35 +83,35 @@ best_of m move f g x pairs least same agrees kept =
 
 -- an expansion keeps the labelling by itself where it lowers nothing
 expand_best : (m : Instance) (a : ℕ) (f g : List ℕ) (x : ℕ → Bool) → IsInstance m → IsSmallestLeast m.sites (made_value m (Expand a) (labelling f)) x
-    → length f ≡ m.sites → length g ≡ length f → Agrees m.sites (labelling g) (made (Expand a) (labelling f) x) → IsBest m (Expand a) f g
+    → length f ≡ m.sites → length g ≡ length f → Agrees m.sites (labelling g) (labelling_made (Expand a) (labelling f) x) → IsBest m (Expand a) f g
 expand_best m a f g x pairs least len same agrees =
-    let here = energy-same m (labelling g) (made (Expand a) (labelling f) x) pairs agrees in
+    let here = energy-same m (labelling g) (labelling_made (Expand a) (labelling f) x) pairs agrees in
     best_of m (Expand a) f g x pairs least same agrees (λ none_lower.
     let within = smallest_of m (Expand a) (labelling f) (labelling f) x pairs least (stays-reached (Expand a) m.sites (labelling f)) (omega (arith, here, none_lower)) in
     lists_agree f g same (λ p l.
     let q : p < m.sites = omega (arith, l, len) in
-    agrees p q ∙ expand-kept a m.sites (labelling f) (made (Expand a) (labelling f) x) (made-reached (Expand a) m.sites (labelling f) x) within p q))
+    agrees p q ∙ expand-kept a m.sites (labelling f) (labelling_made (Expand a) (labelling f) x) (made-reached (Expand a) m.sites (labelling f) x) within p q))
 
 -- so what an expansion makes is best
 pub expanded_best : (m : Instance) (move : Move) (a : ℕ) (f g : List ℕ) (x : ℕ → Bool) → move ≡ Expand a → IsInstance m
     → IsSmallestLeast m.sites (made_value m move (labelling f)) x → length f ≡ m.sites → length g ≡ length f
-    → Agrees m.sites (labelling g) (made move (labelling f) x) → IsBest m move f g
+    → Agrees m.sites (labelling g) (labelling_made move (labelling f) x) → IsBest m move f g
 expanded_best m move a f g x is pairs least len same agrees =
-    let P : Move → Type 0 = λ mv. IsSmallestLeast m.sites (made_value m mv (labelling f)) x → Agrees m.sites (labelling g) (made mv (labelling f) x) → IsBest m mv f g in
+    let P : Move → Type 0 = λ mv. IsSmallestLeast m.sites (made_value m mv (labelling f)) x → Agrees m.sites (labelling g) (labelling_made mv (labelling f) x) → IsBest m mv f g in
     let own : P (Expand a) = λ least_too agrees_too. expand_best m a f g x pairs least_too len same agrees_too in
     subst P (sym is) own least agrees
 
 -- and of any move what is lower
 pub lower_best : (m : Instance) (move : Move) (f g : List ℕ) (x : ℕ → Bool) → IsInstance m → IsSmallestLeast m.sites (made_value m move (labelling f)) x
-    → length g ≡ length f → Agrees m.sites (labelling g) (made move (labelling f) x)
-    → energy m (made move (labelling f) x) < energy m (labelling f) → IsBest m move f g
+    → length g ≡ length f → Agrees m.sites (labelling g) (labelling_made move (labelling f) x)
+    → energy m (labelling_made move (labelling f) x) < energy m (labelling f) → IsBest m move f g
 lower_best m move f g x pairs least same agrees low =
-    let here = energy-same m (labelling g) (made move (labelling f) x) pairs agrees in
+    let here = energy-same m (labelling g) (labelling_made move (labelling f) x) pairs agrees in
     best_of m move f g x pairs least same agrees (λ no. absurd (omega (arith, here, low, no)))
 
 -- where what the least values make is no lower, the labelling itself is best
 pub kept_best : (m : Instance) (move : Move) (f : List ℕ) (x : ℕ → Bool) → IsInstance m → IsSmallestLeast m.sites (made_value m move (labelling f)) x
-    → energy m (labelling f) ≤ energy m (made move (labelling f) x) → IsBest m move f f
+    → energy m (labelling f) ≤ energy m (labelling_made move (labelling f) x) → IsBest m move f f
 kept_best m move f x pairs least low = record {
   sites = refl;
   reached = stays-reached move m.sites (labelling f);
@@ -154,14 +154,14 @@ pub agreed_least : (m : Instance) (move : Move) (f : ℕ → ℕ) (choice : ℕ 
     → IsSmallestLeast m.sites (move_value m move f) (λ p. bit_of (choice p) (y (variable p)))
 agreed_least m move f choice q variable y pairs allowed agree stands least =
     let P : (ℕ → Bool) → Type 0 = λ x. IsSmallestLeast m.sites (move_value m move f) x in
-    let same : fixed choice (bits_by_site choice variable y) ≡ (λ p. bit_of (choice p) (y (variable p))) = λ j p. open_bit (choice p) (y (variable p)) j in
+    let same : with_choices choice (bits_by_site choice variable y) ≡ (λ p. bit_of (choice p) (y (variable p))) = λ j p. open_bit (choice p) (y (variable p)) j in
     subst P same
     (rest_agrees m.sites (move_value m move f) choice (bits_by_site choice variable y) (move_falls m move f pairs allowed) (move_over m move f pairs) agree
     (form_smallest m move f choice q variable y pairs stands least))
 
 -- the energies depend on the values of the sites alone
 pub made_over : (m : Instance) (move : Move) (f : ℕ → ℕ) → IsInstance m → (x y : ℕ → Bool) → ((k : ℕ) → k < m.sites → x k ≡ y k) → made_value m move f x ≡ made_value m move f y
-made_over m move f pairs x y same = ap pos (energy-same m (made move f x) (made move f y) pairs (λ p l. ap (label_in move (f p)) (same p l)))
+made_over m move f pairs x y same = ap pos (energy-same m (labelling_made move f x) (labelling_made move f y) pairs (λ p l. ap (label_after move (f p)) (same p l)))
 
 -- the values that the settled choices tell are those
 bit_of_choice : (b : Bool) → bit_of (choice_of b) false ≡ b
@@ -180,20 +180,20 @@ settled_least m move f old new bits pairs size settled least =
 -- the values of all sites that the variables of the open ones make
 whole_made : (m : Instance) (move : Move) (f : List ℕ) (choices : List Choice) (q : Quadratic) (variable : ℕ → ℕ) (z : ℕ → Bool) → length f ≡ m.sites → AreAllOpen move f choices
     → (stands : StandsFor m move (labelling f) (choice_at choices) q variable)
-    → Agrees m.sites (made_by move (labelling f) (choice_at choices) variable (λ i. z (stands.site i))) (made move (labelling f) z)
+    → Agrees m.sites (made_by move (labelling f) (choice_at choices) variable (λ i. z (stands.site i))) (labelling_made move (labelling f) z)
 whole_made m move f choices q variable z size whole stands p l = elim (cases_label_in move (labelling f p)) [
   | inl fixed ↦ label_in-fixed move (labelling f p) (bit_of (choice_at choices p) (z (stands.site (variable p)))) (z p) fixed
   | inr changes ↦
       let opened = (whole.opened p (omega (arith, l, size))).1 changes in
-      ap (λ (c : Choice). label_in move (labelling f p) (bit_of c (z (stands.site (variable p))))) opened
-      ∙ ap (λ q. label_in move (labelling f p) (z q)) ((stands.covers p l opened).1)
+      ap (λ (c : Choice). label_after move (labelling f p) (bit_of c (z (stands.site (variable p))))) opened
+      ∙ ap (λ q. label_after move (labelling f p) (z q)) ((stands.covers p l opened).1)
 ]
 
 whole_value : (m : Instance) (move : Move) (f : List ℕ) (choices : List Choice) (q : Quadratic) (variable : ℕ → ℕ) (z : ℕ → Bool) → IsInstance m → length f ≡ m.sites → AreAllOpen move f choices
     → (stands : StandsFor m move (labelling f) (choice_at choices) q variable)
     → quadratic_value q (λ i. z (stands.site i)) +ℤ stands.rest ≡ move_value m move (labelling f) z
 whole_value m move f choices q variable z pairs size whole stands =
-    stands.value (λ i. z (stands.site i)) ∙ ap pos (plain-same m (made_by move (labelling f) (choice_at choices) variable (λ i. z (stands.site i))) (made move (labelling f) z) pairs
+    stands.value (λ i. z (stands.site i)) ∙ ap pos (plain-same m (made_by move (labelling f) (choice_at choices) variable (λ i. z (stands.site i))) (labelling_made move (labelling f) z) pairs
     (whole_made m move f choices q variable z size whole stands))
 
 one_of : (c : Choice) (b : Bool) → c ≢ DecidedOne → bit_of c b ≡ true → (c ≡ Open) × (b ≡ true)
@@ -222,13 +222,13 @@ open_least m move f choices q variable y pairs size whole stands least = record 
 -- the same of energies with label costs, at the values of the nodes of the open sites
 open_made : (m : Instance) (move : Move) (f : List ℕ) (choices : List Choice) (variable site : ℕ → ℕ) (z : ℕ → Bool) → length f ≡ m.sites → AreAllOpen move f choices
     → ((p : ℕ) → p < m.sites → choice_at choices p ≡ Open → site (variable p) ≡ p)
-    → Agrees m.sites (made_by move (labelling f) (choice_at choices) variable (λ i. z (site i))) (made move (labelling f) z)
+    → Agrees m.sites (made_by move (labelling f) (choice_at choices) variable (λ i. z (site i))) (labelling_made move (labelling f) z)
 open_made m move f choices variable site z size whole back p l = elim (cases_label_in move (labelling f p)) [
   | inl fixed ↦ label_in-fixed move (labelling f p) (bit_of (choice_at choices p) (z (site (variable p)))) (z p) fixed
   | inr changes ↦
       let opened = (whole.opened p (omega (arith, l, size))).1 changes in
-      ap (λ (c : Choice). label_in move (labelling f p) (bit_of c (z (site (variable p))))) opened
-      ∙ ap (λ q. label_in move (labelling f p) (z q)) (back p l opened)
+      ap (λ (c : Choice). label_after move (labelling f p) (bit_of c (z (site (variable p))))) opened
+      ∙ ap (λ q. label_after move (labelling f p) (z q)) (back p l opened)
 ]
 
 along : (a b c : ℤ) → a ≤ℤ b → b ≡ c → a ≤ℤ c
@@ -241,7 +241,7 @@ pub open_made_least : (m : Instance) (move : Move) (f : List ℕ) (choices : Lis
     → IsSmallestLeast m.sites (made_value m move (labelling f)) (λ p. bit_of (choice_at choices p) (y (variable p)))
 open_made_least m move f choices n variable site y pairs size whole covers least =
     let value : (z : ℕ → Bool) → pos (energy m (made_by move (labelling f) (choice_at choices) variable (λ i. z (site i)))) ≡ made_value m move (labelling f) z =
-    λ z. ap pos (energy-same m (made_by move (labelling f) (choice_at choices) variable (λ i. z (site i))) (made move (labelling f) z) pairs
+    λ z. ap pos (energy-same m (made_by move (labelling f) (choice_at choices) variable (λ i. z (site i))) (labelling_made move (labelling f) z) pairs
     (open_made m move f choices variable site z size whole (λ p l opened. (covers p l opened).1))) in
     record {
       least = λ z. along _ _ _ (least.least (λ i. z (site i))) (value z);
@@ -253,13 +253,13 @@ open_made_least m move f choices n variable site y pairs size whole covers least
 
 -- what the labels cost by themselves, as the costs that were added
 label_meant : (m : Instance) (a : ℕ) (f : List ℕ) (choices : List Choice) (costs : List ℤ) (x : ℕ → Bool) → length f ≡ m.sites → AreCostsOf m costs
-    → costs_below (length costs) a f choices costs x ≡ label_energy m (made_by (Expand a) (labelling f) (choice_at choices) (rank choices) x)
+    → costs_below (length costs) a f choices costs x ≡ label_energy m (made_by (Expand a) (labelling f) (choice_at choices) (open_rank choices) x)
 label_meant m a f choices costs x size are =
-    let g = made_by (Expand a) (labelling f) (choice_at choices) (rank choices) x in
-    ap (λ (n : ℕ). sum_below n (λ label. counted (is_used (length f) g label) (cost_at costs label))) are.count
-    ∙ ap (λ (n : ℕ). sum_below m.labels (λ label. counted (is_used n g label) (cost_at costs label))) size
-    ∙ sum_below-same m.labels (λ label. counted (is_used m.sites g label) (cost_at costs label)) (λ label. counted (is_used m.sites g label) (m.label_cost label))
-    (λ label l. ap (counted (is_used m.sites g label)) (sym (are.each label l)))
+    let g = made_by (Expand a) (labelling f) (choice_at choices) (open_rank choices) x in
+    ap (λ (n : ℕ). sum_below n (λ label. count_if (is_used (length f) g label) (cost_at costs label))) are.count
+    ∙ ap (λ (n : ℕ). sum_below m.labels (λ label. count_if (is_used n g label) (cost_at costs label))) size
+    ∙ sum_below-same m.labels (λ label. count_if (is_used m.sites g label) (cost_at costs label)) (λ label. count_if (is_used m.sites g label) (m.label_cost label))
+    (λ label l. ap (count_if (is_used m.sites g label)) (sym (are.each label l)))
 
 costed_lower : (e : ℤ) (plain labels costs : ℕ) (old new r s : ℤ) → e ≡ pos (plain + labels) → old +ℤ r ≡ pos plain → costs ≡ labels → (old +ℤ pos costs) ≤ℤ (new +ℤ s)
     → e ≤ℤ (new +ℤ (r +ℤ s))
@@ -271,16 +271,16 @@ costed_reached plain labels costs old new r s h k l = omega (arith, ints, h, k, 
 
 -- the form with the costs of the labels hides its nodes behind those of the open sites
 costed_hides : (m : Instance) (a : ℕ) (f : List ℕ) (choices : List Choice) (old new : Quadratic) (costs : List ℤ) → length f ≡ m.sites
-    → StandsFor m (Expand a) (labelling f) (choice_at choices) old (rank choices) → AreCostsOf m costs → AddsHidden old new (costs_below (length costs) a f choices costs)
-    → Hides (vec_len old.weights) (λ x. pos (energy m (made_by (Expand a) (labelling f) (choice_at choices) (rank choices) x))) (quadratic_value new)
+    → StandsFor m (Expand a) (labelling f) (choice_at choices) old (open_rank choices) → AreCostsOf m costs → AddsHidden old new (costs_below (length costs) a f choices costs)
+    → Hides (vec_len old.weights) (λ x. pos (energy m (made_by (Expand a) (labelling f) (choice_at choices) (open_rank choices) x))) (quadratic_value new)
 costed_hides m a f choices old new costs size stands are adds = record {
   offset = stands.rest +ℤ adds.rest;
   lower = λ x.
-      let g = made_by (Expand a) (labelling f) (choice_at choices) (rank choices) x in
+      let g = made_by (Expand a) (labelling f) (choice_at choices) (open_rank choices) x in
       costed_lower (pos (energy m g)) (plain_energy m g) (label_energy m g) (costs_below (length costs) a f choices costs x) (quadratic_value old x) (quadratic_value new x)
       stands.rest adds.rest refl (stands.value x) (label_meant m a f choices costs x size are) (adds.lower x);
   reached = λ x.
-      let g = made_by (Expand a) (labelling f) (choice_at choices) (rank choices) x in
+      let g = made_by (Expand a) (labelling f) (choice_at choices) (open_rank choices) x in
       let there = adds.reached x in (
         there.0,
         there.1,
@@ -291,13 +291,13 @@ costed_hides m a f choices old new costs size stands are adds = record {
 
 -- so the least assignment of that form with the fewest ones makes the least values of all sites
 pub costed_least : (m : Instance) (a : ℕ) (f : List ℕ) (choices : List Choice) (old new : Quadratic) (costs : List ℤ) (y : ℕ → Bool) → IsInstance m → length f ≡ m.sites
-    → AreAllOpen (Expand a) f choices → StandsFor m (Expand a) (labelling f) (choice_at choices) old (rank choices) → AreCostsOf m costs
+    → AreAllOpen (Expand a) f choices → StandsFor m (Expand a) (labelling f) (choice_at choices) old (open_rank choices) → AreCostsOf m costs
     → AddsHidden old new (costs_below (length costs) a f choices costs) → IsSmallestLeast (vec_len new.weights) (quadratic_value new) y
-    → IsSmallestLeast m.sites (made_value m (Expand a) (labelling f)) (λ p. bit_of (choice_at choices p) (y (rank choices p)))
+    → IsSmallestLeast m.sites (made_value m (Expand a) (labelling f)) (λ p. bit_of (choice_at choices p) (y (open_rank choices p)))
 costed_least m a f choices old new costs y pairs size whole stands are adds least =
-    let E = λ (x : ℕ → Bool). pos (energy m (made_by (Expand a) (labelling f) (choice_at choices) (rank choices) x)) in
+    let E = λ (x : ℕ → Bool). pos (energy m (made_by (Expand a) (labelling f) (choice_at choices) (open_rank choices) x)) in
     let shown = hidden_least (vec_len old.weights) (vec_len new.weights) E (quadratic_value new) y adds.nodes (costed_hides m a f choices old new costs size stands are adds) least in
-    open_made_least m (Expand a) f choices (vec_len old.weights) (rank choices) stands.site y pairs size whole stands.covers shown
+    open_made_least m (Expand a) f choices (vec_len old.weights) (open_rank choices) stands.site y pairs size whole stands.covers shown
 
 -- ---- where no label costs anything by itself
 
@@ -308,7 +308,7 @@ same_along n E F x same least = record {
 }
 
 pub free_least : (m : Instance) (move : Move) (f : ℕ → ℕ) (x : ℕ → Bool) → AreLabelsFree m → IsSmallestLeast m.sites (move_value m move f) x → IsSmallestLeast m.sites (made_value m move f) x
-free_least m move f x free least = same_along m.sites (move_value m move f) (made_value m move f) x (λ z. ap pos (free-plain m (made move f z) free)) least
+free_least m move f x free least = same_along m.sites (move_value m move f) (made_value m move f) x (λ z. ap pos (free-plain m (labelling_made move f z) free)) least
 
 -- an energy that is no lower, or lower, without label costs, where no label costs anything by itself
 pub free_le : (m : Instance) (f g : ℕ → ℕ) → AreLabelsFree m → plain_energy m f ≤ plain_energy m g → energy m f ≤ energy m g

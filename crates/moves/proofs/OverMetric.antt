@@ -15,7 +15,7 @@ use Rattle.moves.specs.declared.error.MoveError.{MoveError}
 use Rattle.moves.specs.declared.error.MoveError.TheVariants.{NoSuchLabel, LabelCostInSwap, PairNotRegular, Workers, BadOptions, NoBound, OutOfMemory}
 use Rattle.moves.specs.declared.runs.Ended.{Ended}
 use Rattle.moves.specs.Bounds.{IsWithinBound}
-use Rattle.moves.specs.Problems.{IsMoved, IsRefusal, IsMoveRefusal, IsRunOfCycles, IsRunRefusal}
+use Rattle.moves.specs.Problems.{IsMoved, IsCauseOfRefusal, IsMoveRefusal, IsRunOfCycles, IsRunRefusal}
 use Rattle.moves.specs.Refusals.{IsMemoryOrCut, IsRefusalOver}
 use Rattle.moves.specs.Runs.{MayMake}
 use Rattle.moves.proofs.Answers.{metric_refusal}
@@ -24,7 +24,7 @@ use Rattle.moves.proofs.Entries.{metric_run}
 -- a move between the labels of a metric is refused for memory or a cut alone
 move_refused : (refuses : SolveError → Type 0) (labels : ℕ) (m : Instance) (move : Move) (f : LabelField) (e : MoveError)
     → All (λ label. label < f.labels) f.at → IsInstance m → length f.at ≡ m.sites → f.labels ≡ m.labels → IsMetric m.labels m.smooth_cost
-    → IsMoveOf m.labels move → (IsSwap move → AreLabelsFree m) → IsRefusal m move f.at e → IsMoveRefusal refuses labels move e → IsMemoryOrCut refuses e
+    → IsMoveOf m.labels move → (IsSwap move → AreLabelsFree m) → IsCauseOfRefusal m move f.at e → IsMoveRefusal refuses labels move e → IsMemoryOrCut refuses e
 move_refused refuses labels m move f NoSuchLabel below pairs sites count metric inside free is may = absurd (is inside)
 move_refused refuses labels m move f LabelCostInSwap below pairs sites count metric inside free is may = absurd (is.2 (free is.1))
 move_refused refuses labels m move f (PairNotRegular place alpha beta) below pairs sites count metric inside free is may =
@@ -39,7 +39,7 @@ pub moved_over_metric : (refuses : SolveError → Type 0) (labels : ℕ) (m : In
     → IsMoveOf m.labels move → (IsSwap move → AreLabelsFree m) → IsMoved m move f g.at r → IfErr r (IsMoveRefusal refuses labels move) → IfErr r (IsRefusalOver m refuses)
 moved_over_metric refuses labels m move f g (Ok changed) below pairs sites count inside free moved may = tt
 moved_over_metric refuses labels m move f g (Err e) below pairs sites count inside free moved may = λ metric.
-    let P : List ℕ → Type 0 = λ h. IsRefusal m move h e in
+    let P : List ℕ → Type 0 = λ h. IsCauseOfRefusal m move h e in
     move_refused refuses labels m move g e below pairs sites count metric inside free (subst P (sym moved.0) moved.1) may
 
 -- and so is a run of moves that may be made

@@ -5,7 +5,7 @@ use Rattle.std.proofs.lemmas.Bool.{cases_lt, cases_eq, cases_Bool}
 use Rattle.std.proofs.lemmas.List.{length-set, get_or-set_same, get_or-set_other}
 use Rattle.labellings.specs.declared.change.Move.{Move}
 use Rattle.labellings.specs.Energies.{labelling}
-use Rattle.labellings.specs.Moves.{MayBecome, IsReached, label_in}
+use Rattle.labellings.specs.Moves.{MayBecome, IsReached, label_after}
 use Rattle.labellings.proofs.Best.{lists_agree}
 use Rattle.labellings.proofs.Reaching.{becomes_label_in}
 
@@ -71,7 +71,7 @@ written_all old new label n changed written all = (
 )
 
 -- labels that values make are reached, whatever the values are
-pub values_reach : (move : Move) (f g : List ℕ) (x : ℕ → Bool) → ((p : ℕ) → p < length f → slice_index g p ≡ label_in move (slice_index f p) (x p))
+pub values_reach : (move : Move) (f g : List ℕ) (x : ℕ → Bool) → ((p : ℕ) → p < length f → slice_index g p ≡ label_after move (slice_index f p) (x p))
     → IsReached move (length f) (labelling f) (labelling g)
 values_reach move f g x each p l =
     let P : ℕ → Type 0 = λ label. MayBecome move (labelling f p) label in

@@ -16,11 +16,11 @@ use Rattle.compile_cut.specs.declared.quadratic.Quadratic.{Quadratic}
 use Rattle.compile_cut.specs.Quadratics.{quadratic_value}
 use Rattle.move_energy.specs.declared.choice.Choice.{Choice}
 use Rattle.move_energy.specs.declared.choice.Choice.TheVariants.{Zero}
-use Rattle.move_energy.specs.Choices.{choice_at, value_of, rank, StandsFor}
+use Rattle.move_energy.specs.Choices.{choice_at, value_of, open_rank, StandsFor}
 use Rattle.deciding.specs.Decisions.{IsSmallestLeast}
 use Rattle.deciding.specs.MoveValues.{move_value}
 use Rattle.deciding.proofs.Rises.{move_falls, move_over}
-use Rattle.closing_in.specs.Fixing.{fixed, AreLeastZeros}
+use Rattle.closing_in.specs.Fixing.{with_choices, AreLeastZeros}
 use Rattle.stages.specs.Fresh.{WasExpanded, AreFresh, IsApart}
 use Rattle.stages.specs.Looking.{IsClosedIn}
 use Rattle.stages.proofs.Parts.{ones_can_take}
@@ -34,12 +34,12 @@ use Rattle.moves.proofs.Least.{expanded_best, free_least}
 -- ---- the cut of a stage
 
 pub stage_least : (m : Instance) (move : Move) (f : ℕ → ℕ) (choices : List Choice) (q : Quadratic) (bits : List Bool) → IsInstance m
-    → StandsFor m move f (choice_at choices) q (rank choices) → IsSmallestLeast (vec_len q.weights) (quadratic_value q) (assignment bits)
+    → StandsFor m move f (choice_at choices) q (open_rank choices) → IsSmallestLeast (vec_len q.weights) (quadratic_value q) (assignment bits)
     → IsStageLeast m move f choices bits
 stage_least m move f choices q bits pairs stands least = record {
-  values = bits_by_site (choice_at choices) (rank choices) (assignment bits);
-  least = form_smallest m move f (choice_at choices) q (rank choices) (assignment bits) pairs stands least;
-  shown = λ p. open_bit (choice_at choices p) (assignment bits (rank choices p));
+  values = bits_by_site (choice_at choices) (open_rank choices) (assignment bits);
+  least = form_smallest m move f (choice_at choices) q (open_rank choices) (assignment bits) pairs stands least;
+  shown = λ p. open_bit (choice_at choices p) (assignment bits (open_rank choices p));
 }
 
 -- ---- the zeros of the stages
@@ -77,7 +77,7 @@ pub closed_ends : (m : Instance) (a : ℕ) (f : List ℕ) (pairs : PairList) (ch
     → AreLeastZeros m.sites (move_value m (Expand a) (labelling f)) (choice_at choices)
     → IsSmallestLeast m.sites (move_value m (Expand a) (labelling f)) taken
 closed_ends m a f pairs choices bits taken fresh changed is_instance sites list allowed stage closed was are_fresh zeros =
-    let t = fixed (choice_at choices) stage.values in
+    let t = with_choices (choice_at choices) stage.values in
     let apart : All (IsApart a (labelling f) t taken) m.pairs = λ i d li.
     let here = subst (λ (ps : List _). All (IsApart a (labelling f) (value_of choices bits) taken) ps) (sym list) (closed.apart a (labelling f)) i d li in (
       (λ one takes. here.0 one (sym (stage.shown _) ∙ takes)),

@@ -11,7 +11,7 @@ use Rattle.labellings.specs.declared.change.Move.{Move}
 use Rattle.labellings.proofs.Chains.{settled_is_local}
 use Rattle.labellings.proofs.Ratio.{expansion_bound}
 use Rattle.moves.specs.Bounds.{IsBoundOf}
-use Rattle.moves.specs.Problems.{IsRefusal, IsRunOfCycles}
+use Rattle.moves.specs.Problems.{IsCauseOfRefusal, IsRunOfCycles}
 use Rattle.moves.specs.declared.bound.Bound.{Bound}
 use Rattle.moves.specs.declared.error.MoveError.{MoveError}
 use Rattle.moves.specs.declared.error.MoveError.TheVariants.{LabelCostInSwap}
@@ -19,7 +19,7 @@ use Rattle.moves.specs.declared.runs.Ended.{Ended}
 use Rattle.moves.proofs.Answers.{costs_costly, costs_free}
 use Rattle.labellings.specs.declared.cycles.Moves.{Moves}
 use Rattle.labellings.specs.declared.cycles.Moves.TheVariants.{Expansion, Swap}
-use Rattle.moves.specs.Runs.{AnswersRun, HasBound, IsNear, MayMake, TellsBound}
+use Rattle.moves.specs.Runs.{AnswersRun, HasBound, IsNearLeast, MayMake, TellsBound}
 use Rattle.moves.specs.declared.tables.Run.{Run}
 use Rattle.moves.proofs.Entries.{place_in}
 
@@ -36,7 +36,7 @@ free_costs m labels costs same are has free label =
 -- a settled run of expansions is near
 is_near : (m : Instance) (start : List ℕ) (cycles : ℕ) (field : LabelField) (ended : Ended) (bound : Bound)
     → IsInstance m → All (λ label. label < field.labels) field.at → length field.at ≡ m.sites → field.labels ≡ m.labels
-    → IsBoundOf m bound → IsChain m (moves_of Expansion m.labels) cycles start field.at ended.cycles true → IsNear m field.at bound
+    → IsBoundOf m bound → IsChain m (moves_of Expansion m.labels) cycles start field.at ended.cycles true → IsNearLeast m field.at bound
 is_near m start cycles field ended bound pairs below sites labels of chain = record {
   ratio = of.ratio;
   near = λ h lh. expansion_bound m (labelling field.at) h bound.vmin bound.vmax pairs of.metric of.ratio of.free
@@ -90,9 +90,9 @@ bound_small m most k table moves cycles start (Err e) same costs is some answers
 bound_small m most k table moves cycles start (Ok run) same costs is some answers =
     told_small m most k table moves run.labelling.at run.ended.settled run.bound same costs is some answers.4
 
-of_label : (m : Instance) (next : Move) (g : List ℕ) (e : MoveError) → e ≡ LabelCostInSwap → IsRefusal m next g e → ¬ AreLabelsFree m
+of_label : (m : Instance) (next : Move) (g : List ℕ) (e : MoveError) → e ≡ LabelCostInSwap → IsCauseOfRefusal m next g e → ¬ AreLabelsFree m
 of_label m next g e is refusal =
-    let R : MoveError → Type 0 = λ x. IsRefusal m next g x in
+    let R : MoveError → Type 0 = λ x. IsCauseOfRefusal m next g x in
     (subst R is refusal).2
 
 expansion_apart : Expansion ≡ Swap → ⊥

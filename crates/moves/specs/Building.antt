@@ -2,7 +2,7 @@
 use Rattle.std.specs.Prelude.{◌≡◌, ◌<◌, ◌≤◌, ◌==◌, ℕ, Bool, true, false, not, List, length, vec_len, IsTrue, Result, Ok, Err, ℤ, pos}
 use Rattle.labellings.specs.declared.change.Move.{Move}
 use Rattle.labellings.specs.Energies.{Instance, labelling, energy}
-use Rattle.labellings.specs.Moves.{IsAllowed, made}
+use Rattle.labellings.specs.Moves.{IsAllowed, labelling_made}
 use Rattle.pseudo_bool.specs.Energies.{assignment}
 use Rattle.compile_cut.specs.Quadratics.{quadratic_value}
 use Rattle.compile_cut.specs.Weights.{weights_size}
@@ -13,7 +13,7 @@ use Rattle.move_energy.specs.Choices.{bit_of, choice_at, value_of, AreOpenSites}
 use Rattle.move_energy.specs.Problems.{IsPrepareRefusal}
 use Rattle.move_energy.specs.Limits.{weights_limit}
 use Rattle.move_energy.specs.Weights.{AreWeights}
-use Rattle.sums.specs.Sums.{counted}
+use Rattle.sums.specs.Sums.{count_if}
 use Rattle.move_energy.specs.declared.by_site.Neighbours.{Neighbours}
 use Rattle.label_field.specs.declared.pair.Pair.{Pair}
 use Rattle.label_field.specs.PairLists.{PairList}
@@ -28,13 +28,14 @@ abbrev pub IsGroupedFor : PairList → Workspace → Type 0
 IsGroupedFor pairs space = IsTrue space.grouped → AreBySite pairs space.deciding.ends
 
 -- the lists of the workspace are those of the move from f, and its pairs are by their sites
-pub record IsNear (pairs : PairList) (move : Move) (f : List ℕ) (space : Workspace) : Type 0 where
+pub record HasListsOfMove (pairs : PairList) (move : Move) (f : List ℕ)
+    (space : Workspace) : Type 0 where
   pub by_site : AreBySite pairs space.deciding.ends
   pub lists : AreListed move (labelling f) space.built.variables.choices.items space.deciding.lists
 
 -- they are, where a move is to look at the listed sites alone
 abbrev pub IsNearWhereListed : PairList → Move → List ℕ → Workspace → Type 0
-IsNearWhereListed pairs move f space = IsTrue space.deciding.lists.listed → IsNear pairs move f space
+IsNearWhereListed pairs move f space = IsTrue space.deciding.lists.listed → HasListsOfMove pairs move f space
 
 -- what is left of a move is listed: its open sites, and among the changing ones each whose label can still become another
 pub record IsRestListed (pairs : PairList) (move : Move) (f : List ℕ) (space : Workspace) : Type 0 where
@@ -67,11 +68,11 @@ site_values choices p = bit_of (choice_at choices p) false
 
 -- do the values change the label of a site?
 abbrev pub moves_site : Move → (ℕ → ℕ) → List Choice → ℕ → Bool
-moves_site move f choices p = not (made move f (site_values choices) p == f p)
+moves_site move f choices p = not (labelling_made move f (site_values choices) p == f p)
 
 -- the sum of a value over the pairs that are counted at a site, where its label changes
 abbrev pub moved_met : Neighbours → (ℕ → Bool) → (Pair → ℕ) → ℕ → ℕ
-moved_met ends moved value site = counted (moved site) (met_at ends moved value site)
+moved_met ends moved value site = count_if (moved site) (met_at ends moved value site)
 
 -- the sites are listed, and among them are all whose labels the values change
 pub record HasChanges (move : Move) (f : List ℕ) (choices : List Choice) (sites : List ℕ) : Type 0 where
@@ -86,7 +87,7 @@ pub record AreChangesListed (pairs : PairList) (move : Move) (f : List ℕ) (spa
 
 -- the energy of the labelling that a value for each site makes
 abbrev pub made_value : Instance → Move → (ℕ → ℕ) → (ℕ → Bool) → ℤ
-made_value m move f x = pos (energy m (made move f x))
+made_value m move f x = pos (energy m (labelling_made move f x))
 
 -- the least assignment of the form with the fewest ones makes the least values of all sites with the fewest ones
 abbrev pub MakesLeast : Instance → Move → List ℕ → MoveEnergy → Type 0

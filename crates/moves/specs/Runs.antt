@@ -27,7 +27,7 @@ pub record HasBound (m : Instance) (moves : Moves) (settled : Bool) : Type 0 whe
 
 -- these are the least and the greatest smooth cost of two unequal labels, and by them the labels are near the least
 -- energy: the one times theirs is at most twice the other times that of any labelling
-pub record IsNear (m : Instance) (labels : List ℕ) (bound : Bound) : Type 0 where
+pub record IsNearLeast (m : Instance) (labels : List ℕ) (bound : Bound) : Type 0 where
   pub ratio : IsRatio m.labels m.smooth_cost bound.vmin bound.vmax
   pub near : (h : ℕ → ℕ) → IsLabelled m h
       → bound.vmin * energy m (labelling labels) ≤ (2 * bound.vmax) * energy m h
@@ -35,7 +35,8 @@ pub record IsNear (m : Instance) (labels : List ℕ) (bound : Bound) : Type 0 wh
 -- a bound is told exactly where the run that ended at these labels has one
 abbrev pub TellsBound : Instance → Moves → List ℕ → Bool → Option Bound → Type 0
 TellsBound m moves labels settled None = ¬ HasBound m moves settled
-TellsBound m moves labels settled (Some bound) = HasBound m moves settled × IsNear m labels bound
+TellsBound m moves labels settled (Some bound) =
+    HasBound m moves settled × IsNearLeast m labels bound
 
 -- the run of so many cycles from a labelling: where it ended, and the three parts of the energy there; or the
 -- refusal of the next move of the chain, from the labelling that the run had come to

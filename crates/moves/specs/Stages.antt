@@ -5,7 +5,7 @@ use Rattle.label_field.specs.PairLists.{PairList}
 use Rattle.labellings.specs.declared.change.Move.{Move}
 use Rattle.labellings.specs.declared.change.Move.TheVariants.{Expand}
 use Rattle.labellings.specs.Energies.{Instance, labelling}
-use Rattle.labellings.specs.Moves.{label_in}
+use Rattle.labellings.specs.Moves.{label_after}
 use Rattle.move_energy.specs.BySite.{AreBySite}
 use Rattle.move_energy.specs.declared.choice.Choice.{Choice}
 use Rattle.move_energy.specs.Choices.{choice_at, value_of, AreOpenSites}
@@ -13,9 +13,9 @@ use Rattle.deciding.specs.Decisions.{IsSmallestLeast}
 use Rattle.deciding.specs.MoveValues.{move_value}
 use Rattle.stages.specs.declared.changes.Changes.{Changes}
 use Rattle.stages.specs.Changes.{changed_after}
-use Rattle.closing_in.specs.Fixing.{fixed, fixed_value, AreLeastZeros}
+use Rattle.closing_in.specs.Fixing.{with_choices, fixed_value, AreLeastZeros}
 use Rattle.stages.specs.Fresh.{WasExpanded, AreFresh}
-use Rattle.stages.specs.Looking.{marked}
+use Rattle.stages.specs.Looking.{is_marked}
 use Rattle.moves.specs.declared.error.MoveError.{MoveError}
 use Rattle.moves.specs.declared.workspace.Workspace.{Workspace}
 use Rattle.moves.specs.Problems.{IsMoved}
@@ -26,7 +26,7 @@ pub record IsStageLeast (m : Instance) (move : Move) (f : ℕ → ℕ) (choices 
     : Type 0 where
   pub values : ℕ → Bool
   pub least : IsSmallestLeast m.sites (fixed_value (move_value m move f) (choice_at choices)) values
-  pub shown : (p : ℕ) → fixed (choice_at choices) values p ≡ value_of choices bits p
+  pub shown : (p : ℕ) → with_choices (choice_at choices) values p ≡ value_of choices bits p
 
 -- a stage can be cut: its choices are of the sites, its open sites and its fresh sites are listed, and the pairs are by
 -- their sites
@@ -34,7 +34,7 @@ pub record IsStageReady (pairs : PairList) (space : Workspace) : Type 0 where
   pub by_site : AreBySite pairs space.deciding.ends
   pub sites : length space.built.variables.choices.items ≡ pairs.sites
   pub opened : AreOpenSites space.built.variables.choices.items space.stage.opened.items
-  pub listed : (p : ℕ) → p < pairs.sites → marked space.stage.fresh.items p ≡ true
+  pub listed : (p : ℕ) → p < pairs.sites → is_marked space.stage.fresh.items p ≡ true
       → Contains space.stage.fresh_sites.items p
   pub inside : All (λ p. p < pairs.sites) space.stage.fresh_sites.items
 
@@ -46,23 +46,24 @@ AreStageZeros m a f space =
 -- among the stage's fresh sites are all that changed since the label's last expansion, and those beside them
 abbrev pub AreStageFresh : Instance → ℕ → List ℕ → Changes → Workspace → Type 0
 AreStageFresh m a f changes space =
-    AreFresh m a (labelling f) (changed_after changes a) (marked space.stage.fresh.items)
+    AreFresh m a (labelling f) (changed_after changes a) (is_marked space.stage.fresh.items)
 
 -- what takes the label is what is taken in the workspace
 abbrev pub IsTakenLeast : Instance → ℕ → List ℕ → Workspace → Type 0
 IsTakenLeast m a f space =
-    IsSmallestLeast m.sites (move_value m (Expand a) (labelling f)) (marked space.stage.taken.items)
+    IsSmallestLeast m.sites (move_value m (Expand a) (labelling f))
+    (is_marked space.stage.taken.items)
 
 -- a closed stage ends the expansion, where its zeros and its fresh sites are what they are called
 abbrev pub EndsMove : Instance → ℕ → List ℕ → Workspace → Workspace → Type 0
 EndsMove m a f old new =
     (changed : ℕ → Bool) → WasExpanded m a changed (labelling f)
-    → AreFresh m a (labelling f) changed (marked old.stage.fresh.items)
+    → AreFresh m a (labelling f) changed (is_marked old.stage.fresh.items)
     → AreStageZeros m a f old → IsTakenLeast m a f new
 
 -- each site has the label that its value makes in an expansion
 abbrev pub HasTaken : ℕ → (ℕ → Bool) → List ℕ → List ℕ → Type 0
-HasTaken a took f g = (p : ℕ) → p < length f → labelling g p ≡ label_in (Expand a) (labelling f p) (took p)
+HasTaken a took f g = (p : ℕ) → p < length f → labelling g p ≡ label_after (Expand a) (labelling f p) (took p)
 
 -- what an expansion that looks near the changes alone answers: what the whole one would; or nothing, the labels as they were
 abbrev pub IsLater : Instance → ℕ → List ℕ → List ℕ → Result (Option Bool) MoveError → Type 0

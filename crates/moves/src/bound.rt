@@ -1,6 +1,6 @@
 //! How far a settled run of expansions is from the least energy at most.
 ghost use Rattle.std.specs.Prelude.{◌≡◌, ◌↔◌, IsTrue, IsOk, IfOk, IfErr};
-ghost use Rattle.cost_store.specs.Posed.{IsPosed, Meant};
+ghost use Rattle.cost_store.specs.Posed.{IsPosed, WhereMeant};
 ghost use Rattle.moves.specs.Bounds.{IsBoundOf};
 ghost use Rattle.cost_store.specs.LabelCosts.{costs_of as costs_in, AreFree};
 ghost use Rattle.moves.specs.Laws.{PottsRunIsNear, SettledRunIsNear};
@@ -22,7 +22,8 @@ pub fn expansion_bound<F: Fn(u32, u32) -> i64 + Sync, V: Fn(u32, u32) -> i64 + S
     problem: &Problem<F, V>,
 ) -> Result<Bound, MoveError>
     requires posed { IsPosed F.Fn V.Fn problem.now }
-    ensures bound { IfOk result (λ bound. Meant F.Fn V.Fn problem.now (λ m. IsBoundOf m bound)) }
+    ensures bound { IfOk result
+        (λ bound. WhereMeant F.Fn V.Fn problem.now (λ m. IsBoundOf m bound)) }
     ensures accepted { IsOk result ↔ (IsTrue problem.now.smooth_cost.by_metric
         × AreFree (costs_in problem.now.label_costs)) }
     ensures refused { IfErr result (λ e. e ≡ MoveError.NoBound) }

@@ -5,10 +5,10 @@ ghost use Rattle.std.specs.List.{All, Contains};
 ghost use Rattle.labellings.specs.declared.change.Move.TheVariants.{Expand};
 ghost use Rattle.labellings.specs.Energies.{labelling as labelling_of};
 ghost use Rattle.cost_store.specs.LabelCosts.{costs_of as costs_in, AreFree};
-ghost use Rattle.cost_store.specs.Posed.{IsPosed, Meant, IsAsked, FitsProblem, AreOfOneSize};
+ghost use Rattle.cost_store.specs.Posed.{IsPosed, WhereMeant, IsAsked, FitsProblem, AreOfOneSize};
 ghost use Rattle.stages.specs.Changes.{made_of, changed_after, AreStamped};
 ghost use Rattle.stages.specs.Fresh.{WasExpanded};
-ghost use Rattle.stages.specs.Looking.{marked, AreTaking};
+ghost use Rattle.stages.specs.Looking.{is_marked, AreTaking};
 ghost use Rattle.moves.specs.Building.{IsGroupedFor};
 ghost use Rattle.moves.specs.Problems.{IsMade, IsCutRefusal, IsMoveRefusal};
 ghost use Rattle.moves.specs.Stages.{IsStageReady, AreStageZeros, AreStageFresh, IsTakenLeast};
@@ -85,9 +85,9 @@ fn begin_stages<F: Fn(u32, u32) -> i64 + Sync, V: Fn(u32, u32) -> i64 + Sync>(
     requires by_site { IsGroupedFor problem.now.pairs space.old }
     ensures by_site { IsGroupedFor problem.now.pairs space.new }
     ensures stage { OnOk result (IsStageReady problem.now.pairs space.new) }
-    ensures fresh { Meant F.Fn V.Fn problem.now
+    ensures fresh { WhereMeant F.Fn V.Fn problem.now
         (λ m. OnOk result (AreStageFresh m alpha at.now changes.now space.new)) }
-    ensures zeros { Meant F.Fn V.Fn problem.now (λ m. OnOk result (AreStageZeros m alpha at.now space.new)) }
+    ensures zeros { WhereMeant F.Fn V.Fn problem.now (λ m. OnOk result (AreStageZeros m alpha at.now space.new)) }
 {
     space.group(alloc, &problem.pairs)?;
     space.stage.mark_fresh(
@@ -124,7 +124,7 @@ fn look<F: Fn(u32, u32) -> i64 + Sync, V: Fn(u32, u32) -> i64 + Sync, H: How>(
     requires stamps { length changes.now.stamps.items ≡ length at.now }
     requires by_site { IsGroupedFor problem.now.pairs space.old }
     ensures by_site { IsGroupedFor problem.now.pairs space.new }
-    ensures least { Meant F.Fn V.Fn problem.now (λ m. IfOk result (λ closed. IsTrue closed →
+    ensures least { WhereMeant F.Fn V.Fn problem.now (λ m. IfOk result (λ closed. IsTrue closed →
         WasExpanded m alpha (changed_after changes.now alpha) (labelling_of at.now) →
         IsTakenLeast m alpha at.now space.new)) }
     ensures taking { IfOk result (λ closed. IsTrue closed →
@@ -185,17 +185,17 @@ pub(crate) fn make_later<F: Fn(u32, u32) -> i64 + Sync, V: Fn(u32, u32) -> i64 +
     requires fits { FitsProblem problem.now labelling.old }
     requires posed { IsPosed F.Fn V.Fn problem.now }
     requires by_site { IsGroupedFor problem.now.pairs space.old }
-    requires stamped { Meant F.Fn V.Fn problem.now
+    requires stamped { WhereMeant F.Fn V.Fn problem.now
         (λ m. AreStamped m (labelling_of labelling.old.at) changes.now) }
     ensures by_site { IsGroupedFor problem.now.pairs space.new }
     ensures sizes { AreOfOneSize labelling.old labelling.new }
-    ensures moved { Meant F.Fn V.Fn problem.now
+    ensures moved { WhereMeant F.Fn V.Fn problem.now
         (λ m. IsLater m alpha labelling.old.at labelling.new.at result) }
     ensures made { IfOk result (λ later. IfSome later
         (IsMade (Expand alpha) labelling.old.at labelling.new.at)) }
     ensures taken { IfOk result (λ later. IfSome later (λ _.
         AreTaking (length labelling.old.at) space.new.stage
-        × HasTaken alpha (marked space.new.stage.taken.items) labelling.old.at labelling.new.at
+        × HasTaken alpha (is_marked space.new.stage.taken.items) labelling.old.at labelling.new.at
         × AreFree (costs_in problem.now.label_costs))) }
     ensures unchanged { OnErr result (labelling.new ≡ labelling.old) }
     ensures kept { IfOk result (λ later. later ≡ None → labelling.new ≡ labelling.old) }

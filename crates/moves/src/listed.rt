@@ -1,13 +1,13 @@
 //! Whether a move whose changes are listed lowers the energy: the listed sites and their pairs alone are asked.
 ghost use Rattle.std.specs.Prelude.{◌≡◌, ◌<◌, ◌≤◌, ◌*◌, ◌↔◌, ℕ, pos, ◌-ℤ◌, All, length, unsigned_abs, IsTrue};
-ghost use Rattle.sums.specs.Sums.{counted};
+ghost use Rattle.sums.specs.Sums.{count_if};
 ghost use Rattle.label_field.specs.Limits.{site_limit};
 ghost use Rattle.label_field.specs.PairLists.{IsPair};
 ghost use Rattle.move_energy.specs.BySite.{AreBySite, is_counted as is_counted_at, met_at};
 ghost use Rattle.labellings.specs.Energies.{labelling, plain_energy, data_energy, smooth_energy, pair_cost as cost_of_pair};
-ghost use Rattle.labellings.specs.Moves.{made};
+ghost use Rattle.labellings.specs.Moves.{labelling_made};
 ghost use Rattle.cost_store.specs.Limits.{pair_cost_limit, data_energy_limit, smooth_energy_limit};
-ghost use Rattle.cost_store.specs.Posed.{IsPosed, Meant, IsAsked};
+ghost use Rattle.cost_store.specs.Posed.{IsPosed, WhereMeant, IsAsked};
 ghost use Rattle.moves.specs.Building.{site_values, moves_site, moved_met, HasChanges, AreChangesListed};
 
 use crate::lowering::{is_negative, lowers_all, made_label, pair_rise, site_rise};
@@ -47,7 +47,7 @@ fn data_rise_listed<F: Fn(u32, u32) -> i64 + Sync, V: Fn(u32, u32) -> i64 + Sync
     requires asked { IsAsked problem.now at.now change }
     requires choices { length choices.now ≡ length at.now }
     requires changes { HasChanges change at.now choices.now sites.now }
-    ensures rise { Meant F.Fn V.Fn problem.now (λ m. result ≡ pos (data_energy m (made change (labelling
+    ensures rise { WhereMeant F.Fn V.Fn problem.now (λ m. result ≡ pos (data_energy m (labelling_made change (labelling
         at.now) (site_values choices.now))) -ℤ pos (data_energy m (labelling at.now))) }
     ensures range { unsigned_abs result ≤ data_energy_limit }
 {
@@ -71,12 +71,13 @@ fn counted_rise<F: Fn(u32, u32) -> i64 + Sync, V: Fn(u32, u32) -> i64 + Sync>(
     requires pair { IsPair (length at.now) pair }
     requires asked { IsAsked problem.now at.now change }
     requires choices { length choices.now ≡ length at.now }
-    ensures rise { Meant F.Fn V.Fn problem.now (λ m. result ≡ pos (counted (is_counted_at (moves_site change
-        (labelling at.now) choices.now) site pair) (cost_of_pair m (made change (labelling at.now)
-        (site_values choices.now)) pair)) -ℤ pos (counted (is_counted_at (moves_site change (labelling at.now)
+    ensures rise { WhereMeant F.Fn V.Fn problem.now (λ m. result ≡ pos (count_if (is_counted_at (moves_site change
+        (labelling at.now) choices.now) site pair)
+        (cost_of_pair m (labelling_made change (labelling at.now)
+        (site_values choices.now)) pair)) -ℤ pos (count_if (is_counted_at (moves_site change (labelling at.now)
         choices.now) site pair) (cost_of_pair m (labelling at.now) pair))) }
     ensures range { unsigned_abs result ≤ pair_cost_limit
-        * counted (is_counted_at (moves_site change (labelling at.now) choices.now) site pair) 1 }
+        * count_if (is_counted_at (moves_site change (labelling at.now) choices.now) site pair) 1 }
 {
     if !is_counted(at, change, choices, site, pair) {
         return 0;
@@ -98,8 +99,8 @@ fn met_rise<F: Fn(u32, u32) -> i64 + Sync, V: Fn(u32, u32) -> i64 + Sync>(
     requires choices { length choices.now ≡ length at.now }
     requires by_site { AreBySite problem.now.pairs ends.now }
     requires site { site < length at.now }
-    ensures rise { Meant F.Fn V.Fn problem.now (λ m. result ≡ pos (met_at ends.now
-        (moves_site change (labelling at.now) choices.now) (cost_of_pair m (made change (labelling at.now)
+    ensures rise { WhereMeant F.Fn V.Fn problem.now (λ m. result ≡ pos (met_at ends.now
+        (moves_site change (labelling at.now) choices.now) (cost_of_pair m (labelling_made change (labelling at.now)
         (site_values choices.now))) site) -ℤ pos (met_at ends.now (moves_site change
         (labelling at.now) choices.now) (cost_of_pair m (labelling at.now)) site)) }
     ensures range { unsigned_abs result ≤ pair_cost_limit * met_at ends.now (moves_site
@@ -127,8 +128,8 @@ fn moved_rise<F: Fn(u32, u32) -> i64 + Sync, V: Fn(u32, u32) -> i64 + Sync>(
     requires choices { length choices.now ≡ length at.now }
     requires by_site { AreBySite problem.now.pairs ends.now }
     requires site { site < length at.now }
-    ensures rise { Meant F.Fn V.Fn problem.now (λ m. result ≡ pos (moved_met ends.now
-        (moves_site change (labelling at.now) choices.now) (cost_of_pair m (made change (labelling at.now)
+    ensures rise { WhereMeant F.Fn V.Fn problem.now (λ m. result ≡ pos (moved_met ends.now
+        (moves_site change (labelling at.now) choices.now) (cost_of_pair m (labelling_made change (labelling at.now)
         (site_values choices.now))) site) -ℤ pos (moved_met ends.now (moves_site change
         (labelling at.now) choices.now) (cost_of_pair m (labelling at.now)) site)) }
     ensures range { unsigned_abs result ≤ pair_cost_limit * moved_met ends.now
@@ -154,7 +155,7 @@ fn smooth_rise_listed<F: Fn(u32, u32) -> i64 + Sync, V: Fn(u32, u32) -> i64 + Sy
     requires choices { length choices.now ≡ length at.now }
     requires by_site { AreBySite problem.now.pairs ends.now }
     requires changes { HasChanges change at.now choices.now sites.now }
-    ensures rise { Meant F.Fn V.Fn problem.now (λ m. result ≡ pos (smooth_energy m (made change (labelling
+    ensures rise { WhereMeant F.Fn V.Fn problem.now (λ m. result ≡ pos (smooth_energy m (labelling_made change (labelling
         at.now) (site_values choices.now))) -ℤ pos (smooth_energy m (labelling at.now))) }
     ensures range { unsigned_abs result ≤ smooth_energy_limit }
 {
@@ -176,7 +177,7 @@ fn lowers_listed<F: Fn(u32, u32) -> i64 + Sync, V: Fn(u32, u32) -> i64 + Sync>(
     requires asked { IsAsked problem.now at.now change }
     requires choices { length space.now.built.variables.choices.items ≡ length at.now }
     requires changes { AreChangesListed problem.now.pairs change at.now space.now }
-    ensures { Meant F.Fn V.Fn problem.now (λ m. IsTrue result ↔ plain_energy m (made change (labelling at.now)
+    ensures { WhereMeant F.Fn V.Fn problem.now (λ m. IsTrue result ↔ plain_energy m (labelling_made change (labelling at.now)
         (site_values space.now.built.variables.choices.items)) < plain_energy m (labelling at.now)) }
 {
     let choices = space.built.variables.choices.as_slice();
@@ -199,7 +200,7 @@ pub(crate) fn lowers<F: Fn(u32, u32) -> i64 + Sync, V: Fn(u32, u32) -> i64 + Syn
     requires choices { length space.now.built.variables.choices.items ≡ length at.now }
     requires changes { IsTrue space.now.deciding.lists.listed →
         AreChangesListed problem.now.pairs change at.now space.now }
-    ensures { Meant F.Fn V.Fn problem.now (λ m. IsTrue result ↔ plain_energy m (made change (labelling at.now)
+    ensures { WhereMeant F.Fn V.Fn problem.now (λ m. IsTrue result ↔ plain_energy m (labelling_made change (labelling at.now)
         (site_values space.now.built.variables.choices.items)) < plain_energy m (labelling at.now)) }
 {
     if space.deciding.lists.listed {

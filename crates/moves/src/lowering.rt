@@ -3,9 +3,9 @@ ghost use Rattle.std.specs.Prelude.{◌≡◌, ◌<◌, ◌≤◌, ◌↔◌, �
 ghost use Rattle.label_field.specs.Limits.{site_limit};
 ghost use Rattle.label_field.specs.PairLists.{IsPair};
 ghost use Rattle.labellings.specs.Energies.{labelling, plain_energy, data_energy, smooth_energy, pair_cost as cost_of_pair};
-ghost use Rattle.labellings.specs.Moves.{label_in, made};
+ghost use Rattle.labellings.specs.Moves.{label_after, labelling_made};
 ghost use Rattle.cost_store.specs.Limits.{site_cost_limit, pair_cost_limit, data_energy_limit, smooth_energy_limit};
-ghost use Rattle.cost_store.specs.Posed.{IsPosed, Meant, IsAsked};
+ghost use Rattle.cost_store.specs.Posed.{IsPosed, WhereMeant, IsAsked};
 ghost use Rattle.moves.specs.Building.{site_values};
 
 use crate::taking::value_of;
@@ -18,7 +18,7 @@ use move_energy::Choice;
 pub(crate) fn made_label(at: &[u8], change: Move, choices: &[Choice], site: u32) -> u32
     requires site { site < length at.now }
     requires choices { length choices.now ≡ length at.now }
-    ensures { result ≡ made change (labelling at.now) (site_values choices.now) site }
+    ensures { result ≡ labelling_made change (labelling at.now) (site_values choices.now) site }
 {
     change.label(u32::from(at[site as usize]), value_of(choices, site))
 }
@@ -42,7 +42,7 @@ pub(crate) fn site_rise<F: Fn(u32, u32) -> i64 + Sync, V: Fn(u32, u32) -> i64 + 
     requires site { site < length at.now }
     requires asked { IsAsked problem.now at.now change }
     requires choices { length choices.now ≡ length at.now }
-    ensures rise { Meant F.Fn V.Fn problem.now (λ m. result ≡ pos (m.data_cost site (made change (labelling
+    ensures rise { WhereMeant F.Fn V.Fn problem.now (λ m. result ≡ pos (m.data_cost site (labelling_made change (labelling
         at.now) (site_values choices.now) site)) -ℤ pos (m.data_cost site (labelling at.now site))) }
     ensures range { unsigned_abs result ≤ site_cost_limit }
 {
@@ -64,7 +64,7 @@ fn data_rise<F: Fn(u32, u32) -> i64 + Sync, V: Fn(u32, u32) -> i64 + Sync>(
     requires posed { IsPosed F.Fn V.Fn problem.now }
     requires asked { IsAsked problem.now at.now change }
     requires choices { length choices.now ≡ length at.now }
-    ensures rise { Meant F.Fn V.Fn problem.now (λ m. result ≡ pos (data_energy m (made change (labelling
+    ensures rise { WhereMeant F.Fn V.Fn problem.now (λ m. result ≡ pos (data_energy m (labelling_made change (labelling
         at.now) (site_values choices.now))) -ℤ pos (data_energy m (labelling at.now))) }
     ensures range { unsigned_abs result ≤ data_energy_limit }
 {
@@ -87,7 +87,7 @@ pub(crate) fn pair_rise<F: Fn(u32, u32) -> i64 + Sync, V: Fn(u32, u32) -> i64 + 
     requires pair { IsPair (length at.now) pair }
     requires asked { IsAsked problem.now at.now change }
     requires choices { length choices.now ≡ length at.now }
-    ensures rise { Meant F.Fn V.Fn problem.now (λ m. result ≡ pos (cost_of_pair m (made change (labelling
+    ensures rise { WhereMeant F.Fn V.Fn problem.now (λ m. result ≡ pos (cost_of_pair m (labelling_made change (labelling
         at.now) (site_values choices.now)) pair) -ℤ pos (cost_of_pair m (labelling at.now) pair)) }
     ensures range { unsigned_abs result ≤ pair_cost_limit }
 {
@@ -113,7 +113,7 @@ fn smooth_rise<F: Fn(u32, u32) -> i64 + Sync, V: Fn(u32, u32) -> i64 + Sync>(
     requires posed { IsPosed F.Fn V.Fn problem.now }
     requires asked { IsAsked problem.now at.now change }
     requires choices { length choices.now ≡ length at.now }
-    ensures rise { Meant F.Fn V.Fn problem.now (λ m. result ≡ pos (smooth_energy m (made change (labelling
+    ensures rise { WhereMeant F.Fn V.Fn problem.now (λ m. result ≡ pos (smooth_energy m (labelling_made change (labelling
         at.now) (site_values choices.now))) -ℤ pos (smooth_energy m (labelling at.now))) }
     ensures range { unsigned_abs result ≤ smooth_energy_limit }
 {
@@ -134,7 +134,7 @@ pub(crate) fn lowers_all<F: Fn(u32, u32) -> i64 + Sync, V: Fn(u32, u32) -> i64 +
     requires posed { IsPosed F.Fn V.Fn problem.now }
     requires asked { IsAsked problem.now at.now change }
     requires choices { length choices.now ≡ length at.now }
-    ensures { Meant F.Fn V.Fn problem.now (λ m. IsTrue result ↔ plain_energy m (made change (labelling at.now)
+    ensures { WhereMeant F.Fn V.Fn problem.now (λ m. IsTrue result ↔ plain_energy m (labelling_made change (labelling at.now)
         (site_values choices.now)) < plain_energy m (labelling at.now)) }
 {
     let rise = data_rise(problem, at, change, choices);

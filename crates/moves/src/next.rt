@@ -4,9 +4,9 @@ ghost use Rattle.labellings.specs.declared.change.Move.TheVariants.{Expand};
 ghost use Rattle.labellings.specs.Energies.{labelling as labelling_of};
 ghost use Rattle.labellings.specs.Moves.{IsBest};
 ghost use Rattle.cost_store.specs.LabelCosts.{costs_of as costs_in, AreFree};
-ghost use Rattle.cost_store.specs.Posed.{IsPosed, Meant, FitsProblem, AreOfOneSize};
+ghost use Rattle.cost_store.specs.Posed.{IsPosed, WhereMeant, FitsProblem, AreOfOneSize};
 ghost use Rattle.stages.specs.Changes.{AreStamped};
-ghost use Rattle.stages.specs.Looking.{marked, AreTaking};
+ghost use Rattle.stages.specs.Looking.{is_marked, AreTaking};
 ghost use Rattle.moves.specs.Building.{IsGroupedFor, site_values};
 ghost use Rattle.moves.specs.Problems.{IsMoved, IsMoveRefusal};
 ghost use Rattle.moves.specs.Stages.{HasTaken};
@@ -32,7 +32,7 @@ pub(crate) fn begin_run<F: Fn(u32, u32) -> i64 + Sync, V: Fn(u32, u32) -> i64 + 
     cycles: u32,
 ) -> Changes
     requires fits { FitsProblem problem.now labelling.now }
-    ensures { Meant F.Fn V.Fn problem.now (λ m. AreStamped m (labelling_of labelling.now.at) result) }
+    ensures { WhereMeant F.Fn V.Fn problem.now (λ m. AreStamped m (labelling_of labelling.now.at) result) }
 {
     let comes_again = moves == Moves::Expansion && cycles > 1;
     if !comes_again || !problem.smooth_cost.by_metric || has_cost(costs_of(&problem.label_costs)) {
@@ -52,7 +52,7 @@ fn note_whole<F: Fn(u32, u32) -> i64 + Sync, V: Fn(u32, u32) -> i64 + Sync>(
     choices: &[Choice],
 )
     ensures { (f g : List ℕ) → HasTaken alpha (site_values choices.now) f g →
-        Meant F.Fn V.Fn problem.now (λ m. length f ≡ m.sites → IsBest m (Expand alpha) f g →
+        WhereMeant F.Fn V.Fn problem.now (λ m. length f ≡ m.sites → IsBest m (Expand alpha) f g →
         AreStamped m (labelling_of f) changes.old → AreStamped m (labelling_of g) changes.new) }
 {
     if has_cost(costs_of(&problem.label_costs)) {
@@ -71,8 +71,8 @@ fn note_later<F: Fn(u32, u32) -> i64 + Sync, V: Fn(u32, u32) -> i64 + Sync>(
 )
     requires free { AreFree (costs_in problem.now.label_costs) }
     ensures { (f g : List ℕ) → AreTaking (length f) stage.now →
-        HasTaken alpha (marked stage.now.taken.items) f g →
-        Meant F.Fn V.Fn problem.now (λ m. length f ≡ m.sites → IsBest m (Expand alpha) f g →
+        HasTaken alpha (is_marked stage.now.taken.items) f g →
+        WhereMeant F.Fn V.Fn problem.now (λ m. length f ≡ m.sites → IsBest m (Expand alpha) f g →
         AreStamped m (labelling_of f) changes.old → AreStamped m (labelling_of g) changes.new) }
 {
     let _costs = &problem.label_costs;
@@ -93,14 +93,14 @@ fn make_expansion<F: Fn(u32, u32) -> i64 + Sync, V: Fn(u32, u32) -> i64 + Sync, 
     requires fits { FitsProblem problem.now labelling.old }
     requires posed { IsPosed F.Fn V.Fn problem.now }
     requires by_site { IsGroupedFor problem.now.pairs space.old }
-    requires stamped { Meant F.Fn V.Fn problem.now
+    requires stamped { WhereMeant F.Fn V.Fn problem.now
         (λ m. AreStamped m (labelling_of labelling.old.at) changes.old) }
     ensures by_site { IsGroupedFor problem.now.pairs space.new }
     ensures sizes { AreOfOneSize labelling.old labelling.new }
-    ensures moved { Meant F.Fn V.Fn problem.now
+    ensures moved { WhereMeant F.Fn V.Fn problem.now
         (λ m. IsMoved m (Expand alpha) labelling.old.at labelling.new.at result) }
     ensures refused { IfErr result (IsMoveRefusal (H.refuses how.now) labelling.old.labels (Expand alpha)) }
-    ensures stamped { Meant F.Fn V.Fn problem.now
+    ensures stamped { WhereMeant F.Fn V.Fn problem.now
         (λ m. AreStamped m (labelling_of labelling.new.at) changes.new) }
 {
     let later = make_later(alloc, problem, space, labelling, alpha, changes, how)?;
@@ -130,14 +130,14 @@ pub(crate) fn make_next<F: Fn(u32, u32) -> i64 + Sync, V: Fn(u32, u32) -> i64 + 
     requires fits { FitsProblem problem.now labelling.old }
     requires posed { IsPosed F.Fn V.Fn problem.now }
     requires by_site { IsGroupedFor problem.now.pairs space.old }
-    requires stamped { Meant F.Fn V.Fn problem.now
+    requires stamped { WhereMeant F.Fn V.Fn problem.now
         (λ m. AreStamped m (labelling_of labelling.old.at) changes.old) }
     ensures by_site { IsGroupedFor problem.now.pairs space.new }
     ensures sizes { AreOfOneSize labelling.old labelling.new }
-    ensures moved { Meant F.Fn V.Fn problem.now
+    ensures moved { WhereMeant F.Fn V.Fn problem.now
         (λ m. IsMoved m change labelling.old.at labelling.new.at result) }
     ensures refused { IfErr result (IsMoveRefusal (H.refuses how.now) labelling.old.labels change) }
-    ensures stamped { Meant F.Fn V.Fn problem.now
+    ensures stamped { WhereMeant F.Fn V.Fn problem.now
         (λ m. AreStamped m (labelling_of labelling.new.at) changes.new) }
 {
     match change {

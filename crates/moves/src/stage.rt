@@ -5,17 +5,17 @@ ghost use Rattle.std.specs.Prelude.{OnOk, IfOk, IfErr};
 ghost use Rattle.label_field.specs.Limits.{site_limit, label_limit};
 ghost use Rattle.pseudo_bool.specs.Energies.{assignment};
 ghost use Rattle.pseudo_bool.specs.Limits.{term_limit};
-ghost use Rattle.compile_cut.specs.Quadratics.{IsBounded, quadratic_value};
+ghost use Rattle.compile_cut.specs.Quadratics.{IsQuadraticBounded, quadratic_value};
 ghost use Rattle.deciding.specs.Decisions.{IsSmallestLeast};
 ghost use Rattle.move_energy.specs.BySite.{AreBySite};
 ghost use Rattle.labellings.specs.declared.change.Move.TheVariants.{Expand};
 ghost use Rattle.labellings.specs.Energies.{labelling};
 ghost use Rattle.labellings.specs.Moves.{IsAllowed};
-ghost use Rattle.cost_store.specs.Posed.{IsPosed, Meant, IsAsked};
+ghost use Rattle.cost_store.specs.Posed.{IsPosed, WhereMeant, IsAsked};
 ghost use Rattle.move_energy.specs.declared.choice.Choice.TheVariants.{Zero};
 ghost use Rattle.move_energy.specs.Choices.{choice_at, value_of, open_count, IsNumbering};
 ghost use Rattle.move_energy.specs.Choices.{AreOpenSites};
-ghost use Rattle.stages.specs.Looking.{marked, IsClosedIn, AreTaking};
+ghost use Rattle.stages.specs.Looking.{is_marked, IsClosedIn, AreTaking};
 ghost use Rattle.moves.specs.Problems.{IsCutRefusal};
 ghost use Rattle.moves.specs.Stages.{IsStageLeast, IsStageReady, AreStageZeros, EndsMove};
 
@@ -47,7 +47,7 @@ fn cut_small<H: How>(
     cutting: &mut plain_cut::Workspace,
 ) -> Result<Vec<bool>, MoveError>
     requires ready { H.ready how.now }
-    requires bounded { IsBounded term_limit form }
+    requires bounded { IsQuadraticBounded term_limit form }
     requires few { vec_len form.weights ≤ site_limit + label_limit }
     ensures count { IfOk result (λ bits. length bits.items ≡ vec_len form.weights) }
     ensures least { IfOk result (λ bits. IsSmallestLeast (vec_len form.weights)
@@ -78,12 +78,14 @@ fn cut_stage<F: Fn(u32, u32) -> i64 + Sync, V: Fn(u32, u32) -> i64 + Sync, H: Ho
     requires choices { length built.old.variables.choices.items ≡ length at.now }
     requires by_site { AreBySite problem.now.pairs ends.now }
     requires opened { AreOpenSites built.old.variables.choices.items opened.now }
-    requires allowed { Meant F.Fn V.Fn problem.now (λ m. IsAllowed m change (labelling at.now)) }
+    requires allowed { WhereMeant F.Fn V.Fn problem.now
+        (λ m. IsAllowed m change (labelling at.now)) }
     ensures kept { built.new.variables.choices.items ≡ built.old.variables.choices.items }
     ensures numbering { OnOk result (IsNumbering built.new.variables.choices.items
         built.new.variables.of_sites.items) }
     ensures count { IfOk result (λ bits. length bits.items ≡ open_count built.new.variables.choices.items) }
-    ensures least { Meant F.Fn V.Fn problem.now (λ m. IfOk result (λ bits. IsStageLeast m change
+    ensures least { WhereMeant F.Fn V.Fn problem.now
+        (λ m. IfOk result (λ bits. IsStageLeast m change
         (labelling at.now) built.new.variables.choices.items bits.items)) }
     ensures refused { IfErr result (IsCutRefusal (H.refuses how.now)) }
 {
@@ -104,7 +106,7 @@ fn end_stage(space: &mut Workspace, pairs: &Pairs, bits: &[bool]) -> Result<Stan
     ensures closed { IfOk result (λ standing. standing ≡ Standing.Closed → IsClosedIn pairs.now
         (value_of space.old.built.variables.choices.items bits.now)
         (choice_at space.old.built.variables.choices.items)
-        (marked space.new.stage.taken.items) (marked space.old.stage.fresh.items)) }
+        (is_marked space.new.stage.taken.items) (is_marked space.old.stage.fresh.items)) }
     ensures taking { IfOk result (λ standing. standing ≡ Standing.Closed →
         AreTaking pairs.now.sites space.new.stage) }
     ensures open { IfOk result (λ standing. standing ≡ Standing.Open → IsStageReady pairs.now space.new) }
@@ -144,16 +146,16 @@ pub(crate) fn make_stage<F: Fn(u32, u32) -> i64 + Sync, V: Fn(u32, u32) -> i64 +
     requires asked { IsAsked problem.now at.now (Expand alpha) }
     requires posed { IsPosed F.Fn V.Fn problem.now }
     requires stage { IsStageReady problem.now.pairs space.old }
-    requires allowed { Meant F.Fn V.Fn problem.now (λ m. IsAllowed m (Expand alpha) (labelling at.now)) }
+    requires allowed { WhereMeant F.Fn V.Fn problem.now (λ m. IsAllowed m (Expand alpha) (labelling at.now)) }
     ensures same { (space.new.grouped ≡ space.old.grouped) × (space.new.deciding ≡ space.old.deciding) }
     ensures fresh { space.new.stage.fresh.items ≡ space.old.stage.fresh.items }
-    ensures closed { Meant F.Fn V.Fn problem.now (λ m. IfOk result (λ standing.
+    ensures closed { WhereMeant F.Fn V.Fn problem.now (λ m. IfOk result (λ standing.
         standing ≡ Standing.Closed → EndsMove m alpha at.now space.old space.new)) }
     ensures taking { IfOk result (λ standing. standing ≡ Standing.Closed →
         AreTaking problem.now.pairs.sites space.new.stage) }
     ensures open { IfOk result (λ standing. standing ≡ Standing.Open →
         IsStageReady problem.now.pairs space.new) }
-    ensures zeros { Meant F.Fn V.Fn problem.now (λ m. IfOk result (λ standing. standing ≡ Standing.Open →
+    ensures zeros { WhereMeant F.Fn V.Fn problem.now (λ m. IfOk result (λ standing. standing ≡ Standing.Open →
         AreStageZeros m alpha at.now space.old → AreStageZeros m alpha at.now space.new)) }
     ensures refused { IfErr result (IsCutRefusal (H.refuses how.now)) }
 {

@@ -4,7 +4,7 @@ ghost use Rattle.labellings.specs.declared.cycles.Moves.TheVariants.{Expansion};
 ghost use Rattle.labellings.specs.Energies.{Instance, IsMetric};
 ghost use Rattle.cost_store.specs.Limits.{data_limit, site_cost_limit, smooth_limit};
 ghost use Rattle.cost_store.specs.LabelCosts.{costs_of, AreFree, AreLabelCosts, HasCosts};
-ghost use Rattle.cost_store.specs.Posed.{IsPosed, Meant, FitsProblem};
+ghost use Rattle.cost_store.specs.Posed.{IsPosed, WhereMeant, FitsProblem};
 ghost use Rattle.cost_store.specs.Promises.{IsCost, IsMetricTable, Keeps, entry_at};
 ghost use Rattle.moves.specs.Bounds.{IsBoundOf};
 ghost use Rattle.moves.specs.Instances.{IsInstanceOf, data_entry, instance_of};
@@ -97,7 +97,7 @@ pub fn run_with_table<F: Fn(u32, u32) -> i64 + Sync, H: How>(
     let problem = Problem {
         pairs,
         data_cost,
-        smooth_cost: SmoothCost::stored(cost, labels, by_metric),
+        smooth_cost: SmoothCost::with_metric(cost, labels, by_metric),
         label_costs,
     };
     run_problem(alloc, &problem, request, how)
@@ -165,14 +165,14 @@ fn run_problem<F: Fn(u32, u32) -> i64 + Sync, V: Fn(u32, u32) -> i64 + Sync, H: 
     requires ready { H.ready how.now }
     requires posed { IsPosed F.Fn V.Fn problem.now }
     requires fits { FitsProblem problem.now request.start }
-    requires known { Meant F.Fn V.Fn problem.now
+    requires known { WhereMeant F.Fn V.Fn problem.now
         (λ m. IsMetric m.labels m.smooth_cost → IsTrue problem.now.smooth_cost.by_metric) }
-    ensures run { Meant F.Fn V.Fn problem.now
+    ensures run { WhereMeant F.Fn V.Fn problem.now
         (λ m. AnswersRun m request.moves request.cycles request.start.at result) }
     ensures refused { IfErr result (IsRunRefusal (H.refuses how.now)) }
     ensures metric { IsTrue problem.now.smooth_cost.by_metric →
-        Meant F.Fn V.Fn problem.now (λ m. IfErr result (λ e. ¬ TellsPairNotRegular e)) }
-    ensures over_metric { Meant F.Fn V.Fn problem.now
+        WhereMeant F.Fn V.Fn problem.now (λ m. IfErr result (λ e. ¬ TellsPairNotRegular e)) }
+    ensures over_metric { WhereMeant F.Fn V.Fn problem.now
         (λ m. MayMake m request.moves → IfErr result (IsRefusalOver m (H.refuses how.now))) }
     ensures sized { IfOk result (IsRunInRange request.start) }
 {
@@ -211,7 +211,7 @@ fn bound_of<F: Fn(u32, u32) -> i64 + Sync, V: Fn(u32, u32) -> i64 + Sync>(
 ) -> Option<Bound>
     requires posed { IsPosed F.Fn V.Fn problem.now }
     ensures bound { IfSome result (λ bound. (moves ≡ Expansion) × IsTrue ended.settled
-        × Meant F.Fn V.Fn problem.now (λ m. IsBoundOf m bound)) }
+        × WhereMeant F.Fn V.Fn problem.now (λ m. IsBoundOf m bound)) }
     ensures exact { IsNone result → moves ≡ Expansion → IsTrue ended.settled →
         IsTrue problem.now.smooth_cost.by_metric → ¬ AreFree (costs_of problem.now.label_costs) }
 {

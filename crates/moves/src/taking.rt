@@ -2,8 +2,8 @@
 ghost use Rattle.std.specs.Prelude.{◌≡◌, ◌≢◌, ◌≤◌, ◌<◌, ◌↔◌, ℕ, length, IsTrue, IsFalse, slice_index, slice_set};
 ghost use Rattle.labellings.specs.declared.change.Move.TheVariants.{Expand};
 ghost use Rattle.labellings.specs.Energies.{labelling};
-ghost use Rattle.labellings.specs.Moves.{IsBest, IsMoveOf, label_in};
-ghost use Rattle.cost_store.specs.Posed.{IsPosed, Meant, FitsProblem, AreOfOneSize};
+ghost use Rattle.labellings.specs.Moves.{IsBest, IsMoveOf, label_after};
+ghost use Rattle.cost_store.specs.Posed.{IsPosed, WhereMeant, FitsProblem, AreOfOneSize};
 ghost use Rattle.deciding.specs.Decisions.{IsSmallestLeast};
 ghost use Rattle.moves.specs.Building.{site_values, made_value, HasChanges, AreChangesListed};
 ghost use Rattle.cost_store.specs.LabelCosts.{costs_of};
@@ -37,7 +37,7 @@ pub(crate) fn take_best<F: Fn(u32, u32) -> i64 + Sync, V: Fn(u32, u32) -> i64 + 
     ensures made { IsMade change field.old.at field.new.at result }
     ensures taken { (a : ℕ) → change ≡ Expand a →
         HasTaken a (site_values space.now.built.variables.choices.items) field.old.at field.new.at }
-    ensures best { Meant F.Fn V.Fn problem.now (λ m. IsSmallestLeast m.sites (made_value m change (labelling
+    ensures best { WhereMeant F.Fn V.Fn problem.now (λ m. IsSmallestLeast m.sites (made_value m change (labelling
         field.old.at)) (site_values space.now.built.variables.choices.items) → (IsBest m change field.old.at
         field.new.at × ((IsTrue result → field.new.at ≢ field.old.at) × (IsFalse result → field.new.at ≡
         field.old.at)))) }
@@ -62,7 +62,7 @@ fn relabel(labelling: &mut Labelling, space: &Workspace, change: Move) -> bool
         space.now.built.variables.choices.items space.now.deciding.lists.changing.items }
     ensures sizes { (labelling.new.labels ≡ labelling.old.labels)
         × (length labelling.new.at ≡ length labelling.old.at) }
-    ensures each { (p : ℕ) → p < length labelling.old.at → slice_index labelling.new.at p ≡ label_in change
+    ensures each { (p : ℕ) → p < length labelling.old.at → slice_index labelling.new.at p ≡ label_after change
         (slice_index labelling.old.at p) (site_values space.now.built.variables.choices.items p) }
     ensures changed { (IsTrue result → labelling.new.at ≢ labelling.old.at) × (IsFalse result →
         labelling.new.at ≡ labelling.old.at) }
@@ -88,7 +88,7 @@ fn relabel_listed(
     ensures sizes { (labelling.new.labels ≡ labelling.old.labels)
         × (length labelling.new.at ≡ length labelling.old.at) }
     ensures each { (p : ℕ) → p < length labelling.old.at → slice_index labelling.new.at p ≡
-        label_in change (slice_index labelling.old.at p) (site_values choices.now p) }
+        label_after change (slice_index labelling.old.at p) (site_values choices.now p) }
     ensures changed { (IsTrue result → labelling.new.at ≢ labelling.old.at) × (IsFalse result →
         labelling.new.at ≡ labelling.old.at) }
 {
@@ -108,7 +108,7 @@ fn relabel_all(labelling: &mut Labelling, choices: &[Choice], change: Move) -> b
     requires choices { length choices.now ≡ length labelling.old.at }
     ensures sizes { (labelling.new.labels ≡ labelling.old.labels)
         × (length labelling.new.at ≡ length labelling.old.at) }
-    ensures each { (p : ℕ) → p < length labelling.old.at → slice_index labelling.new.at p ≡ label_in change
+    ensures each { (p : ℕ) → p < length labelling.old.at → slice_index labelling.new.at p ≡ label_after change
         (slice_index labelling.old.at p) (site_values choices.now p) }
     ensures changed { (IsTrue result → labelling.new.at ≢ labelling.old.at) × (IsFalse result →
         labelling.new.at ≡ labelling.old.at) }
@@ -136,10 +136,10 @@ pub(crate) fn relabel_site(labelling: &mut Labelling, site: u32, bit: bool, chan
     requires below { IsMoveOf labelling.old.labels change }
     requires site { site < length labelling.old.at }
     ensures written { labelling.new ≡ record labelling.old {
-      at = slice_set labelling.old.at site (label_in
+      at = slice_set labelling.old.at site (label_after
           change (slice_index labelling.old.at site) bit);
     } }
-    ensures changed { IsTrue result ↔ (label_in change (slice_index labelling.old.at site) bit ≢ slice_index
+    ensures changed { IsTrue result ↔ (label_after change (slice_index labelling.old.at site) bit ≢ slice_index
         labelling.old.at site) }
 {
     let Ok(old) = labelling.label(site) else {

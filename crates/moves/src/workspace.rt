@@ -5,15 +5,15 @@ ghost use Rattle.labellings.specs.Energies.{labelling};
 ghost use Rattle.labellings.specs.Moves.{IsAllowed};
 ghost use Rattle.label_field.specs.Limits.{site_limit, label_limit};
 ghost use Rattle.pseudo_bool.specs.Limits.{term_limit};
-ghost use Rattle.compile_cut.specs.Quadratics.{IsBounded};
-ghost use Rattle.cost_store.specs.Posed.{IsPosed, Meant, IsAsked};
+ghost use Rattle.compile_cut.specs.Quadratics.{IsQuadraticBounded};
+ghost use Rattle.cost_store.specs.Posed.{IsPosed, WhereMeant, IsAsked};
 ghost use Rattle.move_energy.specs.Choices.{choice_at, AreOpenSites, AreSettled};
 ghost use Rattle.move_energy.specs.Problems.{Stands};
 ghost use Rattle.deciding.specs.Decided.{IsDecidedMove};
 ghost use Rattle.deciding.specs.MoveValues.{move_value};
-ghost use Rattle.deciding.specs.Rising.{IsSized, IsTableOf};
+ghost use Rattle.deciding.specs.Rising.{IsRiseTable, IsTableOf};
 ghost use Rattle.closing_in.specs.Agreeing.{Agree};
-ghost use Rattle.moves.specs.Building.{IsGroupedFor, IsNear, IsNearWhereListed, IsRestWhereListed};
+ghost use Rattle.moves.specs.Building.{IsGroupedFor, HasListsOfMove, IsNearWhereListed, IsRestWhereListed};
 ghost use Rattle.moves.specs.Building.{AreWeightsSized, KnowsWeights, IsBuiltPlain, IsBuiltMove};
 ghost use Rattle.cost_store.specs.LabelCosts.{costs_of, AreCosts};
 ghost use Rattle.moves.specs.LabelCosts.{IsFreeFor};
@@ -146,15 +146,16 @@ fn decide<F: Fn(u32, u32) -> i64 + Sync, V: Fn(u32, u32) -> i64 + Sync, H: How>(
     requires posed { IsPosed F.Fn V.Fn problem.now }
     requires by_site { IsGroupedFor problem.now.pairs space.old }
     ensures by_site { IsGroupedFor problem.now.pairs space.new }
-    ensures near { OnOk result (IsNear problem.now.pairs change at.now space.new) }
+    ensures near { OnOk result (HasListsOfMove problem.now.pairs change at.now space.new) }
     ensures choices { OnOk result (length space.new.built.variables.choices.items ≡ length at.now) }
     ensures sized { OnOk result (AreWeightsSized (length at.now) space.new) }
-    ensures weights { Meant F.Fn V.Fn problem.now (λ m.
+    ensures weights { WhereMeant F.Fn V.Fn problem.now (λ m.
         OnOk result (KnowsWeights m change at.now space.new)) }
-    ensures decided { Meant F.Fn V.Fn problem.now (λ m. IsDecidedMove m change at.now
+    ensures decided { WhereMeant F.Fn V.Fn problem.now (λ m. IsDecidedMove m change at.now
         space.new.built.variables.choices.items result) }
-    ensures table { OnOk result (IsSized problem.now.data_cost.labels space.new.deciding.table) }
-    ensures rises { OnOk result (Meant F.Fn V.Fn problem.now (λ m.
+    ensures table { OnOk result
+        (IsRiseTable problem.now.data_cost.labels space.new.deciding.table) }
+    ensures rises { OnOk result (WhereMeant F.Fn V.Fn problem.now (λ m.
         IsTableOf m change space.new.deciding.table)) }
 {
     space.group(alloc, &problem.pairs)?;
@@ -178,16 +179,18 @@ fn build_near<F: Fn(u32, u32) -> i64 + Sync, V: Fn(u32, u32) -> i64 + Sync>(
     requires asked { IsAsked problem.now at.now change }
     requires posed { IsPosed F.Fn V.Fn problem.now }
     requires choices { length space.old.built.variables.choices.items ≡ length at.now }
-    requires near { IsNear problem.now.pairs change at.now space.old }
+    requires near { HasListsOfMove problem.now.pairs change at.now space.old }
     requires listed { IsTrue space.old.deciding.lists.listed }
     requires sized { AreWeightsSized (length at.now) space.old }
-    requires weights { Meant F.Fn V.Fn problem.now (λ m. KnowsWeights m change at.now space.old) }
-    requires allowed { Meant F.Fn V.Fn problem.now (λ m. IsAllowed m change (labelling at.now)) }
+    requires weights { WhereMeant F.Fn V.Fn problem.now
+        (λ m. KnowsWeights m change at.now space.old) }
+    requires allowed { WhereMeant F.Fn V.Fn problem.now
+        (λ m. IsAllowed m change (labelling at.now)) }
     ensures same { (space.new.grouped ≡ space.old.grouped) × (space.new.deciding ≡ space.old.deciding) }
     ensures kept { space.new.built.variables.choices.items ≡ space.old.built.variables.choices.items }
-    ensures bounded { OnOk result (IsBounded term_limit space.new.built.form) }
+    ensures bounded { OnOk result (IsQuadraticBounded term_limit space.new.built.form) }
     ensures few { OnOk result (vec_len space.new.built.form.weights ≤ site_limit) }
-    ensures stands { Meant F.Fn V.Fn problem.now (λ m. OnOk result (Stands m change at.now space.new.built)) }
+    ensures stands { WhereMeant F.Fn V.Fn problem.now (λ m. OnOk result (Stands m change at.now space.new.built)) }
 {
     space.built.build_weighted_listed(
         alloc,
@@ -215,14 +218,16 @@ fn build_all<F: Fn(u32, u32) -> i64 + Sync, V: Fn(u32, u32) -> i64 + Sync>(
     requires by_site { IsGroupedFor problem.now.pairs space.old }
     requires far { space.old.deciding.lists.listed ≡ false }
     requires sized { AreWeightsSized (length at.now) space.old }
-    requires weights { Meant F.Fn V.Fn problem.now (λ m. KnowsWeights m change at.now space.old) }
-    requires allowed { Meant F.Fn V.Fn problem.now (λ m. IsAllowed m change (labelling at.now)) }
+    requires weights { WhereMeant F.Fn V.Fn problem.now
+        (λ m. KnowsWeights m change at.now space.old) }
+    requires allowed { WhereMeant F.Fn V.Fn problem.now
+        (λ m. IsAllowed m change (labelling at.now)) }
     ensures by_site { IsGroupedFor problem.now.pairs space.new }
     ensures far { space.new.deciding.lists.listed ≡ false }
     ensures kept { space.new.built.variables.choices.items ≡ space.old.built.variables.choices.items }
-    ensures bounded { OnOk result (IsBounded term_limit space.new.built.form) }
+    ensures bounded { OnOk result (IsQuadraticBounded term_limit space.new.built.form) }
     ensures few { OnOk result (vec_len space.new.built.form.weights ≤ site_limit) }
-    ensures stands { Meant F.Fn V.Fn problem.now (λ m. OnOk result (Stands m change at.now space.new.built)) }
+    ensures stands { WhereMeant F.Fn V.Fn problem.now (λ m. OnOk result (Stands m change at.now space.new.built)) }
 {
     give_groups_back(alloc, &mut space.grouped, &mut space.deciding);
     let weights = &space.deciding.bounds.greatest;
@@ -245,16 +250,18 @@ fn build_open<F: Fn(u32, u32) -> i64 + Sync, V: Fn(u32, u32) -> i64 + Sync>(
     requires posed { IsPosed F.Fn V.Fn problem.now }
     requires choices { length space.old.built.variables.choices.items ≡ length at.now }
     requires by_site { IsGroupedFor problem.now.pairs space.old }
-    requires near { IsNear problem.now.pairs change at.now space.old }
+    requires near { HasListsOfMove problem.now.pairs change at.now space.old }
     requires sized { AreWeightsSized (length at.now) space.old }
-    requires weights { Meant F.Fn V.Fn problem.now (λ m. KnowsWeights m change at.now space.old) }
-    requires allowed { Meant F.Fn V.Fn problem.now (λ m. IsAllowed m change (labelling at.now)) }
+    requires weights { WhereMeant F.Fn V.Fn problem.now
+        (λ m. KnowsWeights m change at.now space.old) }
+    requires allowed { WhereMeant F.Fn V.Fn problem.now
+        (λ m. IsAllowed m change (labelling at.now)) }
     ensures by_site { IsGroupedFor problem.now.pairs space.new }
     ensures near { IsNearWhereListed problem.now.pairs change at.now space.new }
     ensures kept { space.new.built.variables.choices.items ≡ space.old.built.variables.choices.items }
-    ensures bounded { OnOk result (IsBounded term_limit space.new.built.form) }
+    ensures bounded { OnOk result (IsQuadraticBounded term_limit space.new.built.form) }
     ensures few { OnOk result (vec_len space.new.built.form.weights ≤ site_limit) }
-    ensures stands { Meant F.Fn V.Fn problem.now (λ m. OnOk result (Stands m change at.now space.new.built)) }
+    ensures stands { WhereMeant F.Fn V.Fn problem.now (λ m. OnOk result (Stands m change at.now space.new.built)) }
 {
     if space.deciding.lists.listed {
         build_near(alloc, problem, space, at, change)
@@ -279,20 +286,22 @@ fn build_strips<F: Fn(u32, u32) -> i64 + Sync, V: Fn(u32, u32) -> i64 + Sync, H:
     requires posed { IsPosed F.Fn V.Fn problem.now }
     requires some { 0 < size }
     requires choices { length space.old.built.variables.choices.items ≡ length at.now }
-    requires near { IsNear problem.now.pairs change at.now space.old }
-    requires table { IsSized problem.now.data_cost.labels space.old.deciding.table }
-    requires rises { Meant F.Fn V.Fn problem.now (λ m.
+    requires near { HasListsOfMove problem.now.pairs change at.now space.old }
+    requires table { IsRiseTable problem.now.data_cost.labels space.old.deciding.table }
+    requires rises { WhereMeant F.Fn V.Fn problem.now (λ m.
         IsTableOf m change space.old.deciding.table) }
     requires sized { AreWeightsSized (length at.now) space.old }
-    requires weights { Meant F.Fn V.Fn problem.now (λ m. KnowsWeights m change at.now space.old) }
-    requires allowed { Meant F.Fn V.Fn problem.now (λ m. IsAllowed m change (labelling at.now)) }
+    requires weights { WhereMeant F.Fn V.Fn problem.now
+        (λ m. KnowsWeights m change at.now space.old) }
+    requires allowed { WhereMeant F.Fn V.Fn problem.now
+        (λ m. IsAllowed m change (labelling at.now)) }
     ensures by_site { IsGroupedFor problem.now.pairs space.new }
     ensures near { OnOk result (IsRestWhereListed problem.now.pairs change at.now space.new) }
     ensures choices { OnOk result (length space.new.built.variables.choices.items ≡ length at.now) }
-    ensures bounded { OnOk result (IsBounded term_limit space.new.built.form) }
+    ensures bounded { OnOk result (IsQuadraticBounded term_limit space.new.built.form) }
     ensures few { OnOk result (vec_len space.new.built.form.weights ≤ site_limit) }
-    ensures stands { Meant F.Fn V.Fn problem.now (λ m. OnOk result (Stands m change at.now space.new.built)) }
-    ensures agree { Meant F.Fn V.Fn problem.now (λ m.
+    ensures stands { WhereMeant F.Fn V.Fn problem.now (λ m. OnOk result (Stands m change at.now space.new.built)) }
+    ensures agree { WhereMeant F.Fn V.Fn problem.now (λ m.
         Agree m.sites (move_value m change (labelling at.now))
         (choice_at space.old.built.variables.choices.items) →
         OnOk result (Agree m.sites (move_value m change (labelling at.now))
@@ -338,9 +347,9 @@ fn build_decided<F: Fn(u32, u32) -> i64 + Sync, V: Fn(u32, u32) -> i64 + Sync, H
     ensures by_site { IsGroupedFor problem.now.pairs space.new }
     ensures near { OnOk result (IsRestWhereListed problem.now.pairs change at.now space.new) }
     ensures choices { OnOk result (length space.new.built.variables.choices.items ≡ length at.now) }
-    ensures bounded { OnOk result (IsBounded term_limit space.new.built.form) }
+    ensures bounded { OnOk result (IsQuadraticBounded term_limit space.new.built.form) }
     ensures few { OnOk result (vec_len space.new.built.form.weights ≤ site_limit) }
-    ensures built { Meant F.Fn V.Fn problem.now (λ m. IsBuiltPlain m change at.now space.new.built result) }
+    ensures built { WhereMeant F.Fn V.Fn problem.now (λ m. IsBuiltPlain m change at.now space.new.built result) }
 {
     decide(alloc, problem, space, at, change, how)?;
     let opened = space.deciding.lists.count;
@@ -367,9 +376,9 @@ fn build_whole<F: Fn(u32, u32) -> i64 + Sync, V: Fn(u32, u32) -> i64 + Sync>(
     ensures by_site { IsGroupedFor problem.now.pairs space.new }
     ensures near { OnOk result (IsRestWhereListed problem.now.pairs change at.now space.new) }
     ensures choices { OnOk result (length space.new.built.variables.choices.items ≡ length at.now) }
-    ensures bounded { OnOk result (IsBounded term_limit space.new.built.form) }
+    ensures bounded { OnOk result (IsQuadraticBounded term_limit space.new.built.form) }
     ensures few { OnOk result (vec_len space.new.built.form.weights ≤ site_limit) }
-    ensures built { Meant F.Fn V.Fn problem.now (λ m. IsBuiltPlain m change at.now space.new.built result) }
+    ensures built { WhereMeant F.Fn V.Fn problem.now (λ m. IsBuiltPlain m change at.now space.new.built result) }
 {
     space.deciding.lists.listed = false;
     space.built.prepare(alloc, problem, at, change)
@@ -391,9 +400,9 @@ fn build_plain<F: Fn(u32, u32) -> i64 + Sync, V: Fn(u32, u32) -> i64 + Sync, H: 
     ensures by_site { IsGroupedFor problem.now.pairs space.new }
     ensures near { OnOk result (IsRestWhereListed problem.now.pairs change at.now space.new) }
     ensures choices { OnOk result (length space.new.built.variables.choices.items ≡ length at.now) }
-    ensures bounded { OnOk result (IsBounded term_limit space.new.built.form) }
+    ensures bounded { OnOk result (IsQuadraticBounded term_limit space.new.built.form) }
     ensures few { OnOk result (vec_len space.new.built.form.weights ≤ site_limit) }
-    ensures built { Meant F.Fn V.Fn problem.now (λ m. IsBuiltPlain m change at.now space.new.built result) }
+    ensures built { WhereMeant F.Fn V.Fn problem.now (λ m. IsBuiltPlain m change at.now space.new.built result) }
 {
     if how.decides_first() {
         build_decided(alloc, problem, space, at, change, how)
@@ -420,9 +429,9 @@ fn build_costed<F: Fn(u32, u32) -> i64 + Sync, V: Fn(u32, u32) -> i64 + Sync>(
     ensures by_site { IsGroupedFor problem.now.pairs space.new }
     ensures near { OnOk result (IsRestWhereListed problem.now.pairs (Expand alpha) at.now space.new) }
     ensures choices { OnOk result (length space.new.built.variables.choices.items ≡ length at.now) }
-    ensures bounded { OnOk result (IsBounded term_limit space.new.built.form) }
+    ensures bounded { OnOk result (IsQuadraticBounded term_limit space.new.built.form) }
     ensures few { OnOk result (vec_len space.new.built.form.weights ≤ site_limit + label_limit) }
-    ensures built { Meant F.Fn V.Fn problem.now (λ m. AreCostsOf m costs.now →
+    ensures built { WhereMeant F.Fn V.Fn problem.now (λ m. AreCostsOf m costs.now →
         IsBuiltMove m (Expand alpha) at.now space.new.built result) }
 {
     space.deciding.lists.listed = false;
@@ -459,9 +468,9 @@ pub(crate) fn build_move<F: Fn(u32, u32) -> i64 + Sync, V: Fn(u32, u32) -> i64 +
     ensures by_site { IsGroupedFor problem.now.pairs space.new }
     ensures near { OnOk result (IsRestWhereListed problem.now.pairs change at.now space.new) }
     ensures choices { OnOk result (length space.new.built.variables.choices.items ≡ length at.now) }
-    ensures bounded { OnOk result (IsBounded term_limit space.new.built.form) }
+    ensures bounded { OnOk result (IsQuadraticBounded term_limit space.new.built.form) }
     ensures few { OnOk result (vec_len space.new.built.form.weights ≤ site_limit + label_limit) }
-    ensures built { Meant F.Fn V.Fn problem.now (λ m. IsBuiltMove m change at.now space.new.built result) }
+    ensures built { WhereMeant F.Fn V.Fn problem.now (λ m. IsBuiltMove m change at.now space.new.built result) }
 {
     let costs = costs_of(&problem.label_costs);
     let costly = has_cost(costs);

@@ -8,7 +8,7 @@ use Rattle.pgm_image.specs.Picture.{SizeFits}
 use Rattle.pgm_image.specs.Words.{numbers_at}
 use Rattle.pgm_image.specs.Grammar.{magic, AreNumbers, IsHeader, IsAnyHeader, StopsAt}
 use Rattle.pgm_image.specs.Front.{FitNumbers, IsTooLarge, RefusesFront}
-use Rattle.pgm_image.specs.Reading.{form_at, check_limits, within, after_numbers, after_form, header_at}
+use Rattle.pgm_image.specs.Reading.{form_at, check_limits, with_header, after_numbers, after_form, header_at}
 use Rattle.pgm_image.specs.declared.header.Header.{Header}
 use Rattle.pgm_image.specs.declared.header.Form.{Form}
 use Rattle.pgm_image.specs.declared.header.Form.TheVariants.{Raw, Plain}
@@ -157,7 +157,7 @@ numbers_read form header rest w h m hd = front_numbers (w ∷ h ∷ m ∷ []) hd
 
 -- a header at the front is read
 pub front_header : (form : Form) (bytes header rest : List ℕ) (w h m : ℕ) (hd : IsHeader form header w h m) → bytes ≡ header ++ rest
-    → header_at bytes ≡ within (check_limits (capped_header w h m)) form (capped_header w h m) (hd.last ∷ rest)
+    → header_at bytes ≡ with_header (check_limits (capped_header w h m)) form (capped_header w h m) (hd.last ∷ rest)
 unfolding header_at
 front_header form bytes header rest w h m hd e =
     let split = header_split form bytes header rest w h m hd e in

@@ -5,7 +5,7 @@ use Rattle.std.proofs.lemmas.List.{append-nil}
 use Rattle.pgm_image.specs.Picture.{Picture}
 use Rattle.pgm_image.specs.Grammar.{magic, IsHeader, IsAnyHeader}
 use Rattle.pgm_image.specs.Front.{Front, FitNumbers, FewerSamples, EndsEarly, HasAbove, HasBad, IsBody, RefusesFront, IsReadingOf}
-use Rattle.pgm_image.specs.Reading.{checked, told, with_front, sample_at, plain_at, samples_at, image_of, check_limits, within, header_at, image_at, RefusesImage}
+use Rattle.pgm_image.specs.Reading.{samples_or_fault, fault_error, with_front, sample_at, plain_at, samples_at, image_of, check_limits, with_header, header_at, image_at, RefusesImage}
 use Rattle.pgm_image.specs.declared.header.Header.{Header}
 use Rattle.pgm_image.specs.declared.header.Form.{Form}
 use Rattle.pgm_image.specs.declared.header.Form.TheVariants.{Raw, Plain}
@@ -33,7 +33,7 @@ body_read : (form : Form) (bytes body rest : List ℕ) (last : ℕ) (p : Picture
 body_read Raw bytes body rest last p fits count each is =
     ap (λ ys. samples_at Raw (p.width * p.height) p.maxval (length bytes) (last ∷ (ys ++ rest))) is
     ∙ raster_front (p.width * p.height) p.maxval p.samples rest count
-    ∙ ap (λ (o : Option ℕ). checked o p.samples rest) (none_above p.maxval 0 p.samples each)
+    ∙ ap (λ (o : Option ℕ). samples_or_fault o p.samples rest) (none_above p.maxval 0 p.samples each)
 body_read Plain bytes body rest last p fits count each is =
     let n : p.width * p.height ≡ length p.samples + 0 = omega arith in
     let m = p.maxval in
@@ -58,9 +58,9 @@ few_read count m end bytes xs tail r small f k =
     ∙ over_samples xs f.front tail (suc (count - length xs - 1)) m end 0 small f.are_numbers f.each f.ends
     ∙ k (count - length xs - 1)
 
-stopped_read : (count m end : ℕ) (bytes xs tail : List ℕ) (f : Fault) → m < 10000000 → FewerSamples count m bytes xs tail → sample_at tail ≡ Err f → plain_at count m end 0 bytes ≡ Err (told end f)
+stopped_read : (count m end : ℕ) (bytes xs tail : List ℕ) (f : Fault) → m < 10000000 → FewerSamples count m bytes xs tail → sample_at tail ≡ Err f → plain_at count m end 0 bytes ≡ Err (fault_error end f)
 stopped_read count m end bytes xs tail f small few e =
-    few_read count m end bytes xs tail (Err (told end f)) small few (λ j. ap (λ r. with_front xs r) (plain_fault j m end (0 + length xs) tail f e))
+    few_read count m end bytes xs tail (Err (fault_error end f)) small few (λ j. ap (λ r. with_front xs r) (plain_fault j m end (0 + length xs) tail f e))
 
 cut_read : (form : Form) (bytes rest : List ℕ) (last w h m : ℕ) → FitNumbers w h m → EndsEarly form (w * h) m last rest → Reads bytes form w h m last rest (Err Truncated)
 cut_read Raw bytes rest last w h m fits lt = raster_short (w * h) m rest lt
@@ -69,7 +69,7 @@ cut_read Plain bytes rest last w h m fits (xs, tail, more, few, gap) = stopped_r
 above_read : (form : Form) (bytes rest : List ℕ) (last w h m i : ℕ) → FitNumbers w h m → HasAbove form (w * h) m last rest i → Reads bytes form w h m last rest (Err (SampleAboveMax i))
 above_read Raw bytes rest last w h m i fits (xs, more, count, is, first) =
     ap (λ ys. samples_at Raw (w * h) m (length bytes) (last ∷ ys)) is ∙ raster_front (w * h) m xs more count
-    ∙ ap (λ (o : Option ℕ). checked o xs more) (is_first m 0 i xs first ∙ ap (λ (n : ℕ). Some n) (omega arith))
+    ∙ ap (λ (o : Option ℕ). samples_or_fault o xs more) (is_first m 0 i xs first ∙ ap (λ (n : ℕ). Some n) (omega arith))
 above_read Plain bytes rest last w h m i fits (xs, tail, x, sample, more, few, numbers, ends, is, lt, at) =
     let read : sample_at tail ≡ Ok (_, more) = ap sample_at is ∙ front_sample x sample more numbers ends in
     few_read (w * h) m (length bytes) (last ∷ rest) xs tail (Err (SampleAboveMax i)) (omega arith) few
@@ -144,7 +144,7 @@ fits_behind bytes f ok =
     let h = f.height in
     let m = f.maxval in
     let refused : (e : PgmError) → check_limits (capped_header w h m) ≡ Err e → ⊥ =
-    λ e k. no_ok (header_at bytes) e (front_header f.form bytes f.header f.rest w h m f.is_header f.whole ∙ ap (λ r. within r f.form (capped_header w h m) (f.is_header.last ∷ f.rest)) k) ok in
+    λ e k. no_ok (header_at bytes) e (front_header f.form bytes f.header f.rest w h m f.is_header f.whole ∙ ap (λ r. with_header r f.form (capped_header w h m) (f.is_header.last ∷ f.rest)) k) ok in
     elim (limits_cases w h m) [
       | inl fits ↦ record { form = f.form; header = f.header; rest = f.rest; width = w; height = h; maxval = m; is_header = f.is_header; whole = f.whole; says = fits }
       | inr o ↦ elim o [

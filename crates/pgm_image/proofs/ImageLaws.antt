@@ -6,7 +6,7 @@ use Rattle.pgm_image.specs.Picture.{Picture, picture}
 use Rattle.pgm_image.specs.Raster.{raster, raster_size}
 use Rattle.pgm_image.specs.Grammar.{magic, AreNumbers, IsHeader}
 use Rattle.pgm_image.specs.Front.{Front, FitNumbers, RefusesFront, IsReadingOf}
-use Rattle.pgm_image.specs.Reading.{first_above, checked, told, raster_at, samples_at, image_of, after_header, header_at, image_at, within, check_limits}
+use Rattle.pgm_image.specs.Reading.{first_above, samples_or_fault, fault_error, raster_at, samples_at, image_of, after_header, header_at, image_at, with_header, check_limits}
 use Rattle.pgm_image.specs.declared.header.Header.{Header}
 use Rattle.pgm_image.specs.declared.header.Form.{Form}
 use Rattle.pgm_image.specs.declared.header.Form.TheVariants.{Raw, Plain}
@@ -29,14 +29,14 @@ image_refused bytes e h = ap (λ r. after_header r (length bytes)) h
 pub limit_refused : (bytes header rest : List ℕ) (form : Form) (w h m : ℕ) (e : PgmError) → IsHeader form header w h m → bytes ≡ header ++ rest
     → check_limits (capped_header w h m) ≡ Err e → image_at bytes ≡ Err e
 limit_refused bytes header rest form w h m e hd split k =
-    image_refused bytes e (front_header form bytes header rest w h m hd split ∙ ap (λ r. within r form (capped_header w h m) (hd.last ∷ rest)) k)
+    image_refused bytes e (front_header form bytes header rest w h m hd split ∙ ap (λ r. with_header r form (capped_header w h m) (hd.last ∷ rest)) k)
 
 -- a header at the front within the limits
 pub header_fits : (bytes header rest : List ℕ) (form : Form) (w h m : ℕ) (hd : IsHeader form header w h m) → bytes ≡ header ++ rest → FitNumbers w h m
     → header_at bytes ≡ Ok (form, exact w h m, hd.last ∷ rest)
 header_fits bytes header rest form w h m hd split fits =
     front_header form bytes header rest w h m hd split
-    ∙ ap (λ r. within r form (capped_header w h m) (hd.last ∷ rest)) (limits_fit w h m fits)
+    ∙ ap (λ r. with_header r form (capped_header w h m) (hd.last ∷ rest)) (limits_fit w h m fits)
     ∙ ap (λ (x : Header). Ok (form, x, hd.last ∷ rest)) (exact_header w h m fits)
 
 pub image_from : (bytes header rest : List ℕ) (form : Form) (w h m : ℕ) (hd : IsHeader form header w h m) → bytes ≡ header ++ rest → FitNumbers w h m
@@ -74,10 +74,10 @@ raw_behind bytes header rest w h m hd split fits small = elim (cases_lt (length 
       answers_as bytes _ (Err Truncated) (ap (λ x. image_of (exact w h m) (length bytes) x) (raster_short (w * h) m rest lt)) r
   | inr le ↦
       let (xs, more, count, is) = raster_is (w * h) m rest small le in
-      let read : raster_at (w * h) m rest ≡ checked (first_above m 0 xs) xs more = ap (λ ys. raster_at (w * h) m ys) is ∙ raster_front (w * h) m xs more count in
+      let read : raster_at (w * h) m rest ≡ samples_or_fault (first_above m 0 xs) xs more = ap (λ ys. raster_at (w * h) m ys) is ∙ raster_front (w * h) m xs more count in
       elim (above_cases m xs) [
         | inl all ↦ answers_as bytes _ (Ok (picture w h m xs, length bytes - length more))
-            (ap (λ x. image_of (exact w h m) (length bytes) x) (read ∙ ap (λ (o : Option ℕ). checked o xs more) (none_above m 0 xs all)))
+            (ap (λ x. image_of (exact w h m) (length bytes) x) (read ∙ ap (λ (o : Option ℕ). samples_or_fault o xs more) (none_above m 0 xs all)))
             (raw_image bytes header rest more xs w h m hd split fits count is all)
         | inr f ↦
             let r : RefusesFront bytes (SampleAboveMax f.0) = record {
@@ -92,7 +92,7 @@ raw_behind bytes header rest w h m hd split fits small = elim (cases_lt (length 
               says = (fits, (xs, more, count, is, f.1));
             } in
             answers_as bytes _ (Err (SampleAboveMax f.0))
-            (ap (λ x. image_of (exact w h m) (length bytes) x) (read ∙ ap (λ (o : Option ℕ). checked o xs more) (is_first m 0 f.0 xs f.1 ∙ ap (λ (n : ℕ). Some n) (omega arith)))) r
+            (ap (λ x. image_of (exact w h m) (length bytes) x) (read ∙ ap (λ (o : Option ℕ). samples_or_fault o xs more) (is_first m 0 f.0 xs f.1 ∙ ap (λ (n : ℕ). Some n) (omega arith)))) r
       ]
 ]
 
@@ -125,7 +125,7 @@ plain_image bytes header rest w h m hd split fits r some =
     }
 
 stopped_behind : (bytes header rest : List ℕ) (w h m : ℕ) (hd : IsHeader Plain header w h m) → bytes ≡ header ++ rest → FitNumbers w h m
-    → (r : PlainStopped (w * h) m (length bytes) 0 (hd.last ∷ rest)) (f : Fault) → r.fault ≡ f → IsReadingOf bytes (Err (told (length bytes) f))
+    → (r : PlainStopped (w * h) m (length bytes) 0 (hd.last ∷ rest)) (f : Fault) → r.fault ≡ f → IsReadingOf bytes (Err (fault_error (length bytes) f))
 stopped_behind bytes header rest w h m hd split fits r Ended e =
     let a : RefusesFront bytes Truncated = record {
       form = Plain;
@@ -159,7 +159,7 @@ plain_behind bytes header rest w h m hd split fits some = elim (plain_says (w * 
   | inl r ↦ answers_as bytes _ (Ok (picture w h m r.samples, length bytes - length r.rest)) (ap (λ x. image_of (exact w h m) (length bytes) x) r.read)
       (plain_image bytes header rest w h m hd split fits r some)
   | inr o ↦ elim o [
-    | inl r ↦ answers_as bytes _ (Err (told (length bytes) r.fault)) (ap (λ x. image_of (exact w h m) (length bytes) x) r.read)
+    | inl r ↦ answers_as bytes _ (Err (fault_error (length bytes) r.fault)) (ap (λ x. image_of (exact w h m) (length bytes) x) r.read)
         (stopped_behind bytes header rest w h m hd split fits r r.fault refl)
     | inr r ↦
         let a : RefusesFront bytes (SampleAboveMax (0 + length r.samples)) = record {

@@ -3,7 +3,7 @@ use Rattle.std.proofs.Common.{◌≡◌, ℕ, ◌+◌, ◌-◌, ◌*◌, ◌<◌
 use Rattle.std.proofs.lemmas.Bool.Decides.{nat_tests}
 use Rattle.pgm_image.specs.Signs.{is_space, is_line_end, is_digit, with_digit, cap}
 use Rattle.pgm_image.specs.Words.{onward, number_at}
-use Rattle.pgm_image.specs.Reading.{sampled, sample_at}
+use Rattle.pgm_image.specs.Reading.{sample_or_fault, sample_at}
 use Rattle.pgm_image.specs.Grammar.{is_mix, is_gap, all_digits, value, IsNumber, AreNumbers, EndsNumber}
 use Rattle.pgm_image.specs.declared.words.Place.{Place}
 use Rattle.pgm_image.specs.declared.words.Place.TheVariants.{Start, Gap, Comment, Number}
@@ -144,21 +144,21 @@ abbrev left_of : Result (ℕ × List ℕ) Fault → List ℕ
 left_of (Ok x) = x.1
 left_of (Err f) = []
 
-ended_here : (n v : ℕ) (text rest : List ℕ) → EndsNumber text → sampled (Whole n, text) ≡ Ok (v, rest) → Digits n text v rest
+ended_here : (n v : ℕ) (text rest : List ℕ) → EndsNumber text → sample_or_fault (Whole n, text) ≡ Ok (v, rest) → Digits n text v rest
 unfolding all_digits capped
 ended_here n v text rest h e =
     let same : text ≡ rest = ap left_of e in
     record { digits = []; are_digits = refl; whole = same; number = sym (ap (value_of 0) e); ends = subst EndsNumber same h }
 
-cut_here : (n v : ℕ) (rest : List ℕ) → sampled (Cut (Number n), []) ≡ Ok (v, rest) → Digits n [] v rest
+cut_here : (n v : ℕ) (rest : List ℕ) → sample_or_fault (Cut (Number n), []) ≡ Ok (v, rest) → Digits n [] v rest
 unfolding all_digits capped
 cut_here n v rest e =
     let same : [] ≡ rest = ap left_of e in
     record { digits = []; are_digits = refl; whole = same; number = sym (ap (value_of 0) e); ends = subst EndsNumber same tt }
 
 number_cases : (d s : Bool) (n b v : ℕ) (bs rest : List ℕ) → is_digit b ≡ d → is_space b ≡ s
-    → sampled (onward (cond d (On (Number (with_digit n b))) (cond s (Ended n) Bad)) (λ q. number_at q bs) b bs) ≡ Ok (v, rest)
-    → (sampled (number_at (Number (with_digit n b)) bs) ≡ Ok (v, rest) → Digits (with_digit n b) bs v rest)
+    → sample_or_fault (onward (cond d (On (Number (with_digit n b))) (cond s (Ended n) Bad)) (λ q. number_at q bs) b bs) ≡ Ok (v, rest)
+    → (sample_or_fault (number_at (Number (with_digit n b)) bs) ≡ Ok (v, rest) → Digits (with_digit n b) bs v rest)
     → Digits n (b ∷ bs) v rest
 unfolding all_digits capped
 number_cases true s n b v bs rest ed es e f =
@@ -167,7 +167,7 @@ number_cases true s n b v bs rest ed es e f =
 number_cases false true n b v bs rest ed es e f = ended_here n v (b ∷ bs) rest es e
 number_cases false false n b v bs rest ed es e f = absurd (cc)
 
-back_number : (n v : ℕ) (text rest : List ℕ) → sampled (number_at (Number n) text) ≡ Ok (v, rest) → Digits n text v rest
+back_number : (n v : ℕ) (text rest : List ℕ) → sample_or_fault (number_at (Number n) text) ≡ Ok (v, rest) → Digits n text v rest
 unfolding number_at
 back_number n v [] rest e = cut_here n v rest e
 back_number n v (b ∷ bs) rest e = number_cases (is_digit b) (is_space b) n b v bs rest refl refl e (λ k. back_number (with_digit n b) v bs rest k)
@@ -197,12 +197,12 @@ unfolding is_mix
 hash_more b mix e g k = let f = (λ (v : Bool). cond v (is_mix false mix) ((b == 35) && is_mix true mix)) in ap f e ∙ and_both (b == 35) (is_mix true mix) g k
 
 comment_cases : (t : Bool) (b v : ℕ) (bs rest : List ℕ) → is_line_end b ≡ t
-    → sampled (onward (cond t (On Gap) (On Comment)) (λ q. number_at q bs) b bs) ≡ Ok (v, rest)
-    → ((c : Bool) → sampled (number_at (place c) bs) ≡ Ok (v, rest) → Mixed c bs v rest) → Mixed true (b ∷ bs) v rest
+    → sample_or_fault (onward (cond t (On Gap) (On Comment)) (λ q. number_at q bs) b bs) ≡ Ok (v, rest)
+    → ((c : Bool) → sample_or_fault (number_at (place c) bs) ≡ Ok (v, rest) → Mixed c bs v rest) → Mixed true (b ∷ bs) v rest
 comment_cases true b v bs rest et e f = more_mix true false b v bs rest (λ mix k. comment_more true b mix et k) (f false e)
 comment_cases false b v bs rest et e f = more_mix true true b v bs rest (λ mix k. comment_more false b mix et k) (f true e)
 
-number_here : (b v : ℕ) (bs rest : List ℕ) → is_digit b ≡ true → sampled (number_at (Number (with_digit 0 b)) bs) ≡ Ok (v, rest) → Mixed false (b ∷ bs) v rest
+number_here : (b v : ℕ) (bs rest : List ℕ) → is_digit b ≡ true → sample_or_fault (number_at (Number (with_digit 0 b)) bs) ≡ Ok (v, rest) → Mixed false (b ∷ bs) v rest
 unfolding all_digits capped is_mix
 number_here b v bs rest ed e =
     let r = back_number (with_digit 0 b) v bs rest e in
@@ -216,14 +216,14 @@ number_here b v bs rest ed e =
     }
 
 gap_cases : (s t d : Bool) (b v : ℕ) (bs rest : List ℕ) → is_space b ≡ s → (b == 35) ≡ t → is_digit b ≡ d
-    → sampled (onward (cond s (On Gap) (cond t (On Comment) (cond d (On (Number (with_digit 0 b))) Bad))) (λ q. number_at q bs) b bs) ≡ Ok (v, rest)
-    → ((c : Bool) → sampled (number_at (place c) bs) ≡ Ok (v, rest) → Mixed c bs v rest) → Mixed false (b ∷ bs) v rest
+    → sample_or_fault (onward (cond s (On Gap) (cond t (On Comment) (cond d (On (Number (with_digit 0 b))) Bad))) (λ q. number_at q bs) b bs) ≡ Ok (v, rest)
+    → ((c : Bool) → sample_or_fault (number_at (place c) bs) ≡ Ok (v, rest) → Mixed c bs v rest) → Mixed false (b ∷ bs) v rest
 gap_cases true t d b v bs rest es et ed e f = more_mix false false b v bs rest (λ mix k. space_more b mix es k) (f false e)
 gap_cases false true d b v bs rest es et ed e f = more_mix false true b v bs rest (λ mix k. hash_more b mix es et k) (f true e)
 gap_cases false false true b v bs rest es et ed e f = number_here b v bs rest ed e
 gap_cases false false false b v bs rest es et ed e f = absurd (cc)
 
-back_mix : (c : Bool) (v : ℕ) (text rest : List ℕ) → sampled (number_at (place c) text) ≡ Ok (v, rest) → Mixed c text v rest
+back_mix : (c : Bool) (v : ℕ) (text rest : List ℕ) → sample_or_fault (number_at (place c) text) ≡ Ok (v, rest) → Mixed c text v rest
 unfolding number_at
 back_mix true v [] rest e = absurd (cc)
 back_mix false v [] rest e = absurd (cc)
@@ -239,8 +239,8 @@ pub record Sampled (text : List ℕ) (v : ℕ) (rest : List ℕ) : Type 0 where
   pub value_is : v ≡ cap number
   pub ends : EndsNumber rest
 
-space_first : (s : Bool) (b v : ℕ) (bs rest : List ℕ) → is_space b ≡ s → sampled (onward (cond s (On Gap) Bad) (λ q. number_at q bs) b bs) ≡ Ok (v, rest)
-    → (is_space b ≡ true) × (sampled (number_at Gap bs) ≡ Ok (v, rest))
+space_first : (s : Bool) (b v : ℕ) (bs rest : List ℕ) → is_space b ≡ s → sample_or_fault (onward (cond s (On Gap) Bad) (λ q. number_at q bs) b bs) ≡ Ok (v, rest)
+    → (is_space b ≡ true) × (sample_or_fault (number_at Gap bs) ≡ Ok (v, rest))
 space_first true b v bs rest es e = (es, e)
 space_first false b v bs rest es e = absurd (cc)
 
@@ -266,12 +266,12 @@ back_sample (g ∷ xs) v rest e =
     }
 
 -- a number at the front is read, where it ends there
-ended_as : (v : ℕ) (more : List ℕ) → EndsNumber more → sampled (number_at (Number v) more) ≡ Ok (v, more)
+ended_as : (v : ℕ) (more : List ℕ) → EndsNumber more → sample_or_fault (number_at (Number v) more) ≡ Ok (v, more)
 unfolding number_at
 ended_as v [] e = refl
-ended_as v (b ∷ bs) e = ap sampled (closes v b bs e)
+ended_as v (b ∷ bs) e = ap sample_or_fault (closes v b bs e)
 
 pub front_sample : (x : ℕ) (sample more : List ℕ) → AreNumbers (x ∷ []) sample → EndsNumber more → sample_at (sample ++ more) ≡ Ok (cap x, more)
 front_sample x sample more (gap, ds, none, is_gapped, number, empty, whole) e =
     let text : sample ++ more ≡ gap ++ (ds ++ more) = rw (whole, empty) (simp append_assoc) in
-    ap sample_at text ∙ ap sampled (reads_number gap ds x more is_gapped number) ∙ ended_as (cap x) more e
+    ap sample_at text ∙ ap sample_or_fault (reads_number gap ds x more is_gapped number) ∙ ended_as (cap x) more e

@@ -3,7 +3,7 @@ use Rattle.std.proofs.Common.{◌≡◌, ℕ, suc, zero, ◌<◌, ◌⊎◌, inl
 use Rattle.std.proofs.lemmas.Bool.{cases_lt}
 use Rattle.pgm_image.specs.Signs.{is_space, cap}
 use Rattle.pgm_image.specs.Words.{onward, step, number_at, whole, whole_number, with_number, after_number, numbers_at}
-use Rattle.pgm_image.specs.Reading.{sampled, sample_at}
+use Rattle.pgm_image.specs.Reading.{sample_or_fault, sample_at}
 use Rattle.pgm_image.specs.Grammar.{is_mix, is_gap, AreNumbers, StopsAt}
 use Rattle.pgm_image.specs.declared.words.Place.{Place}
 use Rattle.pgm_image.specs.declared.words.Place.TheVariants.{Start, Gap, Comment, Number}
@@ -160,7 +160,7 @@ with_ok n (Ok x) vs rest e = (x.0, ap (λ (ys : List ℕ). Ok (x.0, ys)) (ap res
 with_ok n (Err left) vs rest e = absurd (cc)
 
 read_sampled : (text : List ℕ) (r : Read text) → (sample_at text ≡ Ok (r.value, r.last ∷ r.after)) × (whole_number text ≡ Ok (r.value, r.last ∷ r.after))
-read_sampled text r = (ap sampled r.is, ap whole r.is)
+read_sampled text r = (ap sample_or_fault r.is, ap whole r.is)
 
 sample_numbers : (x : ℕ) (sample front : List ℕ) (ns : List ℕ) → AreNumbers (x ∷ []) sample → AreNumbers ns front → AreNumbers (x ∷ ns) (sample ++ front)
 sample_numbers x sample front ns (gap, ds, none, is_gapped, number, empty, text_is) others =

@@ -9,7 +9,7 @@ use Rattle.pgm_image.specs.Signs.{is_space, is_line_end, is_digit, with_digit, c
 use Rattle.pgm_image.specs.Words.{onward, number_at, whole_number, after_number, numbers_at}
 use Rattle.pgm_image.specs.Grammar.{is_mix, is_gap, all_digits, value, IsNumber, AreNumbers, IsEndedNumber, EndsNumber, StopsAt}
 use Rattle.pgm_image.specs.Front.{FewerSamples}
-use Rattle.pgm_image.specs.Reading.{sampled, sample_at, told, with_front, plain_at}
+use Rattle.pgm_image.specs.Reading.{sample_or_fault, sample_at, fault_error, with_front, plain_at}
 use Rattle.pgm_image.specs.declared.words.Place.{Place}
 use Rattle.pgm_image.specs.declared.words.Place.TheVariants.{Start, Gap, Comment, Number}
 use Rattle.pgm_image.specs.declared.words.Step.TheVariants.{On, Bad, Ended as StepEnded}
@@ -22,39 +22,39 @@ use Rattle.pgm_image.proofs.NumberLaws.{Sampled, place, in_gap, in_comment, star
 use Rattle.pgm_image.proofs.NumberStops.{StartsSpace, Stopped, outcome, front_numbers, back_numbers, starts_numbers, halted, stops_at, stops_once, bad_at, cut_at, gap_starts}
 
 -- where the bytes end before the first digit, they begin a gap
-number_goes : (d s : Bool) (k n b : ℕ) (bs : List ℕ) → sampled (onward (cond d (On (Number k)) (cond s (StepEnded n) Bad)) (λ q. number_at q bs) b bs) ≡ Err Ended
-    → (sampled (number_at (Number k) bs) ≡ Err Ended → ⊥) → ⊥
+number_goes : (d s : Bool) (k n b : ℕ) (bs : List ℕ) → sample_or_fault (onward (cond d (On (Number k)) (cond s (StepEnded n) Bad)) (λ q. number_at q bs) b bs) ≡ Err Ended
+    → (sample_or_fault (number_at (Number k) bs) ≡ Err Ended → ⊥) → ⊥
 number_goes true s k n b bs e f = f e
 number_goes false true k n b bs e f = absurd (cc)
 number_goes false false k n b bs e f = absurd (cc)
 
-number_not_ended : (n : ℕ) (text : List ℕ) → sampled (number_at (Number n) text) ≡ Err Ended → ⊥
+number_not_ended : (n : ℕ) (text : List ℕ) → sample_or_fault (number_at (Number n) text) ≡ Err Ended → ⊥
 unfolding number_at
 number_not_ended n [] e = absurd (cc)
 number_not_ended n (b ∷ bs) e = number_goes (is_digit b) (is_space b) (with_digit n b) n b bs e (λ k. number_not_ended (with_digit n b) bs k)
 
 comment_ends : (t : Bool) (b : ℕ) (bs more : List ℕ) → is_line_end b ≡ t
-    → sampled (onward (cond t (On Gap) (On Comment)) (λ q. number_at q bs) b bs) ≡ Err Ended
-    → ((c : Bool) → sampled (number_at (place c) bs) ≡ Err Ended → is_mix c (bs ++ more) ≡ true) → is_mix true (b ∷ (bs ++ more)) ≡ true
+    → sample_or_fault (onward (cond t (On Gap) (On Comment)) (λ q. number_at q bs) b bs) ≡ Err Ended
+    → ((c : Bool) → sample_or_fault (number_at (place c) bs) ≡ Err Ended → is_mix c (bs ++ more) ≡ true) → is_mix true (b ∷ (bs ++ more)) ≡ true
 comment_ends true b bs more et e f = comment_more true b (bs ++ more) et (f false e)
 comment_ends false b bs more et e f = comment_more false b (bs ++ more) et (f true e)
 
 gap_ends : (s t d : Bool) (b : ℕ) (bs more : List ℕ) → is_space b ≡ s → (b == 35) ≡ t
-    → sampled (onward (cond s (On Gap) (cond t (On Comment) (cond d (On (Number (with_digit 0 b))) Bad))) (λ q. number_at q bs) b bs) ≡ Err Ended
-    → ((c : Bool) → sampled (number_at (place c) bs) ≡ Err Ended → is_mix c (bs ++ more) ≡ true) → is_mix false (b ∷ (bs ++ more)) ≡ true
+    → sample_or_fault (onward (cond s (On Gap) (cond t (On Comment) (cond d (On (Number (with_digit 0 b))) Bad))) (λ q. number_at q bs) b bs) ≡ Err Ended
+    → ((c : Bool) → sample_or_fault (number_at (place c) bs) ≡ Err Ended → is_mix c (bs ++ more) ≡ true) → is_mix false (b ∷ (bs ++ more)) ≡ true
 gap_ends true t d b bs more es et e f = space_more b (bs ++ more) es (f false e)
 gap_ends false true d b bs more es et e f = hash_more b (bs ++ more) es et (f true e)
 gap_ends false false true b bs more es et e f = absurd (number_not_ended (with_digit 0 b) bs e)
 gap_ends false false false b bs more es et e f = absurd (cc)
 
-mix_begins : (c : Bool) (text : List ℕ) → sampled (number_at (place c) text) ≡ Err Ended → is_mix c (text ++ (10 ∷ [])) ≡ true
+mix_begins : (c : Bool) (text : List ℕ) → sample_or_fault (number_at (place c) text) ≡ Err Ended → is_mix c (text ++ (10 ∷ [])) ≡ true
 unfolding number_at is_mix
 mix_begins true [] e = refl
 mix_begins false [] e = refl
 mix_begins true (b ∷ bs) e = comment_ends (is_line_end b) b bs (10 ∷ []) refl e (λ c k. mix_begins c bs k)
 mix_begins false (b ∷ bs) e = gap_ends (is_space b) (b == 35) (is_digit b) b bs (10 ∷ []) refl refl e (λ c k. mix_begins c bs k)
 
-space_begins : (s : Bool) (b : ℕ) (bs : List ℕ) → is_space b ≡ s → sampled (onward (cond s (On Gap) Bad) (λ q. number_at q bs) b bs) ≡ Err Ended → is_gap (b ∷ (bs ++ (10 ∷ []))) ≡ true
+space_begins : (s : Bool) (b : ℕ) (bs : List ℕ) → is_space b ≡ s → sample_or_fault (onward (cond s (On Gap) Bad) (λ q. number_at q bs) b bs) ≡ Err Ended → is_gap (b ∷ (bs ++ (10 ∷ []))) ≡ true
 space_begins true b bs es e = gap_of b (bs ++ (10 ∷ [])) es (mix_begins false bs e)
 space_begins false b bs es e = absurd (cc)
 
@@ -64,18 +64,18 @@ gap_begins [] e = refl
 gap_begins (b ∷ bs) e = space_begins (is_space b) b bs refl e
 
 -- and the other way
-mix_ended : (c : Bool) (tail more : List ℕ) → is_mix c (tail ++ more) ≡ true → sampled (number_at (place c) tail) ≡ Err Ended
+mix_ended : (c : Bool) (tail more : List ℕ) → is_mix c (tail ++ more) ≡ true → sample_or_fault (number_at (place c) tail) ≡ Err Ended
 unfolding number_at is_mix
 mix_ended true [] more e = refl
 mix_ended false [] more e = refl
-mix_ended true (b ∷ bs) more e = in_comment sampled (Err Ended) (is_line_end b) b (bs ++ more) bs e (λ c h. mix_ended c bs more h)
-mix_ended false (b ∷ bs) more e = in_gap sampled (Err Ended) (is_space b) (b == 35) (is_digit b) (with_digit 0 b) b (bs ++ more) bs e (λ c h. mix_ended c bs more h)
+mix_ended true (b ∷ bs) more e = in_comment sample_or_fault (Err Ended) (is_line_end b) b (bs ++ more) bs e (λ c h. mix_ended c bs more h)
+mix_ended false (b ∷ bs) more e = in_gap sample_or_fault (Err Ended) (is_space b) (b == 35) (is_digit b) (with_digit 0 b) b (bs ++ more) bs e (λ c h. mix_ended c bs more h)
 
 pub gap_ended : (tail more : List ℕ) → is_gap (tail ++ more) ≡ true → sample_at tail ≡ Err Ended
 unfolding number_at is_gap
 gap_ended [] more e = refl
 gap_ended (b ∷ bs) more e =
-    ap sampled (starting (is_space b) b bs (and_left (is_space b) (is_mix false (bs ++ more)) e)) ∙ mix_ended false bs more (and_right (is_space b) (is_mix false (bs ++ more)) e)
+    ap sample_or_fault (starting (is_space b) b bs (and_left (is_space b) (is_mix false (bs ++ more)) e)) ∙ mix_ended false bs more (and_right (is_space b) (is_mix false (bs ++ more)) e)
 
 -- a number that white space ends, as it is read
 one_number : (text : List ℕ) (x : Result (ℕ × List ℕ) ℕ) → whole_number text ≡ x → numbers_at 1 text ≡ after_number x (λ rest. Ok ([], rest))
@@ -110,7 +110,7 @@ number_stops text left stop =
     let yes = r.2 in let no = h.bad b after xs k in absurd (cc))
 
 -- the reading of a sample that stops, seen by what it leaves
-cut_no_bad : (q : Place) (left : ℕ) → sampled (Cut q, []) ≡ Err (FaultBad left) → ⊥
+cut_no_bad : (q : Place) (left : ℕ) → sample_or_fault (Cut q, []) ≡ Err (FaultBad left) → ⊥
 cut_no_bad Start left e = absurd (cc)
 cut_no_bad Gap left e = absurd (cc)
 cut_no_bad Comment left e = absurd (cc)
@@ -123,10 +123,10 @@ left_of (Err (FaultBad n)) = n
 
 bad_left : (text : List ℕ) (left : ℕ) (s : Stopped text) (rest : List ℕ) → s.rest ≡ rest → sample_at text ≡ Err (FaultBad left) → (left ≡ length s.rest) × (0 < left)
 bad_left text left s [] er e =
-    absurd (cut_no_bad s.at left (sym (ap sampled (ap (λ xs. number_at Start xs) s.split ∙ s.goes s.rest ∙ ap (λ xs. number_at s.at xs) er ∙ cut_at s.at)) ∙ e))
+    absurd (cut_no_bad s.at left (sym (ap sample_or_fault (ap (λ xs. number_at Start xs) s.split ∙ s.goes s.rest ∙ ap (λ xs. number_at s.at xs) er ∙ cut_at s.at)) ∙ e))
 bad_left text left s (b ∷ after) er e =
     let k : sample_at text ≡ Err (FaultBad (length (b ∷ after))) =
-    ap sampled (ap (λ xs. number_at Start xs) s.split ∙ s.goes s.rest ∙ ap (λ xs. number_at s.at xs) er ∙ bad_at s.at b after (s.bad b after er)) in
+    ap sample_or_fault (ap (λ xs. number_at Start xs) s.split ∙ s.goes s.rest ∙ ap (λ xs. number_at s.at xs) er ∙ bad_at s.at b after (s.bad b after er)) in
     let n : left ≡ length (b ∷ after) = sym (ap left_of e) ∙ ap left_of k in
     (n ∙ ap length (sym er), omega arith)
 
@@ -138,7 +138,7 @@ pub record BadSampleAt (text : List ℕ) (left : ℕ) : Type 0 where
 
 pub bad_sample : (text : List ℕ) (left : ℕ) → sample_at text ≡ Err (FaultBad left) → BadSampleAt text left
 bad_sample text left e = elim (outcome text) [
-  | inl r ↦ let k = ap sampled r.is in absurd (cc)
+  | inl r ↦ let k = ap sample_or_fault r.is in absurd (cc)
   | inr s ↦
       let n = bad_left text left s s.rest refl e in
       let stop : numbers_at 1 text ≡ Err left = one_number text (Err (length s.rest)) s.read ∙ ap (λ (k : ℕ). Err k) (sym n.0) in
@@ -188,13 +188,13 @@ stuck_sample tail k stop lt =
 
 -- one sample, and those after it
 abbrev After : ℕ → ℕ → ℕ → ℕ → Result (ℕ × List ℕ) Fault → Result (List ℕ × List ℕ) PgmError
-After k m end i r = elim r [ Ok x ↦ cond (nat_lt m x.0) (Err (SampleAboveMax i)) (with_front (x.0 ∷ []) (plain_at k m end (i + 1) x.1)) | Err f ↦ Err (told end f) ]
+After k m end i r = elim r [ Ok x ↦ cond (nat_lt m x.0) (Err (SampleAboveMax i)) (with_front (x.0 ∷ []) (plain_at k m end (i + 1) x.1)) | Err f ↦ Err (fault_error end f) ]
 
 one_sample : (k m end i : ℕ) (bytes : List ℕ) (r : Result (ℕ × List ℕ) Fault) → sample_at bytes ≡ r → plain_at (suc k) m end i bytes ≡ After k m end i r
 unfolding plain_at
 one_sample k m end i bytes r e = ap (λ z. After k m end i z) e
 
-pub plain_fault : (k m end i : ℕ) (bytes : List ℕ) (f : Fault) → sample_at bytes ≡ Err f → plain_at (suc k) m end i bytes ≡ Err (told end f)
+pub plain_fault : (k m end i : ℕ) (bytes : List ℕ) (f : Fault) → sample_at bytes ≡ Err f → plain_at (suc k) m end i bytes ≡ Err (fault_error end f)
 plain_fault k m end i bytes f e = one_sample k m end i bytes (Err f) e
 
 pub plain_above : (k m end i : ℕ) (bytes : List ℕ) (v : ℕ) (after : List ℕ) → sample_at bytes ≡ Ok (v, after) → m < v → plain_at (suc k) m end i bytes ≡ Err (SampleAboveMax i)
@@ -276,7 +276,7 @@ pub record PlainStopped (count m end i : ℕ) (bytes : List ℕ) : Type 0 where
   pub fault : Fault
   pub fewer : FewerSamples count m bytes samples tail
   pub none : sample_at tail ≡ Err fault
-  pub read : plain_at count m end i bytes ≡ Err (told end fault)
+  pub read : plain_at count m end i bytes ≡ Err (fault_error end fault)
 
 pub record PlainAbove (count m end i : ℕ) (bytes : List ℕ) : Type 0 where
   pub samples : List ℕ

@@ -5,7 +5,7 @@ use Rattle.pgm_image.specs.declared.plain.Fault.{Fault}
 use Rattle.pgm_image.specs.declared.error.PgmError.{PgmError}
 use Rattle.pgm_image.specs.declared.error.PgmError.TheVariants.{SampleAboveMax}
 use Rattle.pgm_image.proofs.PlainLaws.{plain_fault, plain_above, plain_more}
-use Rattle.pgm_image.specs.Reading.{sample_at, plain_at, with_front, told}
+use Rattle.pgm_image.specs.Reading.{sample_at, plain_at, with_front, fault_error}
 
 regroup : (front : List ℕ) (v : ℕ) (read : Result (List ℕ × List ℕ) PgmError) → with_front front (with_front (v ∷ []) read) ≡ with_front (front ++ v ∷ []) read
 regroup front v (Ok x) = ap (λ (ns : List ℕ). Ok (ns, x.1)) (simp append_assoc)
@@ -30,7 +30,7 @@ above front count m end i bytes v after total lt le h so_far =
     sym so_far ∙ ap (λ z. with_front front z) (one_left count m end i bytes lt ∙ plain_above (count - (i + 1)) m end i bytes v after h le)
 
 pub faulty : (front : List ℕ) (count m end i : ℕ) (bytes : List ℕ) (f : Fault) (total : Result (List ℕ × List ℕ) PgmError) → i < count → sample_at bytes ≡ Err f
-    → with_front front (plain_at (count - i) m end i bytes) ≡ total → total ≡ Err (told end f)
+    → with_front front (plain_at (count - i) m end i bytes) ≡ total → total ≡ Err (fault_error end f)
 faulty front count m end i bytes f total lt h so_far =
     sym so_far ∙ ap (λ z. with_front front z) (one_left count m end i bytes lt ∙ plain_fault (count - (i + 1)) m end i bytes f h)
 

@@ -8,8 +8,8 @@ use Rattle.std.proofs.Math.Seq.{take-append_seam, drop-append_seam}
 use Rattle.std.proofs.lemmas.List.Elements.{All-cons}
 use Rattle.pgm_image.specs.declared.error.PgmError.{PgmError}
 use Rattle.pgm_image.specs.declared.error.PgmError.TheVariants.{OutOfMemory, NotPgm, BadHeader, ZeroSize, TooLarge, BadMaxval, SampleAboveMax, Truncated, BadSample}
-use Rattle.pgm_image.specs.Raster.{raster, doubled, doubles, raster_size, samples_in, IsFirstAbove, RefusesSamples}
-use Rattle.pgm_image.specs.Reading.{first_above, checked, split_raster, raster_at, RefusesAs}
+use Rattle.pgm_image.specs.Raster.{raster, as_two_bytes, doubles, raster_size, samples_in, IsFirstAbove, RefusesSamples}
+use Rattle.pgm_image.specs.Reading.{first_above, samples_or_fault, split_raster, raster_at, RefusesAs}
 use Rattle.pgm_image.proofs.Rasters.{redoubled, sized_cases, front_bytes}
 
 pub none_above : (m i : ℕ) (xs : List ℕ) → All (λ x. x ≤ m) xs → first_above m i xs ≡ None
@@ -61,7 +61,7 @@ raster_whole count m bytes front rest xs le ef er ex each =
     raster_split count m bytes le
     ∙ ap (λ (ys : List ℕ). split_raster m ys (drop (raster_size count m) bytes)) (sym ef)
     ∙ ap (λ (ys : List ℕ). split_raster m front ys) (sym er)
-    ∙ ap (λ (o : Option ℕ). checked o (samples_in m front) rest) (none_above m 0 (samples_in m front) each)
+    ∙ ap (λ (o : Option ℕ). samples_or_fault o (samples_in m front) rest) (none_above m 0 (samples_in m front) each)
     ∙ ap (λ (ys : List ℕ). Ok (ys, rest)) (sym ex)
 
 pub raster_refused : (count m i : ℕ) (bytes front rest : List ℕ) → raster_size count m ≤ length bytes
@@ -71,7 +71,7 @@ raster_refused count m i bytes front rest le ef er f =
     raster_split count m bytes le
     ∙ ap (λ (ys : List ℕ). split_raster m ys (drop (raster_size count m) bytes)) (sym ef)
     ∙ ap (λ (ys : List ℕ). split_raster m front ys) (sym er)
-    ∙ ap (λ (o : Option ℕ). checked o (samples_in m front) rest) (is_first m 0 i (samples_in m front) f ∙ ap (λ (n : ℕ). Some n) (omega arith))
+    ∙ ap (λ (o : Option ℕ). samples_or_fault o (samples_in m front) rest) (is_first m 0 i (samples_in m front) f ∙ ap (λ (n : ℕ). Some n) (omega arith))
 
 doubles_length : (k : ℕ) (bs : List ℕ) → length bs ≡ 2 * k → length (doubles bs) ≡ k
 unfolding doubles
@@ -99,13 +99,13 @@ raster_error count m bytes front rest BadMaxval le ef er f = absurd f
 raster_error count m bytes front rest Truncated le ef er f = absurd f
 raster_error count m bytes front rest (BadSample at) le ef er f = absurd f
 
-doubled_length : (xs : List ℕ) → length (doubled xs) ≡ 2 * length xs
-unfolding doubled
+doubled_length : (xs : List ℕ) → length (as_two_bytes xs) ≡ 2 * length xs
+unfolding as_two_bytes
 doubled_length [] = refl
 doubled_length (x ∷ xs) = omega (arith, doubled_length xs)
 
-doubles_doubled : (xs : List ℕ) → doubles (doubled xs) ≡ xs
-unfolding doubled doubles
+doubles_doubled : (xs : List ℕ) → doubles (as_two_bytes xs) ≡ xs
+unfolding as_two_bytes doubles
 doubles_doubled [] = refl
 doubles_doubled (x ∷ xs) =
     let whole : 256 * (x / 256) + x % 256 ≡ x = omega arith in
@@ -116,9 +116,9 @@ size_cases true xs ds e = refl
 size_cases false xs ds e = e
 
 pub raster_size_lem : (m : ℕ) (xs : List ℕ) → length (raster m xs) ≡ raster_size (length xs) m
-raster_size_lem m xs = size_cases (nat_lt m 256) xs (doubled xs) (doubled_length xs)
+raster_size_lem m xs = size_cases (nat_lt m 256) xs (as_two_bytes xs) (doubled_length xs)
 
-back_cases : (t : Bool) (xs : List ℕ) → cond t (cond t xs (doubled xs)) (doubles (cond t xs (doubled xs))) ≡ xs
+back_cases : (t : Bool) (xs : List ℕ) → cond t (cond t xs (as_two_bytes xs)) (doubles (cond t xs (as_two_bytes xs))) ≡ xs
 back_cases true xs = refl
 back_cases false xs = doubles_doubled xs
 
@@ -126,7 +126,7 @@ samples_back : (m : ℕ) (xs : List ℕ) → samples_in m (raster m xs) ≡ xs
 samples_back m xs = back_cases (nat_lt m 256) xs
 
 -- a raster at the front is read as its samples
-pub raster_front : (count m : ℕ) (xs rest : List ℕ) → length xs ≡ count → raster_at count m (raster m xs ++ rest) ≡ checked (first_above m 0 xs) xs rest
+pub raster_front : (count m : ℕ) (xs rest : List ℕ) → length xs ≡ count → raster_at count m (raster m xs ++ rest) ≡ samples_or_fault (first_above m 0 xs) xs rest
 raster_front count m xs rest e =
     let size : length (raster m xs) ≡ raster_size count m = raster_size_lem m xs ∙ ap (λ n. raster_size n m) e in
     let fits : raster_size count m ≤ length (raster m xs ++ rest) = omega (arith, size, length-append (raster m xs) rest) in
@@ -135,9 +135,9 @@ raster_front count m xs rest e =
     raster_split count m (raster m xs ++ rest) fits
     ∙ ap (λ (ys : List ℕ). split_raster m ys (drop (raster_size count m) (raster m xs ++ rest))) front
     ∙ ap (λ (ys : List ℕ). split_raster m (raster m xs) ys) back
-    ∙ ap (λ (ys : List ℕ). checked (first_above m 0 ys) ys rest) (samples_back m xs)
+    ∙ ap (λ (ys : List ℕ). samples_or_fault (first_above m 0 ys) ys rest) (samples_back m xs)
 
-raster_there : (t : Bool) (front ds : List ℕ) → cond t (cond t front ds) (doubled (cond t front ds)) ≡ cond t (cond t front ds) (doubled ds)
+raster_there : (t : Bool) (front ds : List ℕ) → cond t (cond t front ds) (as_two_bytes (cond t front ds)) ≡ cond t (cond t front ds) (as_two_bytes ds)
 raster_there true front ds = refl
 raster_there false front ds = refl
 
@@ -150,6 +150,6 @@ raster_is count m bytes small le =
     let split : bytes ≡ front ++ rest = sym (take-append-drop (raster_size count m) bytes) in
     let sized : length front ≡ raster_size count m = length-take-le (raster_size count m) bytes le in
     let b : (i : ℕ) → get_or front i 0 < 256 = front_bytes front rest (λ i. subst (λ ys. get_or ys i 0 < 256) split (small i)) in
-    let r = sized_cases (nat_lt m 256) count front (doubles front) (doubled (doubles front)) sized (λ e. redoubled count front e b) in
+    let r = sized_cases (nat_lt m 256) count front (doubles front) (as_two_bytes (doubles front)) sized (λ e. redoubled count front e b) in
     let whole : raster m (samples_in m front) ≡ front = raster_there (nat_lt m 256) front (doubles front) ∙ r.0 in
     (samples_in m front, rest, r.1, split ∙ ap (λ ys. ys ++ rest) (sym whole))

@@ -1,19 +1,19 @@
 -- Rasters by parts, and there and back.
 use Rattle.std.proofs.Common.{◌≡◌, ℕ, suc, ◌-◌, ◌+◌, ◌*◌, ◌/◌, ◌%◌, ◌≤◌, ◌<◌, List, [], ◌∷◌, ◌++◌, Bool, true, false, cond, nat_lt, refl, sym, ap, ◌∙◌, append_assoc, arith, get_or, drop, drop-cons, add-one, length, zero}
 use Rattle.std.proofs.lemmas.List.{append-nil, drop_all}
-use Rattle.pgm_image.specs.Raster.{raster, doubled, doubles}
+use Rattle.pgm_image.specs.Raster.{raster, as_two_bytes, doubles}
 
 raster_cases : (t : Bool) (a b : List ℕ) (x y z : List ℕ) → x ++ y ≡ z → cond t (a ++ b) z ≡ cond t a x ++ cond t b y
 raster_cases true a b x y z e = refl
 raster_cases false a b x y z e = sym e
 
-doubled_append : (a b : List ℕ) → doubled a ++ doubled b ≡ doubled (a ++ b)
-unfolding doubled
+doubled_append : (a b : List ℕ) → as_two_bytes a ++ as_two_bytes b ≡ as_two_bytes (a ++ b)
+unfolding as_two_bytes
 doubled_append [] b = refl
 doubled_append (x ∷ a) b = ap (λ zs. x / 256 ∷ (x % 256 ∷ zs)) (doubled_append a b)
 
 pub raster_append : (m : ℕ) (a b : List ℕ) → raster m (a ++ b) ≡ raster m a ++ raster m b
-raster_append m a b = raster_cases (nat_lt m 256) a b (doubled a) (doubled b) (doubled (a ++ b)) (doubled_append a b)
+raster_append m a b = raster_cases (nat_lt m 256) a b (as_two_bytes a) (as_two_bytes b) (as_two_bytes (a ++ b)) (doubled_append a b)
 
 pub raster_goes : (m i : ℕ) (bytes xs total : List ℕ) → i < length xs → bytes ++ raster m (drop i xs) ≡ total → (bytes ++ raster m (get_or xs i 0 ∷ [])) ++ raster m (drop (i + 1) xs) ≡ total
 raster_goes m i bytes xs total lt e =
@@ -29,14 +29,14 @@ raster_nil true = refl
 raster_nil false = refl
 
 pub raster_done : (m i : ℕ) (bytes xs total : List ℕ) → length xs ≤ i → bytes ++ raster m (drop i xs) ≡ total → bytes ≡ total
-unfolding doubled
+unfolding as_two_bytes
 raster_done m i bytes xs total le e =
     let none : drop i xs ≡ [] = drop_all i xs le in
     sym (append-nil bytes) ∙ ap (λ zs. bytes ++ zs) (raster_nil (nat_lt m 256)) ∙ sym (ap (λ zs. bytes ++ raster m zs) none) ∙ e
 
 -- two bytes a sample, there and back
-pub redoubled : (k : ℕ) (bs : List ℕ) → length bs ≡ 2 * k → ((i : ℕ) → get_or bs i 0 < 256) → (doubled (doubles bs) ≡ bs) × (length (doubles bs) ≡ k)
-unfolding doubled doubles
+pub redoubled : (k : ℕ) (bs : List ℕ) → length bs ≡ 2 * k → ((i : ℕ) → get_or bs i 0 < 256) → (as_two_bytes (doubles bs) ≡ bs) × (length (doubles bs) ≡ k)
+unfolding as_two_bytes doubles
 redoubled k [] e f = (refl, omega arith)
 redoubled k (a ∷ []) e f = absurd (omega arith)
 redoubled k (a ∷ b ∷ bs) e f =
@@ -57,11 +57,11 @@ front_bytes (x ∷ front) rest f zero = f 0
 front_bytes (x ∷ front) rest f (suc i) = front_bytes front rest (λ k. f (suc k)) i
 
 pub raster_none : (m : ℕ) → raster m [] ≡ []
-unfolding doubled
+unfolding as_two_bytes
 raster_none m = sym (raster_nil (nat_lt m 256))
 
-doubled_length : (xs : List ℕ) → length (doubled xs) ≡ 2 * length xs
-unfolding doubled
+doubled_length : (xs : List ℕ) → length (as_two_bytes xs) ≡ 2 * length xs
+unfolding as_two_bytes
 doubled_length [] = refl
 doubled_length (x ∷ xs) = omega (arith, doubled_length xs)
 
@@ -70,4 +70,4 @@ length_cases true xs ds e = omega arith
 length_cases false xs ds e = omega arith
 
 pub raster_length : (m : ℕ) (xs : List ℕ) → length (raster m xs) ≤ 2 * length xs
-raster_length m xs = length_cases (nat_lt m 256) xs (doubled xs) (doubled_length xs)
+raster_length m xs = length_cases (nat_lt m 256) xs (as_two_bytes xs) (doubled_length xs)

@@ -7,7 +7,7 @@ use Rattle.pgm_image.specs.Picture.{Picture, IsPicture}
 use Rattle.pgm_image.specs.Raster.{raster}
 use Rattle.pgm_image.specs.Grammar.{is_mix, is_gap, all_digits, value, IsNumber, IsHeader}
 use Rattle.pgm_image.specs.Front.{Front}
-use Rattle.pgm_image.specs.Written.{written, header_text}
+use Rattle.pgm_image.specs.Written.{written_form, header_text}
 use Rattle.pgm_image.specs.declared.header.Form.TheVariants.{Raw}
 
 own : IsNumeralModel (λ ds. all_digits ds ≡ true) (value 0)
@@ -55,7 +55,7 @@ written_header p w h m =
       whole = simp append_assoc;
     }
 
-pub written_front : (p : Picture) (more : List ℕ) → IsPicture p → Front (written p ++ more) p (length (written p))
+pub written_front : (p : Picture) (more : List ℕ) → IsPicture p → Front (written_form p ++ more) p (length (written_form p))
 written_front p more is =
     record {
       form = Raw;

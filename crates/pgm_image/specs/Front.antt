@@ -1,6 +1,6 @@
 -- What stands at the front of some bytes: an image, or what refuses one.
 use Rattle.std.specs.Prelude.{ℕ, List, [], ◌∷◌, ◌++◌, length, All, ◌≡◌, ◌≤◌, ◌<◌, ◌+◌, ◌-◌, ◌*◌, ◌⊎◌, true, Result, Ok, Err}
-use Rattle.pgm_image.specs.Picture.{Picture, IsPicture, SizeFits, side_limit, sample_limit, maxval_limit}
+use Rattle.pgm_image.specs.Picture.{Picture, IsPicture, SizeFits, image_side_limit, sample_limit, maxval_limit}
 use Rattle.pgm_image.specs.Raster.{raster, raster_size, IsFirstAbove}
 use Rattle.pgm_image.specs.Grammar.{is_gap, magic, AreNumbers, IsHeader, IsAnyHeader, IsEndedNumber, EndsNumber, StopsAt}
 use Rattle.pgm_image.specs.declared.error.PgmError.{PgmError}
@@ -44,7 +44,7 @@ FitNumbers w h m = SizeFits w h × (1 ≤ m) × (m ≤ maxval_limit)
 
 -- a width and a height, one of which or whose product is above its limit
 abbrev pub IsTooLarge : ℕ → ℕ → Type 0
-IsTooLarge w h = (1 ≤ w) × (1 ≤ h) × ((side_limit < w) ⊎ ((side_limit < h) ⊎ (sample_limit < w * h)))
+IsTooLarge w h = (1 ≤ w) × (1 ≤ h) × ((image_side_limit < w) ⊎ ((image_side_limit < h) ⊎ (sample_limit < w * h)))
 
 -- some plain samples, fewer than the count and none above m, stand at the front, and this follows
 pub record FewerSamples (count m : ℕ) (bytes xs tail : List ℕ) : Type 0 where

@@ -4,13 +4,13 @@ use Rattle.pgm_image.specs.declared.error.PgmError.{PgmError}
 use Rattle.pgm_image.specs.declared.error.PgmError.TheVariants.{OutOfMemory, SampleAboveMax}
 
 -- each sample as two bytes, the most significant first
-unfoldable pub doubled : List ℕ → List ℕ
-doubled [] = []
-doubled (x ∷ xs) = x / 256 ∷ (x % 256 ∷ doubled xs)
+unfoldable pub as_two_bytes : List ℕ → List ℕ
+as_two_bytes [] = []
+as_two_bytes (x ∷ xs) = x / 256 ∷ (x % 256 ∷ as_two_bytes xs)
 
 -- the raster of these samples
 abbrev pub raster : ℕ → List ℕ → List ℕ
-raster m xs = if nat_lt m 256 then xs else doubled xs
+raster m xs = if nat_lt m 256 then xs else as_two_bytes xs
 
 -- the samples that two bytes each tell
 unfoldable pub doubles : List ℕ → List ℕ

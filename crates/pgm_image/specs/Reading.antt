@@ -1,6 +1,6 @@
 -- What is read, as functions on lists. The laws say that it is what the grammar says.
 use Rattle.std.specs.Prelude.{ℕ, suc, zero, List, [], ◌∷◌, ◌++◌, length, take, drop, ◌≡◌, ◌≤◌, ◌+◌, ◌-◌, ◌*◌, ◌==◌, ◌||◌, nat_lt, Option, Some, None, Result, Ok, Err, IsOk, ⊤, if◌then◌else◌}
-use Rattle.pgm_image.specs.Picture.{Picture, picture, side_limit, sample_limit, maxval_limit}
+use Rattle.pgm_image.specs.Picture.{Picture, picture, image_side_limit, sample_limit, maxval_limit}
 use Rattle.pgm_image.specs.Raster.{raster_size, samples_in}
 use Rattle.pgm_image.specs.Words.{number_at, numbers_at}
 use Rattle.pgm_image.specs.declared.words.Place.TheVariants.{Start, Number}
@@ -26,7 +26,7 @@ form_at (a ∷ b ∷ rest) =
 abbrev pub check_limits : Header → Result (Unit {0}) PgmError
 check_limits h =
     if (h.width == 0) || (h.height == 0) then Err ZeroSize
-    else if nat_lt side_limit h.width || nat_lt side_limit h.height
+    else if nat_lt image_side_limit h.width || nat_lt image_side_limit h.height
     || nat_lt sample_limit (h.width * h.height)
     then Err TooLarge
     else if (h.maxval == 0) || nat_lt maxval_limit h.maxval then Err BadMaxval
@@ -36,13 +36,13 @@ abbrev pub header_of : List ℕ → Header
 header_of (w ∷ h ∷ m ∷ _) = record { width = w; height = h; maxval = m }
 header_of _ = record { width = 0; height = 0; maxval = 0 }
 
-abbrev pub within : Result (Unit {0}) PgmError → Form → Header → List ℕ
+abbrev pub with_header : Result (Unit {0}) PgmError → Form → Header → List ℕ
     → Result (Form × Header × List ℕ) PgmError
-within (Ok u) form h rest = Ok (form, h, rest)
-within (Err e) form h rest = Err e
+with_header (Ok u) form h rest = Ok (form, h, rest)
+with_header (Err e) form h rest = Err e
 
 abbrev pub after_numbers : Result (List ℕ × List ℕ) ℕ → Form → ℕ → Result (Form × Header × List ℕ) PgmError
-after_numbers (Ok x) form end = within (check_limits (header_of x.0)) form (header_of x.0) x.1
+after_numbers (Ok x) form end = with_header (check_limits (header_of x.0)) form (header_of x.0) x.1
 after_numbers (Err left) form end = Err (BadHeader (end - left))
 
 abbrev pub after_form : Option (Form × List ℕ) → ℕ → Result (Form × Header × List ℕ) PgmError
@@ -62,18 +62,18 @@ IsOfHeader (BadSample at) = ⊥
 IsOfHeader _ = ⊤
 
 -- the value of a sample and what it leaves, or why there is none
-abbrev pub sampled : Reading × List ℕ → Result (ℕ × List ℕ) Fault
-sampled (Whole n, rest) = Ok (n, rest)
-sampled (Cut (Number n), rest) = Ok (n, rest)
-sampled (Cut _, rest) = Err Ended
-sampled (Stuck, rest) = Err (Bad (length rest))
+abbrev pub sample_or_fault : Reading × List ℕ → Result (ℕ × List ℕ) Fault
+sample_or_fault (Whole n, rest) = Ok (n, rest)
+sample_or_fault (Cut (Number n), rest) = Ok (n, rest)
+sample_or_fault (Cut _, rest) = Err Ended
+sample_or_fault (Stuck, rest) = Err (Bad (length rest))
 
 abbrev pub sample_at : List ℕ → Result (ℕ × List ℕ) Fault
-sample_at bytes = sampled (number_at Start bytes)
+sample_at bytes = sample_or_fault (number_at Start bytes)
 
-abbrev pub told : ℕ → Fault → PgmError
-told end Ended = Truncated
-told end (Bad left) = BadSample (end - left)
+abbrev pub fault_error : ℕ → Fault → PgmError
+fault_error end Ended = Truncated
+fault_error end (Bad left) = BadSample (end - left)
 
 abbrev pub with_front : List ℕ → Result (List ℕ × List ℕ) PgmError → Result (List ℕ × List ℕ) PgmError
 with_front xs (Ok y) = Ok (xs ++ y.0, y.1)
@@ -85,7 +85,7 @@ plain_at zero m end i bytes = Ok ([], bytes)
 plain_at (suc k) m end i bytes = elim (sample_at bytes) [
   | Ok x ↦ if nat_lt m x.0 then Err (SampleAboveMax i)
       else with_front (x.0 ∷ []) (plain_at k m end (i + 1) x.1)
-  | Err f ↦ Err (told end f)
+  | Err f ↦ Err (fault_error end f)
 ]
 
 -- the index of the first number above m, where the first number has this one
@@ -93,12 +93,13 @@ abbrev pub first_above : ℕ → ℕ → List ℕ → Option ℕ
 first_above m i [] = None
 first_above m i (x ∷ xs) = if nat_lt m x then Some i else first_above m (i + 1) xs
 
-abbrev pub checked : Option ℕ → List ℕ → List ℕ → Result (List ℕ × List ℕ) PgmError
-checked None xs rest = Ok (xs, rest)
-checked (Some i) xs rest = Err (SampleAboveMax i)
+abbrev pub samples_or_fault : Option ℕ → List ℕ → List ℕ → Result (List ℕ × List ℕ) PgmError
+samples_or_fault None xs rest = Ok (xs, rest)
+samples_or_fault (Some i) xs rest = Err (SampleAboveMax i)
 
 abbrev pub split_raster : ℕ → List ℕ → List ℕ → Result (List ℕ × List ℕ) PgmError
-split_raster m front rest = checked (first_above m 0 (samples_in m front)) (samples_in m front) rest
+split_raster m front rest =
+    samples_or_fault (first_above m 0 (samples_in m front)) (samples_in m front) rest
 
 -- the samples of a raster, and what follows it
 unfoldable pub raster_at : ℕ → ℕ → List ℕ → Result (List ℕ × List ℕ) PgmError
@@ -124,9 +125,9 @@ unfoldable pub image_at : List ℕ → Result (Picture × ℕ) PgmError
 image_at bytes = after_header (header_at bytes) (length bytes)
 
 -- the fault lies among so many last bytes
-abbrev pub IsWithin : Fault → ℕ → Type 0
-IsWithin Ended n = ⊤
-IsWithin (Bad left) n = left ≤ n
+abbrev pub IsFaultWithin : Fault → ℕ → Type 0
+IsFaultWithin Ended n = ⊤
+IsFaultWithin (Bad left) n = left ≤ n
 
 -- the refusal is this one, or out of memory
 abbrev pub RefusesAs : {A : Type 0} → PgmError → Result A PgmError → Type 0

@@ -1,7 +1,7 @@
 //! Laws of the format, each the contract of a function that does nothing.
 ghost use Rattle.std.specs.Prelude.{◌≡◌, ◌<◌, ◌++◌, ℕ, List, Result, slice_index, length};
 ghost use Rattle.pgm_image.specs.Picture.{Picture, IsPicture};
-ghost use Rattle.pgm_image.specs.Written.{written};
+ghost use Rattle.pgm_image.specs.Written.{written_form};
 ghost use Rattle.pgm_image.specs.Front.{Front, IsReadingOf};
 ghost use Rattle.pgm_image.specs.declared.error.PgmError.{PgmError};
 
@@ -26,5 +26,5 @@ pub fn one_image()
 /// The written form, followed by anything, has its image at the front, of its length.
 pub fn written_form_is_read()
     ensures { (p : Picture) (more : List ℕ) → IsPicture p
-        → Front (written p ++ more) p (length (written p)) }
+        → Front (written_form p ++ more) p (length (written_form p)) }
 {}

@@ -1,6 +1,6 @@
 //! Samples as numbers.
 ghost use Rattle.std.specs.Prelude.{◌≡◌, ◌<◌, ◌≤◌, ◌^◌, Ok, Err, MatchResult, IfOk, All, length};
-ghost use Rattle.pgm_image.specs.Reading.{sample_at, plain_at, RefusesAs, IsWithin};
+ghost use Rattle.pgm_image.specs.Reading.{sample_at, plain_at, RefusesAs, IsFaultWithin};
 
 use crate::error::PgmError;
 use crate::words::{Place, Reading, number_at};
@@ -20,7 +20,7 @@ fn sample_at(bytes: &[u8]) -> Result<(u32, &[u8]), Fault>
     ensures value { MatchResult result (λ x. sample_at bytes.now ≡ Ok (x.0, x.1.now))
         (λ e. sample_at bytes.now ≡ Err e) }
     ensures shorter { MatchResult result (λ x. length x.1.now ≤ length bytes.now)
-        (λ e. IsWithin e (length bytes.now)) }
+        (λ e. IsFaultWithin e (length bytes.now)) }
 {
     let (reading, rest) = number_at(bytes);
     match reading {

@@ -4,7 +4,7 @@ ghost use Rattle.arrayvec.specs.ArrayString.{array_string_len};
 ghost use Rattle.arrayvec.specs.ArrayVec.{array_vec_len};
 ghost use Rattle.byte_streams.specs.Streams.{Stops, Takes};
 ghost use Rattle.pgm_image.specs.Raster.{raster};
-ghost use Rattle.pgm_image.specs.Written.{StopsAsTold, header_text, written};
+ghost use Rattle.pgm_image.specs.Written.{StopsAsTold, header_text, written_form};
 
 use crate::error::WriteError;
 use crate::image::Image;
@@ -49,7 +49,7 @@ fn header_of(image: &Image) -> ArrayString<HEADER_ROOM>
 }
 
 /// One sample's bytes, at the end.
-#[tactic(auto, unfolding(crate::specs::Raster::doubled))]
+#[tactic(auto, unfolding(crate::specs::Raster::as_two_bytes))]
 fn push_sample(bytes: &mut ArrayVec<u8, PART_ROOM>, maxval: u32, sample: u16)
     requires room { array_vec_len bytes.old + 2 ≤ 4096 }
     requires small { sample ≤ maxval }
@@ -108,8 +108,8 @@ fn put_raster<S: Sink>(sink: &mut S, maxval: u32, samples: &[u16]) -> Result<(),
 /// `WriteFailed` comes only where a call of the sink failed in this writing, whatever failed before. The sink
 /// then took exactly the told count of bytes, the first ones of the written form.
 pub fn put_image<S: Sink>(image: &Image, sink: &mut S) -> Result<(), WriteError>
-    ensures takes { OnOk result (Takes (S.stream sink.old) (S.stream sink.new) (written image.now)) }
-    ensures stops { IfErr result (StopsAsTold (S.stream sink.old) (S.stream sink.new) (written image.now)) }
+    ensures takes { OnOk result (Takes (S.stream sink.old) (S.stream sink.new) (written_form image.now)) }
+    ensures stops { IfErr result (StopsAsTold (S.stream sink.old) (S.stream sink.new) (written_form image.now)) }
     ensures kept { S.loan sink.new ≡ S.loan sink.old }
 {
     let header = header_of(image);
@@ -131,9 +131,9 @@ pub fn put_image<S: Sink>(image: &Image, sink: &mut S) -> Result<(), WriteError>
 /// the first ones of the written form, which are fewer than all.
 pub fn write_image<'a, W: Write>(image: &Image, sink: &mut Watched<'a, W>) -> Result<(), WriteError>
     ensures takes { OnOk result (Takes (⟦<Watched<'a, W> as Sink>⟧.stream sink.old)
-        (⟦<Watched<'a, W> as Sink>⟧.stream sink.new) (written image.now)) }
+        (⟦<Watched<'a, W> as Sink>⟧.stream sink.new) (written_form image.now)) }
     ensures stops { IfErr result (StopsAsTold (⟦<Watched<'a, W> as Sink>⟧.stream sink.old)
-        (⟦<Watched<'a, W> as Sink>⟧.stream sink.new) (written image.now)) }
+        (⟦<Watched<'a, W> as Sink>⟧.stream sink.new) (written_form image.now)) }
     ensures kept { sink.new.writer.ghost_name ≡ sink.old.writer.ghost_name }
 {
     put_image(image, sink)

@@ -73,7 +73,7 @@ impl Write for Kept {
 }
 
 /// A picture of 64 by 64 samples, 3 in each fourth column and else 0.
-pub fn striped(alloc: Global) -> Result<Vec<u8>, AllocError> {
+pub fn stripes(alloc: Global) -> Result<Vec<u8>, AllocError> {
     let mut picture = Vec::from_slice(alloc, b"P5\n64 64\n3\n")?;
     for _ in 0..64 {
         for _ in 0..16 {
@@ -115,13 +115,13 @@ pub fn is_kept<R: Threads + Wait + Sync + Abort>(
 
 /// How often a gate that always gives this answer is asked, where the picture is restored to
 /// itself.
-fn asked<R: Threads + Wait + Sync + Abort>(
+fn gate_calls<R: Threads + Wait + Sync + Abort>(
     rt: &R,
     alloc: Global,
     options: Options,
     answer: bool,
 ) -> Result<Option<u32>, AllocError> {
-    let picture = striped(alloc)?;
+    let picture = stripes(alloc)?;
     let counter = Counter {
         calls: AtomicU32::new(0),
         answer,
@@ -135,7 +135,7 @@ fn asked<R: Threads + Wait + Sync + Abort>(
 
 #[test]
 fn workers_asked(rt: HostRuntime) -> Result<(), Fail> {
-    let calls = asked(&rt, rt.alloc(), TWO, true)?;
+    let calls = gate_calls(&rt, rt.alloc(), TWO, true)?;
     assert!(rt; matches!(calls, Some(calls) if calls >= 16));
     Ok(())
 }
@@ -145,9 +145,9 @@ fn workers_asked(rt: HostRuntime) -> Result<(), Fail> {
 #[test]
 fn pictures_are_alike(rt: HostRuntime) -> Result<(), Fail> {
     let alloc = rt.alloc();
-    assert!(rt; asked(&rt, alloc, SHORT, false)?.is_some());
+    assert!(rt; gate_calls(&rt, alloc, SHORT, false)?.is_some());
     assert!(rt;
-        asked(
+        gate_calls(
             &rt,
             alloc,
             Options {
@@ -158,14 +158,14 @@ fn pictures_are_alike(rt: HostRuntime) -> Result<(), Fail> {
         )?
         .is_some()
     );
-    assert!(rt; asked(&rt, alloc, Options { ring: 1, ..SHORT }, true)?.is_some());
-    assert!(rt; asked(&rt, alloc, Options { rounds: 0, ..SHORT }, true)? == Some(0));
+    assert!(rt; gate_calls(&rt, alloc, Options { ring: 1, ..SHORT }, true)?.is_some());
+    assert!(rt; gate_calls(&rt, alloc, Options { rounds: 0, ..SHORT }, true)? == Some(0));
     Ok(())
 }
 
 #[test]
 fn many_blocks_are_alike(rt: HostRuntime) -> Result<(), Fail> {
-    let calls = asked(
+    let calls = gate_calls(
         &rt,
         rt.alloc(),
         Options {

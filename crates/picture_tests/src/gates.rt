@@ -1,5 +1,5 @@
 //! Gates that let blocks do their first turns alone.
-use crate::by_workers::{SHORT, is_kept, striped};
+use crate::by_workers::{SHORT, is_kept, stripes};
 use std::alloc::{AllocError, Global};
 use std::process::Abort;
 use std::sync::Wait;
@@ -78,7 +78,7 @@ fn noes<R: Threads + Wait + Sync + Abort>(
 
 #[test]
 fn gates_that_close(rt: HostRuntime) -> Result<(), Fail> {
-    let picture = striped(rt.alloc())?;
+    let picture = stripes(rt.alloc())?;
     let mut all = 0u32;
     for turn in 0..21 {
         let noes = noes(&rt, rt.alloc(), picture.as_slice(), turn)?;

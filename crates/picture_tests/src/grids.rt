@@ -21,7 +21,7 @@ const POTTS: [u8; 9] = [0, 1, 1, 1, 0, 1, 1, 1, 0];
 
 /// What an expansion and a run of expansions after it come to, from the label 0 at each site of a
 /// grid of 3 by 3.
-fn expanded<H: How>(alloc: Global, how: &H) -> Result<(bool, Ended, Vec<u8>), MoveError>
+fn expand_and_run<H: How>(alloc: Global, how: &H) -> Result<(bool, Ended, Vec<u8>), MoveError>
     requires { H.ready how.now }
 {
     let problem = Problem {
@@ -63,13 +63,13 @@ fn expanded_by<R: Threads + Wait + Sync>(
         options,
         gate: &gate,
     };
-    expanded(alloc, &how)
+    expand_and_run(alloc, &how)
 }
 
 #[test]
 fn grids_are_alike(rt: HostRuntime) -> Result<(), Fail> {
     let alloc = rt.alloc();
-    let alone = expanded(alloc, &Alone)?;
+    let alone = expand_and_run(alloc, &Alone)?;
     let two = expanded_by(&rt, alloc, TWO)?;
     assert!(rt; alone.0 == two.0 && alone.1 == two.1);
     assert!(rt; alone.2.as_slice() == two.2.as_slice());

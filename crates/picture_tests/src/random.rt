@@ -100,7 +100,7 @@ fn options(dice: &mut Dice) -> RestoreOptions {
 }
 
 /// Options of workers, which are in their ranges: half of them make no round.
-fn sharing(dice: &mut Dice) -> Options {
+fn options_of_workers(dice: &mut Dice) -> Options {
     Options {
         threads: 1 + dice.below(8),
         blocks: 1 + dice.below(256),
@@ -111,7 +111,7 @@ fn sharing(dice: &mut Dice) -> Options {
 }
 
 /// What a restoring answers, and what it writes.
-fn restored<H: How>(
+fn restore_by<H: How>(
     rt: &impl Abort,
     alloc: Global,
     picture: &[u8],
@@ -144,7 +144,7 @@ fn restored_by<R: Threads + Wait + Sync + Abort>(
         options: sharing,
         gate: &gate,
     };
-    restored(rt, alloc, picture, options, &how)
+    restore_by(rt, alloc, picture, options, &how)
 }
 
 /// Whether workers restore the next picture as one thread does, and ask the gate only where they
@@ -156,12 +156,12 @@ fn is_alike<R: Threads + Wait + Sync + Abort>(
 ) -> Result<(bool, bool), AllocError> {
     let picture = picture(alloc, dice)?;
     let options = options(dice);
-    let sharing = sharing(dice);
+    let sharing = options_of_workers(dice);
     let counter = Counter {
         calls: AtomicU32::new(0),
         answer: dice.below(2) == 0,
     };
-    let alone = restored(rt, alloc, picture.as_slice(), &options, &Alone);
+    let alone = restore_by(rt, alloc, picture.as_slice(), &options, &Alone);
     let shared = restored_by(rt, alloc, picture.as_slice(), &options, sharing, &counter);
     let asked = counter.calls.load(Ordering::SeqCst);
     let is_alike = alone.0 == shared.0

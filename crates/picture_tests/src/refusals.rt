@@ -96,7 +96,7 @@ const ROWS: [(Task, &[u8], VisionError); 17] = [
 ];
 
 #[test]
-fn refused(rt: HostRuntime) {
+fn refuses_inputs(rt: HostRuntime) {
     for (task, input, wanted) in &ROWS {
         let mut writer = CutWriter {
             held: Vec::new(rt.alloc()),

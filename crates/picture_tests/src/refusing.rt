@@ -85,7 +85,7 @@ const CHAIN: [[u8; 3]; 9] = [
 ];
 
 /// How a run of expansions from all 0 ends, and at which labels.
-fn labelled<H: How>(
+fn run_from_zero<H: How>(
     alloc: Global,
     how: &H,
 ) -> Result<(Result<Ended, MoveError>, Vec<u8>), MoveError>
@@ -120,7 +120,7 @@ fn labelled<H: How>(
 /// this.
 fn is_left(alloc: Global, cuts: u32, error: SolveError, told: MoveError) -> bool {
     let how = Refusing::new(cuts, error);
-    let Ok((ended, labels)) = labelled(alloc, &how) else {
+    let Ok((ended, labels)) = run_from_zero(alloc, &how) else {
         return false;
     };
     let wanted = if cuts < 8 {
@@ -151,7 +151,7 @@ fn refused_cuts_leave_the_moves_before(rt: HostRuntime) {
 const ROW: &[u8] = b"P5\n3 1\n3\n\x00\x03\x00";
 
 /// What a restoring whose cut is refused after so many tells, and what it writes.
-fn written(
+fn restore_with_cuts(
     rt: &impl Abort,
     alloc: Global,
     cuts: u32,
@@ -173,10 +173,10 @@ fn written(
 fn refused_cuts_write_nothing(rt: HostRuntime) {
     for (error, _, told) in ERRORS {
         for cuts in 0..7 {
-            let (report, bytes) = written(&rt, rt.alloc(), cuts, *error);
+            let (report, bytes) = restore_with_cuts(&rt, rt.alloc(), cuts, *error);
             assert!(rt; report == Err(*told) && bytes.is_empty(), "{cuts}");
         }
-        let (report, bytes) = written(&rt, rt.alloc(), 7, *error);
+        let (report, bytes) = restore_with_cuts(&rt, rt.alloc(), 7, *error);
         assert!(rt; report.is_ok() && bytes.as_slice() == ROW);
     }
 }

@@ -73,7 +73,7 @@ fn fan(rt: &(impl Abort + AllocGlobal)) -> Result<Net, AllocError> {
 
 /// How often the gate is called for turn 0, how often for later turns, and how many calls for turn
 /// 0 met another, where workers cut the fan.
-fn counted<R: Threads + Wait + Abort + AllocGlobal + Sync>(
+fn count_calls<R: Threads + Wait + Abort + AllocGlobal + Sync>(
     rt: &R,
     options: Options,
     meets: bool,
@@ -125,14 +125,14 @@ const ROWS: &[(Options, u32, u32)] = &[
 #[test]
 fn options_are_kept(rt: HostRuntime) -> Result<(), Fail> {
     for (options, first, later) in ROWS {
-        let counts = counted(&rt, *options, false)?;
+        let counts = count_calls(&rt, *options, false)?;
         let (asked_first, asked_later, _) = counts;
         assert!(rt;
             counts == (*first, *later, 0),
             "{asked_first}, {asked_later} in place of {first}, {later}"
         );
     }
-    let counts = counted(&rt, Options { threads: 2, ..ONE }, true)?;
+    let counts = count_calls(&rt, Options { threads: 2, ..ONE }, true)?;
     assert!(rt; counts.0 >= 2 && counts.2 == counts.0);
     Ok(())
 }

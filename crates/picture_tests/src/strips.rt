@@ -179,7 +179,7 @@ fn most_threads<R: Files + AllocGlobal>(rt: &R, done: &AtomicBool) -> u32 {
 }
 
 /// What threads come to, and how many threads there were meanwhile, beside the one that looks.
-fn watched<R: Threads + Wait + Sync + Files + AllocGlobal>(
+fn count_threads<R: Threads + Wait + Sync + Files + AllocGlobal>(
     rt: &R,
     threads: u32,
 ) -> (Result<(Vec<u8>, u32), MoveError>, u32) {
@@ -206,7 +206,7 @@ const ROWS: &[(u32, u32)] = &[(1, 0), (2, 2), (4, 3)];
 fn strips_by_threads(rt: HostRuntime) -> Result<(), Fail> {
     let wanted = labels_by(rt.alloc(), &Alone)?;
     for (threads, side_by_side) in ROWS {
-        let (told, most) = watched(&rt, *threads);
+        let (told, most) = count_threads(&rt, *threads);
         let (labels, nets) = told?;
         assert!(rt; labels.as_slice() == wanted.as_slice(), "{threads}");
         assert!(rt; nets == *side_by_side, "{threads}: {nets}");

@@ -8,14 +8,14 @@ use Rattle.flow_network.specs.Cut.{Network, nodes, IsNet, total_capacity}
 use Rattle.flow_network.specs.Limits.{capacity_limit}
 use Rattle.flow_network.proofs.Push.{moved}
 use Rattle.sink_distances.specs.declared.rows.Rows.{Rows}
-use Rattle.sink_distances.specs.Rows.{head_at, opposite_at, residual_at, first_at, IsPlace, IsOf, IsRows, IsSent}
+use Rattle.sink_distances.specs.Rows.{head_at, opposite_at, residual_at, first_at, IsPlace, IsPlaceOf, IsRows, IsSent}
 use Rattle.sink_distances.proofs.Showing.{directed}
 use Rattle.plain_cut.specs.declared.work.Work.{Work}
 use Rattle.plain_cut.specs.State.{IsPush, ChangesOnly, IsSpent, IsStuck}
 
 -- ---- what a direction and its opposite can carry
 
-pair_of : (net : Network) (rows : Rows) (v p : ℕ) → IsRows net rows → IsOf net rows v p
+pair_of : (net : Network) (rows : Rows) (v p : ℕ) → IsRows net rows → IsPlaceOf net rows v p
     → residual_at rows p + residual_at rows (opposite_at rows p) ≤ total_capacity net
 pair_of net rows v p r (k, l, inl (at, end)) =
     let a = r.arcs k l in

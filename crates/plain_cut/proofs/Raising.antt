@@ -4,7 +4,7 @@ use Rattle.sums.specs.Sums.{sum_below}
 use Rattle.flow_network.specs.Cut.{Network, nodes, IsNet, total_capacity}
 use Rattle.flow_network.specs.Preflow.{Flow}
 use Rattle.flow_network.specs.Labels.{IsLabelling}
-use Rattle.flow_network.specs.Progress.{top, IsSound, work_left}
+use Rattle.flow_network.specs.Progress.{top, IsLabelledPreflow, work_left}
 use Rattle.flow_network.proofs.Moves.{kept-le-total}
 use Rattle.sink_distances.specs.Distances.{AreDistances}
 use Rattle.sink_distances.proofs.Laws.{distances_label, distances_rise, distances-le-top}
@@ -41,7 +41,7 @@ all_pay (suc n) t k e a b h =
     )
 
 -- the work that is left does not grow
-pub raise_lowers : (net : Network) (flow : Flow) (kept labels new : List ℕ) → IsNet net → IsSound net flow kept labels
+pub raise_lowers : (net : Network) (flow : Flow) (kept labels new : List ℕ) → IsNet net → IsLabelledPreflow net flow kept labels
     → ((v : ℕ) → v < nodes net → slice_index labels v ≤ slice_index new v) → ((v : ℕ) → v < nodes net → slice_index new v ≤ top net)
     → work_left net kept new ≤ work_left net kept labels
 raise_lowers net flow kept labels new h s up fits =
@@ -49,8 +49,8 @@ raise_lowers net flow kept labels new h s up fits =
     (λ v l. (up v l, fits v l, omega (arith, kept-le-total net flow kept labels h s v l)))
 
 -- what is sound stays so
-pub raise_sound : (net : Network) (flow : Flow) (kept labels new : List ℕ) → IsSound net flow kept labels
-    → IsLabelling net flow new → ((v : ℕ) → v < nodes net → slice_index new v ≤ top net) → IsSound net flow kept new
+pub raise_sound : (net : Network) (flow : Flow) (kept labels new : List ℕ) → IsLabelledPreflow net flow kept labels
+    → IsLabelling net flow new → ((v : ℕ) → v < nodes net → slice_index new v ≤ top net) → IsLabelledPreflow net flow kept new
 raise_sound net flow kept labels new s fits low = record {
   preflow = s.preflow;
   kept_len = s.kept_len;

@@ -3,12 +3,12 @@ use Rattle.std.proofs.Common.{◌≡◌, ℕ, zero, suc, ◌<◌, length, replic
 use Rattle.std.proofs.lemmas.List.{length-replicate}
 use Rattle.plain_cut.specs.declared.work.Work.{Work}
 use Rattle.flow_network.specs.Cut.{Network, nodes, IsNet}
-use Rattle.flow_network.specs.Preflow.{Flow, flow_by, given, inflow, outflow}
-use Rattle.flow_network.specs.Progress.{IsSound}
+use Rattle.flow_network.specs.Preflow.{Flow, flow_by, sink_flows, inflow, outflow}
+use Rattle.flow_network.specs.Progress.{IsLabelledPreflow}
 use Rattle.flow_network.proofs.Given.{length-given, given_none, sinks_rooms}
 use Rattle.std.proofs.lemmas.Grind.{same_number_lists}
 use Rattle.sink_distances.specs.declared.rows.Rows.{Rows}
-use Rattle.sink_distances.specs.Rows.{residual_at, second_at, carried, IsRows}
+use Rattle.sink_distances.specs.Rows.{residual_at, second_at, carried_flow, IsRows}
 use Rattle.sink_distances.proofs.Showing.{carried_at, carried_len}
 use Rattle.plain_cut.specs.State.{IsUnlabelled}
 use Rattle.sums.proofs.SumLemmas.{sum_below-none, counted-zero}
@@ -18,11 +18,11 @@ zeros zero i = refl
 zeros (suc n) zero = refl
 zeros (suc n) (suc i) = zeros n i
 
-pub start_sound : (net : Network) → IsNet net → IsSound net (flow_by (replicate (length net.arcs) 0) (given net net.sinks)) net.sources (replicate (nodes net) 0)
+pub start_sound : (net : Network) → IsNet net → IsLabelledPreflow net (flow_by (replicate (length net.arcs) 0) (sink_flows net net.sinks)) net.sources (replicate (nodes net) 0)
 start_sound net h =
     let m = length net.arcs in
     let n = nodes net in
-    let flow : Flow = flow_by (replicate m 0) (given net net.sinks) in
+    let flow : Flow = flow_by (replicate m 0) (sink_flows net net.sinks) in
     let none_in : (v : ℕ) → inflow net flow v ≡ 0 = λ v. sum_below-none m _ (λ k l. counted-zero _ _ (λ _. zeros m k)) in
     let none_out : (v : ℕ) → outflow net flow v ≡ 0 = λ v. sum_below-none m _ (λ k l. counted-zero _ _ (λ _. zeros m k)) in
     record {
@@ -44,10 +44,10 @@ start_sound net h =
     }
 
 none_carried : (net : Network) (rows : Rows) → IsRows net rows → ((k : ℕ) → k < length net.arcs → residual_at rows (second_at rows k) ≡ 0)
-    → carried rows ≡ replicate (length net.arcs) 0
+    → carried_flow rows ≡ replicate (length net.arcs) 0
 none_carried net rows r empty =
     let len = carried_len net rows r in
-    same_number_lists (carried rows) (replicate (length net.arcs) 0) (len ∙ sym (length-replicate (length net.arcs) 0))
+    same_number_lists (carried_flow rows) (replicate (length net.arcs) 0) (len ∙ sym (length-replicate (length net.arcs) 0))
     (λ k l. carried_at net rows k r (omega (arith, l, len)) ∙ (empty k (omega (arith, l, len)) ∙ sym (zeros (length net.arcs) k)))
 
 pub start_work : (net : Network) (w : Work) → IsNet net → IsRows net w.rows

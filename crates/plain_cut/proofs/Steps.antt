@@ -5,11 +5,11 @@ use Rattle.std.proofs.lemmas.List.Elements.{All-push, Contains-append_left, Cont
 use Rattle.std.proofs.lemmas.Bool.{cases_lt, cases_eq, eq-eqb}
 use Rattle.plain_cut.specs.declared.work.Work.{Work}
 use Rattle.flow_network.specs.Cut.{Network, nodes, IsNet}
-use Rattle.flow_network.specs.Preflow.{arc_at, given, IsResidual}
-use Rattle.flow_network.specs.Progress.{IsSound}
-use Rattle.sink_distances.specs.Rows.{head_at, residual_at, carried, IsPlace, IsOf, IsRows, IsSent}
+use Rattle.flow_network.specs.Preflow.{arc_at, sink_flows, IsResidual}
+use Rattle.flow_network.specs.Progress.{IsLabelledPreflow}
+use Rattle.sink_distances.specs.Rows.{head_at, residual_at, carried_flow, IsPlace, IsPlaceOf, IsRows, IsSent}
 use Rattle.sink_distances.proofs.Showing.{carried_at, carried_forth, carried_back, rows_sent, residual_place}
-use Rattle.plain_cut.specs.State.{work_flow, IsWork, left, IsStep, IsSteps, IsWave, IsLowest}
+use Rattle.plain_cut.specs.State.{work_flow, IsWork, work_measure, IsStep, IsSteps, IsWave, IsLowest}
 use Rattle.flow_network.proofs.Duality.{arc_is}
 use Rattle.flow_network.proofs.Given.{given_at, given_set, rooms_set, left_room}
 use Rattle.flow_network.proofs.Push.{moved, move_lowers, give_lowers}
@@ -39,7 +39,7 @@ queue_gains queue w false h = h refl
 -- ---- a push
 
 pub push_step : (net : Network) (old new : Work) (u w z : ℕ) → IsWork net old
-    → IsSound net (work_flow net new) new.excess.items new.labels.items → IsRows net new.rows → left net new < left net old
+    → IsLabelledPreflow net (work_flow net new) new.excess.items new.labels.items → IsRows net new.rows → work_measure net new < work_measure net old
     → u ≢ w → w < nodes net → new.rooms.items ≡ old.rooms.items
     → new.excess.items ≡ moved old.excess.items u w z → new.labels.items ≡ old.labels.items
     → new.queue.items ≡ queued_after old.queue.items (slice_index old.excess.items w) w → new.relabels ≡ old.relabels
@@ -69,9 +69,9 @@ push_step net old new u w z h sound shown lower ne lw es ee el eq er =
     }
 
 forward_step : (net : Network) (old new : Work) (k z : ℕ) → IsNet net → IsWork net old → IsRows net new.rows → k < length net.arcs
-    → z ≤ slice_index old.excess.items (arc_at net k).from → 0 < z → slice_index (carried old.rows) k + z ≤ (arc_at net k).capacity
+    → z ≤ slice_index old.excess.items (arc_at net k).from → 0 < z → slice_index (carried_flow old.rows) k + z ≤ (arc_at net k).capacity
     → slice_index old.labels.items (arc_at net k).from ≡ slice_index old.labels.items (arc_at net k).to + 1
-    → carried new.rows ≡ set (carried old.rows) k (slice_index (carried old.rows) k + z) → new.rooms.items ≡ old.rooms.items
+    → carried_flow new.rows ≡ set (carried_flow old.rows) k (slice_index (carried_flow old.rows) k + z) → new.rooms.items ≡ old.rooms.items
     → new.excess.items ≡ moved old.excess.items (arc_at net k).from (arc_at net k).to z → new.labels.items ≡ old.labels.items
     → new.queue.items ≡ queued_after old.queue.items (slice_index old.excess.items (arc_at net k).to) (arc_at net k).to
     → new.relabels ≡ old.relabels → IsStep net (arc_at net k).from old new
@@ -86,9 +86,9 @@ forward_step net old new k z h s shown l le some fits down ea es ee el eq er =
     ne ends.to es ee el eq er
 
 back_step : (net : Network) (old new : Work) (k z : ℕ) → IsNet net → IsWork net old → IsRows net new.rows → k < length net.arcs
-    → z ≤ slice_index old.excess.items (arc_at net k).to → 0 < z → z ≤ slice_index (carried old.rows) k
+    → z ≤ slice_index old.excess.items (arc_at net k).to → 0 < z → z ≤ slice_index (carried_flow old.rows) k
     → slice_index old.labels.items (arc_at net k).to ≡ slice_index old.labels.items (arc_at net k).from + 1
-    → carried new.rows ≡ set (carried old.rows) k (slice_index (carried old.rows) k - z) → new.rooms.items ≡ old.rooms.items
+    → carried_flow new.rows ≡ set (carried_flow old.rows) k (slice_index (carried_flow old.rows) k - z) → new.rooms.items ≡ old.rooms.items
     → new.excess.items ≡ moved old.excess.items (arc_at net k).to (arc_at net k).from z → new.labels.items ≡ old.labels.items
     → new.queue.items ≡ queued_after old.queue.items (slice_index old.excess.items (arc_at net k).from) (arc_at net k).from
     → new.relabels ≡ old.relabels → IsStep net (arc_at net k).to old new
@@ -102,7 +102,7 @@ back_step net old new k z h s shown l le some fits down ea es ee el eq er =
     (rw (ee, el) (move_lowers net old.excess.items old.labels.items u w z ends.to ends.from ne s.sound.kept_len le some down))
     ne ends.from es ee el eq er
 
-along_of : (net : Network) (old new : Work) (v p z : ℕ) → IsNet net → IsWork net old → IsRows net new.rows → IsOf net old.rows v p
+along_of : (net : Network) (old new : Work) (v p z : ℕ) → IsNet net → IsWork net old → IsRows net new.rows → IsPlaceOf net old.rows v p
     → z ≤ slice_index old.excess.items v → 0 < z → z ≤ residual_at old.rows p
     → slice_index old.labels.items v ≡ slice_index old.labels.items (head_at old.rows p) + 1
     → IsSent old.rows new.rows p z → new.rooms.items ≡ old.rooms.items
@@ -171,7 +171,7 @@ give_step net old new u z h s l le some fits ea es ee el eq er = record {
 lowest_residual : (net : Network) (w : Work) (v least : ℕ) → IsWork net w → IsLowest net w v least
     → (b : ℕ) → IsResidual net (work_flow net w) v b → least ≤ slice_index w.labels.items b + 1
 lowest_residual net w v least s low b step =
-    let (p, place, head, some) = residual_place net w.rows (given net w.rooms.items) v b s.shown step in
+    let (p, place, head, some) = residual_place net w.rows (sink_flows net w.rooms.items) v b s.shown step in
     omega (arith, low.row p place some, ap (slice_index w.labels.items) head)
 
 pub relabel_step : (net : Network) (old new : Work) (u j : ℕ) → IsNet net → IsWork net old → u < nodes net

@@ -3,17 +3,17 @@ use Rattle.std.proofs.Common.{◌≡◌, ◌≢◌, ℕ, ◌+◌, ◌-◌, ◌<�
 use Rattle.plain_cut.specs.declared.work.Work.{Work}
 use Rattle.flow_network.specs.Cut.{Network, nodes, IsNet}
 use Rattle.flow_network.specs.Preflow.{Flow, arc_at}
-use Rattle.flow_network.specs.Progress.{IsSound}
+use Rattle.flow_network.specs.Progress.{IsLabelledPreflow}
 use Rattle.flow_network.proofs.Duality.{arc_is}
 use Rattle.flow_network.proofs.Push.{moved}
 use Rattle.flow_network.proofs.Moves.{relabel_sound, forward_sound, back_sound}
-use Rattle.sink_distances.specs.Rows.{head_at, residual_at, carried, IsPlace, IsOf, IsRows, IsSent}
+use Rattle.sink_distances.specs.Rows.{head_at, residual_at, carried_flow, IsPlace, IsPlaceOf, IsRows, IsSent}
 use Rattle.sink_distances.proofs.Showing.{carried_at, carried_forth, carried_back, rows_sent}
 use Rattle.plain_cut.specs.State.{work_flow, IsUnlabelled}
 
 -- labels of 0 fit every preflow
-flat_sound : (net : Network) (flow : Flow) (kept other labels : List ℕ) → IsSound net flow kept other → length labels ≡ nodes net
-    → ((v : ℕ) → slice_index labels v ≡ 0) → IsSound net flow kept labels
+flat_sound : (net : Network) (flow : Flow) (kept other labels : List ℕ) → IsLabelledPreflow net flow kept other → length labels ≡ nodes net
+    → ((v : ℕ) → slice_index labels v ≡ 0) → IsLabelledPreflow net flow kept labels
 flat_sound net flow kept other labels s len flat = record {
   preflow = s.preflow;
   kept_len = s.kept_len;
@@ -27,8 +27,8 @@ flat_sound net flow kept other labels s len flat = record {
 }
 
 -- and one label may be 1
-one_sound : (net : Network) (flow : Flow) (kept labels : List ℕ) (u : ℕ) → IsSound net flow kept labels → u < nodes net
-    → ((v : ℕ) → slice_index labels v ≡ 0) → IsSound net flow kept (set labels u 1)
+one_sound : (net : Network) (flow : Flow) (kept labels : List ℕ) (u : ℕ) → IsLabelledPreflow net flow kept labels → u < nodes net
+    → ((v : ℕ) → slice_index labels v ≡ 0) → IsLabelledPreflow net flow kept (set labels u 1)
 one_sound net flow kept labels u s l flat =
     relabel_sound net flow kept labels u 1 s l (omega (arith, flat u)) (omega arith) (λ room. omega arith) (λ b step. omega arith)
 
@@ -41,8 +41,8 @@ down labels u w l ne flat =
 
 send_work : (net : Network) (old new : Work) (k z : ℕ) → IsNet net → IsUnlabelled net old → IsRows net new.rows → k < length net.arcs
     → (arc_at net k).from ≢ (arc_at net k).to → z ≤ slice_index old.excess.items (arc_at net k).from
-    → slice_index (carried old.rows) k + z ≤ (arc_at net k).capacity → slice_index (carried old.rows) k < (arc_at net k).capacity
-    → carried new.rows ≡ set (carried old.rows) k (slice_index (carried old.rows) k + z) → new.rooms.items ≡ old.rooms.items
+    → slice_index (carried_flow old.rows) k + z ≤ (arc_at net k).capacity → slice_index (carried_flow old.rows) k < (arc_at net k).capacity
+    → carried_flow new.rows ≡ set (carried_flow old.rows) k (slice_index (carried_flow old.rows) k + z) → new.rooms.items ≡ old.rooms.items
     → new.excess.items ≡ moved old.excess.items (arc_at net k).from (arc_at net k).to z → new.labels.items ≡ old.labels.items
     → new.queue.items ≡ old.queue.items → IsUnlabelled net new
 send_work net old new k z h o shown l ne le fits room ea es ee el eq =
@@ -65,8 +65,8 @@ send_work net old new k z h o shown l ne le fits room ea es ee el eq =
 
 back_work : (net : Network) (old new : Work) (k z : ℕ) → IsNet net → IsUnlabelled net old → IsRows net new.rows → k < length net.arcs
     → (arc_at net k).from ≢ (arc_at net k).to → z ≤ slice_index old.excess.items (arc_at net k).to
-    → z ≤ slice_index (carried old.rows) k → 0 < slice_index (carried old.rows) k
-    → carried new.rows ≡ set (carried old.rows) k (slice_index (carried old.rows) k - z) → new.rooms.items ≡ old.rooms.items
+    → z ≤ slice_index (carried_flow old.rows) k → 0 < slice_index (carried_flow old.rows) k
+    → carried_flow new.rows ≡ set (carried_flow old.rows) k (slice_index (carried_flow old.rows) k - z) → new.rooms.items ≡ old.rooms.items
     → new.excess.items ≡ moved old.excess.items (arc_at net k).to (arc_at net k).from z → new.labels.items ≡ old.labels.items
     → new.queue.items ≡ old.queue.items → IsUnlabelled net new
 back_work net old new k z h o shown l ne le fits some ea es ee el eq =
@@ -87,7 +87,7 @@ back_work net old new k z h o shown l ne le fits some ea es ee el eq =
       labels = λ v. rw el (o.labels v);
     }
 
-along_of : (net : Network) (old new : Work) (v p z : ℕ) → IsNet net → IsUnlabelled net old → IsRows net new.rows → IsOf net old.rows v p
+along_of : (net : Network) (old new : Work) (v p z : ℕ) → IsNet net → IsUnlabelled net old → IsRows net new.rows → IsPlaceOf net old.rows v p
     → v ≢ head_at old.rows p → z ≤ slice_index old.excess.items v → z ≤ residual_at old.rows p → 0 < residual_at old.rows p
     → IsSent old.rows new.rows p z → new.rooms.items ≡ old.rooms.items
     → new.excess.items ≡ moved old.excess.items v (head_at old.rows p) z → new.labels.items ≡ old.labels.items

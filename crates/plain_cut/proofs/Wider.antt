@@ -2,12 +2,12 @@
 use Rattle.std.proofs.Common.{◌≡◌, ℕ, suc, ◌+◌, ◌<◌, ◌≤◌, List, [], ◌∷◌, length, slice_index, refl, sym, ◌∙◌, ap, arith}
 use Rattle.flow_network.specs.Limits.{capacity_limit}
 use Rattle.flow_network.proofs.Bounds.{number-le-sum}
-use Rattle.flow_network.specs.Cut.{Network, nodes, network_of, widened, AreExtras, IsNet}
-use Rattle.flow_network.specs.Preflow.{flow_by, given}
-use Rattle.flow_network.specs.Progress.{IsSound}
+use Rattle.flow_network.specs.Cut.{Network, nodes, network_of, with_larger_sinks, AreExtras, IsNet}
+use Rattle.flow_network.specs.Preflow.{flow_by, sink_flows}
+use Rattle.flow_network.specs.Progress.{IsLabelledPreflow}
 use Rattle.flow_network.proofs.Widening.{added, added_at, length-added, given_widened, widened_rooms}
 use Rattle.sink_distances.specs.declared.rows.Rows.{Rows}
-use Rattle.sink_distances.specs.Rows.{carried, near_of, places_of, IsRows}
+use Rattle.sink_distances.specs.Rows.{carried_flow, near_of, places_of, IsRows}
 use Rattle.plain_cut.specs.declared.work.Work.{Work}
 use Rattle.plain_cut.specs.State.{IsWork}
 
@@ -38,8 +38,8 @@ rows_with net sinks rows r = record {
 }
 
 wider_sound : (net : Network) (more rooms kept labels : List ℕ) (arcs other : List ℕ) → IsNet net → AreExtras net more
-    → IsSound net (flow_by arcs (given net rooms)) kept other → length labels ≡ nodes net
-    → ((v : ℕ) → slice_index labels v ≡ 0) → IsSound (widened net more) (flow_by arcs (given net rooms)) kept labels
+    → IsLabelledPreflow net (flow_by arcs (sink_flows net rooms)) kept other → length labels ≡ nodes net
+    → ((v : ℕ) → slice_index labels v ≡ 0) → IsLabelledPreflow (with_larger_sinks net more) (flow_by arcs (sink_flows net rooms)) kept labels
 wider_sound net more rooms kept labels arcs other h e s len flat = record {
   preflow = record {
     arcs_len = s.preflow.arcs_len;
@@ -61,10 +61,10 @@ wider_sound net more rooms kept labels arcs other h e s len flat = record {
 pub wider_work : (net : Network) (more : List ℕ) (old new : Work) → IsNet net → AreExtras net more → IsWork net old
     → new.rows ≡ old.rows → new.rooms.items ≡ added old.rooms.items more → new.excess.items ≡ old.excess.items
     → length new.labels.items ≡ nodes net → ((v : ℕ) → slice_index new.labels.items v ≡ 0)
-    → new.queue.items ≡ old.queue.items → IsWork (widened net more) new
+    → new.queue.items ≡ old.queue.items → IsWork (with_larger_sinks net more) new
 wider_work net more old new h e s ea es ee len flat eq = record {
   sound = rw (ea, es, ee, given_widened net old.rooms.items more h s.rooms e.len)
-      (wider_sound net more old.rooms.items old.excess.items new.labels.items (carried old.rows) old.labels.items h e s.sound len flat);
+      (wider_sound net more old.rooms.items old.excess.items new.labels.items (carried_flow old.rows) old.labels.items h e s.sound len flat);
   shown = rw ea (rows_with net _ old.rows s.shown);
   rooms = rw es (widened_rooms net old.rooms.items more h s.rooms e.len);
   queue = rw eq s.queue;
@@ -79,7 +79,7 @@ added_none (x ∷ xs) (m ∷ more) e none =
     rw here (ap (λ (rest : List ℕ). x ∷ rest) (added_none xs more (omega arith) (λ v l. none (suc v) (omega (arith, l)))))
 
 pub widened_none : (net : Network) (more : List ℕ) → IsNet net → AreExtras net more
-    → ((v : ℕ) → v < length more → slice_index more v ≡ 0) → widened net more ≡ net
+    → ((v : ℕ) → v < length more → slice_index more v ≡ 0) → with_larger_sinks net more ≡ net
 widened_none net more h e none =
     ap (λ (sinks : List ℕ). network_of net.sources sinks net.arcs) (added_none net.sinks more (omega (arith, e.len, h.same)) none)
 

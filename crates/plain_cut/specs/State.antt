@@ -1,18 +1,18 @@
 use Rattle.std.specs.Prelude.{◌≡◌, ◌≢◌, ℕ, ◌+◌, ◌<◌, ◌≤◌, length, slice_index, All, Contains}
 use Rattle.flow_network.specs.Cut.{Network, nodes}
-use Rattle.flow_network.specs.Preflow.{Flow, flow_by, given, AreRooms}
-use Rattle.flow_network.specs.Progress.{top, IsSound, work_left}
-use Rattle.sink_distances.specs.Rows.{head_at, residual_at, carried, IsPlace, IsRows}
+use Rattle.flow_network.specs.Preflow.{Flow, flow_by, sink_flows, AreRooms}
+use Rattle.flow_network.specs.Progress.{top, IsLabelledPreflow, work_left}
+use Rattle.sink_distances.specs.Rows.{head_at, residual_at, carried_flow, IsPlace, IsRows}
 use Rattle.plain_cut.specs.declared.work.Work.{Work}
 
 -- the flow of the work
 abbrev pub work_flow : Network → Work → Flow
-work_flow net w = flow_by (carried w.rows) (given net w.rooms.items)
+work_flow net w = flow_by (carried_flow w.rows) (sink_flows net w.rooms.items)
 
 -- a preflow with its excess, rows that show it, rooms for what the sink can still get, labels that fit it, and a queue
 -- of nodes
 pub record IsWork (net : Network) (w : Work) : Type 0 where
-  pub sound : IsSound net (work_flow net w) w.excess.items w.labels.items
+  pub sound : IsLabelledPreflow net (work_flow net w) w.excess.items w.labels.items
   pub shown : IsRows net w.rows
   pub rooms : AreRooms net w.rooms.items
   pub queue : All (λ v. v < nodes net) w.queue.items
@@ -23,8 +23,8 @@ pub record IsUnlabelled (net : Network) (w : Work) : Type 0 where
   pub labels : (v : ℕ) → slice_index w.labels.items v ≡ 0
 
 -- what each push and each new label lowers
-abbrev pub left : Network → Work → ℕ
-left net w = work_left net w.excess.items w.labels.items
+abbrev pub work_measure : Network → Work → ℕ
+work_measure net w = work_left net w.excess.items w.labels.items
 
 -- each node with excess whose label is below the limit, but for one, is queued
 abbrev pub IsQueuedBut : Network → ℕ → ℕ → Work → Type 0
@@ -44,17 +44,18 @@ HasNoActiveNode net w = HasNoExcessBelow net (top net) w
 -- node is queued, and none is forgotten
 pub record IsStep (net : Network) (but : ℕ) (old new : Work) : Type 0 where
   pub work : IsWork net new
-  pub lower : left net new < left net old
-  pub counted : left net new + new.relabels ≤ left net old + old.relabels
+  pub lower : work_measure net new < work_measure net old
+  pub counted : work_measure net new + new.relabels ≤ work_measure net old + old.relabels
   pub queue : length new.queue.items ≤ length old.queue.items + 1
   pub queued : (limit : ℕ) → IsQueuedBut net limit but old → IsQueuedBut net limit but new
 
 -- steps at a node, maybe none: less is left by as many as were queued
 pub record IsSteps (net : Network) (but : ℕ) (old new : Work) : Type 0 where
   pub work : IsWork net new
-  pub fall : left net new ≤ left net old
-  pub lower : left net new + length new.queue.items ≤ left net old + length old.queue.items
-  pub counted : left net new + new.relabels ≤ left net old + old.relabels
+  pub fall : work_measure net new ≤ work_measure net old
+  pub lower : work_measure net new + length new.queue.items
+      ≤ work_measure net old + length old.queue.items
+  pub counted : work_measure net new + new.relabels ≤ work_measure net old + old.relabels
   pub queued : (limit : ℕ) → IsQueuedBut net limit but old → IsQueuedBut net limit but new
 
 -- no residual direction of the node leads to a lower label
@@ -93,7 +94,7 @@ IsSpent w v p =
 -- labels that did not fall, and all else as it was
 pub record IsRaised (net : Network) (old new : Work) : Type 0 where
   pub work : IsWork net new
-  pub fall : left net new ≤ left net old
+  pub fall : work_measure net new ≤ work_measure net old
   pub labels : (v : ℕ) → v < nodes net → slice_index old.labels.items v ≤ slice_index new.labels.items v
   pub excess : new.excess.items ≡ old.excess.items
   pub queue : new.queue.items ≡ old.queue.items
@@ -101,13 +102,13 @@ pub record IsRaised (net : Network) (old new : Work) : Type 0 where
 -- pushes at any nodes: no more is left, whatever is queued
 pub record IsWave (net : Network) (old new : Work) : Type 0 where
   pub work : IsWork net new
-  pub fall : left net new ≤ left net old
-  pub counted : left net new + new.relabels ≤ left net old + old.relabels
+  pub fall : work_measure net new ≤ work_measure net old
+  pub counted : work_measure net new + new.relabels ≤ work_measure net old + old.relabels
 
 -- the work at the start of a round: of the nodes whose label is below the limit none with excess is forgotten, and the
 -- others stand aside
-pub record IsRound (net : Network) (limit : ℕ) (old new : Work) : Type 0 where
+pub record IsRoundStart (net : Network) (limit : ℕ) (old new : Work) : Type 0 where
   pub work : IsWork net new
-  pub counted : left net new + new.relabels ≤ left net old
+  pub counted : work_measure net new + new.relabels ≤ work_measure net old
   pub queued : IsQueuedBut net limit (nodes net) new
   pub aside : All (λ v. slice_index new.labels.items v < limit) new.queue.items

@@ -1,6 +1,6 @@
 ghost use Rattle.std.specs.Prelude.{◌≡◌, ◌↔◌, ◌+◌, ◌<◌, ◌^◌, ℕ, IfOk, IsTrue, length, slice_index};
 ghost use Rattle.std.specs.Simd.Lanes.{zip2};
-ghost use Rattle.flow_network.specs.Cut.{nodes, set_of, widened, AreExtras, IsNet, IsSmallestLeastCut, LiesWithin};
+ghost use Rattle.flow_network.specs.Cut.{nodes, set_of, with_larger_sinks, AreExtras, IsNet, IsSmallestLeastCut, LiesWithin};
 ghost use Rattle.sink_distances.specs.Distances.{AreDistances};
 ghost use Rattle.plain_cut.specs.State.{work_flow, IsWork, HasNoActiveNode};
 
@@ -38,7 +38,7 @@ fn widen(alloc: Global, graph: Graph, sinks: &[u64], more: &[u64]) -> Result<Gra
     requires limits { IsNet graph }
     requires sinks { sinks.now ≡ graph.sinks }
     requires extras { AreExtras graph more.now }
-    ensures { IfOk result (λ wider. wider ≡ widened graph more.now) }
+    ensures { IfOk result (λ wider. wider ≡ with_larger_sinks graph more.now) }
 {
     let mut wide = Vec::from_slice(alloc, sinks)?;
     add_each(wide.as_mut_slice(), more);
@@ -61,7 +61,7 @@ fn are_none(more: &[u64]) -> bool
 fn add_room(net: &Outline, wider: &Outline, work: &mut Work, more: &[u64])
     requires limits { IsNet net.now }
     requires extras { AreExtras net.now more.now }
-    requires wider { wider.now ≡ widened net.now more.now }
+    requires wider { wider.now ≡ with_larger_sinks net.now more.now }
     requires work { IsWork net.now work.old }
     ensures { IsWork wider.now work.new }
 {
@@ -82,14 +82,14 @@ fn wider_side(
 ) -> Result<Vec<bool>, AllocError>
     requires limits { IsNet net.now }
     requires extras { AreExtras net.now more.now }
-    requires wider { wider.now ≡ widened net.now more.now }
+    requires wider { wider.now ≡ with_larger_sinks net.now more.now }
     requires work { IsWork net.now work.old }
     requires finished { HasNoActiveNode net.now work.old }
     requires exact { AreDistances net.now (work_flow net.now work.old) work.old.labels.items }
     requires order { length order.old ≡ nodes net.now }
     requires found { length found.old ≡ nodes net.now }
     ensures bits { IfOk result (λ side. length side.items ≡ nodes net.now) }
-    ensures smallest { IfOk result (λ side. IsSmallestLeastCut (widened net.now more.now) (set_of side.items)) }
+    ensures smallest { IfOk result (λ side. IsSmallestLeastCut (with_larger_sinks net.now more.now) (set_of side.items)) }
 {
     if are_none(more) {
         return least_side(alloc, net, work);
@@ -115,7 +115,7 @@ pub fn both_sides_in(
     ensures lower_bits { IfOk result (λ sides. length sides.lower.items ≡ nodes net) }
     ensures upper_bits { IfOk result (λ sides. length sides.upper.items ≡ nodes net) }
     ensures lower { IfOk result (λ sides. IsSmallestLeastCut net (set_of sides.lower.items)) }
-    ensures upper { IfOk result (λ sides. IsSmallestLeastCut (widened net more.now) (set_of sides.upper.items)) }
+    ensures upper { IfOk result (λ sides. IsSmallestLeastCut (with_larger_sinks net more.now) (set_of sides.upper.items)) }
     ensures within { IfOk result (λ sides.
         LiesWithin (nodes net) (set_of sides.lower.items) (set_of sides.upper.items)) }
 {

@@ -1,6 +1,6 @@
 ghost use Rattle.std.specs.Prelude.{◌≡◌, ◌≢◌, ◌<◌, IfOk, IsTrue, length, slice_index};
 ghost use Rattle.flow_network.specs.Cut.{nodes, IsNet};
-ghost use Rattle.sink_distances.specs.Rows.{head_at, residual_at, IsPlace, IsRows, AreEmpty};
+ghost use Rattle.sink_distances.specs.Rows.{head_at, residual_at, IsPlace, IsRows, CarryNothing};
 ghost use Rattle.plain_cut.specs.State.{IsWork, IsUnlabelled};
 
 use crate::pushes::{carry, try_push_sink};
@@ -99,7 +99,7 @@ pub fn open(
     queue: VecDeque<u32>,
 ) -> Result<Work, AllocError>
     requires rows { IsRows net.now rows }
-    requires empty { AreEmpty net.now rows }
+    requires empty { CarryNothing net.now rows }
     requires sources { sources.items ≡ net.now.sources }
     requires sinks { sinks.items ≡ net.now.sinks }
     ensures work { IfOk result (λ w. IsWork net.now w) }

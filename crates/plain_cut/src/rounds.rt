@@ -1,6 +1,6 @@
 ghost use Rattle.std.specs.Prelude.{◌≡◌, OnOk};
 ghost use Rattle.flow_network.specs.Cut.{IsNet};
-ghost use Rattle.plain_cut.specs.State.{IsWork, IsWave, IsRound};
+ghost use Rattle.plain_cut.specs.State.{IsWork, IsWave, IsRoundStart};
 
 use crate::pushes::push_all;
 use crate::work::{Work, queue_again};
@@ -33,7 +33,7 @@ pub fn begin_round(
     requires limits { IsNet net.now }
     requires work { IsWork net.now work.old }
     requires counted { work.old.relabels ≡ 0 }
-    ensures round { OnOk result (IsRound net.now limit work.old work.new) }
+    ensures round { OnOk result (IsRoundStart net.now limit work.old work.new) }
 {
     work.queue.clear();
     push_wave(net, work, found)?;

@@ -6,7 +6,7 @@ ghost use Rattle.flow_network.specs.Preflow.{IsReach};
 ghost use Rattle.flow_network.specs.Answer.{side_of, IsRightCut};
 ghost use Rattle.flow_network.specs.Progress.{top};
 ghost use Rattle.sink_distances.specs.Distances.{AreDistances};
-ghost use Rattle.sink_distances.specs.Rows.{carried, firsts_of, first_at, second_at, places_of, IsRows, AreEmpty};
+ghost use Rattle.sink_distances.specs.Rows.{carried_flow, firsts_of, first_at, second_at, places_of, IsRows, CarryNothing};
 ghost use Rattle.plain_cut.specs.State.{work_flow, IsWork, IsRaised, HasNoActiveNode};
 
 use crate::opening::open;
@@ -31,7 +31,7 @@ pub fn finish(
     space: &mut Workspace,
 ) -> Result<Work, AllocError>
     requires rows { IsRows net.now rows }
-    requires empty { AreEmpty net.now rows }
+    requires empty { CarryNothing net.now rows }
     requires sources { sources.items ≡ net.now.sources }
     requires sinks { sinks.items ≡ net.now.sinks }
     ensures limits { IsNet net.now }
@@ -238,7 +238,7 @@ fn carried_by(alloc: Global, rows: &Rows, firsts: &[u32]) -> Result<Vec<u64>, Al
     requires firsts { firsts.now ≡ firsts_of rows.now }
     requires first { (k : ℕ) → k < length firsts.now → first_at rows.now k < length rows.now.cells.items }
     requires second { (k : ℕ) → k < length firsts.now → second_at rows.now k < length rows.now.cells.items }
-    ensures { IfOk result (λ flow. flow.items ≡ carried rows.now) }
+    ensures { IfOk result (λ flow. flow.items ≡ carried_flow rows.now) }
 {
     let mut flow = vec![in alloc; 0u64; firsts.len()]?;
     'arcs: for k in 0..firsts.len() {

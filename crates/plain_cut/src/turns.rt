@@ -1,7 +1,7 @@
 ghost use Rattle.std.specs.Prelude.{◌≡◌, ◌+◌, ◌<◌, ◌≤◌, OnOk, slice_index};
 ghost use Rattle.flow_network.specs.Cut.{nodes};
 ghost use Rattle.flow_network.specs.Progress.{top};
-ghost use Rattle.plain_cut.specs.State.{left, IsWork, IsQueuedBut, IsSteps, HasNoExcessBelow};
+ghost use Rattle.plain_cut.specs.State.{work_measure, IsWork, IsQueuedBut, IsSteps, HasNoExcessBelow};
 
 use crate::pushes::push_all;
 use crate::relabels::relabel;
@@ -38,8 +38,8 @@ pub fn take_turns(net: &Outline, work: &mut Work, limit: u32) -> Result<(), Allo
     requires limit { limit ≤ top net.now }
     requires queued { IsQueuedBut net.now limit (nodes net.now) work.old }
     ensures work { OnOk result (IsWork net.now work.new) }
-    ensures counted { OnOk result (left net.now work.new + work.new.relabels ≤
-        left net.now work.old + work.old.relabels) }
+    ensures counted { OnOk result (work_measure net.now work.new + work.new.relabels ≤
+        work_measure net.now work.old + work.old.relabels) }
     ensures done { OnOk result (work.new.relabels ≡ 0 → HasNoExcessBelow net.now limit work.new) }
 {
     let most = net.nodes() / 32;

@@ -3,7 +3,7 @@ ghost use Rattle.flow_network.specs.Limits.{node_limit};
 ghost use Rattle.flow_network.specs.Cut.{nodes, IsNet};
 ghost use Rattle.flow_network.specs.Progress.{top};
 ghost use Rattle.sink_distances.specs.Distances.{AreDistances};
-ghost use Rattle.sink_distances.specs.Rows.{IsRows, AreEmpty};
+ghost use Rattle.sink_distances.specs.Rows.{IsRows, CarryNothing};
 ghost use Rattle.plain_cut.specs.State.{work_flow, IsWork, IsRaised, IsUnlabelled};
 
 use sink_distances::{Extent, Outline, Rows, raise_labels, write_row_distances, zeros};
@@ -62,7 +62,7 @@ pub fn start(
     mut queue: VecDeque<u32>,
 ) -> Result<Work, AllocError>
     requires rows { IsRows net.now rows }
-    requires empty { AreEmpty net.now rows }
+    requires empty { CarryNothing net.now rows }
     requires sources { sources.items ≡ net.now.sources }
     requires sinks { sinks.items ≡ net.now.sinks }
     ensures work { IfOk result (λ w. IsUnlabelled net.now w) }

@@ -5,7 +5,7 @@ use Rattle.toml.specs.Data.{as_integer}
 use Rattle.toml.specs.View.{items_view, view}
 use Rattle.toml.specs.declared.value.Value.{Value}
 use Rattle.problem_files.specs.Problem.{integers_of}
-use Rattle.problem_files.specs.Within.{within}
+use Rattle.problem_files.specs.Within.{list_within}
 
 both_read : (o : Option ℤ) (r : Option (List ℤ)) (zs : List ℤ) → option_and_then (λ z. option_map (λ t. z ∷ t) r) o ≡ Some zs
     → (z : ℤ) × (t : List ℤ) × (r ≡ Some t) × (zs ≡ z ∷ t)
@@ -20,9 +20,9 @@ one_each (v ∷ vs) zs e =
     let (z, t, rest, is) = both_read (as_integer (view v)) (integers_of (items_view vs)) zs e in
     ap length is ∙ ap (λ n. suc n) (one_each vs t rest)
 
-beyond : (o : Option (List ℤ)) (n m : ℕ) → n < m → ((zs : List ℤ) → o ≡ Some zs → length zs ≡ m) → option_and_then (within n) o ≡ None
+beyond : (o : Option (List ℤ)) (n m : ℕ) → n < m → ((zs : List ℤ) → o ≡ Some zs → length zs ≡ m) → option_and_then (list_within n) o ≡ None
 beyond None n m h e = refl
 beyond (Some zs) n m h e = let is : length zs ≡ m = e zs refl in grind (arith, nat_tests)
 
-pub too_many : (vs : List Value) (n : ℕ) → n < length vs → None ≡ option_and_then (within n) (integers_of (items_view vs))
+pub too_many : (vs : List Value) (n : ℕ) → n < length vs → None ≡ option_and_then (list_within n) (integers_of (items_view vs))
 too_many vs n h = sym (beyond (integers_of (items_view vs)) n (length vs) h (one_each vs))

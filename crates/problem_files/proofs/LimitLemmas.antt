@@ -7,8 +7,8 @@ use Rattle.std.proofs.lemmas.List.{length-map}
 use Rattle.std.proofs.lemmas.List.Elements.{All-map}
 use Rattle.toml.specs.Data.{Data, string, integer, float, boolean, datetime, array, table, Items, Members, as_array, get_member}
 use Rattle.problem_files.specs.LabelFieldNames.{and_then, field_name, out_of_range, unless}
-use Rattle.problem_files.specs.LabelCostFields.{AreLabelCosts, label_costs_at, label_costs_from, label_costs_in}
-use Rattle.problem_files.specs.ListFields.{checked, checked_items, data_at, data_from, data_in, integer_of, is_beyond, is_other, list_from, list_of, number_of}
+use Rattle.problem_files.specs.LabelCostFields.{AreCostsOfLabels, label_costs_at, label_costs_from, label_costs_in}
+use Rattle.problem_files.specs.ListFields.{integers_or_fault, checked_items, data_at, data_from, data_in, integer_of, is_out_of_range, is_no_integer, list_from, list_of, natural_of}
 use Rattle.problem_files.specs.SmoothFields.{listed_from, smooth_at, smooth_from, smooth_in, table_named}
 use Rattle.problem_files.specs.declared.label_fault.LabelKey.{LabelKey}
 use Rattle.problem_files.specs.declared.label_fault.LabelKey.TheVariants as field
@@ -16,7 +16,7 @@ use Rattle.problem_files.specs.declared.label_fault.LabelFault.{LabelFault}
 use Rattle.problem_files.specs.declared.label_fault.LabelFault.TheVariants.{BadElement, BadField}
 use Rattle.problem_files.proofs.Listed.{none_passes}
 use Rattle.run_options.proofs.Tables.{rows_kept, table_long}
-use Rattle.run_options.specs.Limits.{IsLabelCost, IsSmoothCost, data_limit, label_cost_limit, smooth_limit, trunc_limit}
+use Rattle.run_options.specs.Limits.{IsLabelCost, IsSmoothCost, greatest_data_cost, greatest_label_cost, greatest_smooth_cost, trunc_limit}
 use Rattle.run_options.specs.Names.{shape_named}
 use Rattle.run_options.specs.Shapes.{shape_table}
 use Rattle.run_options.specs.declared.shape.Shape.{Shape}
@@ -47,17 +47,17 @@ record IsKept (count most : ℕ) (ds : List Data) : Type 0 where
   long : length ds ≡ count
   limit : All (λ d. IsCost most (integer_of d)) ds
 
-checked_kept : (field : LabelKey) (count most : ℕ) (ds es : List Data) → checked field count most ds ≡ Ok es → IsKept count most es
-unfolding checked
+checked_kept : (field : LabelKey) (count most : ℕ) (ds es : List Data) → integers_or_fault field count most ds ≡ Ok es → IsKept count most es
+unfolding integers_or_fault
 checked_kept field count most ds es e =
-    let counted = if_ok (length ds == count) (unless (position is_other ds) (BadElement field) (unless (position (is_beyond most) ds) (out_of_range field) (Ok ds))) (BadField field) es e in
-    let kinds = unless_ok (position is_other ds) (BadElement field) (unless (position (is_beyond most) ds) (out_of_range field) (Ok ds)) es counted.1 in
-    let ranges = unless_ok (position (is_beyond most) ds) (out_of_range field) (Ok ds) es kinds.1 in
+    let counted = if_ok (length ds == count) (unless (position is_no_integer ds) (BadElement field) (unless (position (is_out_of_range most) ds) (out_of_range field) (Ok ds))) (BadField field) es e in
+    let kinds = unless_ok (position is_no_integer ds) (BadElement field) (unless (position (is_out_of_range most) ds) (out_of_range field) (Ok ds)) es counted.1 in
+    let ranges = unless_ok (position (is_out_of_range most) ds) (out_of_range field) (Ok ds) es kinds.1 in
     let same : ds ≡ es = let is = ranges.1 in cc in
     let P : List Data → Type 0 = λ xs. IsKept count most xs in
     subst P same (record {
       long = grind (arith, nat_tests, counted.0);
-      limit = λ k d below. in_limit most (integer_of (get_or ds k d)) (none_passes (is_beyond most) ds ranges.0 k d below);
+      limit = λ k d below. in_limit most (integer_of (get_or ds k d)) (none_passes (is_out_of_range most) ds ranges.0 k d below);
     })
 
 items_kept : (field : LabelKey) (count most : ℕ) (o : Option Items) (es : List Data) → checked_items field count most o ≡ Ok es → IsKept count most es
@@ -72,20 +72,20 @@ small : (most : ℕ) (z : ℤ) → IsCost most z → unsigned_abs z ≤ most
 small most (pos n) h = omega (arith, ints, h.1)
 small most (negsuc n) h = absurd (omega (arith, ints, h.0))
 
-data_from_kept : (count : ℕ) (d : Data) (zs : List ℕ) → data_from count d ≡ Ok zs → (length zs ≡ count) × All (λ n. n ≤ data_limit) zs
+data_from_kept : (count : ℕ) (d : Data) (zs : List ℕ) → data_from count d ≡ Ok zs → (length zs ≡ count) × All (λ n. n ≤ greatest_data_cost) zs
 unfolding data_from
 data_from_kept count d zs e =
-    let (ds, read, made) = then_ok (list_from field.Data count data_limit d) (λ ds. Ok (map number_of ds)) zs e in
-    let kept = list_kept field.Data count data_limit d ds read in
-    let same : map number_of ds ≡ zs = let is = made in cc in
-    let P : List ℕ → Type 0 = λ xs. (length xs ≡ count) × All (λ n. n ≤ data_limit) xs in
-    subst P same (simp length-map kept.long, All-map (λ n. n ≤ data_limit) number_of ds (λ k d below. small data_limit (integer_of (get_or ds k d)) (kept.limit k d below)))
+    let (ds, read, made) = then_ok (list_from field.Data count greatest_data_cost d) (λ ds. Ok (map natural_of ds)) zs e in
+    let kept = list_kept field.Data count greatest_data_cost d ds read in
+    let same : map natural_of ds ≡ zs = let is = made in cc in
+    let P : List ℕ → Type 0 = λ xs. (length xs ≡ count) × All (λ n. n ≤ greatest_data_cost) xs in
+    subst P same (simp length-map kept.long, All-map (λ n. n ≤ greatest_data_cost) natural_of ds (λ k d below. small greatest_data_cost (integer_of (get_or ds k d)) (kept.limit k d below)))
 
-data_at_kept : (count : ℕ) (o : Option Data) (zs : List ℕ) → data_at count o ≡ Ok zs → (length zs ≡ count) × All (λ n. n ≤ data_limit) zs
+data_at_kept : (count : ℕ) (o : Option Data) (zs : List ℕ) → data_at count o ≡ Ok zs → (length zs ≡ count) × All (λ n. n ≤ greatest_data_cost) zs
 data_at_kept count None zs e = absurd (let never = e in cc)
 data_at_kept count (Some d) zs e = data_from_kept count d zs e
 
-pub data_kept : (ms : Members) (count : ℕ) (zs : List ℕ) → data_in ms count ≡ Ok zs → (length zs ≡ count) × All (λ n. n ≤ data_limit) zs
+pub data_kept : (ms : Members) (count : ℕ) (zs : List ℕ) → data_in ms count ≡ Ok zs → (length zs ≡ count) × All (λ n. n ≤ greatest_data_cost) zs
 unfolding data_in
 data_kept ms count zs e = data_at_kept count (get_member (field_name field.Data) ms) zs e
 
@@ -103,8 +103,8 @@ named_kept k most (Some shape) f few e =
 listed_kept : (k most : ℕ) (d : Data) (f : ℕ → List ℤ) → listed_from k d ≡ Ok f → IsTable k (f most)
 unfolding listed_from
 listed_kept k most d f e =
-    let (ds, read, made) = then_ok (list_from field.Smooth (k * k) smooth_limit d) (λ ds. Ok (λ most. map integer_of ds)) f e in
-    let kept = list_kept field.Smooth (k * k) smooth_limit d ds read in
+    let (ds, read, made) = then_ok (list_from field.Smooth (k * k) greatest_smooth_cost d) (λ ds. Ok (λ most. map integer_of ds)) f e in
+    let kept = list_kept field.Smooth (k * k) greatest_smooth_cost d ds read in
     let g : ℕ → List ℤ = λ most. map integer_of ds in
     let same : g ≡ f = let is = made in cc in
     let P : (ℕ → List ℤ) → Type 0 = λ h. IsTable k (h most) in
@@ -129,25 +129,25 @@ pub smooth_kept : (ms : Members) (k most : ℕ) (f : ℕ → List ℤ) → most 
 unfolding smooth_in
 smooth_kept ms k most f few e = at_kept k most (get_member (field_name field.Smooth) ms) f few e
 
-costs_from_kept : (k : ℕ) (d : Data) (costs : Option (List ℤ)) → label_costs_from k d ≡ Ok costs → AreLabelCosts k costs
+costs_from_kept : (k : ℕ) (d : Data) (costs : Option (List ℤ)) → label_costs_from k d ≡ Ok costs → AreCostsOfLabels k costs
 unfolding label_costs_from
 costs_from_kept k d costs e =
-    let (ds, read, made) = then_ok (list_from field.LabelCosts k label_cost_limit d) (λ ds. let r : Result (Option (List ℤ)) LabelFault = Ok (Some (map integer_of ds)) in r) costs e in
-    let kept = list_kept field.LabelCosts k label_cost_limit d ds read in
+    let (ds, read, made) = then_ok (list_from field.LabelCosts k greatest_label_cost d) (λ ds. let r : Result (Option (List ℤ)) LabelFault = Ok (Some (map integer_of ds)) in r) costs e in
+    let kept = list_kept field.LabelCosts k greatest_label_cost d ds read in
     let listed : Option (List ℤ) = Some (map integer_of ds) in
     let same : listed ≡ costs = let is = made in cc in
-    let P : Option (List ℤ) → Type 0 = λ o. AreLabelCosts k o in
+    let P : Option (List ℤ) → Type 0 = λ o. AreCostsOfLabels k o in
     subst P same (simp length-map kept.long, All-map IsLabelCost integer_of ds kept.limit)
 
-costs_at_kept : (k : ℕ) (o : Option Data) (costs : Option (List ℤ)) → label_costs_at k o ≡ Ok costs → AreLabelCosts k costs
+costs_at_kept : (k : ℕ) (o : Option Data) (costs : Option (List ℤ)) → label_costs_at k o ≡ Ok costs → AreCostsOfLabels k costs
 costs_at_kept k None costs e =
     let none : Option (List ℤ) = None in
     let same : none ≡ costs = let is = e in cc in
-    let P : Option (List ℤ) → Type 0 = λ o. AreLabelCosts k o in
+    let P : Option (List ℤ) → Type 0 = λ o. AreCostsOfLabels k o in
     subst P same tt
 costs_at_kept k (Some d) costs e = costs_from_kept k d costs e
 
 -- the costs of k labels that a table names are in their range
-pub label_costs_kept : (ms : Members) (k : ℕ) (costs : Option (List ℤ)) → label_costs_in ms k ≡ Ok costs → AreLabelCosts k costs
+pub label_costs_kept : (ms : Members) (k : ℕ) (costs : Option (List ℤ)) → label_costs_in ms k ≡ Ok costs → AreCostsOfLabels k costs
 unfolding label_costs_in
 label_costs_kept ms k costs e = costs_at_kept k (get_member (field_name field.LabelCosts) ms) costs e

@@ -6,7 +6,7 @@ use Rattle.std.proofs.lemmas.List.Sums.{prefix_len_passes}
 use Rattle.toml.specs.Data.{Data}
 use Rattle.toml.specs.View.{items_of, items_view, view}
 use Rattle.toml.specs.declared.value.Value.{Value}
-use Rattle.problem_files.specs.ListFields.{integer_of, is_beyond, list_of, number_of}
+use Rattle.problem_files.specs.ListFields.{integer_of, is_out_of_range, list_of, natural_of}
 
 back : (ds : List Data) → list_of (items_of ds) ≡ ds
 back [] = refl
@@ -46,9 +46,9 @@ pub small : (most : ℕ) (z : ℤ) → not (int_le (pos 0) z && int_le z (pos mo
 small most (pos n) e = grind (arith, nat_tests)
 small most (negsuc n) e = absurd (let no = e in cc)
 
-pub all_in_range : (most : ℕ) (vs : List Value) → position (is_beyond most) (map view vs) ≡ None → All (λ v. number_of (view v) ≤ most) vs
+pub all_in_range : (most : ℕ) (vs : List Value) → position (is_out_of_range most) (map view vs) ≡ None → All (λ v. natural_of (view v) ≤ most) vs
 all_in_range most vs e k d below =
-    small most (integer_of (view (get_or vs k d))) (none_passes (λ v. is_beyond most (view v)) vs (sym (position_viewed (is_beyond most) vs) ∙ e) k d below)
+    small most (integer_of (view (get_or vs k d))) (none_passes (λ v. is_out_of_range most (view v)) vs (sym (position_viewed (is_out_of_range most) vs) ∙ e) k d below)
 
 pub map_viewed : {A : Type 0} (f : Data → A) (vs : List Value) → map f (map view vs) ≡ map (λ v. f (view v)) vs
 map_viewed f [] = refl

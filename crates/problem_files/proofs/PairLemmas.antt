@@ -7,7 +7,7 @@ use Rattle.std.proofs.lemmas.Int.{ints}
 use Rattle.label_field.specs.declared.error.LabelFieldError.{LabelFieldError}
 use Rattle.label_field.specs.declared.error.LabelFieldError.TheVariants as list
 use Rattle.label_field.specs.Limits.{pair_limit}
-use Rattle.label_field.specs.PairLists.{IsAccepted, IsRefusal, IsWeight, PairList}
+use Rattle.label_field.specs.PairLists.{IsPairAccepted, IsPairRefusal, IsWeight, PairList}
 use Rattle.problem_files.specs.Gains.{Gains, refusal_of}
 use Rattle.problem_files.specs.PairFields.{is_site, is_weight, pair_with}
 use Rattle.problem_files.specs.declared.label_fault.LabelFault.TheVariants as fault
@@ -42,7 +42,7 @@ second_unknown n i p q w unmet = elim (cases_Bool (is_site n p)) [
   | inr other ↦ rw other refl
 ]
 
-pub taken : (old new : PairList) (i x y : ℕ) (w : ℤ) → IsAccepted old x y w
+pub taken : (old new : PairList) (i x y : ℕ) (w : ℤ) → IsPairAccepted old x y w
     → new ≡ record old { list = old.list ++ record { first = x; second = y; weight = unsigned_abs w } ∷ [] }
     → Gains old new (pair_with old.sites i (pos x) (pos y) w)
 unfolding pair_with
@@ -51,7 +51,7 @@ taken old new i x y w ok added =
     let second : nat_lt y old.sites ≡ true = grind (arith, nat_tests, ok.second_site) in
     rw (first, second, apart_test x y ok.unequal, weight_test w ok.in_range) added
 
-pub refused : (old : PairList) (i x y : ℕ) (w : ℤ) (e : LabelFieldError) → length old.list < pair_limit → IsRefusal old x y w e
+pub refused : (old : PairList) (i x y : ℕ) (w : ℤ) (e : LabelFieldError) → length old.list < pair_limit → IsPairRefusal old x y w e
     → refusal_of i e ≢ fault.OutOfMemory → pair_with old.sites i (pos x) (pos y) w ≡ Err (refusal_of i e)
 unfolding pair_with
 refused old i x y w list.NoSuchSite room (inl h) memory =

@@ -11,22 +11,22 @@ use Rattle.label_field.specs.declared.pair.Pair.{Pair}
 use Rattle.labellings.specs.Names.{moves_named}
 use Rattle.labellings.specs.declared.cycles.Moves.{Moves}
 use Rattle.labellings.specs.declared.cycles.Moves.TheVariants.{Expansion, Swap}
-use Rattle.run_options.specs.Limits.{cycle_limit, data_limit, label_cost_limit, smooth_limit, trunc_limit}
+use Rattle.run_options.specs.Limits.{cycle_limit, greatest_data_cost, greatest_label_cost, greatest_smooth_cost, trunc_limit}
 use Rattle.run_options.specs.Names.{shape_named}
 use Rattle.run_options.specs.Shapes.{shape_table}
 use Rattle.run_options.specs.declared.shape.Shape.{Shape}
 use Rattle.run_options.specs.declared.shape.Shape.TheVariants.{Potts, Linear, Quadratic}
 use Rattle.problem_files.specs.LabelCostFields.{label_costs_at, label_costs_from, label_costs_in}
 use Rattle.problem_files.specs.LabelFieldNames.{and_then, field_name}
-use Rattle.problem_files.specs.ListFields.{data_at, data_from, data_in, integer_of, list_from, list_of, number_of}
+use Rattle.problem_files.specs.ListFields.{data_at, data_from, data_in, integer_of, list_from, list_of, natural_of}
 use Rattle.problem_files.specs.MoveFields.{moves_at, moves_from, moves_in, moves_or_fault, moves_text}
-use Rattle.problem_files.specs.Names.{Problem, named_by, names, names_rest, problem_in, told}
+use Rattle.problem_files.specs.Names.{Problem, named_by, problem_of_table, names_rest, problem_in, problem_view}
 use Rattle.problem_files.specs.declared.label_problem.LabelProblem.{LabelProblem}
-use Rattle.problem_files.specs.NumberFields.{number_at, number_in, number_or}
-use Rattle.problem_files.specs.PairFields.{is_site, is_weight, pair_at, pair_of, pair_with, pairs_at, pairs_from, pairs_in, pairs_listed, pairs_of}
+use Rattle.problem_files.specs.NumberFields.{number_field, number_in, number_or}
+use Rattle.problem_files.specs.PairFields.{is_site, is_weight, pair_at, pair_field, pair_with, pairs_field, pairs_from, pairs_in, pairs_listed, pairs_or_fault}
 use Rattle.problem_files.specs.Problem.{integers_of}
 use Rattle.problem_files.specs.SmoothFields.{listed_from, smooth_at, smooth_from, smooth_in, table_named}
-use Rattle.problem_files.specs.StartFields.{start_at, start_from, start_in}
+use Rattle.problem_files.specs.StartFields.{start_field, start_from, start_in}
 use Rattle.problem_files.specs.Stated.{integers}
 use Rattle.problem_files.specs.StatedLabels.{StatesCosts, StatesLabelCosts, StatesMoves, StatesNumber, StatesNumbers, StatesPair, StatesPairList, StatesPairs, StatesProblem, StatesSmooth, StatesStart, TextStatesProblem}
 use Rattle.problem_files.specs.declared.label_fault.LabelKey.TheVariants as field
@@ -55,10 +55,10 @@ cycles_stated ms n e = number_stated field.Cycles 0 cycle_limit 100 (get_member 
 data_from_stated : (count : ℕ) (d : Data) (costs : List ℕ) → data_from count d ≡ Ok costs → StatesNumbers d costs
 unfolding data_from
 data_from_stated count d costs e =
-    let (ds, read, made) = then_ok (list_from field.Data count data_limit d) (λ ds. Ok (map number_of ds)) costs e in
-    let same : map number_of ds ≡ costs = let is = made in cc in
+    let (ds, read, made) = then_ok (list_from field.Data count greatest_data_cost d) (λ ds. Ok (map natural_of ds)) costs e in
+    let same : map natural_of ds ≡ costs = let is = made in cc in
     let P : List ℕ → Type 0 = λ ns. StatesNumbers d ns in
-    subst P same (list_back field.Data count data_limit d ds read).numbers
+    subst P same (list_back field.Data count greatest_data_cost d ds read).numbers
 
 data_at_stated : (count : ℕ) (o : Option Data) (costs : List ℕ) → data_at count o ≡ Ok costs → (d : Data) × (o ≡ Some d) × StatesNumbers d costs
 data_at_stated count None costs e = absurd (let never = e in cc)
@@ -101,11 +101,11 @@ name_stated k most name (Some s) f is e =
 list_stated : (k most : ℕ) (d : Data) (f : ℕ → List ℤ) → listed_from k d ≡ Ok f → StatesSmooth (Some d) most k (f most)
 unfolding listed_from
 list_stated k most d f e =
-    let (ds, read, made) = then_ok (list_from field.Smooth (k * k) smooth_limit d) (λ ds. Ok (λ most. map integer_of ds)) f e in
+    let (ds, read, made) = then_ok (list_from field.Smooth (k * k) greatest_smooth_cost d) (λ ds. Ok (λ most. map integer_of ds)) f e in
     let g : ℕ → List ℤ = λ most. map integer_of ds in
     let same : g ≡ f = let is = made in cc in
     let P : (ℕ → List ℤ) → Type 0 = λ h. StatesSmooth (Some d) most k (h most) in
-    subst P same (inr (inr (inr (list_back field.Smooth (k * k) smooth_limit d ds read).is)))
+    subst P same (inr (inr (inr (list_back field.Smooth (k * k) greatest_smooth_cost d ds read).is)))
 
 smooth_from_stated : (k most : ℕ) (d : Data) (f : ℕ → List ℤ) → smooth_from k d ≡ Ok f → StatesSmooth (Some d) most k (f most)
 unfolding smooth_from
@@ -163,7 +163,7 @@ abs_of : (n m : ℕ) → pos n ≡ pos m → n ≡ m
 abs_of n m e = ap unsigned_abs e
 
 pair_stated : (n i : ℕ) (d : Data) (o : Option (List ℤ)) (pair : Pair) → ((zs : List ℤ) → o ≡ Some zs → d ≡ array (integers zs))
-    → pair_of n i o ≡ Ok pair → StatesPair d pair
+    → pair_field n i o ≡ Ok pair → StatesPair d pair
 pair_stated n i d None pair is e = absurd (let never = e in cc)
 pair_stated n i d (Some []) pair is e = absurd (let never = e in cc)
 pair_stated n i d (Some (p ∷ [])) pair is e = absurd (let never = e in cc)
@@ -209,7 +209,7 @@ listed_pairs n (Some ds) d pairs is e =
     let kept = if_ok (nat_le (length (list_of ds)) pair_limit) (pairs_from n 0 (list_of ds)) TooManyPairs pairs e in
     (ds, is ds refl, pairs_stated n 0 ds pairs kept.1)
 
-pairs_at_stated : (n : ℕ) (o : Option Data) (pairs : List Pair) → pairs_at n o ≡ Ok pairs → StatesPairList o pairs
+pairs_at_stated : (n : ℕ) (o : Option Data) (pairs : List Pair) → pairs_field n o ≡ Ok pairs → StatesPairList o pairs
 pairs_at_stated n None pairs e = let is : pairs ≡ [] = cc in is
 pairs_at_stated n (Some d) pairs e = listed_pairs n (as_array d) d pairs (as_array_back d) e
 
@@ -220,12 +220,12 @@ pair_list_stated ms n pairs e = pairs_at_stated n (get_member (codes "pairs") ms
 start_from_stated : (sites labels : ℕ) (d : Data) (start : LabelField) → start_from sites labels d ≡ Ok start → StatesNumbers d start.at
 unfolding start_from
 start_from_stated sites labels d start e =
-    let (ds, read, made) = then_ok (list_from field.Start sites (labels - 1) d) (λ ds. Ok (record { labels = labels; at = map number_of ds })) start e in
-    let same : map number_of ds ≡ start.at = let is = made in cc in
+    let (ds, read, made) = then_ok (list_from field.Start sites (labels - 1) d) (λ ds. Ok (record { labels = labels; at = map natural_of ds })) start e in
+    let same : map natural_of ds ≡ start.at = let is = made in cc in
     let P : List ℕ → Type 0 = λ ns. StatesNumbers d ns in
     subst P same (list_back field.Start sites (labels - 1) d ds read).numbers
 
-start_at_stated : (sites labels : ℕ) (o : Option Data) (start : LabelField) → start_at sites labels o ≡ Ok start → StatesStart o sites start.at
+start_at_stated : (sites labels : ℕ) (o : Option Data) (start : LabelField) → start_field sites labels o ≡ Ok start → StatesStart o sites start.at
 start_at_stated sites labels None start e = cc
 start_at_stated sites labels (Some d) start e = start_from_stated sites labels d start e
 
@@ -269,10 +269,10 @@ moves_stated ms m e = moves_at_stated (get_member (codes "moves") ms) m e
 costs_from_stated : (k : ℕ) (d : Data) (costs : Option (List ℤ)) → label_costs_from k d ≡ Ok costs → StatesLabelCosts (Some d) costs
 unfolding label_costs_from
 costs_from_stated k d costs e =
-    let (ds, read, made) = then_ok (list_from field.LabelCosts k label_cost_limit d) (λ ds. let r : Result (Option (List ℤ)) LabelFault = Ok (Some (map integer_of ds)) in r) costs e in
+    let (ds, read, made) = then_ok (list_from field.LabelCosts k greatest_label_cost d) (λ ds. let r : Result (Option (List ℤ)) LabelFault = Ok (Some (map integer_of ds)) in r) costs e in
     let listed : Option (List ℤ) = Some (map integer_of ds) in
     let same : listed ≡ costs = let is = made in cc in
-    (map integer_of ds, sym same, (list_back field.LabelCosts k label_cost_limit d ds read).is)
+    (map integer_of ds, sym same, (list_back field.LabelCosts k greatest_label_cost d ds read).is)
 
 costs_at_stated : (k : ℕ) (o : Option Data) (costs : Option (List ℤ)) → label_costs_at k o ≡ Ok costs → StatesLabelCosts o costs
 costs_at_stated k None costs e =
@@ -326,7 +326,7 @@ rest_stated ms sites labels data_costs smooth_costs p sized e =
       label_costs = label_costs_stated ms labels label_costs label_costs_are;
     })
 
-pub problem_stated : (ms : Members) (p : Problem) → names ms ≡ Ok p → StatesProblem ms p
+pub problem_stated : (ms : Members) (p : Problem) → problem_of_table ms ≡ Ok p → StatesProblem ms p
 problem_stated ms p e =
     let (sites, sites_are, e1) = then_ok _ _ p e in
     let (labels, labels_are, e2) = then_ok _ _ p e1 in
@@ -350,10 +350,10 @@ of_document (Some ms) p e = (ms, refl, problem_stated ms p e)
 pub text_states : (bytes : List ℕ) (p : Problem) → problem_in bytes ≡ Ok p → TextStatesProblem bytes p
 text_states bytes p e = of_document (parse_document bytes) p e
 
-pub all_stated : (ms : Members) (r : Result LabelProblem LabelFault) → IfOk r (λ p. names ms ≡ Ok (told p)) → IfOk r (λ p. StatesProblem ms (told p))
-all_stated ms (Ok p) named = problem_stated ms (told p) named
+pub all_stated : (ms : Members) (r : Result LabelProblem LabelFault) → IfOk r (λ p. problem_of_table ms ≡ Ok (problem_view p)) → IfOk r (λ p. StatesProblem ms (problem_view p))
+all_stated ms (Ok p) named = problem_stated ms (problem_view p) named
 all_stated ms (Err fault) named = tt
 
-pub all_texts : (bytes : List ℕ) (r : Result LabelProblem LabelFault) → IfOk r (λ p. problem_in bytes ≡ Ok (told p)) → IfOk r (λ p. TextStatesProblem bytes (told p))
-all_texts bytes (Ok p) named = text_states bytes (told p) named
+pub all_texts : (bytes : List ℕ) (r : Result LabelProblem LabelFault) → IfOk r (λ p. problem_in bytes ≡ Ok (problem_view p)) → IfOk r (λ p. TextStatesProblem bytes (problem_view p))
+all_texts bytes (Ok p) named = text_states bytes (problem_view p) named
 all_texts bytes (Err fault) named = tt

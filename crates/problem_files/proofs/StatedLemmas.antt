@@ -9,7 +9,7 @@ use Rattle.pseudo_bool.specs.declared.term.Term.TheVariants.{One, Two, Three}
 use Rattle.pseudo_bool.specs.Energies.{Energy}
 use Rattle.problem_files.specs.declared.energy_fault.EnergyFault.{EnergyFault}
 use Rattle.problem_files.specs.declared.energy_fault.EnergyFault.TheVariants.{NoSuchVariable, SameVariable, ValueRange}
-use Rattle.problem_files.specs.Problem.{and_then, checked, constant_at, constant_in, integers_at, integers_of, is_distinct, is_value, is_variable, item_count, names, term_at, term_from, term_of, terms_at, terms_from, terms_in, variables_from, variables_in}
+use Rattle.problem_files.specs.Problem.{and_then, term_or_fault, constant_at, constant_in, integers_at, integers_of, is_distinct, is_value, is_variable, item_count, energy_of_table, term_at, term_from, term_field, terms_at, terms_from, terms_in, variables_from, variables_in}
 use Rattle.toml.specs.Parse.{parse_document}
 use Rattle.problem_files.specs.Text.{TextStates, energy_in, named_by}
 use Rattle.problem_files.specs.Stated.{States, StatesConstant, StatesList, StatesTerm, StatesTerms, integers}
@@ -64,13 +64,13 @@ IsListed on values (One x table) = (on ≡ pos x ∷ []) × (values ≡ table)
 IsListed on values (Two x y table) = (on ≡ pos x ∷ pos y ∷ []) × (values ≡ table)
 IsListed on values (Three x y z table) = (on ≡ pos x ∷ pos y ∷ pos z ∷ []) × (values ≡ table)
 
-one_listed : (n i : ℕ) (x : ℤ) (values : List ℤ) (found : Term) → checked n i (x ∷ []) values (One (unsigned_abs x) values) ≡ Ok found → IsListed (x ∷ []) values found
+one_listed : (n i : ℕ) (x : ℤ) (values : List ℤ) (found : Term) → term_or_fault n i (x ∷ []) values (One (unsigned_abs x) values) ≡ Ok found → IsListed (x ∷ []) values found
 one_listed n i x values found e =
     let (known, same) = checked_by (list_all (is_variable n) (x ∷ [])) (is_distinct (x ∷ [])) (list_all is_value values) (NoSuchVariable i) (SameVariable i) (ValueRange i) (One (unsigned_abs x) values) found e in
     let here = and_parts (is_variable n x) true known in
     rw same (ap (λ z. z ∷ []) (variable_back n x here.0), refl)
 
-two_listed : (n i : ℕ) (x y : ℤ) (values : List ℤ) (found : Term) → checked n i (x ∷ y ∷ []) values (Two (unsigned_abs x) (unsigned_abs y) values) ≡ Ok found → IsListed (x ∷ y ∷ []) values found
+two_listed : (n i : ℕ) (x y : ℤ) (values : List ℤ) (found : Term) → term_or_fault n i (x ∷ y ∷ []) values (Two (unsigned_abs x) (unsigned_abs y) values) ≡ Ok found → IsListed (x ∷ y ∷ []) values found
 two_listed n i x y values found e =
     let (known, same) = checked_by (list_all (is_variable n) (x ∷ y ∷ [])) (is_distinct (x ∷ y ∷ [])) (list_all is_value values) (NoSuchVariable i) (SameVariable i) (ValueRange i) (Two (unsigned_abs x) (unsigned_abs y) values) found e in
     let first = and_parts (is_variable n x) (is_variable n y && true) known in
@@ -80,7 +80,7 @@ two_listed n i x y values found e =
     rw same (cc, refl)
 
 three_listed : (n i : ℕ) (x y z : ℤ) (values : List ℤ) (found : Term)
-    → checked n i (x ∷ y ∷ z ∷ []) values (Three (unsigned_abs x) (unsigned_abs y) (unsigned_abs z) values) ≡ Ok found → IsListed (x ∷ y ∷ z ∷ []) values found
+    → term_or_fault n i (x ∷ y ∷ z ∷ []) values (Three (unsigned_abs x) (unsigned_abs y) (unsigned_abs z) values) ≡ Ok found → IsListed (x ∷ y ∷ z ∷ []) values found
 three_listed n i x y z values found e =
     let (known, same) = checked_by (list_all (is_variable n) (x ∷ y ∷ z ∷ [])) (is_distinct (x ∷ y ∷ z ∷ [])) (list_all is_value values) (NoSuchVariable i) (SameVariable i) (ValueRange i) (Three (unsigned_abs x) (unsigned_abs y) (unsigned_abs z) values) found e in
     let first = and_parts (is_variable n x) (is_variable n y && (is_variable n z && true)) known in
@@ -126,7 +126,7 @@ placed d on values (Two x y table) at_on at_values h = (rw h.0 at at_on, rw h.1 
 placed d on values (Three x y z table) at_on at_values h = (rw h.0 at at_on, rw h.1 at at_values)
 
 term_by : (n i : ℕ) (d : Data) (on values : Option (List ℤ)) (term : Term) → integers_at (codes "on") d ≡ on → integers_at (codes "values") d ≡ values
-    → term_of n i on values ≡ Ok term → StatesTerm d term
+    → term_field n i on values ≡ Ok term → StatesTerm d term
 term_by n i d None values term at_on at_values e = absurd (let no = e in cc)
 term_by n i d (Some on) None term at_on at_values e = absurd (let no = e in cc)
 term_by n i d (Some on) (Some values) term at_on at_values e =
@@ -161,7 +161,7 @@ variables_back (Some (integer (pos m))) n e = ap (λ k. Some (integer (pos k))) 
 variables_back (Some (integer (negsuc m))) n e = absurd (let no = e in cc)
 variables_back (Some _) n e = absurd (let no = e in cc)
 
-pub stated : (ms : Members) (e : Energy) → names ms ≡ Ok e → States ms e
+pub stated : (ms : Members) (e : Energy) → energy_of_table ms ≡ Ok e → States ms e
 stated ms e named =
     let first = stepped (variables_in ms) (λ variables. and_then (constant_in ms) (λ constant. and_then (terms_in variables ms) (λ terms.
     Ok (record { constant = constant; variables = variables; terms = terms })))) e named in

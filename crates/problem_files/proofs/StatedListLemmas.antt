@@ -4,8 +4,8 @@ use Rattle.std.specs.List.{position}
 use Rattle.std.specs.Str.{bytes_eq}
 use Rattle.toml.specs.Data.{Data, string, integer, float, boolean, datetime, array, table, Items, no_items, item, Members, as_array, as_integer, as_str, get_member}
 use Rattle.problem_files.specs.LabelFieldNames.{and_then, out_of_range, unless}
-use Rattle.problem_files.specs.ListFields.{checked, checked_items, integer_of, is_beyond, is_other, list_from, list_of, number_of}
-use Rattle.problem_files.specs.NumberFields.{number_at, number_from, number_in, number_or, within}
+use Rattle.problem_files.specs.ListFields.{integers_or_fault, checked_items, integer_of, is_out_of_range, is_no_integer, list_from, list_of, natural_of}
+use Rattle.problem_files.specs.NumberFields.{number_field, number_from, number_in, number_or, number_within}
 use Rattle.problem_files.specs.Stated.{integers}
 use Rattle.problem_files.specs.StatedLabels.{StatesNumber, StatesNumbers}
 use Rattle.problem_files.specs.declared.label_fault.LabelKey.{LabelKey}
@@ -14,7 +14,7 @@ use Rattle.problem_files.specs.declared.label_fault.LabelFault.TheVariants.{BadE
 use Rattle.problem_files.proofs.LimitLemmas.{if_ok, then_ok, unless_ok}
 use Rattle.problem_files.proofs.Listed.{none_passes}
 
-kind_back : (d : Data) → is_other d ≡ false → d ≡ integer (integer_of d)
+kind_back : (d : Data) → is_no_integer d ≡ false → d ≡ integer (integer_of d)
 kind_back (integer z) e = refl
 kind_back (string s) e = absurd (let never = e in cc)
 kind_back (float x) e = absurd (let never = e in cc)
@@ -23,7 +23,7 @@ kind_back (datetime t) e = absurd (let never = e in cc)
 kind_back (array ds) e = absurd (let never = e in cc)
 kind_back (table ms) e = absurd (let never = e in cc)
 
-all_back : (ds : Items) → ((k : ℕ) (d : Data) → k < length (list_of ds) → is_other (get_or (list_of ds) k d) ≡ false)
+all_back : (ds : Items) → ((k : ℕ) (d : Data) → k < length (list_of ds) → is_no_integer (get_or (list_of ds) k d) ≡ false)
     → ds ≡ integers (map integer_of (list_of ds))
 all_back no_items h = refl
 all_back (item d ds) h =
@@ -35,30 +35,30 @@ number_back : (most : ℕ) (z : ℤ) → not (int_le (pos 0) z && int_le z (pos 
 number_back most (pos n) e = refl
 number_back most (negsuc n) e = absurd (let never = e in cc)
 
-numbers_back : (most : ℕ) (ds : List Data) → ((k : ℕ) (d : Data) → k < length ds → is_beyond most (get_or ds k d) ≡ false)
-    → map integer_of ds ≡ map pos (map number_of ds)
+numbers_back : (most : ℕ) (ds : List Data) → ((k : ℕ) (d : Data) → k < length ds → is_out_of_range most (get_or ds k d) ≡ false)
+    → map integer_of ds ≡ map pos (map natural_of ds)
 numbers_back most [] h = refl
 numbers_back most (d ∷ ds) h =
     let here : integer_of d ≡ pos (unsigned_abs (integer_of d)) = number_back most (integer_of d) (h 0 d (omega arith)) in
-    let rest : map integer_of ds ≡ map pos (map number_of ds) = numbers_back most ds (λ k e below. h (suc k) e (omega (arith, below))) in
-    ap (λ z. z ∷ map integer_of ds) here ∙ ap (λ zs. pos (number_of d) ∷ zs) rest
+    let rest : map integer_of ds ≡ map pos (map natural_of ds) = numbers_back most ds (λ k e below. h (suc k) e (omega (arith, below))) in
+    ap (λ z. z ∷ map integer_of ds) here ∙ ap (λ zs. pos (natural_of d) ∷ zs) rest
 
 -- the value is the list of these items, which are integers from 0 on
 pub record IsList (d : Data) (es : List Data) : Type 0 where
   pub is : d ≡ array (integers (map integer_of es))
-  pub numbers : StatesNumbers d (map number_of es)
+  pub numbers : StatesNumbers d (map natural_of es)
 
-checked_back : (field : LabelKey) (count most : ℕ) (ds : Items) (es : List Data) → checked field count most (list_of ds) ≡ Ok es → IsList (array ds) es
-unfolding checked
+checked_back : (field : LabelKey) (count most : ℕ) (ds : Items) (es : List Data) → integers_or_fault field count most (list_of ds) ≡ Ok es → IsList (array ds) es
+unfolding integers_or_fault
 checked_back field count most ds es e =
     let xs = list_of ds in
-    let counted = if_ok (length xs == count) (unless (position is_other xs) (BadElement field) (unless (position (is_beyond most) xs) (out_of_range field) (Ok xs))) (BadField field) es e in
-    let kinds = unless_ok (position is_other xs) (BadElement field) (unless (position (is_beyond most) xs) (out_of_range field) (Ok xs)) es counted.1 in
-    let ranges = unless_ok (position (is_beyond most) xs) (out_of_range field) (Ok xs) es kinds.1 in
+    let counted = if_ok (length xs == count) (unless (position is_no_integer xs) (BadElement field) (unless (position (is_out_of_range most) xs) (out_of_range field) (Ok xs))) (BadField field) es e in
+    let kinds = unless_ok (position is_no_integer xs) (BadElement field) (unless (position (is_out_of_range most) xs) (out_of_range field) (Ok xs)) es counted.1 in
+    let ranges = unless_ok (position (is_out_of_range most) xs) (out_of_range field) (Ok xs) es kinds.1 in
     let same : list_of ds ≡ es = let is = ranges.1 in cc in
     let P : List Data → Type 0 = λ ys. IsList (array ds) ys in
-    let whole : ds ≡ integers (map integer_of (list_of ds)) = all_back ds (none_passes is_other (list_of ds) kinds.0) in
-    let least : map integer_of (list_of ds) ≡ map pos (map number_of (list_of ds)) = numbers_back most (list_of ds) (none_passes (is_beyond most) (list_of ds) ranges.0) in
+    let whole : ds ≡ integers (map integer_of (list_of ds)) = all_back ds (none_passes is_no_integer (list_of ds) kinds.0) in
+    let least : map integer_of (list_of ds) ≡ map pos (map natural_of (list_of ds)) = numbers_back most (list_of ds) (none_passes (is_out_of_range most) (list_of ds) ranges.0) in
     subst P same (record { is = ap array whole; numbers = ap array (whole ∙ ap integers least) })
 
 -- a list that passes is the one that stands there
@@ -81,7 +81,7 @@ integer_back (datetime t) z e = absurd (let never = e in cc)
 integer_back (array ds) z e = absurd (let never = e in cc)
 integer_back (table ms) z e = absurd (let never = e in cc)
 
-within_back : (field : LabelKey) (least most : ℕ) (o : Option ℤ) (n : ℕ) → within field least most o ≡ Ok n → o ≡ Some (pos n)
+within_back : (field : LabelKey) (least most : ℕ) (o : Option ℤ) (n : ℕ) → number_within field least most o ≡ Ok n → o ≡ Some (pos n)
 within_back field least most None n e = absurd (let never = e in cc)
 within_back field least most (Some (negsuc m)) n e = absurd (let never = e in cc)
 within_back field least most (Some (pos m)) n e =
@@ -93,12 +93,12 @@ from_back : (field : LabelKey) (least most : ℕ) (d : Data) (n : ℕ) → numbe
 from_back field least most d n e = integer_back d (pos n) (within_back field least most (as_integer d) n e)
 
 -- a number that has to be there is the one that stands there
-pub needed_back : (fault : LabelFault) (field : LabelKey) (least most : ℕ) (o : Option Data) (n : ℕ) → number_at (Err fault) field least most o ≡ Ok n
+pub needed_back : (fault : LabelFault) (field : LabelKey) (least most : ℕ) (o : Option Data) (n : ℕ) → number_field (Err fault) field least most o ≡ Ok n
     → o ≡ Some (integer (pos n))
 needed_back fault field least most None n e = absurd (let never = e in cc)
 needed_back fault field least most (Some d) n e = ap (λ x. Some x) (from_back field least most d n e)
 
 -- and so is one that may be missing
-pub number_stated : (field : LabelKey) (least most due : ℕ) (o : Option Data) (n : ℕ) → number_at (Ok due) field least most o ≡ Ok n → StatesNumber o due n
+pub number_stated : (field : LabelKey) (least most due : ℕ) (o : Option Data) (n : ℕ) → number_field (Ok due) field least most o ≡ Ok n → StatesNumber o due n
 number_stated field least most due None n e = let is : due ≡ n = cc in sym is
 number_stated field least most due (Some d) n e = from_back field least most d n e

@@ -16,9 +16,9 @@ use Rattle.problem_files.specs.Added.{Gains}
 use Rattle.problem_files.specs.declared.energy_fault.EnergyFault.{EnergyFault}
 use Rattle.problem_files.specs.declared.energy_fault.EnergyFault.TheVariants as fault
 use Rattle.problem_files.specs.declared.energy_fault.EnergyKey.TheVariants.{Terms}
-use Rattle.problem_files.specs.Problem.{checked, is_value, term_from, term_of}
+use Rattle.problem_files.specs.Problem.{term_or_fault, is_value, term_from, term_field}
 use Rattle.problem_files.specs.Refusal.{refusal_of}
-use Rattle.problem_files.specs.Within.{within}
+use Rattle.problem_files.specs.Within.{list_within}
 
 -- the answer is the fault that is due, or, but for memory, the term that is due
 abbrev pub IsDue : {T : Type 0} → ℕ → Result Term EnergyFault → Term → Result T EnergyError → Type 0
@@ -46,7 +46,7 @@ pub one_is_due : {T : Type 0} (n i x : ℕ) (table : List ℤ) (r : Result T Ene
     → (n ≤ x → r ≡ Err energy.NoSuchVariable)
     → (x < n → ¬ All (IsWithin value_limit) table → r ≡ Err energy.ValueRange)
     → (IsTerm n (One x table) → IsOkUnless r energy.OutOfMemory)
-    → IsDue i (checked n i (pos x ∷ []) table (One x table)) (One x table) r
+    → IsDue i (term_or_fault n i (pos x ∷ []) table (One x table)) (One x table) r
 one_is_due n i x table r variable range accepted =
     elim (cases_Bool (nat_lt x n)) [
       | inr other ↦ inl (energy.NoSuchVariable, rw other refl, variable (grind (arith, nat_tests)))
@@ -63,7 +63,7 @@ pub two_is_due : {T : Type 0} (n i x y : ℕ) (table : List ℤ) (r : Result T E
     → (x < n → x ≡ y → r ≡ Err energy.SameVariable)
     → (x < n → y < n → x ≢ y → ¬ All (IsWithin value_limit) table → r ≡ Err energy.ValueRange)
     → (IsTerm n (Two x y table) → IsOkUnless r energy.OutOfMemory)
-    → IsDue i (checked n i (pos x ∷ pos y ∷ []) table (Two x y table)) (Two x y table) r
+    → IsDue i (term_or_fault n i (pos x ∷ pos y ∷ []) table (Two x y table)) (Two x y table) r
 two_is_due n i x y table r variable same range accepted =
     elim (cases_Bool (nat_lt x n)) [
       | inr other ↦ inl (energy.NoSuchVariable, rw other refl, variable (inl (grind (arith, nat_tests))))
@@ -98,7 +98,7 @@ three_known : {T : Type 0} (n i x y z : ℕ) (table : List ℤ) (r : Result T En
     → ((x ≡ y) ⊎ (x ≡ z) ⊎ (y ≡ z) → r ≡ Err energy.SameVariable)
     → (x ≢ y → x ≢ z → y ≢ z → ¬ All (IsWithin value_limit) table → r ≡ Err energy.ValueRange)
     → (x ≢ y → x ≢ z → y ≢ z → All (IsWithin value_limit) table → IsOkUnless r energy.OutOfMemory)
-    → IsDue i (checked n i (pos x ∷ pos y ∷ pos z ∷ []) table (Three x y z table)) (Three x y z table) r
+    → IsDue i (term_or_fault n i (pos x ∷ pos y ∷ pos z ∷ []) table (Three x y z table)) (Three x y z table) r
 three_known n i x y z table r first second third same range accepted =
     elim (cases_Bool (int_eq (pos x) (pos y))) [
       | inl equal ↦ inl (energy.SameVariable, rw (first, second, third, equal) refl, same (inl (equal_here x y equal)))
@@ -129,7 +129,7 @@ pub three_is_due : {T : Type 0} (n i x y z : ℕ) (table : List ℤ) (r : Result
     → (x < n → y < n → z < n → (x ≡ y) ⊎ (x ≡ z) ⊎ (y ≡ z) → r ≡ Err energy.SameVariable)
     → (x < n → y < n → z < n → x ≢ y → x ≢ z → y ≢ z → ¬ All (IsWithin value_limit) table → r ≡ Err energy.ValueRange)
     → (IsTerm n (Three x y z table) → IsOkUnless r energy.OutOfMemory)
-    → IsDue i (checked n i (pos x ∷ pos y ∷ pos z ∷ []) table (Three x y z table)) (Three x y z table) r
+    → IsDue i (term_or_fault n i (pos x ∷ pos y ∷ pos z ∷ []) table (Three x y z table)) (Three x y z table) r
 three_is_due n i x y z table r variable same range accepted =
     elim (cases_Bool (nat_lt x n)) [
       | inr other ↦ inl (energy.NoSuchVariable, rw other refl, variable (inl (grind (arith, nat_tests))))
@@ -150,7 +150,7 @@ three_is_due n i x y z table r variable same range accepted =
     ]
 
 -- a list that a reader of at most n integers gives is the whole list
-pub found : (n : ℕ) (o : Option (List ℤ)) (zs : List ℤ) → Some zs ≡ option_and_then (within n) o → o ≡ Some zs
+pub found : (n : ℕ) (o : Option (List ℤ)) (zs : List ℤ) → Some zs ≡ option_and_then (list_within n) o → o ≡ Some zs
 found n None zs e = cc
 found n (Some ys) zs e = elim (cases_Bool (nat_le (length ys) n)) [
   | inl fits ↦ let same = rw fits at e in cc
@@ -166,7 +166,7 @@ nine_values n i (x ∷ y ∷ []) a b c d e f g h k values = refl
 nine_values n i (x ∷ y ∷ z ∷ []) a b c d e f g h k values = refl
 nine_values n i (x ∷ y ∷ z ∷ w ∷ on) a b c d e f g h k values = refl
 
-pub long_values : (n i : ℕ) (on : List ℤ) (values : Option (List ℤ)) → None ≡ option_and_then (within 8) values → term_of n i (Some on) values ≡ Err (fault.BadElement Terms i)
+pub long_values : (n i : ℕ) (on : List ℤ) (values : Option (List ℤ)) → None ≡ option_and_then (list_within 8) values → term_field n i (Some on) values ≡ Err (fault.BadElement Terms i)
 long_values n i on None e = refl
 long_values n i on (Some []) e = absurd (let no = e in cc)
 long_values n i on (Some (a ∷ [])) e = absurd (let no = e in cc)
@@ -181,7 +181,7 @@ long_values n i on (Some (a ∷ b ∷ c ∷ d ∷ p ∷ q ∷ r ∷ s ∷ k ∷ 
 
 -- four numbers make a table of two variables
 pub four_named : (n i : ℕ) (on : List ℤ) (x y : ℤ) (table : List ℤ) → on ≡ x ∷ y ∷ [] → length table ≡ 4
-    → term_from n i on table ≡ checked n i (x ∷ y ∷ []) table (Two (unsigned_abs x) (unsigned_abs y) table)
+    → term_from n i on table ≡ term_or_fault n i (x ∷ y ∷ []) table (Two (unsigned_abs x) (unsigned_abs y) table)
 four_named n i on x y [] is e = absurd (omega arith)
 four_named n i on x y (a ∷ []) is e = absurd (omega arith)
 four_named n i on x y (a ∷ b ∷ []) is e = absurd (omega arith)
@@ -198,7 +198,7 @@ two_listed (x ∷ y ∷ z ∷ zs) d e = absurd (omega arith)
 
 -- eight numbers make a table of three variables
 pub eight_named : (n i : ℕ) (on : List ℤ) (x y z : ℤ) (table : List ℤ) → on ≡ x ∷ y ∷ z ∷ [] → length table ≡ 8
-    → term_from n i on table ≡ checked n i (x ∷ y ∷ z ∷ []) table (Three (unsigned_abs x) (unsigned_abs y) (unsigned_abs z) table)
+    → term_from n i on table ≡ term_or_fault n i (x ∷ y ∷ z ∷ []) table (Three (unsigned_abs x) (unsigned_abs y) (unsigned_abs z) table)
 eight_named n i on x y z [] is e = absurd (omega arith)
 eight_named n i on x y z (a ∷ []) is e = absurd (omega arith)
 eight_named n i on x y z (a ∷ b ∷ []) is e = absurd (omega arith)

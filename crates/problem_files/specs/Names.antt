@@ -33,8 +33,8 @@ pub record Problem : Type 0 where
   pub label_costs : Option (List ℤ)
 
 -- what the problem that was read says
-abbrev pub told : LabelProblem → Problem
-told p = record {
+abbrev pub problem_view : LabelProblem → Problem
+problem_view p = record {
   sites = p.sites;
   labels = p.labels;
   data_costs = p.«data».items;
@@ -67,8 +67,8 @@ names_rest ms sites labels data_costs smooth_costs =
     }))))))
 
 -- the problem that a table names: the fields in this order, and the first fault of the first that has one
-abbrev pub names : Members → Result Problem LabelFault
-names ms =
+abbrev pub problem_of_table : Members → Result Problem LabelFault
+problem_of_table ms =
     and_then (number_in ms Sites 0 site_limit) (λ sites.
     and_then (number_in ms Labels 1 label_limit) (λ labels.
     and_then (data_in ms (sites * labels)) (λ data_costs.
@@ -78,7 +78,7 @@ names ms =
 
 abbrev pub named_by : Option Members → Result Problem LabelFault
 named_by None = Err BadToml
-named_by (Some ms) = names ms
+named_by (Some ms) = problem_of_table ms
 
 -- the problem that the bytes of a text name
 abbrev pub problem_in : List ℕ → Result Problem LabelFault

@@ -28,14 +28,14 @@ pair_with n i p q w =
     else Ok (record { first = unsigned_abs p; second = unsigned_abs q; weight = unsigned_abs w })
 
 -- the pair of a list of integers: two sites, and the weight, which is 1 where it is left out
-abbrev pub pair_of : ℕ → ℕ → Option (List ℤ) → Result Pair LabelFault
-pair_of n i (Some (p ∷ q ∷ [])) = pair_with n i p q (pos 1)
-pair_of n i (Some (p ∷ q ∷ w ∷ [])) = pair_with n i p q w
-pair_of n i _ = Err (BadElement Pairs i)
+abbrev pub pair_field : ℕ → ℕ → Option (List ℤ) → Result Pair LabelFault
+pair_field n i (Some (p ∷ q ∷ [])) = pair_with n i p q (pos 1)
+pair_field n i (Some (p ∷ q ∷ w ∷ [])) = pair_with n i p q w
+pair_field n i _ = Err (BadElement Pairs i)
 
 -- the pair that the item at place i names
 unfoldable pub pair_at : ℕ → ℕ → Data → Result Pair LabelFault
-pair_at n i d = pair_of n i (option_and_then integers_of (as_array d))
+pair_at n i d = pair_field n i (option_and_then integers_of (as_array d))
 
 -- the pairs that the items from place i on name
 abbrev pub pairs_from : ℕ → ℕ → List Data → Result (List Pair) LabelFault
@@ -43,16 +43,16 @@ pairs_from n i [] = Ok []
 pairs_from n i (d ∷ ds) =
     and_then (pair_at n i d) (λ pair. and_then (pairs_from n (i + 1) ds) (λ pairs. Ok (pair ∷ pairs)))
 
-abbrev pub pairs_of : ℕ → List Data → Result (List Pair) LabelFault
-pairs_of n ds = if nat_le (length ds) pair_limit then pairs_from n 0 ds else Err TooManyPairs
+abbrev pub pairs_or_fault : ℕ → List Data → Result (List Pair) LabelFault
+pairs_or_fault n ds = if nat_le (length ds) pair_limit then pairs_from n 0 ds else Err TooManyPairs
 
 abbrev pub pairs_listed : ℕ → Option (List Data) → Result (List Pair) LabelFault
 pairs_listed n None = Err (BadField Pairs)
-pairs_listed n (Some ds) = pairs_of n ds
+pairs_listed n (Some ds) = pairs_or_fault n ds
 
-abbrev pub pairs_at : ℕ → Option Data → Result (List Pair) LabelFault
-pairs_at n None = Ok []
-pairs_at n (Some d) = pairs_listed n (option_map list_of (as_array d))
+abbrev pub pairs_field : ℕ → Option Data → Result (List Pair) LabelFault
+pairs_field n None = Ok []
+pairs_field n (Some d) = pairs_listed n (option_map list_of (as_array d))
 
 unfoldable pub pairs_in : Members → ℕ → Result (List Pair) LabelFault
-pairs_in ms n = pairs_at n (get_member (field_name Pairs) ms)
+pairs_in ms n = pairs_field n (get_member (field_name Pairs) ms)

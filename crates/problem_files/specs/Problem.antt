@@ -52,8 +52,8 @@ abbrev pub constant_in : Members → Result ℤ EnergyFault
 constant_in ms = constant_at (get_member (codes "constant") ms)
 
 -- the term at place i, if its integers name variables, no two the same, and are in range
-abbrev pub checked : ℕ → ℕ → List ℤ → List ℤ → Term → Result Term EnergyFault
-checked n i on values term =
+abbrev pub term_or_fault : ℕ → ℕ → List ℤ → List ℤ → Term → Result Term EnergyFault
+term_or_fault n i on values term =
     if not (list_all (is_variable n) on) then Err (NoSuchVariable i)
     else if not (is_distinct on) then Err (SameVariable i)
     else if not (list_all is_value values) then Err (ValueRange i)
@@ -61,11 +61,11 @@ checked n i on values term =
 
 -- the term at place i, over n variables, that lists of integers name
 abbrev pub term_from : ℕ → ℕ → List ℤ → List ℤ → Result Term EnergyFault
-term_from n i (x ∷ []) (a ∷ b ∷ []) = checked n i (x ∷ []) (a ∷ b ∷ []) (One (unsigned_abs x) (a ∷ b ∷ []))
+term_from n i (x ∷ []) (a ∷ b ∷ []) = term_or_fault n i (x ∷ []) (a ∷ b ∷ []) (One (unsigned_abs x) (a ∷ b ∷ []))
 term_from n i (x ∷ y ∷ []) (a ∷ b ∷ c ∷ d ∷ []) =
-    checked n i (x ∷ y ∷ []) (a ∷ b ∷ c ∷ d ∷ []) (Two (unsigned_abs x) (unsigned_abs y) (a ∷ b ∷ c ∷ d ∷ []))
+    term_or_fault n i (x ∷ y ∷ []) (a ∷ b ∷ c ∷ d ∷ []) (Two (unsigned_abs x) (unsigned_abs y) (a ∷ b ∷ c ∷ d ∷ []))
 term_from n i (x ∷ y ∷ z ∷ []) (a ∷ b ∷ c ∷ d ∷ e ∷ f ∷ g ∷ h ∷ []) =
-    checked n i (x ∷ y ∷ z ∷ []) (a ∷ b ∷ c ∷ d ∷ e ∷ f ∷ g ∷ h ∷ [])
+    term_or_fault n i (x ∷ y ∷ z ∷ []) (a ∷ b ∷ c ∷ d ∷ e ∷ f ∷ g ∷ h ∷ [])
     (Three (unsigned_abs x) (unsigned_abs y) (unsigned_abs z) (a ∷ b ∷ c ∷ d ∷ e ∷ f ∷ g ∷ h ∷ []))
 term_from n i _ _ = Err (BadElement Terms i)
 
@@ -78,13 +78,13 @@ integers_of (item d ds) = option_and_then (λ z. option_map (λ zs. z ∷ zs) (i
 abbrev pub integers_at : List ℕ → Data → Option (List ℤ)
 integers_at key d = option_and_then integers_of (option_and_then as_array (get key d))
 
-abbrev pub term_of : ℕ → ℕ → Option (List ℤ) → Option (List ℤ) → Result Term EnergyFault
-term_of n i (Some on) (Some values) = term_from n i on values
-term_of n i _ _ = Err (BadElement Terms i)
+abbrev pub term_field : ℕ → ℕ → Option (List ℤ) → Option (List ℤ) → Result Term EnergyFault
+term_field n i (Some on) (Some values) = term_from n i on values
+term_field n i _ _ = Err (BadElement Terms i)
 
 -- the term that the item at place i names
 abbrev pub term_at : ℕ → ℕ → Data → Result Term EnergyFault
-term_at n i d = term_of n i (integers_at (codes "on") d) (integers_at (codes "values") d)
+term_at n i d = term_field n i (integers_at (codes "on") d) (integers_at (codes "values") d)
 
 -- the terms that the items from place i on name
 abbrev pub terms_from : ℕ → ℕ → Items → Result (List Term) EnergyFault
@@ -96,20 +96,20 @@ abbrev pub item_count : Items → ℕ
 item_count no_items = zero
 item_count (item d ds) = suc (item_count ds)
 
-abbrev pub terms_of : ℕ → Option Items → Result (List Term) EnergyFault
-terms_of n None = Err (BadField Terms)
-terms_of n (Some ds) = if nat_le (item_count ds) term_limit then terms_from n 0 ds else Err TooManyTerms
+abbrev pub terms_or_fault : ℕ → Option Items → Result (List Term) EnergyFault
+terms_or_fault n None = Err (BadField Terms)
+terms_or_fault n (Some ds) = if nat_le (item_count ds) term_limit then terms_from n 0 ds else Err TooManyTerms
 
 abbrev pub terms_at : ℕ → Option Data → Result (List Term) EnergyFault
 terms_at n None = Ok []
-terms_at n (Some d) = terms_of n (as_array d)
+terms_at n (Some d) = terms_or_fault n (as_array d)
 
 abbrev pub terms_in : ℕ → Members → Result (List Term) EnergyFault
 terms_in n ms = terms_at n (get_member (codes "terms") ms)
 
 -- the energy that a table names
-abbrev pub names : Members → Result Energy EnergyFault
-names ms =
+abbrev pub energy_of_table : Members → Result Energy EnergyFault
+energy_of_table ms =
     and_then (variables_in ms) (λ variables.
     and_then (constant_in ms) (λ constant.
     and_then (terms_in variables ms) (λ terms.

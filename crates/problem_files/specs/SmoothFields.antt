@@ -6,7 +6,7 @@ use Rattle.problem_files.specs.ListFields.{integer_of, list_from}
 use Rattle.problem_files.specs.declared.label_fault.LabelKey.TheVariants.{Smooth}
 use Rattle.problem_files.specs.declared.label_fault.LabelFault.{LabelFault}
 use Rattle.problem_files.specs.declared.label_fault.LabelFault.TheVariants.{BadField}
-use Rattle.run_options.specs.Limits.{smooth_limit}
+use Rattle.run_options.specs.Limits.{greatest_smooth_cost}
 use Rattle.run_options.specs.Names.{shape_named}
 use Rattle.run_options.specs.Shapes.{shape_table}
 use Rattle.run_options.specs.declared.shape.Shape.{Shape}
@@ -19,7 +19,7 @@ table_named k (Some shape) = Ok (shape_table shape k)
 
 -- the table that a list is, whatever the cut
 unfoldable pub listed_from : ℕ → Data → Result (ℕ → List ℤ) LabelFault
-listed_from k d = and_then (list_from Smooth (k * k) smooth_limit d) (λ ds. Ok (λ most. map integer_of ds))
+listed_from k d = and_then (list_from Smooth (k * k) greatest_smooth_cost d) (λ ds. Ok (λ most. map integer_of ds))
 
 -- the table of k labels that a value is, for each number at which costs by distance may be cut off
 unfoldable pub smooth_from : ℕ → Data → Result (ℕ → List ℤ) LabelFault

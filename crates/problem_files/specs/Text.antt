@@ -5,12 +5,12 @@ use Rattle.toml.specs.Parse.{parse_document}
 use Rattle.pseudo_bool.specs.Energies.{Energy}
 use Rattle.problem_files.specs.declared.energy_fault.EnergyFault.{EnergyFault}
 use Rattle.problem_files.specs.declared.energy_fault.EnergyFault.TheVariants.{BadToml, OutOfMemory}
-use Rattle.problem_files.specs.Problem.{names}
+use Rattle.problem_files.specs.Problem.{energy_of_table}
 use Rattle.problem_files.specs.Stated.{States}
 
 abbrev pub named_by : Option Members → Result Energy EnergyFault
 named_by None = Err BadToml
-named_by (Some ms) = names ms
+named_by (Some ms) = energy_of_table ms
 
 -- the energy that the bytes of a text name, or the text's first fault
 abbrev pub energy_in : List ℕ → Result Energy EnergyFault

@@ -5,7 +5,7 @@ ghost use Rattle.pseudo_bool.specs.Limits.{term_limit, value_limit, variable_lim
 ghost use Rattle.pseudo_bool.specs.Energies.{IsWithin};
 ghost use Rattle.problem_files.specs.declared.energy_fault.EnergyFault.TheVariants.{OutOfMemory};
 ghost use Rattle.problem_files.specs.Added.{GainsAll, IsFirstOf};
-ghost use Rattle.problem_files.specs.Problem.{names, terms_from, terms_in};
+ghost use Rattle.problem_files.specs.Problem.{energy_of_table, terms_from, terms_in};
 ghost use Rattle.problem_files.specs.Stated.{States};
 ghost use Rattle.problem_files.specs.Text.{HasFault, NamesEnergy, TextStates};
 
@@ -31,9 +31,9 @@ pub fn read_energy(alloc: Global, bytes: &[u8]) -> Result<Energy, EnergyFault>
 /// The fields are read in the order `variables`, `constant`, `terms`, and each term whole before the next;
 /// other fields are ignored.
 pub fn energy_of(alloc: Global, table: &Table) -> Result<Energy, EnergyFault>
-    ensures ok { IfOk result (λ energy. names (table_view table.now) ≡ Ok energy) }
+    ensures ok { IfOk result (λ energy. energy_of_table (table_view table.now) ≡ Ok energy) }
     ensures stated { IfOk result (States (table_view table.now)) }
-    ensures refused { IfErr result (IsFirstOf (names (table_view table.now))) }
+    ensures refused { IfErr result (IsFirstOf (energy_of_table (table_view table.now))) }
 {
     let variables = variables_of(table)?;
     let constant = constant_of(table)?;

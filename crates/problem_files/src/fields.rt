@@ -3,7 +3,7 @@ ghost use Rattle.std.specs.Prelude.{◌≡◌, ◌≤◌, IfOk, IfErr, OnOk, [],
 ghost use Rattle.toml.specs.View.{array_view, table_view, view};
 ghost use Rattle.toml.specs.Data.{get, get_member, as_array};
 ghost use Rattle.problem_files.specs.Problem.{constant_in, integers_at, integers_of, terms_in, variables_in};
-ghost use Rattle.problem_files.specs.Within.{within};
+ghost use Rattle.problem_files.specs.Within.{list_within};
 
 use crate::{EnergyFault, EnergyKey};
 use arrayvec::ArrayVec;
@@ -48,7 +48,7 @@ pub fn constant_of(table: &Table) -> Result<i64, EnergyFault>
 
 /// The integers of the array at a key, if it has at most N items, and nothing else.
 pub fn integers_at<const N: usize>(value: &Value, key: &str) -> Option<ArrayVec<i64, N>>
-    ensures { option_map (λ v. v.items) result ≡ option_and_then (within N) (integers_at key.now (view
+    ensures { option_map (λ v. v.items) result ≡ option_and_then (list_within N) (integers_at key.now (view
         value.now)) }
 {
     integers_of(member(value.as_table()?, key)?.as_array()?)
@@ -56,7 +56,8 @@ pub fn integers_at<const N: usize>(value: &Value, key: &str) -> Option<ArrayVec<
 
 /// The integers of an array, if it has at most N items, and nothing else.
 pub fn integers_of<const N: usize>(items: &Vec<Value>) -> Option<ArrayVec<i64, N>>
-    ensures { option_map (λ v. v.items) result ≡ option_and_then (within N) (integers_of (array_view
+    ensures { option_map (λ v. v.items) result
+        ≡ option_and_then (list_within N) (integers_of (array_view
         items.now)) }
 {
     if items.len() > N {

@@ -2,8 +2,8 @@ ghost use Rattle.std.specs.Prelude.{◌≡◌, ◌≢◌, IfOk, IfErr, IsUtf8};
 ghost use Rattle.toml.specs.View.{table_view};
 ghost use Rattle.label_field.specs.LabelFields.{AreSizes};
 ghost use Rattle.problem_files.specs.declared.label_fault.LabelFault.TheVariants.{BadToml, OutOfMemory};
-ghost use Rattle.problem_files.specs.Limits.{AreCosts, IsInLimits};
-ghost use Rattle.problem_files.specs.Names.{names, names_rest, problem_in, told};
+ghost use Rattle.problem_files.specs.Limits.{AreCostsInLimits, IsInLimits};
+ghost use Rattle.problem_files.specs.Names.{problem_of_table, names_rest, problem_in, problem_view};
 ghost use Rattle.problem_files.specs.StatedLabels.{StatesProblem, TextStatesProblem};
 
 use crate::costs::{data_in, label_costs_in};
@@ -21,9 +21,9 @@ use toml::Table;
 
 /// The problem of labels that the bytes of a TOML text name, or its first fault.
 pub fn read_label(alloc: Global, bytes: &[u8]) -> Result<LabelProblem, LabelFault>
-    ensures ok { IfOk result (λ problem. IsUtf8 bytes.now × (problem_in bytes.now ≡ Ok (told problem))) }
-    ensures stated { IfOk result (λ problem. TextStatesProblem bytes.now (told problem)) }
-    ensures limits { IfOk result (λ problem. IsInLimits (told problem)) }
+    ensures ok { IfOk result (λ problem. IsUtf8 bytes.now × (problem_in bytes.now ≡ Ok (problem_view problem))) }
+    ensures stated { IfOk result (λ problem. TextStatesProblem bytes.now (problem_view problem)) }
+    ensures limits { IfOk result (λ problem. IsInLimits (problem_view problem)) }
     ensures refused { IfErr result (λ fault. fault ≢ OutOfMemory →
         IsUtf8 bytes.now → problem_in bytes.now ≡ Err fault) }
     ensures text { IfErr result (λ fault. fault ≢ OutOfMemory → fault ≢ BadToml → IsUtf8 bytes.now) }
@@ -39,10 +39,12 @@ pub fn read_label(alloc: Global, bytes: &[u8]) -> Result<LabelProblem, LabelFaul
 /// The problem of labels that a table names, or its first fault. The fields are read in the order `sites`,
 /// `labels`, `data`, `smooth`, `trunc`, `pairs`, `start`, `moves`, `cycles`, `label_costs`; other fields are ignored.
 pub fn problem_of(alloc: Global, table: &Table) -> Result<LabelProblem, LabelFault>
-    ensures ok { IfOk result (λ problem. names (table_view table.now) ≡ Ok (told problem)) }
-    ensures stated { IfOk result (λ problem. StatesProblem (table_view table.now) (told problem)) }
-    ensures limits { IfOk result (λ problem. IsInLimits (told problem)) }
-    ensures refused { IfErr result (λ fault. fault ≢ OutOfMemory → names (table_view table.now) ≡ Err fault) }
+    ensures ok { IfOk result (λ problem.
+        problem_of_table (table_view table.now) ≡ Ok (problem_view problem)) }
+    ensures stated { IfOk result
+        (λ problem. StatesProblem (table_view table.now) (problem_view problem)) }
+    ensures limits { IfOk result (λ problem. IsInLimits (problem_view problem)) }
+    ensures refused { IfErr result (λ fault. fault ≢ OutOfMemory → problem_of_table (table_view table.now) ≡ Err fault) }
 {
     let sites = number_in(table, LabelKey::Sites, 0, SITE_LIMIT)?;
     let labels = number_in(table, LabelKey::Labels, 1, LABEL_LIMIT)?;
@@ -65,10 +67,10 @@ fn rest_of(
     smooth: Vec<i64>,
 ) -> Result<LabelProblem, LabelFault>
     requires sizes { AreSizes sites labels }
-    requires costs { AreCosts sites labels data.items smooth.items }
+    requires costs { AreCostsInLimits sites labels data.items smooth.items }
     ensures ok { IfOk result (λ problem.
-        names_rest (table_view table.now) sites labels data.items smooth.items ≡ Ok (told problem)) }
-    ensures limits { IfOk result (λ problem. IsInLimits (told problem)) }
+        names_rest (table_view table.now) sites labels data.items smooth.items ≡ Ok (problem_view problem)) }
+    ensures limits { IfOk result (λ problem. IsInLimits (problem_view problem)) }
     ensures refused { IfErr result (λ fault. fault ≢ OutOfMemory →
         names_rest (table_view table.now) sites labels data.items smooth.items ≡ Err fault) }
 {

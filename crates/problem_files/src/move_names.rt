@@ -24,7 +24,7 @@ pub(crate) fn moves_in(table: &Table) -> Result<Moves, LabelFault>
 fn moves_from(name: &str) -> Result<Moves, LabelFault>
     ensures { result ≡ moves_from name.now }
 {
-    match Moves::named(name) {
+    match Moves::from_name(name) {
         Some(moves) => Ok(moves),
         None => Err(LabelFault::BadField(LabelKey::Moves)),
     }

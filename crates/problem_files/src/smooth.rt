@@ -46,7 +46,7 @@ fn smooth_from(alloc: Global, value: &Value, labels: u32) -> Result<Smooth, Labe
     let Some(name) = value.as_str() else {
         return listed_in(alloc, value, labels);
     };
-    match Shape::named(name) {
+    match Shape::from_name(name) {
         Some(shape) => Ok(Smooth::Named(shape)),
         None => Err(LabelFault::BadField(LabelKey::Smooth)),
     }

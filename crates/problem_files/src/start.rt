@@ -2,7 +2,7 @@ ghost use Rattle.std.specs.Prelude.{◌≡◌, ◌≢◌, ◌<◌, length, vec_l
 ghost use Rattle.toml.specs.View.{table_view, view};
 ghost use Rattle.label_field.specs.LabelFields.{AreSizes};
 ghost use Rattle.problem_files.specs.declared.label_fault.LabelFault.TheVariants.{OutOfMemory};
-ghost use Rattle.problem_files.specs.ListFields.{number_of};
+ghost use Rattle.problem_files.specs.ListFields.{natural_of};
 ghost use Rattle.problem_files.specs.StartFields.{start_from, start_in};
 
 use crate::lists::{list_from, number_of};
@@ -60,8 +60,8 @@ fn start_from(
 fn fill(start: &mut Labelling, items: &Vec<Value>)
     requires sizes { AreSizes (length start.old.at) start.old.labels }
     requires count { vec_len items.now ≡ length start.old.at }
-    requires range { All (λ item. number_of (view item) < start.old.labels) items.now.items }
-    ensures { start.new ≡ record start.old { at = map (λ item. number_of (view item)) items.now.items } }
+    requires range { All (λ item. natural_of (view item) < start.old.labels) items.now.items }
+    ensures { start.new ≡ record start.old { at = map (λ item. natural_of (view item)) items.now.items } }
 {
     for (site, item) in items.iter().enumerate() {
         let _ = start.set_label(site as u32, number_of(item));

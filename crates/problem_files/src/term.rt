@@ -5,7 +5,7 @@ ghost use Rattle.pseudo_bool.specs.Limits.{term_limit, variable_limit};
 ghost use Rattle.pseudo_bool.specs.declared.term.Term.TheVariants.{One, Two, Three};
 ghost use Rattle.problem_files.specs.declared.energy_fault.EnergyFault.TheVariants.{NoSuchVariable, OutOfMemory};
 ghost use Rattle.problem_files.specs.Added.{Gains, IsFirstOf};
-ghost use Rattle.problem_files.specs.Problem.{checked, is_variable, term_at, term_from};
+ghost use Rattle.problem_files.specs.Problem.{term_or_fault, is_variable, term_at, term_from};
 ghost use Rattle.problem_files.specs.Refusal.{refusal_of};
 
 use crate::fields::integers_at;
@@ -66,9 +66,9 @@ fn add_listed(
 fn add_one(energy: &mut Energy, place: usize, on: i64, table: [i64; 2]) -> Result<(), EnergyFault>
     requires variables { energy.old.variables ≤ variable_limit }
     requires room { length energy.old.terms < term_limit }
-    ensures ok { OnOk result (Gains energy.old energy.new (checked energy.old.variables place (on ∷ [])
+    ensures ok { OnOk result (Gains energy.old energy.new (term_or_fault energy.old.variables place (on ∷ [])
         table (One (unsigned_abs on) table))) }
-    ensures refused { IfErr result (IsFirstOf (checked energy.old.variables place (on ∷ []) table (One
+    ensures refused { IfErr result (IsFirstOf (term_or_fault energy.old.variables place (on ∷ []) table (One
         (unsigned_abs on) table))) }
 {
     let first = variable_of(place, on)?;
@@ -88,9 +88,9 @@ fn add_two(
 ) -> Result<(), EnergyFault>
     requires variables { energy.old.variables ≤ variable_limit }
     requires room { length energy.old.terms < term_limit }
-    ensures ok { OnOk result (Gains energy.old energy.new (checked energy.old.variables place (on ∷ and ∷
+    ensures ok { OnOk result (Gains energy.old energy.new (term_or_fault energy.old.variables place (on ∷ and ∷
         []) table (Two (unsigned_abs on) (unsigned_abs and) table))) }
-    ensures refused { IfErr result (IsFirstOf (checked energy.old.variables place (on ∷ and ∷ []) table
+    ensures refused { IfErr result (IsFirstOf (term_or_fault energy.old.variables place (on ∷ and ∷ []) table
         (Two (unsigned_abs on) (unsigned_abs and) table))) }
 {
     let first = variable_of(place, on)?;
@@ -112,9 +112,9 @@ fn add_three(
 ) -> Result<(), EnergyFault>
     requires variables { energy.old.variables ≤ variable_limit }
     requires room { length energy.old.terms < term_limit }
-    ensures ok { OnOk result (Gains energy.old energy.new (checked energy.old.variables place (on ∷ and ∷
+    ensures ok { OnOk result (Gains energy.old energy.new (term_or_fault energy.old.variables place (on ∷ and ∷
         also ∷ []) table (Three (unsigned_abs on) (unsigned_abs and) (unsigned_abs also) table))) }
-    ensures refused { IfErr result (IsFirstOf (checked energy.old.variables place (on ∷ and ∷ also ∷ [])
+    ensures refused { IfErr result (IsFirstOf (term_or_fault energy.old.variables place (on ∷ and ∷ also ∷ [])
         table (Three (unsigned_abs on) (unsigned_abs and) (unsigned_abs also) table))) }
 {
     let x = variable_of(place, on)?;

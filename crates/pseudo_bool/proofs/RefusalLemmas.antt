@@ -7,7 +7,7 @@ use Rattle.pseudo_bool.specs.declared.term.Term.{Term}
 use Rattle.pseudo_bool.specs.declared.term.Term.TheVariants.{One, Two, Three}
 use Rattle.pseudo_bool.specs.Energies.{Energy, IsTerm}
 use Rattle.pseudo_bool.specs.Limits.{term_limit}
-use Rattle.pseudo_bool.specs.Refusals.{NamesKnown, NamesUnknown, NamesApart, NamesTwice, HasValues, IsAccepted, IsRefusal}
+use Rattle.pseudo_bool.specs.Refusals.{NamesKnown, NamesUnknown, NamesApart, NamesTwice, HasValues, IsTermAccepted, IsTermRefusal}
 
 -- the parts of a term
 known : (n : ℕ) (t : Term) → IsTerm n t → NamesKnown n t
@@ -41,7 +41,7 @@ not_both_apart (Three first second third table) a (inl u) = a.0 u
 not_both_apart (Three first second third table) a (inr (inl u)) = a.1 u
 not_both_apart (Three first second third table) a (inr (inr u)) = a.2 u
 
-pub unknown_refused : {T : Type 0} (e : Energy) (t : Term) (r : Result T EnergyError) → OnOk r (IsAccepted e t) → IfErr r (IsRefusal e t)
+pub unknown_refused : {T : Type 0} (e : Energy) (t : Term) (r : Result T EnergyError) → OnOk r (IsTermAccepted e t) → IfErr r (IsTermRefusal e t)
     → NamesUnknown e.variables t → r ≡ Err NoSuchVariable
 unknown_refused e t (Ok x) ok err u = absurd (not_both_named e.variables t (known e.variables t ok.is_term) u)
 unknown_refused e t (Err NoSuchVariable) ok err u = refl
@@ -50,7 +50,7 @@ unknown_refused e t (Err ValueRange) ok err u = absurd (not_both_named e.variabl
 unknown_refused e t (Err TooManyTerms) ok err u = absurd (not_both_named e.variables t (known e.variables t err.0) u)
 unknown_refused e t (Err OutOfMemory) ok err u = absurd (not_both_named e.variables t (known e.variables t err.is_term) u)
 
-pub twice_refused : {T : Type 0} (e : Energy) (t : Term) (r : Result T EnergyError) → OnOk r (IsAccepted e t) → IfErr r (IsRefusal e t)
+pub twice_refused : {T : Type 0} (e : Energy) (t : Term) (r : Result T EnergyError) → OnOk r (IsTermAccepted e t) → IfErr r (IsTermRefusal e t)
     → NamesKnown e.variables t → NamesTwice t → r ≡ Err SameVariable
 twice_refused e t (Ok x) ok err k u = absurd (not_both_apart t (apart e.variables t ok.is_term) u)
 twice_refused e t (Err NoSuchVariable) ok err k u = absurd (not_both_named e.variables t k err)
@@ -59,7 +59,7 @@ twice_refused e t (Err ValueRange) ok err k u = absurd (not_both_apart t err.1 u
 twice_refused e t (Err TooManyTerms) ok err k u = absurd (not_both_apart t (apart e.variables t err.0) u)
 twice_refused e t (Err OutOfMemory) ok err k u = absurd (not_both_apart t (apart e.variables t err.is_term) u)
 
-pub range_refused : {T : Type 0} (e : Energy) (t : Term) (r : Result T EnergyError) → OnOk r (IsAccepted e t) → IfErr r (IsRefusal e t)
+pub range_refused : {T : Type 0} (e : Energy) (t : Term) (r : Result T EnergyError) → OnOk r (IsTermAccepted e t) → IfErr r (IsTermRefusal e t)
     → NamesKnown e.variables t → NamesApart t → ¬ HasValues t → r ≡ Err ValueRange
 range_refused e t (Ok x) ok err k a u = absurd (u (values e.variables t ok.is_term))
 range_refused e t (Err NoSuchVariable) ok err k a u = absurd (not_both_named e.variables t k err)
@@ -68,7 +68,7 @@ range_refused e t (Err ValueRange) ok err k a u = refl
 range_refused e t (Err TooManyTerms) ok err k a u = absurd (u (values e.variables t err.0))
 range_refused e t (Err OutOfMemory) ok err k a u = absurd (u (values e.variables t err.is_term))
 
-pub term_taken : {T : Type 0} (e : Energy) (t : Term) (r : Result T EnergyError) → OnOk r (IsAccepted e t) → IfErr r (IsRefusal e t)
+pub term_taken : {T : Type 0} (e : Energy) (t : Term) (r : Result T EnergyError) → OnOk r (IsTermAccepted e t) → IfErr r (IsTermRefusal e t)
     → IsTerm e.variables t → length e.terms < term_limit → IsOkUnless r OutOfMemory
 term_taken e t (Ok x) ok err h room = search rules
 term_taken e t (Err NoSuchVariable) ok err h room = absurd (not_both_named e.variables t (known e.variables t h) err)

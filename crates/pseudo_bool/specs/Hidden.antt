@@ -36,8 +36,8 @@ abbrev pub with_terms : Energy → List Term → Energy
 with_terms e terms = record e { variables = e.variables + 1; terms = e.terms ++ terms }
 
 -- a cost, from 0 to the limit of a value
-abbrev pub IsCost : ℤ → Type 0
-IsCost cost = (pos 0 ≤ℤ cost) × IsValue cost
+abbrev pub IsTieCost : ℤ → Type 0
+IsTieCost cost = (pos 0 ≤ℤ cost) × IsValue cost
 
 -- each named variable is the energy's, and there is room for one more
 abbrev pub CanTie : Energy → List ℕ → Type 0
@@ -46,23 +46,23 @@ CanTie e names = (e.variables < variable_limit) × All (λ name. name < e.variab
 -- a cost over named variables that may be added: also room in the list for a term, and one for each of them
 pub record IsTieable (e : Energy) (names : List ℕ) (cost : ℤ) : Type 0 where
   pub variables : CanTie e names
-  pub cost_is : IsCost cost
+  pub cost_is : IsTieCost cost
   pub room : length e.terms + 1 + length names ≤ term_limit
 
 -- why such a cost is refused: the first cause that holds, and out of memory only where none does
 abbrev pub IsTieRefusal : Energy → List ℕ → ℤ → EnergyError → Type 0
 IsTieRefusal e names cost NoSuchVariable = ¬ CanTie e names
 IsTieRefusal e names cost SameVariable = ⊥
-IsTieRefusal e names cost ValueRange = CanTie e names × ¬ IsCost cost
+IsTieRefusal e names cost ValueRange = CanTie e names × ¬ IsTieCost cost
 IsTieRefusal e names cost TooManyTerms =
-    CanTie e names × IsCost cost × (term_limit < length e.terms + 1 + length names)
+    CanTie e names × IsTieCost cost × (term_limit < length e.terms + 1 + length names)
 IsTieRefusal e names cost OutOfMemory = IsTieable e names cost
 
 -- the same, memory apart
 abbrev pub IsTieFault : Energy → List ℕ → ℤ → EnergyError → Type 0
 IsTieFault e names cost NoSuchVariable = ¬ CanTie e names
 IsTieFault e names cost SameVariable = ⊥
-IsTieFault e names cost ValueRange = CanTie e names × ¬ IsCost cost
+IsTieFault e names cost ValueRange = CanTie e names × ¬ IsTieCost cost
 IsTieFault e names cost TooManyTerms =
-    CanTie e names × IsCost cost × (term_limit < length e.terms + 1 + length names)
+    CanTie e names × IsTieCost cost × (term_limit < length e.terms + 1 + length names)
 IsTieFault e names cost OutOfMemory = ⊥

@@ -39,7 +39,7 @@ HasValues (Three first second third table) = All IsValue table
 
 -- a term that may be added: over variables of the energy, no two equal, its numbers in their range, and room
 -- in the list
-pub record IsAccepted (e : Energy) (term : Term) : Type 0 where
+pub record IsTermAccepted (e : Energy) (term : Term) : Type 0 where
   pub is_term : IsTerm e.variables term
   pub room : length e.terms < term_limit
 
@@ -48,9 +48,9 @@ abbrev pub IsAdded : Energy → Energy → Term → Type 0
 IsAdded old new term = new ≡ record old { terms = old.terms ++ term ∷ [] }
 
 -- why a term is refused: the first cause that holds, and out of memory only where none does
-abbrev pub IsRefusal : Energy → Term → EnergyError → Type 0
-IsRefusal e term NoSuchVariable = NamesUnknown e.variables term
-IsRefusal e term SameVariable = NamesKnown e.variables term × NamesTwice term
-IsRefusal e term ValueRange = NamesKnown e.variables term × NamesApart term × ¬ HasValues term
-IsRefusal e term TooManyTerms = IsTerm e.variables term × (term_limit ≤ length e.terms)
-IsRefusal e term OutOfMemory = IsAccepted e term
+abbrev pub IsTermRefusal : Energy → Term → EnergyError → Type 0
+IsTermRefusal e term NoSuchVariable = NamesUnknown e.variables term
+IsTermRefusal e term SameVariable = NamesKnown e.variables term × NamesTwice term
+IsTermRefusal e term ValueRange = NamesKnown e.variables term × NamesApart term × ¬ HasValues term
+IsTermRefusal e term TooManyTerms = IsTerm e.variables term × (term_limit ≤ length e.terms)
+IsTermRefusal e term OutOfMemory = IsTermAccepted e term

@@ -15,13 +15,15 @@ triple_at triples place =
     slice_index_or triples place (record { first = 0; second = 0; third = 0; table = [] })
 
 -- the number that three bytes keep, the lowest first
-unfoldable pub number_of : List ℕ → ℕ
-number_of bytes = slice_index bytes 0 + 256 * slice_index bytes 1 + 65536 * slice_index bytes 2
+unfoldable pub number_of_bytes : List ℕ → ℕ
+number_of_bytes bytes = slice_index bytes 0 + 256 * slice_index bytes 1
+    + 65536 * slice_index bytes 2
 
 -- the term that a row keeps
 abbrev pub term_of : List Triple → Row → Term
-term_of triples (RowOne first table) = One (number_of first) table
-term_of triples (RowTwo first second table) = Two (number_of first) (number_of second) table
+term_of triples (RowOne first table) = One (number_of_bytes first) table
+term_of triples (RowTwo first second table) =
+    Two (number_of_bytes first) (number_of_bytes second) table
 term_of triples (RowThree place) = triple_term (triple_at triples place)
 
 -- the terms that the rows keep

@@ -3,9 +3,9 @@ ghost use Rattle.std.specs.List.{list_all, list_any};
 ghost use Rattle.sums.specs.IntegerSums.{int_counted};
 ghost use Rattle.pseudo_bool.specs.Limits.{variable_limit, constant_limit};
 ghost use Rattle.pseudo_bool.specs.Energies.{IsEnergy, IsTerm, IsWithin, IsValue, value_at, assignment};
-ghost use Rattle.pseudo_bool.specs.Refusals.{IsAccepted, IsAdded, IsRefusal};
+ghost use Rattle.pseudo_bool.specs.Refusals.{IsTermAccepted, IsAdded, IsTermRefusal};
 ghost use Rattle.pseudo_bool.specs.Rows.{term_of, triple_term, IsKept};
-ghost use Rattle.pseudo_bool.specs.Hidden.{IsLeastOver, tied_terms, unless_all_terms, if_any_terms, with_terms, IsCost, CanTie, IsTieable, IsTieRefusal, IsTieFault};
+ghost use Rattle.pseudo_bool.specs.Hidden.{IsLeastOver, tied_terms, unless_all_terms, if_any_terms, with_terms, IsTieCost, CanTie, IsTieable, IsTieRefusal, IsTieFault};
 
 use crate::row::{Row, Triple, narrow, push_tied, shorten};
 use crate::{CONSTANT_LIMIT, EnergyError, TERM_LIMIT, Term, VALUE_LIMIT, VARIABLE_LIMIT};
@@ -153,9 +153,9 @@ impl Energy {
     /// `-VALUE_LIMIT` to `VALUE_LIMIT`, `TooManyTerms` where the list is full, `OutOfMemory` where a growth
     /// was refused.
     pub fn add_term1(&mut self, first: u32, table: [i64; 2]) -> Result<(), EnergyError>
-        ensures accepted { OnOk result (IsAccepted self.old (Term.One first table)) }
+        ensures accepted { OnOk result (IsTermAccepted self.old (Term.One first table)) }
         ensures added { OnOk result (IsAdded self.old self.new (Term.One first table)) }
-        ensures refused { IfErr result (IsRefusal self.old (Term.One first table)) }
+        ensures refused { IfErr result (IsTermRefusal self.old (Term.One first table)) }
         ensures unchanged { OnErr result (self.new ≡ self.old) }
     {
         if first >= self.variables {
@@ -171,9 +171,9 @@ impl Energy {
     /// first variable is the first digit. Refused, the first that holds: `NoSuchVariable`, `SameVariable`
     /// where the two are one, `ValueRange`, `TooManyTerms`, `OutOfMemory`, as by `add_term1`.
     pub fn add_term2(&mut self, first: u32, second: u32, table: [i64; 4]) -> Result<(), EnergyError>
-        ensures accepted { OnOk result (IsAccepted self.old (Term.Two first second table)) }
+        ensures accepted { OnOk result (IsTermAccepted self.old (Term.Two first second table)) }
         ensures added { OnOk result (IsAdded self.old self.new (Term.Two first second table)) }
-        ensures refused { IfErr result (IsRefusal self.old (Term.Two first second table)) }
+        ensures refused { IfErr result (IsTermRefusal self.old (Term.Two first second table)) }
         ensures unchanged { OnErr result (self.new ≡ self.old) }
     {
         if first >= self.variables || second >= self.variables {
@@ -199,9 +199,11 @@ impl Energy {
         third: u32,
         table: [i64; 8],
     ) -> Result<(), EnergyError>
-        ensures accepted { OnOk result (IsAccepted self.old (Term.Three first second third table)) }
+        ensures accepted { OnOk result
+            (IsTermAccepted self.old (Term.Three first second third table)) }
         ensures added { OnOk result (IsAdded self.old self.new (Term.Three first second third table)) }
-        ensures refused { IfErr result (IsRefusal self.old (Term.Three first second third table)) }
+        ensures refused { IfErr result
+            (IsTermRefusal self.old (Term.Three first second third table)) }
         ensures unchanged { OnErr result (self.new ≡ self.old) }
     {
         if first >= self.variables || second >= self.variables || third >= self.variables {
@@ -225,9 +227,9 @@ impl Energy {
     fn add_row(&mut self, row: Row) -> Result<(), EnergyError>
         requires term { IsTerm self.old.variables (term_of [] row) }
         requires kept { IsKept 0 row }
-        ensures accepted { OnOk result (IsAccepted self.old (term_of [] row)) }
+        ensures accepted { OnOk result (IsTermAccepted self.old (term_of [] row)) }
         ensures added { OnOk result (IsAdded self.old self.new (term_of [] row)) }
-        ensures refused { IfErr result (IsRefusal self.old (term_of [] row)) }
+        ensures refused { IfErr result (IsTermRefusal self.old (term_of [] row)) }
         ensures unchanged { OnErr result (self.new ≡ self.old) }
     {
         if self.rows.len() >= TERM_LIMIT {
@@ -240,9 +242,9 @@ impl Energy {
     /// Adds a triple, if there is room for one more term.
     fn add_triple(&mut self, triple: Triple) -> Result<(), EnergyError>
         requires { IsTerm self.old.variables (triple_term triple) }
-        ensures accepted { OnOk result (IsAccepted self.old (triple_term triple)) }
+        ensures accepted { OnOk result (IsTermAccepted self.old (triple_term triple)) }
         ensures added { OnOk result (IsAdded self.old self.new (triple_term triple)) }
-        ensures refused { IfErr result (IsRefusal self.old (triple_term triple)) }
+        ensures refused { IfErr result (IsTermRefusal self.old (triple_term triple)) }
         ensures unchanged { OnErr result (self.new ≡ self.old) }
     {
         if TERM_LIMIT <= self.rows.len() {
@@ -373,7 +375,7 @@ fn are_below(names: &[u32], variables: u32) -> bool
 
 /// Whether a number is a cost.
 fn is_cost(cost: i64) -> bool
-    ensures { IsTrue result ↔ IsCost cost }
+    ensures { IsTrue result ↔ IsTieCost cost }
 {
     cost >= 0 && is_within(cost, VALUE_LIMIT)
 }

@@ -1,7 +1,7 @@
 ghost use Rattle.std.specs.Prelude.{◌≡◌, ◌+◌, ◌<◌, ◌≤◌, ◌^◌, [], ◌∷◌, All, length, map, vec_len, vec_capacity};
 ghost use Rattle.pseudo_bool.specs.Energies.{term_value, assignment, IsTerm, IsValue};
 ghost use Rattle.pseudo_bool.specs.Hidden.{tied_terms};
-ghost use Rattle.pseudo_bool.specs.Rows.{number_of, term_of, triple_term, IsKept, AddsRows};
+ghost use Rattle.pseudo_bool.specs.Rows.{number_of_bytes, term_of, triple_term, IsKept, AddsRows};
 
 use crate::Term;
 
@@ -16,10 +16,10 @@ pub enum Row {
 }
 
 /// The number of a variable in three bytes.
-#[tactic(auto, unfolding(crate::specs::Rows::number_of))]
+#[tactic(auto, unfolding(crate::specs::Rows::number_of_bytes))]
 pub fn shorten(variable: u32) -> [u8; 3]
     requires { variable < 2 ^ 24 }
-    ensures { number_of result ≡ variable }
+    ensures { number_of_bytes result ≡ variable }
 {
     [
         (variable % 256) as u8,
@@ -29,9 +29,9 @@ pub fn shorten(variable: u32) -> [u8; 3]
 }
 
 /// The number of a variable that was kept in three bytes.
-#[tactic(auto, unfolding(crate::specs::Rows::number_of))]
+#[tactic(auto, unfolding(crate::specs::Rows::number_of_bytes))]
 fn number(bytes: &[u8; 3]) -> u32
-    ensures { result ≡ number_of bytes.now }
+    ensures { result ≡ number_of_bytes bytes.now }
 {
     u32::from(bytes[0]) + 256 * u32::from(bytes[1]) + 65536 * u32::from(bytes[2])
 }

@@ -11,15 +11,15 @@ IsRegularTable table = (entry table 0 +ℤ entry table 3) ≤ℤ (entry table 1 
 
 -- the place in a table of three variables where the one at a position has one digit, and the others, in
 -- order, have two more
-abbrev pub place_of : ℕ → ℕ → ℕ → ℕ → ℕ
-place_of zero fixed first second = 4 * fixed + 2 * first + second
-place_of (suc zero) fixed first second = 4 * first + 2 * fixed + second
-place_of (suc (suc position)) fixed first second = 4 * first + 2 * second + fixed
+abbrev pub table_place : ℕ → ℕ → ℕ → ℕ → ℕ
+table_place zero fixed first second = 4 * fixed + 2 * first + second
+table_place (suc zero) fixed first second = 4 * first + 2 * fixed + second
+table_place (suc (suc position)) fixed first second = 4 * first + 2 * second + fixed
 
 -- a projection of a table of three variables: the table of two of them, where the third is fixed
 abbrev pub projection : List ℤ → Fixed → List ℤ
 projection table fixed =
-    let at = λ (first second : ℕ). entry table (place_of fixed.position (digit fixed.value) first second) in
+    let at = λ (first second : ℕ). entry table (table_place fixed.position (digit fixed.value) first second) in
     at 0 0 ∷ at 0 1 ∷ at 1 0 ∷ at 1 1 ∷ []
 
 -- the order of the projections: the first variable fixed to 0, to 1, the second fixed to 0, and so on

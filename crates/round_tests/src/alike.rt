@@ -2,7 +2,7 @@
 ghost use Rattle.block_events.specs.Events.{IsQuiet};
 ghost use Rattle.worker_options.specs.Ranges.{AreInRange};
 
-use crate::building::raised;
+use crate::building::state_raised;
 use crate::gates::Open;
 use crate::picture::net_of_move;
 use block_core::State;
@@ -43,7 +43,7 @@ pub fn round<R: Threads + Wait + Abort + AllocGlobal + Sync, G: Gate>(
     gate: &G,
 ) -> Result<State, AllocError> {
     assert!(*rt; options.check().is_ok());
-    let state = raised(rt, net, options.blocks as usize)?;
+    let state = state_raised(rt, net, options.blocks as usize)?;
     assert!(*rt; state.is_quiet());
     round_from(rt, state, options, gate)
 }

@@ -151,7 +151,7 @@ pub fn two_ways(rt: &(impl Abort + AllocGlobal)) -> Result<Net, AllocError> {
 }
 
 /// The net opened in so many blocks, with exact labels.
-pub fn raised(
+pub fn state_raised(
     rt: &(impl Abort + AllocGlobal),
     net: &Net,
     blocks: usize,

@@ -18,7 +18,7 @@ const FIRST: Options = Options {
 };
 
 /// How often such a solver asks for a turn: twice a round.
-fn asked<R: Threads + Wait + Abort + AllocGlobal + Sync>(
+fn gate_calls<R: Threads + Wait + Abort + AllocGlobal + Sync>(
     rt: &R,
     net: &Net,
     options: &Options,
@@ -33,12 +33,12 @@ fn asked<R: Threads + Wait + Abort + AllocGlobal + Sync>(
 /// and one round more, in which block 0 gives on what came.
 #[test]
 fn rounds_are_counted(rt: HostRuntime) -> Result<(), Fail> {
-    assert!(rt; asked(&rt, &idle_nodes(&rt)?, &FIRST)? == 0);
+    assert!(rt; gate_calls(&rt, &idle_nodes(&rt)?, &FIRST)? == 0);
     let three = Options { rounds: 3, ..FIRST };
-    assert!(rt; asked(&rt, &short_way(&rt)?, &three)? == 6);
-    assert!(rt; asked(&rt, &fan(&rt)?, &FIRST)? == 4);
+    assert!(rt; gate_calls(&rt, &short_way(&rt)?, &three)? == 6);
+    assert!(rt; gate_calls(&rt, &fan(&rt)?, &FIRST)? == 4);
     let narrow = Options { ring: 1, ..FIRST };
-    assert!(rt; asked(&rt, &fan(&rt)?, &narrow)? == 12);
+    assert!(rt; gate_calls(&rt, &fan(&rt)?, &narrow)? == 12);
     Ok(())
 }
 
@@ -47,6 +47,6 @@ fn rounds_are_counted(rt: HostRuntime) -> Result<(), Fail> {
 /// over the nodes 1 to 60: 60 steps in one turn, none of which needs a new label.
 #[test]
 fn rounds_begin_with_exact_labels(rt: HostRuntime) -> Result<(), Fail> {
-    assert!(rt; asked(&rt, &two_ways(&rt)?, &FIRST)? == 6);
+    assert!(rt; gate_calls(&rt, &two_ways(&rt)?, &FIRST)? == 6);
     Ok(())
 }

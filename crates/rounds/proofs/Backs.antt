@@ -11,34 +11,34 @@ use Rattle.block_events.specs.Workers.{MayStart}
 use Rattle.block_net.specs.Views.{CellsView, border_in, count}
 use Rattle.block_net.specs.Whole.{Whole, no_block, block_at}
 use Rattle.laid_blocks.specs.Views.{IsLaid}
-use Rattle.block_turns.specs.Seen.{Seen}
-use Rattle.block_turns.specs.Steps.{Held, DoesMany, IsSure, held}
+use Rattle.block_turns.specs.Seen.{WaysView}
+use Rattle.block_turns.specs.Steps.{TurnView, DoesMany, IsSure, turn_view}
 use Rattle.block_cut.specs.TurnEvents.{HasRoom}
 use Rattle.block_cut.specs.Rounds.{Ways, fresh, quiet_state}
 use Rattle.block_cut.proofs.Starting.{start_is_sure}
 use Rattle.block_workers.specs.declared.port.Port.{Port}
-use Rattle.block_workers.specs.Ports.{put, taken, free, capacity, IsNewPort}
+use Rattle.block_workers.specs.Ports.{letters_put, letters_taken, free, capacity, IsNewPort}
 use Rattle.block_workers.specs.declared.ends.Ends.{Ends}
 use Rattle.block_workers.specs.declared.seat.Seat.{Seat}
 use Rattle.block_workers.specs.Ends.{ports}
-use Rattle.block_workers.specs.Seeing.{messages, seen, AreRising, AreSame}
-use Rattle.block_workers.specs.Workers.{AllWorked, Worked}
+use Rattle.block_workers.specs.Seeing.{messages, ways_of_ports, AreRising, AreSame}
+use Rattle.block_workers.specs.Workers.{AllWorked, HasWorked}
 use Rattle.rounds.specs.Joined.{port_to, IsPaired, AreJoined}
 use Rattle.rounds.specs.Mated.{room_to}
-use Rattle.rounds.specs.Seated.{blocks_of, ends_of, ports_of, AreSeated}
+use Rattle.rounds.specs.Seated.{blocks_of, ends_of_seats, ports_of, AreSeated}
 use Rattle.rounds.specs.Together.{AreBackAfter}
 use Rattle.rounds.proofs.Borders.{leads_out}
 use Rattle.rounds.proofs.Looks.{read_through, through_none, through_some, through_most, AreAlike, read_alike, alike_back, alike_forth, alike_none, leads_on, rising_same}
 
 -- ---- seats
 
-pub ports_at : (seats : List Seat) (b : ℕ) (d : Seat) → b < length seats → get_or (ports_of (ends_of seats)) b [] ≡ ports (get_or seats b d).ends
+pub ports_at : (seats : List Seat) (b : ℕ) (d : Seat) → b < length seats → get_or (ports_of (ends_of_seats seats)) b [] ≡ ports (get_or seats b d).ends
 ports_at seats b d low =
-    get_or-map (λ (e : Ends). ports e) (ends_of seats) b d.ends [] (omega (arith, low, length-map seats (λ (s : Seat). s.ends)))
+    get_or-map (λ (e : Ends). ports e) (ends_of_seats seats) b d.ends [] (omega (arith, low, length-map seats (λ (s : Seat). s.ends)))
     ∙ ap (λ (e : Ends). ports e) (get_or-map (λ (s : Seat). s.ends) seats b d d.ends low)
 
-pub long_lists : (seats : List Seat) → length (ports_of (ends_of seats)) ≡ length seats
-long_lists seats = length-map (ends_of seats) (λ (e : Ends). ports e) ∙ length-map seats (λ (s : Seat). s.ends)
+pub long_lists : (seats : List Seat) → length (ports_of (ends_of_seats seats)) ≡ length seats
+long_lists seats = length-map (ends_of_seats seats) (λ (e : Ends). ports e) ∙ length-map seats (λ (s : Seat). s.ends)
 
 pub block_of_seat : (seats : List Seat) (b : ℕ) (d : Seat) (e : CellsView) → b < length seats → get_or (blocks_of seats) b e ≡ (get_or seats b d).block
 block_of_seat seats b d e low = get_or-map (λ (s : Seat). s.block) seats b d e low
@@ -63,22 +63,22 @@ picked_is n P each b (inr past) lb all = absurd (omega (arith, past, lb))
 -- ---- new ports
 
 module _ (ring : ℕ) (lists : List (List Port)) (new : (b c : ℕ) (p : Port) → port_to lists b c ≡ Some p → IsNewPort c ring p) where
-  none_sent : (b c : ℕ) → (seen (get_or lists b [])).sent c ≡ []
+  none_sent : (b c : ℕ) → (ways_of_ports (get_or lists b [])).sent c ≡ []
   none_sent b c =
-      read_through [] (λ (p : Port). messages (put p)) (get_or lists b []) c
-      ∙ through_none [] (λ (p : Port). messages (put p)) (port_to lists b c) (λ p is. ap messages (new b c p is).put)
+      read_through [] (λ (p : Port). messages (letters_put p)) (get_or lists b []) c
+      ∙ through_none [] (λ (p : Port). messages (letters_put p)) (port_to lists b c) (λ p is. ap messages (new b c p is).put)
 
-  none_taken : (b c : ℕ) → (seen (get_or lists b [])).taken c ≡ []
+  none_taken : (b c : ℕ) → (ways_of_ports (get_or lists b [])).taken c ≡ []
   none_taken b c =
-      read_through [] (λ (p : Port). messages (taken p)) (get_or lists b []) c
-      ∙ through_none [] (λ (p : Port). messages (taken p)) (port_to lists b c) (λ p is. ap messages (new b c p is).taken)
+      read_through [] (λ (p : Port). messages (letters_taken p)) (get_or lists b []) c
+      ∙ through_none [] (λ (p : Port). messages (letters_taken p)) (port_to lists b c) (λ p is. ap messages (new b c p is).taken)
 
-  pub held_fresh : (B : CellsView) (b : ℕ) → held B (seen (get_or lists b [])) ≡ fresh B
+  pub held_fresh : (B : CellsView) (b : ℕ) → turn_view B (ways_of_ports (get_or lists b [])) ≡ fresh B
   held_fresh B b =
-      ap (λ (f : ℕ → List Message). record { block = B; sent = f; taken = (seen (get_or lists b [])).taken }) (fun_ext (none_sent b))
+      ap (λ (f : ℕ → List Message). record { block = B; sent = f; taken = (ways_of_ports (get_or lists b [])).taken }) (fun_ext (none_sent b))
       ∙ ap (λ (f : ℕ → List Message). record { block = B; sent = λ c. []; taken = f }) (fun_ext (none_taken b))
 
-  pub room_seen : (b c : ℕ) → 1 ≤ ring → is_some (port_to lists b c) ≡ true → (seen (get_or lists b [])).room c ≡ true
+  pub room_seen : (b c : ℕ) → 1 ≤ ring → is_some (port_to lists b c) ≡ true → (ways_of_ports (get_or lists b [])).room c ≡ true
   room_seen b c some there =
       read_through false (λ (p : Port). nat_lt 0 (free p)) (get_or lists b []) c
       ∙ through_some false true (λ (p : Port). nat_lt 0 (free p)) (port_to lists b c) there
@@ -95,10 +95,10 @@ module _ (blocks : List CellsView) (ring : ℕ) (ends : List Ends) (old new : Li
 
   -- the ports before the work, and after it
   abbrev lists : List (List Port)
-  lists = ports_of (ends_of old)
+  lists = ports_of (ends_of_seats old)
 
   abbrev lists' : List (List Port)
-  lists' = ports_of (ends_of new)
+  lists' = ports_of (ends_of_seats new)
 
   pub many_old : length old ≡ n
   many_old = long_old blocks ends old seated
@@ -121,26 +121,26 @@ module _ (blocks : List CellsView) (ring : ℕ) (ends : List Ends) (old new : Li
   ports_old : (b : ℕ) → b < n → ports (get_or old b d).ends ≡ get_or lists b []
   ports_old b low = sym (ports_at old b d (low_old b low))
 
-  start : (b : ℕ) → b < n → held (get_or old b d).block (seen (ports (get_or old b d).ends)) ≡ fresh (block b)
+  start : (b : ℕ) → b < n → turn_view (get_or old b d).block (ways_of_ports (ports (get_or old b d).ends)) ≡ fresh (block b)
   start b low =
-      ap (λ (B : CellsView). held B (seen (ports (get_or old b d).ends))) (block_old b low)
-      ∙ (ap (λ (l : List Port). held (block b) (seen l)) (ports_old b low) ∙ held_fresh ring lists fresh_ports (block b) b)
+      ap (λ (B : CellsView). turn_view B (ways_of_ports (ports (get_or old b d).ends))) (block_old b low)
+      ∙ (ap (λ (l : List Port). turn_view (block b) (ways_of_ports l)) (ports_old b low) ∙ held_fresh ring lists fresh_ports (block b) b)
 
-  abbrev came : ℕ → Held
-  came b = record { block = get_or (blocks_of new) b no_block; sent = (seen (get_or lists' b [])).sent; taken = (seen (get_or lists' b [])).taken }
+  abbrev came : ℕ → TurnView
+  came b = record { block = get_or (blocks_of new) b no_block; sent = (ways_of_ports (get_or lists' b [])).sent; taken = (ways_of_ports (get_or lists' b [])).taken }
 
-  end : (b : ℕ) → b < n → held (get_or new b d).block (seen (ports (get_or new b d).ends)) ≡ came b
+  end : (b : ℕ) → b < n → turn_view (get_or new b d).block (ways_of_ports (ports (get_or new b d).ends)) ≡ came b
   end b low =
-      ap (λ (B : CellsView). held B (seen (ports (get_or new b d).ends))) (sym (block_of_seat new b d no_block (low_new b low)))
-      ∙ ap (λ (l : List Port). held (get_or (blocks_of new) b no_block) (seen l)) (sym (ports_at new b d (low_new b low)))
+      ap (λ (B : CellsView). turn_view B (ways_of_ports (ports (get_or new b d).ends))) (sym (block_of_seat new b d no_block (low_new b low)))
+      ∙ ap (λ (l : List Port). turn_view (get_or (blocks_of new) b no_block) (ways_of_ports l)) (sym (ports_at new b d (low_new b low)))
 
-  work : (b : ℕ) → b < n → Worked (get_or old b d) (get_or new b d)
+  work : (b : ℕ) → b < n → HasWorked (get_or old b d) (get_or new b d)
   work b low = worked.each b d (low_old b low)
 
   does : (b : ℕ) (low : b < n) → DoesMany (fresh (block b)) (work b low).count (came b)
   does b low =
-      subst (λ (h : Held). DoesMany h (work b low).count (came b)) (start b low)
-      (subst (λ (g : Held). DoesMany (held (get_or old b d).block (seen (ports (get_or old b d).ends))) (work b low).count g) (end b low) (work b low).went.does)
+      subst (λ (h : TurnView). DoesMany h (work b low).count (came b)) (start b low)
+      (subst (λ (g : TurnView). DoesMany (turn_view (get_or old b d).block (ways_of_ports (ports (get_or old b d).ends))) (work b low).count g) (end b low) (work b low).went.does)
 
   -- ---- the ports afterwards
 
@@ -205,15 +205,15 @@ module _ (w : Whole) (got ring : ℕ) (ends : List Ends) (old new : List Seat) (
   total = length w.blocks
 
   abbrev before : List (List Port)
-  before = ports_of (ends_of old)
+  before = ports_of (ends_of_seats old)
 
   abbrev after : List (List Port)
-  after = ports_of (ends_of new)
+  after = ports_of (ends_of_seats new)
 
   did : (b : ℕ) → b < total → ℕ
   did b low = (work w.blocks ring ends old new d seated joined worked b low).count
 
-  has_room : (b : ℕ) → b < total → HasRoom (block_at w b) (seen (get_or before b []))
+  has_room : (b : ℕ) → b < total → HasRoom (block_at w b) (ways_of_ports (get_or before b []))
   has_room b low j lj =
       let out = leads_out w b j laid low lj in
       let to = (border_in (block_at w b) j).to in
@@ -224,8 +224,8 @@ module _ (w : Whole) (got ring : ℕ) (ends : List Ends) (old new : List Seat) (
   busy : (b : ℕ) (e : Event) (low : b < total) → MayStart b (quiet_state w got) e → 0 < did b low
   unfolding did
   busy b e low may =
-      let s : Seen = seen (ports (get_or old b d).ends) in
-      let room = subst (λ (l : List Port). HasRoom (block_at w b) (seen l)) (sym (ports_old w.blocks ring ends old new d seated joined worked b low)) (has_room b low) in
+      let s : WaysView = ways_of_ports (ports (get_or old b d).ends) in
+      let room = subst (λ (l : List Port). HasRoom (block_at w b) (ways_of_ports l)) (sym (ports_old w.blocks ring ends old new d seated joined worked b low)) (has_room b low) in
       let sure = start_is_sure w b got s e laid low room may in
       (work w.blocks ring ends old new d seated joined worked b low).some sure.0
       (subst (λ (B : CellsView). IsSure B s sure.0) (sym (block_old w.blocks ring ends old new d seated joined worked b low)) sure.1)
@@ -244,12 +244,12 @@ module _ (w : Whole) (got ring : ℕ) (ends : List Ends) (old new : List Seat) (
       subst (λ k. (work w.blocks ring ends old new d seated joined worked b low).count ≤ ((get_or new b d).turn + 1) * (k + 16)) same each
 
   pub seats_back : (left : Ways) → IsSquare total left → ((b : ℕ) → b < total → way_at left b b ≡ [])
-      → ((b c : ℕ) → b < total → c < total → b ≢ c → (seen (get_or after b [])).sent c ≡ (seen (get_or after c [])).taken b ++ way_at left b c)
+      → ((b c : ℕ) → b < total → c < total → b ≢ c → (ways_of_ports (get_or after b [])).sent c ≡ (ways_of_ports (get_or after c [])).taken b ++ way_at left b c)
       → AreBackAfter (λ b. (get_or new b d).turn) w got (blocks_of new) left
   seats_back left square none ways = record {
     back = record {
-      sent = λ b. (seen (get_or after b [])).sent;
-      taken = λ b. (seen (get_or after b [])).taken;
+      sent = λ b. (ways_of_ports (get_or after b [])).sent;
+      taken = λ b. (ways_of_ports (get_or after b [])).taken;
       steps = λ b. picked total did b (cases_lt b total);
       many = length-map new (λ (s : Seat). s.block) ∙ many_new w.blocks ring ends old new d seated joined worked;
       does = λ b low.

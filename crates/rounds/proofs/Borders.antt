@@ -6,10 +6,10 @@ use Rattle.std.proofs.lemmas.List.{get_or_default}
 use Rattle.block_events.specs.Directions.{far}
 use Rattle.block_events.proofs.Ends.{far_in}
 use Rattle.block_net.specs.Views.{CellsView, count, border_in}
-use Rattle.block_net.specs.Whole.{Whole, no_block, block_at, home, slot, shown}
+use Rattle.block_net.specs.Whole.{Whole, no_block, block_at, home, slot, state_shown}
 use Rattle.laid_blocks.specs.Views.{IsLaid}
 use Rattle.block_core.proofs.Effects.{border_apart}
-use Rattle.rounds.specs.Seated.{AreSmall}
+use Rattle.rounds.specs.Seated.{AreBlocksSmall}
 
 -- a direction of block b leads to another block
 pub record LeadsOut (w : Whole) (b j : ℕ) : Type 0 where
@@ -26,7 +26,7 @@ leads_out w b j laid lb lj =
     sym (ap (λ i. (border_in (block_at w i) (slot w x)).to) found.1 ∙ ap (λ i. (border_in (block_at w b) i).to) stands.slot) ∙ at.to in
     record {
       below = subst (λ i. i < length w.blocks) (sym to) (laid.placed.homes (far w.net x) (far_in w.net x laid.net stands.direction));
-      off = λ same. border_apart (shown w) x stands.outer (found.1 ∙ (sym same ∙ to));
+      off = λ same. border_apart (state_shown w) x stands.outer (found.1 ∙ (sym same ∙ to));
     }
 
 -- a block has no more nodes than the net
@@ -39,7 +39,7 @@ few_nodes w b laid lb = elim (cases_lt (nodes w.net) (count (block_at w b))) [
       absurd (omega (arith, at, found.1.node))
 ]
 
-pub small_blocks : (w : Whole) → IsLaid w → AreSmall w.blocks
+pub small_blocks : (w : Whole) → IsLaid w → AreBlocksSmall w.blocks
 small_blocks w laid b d low =
     let few = few_nodes w b laid low in
     let is = ap (λ (B : CellsView). count B) (get_or_default w.blocks b d no_block low) in

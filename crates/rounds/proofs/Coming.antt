@@ -4,7 +4,7 @@ use Rattle.std.proofs.Math.Nat.{mod-lt}
 use Rattle.std.proofs.lemmas.Bool.{cases_lt}
 use Rattle.std.proofs.lemmas.List.{get_or-map, length-map}
 use Rattle.block_workers.specs.declared.seat.Seat.{Seat}
-use Rattle.block_workers.specs.Workers.{AllWorked, Worked}
+use Rattle.block_workers.specs.Workers.{AllWorked, HasWorked}
 use Rattle.block_workers.proofs.Places.{at_place}
 use Rattle.rounds.specs.Dealing.{hand, AreHands}
 use Rattle.rounds.specs.Laws.{AreWorked, HandsComeBack, SeatsAreWorked}
@@ -50,7 +50,7 @@ seats_are_worked t old new dealt back before worked after =
           let here = worked.each w (omega (arith, low, before.shape.len)) in
           let was : get_or (hand dealt w) q d ≡ get_or old b d = before.each q w d low inside ∙ ap (λ i. get_or old i d) (sym at) in
           let is : get_or (hand back w) q d ≡ get_or new b d = after.each q w d low (omega (arith, inside, len)) ∙ ap (λ i. get_or new i d) (sym at) in
-          subst (λ x. Worked x (get_or new b d)) was (subst (λ y. Worked (get_or (hand dealt w) q d) y) is (here.each q d ((before.shape.places q w low).1 inside)));
+          subst (λ x. HasWorked x (get_or new b d)) was (subst (λ y. HasWorked (get_or (hand dealt w) q d) y) is (here.each q d ((before.shape.places q w low).1 inside)));
     }
 
 -- what workers hold, by what is said of each worker

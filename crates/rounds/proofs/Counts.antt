@@ -2,7 +2,7 @@
 use Rattle.std.proofs.Common.{◌≡◌, ℕ, zero, suc, ◌+◌, ◌-◌, ◌*◌, ◌<◌, ◌≤◌, Bool, ◌==◌, List, [], length, get_or, slice_index, sum_by, ◌∙◌, ap, subst, inl, inr, arith}
 use Rattle.std.proofs.Math.Nat.{mul-le-mul_left, mul-le-mul_right}
 use Rattle.std.proofs.lemmas.Bool.{cases_lt, eq-eqb}
-use Rattle.sums.specs.Sums.{sum_below, counted}
+use Rattle.sums.specs.Sums.{sum_below, count_if}
 use Rattle.sums.proofs.SumLemmas.{sum_below-le-longer, sum_by-sum_below}
 use Rattle.flow_network.specs.Cut.{nodes}
 use Rattle.block_events.specs.declared.event.Event.{Event}
@@ -58,10 +58,10 @@ many_in w got b laid lb = elim (cases_lt 0 (count (block_at w b))) [
   | inl some ↦
       let k = count (block_at w b) in
       let f = slice_index w.firsts b in
-      let g : ℕ → ℕ = λ v. counted (home w v == b) 1 in
+      let g : ℕ → ℕ = λ v. count_if (home w v == b) 1 in
       let last = (found_at w b (k - 1) laid lb (omega (arith, some))).0 in
       let within : k + f ≤ nodes w.net = omega (arith, some, last) in
-      let all : k ≤ sum_below (k + f) g = ones g f k (λ p low. ap (λ (t : Bool). counted t 1) (eq-eqb (home w (p + f)) b (found_at w b p laid lb low).1)) in
+      let all : k ≤ sum_below (k + f) g = ones g f k (λ p low. ap (λ (t : Bool). count_if t 1) (eq-eqb (home w (p + f)) b (found_at w b p laid lb low).1)) in
       let more = sum_below-le-longer (k + f) (nodes w.net) g within in
       omega (arith, all, more)
 ]

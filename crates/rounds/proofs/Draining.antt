@@ -6,9 +6,9 @@ use Rattle.block_events.specs.States.{way_at, put_way}
 use Rattle.block_events.specs.Soundness.{IsSquare, direction_of}
 use Rattle.block_events.proofs.Ways.{way_same, way_other, square_put}
 use Rattle.block_core.specs.Mails.{room_at}
-use Rattle.rounds.specs.Left.{AreEmpty, AreFitting, AreKept, AreLeft, rest_of}
+use Rattle.rounds.specs.Left.{AreWaysEmpty, AreFitting, AreKeptByWays, AreLeft, rest_of}
 use Rattle.rounds.specs.Links.{Traffic, Link, RingsView, link_in, left_in, AreLinks, down, up, sent_in, taken_in}
-use Rattle.rounds.specs.Draining.{AreDraining, HaveRoom, IsFitting, drained}
+use Rattle.rounds.specs.Draining.{AreDraining, HaveRoom, IsFitting, ways_after_drain}
 use Rattle.rounds.proofs.Moving.{way_back}
 use Rattle.rounds.proofs.Leaving.{AnyLeft, link_cases, link_there, link_back, link_off, left_none, rest_is}
 
@@ -35,7 +35,7 @@ left_back l links b c order e f = rw (link_back l links b c order e f, link_ther
 left_off : (l : Link) (links : List Link) (b c : ℕ) → (l.first ≡ b → l.second ≡ c → ⊥) → (l.first ≡ c → l.second ≡ b → ⊥) → left_in (l ∷ links) b c ≡ left_in links b c
 left_off l links b c off_there off_back = rw (link_off l links b c off_there off_back, link_off l links c b off_back off_there) refl
 
-kept_end : (way left : List Message) → AreKept (way ++ left) → AreKept left
+kept_end : (way left : List Message) → AreKeptByWays (way ++ left) → AreKeptByWays left
 kept_end way left kept k d low =
     subst (λ (m : Message). (direction_of m).arc < 2 ^ 32) (get_or-append-add way left k d) (kept (length way + k) d (omega (arith, low, length-append way left)))
 
@@ -63,8 +63,8 @@ module _ (n : ℕ) (rooms : List (List ℕ)) (first links : List Link) (l : Link
       record {
         room_down = omega (arith, have.room l.first l.second are.1 low apart, ap length at_down, length-append (way_at ways l.first l.second) (down l));
         room_up = omega (arith, have.room l.second l.first low are.1 back, ap length at_up, length-append (way_at ways l.second l.first) (up l));
-        arcs_down = kept_end (way_at ways l.first l.second) (down l) (subst AreKept (sym at_down) (have.arcs l.first l.second are.1 low apart));
-        arcs_up = kept_end (way_at ways l.second l.first) (up l) (subst AreKept (sym at_up) (have.arcs l.second l.first low are.1 back));
+        arcs_down = kept_end (way_at ways l.first l.second) (down l) (subst AreKeptByWays (sym at_down) (have.arcs l.first l.second are.1 low apart));
+        arcs_up = kept_end (way_at ways l.second l.first) (up l) (subst AreKeptByWays (sym at_up) (have.arcs l.second l.first low are.1 back));
       }
 
   abbrev half : List (List (List Message))
@@ -73,41 +73,41 @@ module _ (n : ℕ) (rooms : List (List ℕ)) (first links : List Link) (l : Link
   half_square : IsSquare n half
   half_square = square_put n ways l.first l.second (way_at ways l.first l.second ++ down l) was.square
 
-  whole_there : way_at (drained l ways) l.first l.second ++ left_in links l.first l.second ≡ left_in first l.first l.second
+  whole_there : way_at (ways_after_drain l ways) l.first l.second ++ left_in links l.first l.second ≡ left_in first l.first l.second
   whole_there =
       let low : l.second < n = omega (arith, are.0, are.1) in
-      let all = drained l ways in
+      let all = ways_after_drain l ways in
       let way : way_at all l.first l.second ≡ way_at ways l.first l.second ++ down l =
       way_other n half l.second l.first (way_at ways l.second l.first ++ up l) l.first l.second half_square low (λ e f. apart e)
       ∙ way_same n ways l.first l.second (way_at ways l.first l.second ++ down l) was.square are.1 low in
       ap (λ (x : List Message). way_at all l.first l.second ++ x) (nothing_left n links are.3 l.first l.second are.2)
       ∙ (append-nil (way_at all l.first l.second) ∙ (way ∙ at_down))
 
-  whole_back : way_at (drained l ways) l.second l.first ++ left_in links l.second l.first ≡ left_in first l.second l.first
+  whole_back : way_at (ways_after_drain l ways) l.second l.first ++ left_in links l.second l.first ≡ left_in first l.second l.first
   whole_back =
       let low : l.second < n = omega (arith, are.0, are.1) in
-      let all = drained l ways in
+      let all = ways_after_drain l ways in
       let way : way_at all l.second l.first ≡ way_at ways l.second l.first ++ up l =
       way_same n half l.second l.first (way_at ways l.second l.first ++ up l) half_square low are.1 in
       ap (λ (x : List Message). way_at all l.second l.first ++ x) (nothing_left n links are.3 l.second l.first (none_back n links are.3 l.first l.second are.2))
       ∙ (append-nil (way_at all l.second l.first) ∙ (way ∙ at_up))
 
   whole_off : (b c : ℕ) → b < n → c < n → (l.first ≡ b → l.second ≡ c → ⊥) → (l.first ≡ c → l.second ≡ b → ⊥)
-      → way_at (drained l ways) b c ++ left_in links b c ≡ left_in first b c
+      → way_at (ways_after_drain l ways) b c ++ left_in links b c ≡ left_in first b c
   whole_off b c low_b low_c off_there off_back =
       let low : l.second < n = omega (arith, are.0, are.1) in
-      let way : way_at (drained l ways) b c ≡ way_at ways b c =
+      let way : way_at (ways_after_drain l ways) b c ≡ way_at ways b c =
       way_other n half l.second l.first (way_at ways l.second l.first ++ up l) b c half_square low (λ e f. off_back (sym f) (sym e))
       ∙ way_other n ways l.first l.second (way_at ways l.first l.second ++ down l) b c was.square are.1 (λ e f. off_there (sym e) (sym f)) in
       ap (λ (x : List Message). x ++ left_in links b c) way
       ∙ (ap (λ (x : List Message). way_at ways b c ++ x) (sym (left_off l links b c off_there off_back)) ∙ was.whole b c low_b low_c)
 
-  pub draining_more : AreDraining n first links (drained l ways)
+  pub draining_more : AreDraining n first links (ways_after_drain l ways)
   draining_more = record {
     square = square_put n half l.second l.first (way_at ways l.second l.first ++ up l) half_square;
     linked = are.3;
     whole = λ b c low_b low_c.
-        let P : ℕ → ℕ → Type 0 = λ x y. way_at (drained l ways) x y ++ left_in links x y ≡ left_in first x y in
+        let P : ℕ → ℕ → Type 0 = λ x y. way_at (ways_after_drain l ways) x y ++ left_in links x y ≡ left_in first x y in
         link_cases (P b c) l b c
         (λ e f. subst (λ x. P x c) e (subst (λ y. P l.first y) f whole_there))
         (λ e f. subst (λ x. P x c) f (subst (λ y. P l.second y) e whole_back))
@@ -124,10 +124,10 @@ module _ (l : Link) (ways new : List (List (List Message))) (b c : ℕ) (sent ta
   pub second_room : (rooms rooms' : List (List ℕ)) → rooms' ≡ rooms → IsFitting rooms ways l → length (way_at new c b) + length (rest_of sent taken) ≤ room_at rooms' c b
   second_room rooms rooms' same fit = rw (same_way, same, is_sent, is_taken, is_b, is_c) fit.room_up
 
-  pub second_drained : (end : List (List (List Message))) → end ≡ put_way new c b (way_at new c b ++ rest_of sent taken) → end ≡ drained l ways
+  pub second_drained : (end : List (List (List Message))) → end ≡ put_way new c b (way_at new c b ++ rest_of sent taken) → end ≡ ways_after_drain l ways
   second_drained end made = made ∙ rw (same_way, is, is_sent, is_taken, is_b, is_c) refl
 
-pub draining_none : (n : ℕ) (links : List Link) (ways : List (List (List Message))) → IsSquare n ways → AreEmpty n ways → AreLinks n links → AreDraining n links links ways
+pub draining_none : (n : ℕ) (links : List Link) (ways : List (List (List Message))) → IsSquare n ways → AreWaysEmpty n ways → AreLinks n links → AreDraining n links links ways
 draining_none n links ways square empty are = record {
   square = square;
   linked = are;
@@ -147,7 +147,7 @@ rooms_for v rooms any fits =
     let fit = fits any.0 any.1 in
     record {
       room = λ b c low_b low_c off. subst (λ (x : List Message). length x ≤ room_at rooms b c) (sym (left_is v any.0 any.1 b c low_b low_c off)) (fit.room b c low_b low_c off);
-      arcs = λ b c low_b low_c off. subst AreKept (sym (left_is v any.0 any.1 b c low_b low_c off)) (fit.arcs b c low_b low_c off);
+      arcs = λ b c low_b low_c off. subst AreKeptByWays (sym (left_is v any.0 any.1 b c low_b low_c off)) (fit.arcs b c low_b low_c off);
     }
 
 pub all_left : (v : RingsView) (ways : List (List (List Message))) → AreLinks v.blocks v.links → AnyLeft v → AreDraining v.blocks v.links [] ways → AreLeft v.blocks (sent_in v) (taken_in v) ways

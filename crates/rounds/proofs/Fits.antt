@@ -7,12 +7,12 @@ use Rattle.block_events.proofs.Local.{belongs_direction}
 use Rattle.block_net.specs.Views.{CellsView}
 use Rattle.block_net.specs.Whole.{Whole}
 use Rattle.block_core.specs.Mails.{HasRooms}
-use Rattle.block_cut.specs.Rounds.{Ways, IsRound, state_after}
+use Rattle.block_cut.specs.Rounds.{Ways, IsRoundOfTurns, state_after}
 use Rattle.block_cut.proofs.Quiet.{round_is_held}
 use Rattle.rounds.specs.Left.{AreFitting}
 
 pub round_fits : (w : Whole) (got : ℕ) (blocks : List CellsView) (left : Ways) (steps : ℕ → ℕ) (rooms : List (List ℕ)) → HasRooms w.net (length w.blocks) rooms
-    → IsRound w got blocks left steps → AreFitting (length w.blocks) rooms left
+    → IsRoundOfTurns w got blocks left steps → AreFitting (length w.blocks) rooms left
 round_fits w got blocks left steps rooms has round =
     let s = state_after w blocks left in
     let held = round_is_held w got blocks left steps rooms has round in

@@ -8,7 +8,7 @@ use Rattle.block_events.specs.Soundness.{IsSquare}
 use Rattle.block_turns.specs.declared.letter.Letter.{Letter}
 use Rattle.block_workers.specs.Seeing.{messages}
 use Rattle.rounds.specs.Left.{AreLeft, HaveRoomFor, rest_of}
-use Rattle.rounds.specs.Links.{Traffic, Link, traffic_of, link_in, left_in, down, up, joins, AreLinks, IsSeen, RingsView, sent_in, taken_in, room_in, AreWithin}
+use Rattle.rounds.specs.Links.{Traffic, Link, traffic_of, link_in, left_in, down, up, is_link_of, AreLinks, IsLinkSeen, RingsView, sent_in, taken_in, ring_room, AreWithinRoom}
 
 -- ---- tables
 
@@ -37,13 +37,13 @@ letters_split sent taken left is =
     let all : messages sent ≡ messages taken ++ messages left = ap (λ (x : List Letter). messages x) is ∙ map-append (λ (x : Letter). x.message) taken left in
     all ∙ ap (λ (x : List Message). messages taken ++ x) (sym (rest_is (messages sent) (messages taken) (messages left) all))
 
-joins_not : (l : Link) (b c : ℕ) → (l.first ≡ b → l.second ≡ c → ⊥) → joins l b c ≡ false
+joins_not : (l : Link) (b c : ℕ) → (l.first ≡ b → l.second ≡ c → ⊥) → is_link_of l b c ≡ false
 joins_not l b c off = elim (cases_eq b l.first) [
   | inl same ↦ rw (eq-eqb b l.first same) (ne_eqb c l.second (λ e. off (sym same) (sym e)))
   | inr apart ↦ rw (ne_eqb b l.first apart) refl
 ]
 
-joins_is : (l : Link) (b c : ℕ) → l.first ≡ b → l.second ≡ c → joins l b c ≡ true
+joins_is : (l : Link) (b c : ℕ) → l.first ≡ b → l.second ≡ c → is_link_of l b c ≡ true
 joins_is l b c at_b at_c = rw (eq-eqb b l.first (sym at_b)) (eq-eqb c l.second (sym at_c))
 
 -- the blocks of a link, in either order, or not
@@ -83,12 +83,12 @@ link_off l links b c off_there off_back = rw (joins_not l b c off_there, joins_n
 -- ---- all links
 
 -- what was put is what was taken, followed by what is left
-pub splits : (blocks : ℕ) (links : List Link) → AreLinks blocks links → All IsSeen links → (b c : ℕ)
+pub splits : (blocks : ℕ) (links : List Link) → AreLinks blocks links → All IsLinkSeen links → (b c : ℕ)
     → (traffic_of (link_in links b c)).sent ≡ (traffic_of (link_in links c b)).taken ++ left_in links b c
 splits blocks [] are seen b c = refl
 splits blocks (l ∷ links) are seen b c =
     let all = l ∷ links in
-    let one : IsSeen l = seen zero l (omega arith) in
+    let one : IsLinkSeen l = seen zero l (omega arith) in
     let fits : (s t : Option Traffic) (left : List Message) → link_in all b c ≡ s → link_in all c b ≡ t → (traffic_of s).sent ≡ (traffic_of t).taken ++ left
     → (traffic_of (link_in all b c)).sent ≡ (traffic_of (link_in all c b)).taken ++ left_in all b c =
     λ s t left is_s is_t e. rw (is_s, is_t) (e ∙ ap (λ (x : List Message). (traffic_of t).taken ++ x) (sym (rest_is (traffic_of s).sent (traffic_of t).taken left e))) in
@@ -129,7 +129,7 @@ ways_square n links = record {
 abbrev pub AnyLeft : RingsView → Type 0
 AnyLeft v = (left : List (List (List Message))) × AreLeft v.blocks (sent_in v) (taken_in v) left
 
-pub left_ways : (v : RingsView) → AreLinks v.blocks v.links → All IsSeen v.links → AnyLeft v
+pub left_ways : (v : RingsView) → AreLinks v.blocks v.links → All IsLinkSeen v.links → AnyLeft v
 left_ways v are seen = (
   ways_of v.blocks v.links,
   record {
@@ -146,11 +146,11 @@ left_ways v are seen = (
 abbrev Fits : Option Traffic → Option Traffic → Type 0
 Fits there back = length (traffic_of there).sent ≤ length (traffic_of back).taken + (traffic_of there).room
 
-within : (blocks : ℕ) (links : List Link) → AreLinks blocks links → All IsSeen links → (b c : ℕ) → Fits (link_in links b c) (link_in links c b)
+within : (blocks : ℕ) (links : List Link) → AreLinks blocks links → All IsLinkSeen links → (b c : ℕ) → Fits (link_in links b c) (link_in links c b)
 within blocks [] are seen b c = omega arith
 within blocks (l ∷ links) are seen b c =
     let all = l ∷ links in
-    let one : IsSeen l = seen zero l (omega arith) in
+    let one : IsLinkSeen l = seen zero l (omega arith) in
     let fits : (s t : Option Traffic) → link_in all b c ≡ s → link_in all c b ≡ t → Fits s t → Fits (link_in all b c) (link_in all c b) = λ s t is_s is_t e. rw (is_s, is_t) e in
     link_cases _ l b c (λ at_b at_c. fits (Some l.of_first) (Some l.of_second) (link_there l links b c at_b at_c) (link_back l links c b are.0 at_b at_c) one.few_down)
     (λ at_c at_b. fits (Some l.of_second) (Some l.of_first) (link_back l links b c are.0 at_c at_b) (link_there l links c b at_c at_b) one.few_up)
@@ -158,7 +158,7 @@ within blocks (l ∷ links) are seen b c =
     fits (link_in links b c) (link_in links c b) (link_off l links b c off_there off_back) (link_off l links c b off_back off_there)
     (within blocks links are.3 (λ k d low. seen (suc k) d (omega (arith, low))) b c))
 
-pub all_within : (v : RingsView) → AreLinks v.blocks v.links → All IsSeen v.links → AreWithin v
+pub all_within : (v : RingsView) → AreLinks v.blocks v.links → All IsLinkSeen v.links → AreWithinRoom v
 all_within v are seen b c = within v.blocks v.links are seen b c
 
 pub letters_few : (put taken waiting : List Letter) (n : ℕ) → put ≡ taken ++ waiting → length waiting ≤ n → length (messages put) ≤ length (messages taken) + n
@@ -168,7 +168,7 @@ letters_few put taken waiting n is few =
     let both = ap (λ (ls : List Letter). length ls) is ∙ length-append taken waiting in
     omega (arith, all, some, both, few)
 
-pub room_for_left : (v : RingsView) (left : List (List (List Message))) → AreWithin v → AreLeft v.blocks (sent_in v) (taken_in v) left → HaveRoomFor v.blocks (room_in v) left
+pub room_for_left : (v : RingsView) (left : List (List (List Message))) → AreWithinRoom v → AreLeft v.blocks (sent_in v) (taken_in v) left → HaveRoomFor v.blocks (ring_room v) left
 room_for_left v left few has b c low_b low_c = elim (cases_eq b c) [
   | inl same ↦ omega (arith, ap (λ (ms : List Message). length ms) (ap (λ k. way_at left b k) (sym same) ∙ has.none b low_b))
   | inr off ↦

@@ -7,7 +7,7 @@ use Rattle.block_events.specs.Soundness.{IsSquare}
 use Rattle.block_events.proofs.Ways.{way_same, way_other, square_put}
 use Rattle.block_turns.specs.declared.letter.Letter.{Letter}
 use Rattle.block_workers.specs.Seeing.{messages}
-use Rattle.rounds.specs.Left.{AreKept, rest_of}
+use Rattle.rounds.specs.Left.{AreKeptByWays, rest_of}
 use Rattle.rounds.proofs.Leaving.{rest_is}
 
 put_put : (first : List (List (List Message))) (b c : ℕ) (way new : List Message) → b < length first → put_way (put_way first b c way) b c new ≡ put_way first b c new
@@ -43,8 +43,8 @@ module _ (first old new : List (List (List Message))) (b c : ℕ) (m : Message) 
   pub long_more : length (way_at new b c) ≡ length (way_at old b c) + 1
   long_more = ap length way_more ∙ length_push (way_at old b c) m
 
-pub kept_tail : (l : Letter) (w w' : List Letter) → w ≡ l ∷ w' → AreKept (messages w) → AreKept (messages w')
-kept_tail l w w' front kept k d low = (subst (λ (x : List Letter). AreKept (messages x)) front kept) (suc k) d (omega (arith, low))
+pub kept_tail : (l : Letter) (w w' : List Letter) → w ≡ l ∷ w' → AreKeptByWays (messages w) → AreKeptByWays (messages w')
+kept_tail l w w' front kept k d low = (subst (λ (x : List Letter). AreKeptByWays (messages x)) front kept) (suc k) d (omega (arith, low))
 
 -- all messages left the ring
 pub moved_all : (first new : List (List (List Message))) (b c : ℕ) (rest all sent taken : List Letter) → new ≡ put_way first b c (way_at new b c)

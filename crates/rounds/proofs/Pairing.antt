@@ -3,13 +3,13 @@ use Rattle.std.proofs.Common.{◌≡◌, ℕ, ◌+◌, ◌*◌, ◌<◌, ◌≤�
 use Rattle.std.proofs.lemmas.Bool.{cases_eq, eq-eqb, ne_eqb}
 use Rattle.std.proofs.lemmas.List.{get_or_past}
 use Rattle.block_workers.specs.declared.port.Port.{Port}
-use Rattle.block_workers.specs.Ports.{other, put, taken as took, capacity as ring_of}
+use Rattle.block_workers.specs.Ports.{other, letters_put, letters_taken, capacity as ring_of}
 use Rattle.block_workers.specs.Seeing.{read_at, messages}
 use Rattle.rounds.specs.Joined.{port_to, IsPaired}
 use Rattle.rounds.specs.declared.pair.Pair.{Pair}
-use Rattle.rounds.specs.Mated.{AreMated, ports_in, sent, taken, room_to}
-use Rattle.rounds.specs.Links.{Traffic, Link, traffic, traffic_of, link, links_of, link_in, joins, AreLinks}
-use Rattle.rounds.specs.Pairing.{option_traffic, IsReady, IsTakenOut, ArePaired}
+use Rattle.rounds.specs.Mated.{AreMated, ports_in, messages_sent, messages_taken, room_to}
+use Rattle.rounds.specs.Links.{Traffic, Link, traffic, traffic_of, link, links_of, link_in, is_link_of, AreLinks}
+use Rattle.rounds.specs.Pairing.{option_traffic, IsReadyToPair, IsTakenOut, ArePaired}
 use Rattle.rounds.proofs.Leaving.{link_cases, link_there, link_back, link_off}
 
 nothing : {X : Type 0} (t : X) → Some t ≡ None → ⊥
@@ -34,12 +34,12 @@ cond_none false false f g r new z h e = h e
 push_some : (links : List Link) (l : Link) (b c : ℕ) (t : Traffic) → link_in links b c ≡ Some t → link_in (links ++ l ∷ []) b c ≡ Some t
 push_some [] l b c t is = absurd (nothing t (sym is))
 push_some (x ∷ links) l b c t is =
-    cond_some (joins x b c) (joins x c b) (Some x.of_first) (Some x.of_second) (link_in links b c) (link_in (links ++ l ∷ []) b c) t (push_some links l b c t) is
+    cond_some (is_link_of x b c) (is_link_of x c b) (Some x.of_first) (Some x.of_second) (link_in links b c) (link_in (links ++ l ∷ []) b c) t (push_some links l b c t) is
 
 push_none : (links : List Link) (l : Link) (b c : ℕ) → link_in links b c ≡ None → link_in (links ++ l ∷ []) b c ≡ link_in (l ∷ []) b c
 push_none [] l b c is = refl
 push_none (x ∷ links) l b c is =
-    cond_none (joins x b c) (joins x c b) x.of_first x.of_second (link_in links b c) (link_in (links ++ l ∷ []) b c) (link_in (l ∷ []) b c) (push_none links l b c) is
+    cond_none (is_link_of x b c) (is_link_of x c b) x.of_first x.of_second (link_in links b c) (link_in (links ++ l ∷ []) b c) (link_in (l ∷ []) b c) (push_none links l b c) is
 
 links_push : (n : ℕ) (links : List Link) (l : Link) → AreLinks n links → l.second < l.first → l.first < n → link_in links l.first l.second ≡ None → AreLinks n (links ++ l ∷ [])
 links_push n [] l are order low none = (order, low, refl, tt)
@@ -103,7 +103,7 @@ module _ (n b : ℕ) (old new : List (List Port)) (p : Pair) (out : IsTakenOut n
     none = λ x. none_left x x (was.none x);
   }
 
-  pub ready_left : (top count capacity : ℕ) → IsReady n top old count capacity → IsReady n top new (count + 1) capacity
+  pub ready_left : (top count capacity : ℕ) → IsReadyToPair n top old count capacity → IsReadyToPair n top new (count + 1) capacity
   ready_left top count capacity was = record {
     mated = mated_left was.mated;
     low = λ x y high. none_left x y (was.low x y high);
@@ -147,7 +147,7 @@ module _ (n b : ℕ) (old new : List (List Port)) (p : Pair) (out : IsTakenOut n
 -- ---- the next block, the beginning and the end
 
 -- where a block has no port any more, none leads to it
-pub ready_next : (n b : ℕ) (lists : List (List Port)) (count capacity : ℕ) → get_or lists b [] ≡ [] → IsReady n (b + 1) lists count capacity → IsReady n b lists count capacity
+pub ready_next : (n b : ℕ) (lists : List (List Port)) (count capacity : ℕ) → get_or lists b [] ≡ [] → IsReadyToPair n (b + 1) lists count capacity → IsReadyToPair n b lists count capacity
 ready_next n b lists count capacity empty was = record {
   mated = was.mated;
   low = λ x y high. elim (cases_eq y b) [
@@ -172,7 +172,7 @@ paired_none n lists = record {
 pub paired_first : (n : ℕ) (lists : List (List Port)) (pairs : List Pair) → pairs ≡ [] → ArePaired n lists lists (links_of pairs)
 paired_first n lists pairs none = subst (λ (ps : List Pair). ArePaired n lists lists (links_of ps)) (sym none) (paired_none n lists)
 
-pub ready_first : (n capacity : ℕ) (lists : List (List Port)) → AreMated n lists → ports_in lists ≤ 2 * capacity → IsReady n n lists 0 capacity
+pub ready_first : (n capacity : ℕ) (lists : List (List Port)) → AreMated n lists → ports_in lists ≤ 2 * capacity → IsReadyToPair n n lists 0 capacity
 ready_first n capacity lists mated room = record {
   mated = mated;
   low = λ x y high.
@@ -184,14 +184,14 @@ ready_first n capacity lists mated room = record {
   room = omega (arith, room);
 }
 
-row_sent : (ports : List Port) (c : ℕ) → (traffic_of (option_traffic (read_at None (λ (r : Port). Some r) ports c))).sent ≡ read_at [] (λ (r : Port). messages (put r)) ports c
+row_sent : (ports : List Port) (c : ℕ) → (traffic_of (option_traffic (read_at None (λ (r : Port). Some r) ports c))).sent ≡ read_at [] (λ (r : Port). messages (letters_put r)) ports c
 row_sent [] c = refl
 row_sent (p ∷ ports) c = elim (cases_eq c (other p)) [
   | inl same ↦ rw (eq-eqb c (other p) same) refl
   | inr off ↦ rw (ne_eqb c (other p) off) (row_sent ports c)
 ]
 
-row_taken : (ports : List Port) (c : ℕ) → (traffic_of (option_traffic (read_at None (λ (r : Port). Some r) ports c))).taken ≡ read_at [] (λ (r : Port). messages (took r)) ports c
+row_taken : (ports : List Port) (c : ℕ) → (traffic_of (option_traffic (read_at None (λ (r : Port). Some r) ports c))).taken ≡ read_at [] (λ (r : Port). messages (letters_taken r)) ports c
 row_taken [] c = refl
 row_taken (p ∷ ports) c = elim (cases_eq c (other p)) [
   | inl same ↦ rw (eq-eqb c (other p) same) refl
@@ -206,7 +206,7 @@ row_room (p ∷ ports) c = elim (cases_eq c (other p)) [
 ]
 
 -- where no port is left, each went into a pair
-all_paired : (n : ℕ) (first lists : List (List Port)) (links : List Link) (count capacity : ℕ) → IsReady n 0 lists count capacity → ArePaired n first lists links
+all_paired : (n : ℕ) (first lists : List (List Port)) (links : List Link) (count capacity : ℕ) → IsReadyToPair n 0 lists count capacity → ArePaired n first lists links
     → (b c : ℕ) → traffic_of (link_in links b c) ≡ traffic_of (option_traffic (port_to first b c))
 all_paired n first lists links count capacity ready pairs b c =
     option_case (traffic_of (link_in links b c) ≡ traffic_of (option_traffic (port_to first b c))) (link_in links b c)
@@ -215,17 +215,17 @@ all_paired n first lists links count capacity ready pairs b c =
     ap traffic_of none ∙ ap (λ (o : Option Port). traffic_of (option_traffic o)) (sym no_port))
     (λ t e. ap traffic_of (e ∙ sym (pairs.taken b c t e).0))
 
-pub all_sent : (n : ℕ) (first lists : List (List Port)) (links : List Link) (count capacity : ℕ) → IsReady n 0 lists count capacity → ArePaired n first lists links
-    → (b c : ℕ) → (traffic_of (link_in links b c)).sent ≡ sent first b c
+pub all_sent : (n : ℕ) (first lists : List (List Port)) (links : List Link) (count capacity : ℕ) → IsReadyToPair n 0 lists count capacity → ArePaired n first lists links
+    → (b c : ℕ) → (traffic_of (link_in links b c)).sent ≡ messages_sent first b c
 all_sent n first lists links count capacity ready pairs b c =
     ap (λ (t : Traffic). t.sent) (all_paired n first lists links count capacity ready pairs b c) ∙ row_sent (get_or first b []) c
 
-pub all_taken : (n : ℕ) (first lists : List (List Port)) (links : List Link) (count capacity : ℕ) → IsReady n 0 lists count capacity → ArePaired n first lists links
-    → (b c : ℕ) → (traffic_of (link_in links b c)).taken ≡ taken first b c
+pub all_taken : (n : ℕ) (first lists : List (List Port)) (links : List Link) (count capacity : ℕ) → IsReadyToPair n 0 lists count capacity → ArePaired n first lists links
+    → (b c : ℕ) → (traffic_of (link_in links b c)).taken ≡ messages_taken first b c
 all_taken n first lists links count capacity ready pairs b c =
     ap (λ (t : Traffic). t.taken) (all_paired n first lists links count capacity ready pairs b c) ∙ row_taken (get_or first b []) c
 
-pub all_room : (n : ℕ) (first lists : List (List Port)) (links : List Link) (count capacity : ℕ) → IsReady n 0 lists count capacity → ArePaired n first lists links
+pub all_room : (n : ℕ) (first lists : List (List Port)) (links : List Link) (count capacity : ℕ) → IsReadyToPair n 0 lists count capacity → ArePaired n first lists links
     → (b c : ℕ) → (traffic_of (link_in links b c)).room ≡ room_to first b c
 all_room n first lists links count capacity ready pairs b c =
     ap (λ (t : Traffic). t.room) (all_paired n first lists links count capacity ready pairs b c) ∙ row_room (get_or first b []) c

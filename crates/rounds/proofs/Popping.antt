@@ -7,11 +7,11 @@ use Rattle.block_workers.specs.Ports.{other, LeadsTo}
 use Rattle.block_workers.specs.Seeing.{read_at}
 use Rattle.rounds.specs.Joined.{port_to}
 use Rattle.rounds.specs.declared.pair.Pair.{Pair}
-use Rattle.rounds.specs.Pairing.{IsReady, IsTakenOut}
+use Rattle.rounds.specs.Pairing.{IsReadyToPair, IsTakenOut}
 use Rattle.rounds.proofs.Taking.{IsLast, last_port, has_some, last_mate, taken_out}
 
 module _ {R : Type 0} (items : R → List Port) (rows : List R) (n b c count capacity : ℕ) (row row' other_row : R) (one : Option Port) (first : Port)
-    (ready : IsReady n (b + 1) (map items rows) count capacity) (low : b < length rows) (long : length rows ≡ n)
+    (ready : IsReadyToPair n (b + 1) (map items rows) count capacity) (low : b < length rows) (long : length rows ≡ n)
     (at : row ≡ get_or rows b row) (popped : items row ≡ items row' ++ option_to_list one) (some : one ≡ Some first) (to : c ≡ other first) where
   abbrev pub lists : List (List Port)
   lists = map items rows

@@ -8,10 +8,10 @@ use Rattle.block_net.specs.Whole.{Whole, with_blocks}
 use Rattle.block_events.specs.Effects.{state_of}
 use Rattle.laid_blocks.specs.Views.{IsLaid, blocks_in}
 use Rattle.block_core.specs.Mails.{IsHeld}
-use Rattle.block_cut.specs.Rounds.{Ways, AreBack, IsRound, quiet_state, state_after}
+use Rattle.block_cut.specs.Rounds.{Ways, AreBack, IsRoundOfTurns, quiet_state, state_after}
 use Rattle.block_cut.proofs.Quiet.{quiet_is_start, round_is_held}
 use Rattle.block_cut.proofs.Rounds.{seats_make_round}
-use Rattle.rounds.specs.Links.{RingsView, sent_in, taken_in, room_in}
+use Rattle.rounds.specs.Links.{RingsView, sent_in, taken_in, ring_room}
 use Rattle.rounds.specs.Left.{AreLeft, AreFitting, HaveRoomFor}
 use Rattle.rounds.specs.Together.{AreBackAfter, HaveRun}
 use Rattle.rounds.specs.Short.{IsShortRound, HasFewOnTheWay}
@@ -37,7 +37,7 @@ module _ (turns : ℕ) (w : Whole) (got : ℕ) (ways : Ways) (rooms : List (List
   abbrev back : (left : Ways) → AreLeft rings.blocks (sent_in rings) (taken_in rings) left → AreBack w got new left
   back left is = (after left is).back
 
-  rounded : (left : Ways) (is : AreLeft rings.blocks (sent_in rings) (taken_in rings) left) → IsRound w got new left (back left is).steps
+  rounded : (left : Ways) (is : AreLeft rings.blocks (sent_in rings) (taken_in rings) left) → IsRoundOfTurns w got new left (back left is).steps
   rounded left is = seats_make_round w got new left laid (subst IsSound start held.sound) (back left is)
 
   pub fits : (left : Ways) → AreLeft rings.blocks (sent_in rings) (taken_in rings) left → AreFitting rings.blocks rooms left
@@ -67,7 +67,7 @@ module _ (turns : ℕ) (w : Whole) (got : ℕ) (ways : Ways) (rooms : List (List
 
   -- no more is on the way than the rings had room for
   pub few_after : (ring : ℕ) (left : Ways) (t : State) → AreLeft rings.blocks (sent_in rings) (taken_in rings) left → t ≡ state_after w new left
-      → ((b c : ℕ) → room_in rings b c ≤ ring) → HaveRoomFor rings.blocks (room_in rings) left → HasFewOnTheWay ring t
+      → ((b c : ℕ) → ring_room rings b c ≤ ring) → HaveRoomFor rings.blocks (ring_room rings) left → HasFewOnTheWay ring t
   few_after ring left t is same low few b c lb lc =
       let many = (round_after left t is same).round.joined.blocks in
       let here = few b c (omega (arith, lb, many, run.blocks)) (omega (arith, lc, many, run.blocks)) in

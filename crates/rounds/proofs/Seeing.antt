@@ -3,7 +3,7 @@ use Rattle.std.proofs.Common.{◌≡◌, ℕ, ◌+◌, ◌<◌, List, length, ma
 use Rattle.std.proofs.lemmas.Bool.{cases_eq}
 use Rattle.std.proofs.lemmas.List.{map-set, set-get_or, get_or-map}
 use Rattle.rounds.specs.declared.pair.Pair.{Pair}
-use Rattle.rounds.specs.Links.{Link, link, IsSeen}
+use Rattle.rounds.specs.Links.{Link, link, IsLinkSeen}
 
 -- p is the pair at the place, and q what it became
 pub links_kept : (pairs : List Pair) (k : ℕ) (p q : Pair) → k < length pairs → p ≡ get_or pairs k p → link q ≡ link p
@@ -14,14 +14,14 @@ links_kept pairs k p q low is same =
     map-set (λ (x : Pair). link x) pairs k q
     ∙ (ap (λ (l : Link). set (map (λ (x : Pair). link x) pairs) k l) at ∙ set-get_or (map (λ (x : Pair). link x) pairs) k (link p))
 
-pub seen_more : (first : List Link) (pairs : List Pair) (k : ℕ) (p : Pair) → map (λ x. link x) pairs ≡ first → k < length pairs → p ≡ get_or pairs k p → IsSeen (link p)
-    → ((i : ℕ) (d : Link) → i < k → IsSeen (get_or first i d)) → (i : ℕ) (d : Link) → i < k + 1 → IsSeen (get_or first i d)
+pub seen_more : (first : List Link) (pairs : List Pair) (k : ℕ) (p : Pair) → map (λ x. link x) pairs ≡ first → k < length pairs → p ≡ get_or pairs k p → IsLinkSeen (link p)
+    → ((i : ℕ) (d : Link) → i < k → IsLinkSeen (get_or first i d)) → (i : ℕ) (d : Link) → i < k + 1 → IsLinkSeen (get_or first i d)
 seen_more first pairs k p same low is seen before i d below = elim (cases_eq i k) [
   | inl here ↦
       let at : get_or first i d ≡ link p =
       ap (λ (j : ℕ). get_or first j d) here
       ∙ (ap (λ (ls : List Link). get_or ls k d) (sym same)
       ∙ (get_or-map (λ (x : Pair). link x) pairs k p d low ∙ sym (ap (λ (x : Pair). link x) is))) in
-      subst IsSeen (sym at) seen
+      subst IsLinkSeen (sym at) seen
   | inr off ↦ before i d (omega (arith, below, off))
 ]

@@ -11,7 +11,7 @@ use Rattle.rounds.specs.Joined.{port_to, IsPaired}
 use Rattle.rounds.proofs.Pushing.{read_push}
 use Rattle.rounds.specs.declared.pair.Pair.{Pair}
 use Rattle.rounds.specs.Mated.{AreMated, ports_in}
-use Rattle.rounds.specs.Pairing.{IsReady, IsTakenOut}
+use Rattle.rounds.specs.Pairing.{IsReadyToPair, IsTakenOut}
 
 nothing : {X : Type 0} (t : X) → Some t ≡ None → ⊥
 nothing t e = cc
@@ -79,7 +79,7 @@ pub record IsLast (b : ℕ) (lists : List (List Port)) (p : Port) : Type 0 where
   pub there : port_to lists b (other p) ≡ Some p
   pub mate : IsPaired p (port_to lists (other p) b)
 
-pub last_port : (n b count capacity : ℕ) (lists : List (List Port)) (ports : List Port) (p : Port) → IsReady n (b + 1) lists count capacity → get_or lists b [] ≡ ports ++ p ∷ [] → IsLast b lists p
+pub last_port : (n b count capacity : ℕ) (lists : List (List Port)) (ports : List Port) (p : Port) → IsReadyToPair n (b + 1) lists count capacity → get_or lists b [] ≡ ports ++ p ∷ [] → IsLast b lists p
 last_port n b count capacity lists ports p ready at =
     let rising : AreRising n (ports ++ p ∷ []) = subst (AreRising n) at (ready.mated.rising b) in
     let there : port_to lists b (other p) ≡ Some p =
@@ -97,7 +97,7 @@ has_some [] y q is = absurd (nothing q (sym is))
 has_some (p ∷ ports) y q is = omega arith
 
 -- its last port is the one that leads back
-pub last_mate : (n b c count capacity : ℕ) (lists : List (List Port)) (ports : List Port) (q mate : Port) → IsReady n (b + 1) lists count capacity → get_or lists c [] ≡ ports ++ q ∷ []
+pub last_mate : (n b c count capacity : ℕ) (lists : List (List Port)) (ports : List Port) (q mate : Port) → IsReadyToPair n (b + 1) lists count capacity → get_or lists c [] ≡ ports ++ q ∷ []
     → port_to lists c b ≡ Some mate → (q ≡ mate) × (other q ≡ b)
 last_mate n b c count capacity lists ports q mate ready at back =
     let rising : AreRising n (ports ++ q ∷ []) = subst (AreRising n) at (ready.mated.rising c) in

@@ -21,14 +21,14 @@ abbrev pub rest_of : List Message → List Message → List Message
 rest_of sent taken = drop (length taken) sent
 
 -- messages that ways keep
-abbrev pub AreKept : List Message → Type 0
-AreKept messages = All (λ m. (direction_of m).arc < 2 ^ 32) messages
+abbrev pub AreKeptByWays : List Message → Type 0
+AreKeptByWays messages = All (λ m. (direction_of m).arc < 2 ^ 32) messages
 
 -- each way between two blocks has room for what is left there, and keeps each of these messages
 pub record AreFitting (blocks : ℕ) (rooms : List (List ℕ)) (left : List (List (List Message))) : Type 0 where
   pub room : (b c : ℕ) → b < blocks → c < blocks → b ≢ c → length (way_at left b c) ≤ room_at rooms b c
-  pub arcs : (b c : ℕ) → b < blocks → c < blocks → b ≢ c → AreKept (way_at left b c)
+  pub arcs : (b c : ℕ) → b < blocks → c < blocks → b ≢ c → AreKeptByWays (way_at left b c)
 
 -- no message is on the way between so many blocks
-abbrev pub AreEmpty : ℕ → List (List (List Message)) → Type 0
-AreEmpty blocks ways = (b c : ℕ) → b < blocks → c < blocks → way_at ways b c ≡ []
+abbrev pub AreWaysEmpty : ℕ → List (List (List Message)) → Type 0
+AreWaysEmpty blocks ways = (b c : ℕ) → b < blocks → c < blocks → way_at ways b c ≡ []

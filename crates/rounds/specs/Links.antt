@@ -3,7 +3,7 @@ use Rattle.std.specs.Prelude.{◌≡◌, ℕ, ◌+◌, ◌<◌, ◌≤◌, ◌==
 use Rattle.std.specs.Prelude.{Option, Some, None}
 use Rattle.block_events.specs.declared.message.Message.{Message}
 use Rattle.block_workers.specs.declared.port.Port.{Port}
-use Rattle.block_workers.specs.Ports.{other, put, taken, capacity}
+use Rattle.block_workers.specs.Ports.{other, letters_put, letters_taken, capacity}
 use Rattle.block_workers.specs.Seeing.{messages}
 use Rattle.rounds.specs.Left.{rest_of}
 use Rattle.rounds.specs.declared.pair.Pair.{Pair}
@@ -15,7 +15,11 @@ pub record Traffic : Type 0 where
   pub room : ℕ
 
 abbrev pub traffic : Port → Traffic
-traffic p = record { sent = messages (put p); taken = messages (taken p); room = capacity p }
+traffic p = record {
+  sent = messages (letters_put p);
+  taken = messages (letters_taken p);
+  room = capacity p;
+}
 
 -- what went through a port; nothing where there is none
 abbrev pub traffic_of : Option Traffic → Traffic
@@ -41,14 +45,15 @@ link p = record {
 abbrev pub links_of : List Pair → List Link
 links_of pairs = map (λ (p : Pair). link p) pairs
 
-abbrev pub joins : Link → ℕ → ℕ → Bool
-joins l b c = (b == l.first) && (c == l.second)
+abbrev pub is_link_of : Link → ℕ → ℕ → Bool
+is_link_of l b c = (b == l.first) && (c == l.second)
 
 -- what went through the port of block b to block c, where there is one
 abbrev pub link_in : List Link → ℕ → ℕ → Option Traffic
 link_in [] b c = None
 link_in (l ∷ links) b c =
-    cond (joins l b c) (Some l.of_first) (cond (joins l c b) (Some l.of_second) (link_in links b c))
+    cond (is_link_of l b c) (Some l.of_first)
+    (cond (is_link_of l c b) (Some l.of_second) (link_in links b c))
 
 -- each link is of two blocks below `blocks`, the higher number first, and no two are of the same blocks
 abbrev pub AreLinks : ℕ → List Link → Type 0
@@ -65,7 +70,7 @@ abbrev pub up : Link → List Message
 up l = rest_of l.of_second.sent l.of_first.taken
 
 -- in the rings of a link, what was put is what was taken, followed by what is left, for which there is room
-pub record IsSeen (l : Link) : Type 0 where
+pub record IsLinkSeen (l : Link) : Type 0 where
   pub down : l.of_first.sent ≡ l.of_second.taken ++ down l
   pub up : l.of_second.sent ≡ l.of_first.taken ++ up l
   pub few_down : length l.of_first.sent ≤ length l.of_second.taken + l.of_first.room
@@ -89,9 +94,9 @@ abbrev pub taken_in : RingsView → ℕ → ℕ → List Message
 taken_in rings b c = (traffic_of (link_in rings.links b c)).taken
 
 -- how many messages the ring from block b to block c has room for
-abbrev pub room_in : RingsView → ℕ → ℕ → ℕ
-room_in rings b c = (traffic_of (link_in rings.links b c)).room
+abbrev pub ring_room : RingsView → ℕ → ℕ → ℕ
+ring_room rings b c = (traffic_of (link_in rings.links b c)).room
 
 -- no ring has more than it has room for
-abbrev pub AreWithin : RingsView → Type 0
-AreWithin rings = (b c : ℕ) → length (sent_in rings b c) ≤ length (taken_in rings c b) + room_in rings b c
+abbrev pub AreWithinRoom : RingsView → Type 0
+AreWithinRoom rings = (b c : ℕ) → length (sent_in rings b c) ≤ length (taken_in rings c b) + ring_room rings b c

@@ -3,16 +3,16 @@ use Rattle.std.specs.Prelude.{◌≡◌, ℕ, List, [], length, slice_index_or, 
 use Rattle.block_events.specs.declared.message.Message.{Message}
 use Rattle.block_workers.specs.declared.port.Port.{Port}
 use Rattle.block_workers.specs.Ports.{capacity}
-use Rattle.block_workers.specs.Seeing.{seen, read_at, AreRising}
+use Rattle.block_workers.specs.Seeing.{ways_of_ports, read_at, AreRising}
 use Rattle.rounds.specs.Joined.{port_to, IsPaired}
 
 -- what block b put for block c so far
-abbrev pub sent : List (List Port) → ℕ → ℕ → List Message
-sent lists b c = (seen (slice_index_or lists b [])).sent c
+abbrev pub messages_sent : List (List Port) → ℕ → ℕ → List Message
+messages_sent lists b c = (ways_of_ports (slice_index_or lists b [])).sent c
 
 -- what block b took from block c so far
-abbrev pub taken : List (List Port) → ℕ → ℕ → List Message
-taken lists b c = (seen (slice_index_or lists b [])).taken c
+abbrev pub messages_taken : List (List Port) → ℕ → ℕ → List Message
+messages_taken lists b c = (ways_of_ports (slice_index_or lists b [])).taken c
 
 -- how many letters the ring from block b to block c has room for
 abbrev pub room_to : List (List Port) → ℕ → ℕ → ℕ

@@ -15,7 +15,8 @@ option_traffic None = None
 option_traffic (Some p) = Some (traffic p)
 
 -- no port leads to a block from `top` on, and there is room for all pairs
-pub record IsReady (blocks top : ℕ) (lists : List (List Port)) (count capacity : ℕ) : Type 0 where
+pub record IsReadyToPair (blocks top : ℕ) (lists : List (List Port))
+    (count capacity : ℕ) : Type 0 where
   pub mated : AreMated blocks lists
   pub low : (b c : ℕ) → top ≤ c → port_to lists b c ≡ None
   pub room : ports_in lists + 2 * count ≤ 2 * capacity

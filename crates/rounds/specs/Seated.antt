@@ -13,21 +13,21 @@ abbrev pub blocks_of : List Seat → List CellsView
 blocks_of seats = map (λ seat. seat.block) seats
 
 -- their ends of the rings to one another
-abbrev pub ends_of : List Seat → List Ends
-ends_of seats = map (λ seat. seat.ends) seats
+abbrev pub ends_of_seats : List Seat → List Ends
+ends_of_seats seats = map (λ seat. seat.ends) seats
 
 -- and of each the ports
 abbrev pub ports_of : List Ends → List (List Port)
 ports_of ends = map (λ end. ports end) ends
 
 -- no block has more nodes than a net
-abbrev pub AreSmall : List CellsView → Type 0
-AreSmall blocks = All (λ B. count B ≤ node_limit) blocks
+abbrev pub AreBlocksSmall : List CellsView → Type 0
+AreBlocksSmall blocks = All (λ B. count B ≤ node_limit) blocks
 
 -- blocks before their first turn, with these ends, numbered in their order
 pub record AreSeated (blocks : List CellsView) (ends : List Ends) (seats : List Seat) : Type 0 where
   pub hold : blocks_of seats ≡ blocks
-  pub have : ends_of seats ≡ ends
+  pub have : ends_of_seats seats ≡ ends
   pub numbers : (b : ℕ) (d : Seat) → b < length seats → (slice_index_or seats b d).number ≡ b
   pub nodes : (b : ℕ) (d : Seat) → b < length seats
       → (slice_index_or seats b d).nodes ≡ count (slice_index_or seats b d).block

@@ -1,13 +1,13 @@
 -- How many events a round has, and how many messages it leaves.
 use Rattle.std.specs.Prelude.{ℕ, ◌+◌, ◌*◌, ◌<◌, ◌≤◌, ◌==◌, length, sum_by}
-use Rattle.sums.specs.Sums.{sum_below, counted}
+use Rattle.sums.specs.Sums.{sum_below, count_if}
 use Rattle.flow_network.specs.Cut.{nodes}
 use Rattle.block_events.specs.States.{State, way_at}
-use Rattle.block_events.specs.Rounds.{RoundOf, home}
+use Rattle.block_events.specs.Rounds.{RoundOf, block_of_node}
 
 -- how many nodes lie in block b
 abbrev pub nodes_in : State → ℕ → ℕ
-nodes_in s b = sum_below (nodes s.net) (λ v. counted (home s v == b) 1)
+nodes_in s b = sum_below (nodes s.net) (λ v. count_if (block_of_node s v == b) 1)
 
 -- no block has more than m nodes
 abbrev pub AreBlocksOf : ℕ → State → Type 0

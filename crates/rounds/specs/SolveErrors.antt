@@ -15,7 +15,7 @@ of_parallel parallel.BadOptions = BadOptions
 
 -- the options exactly where a number is out of its range, and else memory; a worker only where a
 -- round is allowed
-abbrev pub MayRefuse : Options → SolveError → Type 0
-MayRefuse options OutOfMemory = AreInRange options
-MayRefuse options Workers = AreInRange options × (1 ≤ options.rounds)
-MayRefuse options BadOptions = ¬ AreInRange options
+abbrev pub MayFailToSolve : Options → SolveError → Type 0
+MayFailToSolve options OutOfMemory = AreInRange options
+MayFailToSolve options Workers = AreInRange options × (1 ≤ options.rounds)
+MayFailToSolve options BadOptions = ¬ AreInRange options

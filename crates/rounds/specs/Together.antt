@@ -8,13 +8,13 @@ use Rattle.block_net.specs.Whole.{Whole, block_at, whole_of}
 use Rattle.block_net.specs.declared.parts.Parts.{Parts}
 use Rattle.block_events.specs.Effects.{state_of}
 use Rattle.laid_blocks.specs.Views.{IsLaid, blocks_in}
-use Rattle.block_cut.specs.Rounds.{Ways, AreBack, lacking}
+use Rattle.block_cut.specs.Rounds.{Ways, AreBack, rooms_lack}
 use Rattle.rounds.specs.Links.{RingsView, sent_in, taken_in}
 use Rattle.rounds.specs.Left.{AreLeft}
 
 -- the state that the blocks show with the messages on the way: the sink got what the rooms lack
 abbrev pub gathered_state : Network → Parts → Ways → State
-gathered_state net parts ways = state_of (blocks_in (whole_of net parts)) ways (lacking (whole_of net parts))
+gathered_state net parts ways = state_of (blocks_in (whole_of net parts)) ways (rooms_lack (whole_of net parts))
 
 -- the blocks are back, each after turn 0 and so many turns that it drew: a turn has at most 16 events more
 -- than the block has nodes

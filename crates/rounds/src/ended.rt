@@ -23,7 +23,7 @@ impl Ended {
 
     /// The least cut that the state comes to, on one thread. The only error is that memory runs
     /// out.
-    pub(crate) fn solved(self, alloc: Global) -> Result<Solved, AllocError>
+    pub(crate) fn into_solved(self, alloc: Global) -> Result<Solved, AllocError>
         requires { IsEnded self }
         ensures certified { IfOk result (λ s. IsRightCut self.state.net s) }
         ensures smallest { IfOk result (λ s. IsSmallestLeastCut self.state.net (side_of s)) }

@@ -6,7 +6,7 @@ use std::alloc::{AllocError, Global};
 
 /// For each block below `blocks` whether a direction of this block leads there. Directions that lead to no
 /// block below `blocks` are passed over.
-fn scanned(alloc: Global, cells: &Cells, blocks: usize) -> Result<Vec<bool>, AllocError>
+fn scan_cells(alloc: Global, cells: &Cells, blocks: usize) -> Result<Vec<bool>, AllocError>
     ensures { IfOk result (λ flags. IsScanned blocks cells.now flags.items) }
 {
     let mut flags = vec![in alloc; false; blocks]?;
@@ -25,7 +25,7 @@ pub(crate) fn all_scanned(alloc: Global, cells: &[Cells]) -> Result<Vec<Vec<bool
 {
     let mut rows = Vec::with_capacity(alloc, cells.len())?;
     for b in 0..cells.len() {
-        rows.push(scanned(alloc, &cells[b], cells.len())?)?;
+        rows.push(scan_cells(alloc, &cells[b], cells.len())?)?;
     }
     Ok(rows)
 }

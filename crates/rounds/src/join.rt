@@ -54,7 +54,7 @@ fn join_row(
 }
 
 /// So many blocks with no port.
-fn unjoined(alloc: Global, blocks: usize) -> Result<Vec<Vec<Port>>, AllocError>
+fn empty_lists(alloc: Global, blocks: usize) -> Result<Vec<Vec<Port>>, AllocError>
     ensures { IfOk result (λ lists. map (λ l. l.items) lists.items ≡ replicate blocks []) }
 {
     let mut lists = Vec::with_capacity(alloc, blocks)?;
@@ -65,14 +65,18 @@ fn unjoined(alloc: Global, blocks: usize) -> Result<Vec<Vec<Port>>, AllocError>
 }
 
 /// The ports of all blocks: two rings for each two between which a direction leads.
-fn joined(alloc: Global, rows: &Vec<Vec<bool>>, ring: usize) -> Result<Vec<Vec<Port>>, AllocError>
+fn join_rows(
+    alloc: Global,
+    rows: &Vec<Vec<bool>>,
+    ring: usize,
+) -> Result<Vec<Vec<Port>>, AllocError>
     requires square { AreSquare (length rows.now.items) (map (λ row. row.items) rows.now.items) }
     requires few { length rows.now.items < 2 ^ 32 }
     ensures { IfOk result (λ lists. let blocks = length rows.now.items in
         AreBegun ring blocks blocks (blocks + 1) (map (λ row. row.items) rows.now.items)
         (map (λ l. l.items) lists.items)) }
 {
-    let mut lists = unjoined(alloc, rows.len())?;
+    let mut lists = empty_lists(alloc, rows.len())?;
     for b in 0..rows.len() as u32 {
         join_row(alloc, rows, &mut lists, b, ring)?;
     }
@@ -101,7 +105,7 @@ pub fn join_all(alloc: Global, cells: &[Cells], ring: usize) -> Result<Vec<Ends>
     ensures { IfOk result (λ ends. AreJoined ring cells.now (map (λ e. ports e) ends.items)) }
 {
     let rows = all_scanned(alloc, cells)?;
-    let lists = joined(alloc, &rows, ring)?;
+    let lists = join_rows(alloc, &rows, ring)?;
     let ends = ends_of(alloc, lists, cells.len() as u32)?;
     Ok(ends)
 }

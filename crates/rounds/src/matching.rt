@@ -2,7 +2,7 @@ ghost use Rattle.std.specs.Prelude.{◌≡◌, ◌+◌, ◌<◌, [], ◌∷◌, 
 ghost use Rattle.std.specs.Prelude.{slice_index_or, vec_len, vec_capacity};
 ghost use Rattle.rounds.specs.declared.pair.Pair.{Pair as PairFields};
 ghost use Rattle.rounds.specs.Links.{links_of};
-ghost use Rattle.rounds.specs.Pairing.{IsReady, IsTakenOut, Pairs};
+ghost use Rattle.rounds.specs.Pairing.{IsReadyToPair, IsTakenOut, Pairs};
 
 use crate::pair::Pair;
 use block_workers::Port;
@@ -10,7 +10,8 @@ use block_workers::Port;
 /// The last port of a block and the port that it leads to become a pair. Takes no memory.
 fn pair_last(lists: &mut Vec<Vec<Port>>, b: usize, pairs: &mut Vec<Pair>)
     requires block { b < length lists.old.items }
-    requires ready { IsReady (length lists.old.items) (b + 1) (map (λ l. l.items) lists.old.items)
+    requires ready { IsReadyToPair (length lists.old.items) (b + 1)
+        (map (λ l. l.items) lists.old.items)
         (length pairs.old.items) (vec_capacity pairs.old) }
     requires some { 0 < length (slice_index_or (map (λ l. l.items) lists.old.items) b []) }
     requires room { vec_len pairs.old < vec_capacity pairs.old }
@@ -28,10 +29,11 @@ fn pair_last(lists: &mut Vec<Vec<Port>>, b: usize, pairs: &mut Vec<Pair>)
 /// All ports of a block become pairs with those that they lead to. Takes no memory.
 fn pair_row(lists: &mut Vec<Vec<Port>>, b: usize, pairs: &mut Vec<Pair>)
     requires block { b < length lists.old.items }
-    requires ready { IsReady (length lists.old.items) (b + 1) (map (λ l. l.items) lists.old.items)
+    requires ready { IsReadyToPair (length lists.old.items) (b + 1)
+        (map (λ l. l.items) lists.old.items)
         (length pairs.old.items) (vec_capacity pairs.old) }
     ensures len { length lists.new.items ≡ length lists.old.items }
-    ensures ready { IsReady (length lists.old.items) b (map (λ l. l.items) lists.new.items)
+    ensures ready { IsReadyToPair (length lists.old.items) b (map (λ l. l.items) lists.new.items)
         (length pairs.new.items) (vec_capacity pairs.new) }
     ensures paired { Pairs (length lists.old.items)
         (map (λ l. l.items) lists.old.items) (links_of pairs.old.items)
@@ -45,9 +47,9 @@ fn pair_row(lists: &mut Vec<Vec<Port>>, b: usize, pairs: &mut Vec<Pair>)
 
 /// All ports become pairs with those that they lead to, from the last block down. Takes no memory.
 pub(crate) fn pair_all(lists: &mut Vec<Vec<Port>>, pairs: &mut Vec<Pair>)
-    requires { IsReady (length lists.old.items) (length lists.old.items)
+    requires { IsReadyToPair (length lists.old.items) (length lists.old.items)
         (map (λ l. l.items) lists.old.items) (length pairs.old.items) (vec_capacity pairs.old) }
-    ensures ready { IsReady (length lists.old.items) 0 (map (λ l. l.items) lists.new.items)
+    ensures ready { IsReadyToPair (length lists.old.items) 0 (map (λ l. l.items) lists.new.items)
         (length pairs.new.items) (vec_capacity pairs.new) }
     ensures paired { Pairs (length lists.old.items)
         (map (λ l. l.items) lists.old.items) (links_of pairs.old.items)

@@ -2,9 +2,9 @@ ghost use Rattle.std.specs.Prelude.{◌≡◌, ◌+◌, ◌<◌, ◌≤◌, ◌+
 ghost use Rattle.block_events.specs.States.{way_at, put_way};
 ghost use Rattle.block_events.specs.Soundness.{IsSquare};
 ghost use Rattle.block_core.specs.Mails.{room_at};
-ghost use Rattle.block_workers.specs.Ports.{IsSamePort, LeadsTo, Looks, put, taken};
+ghost use Rattle.block_workers.specs.Ports.{IsSamePort, LeadsTo, Looks, letters_put, letters_taken};
 ghost use Rattle.block_workers.specs.Seeing.{messages};
-ghost use Rattle.rounds.specs.Left.{AreKept, rest_of};
+ghost use Rattle.rounds.specs.Left.{AreKeptByWays, rest_of};
 
 use block_core::Mail;
 use block_workers::{Port, see_left};
@@ -26,14 +26,15 @@ fn move_left(from: &mut Port, to: &mut Port, ways: &mut Mail, b: usize, c: usize
     requires first { b < length ways.old.messages }
     requires second { c < length ways.old.messages }
     requires room { length (way_at ways.old.messages b c)
-        + length (rest_of (messages (put from.old)) (messages (taken to.old))) ≤ room_at ways.old.rooms b c }
-    requires arcs { AreKept (rest_of (messages (put from.old)) (messages (taken to.old))) }
+        + length (rest_of (messages (letters_put from.old)) (messages (letters_taken to.old))) ≤ room_at ways.old.rooms b c }
+    requires arcs { AreKeptByWays
+        (rest_of (messages (letters_put from.old)) (messages (letters_taken to.old))) }
     ensures messages { ways.new.messages ≡ put_way ways.old.messages b c (way_at ways.old.messages b c
-        ++ rest_of (messages (put from.old)) (messages (taken to.old))) }
+        ++ rest_of (messages (letters_put from.old)) (messages (letters_taken to.old))) }
     ensures rooms { ways.new.rooms ≡ ways.old.rooms }
     ensures from { Looks from.old from.new }
     ensures to { IsSamePort to.old to.new }
-    ensures put { put to.new ≡ put to.old }
+    ensures put { letters_put to.new ≡ letters_put to.old }
 {
     let count = see_left(from, to);
     for _ in 0..count {
@@ -42,13 +43,13 @@ fn move_left(from: &mut Port, to: &mut Port, ways: &mut Mail, b: usize, c: usize
 }
 
 impl Pair {
-    ghost use Rattle.rounds.specs.Links.{IsSeen, link};
-    ghost use Rattle.rounds.specs.Draining.{IsFitting, drained};
+    ghost use Rattle.rounds.specs.Links.{IsLinkSeen, link};
+    ghost use Rattle.rounds.specs.Draining.{IsFitting, ways_after_drain};
 
     /// Looks at what is left in both rings. Takes no memory.
     pub(crate) fn see(&mut self)
         ensures same { link self.new ≡ link self.old }
-        ensures seen { IsSeen (link self.old) }
+        ensures seen { IsLinkSeen (link self.old) }
     {
         see_left(&mut self.first, &mut self.second);
         see_left(&mut self.second, &mut self.first);
@@ -60,7 +61,7 @@ impl Pair {
         requires order { (link self).second < (link self).first }
         requires blocks { (link self).first < length ways.old.messages }
         requires room { IsFitting ways.old.rooms ways.old.messages (link self) }
-        ensures messages { ways.new.messages ≡ drained (link self) ways.old.messages }
+        ensures messages { ways.new.messages ≡ ways_after_drain (link self) ways.old.messages }
         ensures rooms { ways.new.rooms ≡ ways.old.rooms }
     {
         let mut first = self.first;

@@ -1,8 +1,8 @@
 ghost use Rattle.std.specs.Prelude.{◌≡◌, ◌≤◌, ◌*◌, ℕ, [], All, length, map, vec_len, vec_capacity};
 ghost use Rattle.block_events.specs.Soundness.{IsSquare};
-ghost use Rattle.rounds.specs.Mated.{AreMated, ports_in, room_to, sent, taken};
-ghost use Rattle.rounds.specs.Left.{AreEmpty, AreFitting, AreLeft, HaveRoomFor};
-ghost use Rattle.rounds.specs.Links.{AreLinks, AreWithin, IsSeen, links_of, room_in, sent_in, taken_in};
+ghost use Rattle.rounds.specs.Mated.{AreMated, ports_in, room_to, messages_sent, messages_taken};
+ghost use Rattle.rounds.specs.Left.{AreWaysEmpty, AreFitting, AreLeft, HaveRoomFor};
+ghost use Rattle.rounds.specs.Links.{AreLinks, AreWithinRoom, IsLinkSeen, links_of, ring_room, sent_in, taken_in};
 ghost use Rattle.rounds.specs.Draining.{AreDraining, HaveRoom};
 
 use crate::matching::pair_all;
@@ -31,7 +31,7 @@ impl Model for Rings {
 /// Looks at what is left in the rings of all pairs. Takes no memory.
 fn see_all(pairs: &mut Vec<Pair>)
     ensures same { links_of pairs.new.items ≡ links_of pairs.old.items }
-    ensures seen { All IsSeen (links_of pairs.old.items) }
+    ensures seen { All IsLinkSeen (links_of pairs.old.items) }
 {
     for k in 0..pairs.len() {
         pairs[k].see();
@@ -42,7 +42,7 @@ fn see_all(pairs: &mut Vec<Pair>)
 fn drain_all(pairs: Vec<Pair>, ways: &mut Mail)
     requires links { AreLinks (length ways.old.messages) (links_of pairs.items) }
     requires square { IsSquare (length ways.old.messages) ways.old.messages }
-    requires empty { AreEmpty (length ways.old.messages) ways.old.messages }
+    requires empty { AreWaysEmpty (length ways.old.messages) ways.old.messages }
     requires room { HaveRoom (length ways.old.messages) ways.old.rooms (links_of pairs.items) }
     ensures messages { AreDraining (length ways.old.messages) (links_of pairs.items) [] ways.new.messages }
     ensures rooms { ways.new.rooms ≡ ways.old.rooms }
@@ -63,9 +63,10 @@ impl Rings {
         requires empty { vec_len room ≡ 0 }
         requires room { ports_in (map (λ l. l.items) lists.items) ≤ 2 * vec_capacity room }
         ensures blocks { result.blocks ≡ length lists.items }
-        ensures sent { (b c : ℕ) → sent_in result b c ≡ sent (map (λ l. l.items) lists.items) b c }
-        ensures taken { (b c : ℕ) → taken_in result b c ≡ taken (map (λ l. l.items) lists.items) b c }
-        ensures room { (b c : ℕ) → room_in result b c ≡ room_to (map (λ l. l.items) lists.items) b c }
+        ensures sent { (b c : ℕ) → sent_in result b c
+            ≡ messages_sent (map (λ l. l.items) lists.items) b c }
+        ensures taken { (b c : ℕ) → taken_in result b c ≡ messages_taken (map (λ l. l.items) lists.items) b c }
+        ensures room { (b c : ℕ) → ring_room result b c ≡ room_to (map (λ l. l.items) lists.items) b c }
     {
         let blocks = lists.len();
         let mut lists = lists;
@@ -79,7 +80,7 @@ impl Rings {
     pub(crate) fn see(&mut self)
         ensures same { self.new ≡ self.old }
         ensures left { (left : _) × AreLeft self.old.blocks (sent_in self.old) (taken_in self.old) left }
-        ensures within { AreWithin self.old }
+        ensures within { AreWithinRoom self.old }
     {
         see_all(&mut self.pairs);
     }
@@ -88,11 +89,11 @@ impl Rings {
     /// than the ring had room for. Takes no memory.
     pub(crate) fn drain(mut self, ways: &mut Mail)
         requires square { IsSquare self.blocks ways.old.messages }
-        requires empty { AreEmpty self.blocks ways.old.messages }
+        requires empty { AreWaysEmpty self.blocks ways.old.messages }
         requires room { (left : _) → AreLeft self.blocks (sent_in self) (taken_in self) left
             → AreFitting self.blocks ways.old.rooms left }
         ensures left { AreLeft self.blocks (sent_in self) (taken_in self) ways.new.messages }
-        ensures few { HaveRoomFor self.blocks (room_in self) ways.new.messages }
+        ensures few { HaveRoomFor self.blocks (ring_room self) ways.new.messages }
         ensures rooms { ways.new.rooms ≡ ways.old.rooms }
     {
         self.see();

@@ -3,7 +3,7 @@ ghost use Rattle.flow_network.specs.Limits.{node_limit};
 ghost use Rattle.block_net.specs.Views.{count};
 ghost use Rattle.block_workers.specs.Ends.{ports};
 ghost use Rattle.block_workers.specs.Turns.{IsNewSeat};
-ghost use Rattle.rounds.specs.Seated.{AreSeated, AreSmall, blocks_of, ends_of, ports_of};
+ghost use Rattle.rounds.specs.Seated.{AreSeated, AreBlocksSmall, blocks_of, ends_of_seats, ports_of};
 
 use block_net::Cells;
 use block_turns::Block;
@@ -34,7 +34,7 @@ pub(crate) fn seats_of(
 ) -> Result<Vec<Seat>, AllocError>
     requires many { vec_len ends ≡ vec_len blocks }
     requires few { vec_len blocks < 2 ^ 32 }
-    requires small { AreSmall blocks.items }
+    requires small { AreBlocksSmall blocks.items }
     ensures { IfOk result (λ seats. AreSeated blocks.items ends.items seats.items) }
 {
     let count = blocks.len();
@@ -58,7 +58,7 @@ pub(crate) fn apart(seats: Vec<Seat>, blocks: &mut Vec<Cells>, lists: &mut Vec<V
     requires blocks { vec_len seats ≤ vec_capacity blocks.old }
     requires lists { vec_len seats ≤ vec_capacity lists.old }
     ensures blocks { blocks.new.items ≡ blocks_of seats.items }
-    ensures lists { map (λ l. l.items) lists.new.items ≡ ports_of (ends_of seats.items) }
+    ensures lists { map (λ l. l.items) lists.new.items ≡ ports_of (ends_of_seats seats.items) }
 {
     for seat in seats {
         let (block, ends) = seat.into_parts();

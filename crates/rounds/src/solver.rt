@@ -6,7 +6,7 @@ ghost use Rattle.block_events.specs.Events.{IsQuiet};
 ghost use Rattle.block_net.specs.Limits.{arc_limit};
 ghost use Rattle.worker_options.specs.Ranges.{AreInRange};
 ghost use Rattle.rounds.specs.Ended.{IsEnded};
-ghost use Rattle.rounds.specs.Refusals.{IsRefusal};
+ghost use Rattle.rounds.specs.Refusals.{IsParallelRefusal};
 
 use crate::ended::Ended;
 use crate::{ParallelError, run_round};
@@ -29,7 +29,7 @@ const PUSHED_NODES: usize = 16_384;
 fn check(net: &Net, options: &Options) -> Result<(), ParallelError>
     ensures accepted { OnOk result (AreInRange options.now) }
     ensures arcs { OnOk result (length net.now.arcs ≤ arc_limit) }
-    ensures refused { IfErr result (IsRefusal net.now options.now) }
+    ensures refused { IfErr result (IsParallelRefusal net.now options.now) }
 {
     match options.check() {
         Ok(()) => {}
@@ -42,7 +42,7 @@ fn check(net: &Net, options: &Options) -> Result<(), ParallelError>
 }
 
 /// The state after first pushes within its blocks, where it has many nodes. Takes no memory.
-fn pushed(state: State) -> State
+fn push_all(state: State) -> State
     requires { IsQuiet state }
     ensures net { result.net ≡ state.net }
     ensures quiet { IsQuiet result }
@@ -68,9 +68,9 @@ fn rounds<R: Threads + Wait + Sync, G: Gate>(
     requires arcs { length state.net.arcs ≤ arc_limit }
     ensures net { IfOk result (λ ended. ended.state.net ≡ state.net) }
     ensures ended { IfOk result IsEnded }
-    ensures refused { IfErr result (IsRefusal state.net options.now) }
+    ensures refused { IfErr result (IsParallelRefusal state.net options.now) }
 {
-    let mut state = pushed(state);
+    let mut state = push_all(state);
     let mut workspace = Workspace::reserve(alloc, state.net())?;
     'rounds: for _round in 0..options.rounds {
         workspace.find(&state);
@@ -119,12 +119,12 @@ pub fn solve_parallel<R: Threads + Wait + Sync, G: Gate>(
     ensures smallest { IfOk result (λ s. IsSmallestLeastCut net.now (side_of s)) }
     ensures bound { IfOk result (λ s. s.value ≤ capacity_limit) }
     ensures accepted { OnOk result (AreInRange options.now) }
-    ensures refused { IfErr result (IsRefusal net.now options.now) }
+    ensures refused { IfErr result (IsParallelRefusal net.now options.now) }
 {
     check(net, options)?;
     let state = State::open(alloc, net, options.blocks as usize)?;
     let ended = rounds(rt, alloc, state, options, gate)?;
-    Ok(ended.solved(alloc)?)
+    Ok(ended.into_solved(alloc)?)
 }
 
 /// The sink side of the smallest least cut of the net, one bit for each node: that which
@@ -140,7 +140,7 @@ pub fn side_parallel<R: Threads + Wait + Sync, G: Gate>(
     ensures bits { IfOk result (λ side. length side.items ≡ nodes net) }
     ensures smallest { IfOk result (λ side. IsSmallestLeastCut net (set_of side.items)) }
     ensures accepted { OnOk result (AreInRange options.now) }
-    ensures refused { IfErr result (IsRefusal net options.now) }
+    ensures refused { IfErr result (IsParallelRefusal net options.now) }
 {
     check(&net, options)?;
     let state = State::of_net(alloc, net, options.blocks as usize)?;

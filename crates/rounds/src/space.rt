@@ -1,8 +1,8 @@
 ghost use Rattle.std.specs.Prelude.{◌≡◌, ◌*◌, ◌≤◌, ℕ, IfOk, length, vec_capacity, vec_len};
 ghost use Rattle.block_net.specs.Limits.{block_limit};
-ghost use Rattle.rounds.specs.Mated.{AreMated, room_to, sent, taken};
-ghost use Rattle.rounds.specs.Links.{room_in, sent_in, taken_in};
-ghost use Rattle.rounds.specs.Seated.{blocks_of, ends_of, ports_of};
+ghost use Rattle.rounds.specs.Mated.{AreMated, room_to, messages_sent, messages_taken};
+ghost use Rattle.rounds.specs.Links.{ring_room, sent_in, taken_in};
+ghost use Rattle.rounds.specs.Seated.{blocks_of, ends_of_seats, ports_of};
 
 use crate::pair::Pair;
 use crate::rings::Rings;
@@ -50,14 +50,14 @@ impl Space {
 }
 
 /// The blocks of seats that came back, and the rings between them. Takes no memory.
-pub(crate) fn gathered(seats: Vec<Seat>, space: Space) -> Came
+pub(crate) fn gather_seats(seats: Vec<Seat>, space: Space) -> Came
     requires count { vec_len seats ≡ space.count }
-    requires mated { AreMated (length seats.items) (ports_of (ends_of seats.items)) }
+    requires mated { AreMated (length seats.items) (ports_of (ends_of_seats seats.items)) }
     ensures blocks { result.blocks.items ≡ blocks_of seats.items }
     ensures count { result.rings.blocks ≡ length seats.items }
-    ensures sent { (b c : ℕ) → sent_in result.rings b c ≡ sent (ports_of (ends_of seats.items)) b c }
-    ensures taken { (b c : ℕ) → taken_in result.rings b c ≡ taken (ports_of (ends_of seats.items)) b c }
-    ensures room { (b c : ℕ) → room_in result.rings b c ≡ room_to (ports_of (ends_of seats.items)) b c }
+    ensures sent { (b c : ℕ) → sent_in result.rings b c ≡ messages_sent (ports_of (ends_of_seats seats.items)) b c }
+    ensures taken { (b c : ℕ) → taken_in result.rings b c ≡ messages_taken (ports_of (ends_of_seats seats.items)) b c }
+    ensures room { (b c : ℕ) → ring_room result.rings b c ≡ room_to (ports_of (ends_of_seats seats.items)) b c }
 {
     let Space {
         count: _,

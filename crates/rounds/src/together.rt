@@ -21,6 +21,6 @@ pub(crate) fn put_together(net: Net, parts: Parts, ways: Mail) -> State
         ways,
         got: 0,
     };
-    pieces.got = pieces.given();
+    pieces.got = pieces.sink_total();
     pieces.into_state()
 }

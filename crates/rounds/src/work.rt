@@ -12,7 +12,7 @@ use worker_options::Gate;
 /// The seats are dealt to so many workers, which do their turns, and are collected again. No more turns are
 /// drawn than the book began with, of which `whole` is the share. All growths come before the first worker
 /// starts.
-pub(crate) fn worked<J: Job + Sync, R: Threads + Wait + Sync, G: Gate>(
+pub(crate) fn work_on<J: Job + Sync, R: Threads + Wait + Sync, G: Gate>(
     rt: &R,
     alloc: Global,
     seats: Vec<Seat>,

@@ -2,8 +2,8 @@ ghost use Rattle.std.specs.Prelude.{◌≡◌};
 ghost use denote.Param.Send.{IsSync};
 ghost use Rattle.flow_network.specs.Cut.{Network};
 ghost use Rattle.worker_options.specs.declared.options.Options.{Options as OptionsOf};
-ghost use Rattle.rounds.specs.Refusals.{IsRefusal};
-ghost use Rattle.rounds.specs.SolveErrors.{MayRefuse, of_parallel};
+ghost use Rattle.rounds.specs.Refusals.{IsParallelRefusal};
+ghost use Rattle.rounds.specs.SolveErrors.{MayFailToSolve, of_parallel};
 
 use crate::fork::ByThreads;
 use crate::gates::Lent;
@@ -34,8 +34,8 @@ pub struct Workers<'a, R, G> {
 /// The refusal of a cut, as a way to cut nets has it.
 fn refusal_of(error: ParallelError) -> SolveError
     ensures told { result ≡ of_parallel error }
-    ensures may { (net : Network) (options : OptionsOf) → IsRefusal net options error →
-        MayRefuse options result }
+    ensures may { (net : Network) (options : OptionsOf) → IsParallelRefusal net options error →
+        MayFailToSolve options result }
 {
     match error {
         ParallelError::OutOfMemory => SolveError::OutOfMemory,
@@ -49,7 +49,7 @@ impl<'a, R: Threads + Wait + Sync> How for Workers<'a, R, &'a (dyn Gate + Sync)>
 
     ghost ready = { λ _. IsSync R.row };
 
-    ghost refuses = { λ how e. MayRefuse how.options e };
+    ghost refuses = { λ how e. MayFailToSolve how.options e };
 
     /// As on one thread. Workers share the net that the strips of a move leave.
     fn strip_sites(&self) -> usize {

@@ -5,17 +5,17 @@ use Rattle.std.proofs.lemmas.Int.{ints}
 use Rattle.std.proofs.lemmas.List.{flat_map_more, get_or-append-add, get_or_append_left, map-id}
 use Rattle.std.proofs.lemmas.List.Elements.{All-append, All-map, All-nil}
 use Rattle.std.proofs.lemmas.List.FromFn.{get_or-map-range_with_len, length-map-range_with_len, map-range_with_len_more}
-use Rattle.run_options.specs.Limits.{IsSmoothCost, smooth_limit, trunc_limit}
+use Rattle.run_options.specs.Limits.{IsSmoothCost, greatest_smooth_cost, trunc_limit}
 use Rattle.run_options.specs.Shapes.{shape_cost, shape_row, shape_table}
 use Rattle.run_options.specs.declared.shape.Shape.{Shape}
 use Rattle.run_options.specs.declared.shape.Shape.TheVariants.{Potts, Linear, Quadratic}
 
-pub cost_kept : (shape : Shape) (most a b : ℕ) → most ≤ trunc_limit → shape_cost shape most a b ≤ smooth_limit
+pub cost_kept : (shape : Shape) (most a b : ℕ) → most ≤ trunc_limit → shape_cost shape most a b ≤ greatest_smooth_cost
 cost_kept Potts most a b few = elim (a == b) as (λ t. (if t then 0 else 1) ≤ 10000) [ true ↦ omega arith | false ↦ omega arith ]
 cost_kept Linear most a b few = omega arith
 cost_kept Quadratic most a b few = omega arith
 
-to_cost : (n : ℕ) → n ≤ smooth_limit → IsSmoothCost (pos n)
+to_cost : (n : ℕ) → n ≤ greatest_smooth_cost → IsSmoothCost (pos n)
 to_cost n h = (omega (arith, ints), omega (arith, ints))
 
 row_kept : (shape : Shape) (k most a : ℕ) → most ≤ trunc_limit → All IsSmoothCost (shape_row shape k most a)

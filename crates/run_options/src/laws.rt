@@ -1,6 +1,6 @@
 //! A law of the limits. The function does nothing: its contract is the law.
 ghost use Rattle.std.specs.Prelude.{◌≡◌};
-ghost use Rattle.run_options.specs.Limits.{cap_limit, cycle_limit, data_limit, label_cost_limit, maxval_limit, smooth_limit, trunc_limit};
+ghost use Rattle.run_options.specs.Limits.{cap_limit, cycle_limit, greatest_data_cost, greatest_label_cost, greatest_sample, greatest_smooth_cost, trunc_limit};
 
 use crate::{
     CAP_LIMIT, CYCLE_LIMIT, DATA_LIMIT, LABEL_COST_LIMIT, MAXVAL_LIMIT, SMOOTH_LIMIT, TRUNC_LIMIT,
@@ -8,11 +8,11 @@ use crate::{
 
 /// Each limit is the number that contracts cite.
 pub fn limits_are_cited()
-    ensures smooth { SMOOTH_LIMIT ≡ smooth_limit }
-    ensures data { DATA_LIMIT ≡ data_limit }
-    ensures label_cost { LABEL_COST_LIMIT ≡ label_cost_limit }
+    ensures smooth { SMOOTH_LIMIT ≡ greatest_smooth_cost }
+    ensures data { DATA_LIMIT ≡ greatest_data_cost }
+    ensures label_cost { LABEL_COST_LIMIT ≡ greatest_label_cost }
     ensures trunc { TRUNC_LIMIT ≡ trunc_limit }
     ensures cycles { CYCLE_LIMIT ≡ cycle_limit }
     ensures cap { CAP_LIMIT ≡ cap_limit }
-    ensures maxval { MAXVAL_LIMIT ≡ maxval_limit }
+    ensures maxval { MAXVAL_LIMIT ≡ greatest_sample }
 {}

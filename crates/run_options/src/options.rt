@@ -1,7 +1,7 @@
 //! The options of the image commands: one field for each, and the test that all are in their ranges.
 ghost use Rattle.std.specs.Prelude.{◌↔◌, ◌≤◌, IfSome, IsTrue};
 ghost use Rattle.run_options.specs.Ranges.{AreRestoreOptions, AreRunOptions, AreSegmentOptions, AreStereoOptions};
-ghost use Rattle.run_options.specs.Limits.{label_cost_limit};
+ghost use Rattle.run_options.specs.Limits.{greatest_label_cost};
 
 use crate::{CAP_LIMIT, CYCLE_LIMIT, LABEL_COST_LIMIT, MAXVAL_LIMIT, Shape, TRUNC_LIMIT};
 use label_field::{LABEL_LIMIT, WEIGHT_LIMIT};
@@ -123,7 +123,7 @@ fn run_fits(trunc: u32, weight: u32, cycles: u32) -> bool
 }
 
 fn cost_fits(label_cost: Option<u32>) -> bool
-    ensures { IsTrue result ↔ IfSome label_cost (λ cost. cost ≤ label_cost_limit) }
+    ensures { IsTrue result ↔ IfSome label_cost (λ cost. cost ≤ greatest_label_cost) }
 {
     match label_cost {
         Some(cost) => cost <= LABEL_COST_LIMIT,

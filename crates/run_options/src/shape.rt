@@ -16,7 +16,7 @@ pub enum Shape {
 
 impl Shape {
     /// The cost that goes by a name, `potts`, `linear` or `quadratic`.
-    pub fn named(name: &str) -> Option<Shape>
+    pub fn from_name(name: &str) -> Option<Shape>
         ensures { result ≡ shape_named name.now }
     {
         match name {

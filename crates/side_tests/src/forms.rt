@@ -1,6 +1,6 @@
 //! Both sides of a form of three nodes. The sides were worked by hand.
 ghost use Rattle.pseudo_bool.specs.Limits.{term_limit};
-ghost use Rattle.compile_cut.specs.Quadratics.{IsBounded};
+ghost use Rattle.compile_cut.specs.Quadratics.{IsQuadraticBounded};
 
 use crate::sides::bits_of;
 use compile_cut::{Quadratic, quadratic_of};
@@ -51,7 +51,7 @@ fn sides_of(
     borders: &[u32; 3],
     space: &mut Workspace,
 ) -> Result<(u32, u32), AllocError>
-    requires { IsBounded term_limit form }
+    requires { IsQuadraticBounded term_limit form }
 {
     assert!(rt; form.weights.len() == 3);
     let borders = [

@@ -11,7 +11,7 @@ use Rattle.flow_network.proofs.Bounds.{sum-le-sum}
 use Rattle.flow_network.proofs.Moves.{label-le-path}
 use Rattle.sink_distances.specs.Distances.{AreDistances, AreExactBelow}
 use Rattle.sink_distances.specs.Laws.{AreLow}
-use Rattle.sink_distances.specs.Search.{Found, label_of, node_at, IsNear}
+use Rattle.sink_distances.specs.Search.{Search, search_label, node_at, AreDistancesUpTo}
 use Rattle.sink_distances.proofs.Laws.{residual_nodes, distances_rise, distances-le-top}
 use Rattle.sink_distances.proofs.Order.{count-le-length, label-le-count}
 use Rattle.sink_distances.proofs.Searching.{IsSearched, near_nodes, searched_exact}
@@ -22,25 +22,25 @@ rooms-small net rooms h r =
     omega (arith, h.total, sum-le-sum rooms net.sinks (r.len ∙ sym h.same) (λ v l. r.within v (omega (arith, l, h.same))))
 
 -- where the search stands: the next node's label is one below the limit, or none is left and the limit is the top label
-pub data IsAt (net : Network) (next limit : ℕ) (s : Found) : Type 0 where
-  Before : next < s.count → limit ≡ label_of s (node_at s next) + 1 → IsAt net next limit s
+pub data IsAt (net : Network) (next limit : ℕ) (s : Search) : Type 0 where
+  Before : next < s.count → limit ≡ search_label s (node_at s next) + 1 → IsAt net next limit s
   Done : s.count ≤ next → limit ≡ top net → IsAt net next limit s
 
-limit-le-top : (net : Network) (flow : Flow) (next limit : ℕ) (s : Found) → IsSearched net flow next s → IsAt net next limit s → limit ≤ top net
+limit-le-top : (net : Network) (flow : Flow) (next limit : ℕ) (s : Search) → IsSearched net flow next s → IsAt net next limit s → limit ≤ top net
 limit-le-top net flow next limit s h (Before some at) = omega (arith, at, label-le-count s h.order next some, count-le-length s h.order, h.len)
 limit-le-top net flow next limit s h (Done none at) = omega (arith, at)
 
 -- a node whose label is more than 1 below the limit was expanded
-expanded : (net : Network) (flow : Flow) (next limit i : ℕ) (s : Found) → IsSearched net flow next s → IsAt net next limit s
-    → i < s.count → label_of s (node_at s i) + 1 < limit → i < next
+expanded : (net : Network) (flow : Flow) (next limit i : ℕ) (s : Search) → IsSearched net flow next s → IsAt net next limit s
+    → i < s.count → search_label s (node_at s i) + 1 < limit → i < next
 expanded net flow next limit i s h (Before some at) l low = elim (cases_lt i next) [
   | inl before ↦ before
   | inr after ↦ absurd (omega (arith, h.order.rising next i after l, at, low))
 ]
 expanded net flow next limit i s h (Done none at) l low = omega (arith, l, none)
 
-near_falls : (net : Network) (flow : Flow) (next limit : ℕ) (s : Found) → IsNet net → IsSearched net flow next s → IsAt net next limit s
-    → (v w : ℕ) → IsResidual net flow v w → label_of s w + 1 < limit → label_of s v ≤ label_of s w + 1
+near_falls : (net : Network) (flow : Flow) (next limit : ℕ) (s : Search) → IsNet net → IsSearched net flow next s → IsAt net next limit s
+    → (v w : ℕ) → IsResidual net flow v w → search_label s w + 1 < limit → search_label s v ≤ search_label s w + 1
 near_falls net flow next limit s net_is h at v w step low =
     let ends = residual_nodes net flow v w net_is step in
     let fits = limit-le-top net flow next limit s h at in
@@ -49,25 +49,25 @@ near_falls net flow next limit s net_is h at v w step low =
       | inr labelled ↦
           let place = labelled.1 in
           let step' : IsResidual net flow v (node_at s place.0) = rw place.2 step in
-          let same = ap (label_of s) place.2 in
+          let same = ap (search_label s) place.2 in
           omega (arith, same, h.closed place.0 (expanded net flow next limit place.0 s h at place.1 (omega (arith, same, low))) v step')
     ]
 
-near_full : (net : Network) (flow : Flow) (next limit : ℕ) (s : Found) → IsNet net → IsSearched net flow next s → IsAt net next limit s
+near_full : (net : Network) (flow : Flow) (next limit : ℕ) (s : Search) → IsNet net → IsSearched net flow next s → IsAt net next limit s
     → limit ≡ top net → AreDistances net flow s.labels
 near_full net flow next limit s net_is h (Before some at) is =
     absurd (omega (arith, at, is, label-le-count s h.order next some, count-le-length s h.order, h.len))
 near_full net flow next limit s net_is h (Done none at) is = searched_exact net flow next s net_is h none
 
-near_leads : (net : Network) (flow : Flow) (next limit : ℕ) (s : Found) → IsSearched net flow next s → IsAt net next limit s
-    → (v : ℕ) → v < nodes net → label_of s v < limit → ReachesIn net flow (label_of s v) v
+near_leads : (net : Network) (flow : Flow) (next limit : ℕ) (s : Search) → IsSearched net flow next s → IsAt net next limit s
+    → (v : ℕ) → v < nodes net → search_label s v < limit → ReachesIn net flow (search_label s v) v
 near_leads net flow next limit s h at v l low = elim (h.leads v l) [
   | inl none ↦ absurd (omega (arith, none, low, limit-le-top net flow next limit s h at))
   | inr path ↦ path
 ]
 
-pub search_is_near : (net : Network) (flow : Flow) (next limit : ℕ) (s : Found) → IsNet net → IsSearched net flow next s → IsAt net next limit s
-    → IsNear net flow limit s.labels
+pub search_is_near : (net : Network) (flow : Flow) (next limit : ℕ) (s : Search) → IsNet net → IsSearched net flow next s → IsAt net next limit s
+    → AreDistancesUpTo net flow limit s.labels
 search_is_near net flow next limit s net_is h at = record {
   len = h.len;
   fits = limit-le-top net flow next limit s h at;
@@ -91,7 +91,7 @@ one_falls a b c d k h f = elim (cases_lt (d + 1) k) [
 ]
 
 pub raised_labelling : (net : Network) (flow : Flow) (limit : ℕ) (found old new : List ℕ) → IsNet net → IsLabelling net flow old
-    → IsNear net flow limit found → length new ≡ nodes net → AreRaisedTo net limit found old new → IsLabelling net flow new
+    → AreDistancesUpTo net flow limit found → length new ≡ nodes net → AreRaisedTo net limit found old new → IsLabelling net flow new
 raised_labelling net flow limit found old new net_is fits near len told = record {
   len = len;
   sinks = λ v l room. omega (arith, told v l, fits.sinks v l room, near.sinks v l room);
@@ -105,13 +105,13 @@ raised_labelling net flow limit found old new net_is fits near len told = record
       );
 }
 
-pub raised_low : (net : Network) (flow : Flow) (limit : ℕ) (found old new : List ℕ) → AreLow net old → IsNear net flow limit found
+pub raised_low : (net : Network) (flow : Flow) (limit : ℕ) (found old new : List ℕ) → AreLow net old → AreDistancesUpTo net flow limit found
     → AreRaisedTo net limit found old new → AreLow net new
 raised_low net flow limit found old new low near told v l = omega (arith, told v l, low v l, near.fits)
 
 -- a raised label below the limit is a found one, and no path is shorter
 pub raised_near : (net : Network) (flow : Flow) (limit : ℕ) (found old new : List ℕ) → IsLabelling net flow old
-    → IsNear net flow limit found → IsLabelling net flow new → AreRaisedTo net limit found old new → AreExactBelow net flow limit new
+    → AreDistancesUpTo net flow limit found → IsLabelling net flow new → AreRaisedTo net limit found old new → AreExactBelow net flow limit new
 raised_near net flow limit found old new fits near made told v l low =
     let path = near.leads v l (omega (arith, told v l, low)) in
     let rises = label-le-path net flow old fits (slice_index found v) v path in
@@ -123,7 +123,7 @@ raised_near net flow limit found old new fits near made told v l low =
     }
 
 pub raised_exact : (net : Network) (flow : Flow) (limit : ℕ) (found old new : List ℕ) → IsLabelling net flow old → AreLow net old
-    → IsNear net flow limit found → length new ≡ nodes net → AreRaisedTo net limit found old new → limit ≡ top net → AreDistances net flow new
+    → AreDistancesUpTo net flow limit found → length new ≡ nodes net → AreRaisedTo net limit found old new → limit ≡ top net → AreDistances net flow new
 raised_exact net flow limit found old new fits low near len told all =
     let exact = near.full all in
     let same : new ≡ found = same_number_lists new found (len ∙ sym near.len)

@@ -4,13 +4,13 @@ use Rattle.std.proofs.lemmas.Bool.{cases_lt}
 use Rattle.flow_network.specs.Cut.{Network}
 use Rattle.flow_network.specs.Progress.{top_label}
 use Rattle.sink_distances.specs.declared.rows.Rows.{Rows}
-use Rattle.sink_distances.specs.Rows.{head_at, opposite_at, residual_at, start_at, carried, IsRows}
-use Rattle.sink_distances.specs.Search.{Found, label_of, Grows, IsBefore}
+use Rattle.sink_distances.specs.Rows.{head_at, opposite_at, residual_at, start_at, carried_flow, IsRows}
+use Rattle.sink_distances.specs.Search.{Search, search_label, Grows, IsBefore}
 use Rattle.sink_distances.proofs.Order.{grows_more, grows_falls}
 use Rattle.sink_distances.proofs.Showing.{before_place}
 
 -- what grows for one reason grows for each that follows from it
-pub grows_for : (label : ℕ) (P Q : ℕ → Type 0) (s t : Found) → ((v : ℕ) → P v → Q v) → Grows label P s t → Grows label Q s t
+pub grows_for : (label : ℕ) (P Q : ℕ → Type 0) (s t : Search) → ((v : ℕ) → P v → Q v) → Grows label P s t → Grows label Q s t
 grows_for label P Q s t so g = record {
   order = g.order;
   below = g.below;
@@ -21,18 +21,18 @@ grows_for label P Q s t so g = record {
 }
 
 -- the places of the node's row before p were seen
-pub record IsSeen (net : Network) (rows : Rows) (w label p : ℕ) (old new : Found) : Type 0 where
-  pub grows : Grows label (IsBefore net (carried rows) w) old new
-  pub marked : (q : ℕ) → start_at rows w ≤ q → q < p → 0 < residual_at rows (opposite_at rows q) → label_of new (head_at rows q) ≤ label
+pub record IsSeen (net : Network) (rows : Rows) (w label p : ℕ) (old new : Search) : Type 0 where
+  pub grows : Grows label (IsBefore net (carried_flow rows) w) old new
+  pub marked : (q : ℕ) → start_at rows w ≤ q → q < p → 0 < residual_at rows (opposite_at rows q) → search_label new (head_at rows q) ≤ label
 
 -- one more is seen
-pub seen_more : (net : Network) (rows : Rows) (w label p : ℕ) (s t u : Found) → IsSeen net rows w label p s t
-    → label ≤ top_label (length t.labels) → Grows label (IsBefore net (carried rows) w) t u
-    → (0 < residual_at rows (opposite_at rows p) → label_of u (head_at rows p) ≤ label) → IsSeen net rows w label (p + 1) s u
+pub seen_more : (net : Network) (rows : Rows) (w label p : ℕ) (s t u : Search) → IsSeen net rows w label p s t
+    → label ≤ top_label (length t.labels) → Grows label (IsBefore net (carried_flow rows) w) t u
+    → (0 < residual_at rows (opposite_at rows p) → search_label u (head_at rows p) ≤ label) → IsSeen net rows w label (p + 1) s u
 seen_more net rows w label p s t u before fits g marked = record {
-  grows = grows_more label (IsBefore net (carried rows) w) s t u before.grows g;
+  grows = grows_more label (IsBefore net (carried_flow rows) w) s t u before.grows g;
   marked = λ q low high some. elim (cases_lt q p) [
-    | inl less ↦ omega (arith, before.marked q low less some, grows_falls label (IsBefore net (carried rows) w) t u g fits (head_at rows q))
+    | inl less ↦ omega (arith, before.marked q low less some, grows_falls label (IsBefore net (carried_flow rows) w) t u g fits (head_at rows q))
     | inr last ↦
         let same : q ≡ p = omega (arith, high, last) in
         rw same (marked (rw same at some))
@@ -40,8 +40,8 @@ seen_more net rows w label p s t u before fits g marked = record {
 }
 
 -- all of the row were seen
-pub seen_all : (net : Network) (rows : Rows) (w label p : ℕ) (s t : Found) → IsRows net rows → IsSeen net rows w label p s t
-    → start_at rows (w + 1) ≤ p → (v : ℕ) → IsBefore net (carried rows) w v → label_of t v ≤ label
+pub seen_all : (net : Network) (rows : Rows) (w label p : ℕ) (s t : Search) → IsRows net rows → IsSeen net rows w label p s t
+    → start_at rows (w + 1) ≤ p → (v : ℕ) → IsBefore net (carried_flow rows) w v → search_label t v ≤ label
 seen_all net rows w label p s t r seen done v before =
     let (q, place, head, some) = before_place net rows w v r before in
-    omega (arith, ap (label_of t) head, seen.marked q place.0 (omega (arith, place.1, done)) some)
+    omega (arith, ap (search_label t) head, seen.marked q place.0 (omega (arith, place.1, done)) some)

@@ -8,19 +8,19 @@ use Rattle.flow_network.specs.Cut.{Network, nodes, IsNet}
 use Rattle.flow_network.specs.Preflow.{arc_at, IsResidual}
 use Rattle.flow_network.proofs.Duality.{arc_is}
 use Rattle.sink_distances.specs.declared.rows.Rows.{Rows}
-use Rattle.sink_distances.specs.Rows.{head_at, opposite_at, residual_at, start_at, firsts_of, first_at, second_at, carried, IsPlace, IsOf, IsRows, IsSent}
+use Rattle.sink_distances.specs.Rows.{head_at, opposite_at, residual_at, start_at, firsts_of, first_at, second_at, carried_flow, IsPlace, IsPlaceOf, IsRows, IsSent}
 use Rattle.sink_distances.specs.Search.{IsBefore}
 
 -- ---- what each arc carries
 
 pub carried_at : (net : Network) (rows : Rows) (k : ℕ) → IsRows net rows → k < length net.arcs
-    → slice_index (carried rows) k ≡ residual_at rows (second_at rows k)
+    → slice_index (carried_flow rows) k ≡ residual_at rows (second_at rows k)
 carried_at net rows k h l =
     let f = λ (p : ℕ). residual_at rows (opposite_at rows p) in
     let long : k < length (map f (firsts_of rows)) = omega (arith, length-map (firsts_of rows) f, h.firsts_len) in
     get_or_default (map f (firsts_of rows)) k 0 (f 0) long ∙ get_or-map f (firsts_of rows) k 0
 
-pub carried_len : (net : Network) (rows : Rows) → IsRows net rows → length (carried rows) ≡ length net.arcs
+pub carried_len : (net : Network) (rows : Rows) → IsRows net rows → length (carried_flow rows) ≡ length net.arcs
 carried_len net rows h = length-map (firsts_of rows) (λ p. residual_at rows (opposite_at rows p)) ∙ h.firsts_len
 
 -- ---- a place of a row
@@ -34,7 +34,7 @@ pub record IsDirected (net : Network) (rows : Rows) (v p : ℕ) : Type 0 where
   pub tail : head_at rows (opposite_at rows p) ≡ v
   pub head : head_at rows p < nodes net
 
-directed_of : (net : Network) (rows : Rows) (v p : ℕ) → IsNet net → IsRows net rows → IsOf net rows v p → IsDirected net rows v p
+directed_of : (net : Network) (rows : Rows) (v p : ℕ) → IsNet net → IsRows net rows → IsPlaceOf net rows v p → IsDirected net rows v p
 directed_of net rows v p h r (k, l, inl (at, from)) =
     let s = r.arcs k l in
     let e = ap (opposite_at rows) at in
@@ -63,8 +63,8 @@ directed net rows v p h r l place = directed_of net rows v p h r (r.each v p l p
 
 -- ---- residual directions
 
-before_of : (net : Network) (rows : Rows) (w p : ℕ) → IsRows net rows → IsOf net rows w p → 0 < residual_at rows (opposite_at rows p)
-    → IsBefore net (carried rows) w (head_at rows p)
+before_of : (net : Network) (rows : Rows) (w p : ℕ) → IsRows net rows → IsPlaceOf net rows w p → 0 < residual_at rows (opposite_at rows p)
+    → IsBefore net (carried_flow rows) w (head_at rows p)
 before_of net rows w p r (k, l, inl (at, from)) some =
     let s = r.arcs k l in
     let e = ap (λ (q : ℕ). residual_at rows (opposite_at rows q)) at in
@@ -76,11 +76,11 @@ before_of net rows w p r (k, l, inr (at, to)) some =
 
 -- a direction whose opposite can carry more is the way back along a residual one
 pub place_before : (net : Network) (rows : Rows) (w p : ℕ) → IsRows net rows → w < nodes net → IsPlace rows w p
-    → 0 < residual_at rows (opposite_at rows p) → IsBefore net (carried rows) w (head_at rows p)
+    → 0 < residual_at rows (opposite_at rows p) → IsBefore net (carried_flow rows) w (head_at rows p)
 place_before net rows w p r l place some = before_of net rows w p r (r.each w p l place) some
 
 -- each residual direction to a node has its way back in the node's row
-pub before_place : (net : Network) (rows : Rows) (w v : ℕ) → IsRows net rows → IsBefore net (carried rows) w v
+pub before_place : (net : Network) (rows : Rows) (w v : ℕ) → IsRows net rows → IsBefore net (carried_flow rows) w v
     → (p : ℕ) × IsPlace rows w p × (head_at rows p ≡ v) × (0 < residual_at rows (opposite_at rows p))
 before_place net rows w v r (k, l, inl (from, to, room)) =
     let s = r.arcs k l in
@@ -92,7 +92,7 @@ before_place net rows w v r (k, l, inr (to, from, some)) =
 
 -- each residual direction of a node stands in its row
 pub residual_place : (net : Network) (rows : Rows) (sinks : List ℕ) (v w : ℕ) → IsRows net rows
-    → IsResidual net (record { arcs = carried rows; sinks = sinks }) v w
+    → IsResidual net (record { arcs = carried_flow rows; sinks = sinks }) v w
     → (p : ℕ) × IsPlace rows v p × (head_at rows p ≡ w) × (0 < residual_at rows p)
 residual_place net rows sinks v w r (k, l, inl (from, to, room)) =
     let s = r.arcs k l in
@@ -101,8 +101,8 @@ residual_place net rows sinks v w r (k, l, inr (to, from, some)) =
     let s = r.arcs k l in
     (second_at rows k, subst (λ u. IsPlace rows u (second_at rows k)) to s.enters, s.tail ∙ from, omega (arith, carried_at net rows k r l, some))
 
-residual_of : (net : Network) (rows : Rows) (sinks : List ℕ) (v p : ℕ) → IsRows net rows → IsOf net rows v p → 0 < residual_at rows p
-    → IsResidual net (record { arcs = carried rows; sinks = sinks }) v (head_at rows p)
+residual_of : (net : Network) (rows : Rows) (sinks : List ℕ) (v p : ℕ) → IsRows net rows → IsPlaceOf net rows v p → 0 < residual_at rows p
+    → IsResidual net (record { arcs = carried_flow rows; sinks = sinks }) v (head_at rows p)
 residual_of net rows sinks v p r (k, l, inl (at, from)) some =
     let s = r.arcs k l in
     (k, l, inl (from, sym (ap (head_at rows) at ∙ s.head), omega (arith, carried_at net rows k r l, ap (residual_at rows) at, s.capacity, some)))
@@ -112,7 +112,7 @@ residual_of net rows sinks v p r (k, l, inr (at, to)) some =
 
 -- a direction that can carry more is residual
 pub place_residual : (net : Network) (rows : Rows) (sinks : List ℕ) (v p : ℕ) → IsRows net rows → v < nodes net → IsPlace rows v p
-    → 0 < residual_at rows p → IsResidual net (record { arcs = carried rows; sinks = sinks }) v (head_at rows p)
+    → 0 < residual_at rows p → IsResidual net (record { arcs = carried_flow rows; sinks = sinks }) v (head_at rows p)
 place_residual net rows sinks v p r l place some = residual_of net rows sinks v p r (r.each v p l place) some
 
 -- ---- an amount is sent
@@ -174,12 +174,12 @@ sum_sent net old new p z j k r s le lj lk (inr at) =
           omega (arith, s.others (first_at old j) f1 f2, s.others (second_at old j) s1 s2)
     ]
 
-side_of : (net : Network) (rows : Rows) (v p : ℕ) → IsOf net rows v p
+side_of : (net : Network) (rows : Rows) (v p : ℕ) → IsPlaceOf net rows v p
     → (k : ℕ) × (k < length net.arcs) × ((p ≡ first_at rows k) ⊎ (p ≡ second_at rows k))
 side_of net rows v p (k, l, inl (at, end)) = (k, l, inl at)
 side_of net rows v p (k, l, inr (at, end)) = (k, l, inr at)
 
-of_sent : (net : Network) (old new : Rows) (p z v q : ℕ) → IsSent old new p z → IsOf net old v q → IsOf net new v q
+of_sent : (net : Network) (old new : Rows) (p z v q : ℕ) → IsSent old new p z → IsPlaceOf net old v q → IsPlaceOf net new v q
 of_sent net old new p z v q s (k, l, inl (at, end)) = (k, l, inl (at ∙ sym (sent_first old new p z k s), end))
 of_sent net old new p z v q s (k, l, inr (at, end)) =
     (k, l, inr (at ∙ sym (sent_opposite old new p z (first_at old k) (first_at new k) s (sent_first old new p z k s)), end))
@@ -216,36 +216,36 @@ rows_sent net old new v p z r lv place le s =
 -- the arc of the direction carries as much more or less
 carried_sent : (net : Network) (old new : Rows) (p z k y : ℕ) → IsRows net old → IsRows net new → IsSent old new p z → k < length net.arcs
     → residual_at new (second_at old k) ≡ y → ((j : ℕ) → j < length net.arcs → j ≢ k → residual_at new (second_at old j) ≡ residual_at old (second_at old j))
-    → carried new ≡ set (carried old) k y
+    → carried_flow new ≡ set (carried_flow old) k y
 carried_sent net old new p z k y r r' s l here others =
     let len = carried_len net old r in
     let len' = carried_len net new r' in
-    let set_len = length-set (carried old) k y in
+    let set_len = length-set (carried_flow old) k y in
     let second : (j : ℕ) → second_at new j ≡ second_at old j = λ j. sent_opposite old new p z (first_at old j) (first_at new j) s (sent_first old new p z j s) in
-    same_number_lists (carried new) (set (carried old) k y) (len' ∙ sym (set_len ∙ len))
+    same_number_lists (carried_flow new) (set (carried_flow old) k y) (len' ∙ sym (set_len ∙ len))
     (λ j lj.
     let inside : j < length net.arcs = omega (arith, lj, len') in
-    let now : slice_index (carried new) j ≡ residual_at new (second_at old j) = carried_at net new j r' inside ∙ ap (residual_at new) (second j) in
+    let now : slice_index (carried_flow new) j ≡ residual_at new (second_at old j) = carried_at net new j r' inside ∙ ap (residual_at new) (second j) in
     elim (cases_eq j k) [
       | inl same ↦
-          now ∙ (ap (λ (i : ℕ). residual_at new (second_at old i)) same ∙ (here ∙ (sym (get_or-set_same (carried old) k y 0 (omega (arith, l, len))) ∙ ap (slice_index (set (carried old) k y)) (sym same))))
-      | inr off ↦ now ∙ (others j inside off ∙ (sym (carried_at net old j r inside) ∙ sym (get_or-set_other (carried old) k j y 0 off)))
+          now ∙ (ap (λ (i : ℕ). residual_at new (second_at old i)) same ∙ (here ∙ (sym (get_or-set_same (carried_flow old) k y 0 (omega (arith, l, len))) ∙ ap (slice_index (set (carried_flow old) k y)) (sym same))))
+      | inr off ↦ now ∙ (others j inside off ∙ (sym (carried_at net old j r inside) ∙ sym (get_or-set_other (carried_flow old) k j y 0 off)))
     ])
 
 pub carried_forth : (net : Network) (old new : Rows) (p z k : ℕ) → IsRows net old → IsRows net new → IsSent old new p z → k < length net.arcs
-    → p ≡ first_at old k → carried new ≡ set (carried old) k (slice_index (carried old) k + z)
+    → p ≡ first_at old k → carried_flow new ≡ set (carried_flow old) k (slice_index (carried_flow old) k + z)
 carried_forth net old new p z k r r' s l at =
     let e = ap (opposite_at old) at in
-    carried_sent net old new p z k (slice_index (carried old) k + z) r r' s l
+    carried_sent net old new p z k (slice_index (carried_flow old) k + z) r r' s l
     (omega (arith, carried_at net old k r l, ap (residual_at new) e, ap (residual_at old) e, s.there))
     (λ j lj off. s.others (second_at old j) (λ x. r.apart k j l lj (sym at ∙ sym x))
     (λ x. off (r.once j k lj l (sym (r.arcs j lj).turn ∙ (ap (opposite_at old) (x ∙ e) ∙ (r.arcs k l).turn)))))
 
 pub carried_back : (net : Network) (old new : Rows) (p z k : ℕ) → IsRows net old → IsRows net new → IsSent old new p z → k < length net.arcs
-    → p ≡ second_at old k → carried new ≡ set (carried old) k (slice_index (carried old) k - z)
+    → p ≡ second_at old k → carried_flow new ≡ set (carried_flow old) k (slice_index (carried_flow old) k - z)
 carried_back net old new p z k r r' s l at =
     let e : opposite_at old p ≡ first_at old k = ap (opposite_at old) at ∙ (r.arcs k l).turn in
-    carried_sent net old new p z k (slice_index (carried old) k - z) r r' s l
+    carried_sent net old new p z k (slice_index (carried_flow old) k - z) r r' s l
     (omega (arith, carried_at net old k r l, ap (residual_at new) at, ap (residual_at old) at, s.here))
     (λ j lj off. s.others (second_at old j)
     (λ x. off (r.once j k lj l (sym (r.arcs j lj).turn ∙ (ap (opposite_at old) (x ∙ at) ∙ (r.arcs k l).turn))))

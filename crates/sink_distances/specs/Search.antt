@@ -1,81 +1,83 @@
 use Rattle.std.specs.Prelude.{◌≡◌, ℕ, ◌+◌, ◌<◌, ◌≤◌, ◌⊎◌, ◌==◌, List, [], length, slice_index, sum_by}
-use Rattle.sums.specs.Sums.{counted}
+use Rattle.sums.specs.Sums.{count_if}
 use Rattle.flow_network.specs.Cut.{Network, nodes}
 use Rattle.flow_network.specs.Preflow.{Flow, IsResidual, ReachesIn}
 use Rattle.flow_network.specs.Progress.{top_label, top}
 use Rattle.sink_distances.specs.Distances.{AreDistances}
 
 -- labels, and the labelled nodes in the order in which they were found: the first `count` of a list
-pub record Found : Type 0 where
+pub record Search : Type 0 where
   pub labels : List ℕ
   pub order : List ℕ
   pub count : ℕ
 
-abbrev pub found_of : List ℕ → List ℕ → ℕ → Found
+abbrev pub found_of : List ℕ → List ℕ → ℕ → Search
 found_of labels order count = record { labels = labels; order = order; count = count }
 
-abbrev pub label_of : Found → ℕ → ℕ
-label_of found v = slice_index found.labels v
+abbrev pub search_label : Search → ℕ → ℕ
+search_label found v = slice_index found.labels v
 
-abbrev pub node_at : Found → ℕ → ℕ
+abbrev pub node_at : Search → ℕ → ℕ
 node_at found i = slice_index found.order i
 
 -- how many nodes have no label
-abbrev pub unlabelled : Found → ℕ
-unlabelled found = sum_by (λ label. counted (label == top_label (length found.labels)) 1) found.labels
+abbrev pub count_unlabelled : Search → ℕ
+count_unlabelled found = sum_by (λ label. count_if (label == top_label (length found.labels)) 1) found.labels
 
 -- the order lists each labelled node once, by rising labels
-pub record IsOrder (found : Found) : Type 0 where
+pub record IsOrder (found : Search) : Type 0 where
   pub order_len : length found.order ≡ length found.labels
-  pub room : found.count + unlabelled found ≡ length found.labels
+  pub room : found.count + count_unlabelled found ≡ length found.labels
   pub places : (i : ℕ) → i < found.count → node_at found i < length found.labels
-  pub short : (i : ℕ) → i < found.count → label_of found (node_at found i) ≤ i + 1
+  pub short : (i : ℕ) → i < found.count → search_label found (node_at found i) ≤ i + 1
   pub listed : (v : ℕ) → v < length found.labels
-      → (label_of found v ≡ top_label (length found.labels))
+      → (search_label found v ≡ top_label (length found.labels))
       ⊎ ((i : ℕ) × (i < found.count) × (node_at found i ≡ v))
   pub rising : (i j : ℕ) → i ≤ j → j < found.count
-      → label_of found (node_at found i) ≤ label_of found (node_at found j)
+      → search_label found (node_at found i) ≤ search_label found (node_at found j)
 
 -- no label in the order is above this one
-abbrev pub IsAtMost : ℕ → Found → Type 0
-IsAtMost label found = (i : ℕ) → i < found.count → label_of found (node_at found i) ≤ label
+abbrev pub IsAtMost : ℕ → Search → Type 0
+IsAtMost label found = (i : ℕ) → i < found.count → search_label found (node_at found i) ≤ label
 
 -- this label may be given next
-pub record IsReady (label : ℕ) (found : Found) : Type 0 where
+pub record IsNextLabel (label : ℕ) (found : Search) : Type 0 where
   pub order : IsOrder found
   pub below : IsAtMost label found
   pub next : label ≤ found.count + 1
 
 -- some nodes that had no label have got this one, each for a reason, and stand last in the order
-pub record Grows (label : ℕ) (IsNext : ℕ → Type 0) (old new : Found) : Type 0 where
+pub record Grows (label : ℕ) (IsNext : ℕ → Type 0) (old new : Search) : Type 0 where
   pub order : IsOrder new
   pub below : IsAtMost label new
   pub len : length new.labels ≡ length old.labels
   pub more : old.count ≤ new.count
   pub kept : (i : ℕ) → i < old.count → node_at new i ≡ node_at old i
   pub labels : (v : ℕ) → v < length old.labels
-      → (label_of new v ≡ label_of old v)
-      ⊎ ((label_of old v ≡ top_label (length old.labels)) × (label_of new v ≡ label) × IsNext v)
+      → (search_label new v ≡ search_label old v)
+      ⊎ ((search_label old v ≡ top_label (length old.labels))
+      × (search_label new v ≡ label) × IsNext v)
 
 -- the nodes that have a residual direction to w, where the arcs carry these amounts
 abbrev pub IsBefore : Network → List ℕ → ℕ → ℕ → Type 0
 IsBefore net carried w v = IsResidual net (record { arcs = carried; sinks = [] }) v w
 
 -- of the nodes that can give the sink more those below v have label 1, and some of the others
-pub record AreStarts (net : Network) (rooms : List ℕ) (v : ℕ) (found : Found) : Type 0 where
+pub record AreStarts (net : Network) (rooms : List ℕ) (v : ℕ) (found : Search) : Type 0 where
   pub len : length found.labels ≡ nodes net
   pub order : IsOrder found
   pub below : IsAtMost 1 found
   pub leads : (u : ℕ) → u < nodes net
-      → (label_of found u ≡ top net)
-      ⊎ ((label_of found u ≡ 1) × (0 < slice_index rooms u))
+      → (search_label found u ≡ top net)
+      ⊎ ((search_label found u ≡ 1) × (0 < slice_index rooms u))
   pub sinks : (u : ℕ) → u < v → u < nodes net → 0 < slice_index rooms u
-      → label_of found u ≤ 1
+      → search_label found u ≤ 1
 
 -- labels of a search that may have ended early: those below the limit are lengths of paths; those of nodes that can give
 -- the sink more, and of nodes with a residual direction to one whose label is more than 1 below the limit, are right; and
 -- all are where the limit is the top label
-pub record IsNear (net : Network) (flow : Flow) (limit : ℕ) (found : List ℕ) : Type 0 where
+pub record AreDistancesUpTo (net : Network) (flow : Flow) (limit : ℕ)
+    (found : List ℕ) : Type 0 where
   pub len : length found ≡ nodes net
   pub fits : limit ≤ top net
   pub leads : (v : ℕ) → v < nodes net → slice_index found v < limit → ReachesIn net flow (slice_index found v) v

@@ -1,13 +1,13 @@
 ghost use Rattle.std.specs.Prelude.{◌≡◌, ◌<◌, ◌≤◌, ℕ, length, max, min, slice_index, sum};
 ghost use Rattle.flow_network.specs.Limits.{capacity_limit};
 ghost use Rattle.flow_network.specs.Cut.{nodes, IsNet};
-ghost use Rattle.flow_network.specs.Preflow.{flow_by, given, AreRooms};
+ghost use Rattle.flow_network.specs.Preflow.{flow_by, sink_flows, AreRooms};
 ghost use Rattle.flow_network.specs.Labels.{IsLabelling};
 ghost use Rattle.flow_network.specs.Progress.{top};
 ghost use Rattle.sink_distances.specs.Distances.{AreDistances, AreExactBelow};
 ghost use Rattle.sink_distances.specs.Laws.{AreLow};
-ghost use Rattle.sink_distances.specs.Rows.{carried, IsRows};
-ghost use Rattle.sink_distances.specs.Search.{IsNear};
+ghost use Rattle.sink_distances.specs.Rows.{carried_flow, IsRows};
+ghost use Rattle.sink_distances.specs.Search.{AreDistancesUpTo};
 
 use crate::search::{mark_behind, mark_starts};
 use crate::{Outline, Rows};
@@ -59,7 +59,7 @@ fn search_near(
     requires found_len { length found.old ≡ nodes net.now }
     requires order_len { length order.old ≡ nodes net.now }
     ensures limits { IsNet net.now }
-    ensures near { IsNear net.now (flow_by (carried rows.now) (given net.now rooms.now)) result.limit found.new }
+    ensures near { AreDistancesUpTo net.now (flow_by (carried_flow rows.now) (sink_flows net.now rooms.now)) result.limit found.new }
     ensures count { result.count ≤ length order.new }
 {
     let enough = room_times(rooms, times);
@@ -116,19 +116,20 @@ pub fn raise_labels(
 ) -> Extent
     requires rows { IsRows net.now rows.now }
     requires rooms { AreRooms net.now rooms.now }
-    requires labels { IsLabelling net.now (flow_by (carried rows.now) (given net.now rooms.now)) labels.old }
+    requires labels { IsLabelling net.now (flow_by (carried_flow rows.now) (sink_flows net.now rooms.now)) labels.old }
     requires low { AreLow net.now labels.old }
     requires found_len { length found.old ≡ nodes net.now }
     requires order_len { length order.old ≡ nodes net.now }
-    ensures labelling { IsLabelling net.now (flow_by (carried rows.now) (given net.now rooms.now)) labels.new }
+    ensures labelling { IsLabelling net.now (flow_by (carried_flow rows.now) (sink_flows net.now rooms.now)) labels.new }
     ensures rises { (v : ℕ) → v < nodes net.now → slice_index labels.old v ≤ slice_index labels.new v }
     ensures low { AreLow net.now labels.new }
     ensures fits { result.limit ≤ top net.now }
     ensures count { result.count ≤ length order.new }
     ensures near { AreExactBelow net.now
-        (flow_by (carried rows.now) (given net.now rooms.now)) result.limit labels.new }
+        (flow_by (carried_flow rows.now) (sink_flows net.now rooms.now)) result.limit labels.new }
     ensures full { result.limit ≡ top net.now →
-        AreDistances net.now (flow_by (carried rows.now) (given net.now rooms.now)) labels.new }
+        AreDistances net.now (flow_by (carried_flow rows.now)
+        (sink_flows net.now rooms.now)) labels.new }
 {
     let _nodes = net.nodes();
     let extent = search_near(net, rows, rooms, excess, times, found, order);

@@ -1,10 +1,10 @@
 ghost use Rattle.std.specs.Prelude.{◌≡◌, ◌+◌, ◌<◌, ◌≤◌, ℕ, length, slice_index};
 ghost use Rattle.flow_network.specs.Cut.{nodes, IsNet};
-ghost use Rattle.flow_network.specs.Preflow.{arc_at, flow_by, given, AreRooms};
+ghost use Rattle.flow_network.specs.Preflow.{arc_at, flow_by, sink_flows, AreRooms};
 ghost use Rattle.sink_distances.specs.Adjacency.{IsAdjacency};
 ghost use Rattle.sink_distances.specs.Distances.{AreDistances};
-ghost use Rattle.sink_distances.specs.Rows.{carried, head_at, opposite_at, residual_at, IsPlace, IsRows};
-ghost use Rattle.sink_distances.specs.Search.{found_of, AreStarts, IsBefore, IsReady, Grows};
+ghost use Rattle.sink_distances.specs.Rows.{carried_flow, head_at, opposite_at, residual_at, IsPlace, IsRows};
+ghost use Rattle.sink_distances.specs.Search.{found_of, AreStarts, IsBefore, IsNextLabel, Grows};
 
 use crate::{Adjacency, Outline, Rows};
 use flow_network::Graph;
@@ -24,7 +24,7 @@ struct Carried<'a> {
 /// places of `order` are the labelled nodes in the order in which they were found, by rising labels.
 pub fn mark(labels: &mut [u32], order: &mut [u32], count: usize, v: u32, label: u32) -> usize
     requires node { v < length labels.old }
-    requires ready { IsReady label (found_of labels.old order.old count) }
+    requires ready { IsNextLabel label (found_of labels.old order.old count) }
     ensures grows { Grows label (λ u. u ≡ v)
         (found_of labels.old order.old count) (found_of labels.new order.new result) }
     ensures marked { slice_index labels.new v ≤ label }
@@ -72,7 +72,7 @@ fn mark_tail(
     requires flow { length carried.now.arc_flow.now ≡ length carried.now.net.now.arcs }
     requires len { length labels.old ≡ nodes carried.now.net.now }
     requires arc { k < length carried.now.net.now.arcs }
-    requires ready { IsReady label (found_of labels.old order.old count) }
+    requires ready { IsNextLabel label (found_of labels.old order.old count) }
     ensures grows { Grows label
         (IsBefore carried.now.net.now carried.now.arc_flow.now (arc_at carried.now.net.now k).to)
         (found_of labels.old order.old count) (found_of labels.new order.new result) }
@@ -100,7 +100,7 @@ fn mark_tails(
     requires flow { length carried.now.arc_flow.now ≡ length carried.now.net.now.arcs }
     requires len { length labels.old ≡ nodes carried.now.net.now }
     requires node { w < nodes carried.now.net.now }
-    requires ready { IsReady label (found_of labels.old order.old count) }
+    requires ready { IsNextLabel label (found_of labels.old order.old count) }
     ensures grows { Grows label (IsBefore carried.now.net.now carried.now.arc_flow.now w)
         (found_of labels.old order.old count) (found_of labels.new order.new result) }
     ensures marked { (k : ℕ) → k < length carried.now.net.now.arcs → (arc_at carried.now.net.now k).to ≡ w →
@@ -133,7 +133,7 @@ fn mark_head(
     requires flow { length carried.now.arc_flow.now ≡ length carried.now.net.now.arcs }
     requires len { length labels.old ≡ nodes carried.now.net.now }
     requires arc { k < length carried.now.net.now.arcs }
-    requires ready { IsReady label (found_of labels.old order.old count) }
+    requires ready { IsNextLabel label (found_of labels.old order.old count) }
     ensures grows { Grows label
         (IsBefore carried.now.net.now carried.now.arc_flow.now (arc_at carried.now.net.now k).from)
         (found_of labels.old order.old count) (found_of labels.new order.new result) }
@@ -161,7 +161,7 @@ fn mark_heads(
     requires flow { length carried.now.arc_flow.now ≡ length carried.now.net.now.arcs }
     requires len { length labels.old ≡ nodes carried.now.net.now }
     requires node { w < nodes carried.now.net.now }
-    requires ready { IsReady label (found_of labels.old order.old count) }
+    requires ready { IsNextLabel label (found_of labels.old order.old count) }
     ensures grows { Grows label (IsBefore carried.now.net.now carried.now.arc_flow.now w)
         (found_of labels.old order.old count) (found_of labels.new order.new result) }
     ensures marked { (k : ℕ) → k < length carried.now.net.now.arcs → (arc_at carried.now.net.now k).from ≡ w →
@@ -195,7 +195,8 @@ fn mark_before(
     requires flow { length carried.now.arc_flow.now ≡ length carried.now.net.now.arcs }
     requires len { length labels.old ≡ nodes carried.now.net.now }
     requires node { w < nodes carried.now.net.now }
-    requires ready { IsReady (slice_index labels.old w + 1) (found_of labels.old order.old count) }
+    requires ready { IsNextLabel (slice_index labels.old w + 1)
+        (found_of labels.old order.old count) }
     ensures grows { Grows (slice_index labels.old w + 1)
         (IsBefore carried.now.net.now carried.now.arc_flow.now w)
         (found_of labels.old order.old count) (found_of labels.new order.new result) }
@@ -226,7 +227,8 @@ pub fn write_distances(
     requires rooms { AreRooms net.now rooms.now }
     requires labels_len { length labels.old ≡ nodes net.now }
     requires order_len { length order.old ≡ nodes net.now }
-    ensures { AreDistances net.now (flow_by arc_flow.now (given net.now rooms.now)) labels.new }
+    ensures { AreDistances net.now
+        (flow_by arc_flow.now (sink_flows net.now rooms.now)) labels.new }
 {
     let carried = Carried {
         net,
@@ -259,8 +261,8 @@ fn mark_place(
     requires len { length labels.old ≡ nodes net.now }
     requires node { w < nodes net.now }
     requires place { IsPlace rows.now w p }
-    requires ready { IsReady label (found_of labels.old order.old count) }
-    ensures grows { Grows label (IsBefore net.now (carried rows.now) w)
+    requires ready { IsNextLabel label (found_of labels.old order.old count) }
+    ensures grows { Grows label (IsBefore net.now (carried_flow rows.now) w)
         (found_of labels.old order.old count) (found_of labels.new order.new result) }
     ensures marked { 0 < residual_at rows.now (opposite_at rows.now p) →
         slice_index labels.new (head_at rows.now p) ≤ label }
@@ -286,10 +288,10 @@ fn mark_row(
     requires rows { IsRows net.now rows.now }
     requires len { length labels.old ≡ nodes net.now }
     requires node { w < nodes net.now }
-    requires ready { IsReady label (found_of labels.old order.old count) }
-    ensures grows { Grows label (IsBefore net.now (carried rows.now) w)
+    requires ready { IsNextLabel label (found_of labels.old order.old count) }
+    ensures grows { Grows label (IsBefore net.now (carried_flow rows.now) w)
         (found_of labels.old order.old count) (found_of labels.new order.new result) }
-    ensures marked { (v : ℕ) → IsBefore net.now (carried rows.now) w v → slice_index labels.new v ≤ label }
+    ensures marked { (v : ℕ) → IsBefore net.now (carried_flow rows.now) w v → slice_index labels.new v ≤ label }
 {
     'row: for p in rows.starts[w]..rows.starts[w + 1] {
         count = mark_place(net, rows, labels, order, count, w, p as usize, label);
@@ -310,10 +312,12 @@ pub(crate) fn mark_behind(
     requires rows { IsRows net.now rows.now }
     requires len { length labels.old ≡ nodes net.now }
     requires node { w < nodes net.now }
-    requires ready { IsReady (slice_index labels.old w + 1) (found_of labels.old order.old count) }
-    ensures grows { Grows (slice_index labels.old w + 1) (IsBefore net.now (carried rows.now) w)
+    requires ready { IsNextLabel (slice_index labels.old w + 1)
+        (found_of labels.old order.old count) }
+    ensures grows { Grows (slice_index labels.old w + 1)
+        (IsBefore net.now (carried_flow rows.now) w)
         (found_of labels.old order.old count) (found_of labels.new order.new result) }
-    ensures marked { (v : ℕ) → IsBefore net.now (carried rows.now) w v →
+    ensures marked { (v : ℕ) → IsBefore net.now (carried_flow rows.now) w v →
         slice_index labels.new v ≤ slice_index labels.old w + 1 }
 {
     let label = labels[w] + 1;
@@ -332,7 +336,7 @@ pub fn write_row_distances(
     requires rooms { AreRooms net.now rooms.now }
     requires labels_len { length labels.old ≡ nodes net.now }
     requires order_len { length order.old ≡ nodes net.now }
-    ensures { AreDistances net.now (flow_by (carried rows.now) (given net.now rooms.now)) labels.new }
+    ensures { AreDistances net.now (flow_by (carried_flow rows.now) (sink_flows net.now rooms.now)) labels.new }
 {
     let mut count = mark_starts(net, rooms, labels, order);
     let mut next = 0;

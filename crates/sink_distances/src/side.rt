@@ -1,5 +1,5 @@
 ghost use Rattle.std.specs.Prelude.{◌≡◌, ℕ, IfOk, length, map, nat_lt, slice_index_or, false};
-ghost use Rattle.flow_network.specs.Preflow.{Flow, flow_by, given, AreRooms, IsReach};
+ghost use Rattle.flow_network.specs.Preflow.{Flow, flow_by, sink_flows, AreRooms, IsReach};
 ghost use Rattle.flow_network.specs.Progress.{top};
 ghost use Rattle.sink_distances.specs.Distances.{AreDistances};
 
@@ -19,7 +19,7 @@ pub fn distances(
     requires arcs_len { length arc_flow.now ≡ length net.now.arcs }
     requires rooms { AreRooms net.now rooms.now }
     ensures { IfOk result (λ labels.
-        AreDistances net.now (flow_by arc_flow.now (given net.now rooms.now)) labels.items) }
+        AreDistances net.now (flow_by arc_flow.now (sink_flows net.now rooms.now)) labels.items) }
 {
     let adjacency = arcs_by_node(alloc, net)?;
     let mut labels = vec![in alloc; 0u32; net.nodes()]?;

@@ -1,4 +1,5 @@
 -- The pairs of a site, and what is told of all pairs by those of each site.
+use Rattle.deciding.specs.Working.{AreEnds}
 use Rattle.std.proofs.Common.{◌≡◌, ◌≢◌, ◌⊎◌, ◌==◌, ℕ, ◌+◌, ◌-◌, ◌<◌, Bool, true, false, cond, List, length, All, refl, sym, ap, ◌∙◌, subst, inl, inr, arith}
 use Rattle.std.proofs.lemmas.Bool.{eq-eqb, ne_eqb}
 use Rattle.std.specs.List.{Contains}
@@ -7,11 +8,11 @@ use Rattle.move_energy.specs.declared.by_site.Neighbours.{Neighbours}
 use Rattle.label_field.specs.declared.pair.Pair.{Pair}
 use Rattle.label_field.specs.PairLists.{PairList, IsPair}
 use Rattle.labellings.specs.Energies.{Instance}
-use Rattle.move_energy.specs.BySite.{AreBySite, degree, start_at, head_at, weight_at, is_first, grouped_at, pair_in, pair_of, pair_beside}
+use Rattle.move_energy.specs.BySite.{AreBySite, degree, neighbours_start, neighbour_at, weight_at, is_first, grouped_at, pair_in, pair_of, pair_beside}
 use Rattle.move_energy.proofs.PairEnds.{Touches, touching_found}
 use Rattle.move_energy.proofs.Parts.{from_touches, pair_has}
 use Rattle.stages.specs.Fresh.{AreFresh, IsFreshAcross}
-use Rattle.stages.specs.Looking.{AreEnds, AreBeside, IsNearChange}
+use Rattle.stages.specs.Looking.{AreBeside, IsNearChange}
 use Rattle.stages.specs.Working.{IsMarkedAcross, IsMarkedAround}
 
 abbrev none : Pair
@@ -22,8 +23,8 @@ pub pair_met : (pairs : PairList) (ends : Neighbours) (site i : ℕ) → AreBySi
     → (k : ℕ) × (k < degree ends site) × (pair_of ends site k ≡ pair_in pairs.list i)
 pair_met pairs ends site i by_site inside l touches =
     let found = touching_found pairs.list pairs.sites site i none (grouped_at ends by_site.places) by_site.grouped l touches in
-    let k = found.0 - start_at ends site in
-    let at : start_at ends site + k ≡ found.0 = omega (arith, found.1) in
+    let k = found.0 - neighbours_start ends site in
+    let at : neighbours_start ends site + k ≡ found.0 = omega (arith, found.1) in
     (k, omega (arith, found.1, found.2), ap (pair_beside ends site) at ∙ by_site.each site found.0 inside found.1 found.2 ∙ ap (pair_in pairs.list) found.3)
 
 -- what is true of each pair by its number is true of all
@@ -51,7 +52,7 @@ other_inside n pair site other is e = omega (arith, e, other_of (pair.first == s
 
 -- the pairs of a site touch it
 touches : (ends : Neighbours) (site k : ℕ) → Touches site (pair_of ends site k)
-touches ends site k = from_touches (is_first ends site (start_at ends site + k)) site (head_at ends (start_at ends site + k)) (weight_at ends (start_at ends site + k))
+touches ends site k = from_touches (is_first ends site (neighbours_start ends site + k)) site (neighbour_at ends (neighbours_start ends site + k)) (weight_at ends (neighbours_start ends site + k))
 
 ends_are : (pair : Pair) (site other : ℕ) → pair.first ≢ pair.second → Touches site pair → other ≡ cond (pair.first == site) pair.second pair.first → AreEnds pair site other
 ends_are pair site other apart (inl first) is = inl (first, sym (is ∙ ap (λ b. cond b pair.second pair.first) (eq-eqb pair.first site first)))

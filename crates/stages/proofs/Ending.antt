@@ -3,7 +3,7 @@ use Rattle.std.proofs.Common.{◌≡◌, ℕ, ◌<◌, Bool, true, false, cond, 
 use Rattle.std.proofs.lemmas.Int.{ints}
 use Rattle.labellings.specs.declared.change.Move.TheVariants.{Expand}
 use Rattle.labellings.specs.Energies.{Instance, IsInstance, AreLabelsFree, labelling}
-use Rattle.labellings.specs.Moves.{IsBest, IsAllowed, made}
+use Rattle.labellings.specs.Moves.{IsBest, IsAllowed, labelling_made}
 use Rattle.labellings.proofs.Best.{made-reached}
 use Rattle.labellings.proofs.Energy.{free-plain}
 use Rattle.labellings.proofs.Repeating.{best_again}
@@ -13,7 +13,7 @@ use Rattle.move_energy.specs.Choices.{bit_of}
 use Rattle.deciding.specs.Decisions.{IsOver, IsSmallestLeast}
 use Rattle.deciding.specs.MoveValues.{move_value}
 use Rattle.deciding.proofs.Rises.{move_falls, move_over}
-use Rattle.closing_in.specs.Fixing.{fixed, fixed_value, AreLeastZeros, LiesWithin, IsLeftOpen}
+use Rattle.closing_in.specs.Fixing.{with_choices, fixed_value, AreLeastZeros, OnesLieWithin, IsLeftOpen}
 use Rattle.stages.specs.Fresh.{LowersNothing, WasExpanded, AreFresh, HoldsFresh, IsPartOf}
 use Rattle.stages.proofs.Parts.{swapped_le, closing}
 use Rattle.closing_in.proofs.Fixing.{ones_bound}
@@ -22,7 +22,7 @@ use Rattle.closing_in.proofs.Existing.{least_exists}
 pub best_is_low : (m : Instance) (a : ℕ) (f g : List ℕ) → AreLabelsFree m → IsBest m (Expand a) f g → LowersNothing m a (labelling g)
 best_is_low m a f g free best x =
     let low = (best_again m (Expand a) f g best).lowest _ (made-reached (Expand a) m.sites (labelling g) x) in
-    omega (arith, free-plain m (labelling g) free, free-plain m (made (Expand a) (labelling g) x) free, low)
+    omega (arith, free-plain m (labelling g) free, free-plain m (labelling_made (Expand a) (labelling g) x) free, low)
 
 abbrev in_place : (ℕ → Bool) → (ℕ → Bool) → (ℕ → Bool) → ℕ → Bool
 in_place s t R k = cond (R k) (s k) (t k)
@@ -59,21 +59,21 @@ smallest_same n E x y over best same = record {
 set_within : (m : Instance) (a : ℕ) (f : ℕ → ℕ) (choice : ℕ → Choice) (s z R : ℕ → Bool) → IsInstance m
     → IsSmallestLeast m.sites (move_value m (Expand a) f) s
     → IsSmallestLeast m.sites (fixed_value (move_value m (Expand a) f) choice) z
-    → LiesWithin m.sites s R → IsPartOf m a f (fixed choice z) R
-    → IsLeftOpen m.sites choice R → LiesWithin m.sites R s
+    → OnesLieWithin m.sites s R → IsPartOf m a f (with_choices choice z) R
+    → IsLeftOpen m.sites choice R → OnesLieWithin m.sites R s
 set_within m a f choice s z R pairs best least inner is opened p l one =
     let E = move_value m (Expand a) f in
-    let new = in_place s (fixed choice z) R in
-    let kept : E (fixed choice new) ≡ E new =
-    move_over m (Expand a) f pairs (fixed choice new) new (λ k below. fixed_in_place (choice k) (R k) (s k) (z k) (opened k below)) in
-    let level = level_from (E (fixed choice new)) (E new) (E (fixed choice z)) kept (swapped_le m a f s (fixed choice z) R pairs best inner is) (least.least new) in
+    let new = in_place s (with_choices choice z) R in
+    let kept : E (with_choices choice new) ≡ E new =
+    move_over m (Expand a) f pairs (with_choices choice new) new (λ k below. fixed_in_place (choice k) (R k) (s k) (z k) (opened k below)) in
+    let level = level_from (E (with_choices choice new)) (E new) (E (with_choices choice z)) kept (swapped_le m a f s (with_choices choice z) R pairs best inner is) (least.least new) in
     let here : z p ≡ true = sym (open_bit (choice p) (z p) (opened p l one)) ∙ is.within p l one in
-    sym (ap (λ b. cond b (s p) (fixed choice z p)) one) ∙ least.smallest new level p l here
+    sym (ap (λ b. cond b (s p) (with_choices choice z p)) one) ∙ least.smallest new level p l here
 
 pub set_least : (m : Instance) (a : ℕ) (f : ℕ → ℕ) (choice : ℕ → Choice) (s z R : ℕ → Bool) → IsInstance m
     → IsSmallestLeast m.sites (move_value m (Expand a) f) s
     → IsSmallestLeast m.sites (fixed_value (move_value m (Expand a) f) choice) z
-    → LiesWithin m.sites s R → IsPartOf m a f (fixed choice z) R
+    → OnesLieWithin m.sites s R → IsPartOf m a f (with_choices choice z) R
     → IsLeftOpen m.sites choice R → IsSmallestLeast m.sites (move_value m (Expand a) f) R
 set_least m a f choice s z R pairs best least inner is opened =
     smallest_same m.sites (move_value m (Expand a) f) s R (move_over m (Expand a) f pairs) best
@@ -82,12 +82,12 @@ set_least m a f choice s z R pairs best least inner is opened =
 -- all together: a stage whose closed set holds the fresh sites ends the move
 pub stage_ends : (m : Instance) (a : ℕ) (f : ℕ → ℕ) (changed fresh : ℕ → Bool) (choice : ℕ → Choice) (z R : ℕ → Bool) → IsInstance m → IsAllowed m (Expand a) f
     → WasExpanded m a changed f → AreFresh m a f changed fresh → AreLeastZeros m.sites (move_value m (Expand a) f) choice
-    → IsSmallestLeast m.sites (fixed_value (move_value m (Expand a) f) choice) z → IsPartOf m a f (fixed choice z) R
-    → HoldsFresh m.sites fresh (fixed choice z) R → IsLeftOpen m.sites choice R → IsSmallestLeast m.sites (move_value m (Expand a) f) R
+    → IsSmallestLeast m.sites (fixed_value (move_value m (Expand a) f) choice) z → IsPartOf m a f (with_choices choice z) R
+    → HoldsFresh m.sites fresh (with_choices choice z) R → IsLeftOpen m.sites choice R → IsSmallestLeast m.sites (move_value m (Expand a) f) R
 stage_ends m a f changed fresh choice z R pairs allowed was are_fresh zeros least is looked opened =
     let falls = move_falls m (Expand a) f pairs allowed in
     let over = move_over m (Expand a) f pairs in
     let s = least_exists m.sites (move_value m (Expand a) f) falls over in
     let bound = ones_bound m.sites (move_value m (Expand a) f) choice s.0 z falls over s.1 (zeros s.0 s.1) least.least in
-    let inner = closing m a f changed fresh s.0 (fixed choice z) R pairs was are_fresh s.1 bound is.apart looked in
+    let inner = closing m a f changed fresh s.0 (with_choices choice z) R pairs was are_fresh s.1 bound is.apart looked in
     set_least m a f choice s.0 z R pairs s.1 least inner is opened

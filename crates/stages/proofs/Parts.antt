@@ -10,12 +10,12 @@ use Rattle.label_field.specs.declared.pair.Pair.{Pair}
 use Rattle.label_field.specs.PairLists.{IsPair}
 use Rattle.labellings.specs.declared.change.Move.TheVariants.{Expand}
 use Rattle.labellings.specs.Energies.{Instance, IsInstance, plain_energy, pair_cost}
-use Rattle.labellings.specs.Moves.{made}
+use Rattle.labellings.specs.Moves.{labelling_made}
 use Rattle.labellings.proofs.Energy.{plain-same}
 use Rattle.deciding.specs.Decisions.{set_bit, IsSmallestLeast}
 use Rattle.deciding.specs.MoveValues.{move_value}
 use Rattle.deciding.proofs.Putting.{set_at, set_other}
-use Rattle.closing_in.specs.Fixing.{LiesWithin}
+use Rattle.closing_in.specs.Fixing.{OnesLieWithin}
 use Rattle.stages.specs.Fresh.{WasExpanded, IsFreshAcross, AreFresh, HoldsNoFresh, HoldsFresh, IsApart, IsPartOf}
 
 -- ---- four labellings of which two and two are equal, one way or the other, at each site and at each pair
@@ -83,7 +83,7 @@ indifferent a old false false h = refl
 indifferent a old true false h = sym h
 indifferent a old false true h = h
 
-label_same : (a : ℕ) (f : ℕ → ℕ) (x y : ℕ → Bool) (p : ℕ) → x p ≡ y p → made (Expand a) f x p ≡ made (Expand a) f y p
+label_same : (a : ℕ) (f : ℕ → ℕ) (x y : ℕ → Bool) (p : ℕ) → x p ≡ y p → labelling_made (Expand a) f x p ≡ labelling_made (Expand a) f y p
 label_same a f x y p h = ap (λ b. cond b a (f p)) h
 
 -- so its variable is 0
@@ -91,7 +91,7 @@ pub ones_can_take : (m : Instance) (a : ℕ) (f : ℕ → ℕ) (s : ℕ → Bool
     → s p ≡ true → f p ≢ a
 ones_can_take m a f s p pairs best l one has =
     let off = set_bit s p false in
-    let same = plain-same m (made (Expand a) f off) (made (Expand a) f s) pairs (λ q below. elim (cases_eq q p) [
+    let same = plain-same m (labelling_made (Expand a) f off) (labelling_made (Expand a) f s) pairs (λ q below. elim (cases_eq q p) [
       | inl here ↦ indifferent a (f q) (off q) (s q) (ap f here ∙ has)
       | inr other ↦ label_same a f off s q (set_other s p q false other)
     ]) in
@@ -122,8 +122,8 @@ Beside a old new s part p = (part p ≡ false) × (new p ≡ old p) × ((s p ≡
 
 abbrev Level : ℕ → (ℕ → ℕ) → (ℕ → ℕ) → (ℕ → Bool) → (ℕ → Bool) → ℕ → Type 0
 Level a old new s part p =
-    (made (Expand a) new s p ≡ made (Expand a) old part p)
-    × (made (Expand a) new (without s part) p ≡ made (Expand a) old (λ q. false) p)
+    (labelling_made (Expand a) new s p ≡ labelling_made (Expand a) old part p)
+    × (labelling_made (Expand a) new (without s part) p ≡ labelling_made (Expand a) old (λ q. false) p)
 
 inside_level : (a : ℕ) (old new : ℕ → ℕ) (s part : ℕ → Bool) (p : ℕ) → Inside a old new s part p → Level a old new s part p
 inside_level a old new s part p is = (
@@ -145,8 +145,8 @@ beside_level a old new s part p is =
 
 abbrev Apart : ℕ → (ℕ → ℕ) → (ℕ → ℕ) → (ℕ → Bool) → (ℕ → Bool) → ℕ → Type 0
 Apart a old new s part p =
-    (made (Expand a) new s p ≡ made (Expand a) new (without s part) p)
-    × (made (Expand a) old part p ≡ made (Expand a) old (λ q. false) p)
+    (labelling_made (Expand a) new s p ≡ labelling_made (Expand a) new (without s part) p)
+    × (labelling_made (Expand a) old part p ≡ labelling_made (Expand a) old (λ q. false) p)
 
 off_apart : (a : ℕ) (old new : ℕ → ℕ) (s part : ℕ → Bool) (p : ℕ) → part p ≡ false → Apart a old new s part p
 off_apart a old new s part p none = (
@@ -192,12 +192,12 @@ no_stale_part m a new changed fresh s part pairs was are_fresh best is stale p l
     false_of (changed u) (λ ch. clash (fresh u) (are_fresh.own u lu (can u lu one) ch) (stale u lu one)) in
     let mine = λ (u : ℕ) (lu : u < m.sites) (one : part u ≡ true).
     inside_level a old new s part u (is.within u lu one, one, marked u lu (own u lu one)) in
-    let at_sites : (u : ℕ) → u < m.sites → Paired (made (Expand a) new s) (made (Expand a) new (without s part)) (made (Expand a) old part) (made (Expand a) old (λ q. false)) u u =
+    let at_sites : (u : ℕ) → u < m.sites → Paired (labelling_made (Expand a) new s) (labelling_made (Expand a) new (without s part)) (labelling_made (Expand a) old part) (labelling_made (Expand a) old (λ q. false)) u u =
     λ u lu. elim (cases_Bool (part u)) [
       | inl one ↦ (let e = mine u lu one in inl (e.0, e.0, e.1, e.1))
       | inr off ↦ (let e = off_apart a old new s part u off in inr (e.0, e.0, e.1, e.1))
     ] in
-    let at_pairs : All (λ pair. Paired (made (Expand a) new s) (made (Expand a) new (without s part)) (made (Expand a) old part) (made (Expand a) old (λ q. false)) pair.first pair.second) m.pairs =
+    let at_pairs : All (λ pair. Paired (labelling_made (Expand a) new s) (labelling_made (Expand a) new (without s part)) (labelling_made (Expand a) old part) (labelling_made (Expand a) old (λ q. false)) pair.first pair.second) m.pairs =
     λ i d li.
     let pair : Pair = get_or m.pairs i d in
     let ends : IsPair m.sites pair = pairs i d li in
@@ -219,7 +219,7 @@ no_stale_part m a new changed fresh s part pairs was are_fresh best is stale p l
           let e = across a old new changed s part pair.first (marked pair.first ends.first) still (is.within pair.first ends.first) (sep.1 one) in
           inl (e.0, g.0, e.1, g.1)
     ] in
-    let even = plain_even m (made (Expand a) new s) (made (Expand a) new (without s part)) (made (Expand a) old part) (made (Expand a) old (λ q. false)) at_sites at_pairs in
+    let even = plain_even m (labelling_made (Expand a) new s) (labelling_made (Expand a) new (without s part)) (labelling_made (Expand a) old part) (labelling_made (Expand a) old (λ q. false)) at_sites at_pairs in
     let base = was.lowest part in
     let least = best.least (without s part) in
     let level : move_value m (Expand a) new (without s part) ≡ move_value m (Expand a) new s = ap pos (omega (arith, ints, even, base, least)) in
@@ -245,7 +245,7 @@ left_apart a f s t R u v bound_v bound_u can closed here takes may =
 
 pub closing : (m : Instance) (a : ℕ) (new : ℕ → ℕ) (changed fresh s t R : ℕ → Bool) → IsInstance m → WasExpanded m a changed new
     → AreFresh m a new changed fresh → IsSmallestLeast m.sites (move_value m (Expand a) new) s
-    → LiesWithin m.sites s t → All (IsApart a new t R) m.pairs → HoldsFresh m.sites fresh t R → LiesWithin m.sites s R
+    → OnesLieWithin m.sites s t → All (IsApart a new t R) m.pairs → HoldsFresh m.sites fresh t R → OnesLieWithin m.sites s R
 closing m a new changed fresh s t R pairs was are_fresh best bound apart looked p l one =
     let is : IsPartOf m a new s (without s R) = record {
       within = λ q lq h. (kept_parts (s q) (R q) h).0;
@@ -274,8 +274,8 @@ swapped s t R k = cond (R k) (s k) (t k)
 
 abbrev Four : ℕ → (ℕ → ℕ) → (ℕ → Bool) → (ℕ → Bool) → (ℕ → Bool) → ℕ → Type 0
 Four a f s t R p =
-    (made (Expand a) f t p ≡ made (Expand a) f R p)
-    × (made (Expand a) f (swapped s t R) p ≡ made (Expand a) f s p)
+    (labelling_made (Expand a) f t p ≡ labelling_made (Expand a) f R p)
+    × (labelling_made (Expand a) f (swapped s t R) p ≡ labelling_made (Expand a) f s p)
 
 four_in : (a : ℕ) (f : ℕ → ℕ) (s t R : ℕ → Bool) (p : ℕ) → R p ≡ true → t p ≡ true → Four a f s t R p
 four_in a f s t R p one takes = (label_same a f t R p (takes ∙ sym one), label_same a f (swapped s t R) s p (ap (λ b. cond b (s p) (t p)) one))
@@ -289,8 +289,8 @@ four_beside a f s t R p off none low =
 
 abbrev Two : ℕ → (ℕ → ℕ) → (ℕ → Bool) → (ℕ → Bool) → (ℕ → Bool) → ℕ → Type 0
 Two a f s t R p =
-    (made (Expand a) f t p ≡ made (Expand a) f (swapped s t R) p)
-    × (made (Expand a) f R p ≡ made (Expand a) f s p)
+    (labelling_made (Expand a) f t p ≡ labelling_made (Expand a) f (swapped s t R) p)
+    × (labelling_made (Expand a) f R p ≡ labelling_made (Expand a) f s p)
 
 two_off : (a : ℕ) (f : ℕ → ℕ) (s t R : ℕ → Bool) (p : ℕ) → R p ≡ false → s p ≡ false → Two a f s t R p
 two_off a f s t R p off none =
@@ -307,15 +307,15 @@ four_across a f s t R v inner within apart = elim (cases_Bool (R v)) [
 ]
 
 pub swapped_le : (m : Instance) (a : ℕ) (f : ℕ → ℕ) (s t R : ℕ → Bool) → IsInstance m → IsSmallestLeast m.sites (move_value m (Expand a) f) s
-    → LiesWithin m.sites s R → IsPartOf m a f t R → move_value m (Expand a) f (swapped s t R) ≤ℤ move_value m (Expand a) f t
+    → OnesLieWithin m.sites s R → IsPartOf m a f t R → move_value m (Expand a) f (swapped s t R) ≤ℤ move_value m (Expand a) f t
 swapped_le m a f s t R pairs best inner is =
     let off = λ (p : ℕ) (l : p < m.sites) (none : R p ≡ false). false_of (s p) (λ h. clash (R p) (inner p l h) none) in
-    let at_sites : (p : ℕ) → p < m.sites → Paired (made (Expand a) f t) (made (Expand a) f (swapped s t R)) (made (Expand a) f R) (made (Expand a) f s) p p =
+    let at_sites : (p : ℕ) → p < m.sites → Paired (labelling_made (Expand a) f t) (labelling_made (Expand a) f (swapped s t R)) (labelling_made (Expand a) f R) (labelling_made (Expand a) f s) p p =
     λ p l. elim (cases_Bool (R p)) [
       | inl one ↦ (let e = four_in a f s t R p one (is.within p l one) in inl (e.0, e.0, e.1, e.1))
       | inr none ↦ (let e = two_off a f s t R p none (off p l none) in inr (e.0, e.0, e.1, e.1))
     ] in
-    let at_pairs : All (λ pair. Paired (made (Expand a) f t) (made (Expand a) f (swapped s t R)) (made (Expand a) f R) (made (Expand a) f s) pair.first pair.second) m.pairs =
+    let at_pairs : All (λ pair. Paired (labelling_made (Expand a) f t) (labelling_made (Expand a) f (swapped s t R)) (labelling_made (Expand a) f R) (labelling_made (Expand a) f s) pair.first pair.second) m.pairs =
     λ i d li.
     let pair : Pair = get_or m.pairs i d in
     let ends : IsPair m.sites pair = pairs i d li in
@@ -334,6 +334,6 @@ swapped_le m a f s t R pairs best inner is =
           let e = four_across a f s t R pair.first (inner pair.first ends.first) (is.within pair.first ends.first) (sep.1 one) in
           inl (e.0, g.0, e.1, g.1)
     ] in
-    let even = plain_even m (made (Expand a) f t) (made (Expand a) f (swapped s t R)) (made (Expand a) f R) (made (Expand a) f s) at_sites at_pairs in
+    let even = plain_even m (labelling_made (Expand a) f t) (labelling_made (Expand a) f (swapped s t R)) (labelling_made (Expand a) f R) (labelling_made (Expand a) f s) at_sites at_pairs in
     let least = best.least R in
     omega (arith, ints, even, least)

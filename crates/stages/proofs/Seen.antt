@@ -9,11 +9,11 @@ use Rattle.labellings.specs.Energies.{labelling}
 use Rattle.move_energy.specs.BySite.{AreBySite, pair_in, pair_of}
 use Rattle.move_energy.specs.declared.choice.Choice.{Choice}
 use Rattle.move_energy.specs.declared.choice.Choice.TheVariants.{Open, Zero}
-use Rattle.move_energy.specs.Choices.{bit_of, choice_at, rank, value_of, IsNumbering}
+use Rattle.move_energy.specs.Choices.{bit_of, choice_at, open_rank, value_of, IsNumbering}
 use Rattle.stages.specs.declared.stage.Stage.{Stage}
 use Rattle.stages.specs.Fresh.{IsApart}
-use Rattle.stages.specs.Looking.{marked, AreTaking, IsClosedIn}
-use Rattle.stages.specs.Working.{IsMarkedToo, IsListedToo, AreMarks, AreShown, IsWider, IsSeen, IsSeenAcross, AreSeenAround}
+use Rattle.stages.specs.Looking.{is_marked, AreTaking, IsClosedIn}
+use Rattle.stages.specs.Working.{IsMarkedToo, IsListedToo, AreSiteMarks, AreShown, IsWider, IsSiteSeen, IsSeenAcross, AreSeenAround}
 use Rattle.stages.proofs.Marks.{marks_more, too_stays}
 use Rattle.stages.proofs.Around.{pair_met, of_all, of_one}
 
@@ -34,7 +34,7 @@ wider_then first now new one two = record {
   front = omega (arith, one.front, two.front);
 }
 
-pub seen_wider : (choices : List Choice) (bits : List Bool) (site : ℕ) (old new : Stage) → IsWider old new → IsSeen choices bits site old → IsSeen choices bits site new
+pub seen_wider : (choices : List Choice) (bits : List Bool) (site : ℕ) (old new : Stage) → IsWider old new → IsSiteSeen choices bits site old → IsSiteSeen choices bits site new
 seen_wider choices bits site old new wider seen none held = wider.taken site (seen (omega (arith, none, wider.front)) held)
 
 pub across_wider : (choices : List Choice) (bits : List Bool) (site : ℕ) (pair : Pair) (old new : Stage) → IsWider old new
@@ -53,10 +53,10 @@ around_wider pairs ends choices bits site old new wider around k l = across_wide
 pub value_open : (choices : List Choice) (numbers : List ℕ) (bits : List Bool) (site : ℕ) → IsNumbering choices numbers → site < length choices → choice_at choices site ≡ Open
     → value_of choices bits site ≡ get_or bits (labelling numbers site) false
 value_open choices numbers bits site numbering l opened =
-    ap (λ (c : Choice). bit_of c (get_or bits (rank choices site) false)) opened ∙ ap (λ k. get_or bits k false) (sym (numbering.each site l opened))
+    ap (λ (c : Choice). bit_of c (get_or bits (open_rank choices site) false)) opened ∙ ap (λ k. get_or bits k false) (sym (numbering.each site l opened))
 
 pub value_zero : (choices : List Choice) (bits : List Bool) (site : ℕ) → choice_at choices site ≡ Zero → value_of choices bits site ≡ false
-value_zero choices bits site is = ap (λ (c : Choice). bit_of c (get_or bits (rank choices site) false)) is
+value_zero choices bits site is = ap (λ (c : Choice). bit_of c (get_or bits (open_rank choices site) false)) is
 
 -- a site is taken
 pub shown_taken : (choices : List Choice) (bits : List Bool) (site : ℕ) (old new : Stage) → site < length choices → choice_at choices site ≡ Open
@@ -77,8 +77,8 @@ pub wider_taken : (site : ℕ) (old new : Stage) → IsMarkedToo site old.taken.
     → new.front.items ≡ old.front.items → IsWider old new
 wider_taken site old new too listed front = record {
   taken = too_stays site old.taken.items new.taken.items too;
-  more = (let e = ap (λ (xs : List ℕ). length xs) listed in omega (arith, e, length-append old.taking.items (cond (marked old.taken.items site) [] (site ∷ []))));
-  same = λ k l. ap (λ (xs : List ℕ). get_or xs k 0) listed ∙ get_or_append_left old.taking.items (cond (marked old.taken.items site) [] (site ∷ [])) 0 k l;
+  more = (let e = ap (λ (xs : List ℕ). length xs) listed in omega (arith, e, length-append old.taking.items (cond (is_marked old.taken.items site) [] (site ∷ []))));
+  same = λ k l. ap (λ (xs : List ℕ). get_or xs k 0) listed ∙ get_or_append_left old.taking.items (cond (is_marked old.taken.items site) [] (site ∷ [])) 0 k l;
   front = (let e = ap (λ (xs : List ℕ). length xs) front in omega (arith, e));
 }
 
@@ -87,37 +87,37 @@ pub shown_waits : (choices : List Choice) (bits : List Bool) (site : ℕ) (old n
     → new.front.items ≡ old.front.items ++ site ∷ [] → AreShown choices bits old → AreShown choices bits new
 shown_waits choices bits site old new l taken taking front shown =
     let P : List ℕ → Type 0 = λ xs. All (λ p. p < length choices) xs in
-    let Q : List Bool → List ℕ → Type 0 = λ flags xs. AreMarks (length choices) flags xs in
+    let Q : List Bool → List ℕ → Type 0 = λ flags xs. AreSiteMarks (length choices) flags xs in
     let R : List ℕ → Type 0 = λ xs. Q old.taken.items xs in
     let S : List Bool → Type 0 = λ flags. Q flags new.taking.items in
     record {
       marks = subst S (sym taken) (subst R (sym taking) shown.marks);
-      shown = λ p k held. shown.shown p k (sym (ap (λ (xs : List Bool). marked xs p) taken) ∙ held);
+      shown = λ p k held. shown.shown p k (sym (ap (λ (xs : List Bool). is_marked xs p) taken) ∙ held);
       front = subst P (sym front) (All-push (λ p. p < length choices) old.front.items site shown.front l);
     }
 
 pub wider_waits : (site : ℕ) (old new : Stage) → new.taken.items ≡ old.taken.items → new.taking.items ≡ old.taking.items
     → new.front.items ≡ old.front.items ++ site ∷ [] → IsWider old new
 wider_waits site old new taken taking front = record {
-  taken = λ p held. ap (λ (xs : List Bool). marked xs p) taken ∙ held;
+  taken = λ p held. ap (λ (xs : List Bool). is_marked xs p) taken ∙ held;
   more = (let e = ap (λ (xs : List ℕ). length xs) taking in omega (arith, e));
   same = λ k l. ap (λ (xs : List ℕ). get_or xs k 0) taking;
   front = (let e = ap (λ (xs : List ℕ). length xs) front in omega (arith, e, length-append old.front.items (site ∷ [])));
 }
 
-pub seen_waits : (choices : List Choice) (bits : List Bool) (site : ℕ) (old new : Stage) → new.front.items ≡ old.front.items ++ site ∷ [] → IsSeen choices bits site new
+pub seen_waits : (choices : List Choice) (bits : List Bool) (site : ℕ) (old new : Stage) → new.front.items ≡ old.front.items ++ site ∷ [] → IsSiteSeen choices bits site new
 seen_waits choices bits site old new front none held =
     (let e = ap (λ (xs : List ℕ). length xs) front in absurd (omega (arith, e, none, length-append old.front.items (site ∷ []))))
 
 -- ---- closed
 
 apart_across : (pairs : PairList) (ends : Neighbours) (choices : List Choice) (bits : List Bool) (stage : Stage) (a : ℕ) (f : ℕ → ℕ) (i : ℕ) → AreBySite pairs ends
-    → All (IsPair pairs.sites) pairs.list → AreMarks pairs.sites stage.taken.items stage.taking.items → All (λ p. AreSeenAround pairs ends choices bits p stage) stage.taking.items
-    → length stage.front.items ≡ 0 → i < length pairs.list → IsApart a f (value_of choices bits) (marked stage.taken.items) (pair_in pairs.list i)
+    → All (IsPair pairs.sites) pairs.list → AreSiteMarks pairs.sites stage.taken.items stage.taking.items → All (λ p. AreSeenAround pairs ends choices bits p stage) stage.taking.items
+    → length stage.front.items ≡ 0 → i < length pairs.list → IsApart a f (value_of choices bits) (is_marked stage.taken.items) (pair_in pairs.list i)
 apart_across pairs ends choices bits stage a f i by_site are marks around none l =
     let pair = pair_in pairs.list i in
     let is = of_one (IsPair pairs.sites) pairs.list i are l in
-    let seen : (p : ℕ) → marked stage.taken.items p ≡ true → p < pairs.sites → AreSeenAround pairs ends choices bits p stage =
+    let seen : (p : ℕ) → is_marked stage.taken.items p ≡ true → p < pairs.sites → AreSeenAround pairs ends choices bits p stage =
     λ p held inside. All-contains (λ q. AreSeenAround pairs ends choices bits q stage) stage.taking.items p around ((marks.listed p inside).0 held) in (
       (λ held one could.
           let met = pair_met pairs ends pair.first i by_site is.first l (inl refl) in
@@ -131,15 +131,15 @@ apart_across pairs ends choices bits stage a f i by_site are marks around none l
 
 pub closes : (pairs : PairList) (ends : Neighbours) (choices : List Choice) (bits : List Bool) (stage : Stage) → AreBySite pairs ends → All (IsPair pairs.sites) pairs.list
     → length choices ≡ pairs.sites → AreShown choices bits stage
-    → ((p : ℕ) → p < pairs.sites → marked stage.fresh.items p ≡ true → IsSeen choices bits p stage)
+    → ((p : ℕ) → p < pairs.sites → is_marked stage.fresh.items p ≡ true → IsSiteSeen choices bits p stage)
     → All (λ p. AreSeenAround pairs ends choices bits p stage) stage.taking.items → length stage.front.items ≡ 0
-    → IsClosedIn pairs (value_of choices bits) (choice_at choices) (marked stage.taken.items) (marked stage.fresh.items)
+    → IsClosedIn pairs (value_of choices bits) (choice_at choices) (is_marked stage.taken.items) (is_marked stage.fresh.items)
 closes pairs ends choices bits stage by_site are count shown fresh around none =
-    let P : ℕ → Type 0 = λ n. AreMarks n stage.taken.items stage.taking.items in
-    let marks : AreMarks pairs.sites stage.taken.items stage.taking.items = subst P count shown.marks in
+    let P : ℕ → Type 0 = λ n. AreSiteMarks n stage.taken.items stage.taking.items in
+    let marks : AreSiteMarks pairs.sites stage.taken.items stage.taking.items = subst P count shown.marks in
     record {
       within = λ p l held. (shown.shown p (omega (arith, l, count)) held).1;
-      apart = λ a f. of_all (IsApart a f (value_of choices bits) (marked stage.taken.items)) pairs.list
+      apart = λ a f. of_all (IsApart a f (value_of choices bits) (is_marked stage.taken.items)) pairs.list
           (λ i l. apart_across pairs ends choices bits stage a f i by_site are marks around none l);
       holds_fresh = λ p l held one. fresh p l held none one;
       left_open = λ p l held. (shown.shown p (omega (arith, l, count)) held).0;

@@ -6,23 +6,24 @@ use Rattle.std.specs.List.{All}
 use Rattle.label_field.specs.declared.pair.Pair.{Pair}
 use Rattle.labellings.specs.declared.change.Move.TheVariants.{Expand}
 use Rattle.labellings.specs.Energies.{Instance, plain_energy}
-use Rattle.labellings.specs.Moves.{made}
-use Rattle.closing_in.specs.Fixing.{LiesWithin}
+use Rattle.labellings.specs.Moves.{labelling_made}
+use Rattle.closing_in.specs.Fixing.{OnesLieWithin}
 
 -- no expansion of the label makes labels that cost the sites and the pairs less than f
 abbrev pub LowersNothing : Instance → ℕ → (ℕ → ℕ) → Type 0
-LowersNothing m a f = (x : ℕ → Bool) → plain_energy m f ≤ plain_energy m (made (Expand a) f x)
+LowersNothing m a f = (x : ℕ → Bool)
+    → plain_energy m f ≤ plain_energy m (labelling_made (Expand a) f x)
 
 -- each site whose label is another now is marked
-abbrev pub AreMarked : ℕ → (ℕ → Bool) → (ℕ → ℕ) → (ℕ → ℕ) → Type 0
-AreMarked n changed old new = (p : ℕ) → p < n → changed p ≡ false → new p ≡ old p
+abbrev pub AreChangesMarked : ℕ → (ℕ → Bool) → (ℕ → ℕ) → (ℕ → ℕ) → Type 0
+AreChangesMarked n changed old new = (p : ℕ) → p < n → changed p ≡ false → new p ≡ old p
 
 -- the label was expanded before f came: from the labelling after that no expansion of the label lowers
 -- anything, and each site whose label is another in f is marked
 pub record WasExpanded (m : Instance) (a : ℕ) (changed : ℕ → Bool) (f : ℕ → ℕ) : Type 0 where
   pub old : ℕ → ℕ
   pub lowest : LowersNothing m a old
-  pub marked : AreMarked m.sites changed old f
+  pub marked : AreChangesMarked m.sites changed old f
 
 -- an end of the pair is fresh, if it could take the label and the other end changed
 abbrev pub IsFreshAcross : ℕ → (ℕ → ℕ) → (ℕ → Bool) → (ℕ → Bool) → Pair → Type 0
@@ -51,5 +52,5 @@ IsApart a f t part pair =
 
 -- the sites of the part are as in t, and no pair leads from it to others of t that could take the label
 pub record IsPartOf (m : Instance) (a : ℕ) (f : ℕ → ℕ) (t part : ℕ → Bool) : Type 0 where
-  pub within : LiesWithin m.sites part t
+  pub within : OnesLieWithin m.sites part t
   pub apart : All (IsApart a f t part) m.pairs

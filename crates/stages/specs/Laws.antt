@@ -7,7 +7,7 @@ use Rattle.labellings.specs.Energies.{Instance, IsInstance, AreLabelsFree, label
 use Rattle.labellings.specs.Moves.{IsAllowed, IsBest}
 use Rattle.deciding.specs.Decisions.{IsSmallestLeast}
 use Rattle.deciding.specs.MoveValues.{move_value}
-use Rattle.closing_in.specs.Fixing.{fixed, fixed_value, AreLeastZeros, LiesWithin, IsLeftOpen}
+use Rattle.closing_in.specs.Fixing.{with_choices, fixed_value, AreLeastZeros, OnesLieWithin, IsLeftOpen}
 use Rattle.stages.specs.Fresh.{WasExpanded, AreFresh, HoldsNoFresh, HoldsFresh, IsApart, IsPartOf}
 use Rattle.stages.specs.declared.changes.Changes.{Changes}
 use Rattle.stages.specs.Changes.{AreStamped, IsNotedMove}
@@ -29,8 +29,8 @@ abbrev pub ClosedSetHoldsLeast : Type 0
 ClosedSetHoldsLeast =
     (m : Instance) (a : ℕ) (f : ℕ → ℕ) (changed fresh s t set : ℕ → Bool)
     → IsInstance m → WasExpanded m a changed f → AreFresh m a f changed fresh
-    → IsSmallestLeast m.sites (move_value m (Expand a) f) s → LiesWithin m.sites s t
-    → All (IsApart a f t set) m.pairs → HoldsFresh m.sites fresh t set → LiesWithin m.sites s set
+    → IsSmallestLeast m.sites (move_value m (Expand a) f) s → OnesLieWithin m.sites s t
+    → All (IsApart a f t set) m.pairs → HoldsFresh m.sites fresh t set → OnesLieWithin m.sites s set
 
 -- where the sites that take the label lie within a set of open sites, and the set is a part of what takes it
 -- while the others are fixed, the set is what takes the label
@@ -39,7 +39,8 @@ ClosedSetIsLeast =
     (m : Instance) (a : ℕ) (f : ℕ → ℕ) (choice : ℕ → Choice) (s z set : ℕ → Bool)
     → IsInstance m → IsSmallestLeast m.sites (move_value m (Expand a) f) s
     → IsSmallestLeast m.sites (fixed_value (move_value m (Expand a) f) choice) z
-    → LiesWithin m.sites s set → IsPartOf m a f (fixed choice z) set → IsLeftOpen m.sites choice set
+    → OnesLieWithin m.sites s set → IsPartOf m a f (with_choices choice z) set
+    → IsLeftOpen m.sites choice set
     → IsSmallestLeast m.sites (move_value m (Expand a) f) set
 
 -- a set of open sites that is a part of what takes the label while the others are fixed, and holds the fresh
@@ -51,7 +52,8 @@ ClosedStageEndsMove =
     → WasExpanded m a changed f → AreFresh m a f changed fresh
     → AreLeastZeros m.sites (move_value m (Expand a) f) choice
     → IsSmallestLeast m.sites (fixed_value (move_value m (Expand a) f) choice) z
-    → IsPartOf m a f (fixed choice z) set → HoldsFresh m.sites fresh (fixed choice z) set
+    → IsPartOf m a f (with_choices choice z) set
+    → HoldsFresh m.sites fresh (with_choices choice z) set
     → IsLeftOpen m.sites choice set → IsSmallestLeast m.sites (move_value m (Expand a) f) set
 
 -- ---- of what a run of expansions remembers

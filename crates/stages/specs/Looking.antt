@@ -1,4 +1,5 @@
 -- Where an expansion of a label that is made once more looks, stage after stage.
+use Rattle.deciding.specs.Working.{AreEnds}
 use Rattle.std.specs.Prelude.{◌≡◌, ◌≢◌, ◌⊎◌, ◌↔◌, ℕ, ◌<◌, Bool, true, false, List, length, nat_lt, slice_index, slice_index_or}
 use Rattle.std.specs.List.{All, Contains}
 use Rattle.label_field.specs.declared.pair.Pair.{Pair}
@@ -6,20 +7,16 @@ use Rattle.label_field.specs.PairLists.{PairList}
 use Rattle.labellings.specs.Energies.{Instance}
 use Rattle.move_energy.specs.declared.choice.Choice.{Choice}
 use Rattle.stages.specs.declared.stage.Stage.{Stage}
-use Rattle.closing_in.specs.Fixing.{LiesWithin, IsLeftOpen}
+use Rattle.closing_in.specs.Fixing.{OnesLieWithin, IsLeftOpen}
 use Rattle.stages.specs.Fresh.{AreFresh, HoldsFresh, IsApart}
 
 -- is the site marked?
-abbrev pub marked : List Bool → ℕ → Bool
-marked flags p = slice_index_or flags p false
+abbrev pub is_marked : List Bool → ℕ → Bool
+is_marked flags p = slice_index_or flags p false
 
 -- is the site's stamp, the number of the move that last changed it, above this number?
 abbrev pub changed_since : List ℕ → ℕ → ℕ → Bool
 changed_since stamps since p = nat_lt since (slice_index stamps p)
-
--- the two sites are the ends of the pair
-abbrev pub AreEnds : Pair → ℕ → ℕ → Type 0
-AreEnds pair p q = ((pair.first ≡ p) × (pair.second ≡ q)) ⊎ ((pair.first ≡ q) × (pair.second ≡ p))
 
 -- a pair of the list has these two sites as its ends
 abbrev pub AreBeside : PairList → ℕ → ℕ → Type 0
@@ -35,16 +32,18 @@ pub record AreFreshSites (pairs : PairList) (a : ℕ) (f : ℕ → ℕ) (changed
     (stage : Stage) : Type 0 where
   pub count : length stage.fresh.items ≡ pairs.sites
   pub fresh : (m : Instance) → m.sites ≡ pairs.sites → m.pairs ≡ pairs.list
-      → AreFresh m a f changed (marked stage.fresh.items)
-  pub only : (p : ℕ) → marked stage.fresh.items p ≡ true → (f p ≢ a) × IsNearChange pairs changed p
-  pub listed : (p : ℕ) → p < pairs.sites → marked stage.fresh.items p ≡ true
+      → AreFresh m a f changed (is_marked stage.fresh.items)
+  pub only : (p : ℕ) → is_marked stage.fresh.items p ≡ true
+      → (f p ≢ a) × IsNearChange pairs changed p
+  pub listed : (p : ℕ) → p < pairs.sites → is_marked stage.fresh.items p ≡ true
       → Contains stage.fresh_sites.items p
   pub inside : All (λ p. p < pairs.sites) stage.fresh_sites.items
 
 -- the sites that take the label are listed, and so are sites to open next
 pub record AreTaking (n : ℕ) (stage : Stage) : Type 0 where
   pub count : length stage.taken.items ≡ n
-  pub listed : (p : ℕ) → p < n → marked stage.taken.items p ≡ true ↔ Contains stage.taking.items p
+  pub listed : (p : ℕ) → p < n
+      → is_marked stage.taken.items p ≡ true ↔ Contains stage.taking.items p
   pub inside : All (λ p. p < n) stage.taking.items
   pub front : All (λ p. p < n) stage.front.items
 
@@ -53,7 +52,7 @@ pub record AreTaking (n : ℕ) (stage : Stage) : Type 0 where
 -- label is 0 in t
 pub record IsClosedIn (pairs : PairList) (t : ℕ → Bool) (choice : ℕ → Choice)
     (taken fresh : ℕ → Bool) : Type 0 where
-  pub within : LiesWithin pairs.sites taken t
+  pub within : OnesLieWithin pairs.sites taken t
   pub apart : (a : ℕ) (f : ℕ → ℕ) → All (IsApart a f t taken) pairs.list
   pub holds_fresh : HoldsFresh pairs.sites fresh t taken
   pub left_open : IsLeftOpen pairs.sites choice taken

@@ -9,26 +9,26 @@ use Rattle.move_energy.specs.declared.choice.Choice.{Choice}
 use Rattle.move_energy.specs.declared.choice.Choice.TheVariants.{Open, Zero}
 use Rattle.move_energy.specs.Choices.{choice_at, value_of}
 use Rattle.stages.specs.declared.stage.Stage.{Stage}
-use Rattle.stages.specs.Looking.{marked}
+use Rattle.stages.specs.Looking.{is_marked}
 
 -- a site is marked too
 pub record IsMarkedToo (site : ℕ) (old new : List Bool) : Type 0 where
   pub count : length new ≡ length old
-  pub each : (p : ℕ) → marked new p ≡ true ↔ ((marked old p ≡ true) ⊎ (p ≡ site))
+  pub each : (p : ℕ) → is_marked new p ≡ true ↔ ((is_marked old p ≡ true) ⊎ (p ≡ site))
 
 -- and it is listed, where it was not marked
 abbrev pub IsListedToo : ℕ → List Bool → List ℕ → List ℕ → Type 0
-IsListedToo site flags old new = new ≡ old ++ cond (marked flags site) [] (site ∷ [])
+IsListedToo site flags old new = new ≡ old ++ cond (is_marked flags site) [] (site ∷ [])
 
 -- of each of n sites there is a mark, and the marked ones are listed
-pub record AreMarks (n : ℕ) (flags : List Bool) (sites : List ℕ) : Type 0 where
+pub record AreSiteMarks (n : ℕ) (flags : List Bool) (sites : List ℕ) : Type 0 where
   pub count : length flags ≡ n
-  pub listed : (p : ℕ) → p < n → marked flags p ≡ true ↔ Contains sites p
+  pub listed : (p : ℕ) → p < n → is_marked flags p ≡ true ↔ Contains sites p
   pub inside : All (λ p. p < n) sites
 
 -- each marked site stays marked
 abbrev pub StaysMarked : List Bool → List Bool → Type 0
-StaysMarked old new = (p : ℕ) → marked old p ≡ true → marked new p ≡ true
+StaysMarked old new = (p : ℕ) → is_marked old p ≡ true → is_marked new p ≡ true
 
 -- the other end of the pair is fresh, if it could take the label
 abbrev pub IsMarkedAcross : ℕ → (ℕ → ℕ) → ℕ → (ℕ → Bool) → Pair → Type 0
@@ -53,8 +53,8 @@ pub record KeepsZeros (old new : List Choice) : Type 0 where
 
 -- what takes the label are open sites that the cut showed at 1
 pub record AreShown (choices : List Choice) (bits : List Bool) (stage : Stage) : Type 0 where
-  pub marks : AreMarks (length choices) stage.taken.items stage.taking.items
-  pub shown : (p : ℕ) → p < length choices → marked stage.taken.items p ≡ true
+  pub marks : AreSiteMarks (length choices) stage.taken.items stage.taking.items
+  pub shown : (p : ℕ) → p < length choices → is_marked stage.taken.items p ≡ true
       → (choice_at choices p ≡ Open) × (value_of choices bits p ≡ true)
   pub front : All (λ p. p < length choices) stage.front.items
 
@@ -67,15 +67,15 @@ pub record IsWider (old new : Stage) : Type 0 where
   pub front : length old.front.items ≤ length new.front.items
 
 -- where no site is to be opened, the site takes the label if it is at 1
-abbrev pub IsSeen : List Choice → List Bool → ℕ → Stage → Type 0
-IsSeen choices bits site stage =
-    length stage.front.items ≡ 0 → value_of choices bits site ≡ true → marked stage.taken.items site ≡ true
+abbrev pub IsSiteSeen : List Choice → List Bool → ℕ → Stage → Type 0
+IsSiteSeen choices bits site stage =
+    length stage.front.items ≡ 0 → value_of choices bits site ≡ true → is_marked stage.taken.items site ≡ true
 
 -- the other end of the pair was seen
 abbrev pub IsSeenAcross : List Choice → List Bool → ℕ → Pair → Stage → Type 0
 IsSeenAcross choices bits site pair stage =
-    (pair.first ≡ site → IsSeen choices bits pair.second stage)
-    × (pair.second ≡ site → IsSeen choices bits pair.first stage)
+    (pair.first ≡ site → IsSiteSeen choices bits pair.second stage)
+    × (pair.second ≡ site → IsSiteSeen choices bits pair.first stage)
 
 -- the sites beside a site were seen
 abbrev pub AreSeenAround : PairList → Neighbours → List Choice → List Bool → ℕ → Stage → Type 0

@@ -3,8 +3,8 @@ ghost use Rattle.std.specs.Prelude.{◌≡◌, ℕ, ◌<◌, ◌≤◌, true, fa
 ghost use Rattle.std.specs.List.{All, Contains};
 ghost use Rattle.move_energy.specs.BySite.{AreBySite};
 ghost use Rattle.move_energy.specs.Choices.{choice_at, value_of, open_count, IsNumbering};
-ghost use Rattle.stages.specs.Looking.{marked, AreTaking, IsClosedIn};
-ghost use Rattle.stages.specs.Working.{AreShown, IsWider, IsSeen, AreSeenAround};
+ghost use Rattle.stages.specs.Looking.{is_marked, AreTaking, IsClosedIn};
+ghost use Rattle.stages.specs.Working.{AreShown, IsWider, IsSiteSeen, AreSeenAround};
 
 use crate::Stage;
 use crate::stage::{mark, other_end, unmark_all};
@@ -42,7 +42,7 @@ impl Stage {
         requires shown { AreShown choices.now bits.now self.old }
         ensures shown { OnOk result (AreShown choices.now bits.now self.new) }
         ensures wider { OnOk result (IsWider self.old self.new) }
-        ensures seen { OnOk result (IsSeen choices.now bits.now site self.new) }
+        ensures seen { OnOk result (IsSiteSeen choices.now bits.now site self.new) }
         ensures same { (self.new.fresh ≡ self.old.fresh) × (self.new.fresh_sites ≡ self.old.fresh_sites)
             × (self.new.opened ≡ self.old.opened) }
     {
@@ -97,7 +97,7 @@ impl Stage {
         requires inside { All (λ p. p < length choices.now) self.old.fresh_sites.items }
         requires shown { AreShown choices.now bits.now self.old }
         ensures shown { OnOk result (AreShown choices.now bits.now self.new) }
-        ensures seen { OnOk result (All (λ p. IsSeen choices.now bits.now p self.new)
+        ensures seen { OnOk result (All (λ p. IsSiteSeen choices.now bits.now p self.new)
             self.old.fresh_sites.items) }
         ensures same { (self.new.fresh ≡ self.old.fresh) × (self.new.fresh_sites ≡ self.old.fresh_sites)
             × (self.new.opened ≡ self.old.opened) }
@@ -160,12 +160,12 @@ impl Stage {
         requires sites { length choices.now ≡ pairs.now.sites }
         requires numbering { IsNumbering choices.now numbers.now }
         requires bits { length bits.now ≡ open_count choices.now }
-        requires fresh { (p : ℕ) → p < pairs.now.sites → marked self.old.fresh.items p ≡ true →
+        requires fresh { (p : ℕ) → p < pairs.now.sites → is_marked self.old.fresh.items p ≡ true →
             Contains self.old.fresh_sites.items p }
         requires inside { All (λ p. p < pairs.now.sites) self.old.fresh_sites.items }
         ensures closed { IfOk result (λ closed. IsTrue closed → IsClosedIn pairs.now
-            (value_of choices.now bits.now) (choice_at choices.now) (marked self.new.taken.items)
-            (marked self.new.fresh.items)) }
+            (value_of choices.now bits.now) (choice_at choices.now) (is_marked self.new.taken.items)
+            (is_marked self.new.fresh.items)) }
         ensures taking { OnOk result (AreTaking pairs.now.sites self.new) }
         ensures same { (self.new.fresh ≡ self.old.fresh) × (self.new.fresh_sites ≡ self.old.fresh_sites)
             × (self.new.opened ≡ self.old.opened) }

@@ -2,8 +2,8 @@
 ghost use Rattle.std.specs.Prelude.{◌≡◌, ◌≢◌, ◌⊎◌, ℕ, ◌<◌, ◌≤◌, true, false, length, slice_index, OnOk};
 ghost use Rattle.move_energy.specs.BySite.{AreBySite, degree, pair_of};
 ghost use Rattle.labellings.specs.Energies.{labelling};
-ghost use Rattle.stages.specs.Looking.{marked, changed_since, AreBeside, AreFreshSites};
-ghost use Rattle.stages.specs.Working.{AreMarks, StaysMarked, IsMarkedAround};
+ghost use Rattle.stages.specs.Looking.{is_marked, changed_since, AreBeside, AreFreshSites};
+ghost use Rattle.stages.specs.Working.{AreSiteMarks, StaysMarked, IsMarkedAround};
 
 use crate::Stage;
 use crate::stage::{mark, other_end, unmark_all};
@@ -15,13 +15,15 @@ impl Stage {
     /// Marks a site as fresh if it could take the label.
     fn mark_site(&mut self, at: &[u8], alpha: u32, site: u32) -> Result<(), AllocError>
         requires site { site < length at.now }
-        requires marks { AreMarks (length at.now) self.old.fresh.items self.old.fresh_sites.items }
-        ensures marks { OnOk result (AreMarks (length at.now) self.new.fresh.items
+        requires marks { AreSiteMarks (length at.now)
+            self.old.fresh.items self.old.fresh_sites.items }
+        ensures marks { OnOk result (AreSiteMarks (length at.now) self.new.fresh.items
             self.new.fresh_sites.items) }
         ensures stays { OnOk result (StaysMarked self.old.fresh.items self.new.fresh.items) }
-        ensures only { OnOk result ((p : ℕ) → marked self.new.fresh.items p ≡ true →
-            (marked self.old.fresh.items p ≡ true) ⊎ ((labelling at.now p ≢ alpha) × (p ≡ site))) }
-        ensures here { OnOk result (labelling at.now site ≢ alpha → marked self.new.fresh.items site ≡ true) }
+        ensures only { OnOk result ((p : ℕ) → is_marked self.new.fresh.items p ≡ true →
+            (is_marked self.old.fresh.items p ≡ true)
+            ⊎ ((labelling at.now p ≢ alpha) × (p ≡ site))) }
+        ensures here { OnOk result (labelling at.now site ≢ alpha → is_marked self.new.fresh.items site ≡ true) }
     {
         if u32::from(at[site as usize]) != alpha {
             mark(&mut self.fresh, &mut self.fresh_sites, site)?;
@@ -41,15 +43,16 @@ impl Stage {
         requires by_site { AreBySite pairs.now ends.now }
         requires sites { length at.now ≡ pairs.now.sites }
         requires site { site < length at.now }
-        requires marks { AreMarks (length at.now) self.old.fresh.items self.old.fresh_sites.items }
-        ensures marks { OnOk result (AreMarks (length at.now) self.new.fresh.items
+        requires marks { AreSiteMarks (length at.now)
+            self.old.fresh.items self.old.fresh_sites.items }
+        ensures marks { OnOk result (AreSiteMarks (length at.now) self.new.fresh.items
             self.new.fresh_sites.items) }
         ensures stays { OnOk result (StaysMarked self.old.fresh.items self.new.fresh.items) }
-        ensures only { OnOk result ((p : ℕ) → marked self.new.fresh.items p ≡ true →
-            (marked self.old.fresh.items p ≡ true) ⊎ ((labelling at.now p ≢ alpha)
+        ensures only { OnOk result ((p : ℕ) → is_marked self.new.fresh.items p ≡ true →
+            (is_marked self.old.fresh.items p ≡ true) ⊎ ((labelling at.now p ≢ alpha)
             × ((p ≡ site) ⊎ AreBeside pairs.now site p))) }
         ensures around { OnOk result (IsMarkedAround pairs.now ends.now alpha (labelling at.now) site
-            (marked self.new.fresh.items)) }
+            (is_marked self.new.fresh.items)) }
     {
         self.mark_site(at, alpha, site)?;
         for index in 0..ends_at(pairs, ends, site) {

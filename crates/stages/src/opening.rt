@@ -39,7 +39,7 @@ fn first_choice(label: u32, alpha: u32) -> Choice
 }
 
 /// The value that a cut showed.
-fn shown(bit: bool) -> Choice
+fn choice_of(bit: bool) -> Choice
     ensures { result ≡ choice_of bit }
 {
     if bit { Choice::One } else { Choice::Zero }
@@ -99,7 +99,7 @@ fn settle(choices: &mut Vec<Choice>, opened: &[u32], bits: &[bool])
     ensures { AreSettled choices.old.items bits.now choices.new.items }
 {
     for index in 0..opened.len() {
-        choices[opened[index] as usize] = shown(bits[index]);
+        choices[opened[index] as usize] = choice_of(bits[index]);
     }
 }
 

@@ -1,6 +1,6 @@
 //! What an expansion that is made once more knows of the sites.
 ghost use Rattle.std.specs.Prelude.{◌≡◌, ◌==◌, ℕ, ◌<◌, false, length, OnOk, if◌then◌else◌};
-ghost use Rattle.stages.specs.Looking.{marked};
+ghost use Rattle.stages.specs.Looking.{is_marked};
 ghost use Rattle.stages.specs.Working.{IsMarkedToo, IsListedToo};
 
 use label_field::Pair;
@@ -42,7 +42,7 @@ impl Stage {
 /// A mark for each of so many sites, of which none is marked.
 pub(crate) fn unmark_all(flags: &mut Vec<bool>, sites: usize) -> Result<(), AllocError>
     ensures count { OnOk result (length flags.new.items ≡ sites) }
-    ensures none { OnOk result ((p : ℕ) → marked flags.new.items p ≡ false) }
+    ensures none { OnOk result ((p : ℕ) → is_marked flags.new.items p ≡ false) }
 {
     flags.resize(sites, false)?;
     flags.as_mut_slice().fill(false);

@@ -8,7 +8,7 @@ use Rattle.std.proofs.lemmas.List.Sums.{sum_by_push, sum_by_more, get_or-le-sum_
 use Rattle.std.proofs.lemmas.List.Elements.{All-head, All-tail}
 use Rattle.std.proofs.lemmas.List.FromFn.{get_or-map-range_with_len}
 use Rattle.std.specs.List.{range_with_len}
-use Rattle.sums.specs.Sums.{sum_below, counted}
+use Rattle.sums.specs.Sums.{sum_below, count_if}
 use Rattle.sums.proofs.IntegerSumLemmas.{within_fits, abs-sub}
 use Rattle.label_field.specs.declared.pair.Pair.{Pair}
 use Rattle.label_field.specs.PairLists.{IsPair, IsPairList, PairList}
@@ -18,14 +18,14 @@ use Rattle.labellings.specs.Moves.{IsRegularPair, IsAllowed}
 use Rattle.compile_cut.specs.Weights.{weights_size}
 use Rattle.move_energy.specs.declared.by_site.Neighbours.{Neighbours}
 use Rattle.move_energy.specs.declared.choice.Choice.{Choice}
-use Rattle.move_energy.specs.BySite.{AreBySite, degree, start_at, head_at, is_first, weight_at as pair_weight, pair_of, pair_from, pair_beside, listing}
+use Rattle.move_energy.specs.BySite.{AreBySite, degree, neighbours_start, neighbour_at, is_first, weight_at as pair_weight, pair_of, pair_from, pair_beside, rising_sites}
 use Rattle.move_energy.specs.Choices.{choice_at, open_at, AreOpenSites}
 use Rattle.move_energy.specs.Weights.{weight_at, pair_surplus, AreWeights}
 use Rattle.move_energy.proofs.Parts.{beside_has}
 use Rattle.move_energy.proofs.Listings.{listed_sites_are_summed}
 use Rattle.move_energy.proofs.Weighed.{open_size, listed_weights_are}
 use Rattle.deciding.proofs.Left.{left_most}
-use Rattle.closing_in.specs.Agreeing.{joined}
+use Rattle.closing_in.specs.Agreeing.{choices_or}
 use Rattle.closing_in.specs.Borders.{range_of, not_ones, is_beyond, leads_beyond, pair_border, border_at}
 use Rattle.closing_in.proofs.Borders.{strip_weights, weights_go_on}
 use Rattle.closing_in.proofs.Rooms.{total_more}
@@ -60,15 +60,15 @@ leads_head choice set false site head weight apart =
 
 -- what it adds to the border of the site
 border_beside : (m : Instance) (move : Move) (f : ℕ → ℕ) (choice : ℕ → Choice) (set : ℕ → Bool) (pairs : PairList) (ends : Neighbours) (site place : ℕ)
-    → All (IsPair pairs.sites) pairs.list → AreBySite pairs ends → site < pairs.sites → start_at ends site ≤ place → place < start_at ends (site + 1)
-    → counted (is_beyond choice set (head_at ends place)) (pair_surplus m move f (pair_beside ends site place)) ≡ pair_border m move f choice set site (pair_beside ends site place)
+    → All (IsPair pairs.sites) pairs.list → AreBySite pairs ends → site < pairs.sites → neighbours_start ends site ≤ place → place < neighbours_start ends (site + 1)
+    → count_if (is_beyond choice set (neighbour_at ends place)) (pair_surplus m move f (pair_beside ends site place)) ≡ pair_border m move f choice set site (pair_beside ends site place)
 border_beside m move f choice set pairs ends site place all by_site inside from to =
     let apart = (beside_has (IsPair pairs.sites) pairs ends site place all by_site inside from to).unequal in
-    ap (λ b. counted b (pair_surplus m move f (pair_beside ends site place)))
-    (sym (leads_head choice set (is_first ends site place) site (head_at ends place) (pair_weight ends place) apart))
+    ap (λ b. count_if b (pair_surplus m move f (pair_beside ends site place)))
+    (sym (leads_head choice set (is_first ends site place) site (neighbour_at ends place) (pair_weight ends place) apart))
 
 pub regular_beside : (m : Instance) (move : Move) (f : ℕ → ℕ) (pairs : PairList) (ends : Neighbours) (site place : ℕ) (pair : Pair) → AreBySite pairs ends → site < pairs.sites
-    → start_at ends site ≤ place → place < start_at ends (site + 1) → m.pairs ≡ pairs.list → pair ≡ pair_beside ends site place → IsAllowed m move f → IsRegularPair m move f pair
+    → neighbours_start ends site ≤ place → place < neighbours_start ends (site + 1) → m.pairs ≡ pairs.list → pair ≡ pair_beside ends site place → IsAllowed m move f → IsRegularPair m move f pair
 regular_beside m move f pairs ends site place pair by_site inside from to same is allowed =
     let P : Pair → Type 0 = λ p. IsRegularPair m move f p in
     let Q : List Pair → Type 0 = λ ps. All (IsRegularPair m move f) ps in
@@ -79,34 +79,34 @@ head_from true site head weight n is = is.second
 head_from false site head weight n is = is.first
 
 pub head_inside : (pairs : PairList) (ends : Neighbours) (site place : ℕ) → All (IsPair pairs.sites) pairs.list → AreBySite pairs ends → site < pairs.sites
-    → start_at ends site ≤ place → place < start_at ends (site + 1) → head_at ends place < pairs.sites
+    → neighbours_start ends site ≤ place → place < neighbours_start ends (site + 1) → neighbour_at ends place < pairs.sites
 head_inside pairs ends site place all by_site inside from to =
-    head_from (is_first ends site place) site (head_at ends place) (pair_weight ends place) pairs.sites
+    head_from (is_first ends site place) site (neighbour_at ends place) (pair_weight ends place) pairs.sites
     (beside_has (IsPair pairs.sites) pairs ends site place all by_site inside from to)
 
-pub border_none : (m : Instance) (move : Move) (f : ℕ → ℕ) (choice : ℕ → Choice) (set : ℕ → Bool) (ends : Neighbours) (site place : ℕ) → place ≡ start_at ends site
-    → pos 0 ≡ pos (sum_below (place - start_at ends site) (λ i. pair_border m move f choice set site (pair_of ends site i)))
+pub border_none : (m : Instance) (move : Move) (f : ℕ → ℕ) (choice : ℕ → Choice) (set : ℕ → Bool) (ends : Neighbours) (site place : ℕ) → place ≡ neighbours_start ends site
+    → pos 0 ≡ pos (sum_below (place - neighbours_start ends site) (λ i. pair_border m move f choice set site (pair_of ends site i)))
 border_none m move f choice set ends site place at =
-    let none : place - start_at ends site ≡ 0 = omega (arith, at) in
+    let none : place - neighbours_start ends site ≡ 0 = omega (arith, at) in
     ap (λ k. pos (sum_below k (λ i. pair_border m move f choice set site (pair_of ends site i)))) (sym none)
 
 -- one neighbour more
 pub border_more : (m : Instance) (move : Move) (f : ℕ → ℕ) (choice : ℕ → Choice) (set : ℕ → Bool) (pairs : PairList) (ends : Neighbours) (site place head : ℕ) (counts : Bool) (old added new : ℤ)
-    → All (IsPair pairs.sites) pairs.list → AreBySite pairs ends → site < pairs.sites → start_at ends site ≤ place → place < start_at ends (site + 1)
-    → head ≡ head_at ends place → counts ≡ is_beyond choice set head → new ≡ old +ℤ added
-    → old ≡ pos (sum_below (place - start_at ends site) (λ i. pair_border m move f choice set site (pair_of ends site i)))
-    → added ≡ pos (counted counts (pair_surplus m move f (pair_beside ends site place)))
-    → new ≡ pos (sum_below (place + 1 - start_at ends site) (λ i. pair_border m move f choice set site (pair_of ends site i)))
+    → All (IsPair pairs.sites) pairs.list → AreBySite pairs ends → site < pairs.sites → neighbours_start ends site ≤ place → place < neighbours_start ends (site + 1)
+    → head ≡ neighbour_at ends place → counts ≡ is_beyond choice set head → new ≡ old +ℤ added
+    → old ≡ pos (sum_below (place - neighbours_start ends site) (λ i. pair_border m move f choice set site (pair_of ends site i)))
+    → added ≡ pos (count_if counts (pair_surplus m move f (pair_beside ends site place)))
+    → new ≡ pos (sum_below (place + 1 - neighbours_start ends site) (λ i. pair_border m move f choice set site (pair_of ends site i)))
 border_more m move f choice set pairs ends site place head counts old added new all by_site inside from to at leads is before one =
-    let k : ℕ = place - start_at ends site in
-    let here : start_at ends site + k ≡ place = omega (arith, from) in
-    let next : k + 1 ≡ place + 1 - start_at ends site = omega (arith, from) in
+    let k : ℕ = place - neighbours_start ends site in
+    let here : neighbours_start ends site + k ≡ place = omega (arith, from) in
+    let next : k + 1 ≡ place + 1 - neighbours_start ends site = omega (arith, from) in
     let g : ℕ → ℕ = λ i. pair_border m move f choice set site (pair_of ends site i) in
-    let worth : counted counts (pair_surplus m move f (pair_beside ends site place)) ≡ g k =
-    ap (λ b. counted b (pair_surplus m move f (pair_beside ends site place))) (leads ∙ ap (is_beyond choice set) at)
+    let worth : count_if counts (pair_surplus m move f (pair_beside ends site place)) ≡ g k =
+    ap (λ b. count_if b (pair_surplus m move f (pair_beside ends site place))) (leads ∙ ap (is_beyond choice set) at)
     ∙ border_beside m move f choice set pairs ends site place all by_site inside from to
     ∙ ap (λ j. pair_border m move f choice set site (pair_beside ends site j)) (sym here) in
-    total_more old added new g k (counted counts (pair_surplus m move f (pair_beside ends site place))) is before one worth
+    total_more old added new g k (count_if counts (pair_surplus m move f (pair_beside ends site place))) is before one worth
     ∙ ap (λ j. pos (sum_below j g)) next
 
 pub border_small : (old added new : ℤ) (start place : ℕ) → start ≤ place → unsigned_abs old ≤ 20000000 * (place - start) → unsigned_abs added ≤ 20000000 → new ≡ old +ℤ added
@@ -119,7 +119,7 @@ border_small old added new start place from within small is = omega (arith, ints
 pub degrees_few : (pairs : PairList) (ends : Neighbours) (choices : List Choice) (opened : List ℕ) → AreBySite pairs ends → length choices ≡ pairs.sites → AreOpenSites choices opened
     → sum_by (degree ends) opened ≤ 2 * length pairs.list
 degrees_few pairs ends choices opened by_site size listed =
-    let is = ap (λ (xs : List ℕ). sum_by (degree ends) xs) (listed ∙ ap (λ n. listing (open_at choices) n) size) in
+    let is = ap (λ (xs : List ℕ). sum_by (degree ends) xs) (listed ∙ ap (λ n. rising_sites (open_at choices) n) size) in
     let summed = listed_sites_are_summed (open_at choices) pairs.sites (degree ends) in
     let most = left_most pairs ends choices by_site in
     omega (arith, is, summed, most)
@@ -224,7 +224,7 @@ weights_now m move f start known from to weights pairs allowed size on are =
     ∙ ap (λ z. z +ℤ pos (border_at m move f (choice_at start) (not_ones now) p)) (sym (list_of_at (weight_now m move f (choice_at start) now weights) m.sites p l))) in
     subst W (sym (view_is known from to))
     (strip_weights m move f now (range_of from to) less
-    (weights_same m move f (joined (choice_at start) now) now less pairs (λ p l. goes_on_joined start known p on (omega (arith, l, size))) later))
+    (weights_same m move f (choices_or (choice_at start) now) now less pairs (λ p l. goes_on_joined start known p on (omega (arith, l, size))) later))
 
 pub map_now : (g : ℕ → ℤ) (n : ℕ) (opened : List ℕ) → All (λ p. p < n) opened → map g opened ≡ map (weight_at (list_of g n)) opened
 map_now g n [] all = refl

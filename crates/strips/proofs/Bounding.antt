@@ -6,7 +6,7 @@ use Rattle.std.proofs.lemmas.Bool.{cases_lt}
 use Rattle.std.proofs.lemmas.List.{get_or_past}
 use Rattle.std.proofs.lemmas.List.Elements.{Contains-get_or}
 use Rattle.std.proofs.lemmas.Grind.{get_or_default_zero}
-use Rattle.sums.specs.Sums.{counted}
+use Rattle.sums.specs.Sums.{count_if}
 use Rattle.label_field.specs.declared.pair.Pair.{Pair}
 use Rattle.labellings.specs.declared.change.Move.{Move}
 use Rattle.labellings.specs.Energies.{Instance, IsInstance}
@@ -16,8 +16,8 @@ use Rattle.compile_cut.specs.declared.quadratic.Quadratic.{Quadratic}
 use Rattle.compile_cut.specs.Quadratics.{quadratic_value}
 use Rattle.move_energy.specs.declared.choice.Choice.{Choice}
 use Rattle.move_energy.specs.declared.choice.Choice.TheVariants.{Open, Zero, One}
-use Rattle.move_energy.specs.BySite.{listing}
-use Rattle.move_energy.specs.Choices.{choice_at, is_open, open_at, rank, AreOpenSites, StandsFor}
+use Rattle.move_energy.specs.BySite.{rising_sites}
+use Rattle.move_energy.specs.Choices.{choice_at, is_open, open_at, open_rank, AreOpenSites, StandsFor}
 use Rattle.move_energy.specs.Weights.{pair_surplus}
 use Rattle.move_energy.proofs.Numbers.{rank_below}
 use Rattle.move_energy.proofs.Opened.{opened_has, opened_place, opened_count, true_open, open_true}
@@ -25,11 +25,11 @@ use Rattle.deciding.specs.Decisions.{IsSmallestLeast}
 use Rattle.deciding.specs.MoveValues.{move_value}
 use Rattle.deciding.proofs.Rises.{move_falls, move_over}
 use Rattle.closing_in.specs.Fixing.{fixed_value}
-use Rattle.closing_in.specs.Agreeing.{Agree, or_else, joined}
-use Rattle.closing_in.specs.Strips.{Strip, others_at, IsBounded, told_by}
+use Rattle.closing_in.specs.Agreeing.{Agree, or_else, choices_or}
+use Rattle.closing_in.specs.Strips.{Strip, others_at, IsStripBounded, told_by}
 use Rattle.closing_in.specs.Borders.{range_of, is_inside, is_beyond, border_at}
 use Rattle.closing_in.specs.Forms.{bits_by_site, IsOneToOne}
-use Rattle.closing_in.specs.Telling.{IsListed}
+use Rattle.closing_in.specs.Telling.{IsStripListed}
 use Rattle.closing_in.proofs.Forms.{form_least, form_smallest, reweighed_form}
 use Rattle.closing_in.proofs.Strips.{strip_agrees}
 use Rattle.strips.specs.Views.{strip_view, KeepsChosen}
@@ -80,7 +80,7 @@ pub border_same : (m : Instance) (move : Move) (f : ℕ → ℕ) (known : List C
     → border_at m move f (choice_at known) (range_of from to) p ≡ border_at m move f (choice_at known) (open_at (strip_view known from to)) p
 border_same m move f known from to p j =
     sum_by
-    (λ (pair : Pair). counted
+    (λ (pair : Pair). count_if
     (((pair.first == p) && beyond_same known from to pair.second j) || ((pair.second == p) && beyond_same known from to pair.first j))
     (pair_surplus m move f pair))
     m.pairs
@@ -96,7 +96,7 @@ and_both true b h k = k
 and_both false b h k = absurd (cc (h))
 
 pub one_to_one : (known : List Choice) (from to n : ℕ) (opened : List ℕ) (r : ℕ) → length known ≡ n → AreOpenSites (strip_view known from to) opened
-    → r ≡ length opened → IsOneToOne n (is_inside (choice_at known) (open_at (strip_view known from to))) r (rank (strip_view known from to)) (slice_index opened)
+    → r ≡ length opened → IsOneToOne n (is_inside (choice_at known) (open_at (strip_view known from to))) r (open_rank (strip_view known from to)) (slice_index opened)
 one_to_one known from to n opened r sites listed count =
     let view = strip_view known from to in
     let size = view_length known from to in
@@ -121,8 +121,8 @@ one_to_one known from to n opened r sites listed count =
 abbrev pub strip_of : List Choice → ℕ → ℕ → List Bool → List Bool → Strip
 strip_of known from to lower upper = record {
   set = open_at (strip_view known from to);
-  lower = bits_by_site (choice_at (strip_view known from to)) (rank (strip_view known from to)) (assignment lower);
-  upper = bits_by_site (others_at One (open_at (strip_view known from to)) (choice_at known)) (rank (strip_view known from to)) (assignment upper);
+  lower = bits_by_site (choice_at (strip_view known from to)) (open_rank (strip_view known from to)) (assignment lower);
+  upper = bits_by_site (others_at One (open_at (strip_view known from to)) (choice_at known)) (open_rank (strip_view known from to)) (assignment upper);
 }
 
 first_bit : (c : Choice) (x y : Bool) → c ≡ Open → x ≡ y → (is_open c && x) ≡ y
@@ -132,7 +132,7 @@ default_is : (sites : List ℕ) (i p : ℕ) → i < length sites → get_or site
 default_is sites i p l = sym (get_or_default_zero sites i p l)
 
 pub strip_listed : (known : List Choice) (from to : ℕ) (opened : List ℕ) (lower upper : List Bool) → AreOpenSites (strip_view known from to) opened
-    → IsListed opened lower upper (strip_of known from to lower upper)
+    → IsStripListed opened lower upper (strip_of known from to lower upper)
 strip_listed known from to opened lower upper listed =
     let view = strip_view known from to in
     record {
@@ -142,47 +142,47 @@ strip_listed known from to opened lower upper listed =
             let was = true_open (choice_at view p) opened_is in
             let at = opened_place view opened p listed l was in
             let P : ℕ → Type 0 = λ q. Contains opened q in
-            subst P at (Contains-get_or opened (rank view p) 0 (omega (arith, rank_below view p (length view) l was, opened_count view opened listed)))),
+            subst P at (Contains-get_or opened (open_rank view p) 0 (omega (arith, rank_below view p (length view) l was, opened_count view opened listed)))),
         (λ of.
             let has = opened_has view opened of.0 listed of.1 in
             ap (open_at view) (sym (of.2) ∙ sym (default_is opened of.0 p of.1)) ∙ open_true (choice_at view (get_or opened of.0 0)) has.1),
       );
       lower = λ i l.
           let has = opened_has view opened i listed l in
-          first_bit (choice_at view (slice_index opened i)) (assignment lower (rank view (slice_index opened i))) (slice_index_or lower i false) has.1
+          first_bit (choice_at view (slice_index opened i)) (assignment lower (open_rank view (slice_index opened i))) (slice_index_or lower i false) has.1
           (ap (assignment lower) has.2);
       upper = λ i l.
           let has = opened_has view opened i listed l in
           let site = slice_index opened i in
           let is_so : open_at view site ≡ true = open_true (choice_at view site) has.1 in
-          first_bit (others_at One (open_at view) (choice_at known) site) (assignment upper (rank view site)) (slice_index_or upper i false)
+          first_bit (others_at One (open_at view) (choice_at known) site) (assignment upper (open_rank view site)) (slice_index_or upper i false)
           (first_of (open_at view site) (choice_at known site) (or_else (choice_at known site) One) is_so ∙ open_now known from to site is_so)
           (ap (assignment upper) has.2);
     }
 
 pub strip_bounded : (m : Instance) (move : Move) (f : ℕ → ℕ) (known : List Choice) (from to : ℕ) (opened borders : List ℕ) (q less : Quadratic) (lower upper : List Bool)
     → IsInstance m → IsAllowed m move f → length known ≡ m.sites → AreOpenSites (strip_view known from to) opened
-    → StandsFor m move f (choice_at (strip_view known from to)) q (rank (strip_view known from to)) → vec_len q.weights ≡ length opened
+    → StandsFor m move f (choice_at (strip_view known from to)) q (open_rank (strip_view known from to)) → vec_len q.weights ≡ length opened
     → ((k : ℕ) → k < length opened → slice_index borders k ≡ border_at m move f (choice_at known) (range_of from to) (slice_index opened k))
     → IsSmallestLeast (vec_len q.weights) (quadratic_value q) (assignment lower)
     → IsLessBorder borders q less → IsSmallestLeast (vec_len q.weights) (quadratic_value less) (assignment upper)
-    → IsBounded m.sites (move_value m move f) (choice_at known) (strip_of known from to lower upper)
+    → IsStripBounded m.sites (move_value m move f) (choice_at known) (strip_of known from to lower upper)
 strip_bounded m move f known from to opened borders q less lower upper pairs allowed sites listed stands count border low lower_by up =
     let E = move_value m move f in
     let view = strip_view known from to in
     let set = open_at view in
     let same = seen_same known from to in
-    let L : (ℕ → Choice) → Type 0 = λ choice. IsSmallestLeast m.sites (fixed_value E choice) (bits_by_site (choice_at view) (rank view) (assignment lower)) in
-    let S : (ℕ → Choice) → Type 0 = λ choice. StandsFor m move f choice q (rank view) in
+    let L : (ℕ → Choice) → Type 0 = λ choice. IsSmallestLeast m.sites (fixed_value E choice) (bits_by_site (choice_at view) (open_rank view) (assignment lower)) in
+    let S : (ℕ → Choice) → Type 0 = λ choice. StandsFor m move f choice q (open_rank view) in
     let one = one_to_one known from to m.sites opened (vec_len q.weights) sites listed count in
     let entries : (k : ℕ) → k < vec_len q.weights → entry less.weights.items k +ℤ pos (border_at m move f (choice_at known) set (slice_index opened k)) ≡ entry q.weights.items k =
     λ k l. ap (λ (b : ℕ). entry less.weights.items k +ℤ pos b)
     (sym (border k (omega (arith, l, count)) ∙ border_same m move f known from to (slice_index opened k)))
     ∙ lower_by.weights k l in
-    let above = reweighed_form m move f (choice_at known) set q less (rank view) (slice_index opened) pairs allowed (subst S same stands) one lower_by.again entries in
+    let above = reweighed_form m move f (choice_at known) set q less (open_rank view) (slice_index opened) pairs allowed (subst S same stands) one lower_by.again entries in
     record {
-      lower = subst L same (form_smallest m move f (choice_at view) q (rank view) (assignment lower) pairs stands low);
-      upper = form_least m move f (others_at One set (choice_at known)) less (rank view) (assignment upper) pairs above up.least;
+      lower = subst L same (form_smallest m move f (choice_at view) q (open_rank view) (assignment lower) pairs stands low);
+      upper = form_least m move f (others_at One set (choice_at known)) less (open_rank view) (assignment upper) pairs above up.least;
     }
 
 -- ---- what it tells, written into the choices
@@ -199,7 +199,7 @@ open_first One d h = absurd (cc (h))
 
 -- what was chosen stays
 pub told_goes_on : (start known new : List Choice) (tells : ℕ → Choice) → length new ≡ length known → KeepsChosen start known
-    → ((p : ℕ) → p < length known → choice_at new p ≡ joined (choice_at known) tells p) → KeepsChosen start new
+    → ((p : ℕ) → p < length known → choice_at new p ≡ choices_or (choice_at known) tells p) → KeepsChosen start new
 told_goes_on start known new tells count on each p inside shuts =
     let l : p < length known = omega (arith, inside, count) in
     let was = on p l shuts in
@@ -207,7 +207,7 @@ told_goes_on start known new tells count on each p inside shuts =
 
 -- the listed sites that are still open are those of the range
 pub told_left : (known new : List Choice) (from to : ℕ) (opened : List ℕ) (tells : ℕ → Choice) → length new ≡ length known
-    → ((p : ℕ) → p < length known → choice_at new p ≡ joined (choice_at known) tells p)
+    → ((p : ℕ) → p < length known → choice_at new p ≡ choices_or (choice_at known) tells p)
     → AreOpenSites (strip_view known from to) opened → AreOpenSites (strip_view new from to) (filter (open_at new) opened)
 told_left known new from to opened tells count each listed =
     let v = strip_view known from to in
@@ -219,7 +219,7 @@ told_left known new from to opened tells count each listed =
     inside_open known from to p both.0
     (open_first (choice_at known p) (tells p) (sym (ap is_open (each p (omega (arith, l, view_length known from to)))) ∙ both.1)))
     (λ p l is. sym (open_is new from to p ∙ ap is_open (seen_in new from to p (open_inside known from to p is).0)))
-    ∙ ap (listing (open_at w)) (view_length known from to ∙ sym count ∙ sym (view_length new from to))
+    ∙ ap (rising_sites (open_at w)) (view_length known from to ∙ sym count ∙ sym (view_length new from to))
 
 agree_below : (n : ℕ) (E : (ℕ → Bool) → ℤ) (old new : ℕ → Choice) → ((p : ℕ) → p < n → new p ≡ old p) → Agree n E old → Agree n E new
 agree_below n E old new same agree = record {
@@ -228,8 +228,8 @@ agree_below n E old new same agree = record {
 }
 
 pub told_agree : (m : Instance) (move : Move) (f : ℕ → ℕ) (known new : List Choice) (strip : Strip) → IsInstance m → IsAllowed m move f → length known ≡ m.sites
-    → ((p : ℕ) → p < length known → choice_at new p ≡ joined (choice_at known) (told_by strip) p)
-    → IsBounded m.sites (move_value m move f) (choice_at known) strip → Agree m.sites (move_value m move f) (choice_at known) → Agree m.sites (move_value m move f) (choice_at new)
+    → ((p : ℕ) → p < length known → choice_at new p ≡ choices_or (choice_at known) (told_by strip) p)
+    → IsStripBounded m.sites (move_value m move f) (choice_at known) strip → Agree m.sites (move_value m move f) (choice_at known) → Agree m.sites (move_value m move f) (choice_at new)
 told_agree m move f known new strip pairs allowed size each bounded agree =
-    agree_below m.sites (move_value m move f) (joined (choice_at known) (told_by strip)) (choice_at new) (λ p l. each p (omega (arith, l, size)))
+    agree_below m.sites (move_value m move f) (choices_or (choice_at known) (told_by strip)) (choice_at new) (λ p l. each p (omega (arith, l, size)))
     (strip_agrees m.sites (move_value m move f) (choice_at known) strip (move_falls m move f pairs allowed) (move_over m move f pairs) agree bounded)

@@ -2,17 +2,17 @@
 use Rattle.std.proofs.Common.{◌≡◌, ◌≢◌, ℕ, ◌+◌, ◌-◌, ◌≤◌, Bool, true, false, refl, sym, ap, subst, ◌∙◌, arith}
 use Rattle.std.specs.Prelude.{◌&&◌, ◌||◌, ◌==◌, not}
 use Rattle.std.proofs.lemmas.Bool.Decides.{nat_tests}
-use Rattle.sums.specs.Sums.{counted}
+use Rattle.sums.specs.Sums.{count_if}
 use Rattle.label_field.specs.declared.pair.Pair.{Pair}
 use Rattle.labellings.specs.declared.change.Move.{Move}
 use Rattle.labellings.specs.Energies.{Instance}
 use Rattle.compile_cut.specs.declared.quadratic.Quadratic.{Quadratic}
 use Rattle.move_energy.specs.declared.by_site.Neighbours.{Neighbours}
 use Rattle.move_energy.specs.declared.choice.Choice.{Choice}
-use Rattle.move_energy.specs.BySite.{start_at, degree, head_at, is_first, weight_at, pair_from, pair_beside, is_counted, met_below, met_at}
+use Rattle.move_energy.specs.BySite.{neighbours_start, degree, neighbour_at, is_first, weight_at, pair_from, pair_beside, is_counted, met_below, met_at}
 use Rattle.move_energy.specs.Built.{AddsCost, IsLonger}
 use Rattle.move_energy.specs.Choices.{is_open}
-use Rattle.move_energy.specs.Weights.{are_open, unsaved, pair_surplus}
+use Rattle.move_energy.specs.Weights.{are_open, unsaved_surplus, pair_surplus}
 use Rattle.move_energy.proofs.Steps.{longer_none, longer_still}
 use Rattle.move_energy.proofs.Adding.{cost_none, uncounted_longer, met_longer, met_adds}
 
@@ -34,37 +34,37 @@ open_from choice true site head weight a b = both_are (is_open (choice site)) (i
 open_from choice false site head weight a b = both_are (is_open (choice head)) (is_open (choice site)) b a
 
 -- both ends are open
-pub open_beside : (choice : ℕ → Choice) (ends : Neighbours) (site place head : ℕ) (pair : Pair) → pair ≡ pair_beside ends site place → head ≡ head_at ends place
+pub open_beside : (choice : ℕ → Choice) (ends : Neighbours) (site place head : ℕ) (pair : Pair) → pair ≡ pair_beside ends site place → head ≡ neighbour_at ends place
     → is_open (choice site) ≡ true → is_open (choice head) ≡ true → are_open choice pair ≡ true
 open_beside choice ends site place head pair is at a b =
     ap (are_open choice) is
-    ∙ open_from choice (is_first ends site place) site (head_at ends place) (weight_at ends place) a (ap (λ (p : ℕ). is_open (choice p)) (sym at) ∙ b)
+    ∙ open_from choice (is_first ends site place) site (neighbour_at ends place) (weight_at ends place) a (ap (λ (p : ℕ). is_open (choice p)) (sym at) ∙ b)
 
 shut_from : (choice : ℕ → Choice) (first : Bool) (site head weight : ℕ) → is_open (choice head) ≡ false → are_open choice (pair_from first site head weight) ≡ false
 shut_from choice true site head weight b = second_shut (is_open (choice site)) (is_open (choice head)) b
 shut_from choice false site head weight b = first_shut (is_open (choice head)) (is_open (choice site)) b
 
 -- the neighbour is not
-pub shut_beside : (choice : ℕ → Choice) (ends : Neighbours) (site place head : ℕ) → head ≡ head_at ends place → is_open (choice head) ≡ false
+pub shut_beside : (choice : ℕ → Choice) (ends : Neighbours) (site place head : ℕ) → head ≡ neighbour_at ends place → is_open (choice head) ≡ false
     → are_open choice (pair_beside ends site place) ≡ false
 shut_beside choice ends site place head at b =
-    shut_from choice (is_first ends site place) site (head_at ends place) (weight_at ends place) (ap (λ (p : ℕ). is_open (choice p)) (sym at) ∙ b)
+    shut_from choice (is_first ends site place) site (neighbour_at ends place) (weight_at ends place) (ap (λ (p : ℕ). is_open (choice p)) (sym at) ∙ b)
 
 -- then the pair adds nothing
-pub nothing_longer : (q : Quadratic) (b : Bool) → IsLonger (counted b 1) q q
+pub nothing_longer : (q : Quadratic) (b : Bool) → IsLonger (count_if b 1) q q
 nothing_longer q true = longer_still q
 nothing_longer q false = uncounted_longer q false refl
 
-counted_none : (a b : Bool) (z : ℕ) → a ≡ false → counted b (counted a z) ≡ 0
+counted_none : (a b : Bool) (z : ℕ) → a ≡ false → count_if b (count_if a z) ≡ 0
 counted_none true b z h = absurd (cc (h))
 counted_none false true z h = refl
 counted_none false false z h = refl
 
 pub nothing_adds : (m : Instance) (move : Move) (f : ℕ → ℕ) (choice : ℕ → Choice) (variable : ℕ → ℕ) (q : Quadratic) (pair : Pair) (b : Bool) → are_open choice pair ≡ false
-    → AddsCost q q (λ x. counted b (unsaved m move f choice variable x pair))
+    → AddsCost q q (λ x. count_if b (unsaved_surplus m move f choice variable x pair))
 nothing_adds m move f choice variable q pair b shuts =
-    cost_none q (λ x. counted b (unsaved m move f choice variable x pair))
-    (λ x. counted_none (are_open choice pair) b (counted (not (x (variable pair.first) && x (variable pair.second))) (pair_surplus m move f pair)) shuts)
+    cost_none q (λ x. count_if b (unsaved_surplus m move f choice variable x pair))
+    (λ x. counted_none (are_open choice pair) b (count_if (not (x (variable pair.first) && x (variable pair.second))) (pair_surplus m move f pair)) shuts)
 
 -- ---- at which end it is added
 
@@ -96,38 +96,38 @@ uncounted_second choice site pair h both =
 
 -- ---- the row of a site, neighbour by neighbour
 
-pub row_none : (ends : Neighbours) (chosen : ℕ → Bool) (site place : ℕ) (q : Quadratic) → place ≡ start_at ends site
-    → IsLonger (met_below ends chosen (λ p. 1) site (place - start_at ends site)) q q
+pub row_none : (ends : Neighbours) (chosen : ℕ → Bool) (site place : ℕ) (q : Quadratic) → place ≡ neighbours_start ends site
+    → IsLonger (met_below ends chosen (λ p. 1) site (place - neighbours_start ends site)) q q
 row_none ends chosen site place q at =
     let P : ℕ → Type 0 = λ k. IsLonger (met_below ends chosen (λ p. 1) site k) q q in
-    subst P (let e : 0 ≡ place - start_at ends site = omega (arith, at) in e) (longer_none q)
+    subst P (let e : 0 ≡ place - neighbours_start ends site = omega (arith, at) in e) (longer_none q)
 
-pub nothing_adds_yet : (ends : Neighbours) (chosen : ℕ → Bool) (value : (ℕ → Bool) → Pair → ℕ) (site place : ℕ) (q : Quadratic) → place ≡ start_at ends site
-    → AddsCost q q (λ x. met_below ends chosen (value x) site (place - start_at ends site))
+pub nothing_adds_yet : (ends : Neighbours) (chosen : ℕ → Bool) (value : (ℕ → Bool) → Pair → ℕ) (site place : ℕ) (q : Quadratic) → place ≡ neighbours_start ends site
+    → AddsCost q q (λ x. met_below ends chosen (value x) site (place - neighbours_start ends site))
 nothing_adds_yet ends chosen value site place q at =
     let P : ℕ → Type 0 = λ k. AddsCost q q (λ x. met_below ends chosen (value x) site k) in
-    subst P (let e : 0 ≡ place - start_at ends site = omega (arith, at) in e) (cost_none q (λ x. 0) (λ x. refl))
+    subst P (let e : 0 ≡ place - neighbours_start ends site = omega (arith, at) in e) (cost_none q (λ x. 0) (λ x. refl))
 
-pub row_longer : (ends : Neighbours) (chosen : ℕ → Bool) (site place : ℕ) (old now new : Quadratic) → start_at ends site ≤ place
-    → IsLonger (met_below ends chosen (λ p. 1) site (place - start_at ends site)) old now
-    → IsLonger (counted (is_counted chosen site (pair_beside ends site place)) 1) now new
-    → IsLonger (met_below ends chosen (λ p. 1) site (place + 1 - start_at ends site)) old new
+pub row_longer : (ends : Neighbours) (chosen : ℕ → Bool) (site place : ℕ) (old now new : Quadratic) → neighbours_start ends site ≤ place
+    → IsLonger (met_below ends chosen (λ p. 1) site (place - neighbours_start ends site)) old now
+    → IsLonger (count_if (is_counted chosen site (pair_beside ends site place)) 1) now new
+    → IsLonger (met_below ends chosen (λ p. 1) site (place + 1 - neighbours_start ends site)) old new
 row_longer ends chosen site place old now new from so_far longer =
-    let k : ℕ = place - start_at ends site in
-    let here : start_at ends site + k ≡ place = omega (arith, from) in
+    let k : ℕ = place - neighbours_start ends site in
+    let here : neighbours_start ends site + k ≡ place = omega (arith, from) in
     let P : ℕ → Type 0 = λ n. IsLonger (met_below ends chosen (λ p. 1) site n) old new in
-    subst P (let e : k + 1 ≡ place + 1 - start_at ends site = omega (arith, from) in e)
+    subst P (let e : k + 1 ≡ place + 1 - neighbours_start ends site = omega (arith, from) in e)
     (met_longer ends chosen site k (pair_beside ends site place) old now new (ap (λ j. pair_beside ends site j) (sym here)) so_far longer)
 
-pub row_adds : (ends : Neighbours) (chosen : ℕ → Bool) (value : (ℕ → Bool) → Pair → ℕ) (site place : ℕ) (old now new : Quadratic) → start_at ends site ≤ place
-    → AddsCost old now (λ x. met_below ends chosen (value x) site (place - start_at ends site))
-    → AddsCost now new (λ x. counted (is_counted chosen site (pair_beside ends site place)) (value x (pair_beside ends site place)))
-    → AddsCost old new (λ x. met_below ends chosen (value x) site (place + 1 - start_at ends site))
+pub row_adds : (ends : Neighbours) (chosen : ℕ → Bool) (value : (ℕ → Bool) → Pair → ℕ) (site place : ℕ) (old now new : Quadratic) → neighbours_start ends site ≤ place
+    → AddsCost old now (λ x. met_below ends chosen (value x) site (place - neighbours_start ends site))
+    → AddsCost now new (λ x. count_if (is_counted chosen site (pair_beside ends site place)) (value x (pair_beside ends site place)))
+    → AddsCost old new (λ x. met_below ends chosen (value x) site (place + 1 - neighbours_start ends site))
 row_adds ends chosen value site place old now new from so_far adds =
-    let k : ℕ = place - start_at ends site in
-    let here : start_at ends site + k ≡ place = omega (arith, from) in
+    let k : ℕ = place - neighbours_start ends site in
+    let here : neighbours_start ends site + k ≡ place = omega (arith, from) in
     let P : ℕ → Type 0 = λ n. AddsCost old new (λ x. met_below ends chosen (value x) site n) in
-    subst P (let e : k + 1 ≡ place + 1 - start_at ends site = omega (arith, from) in e)
+    subst P (let e : k + 1 ≡ place + 1 - neighbours_start ends site = omega (arith, from) in e)
     (met_adds ends chosen value site k (pair_beside ends site place) old now new (ap (λ j. pair_beside ends site j) (sym here)) so_far adds)
 
 pub row_longer_all : (ends : Neighbours) (chosen : ℕ → Bool) (site k : ℕ) (old new : Quadratic) → k ≡ degree ends site

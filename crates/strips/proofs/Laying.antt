@@ -14,7 +14,7 @@ use Rattle.pseudo_bool.specs.Energies.{entry}
 use Rattle.flow_network.specs.Cut.{IsArc}
 use Rattle.flow_network.specs.declared.arc.Arc.{Arc}
 use Rattle.compile_cut.specs.declared.quadratic.Quadratic.{Quadratic}
-use Rattle.compile_cut.specs.Quadratics.{IsBounded, IsConstant}
+use Rattle.compile_cut.specs.Quadratics.{IsQuadraticBounded, IsConstant}
 use Rattle.compile_cut.specs.Weights.{weights_value, weights_size, arcs_value, arcs_size, IsAbove}
 use Rattle.compile_cut.proofs.TermLemmas.{bounded-weaker, constant_value, constant_nodes}
 use Rattle.compile_cut.proofs.WeightLemmas.{weights_value-add, weights_value-push}
@@ -22,8 +22,8 @@ use Rattle.move_energy.specs.declared.by_site.Neighbours.{Neighbours}
 use Rattle.move_energy.specs.declared.choice.Choice.{Choice}
 use Rattle.move_energy.specs.BySite.{AreBySite, met_at}
 use Rattle.move_energy.specs.Built.{AddsCost, IsLonger}
-use Rattle.move_energy.specs.Choices.{choice_at, open_at, rank, AreOpenSites, StandsFor}
-use Rattle.move_energy.specs.Weights.{AreWeights, IsOfWeights, unsaved, open_weights}
+use Rattle.move_energy.specs.Choices.{choice_at, open_at, open_rank, AreOpenSites, StandsFor}
+use Rattle.move_energy.specs.Weights.{AreWeights, IsOfWeights, unsaved_surplus, open_weights}
 use Rattle.move_energy.proofs.Opened.{opened_within}
 use Rattle.move_energy.proofs.Weighed.{form_value, weighted_stands, listed_weights_are, listed_savings}
 use Rattle.strips.specs.Views.{strip_view, KeepsChosen, weight_now}
@@ -71,8 +71,8 @@ size_all_of first ws list i is = omega (arith, is, sum_by-take-le unsigned_abs l
 -- ---- room for the rows
 
 pub rows_room : (met : ℕ → ℕ) (opened : List ℕ) (i most : ℕ) (old now : Quadratic) → i < length opened → sum_by met opened ≤ most → most ≤ 4194304
-    → IsBounded 0 old → IsLonger (sum_by met (take i opened)) old now
-    → (met (get_or opened i 0) ≤ 8388608) × IsBounded (8388608 - met (get_or opened i 0)) now
+    → IsQuadraticBounded 0 old → IsLonger (sum_by met (take i opened)) old now
+    → (met (get_or opened i 0) ≤ 8388608) × IsQuadraticBounded (8388608 - met (get_or opened i 0)) now
 rows_room met opened i most old now l few limit bounded longer =
     let more = sum_by_more met opened i 0 l in
     let within = sum_by-take-le met opened (i + 1) in (
@@ -81,7 +81,7 @@ rows_room met opened i most old now l few limit bounded longer =
     )
 
 pub rows_bounded : (met : ℕ → ℕ) (opened : List ℕ) (i most : ℕ) (old now : Quadratic) → sum_by met opened ≤ most → most ≤ 4194304
-    → IsBounded 0 old → IsLonger (sum_by met (take i opened)) old now → IsBounded 4194304 now
+    → IsQuadraticBounded 0 old → IsLonger (sum_by met (take i opened)) old now → IsQuadraticBounded 4194304 now
 rows_bounded met opened i most old now few limit bounded longer =
     let within = sum_by-take-le met opened i in
     bounded-weaker _ 4194304 now (omega (arith, within, few, limit)) (longer.bounded 0 bounded)
@@ -95,7 +95,7 @@ IsLaid list old new =
     × ((x : ℕ → Bool) → weights_value new.weights.items x ≡ weights_value old.weights.items x +ℤ weights_value list x)
     × (weights_size new.weights.items ≤ weights_size old.weights.items + weights_size list)
 
-pub laid_bounded : (list : List ℤ) (old new : Quadratic) → weights_size list ≤ 500000000000000 → IsBounded 4194304 old → IsLaid list old new → IsBounded 8388608 new
+pub laid_bounded : (list : List ℤ) (old new : Quadratic) → weights_size list ≤ 500000000000000 → IsQuadraticBounded 4194304 old → IsLaid list old new → IsQuadraticBounded 8388608 new
 laid_bounded list old new small bounded laid =
     let P : Vec Arc → Type 0 = λ arcs. All (IsArc (vec_len new.weights)) arcs.items in
     let Q : ℕ → Type 0 = λ n. All (IsArc n) old.arcs.items in
@@ -131,8 +131,8 @@ pub rows_stand : (m : Instance) (move : Move) (f : ℕ → ℕ) (start known : L
     → KeepsChosen start known → AreOpenSites (strip_view known from to) opened → AreWeights m move f (choice_at start) weights
     → IsConstant (pos 0) nodes zero_form → nodes ≡ length opened → vec_len old.weights ≡ vec_len zero_form.weights → IsLaid list.items old new
     → list.items ≡ map (weight_now m move f (choice_at start) (choice_at known) weights) opened
-    → AddsCost zero_form old (λ x. sum_by (met_at ends (open_at (strip_view known from to)) (unsaved m move f (choice_at (strip_view known from to)) (rank (strip_view known from to)) x)) opened)
-    → StandsFor m move f (choice_at (strip_view known from to)) new (rank (strip_view known from to))
+    → AddsCost zero_form old (λ x. sum_by (met_at ends (open_at (strip_view known from to)) (unsaved_surplus m move f (choice_at (strip_view known from to)) (open_rank (strip_view known from to)) x)) opened)
+    → StandsFor m move f (choice_at (strip_view known from to)) new (open_rank (strip_view known from to))
 rows_stand m move f start known from to weights opened pairs ends nodes zero_form old new list sites_are pairs_are all allowed by_site size on listed are none count kept laid is adds =
     let v = strip_view known from to in
     let long = view_length known from to in

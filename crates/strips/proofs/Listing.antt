@@ -6,7 +6,7 @@ use Rattle.std.proofs.lemmas.List.{append-nil}
 use Rattle.std.proofs.lemmas.List.Elements.{filter-append}
 use Rattle.move_energy.specs.declared.choice.Choice.{Choice}
 use Rattle.move_energy.specs.declared.choice.Choice.TheVariants.{Open, Zero, One}
-use Rattle.move_energy.specs.BySite.{listing}
+use Rattle.move_energy.specs.BySite.{rising_sites}
 use Rattle.move_energy.specs.Choices.{choice_at, is_open, open_at, AreOpenSites}
 use Rattle.move_energy.proofs.Opened.{open_true}
 use Rattle.closing_in.specs.Agreeing.{or_else}
@@ -16,23 +16,23 @@ use Rattle.strips.proofs.Views.{in_range, above_range, below_range, range_more, 
 
 -- ---- lists of sites
 
-pub listing_same : (a b : ℕ → Bool) (n : ℕ) → ((p : ℕ) → p < n → a p ≡ b p) → listing a n ≡ listing b n
+pub listing_same : (a b : ℕ → Bool) (n : ℕ) → ((p : ℕ) → p < n → a p ≡ b p) → rising_sites a n ≡ rising_sites b n
 listing_same a b zero same = refl
 listing_same a b (suc n) same =
     ap (λ (xs : List ℕ). xs ++ cond (a n) (n ∷ []) []) (listing_same a b n (λ p l. same p (omega (arith, l))))
-    ∙ ap (λ (c : Bool). listing b n ++ cond c (n ∷ []) []) (same n (omega arith))
+    ∙ ap (λ (c : Bool). rising_sites b n ++ cond c (n ∷ []) []) (same n (omega arith))
 
 pub none_more : (xs : List ℕ) (n : ℕ) (b : Bool) → b ≡ false → xs ++ cond b (n ∷ []) [] ≡ xs
 none_more xs n true h = absurd (cc (h))
 none_more xs n false h = append-nil xs
 
-pub listing_from : (chosen : ℕ → Bool) (k n : ℕ) → k ≤ n → ((p : ℕ) → k ≤ p → p < n → chosen p ≡ false) → listing chosen n ≡ listing chosen k
-listing_from chosen k zero l none = ap (listing chosen) (let e : zero ≡ k = omega (arith, l) in e)
+pub listing_from : (chosen : ℕ → Bool) (k n : ℕ) → k ≤ n → ((p : ℕ) → k ≤ p → p < n → chosen p ≡ false) → rising_sites chosen n ≡ rising_sites chosen k
+listing_from chosen k zero l none = ap (rising_sites chosen) (let e : zero ≡ k = omega (arith, l) in e)
 listing_from chosen k (suc n) l none = elim (cases_eq k (suc n)) [
-  | inl same ↦ ap (listing chosen) (sym same)
+  | inl same ↦ ap (rising_sites chosen) (sym same)
   | inr other ↦
       let less : k ≤ n = omega (arith, l, other) in
-      none_more (listing chosen n) n (chosen n) (none n less (omega arith))
+      none_more (rising_sites chosen n) n (chosen n) (none n less (omega arith))
       ∙ listing_from chosen k n less (λ p from small. none p from (omega (arith, small)))
 ]
 
@@ -47,12 +47,12 @@ kept_last q n false true within is = absurd (cc (within refl))
 kept_last q n false false within is = refl
 
 pub listing_left : (a b q : ℕ → Bool) (n : ℕ) → ((p : ℕ) → p < n → b p ≡ true → a p ≡ true) → ((p : ℕ) → p < n → a p ≡ true → q p ≡ b p)
-    → filter q (listing a n) ≡ listing b n
+    → filter q (rising_sites a n) ≡ rising_sites b n
 listing_left a b q zero within is = refl
 listing_left a b q (suc n) within is =
-    filter-append q (listing a n) (cond (a n) (n ∷ []) [])
+    filter-append q (rising_sites a n) (cond (a n) (n ∷ []) [])
     ∙ ap (λ (xs : List ℕ). xs ++ filter q (cond (a n) (n ∷ []) [])) (listing_left a b q n (λ p l. within p (omega (arith, l))) (λ p l. is p (omega (arith, l))))
-    ∙ ap (λ (ys : List ℕ). listing b n ++ ys) (kept_last q n (a n) (b n) (within n (omega arith)) (is n (omega arith)))
+    ∙ ap (λ (ys : List ℕ). rising_sites b n ++ ys) (kept_last q n (a n) (b n) (within n (omega arith)) (is n (omega arith)))
 
 -- ---- the sites of a range
 
@@ -61,7 +61,7 @@ none_from known from to p l = open_is known from to p ∙ seen_out known from to
 
 -- the list of the open sites of a range is that of those before its end
 before_end : (known : List Choice) (from to : ℕ) → to ≤ length known
-    → listing (open_at (strip_view known from to)) (length (strip_view known from to)) ≡ listing (open_at (strip_view known from to)) to
+    → rising_sites (open_at (strip_view known from to)) (length (strip_view known from to)) ≡ rising_sites (open_at (strip_view known from to)) to
 before_end known from to l =
     listing_from (open_at (strip_view known from to)) to (length (strip_view known from to)) (omega (arith, l, view_length known from to)) (λ p past small. none_from known from to p past)
 
@@ -93,7 +93,7 @@ still_shut known from s p here shuts =
 pub next_shut : (known : List Choice) (from s : ℕ) (opened : List ℕ) → choice_at known s ≢ Open → AreOpenSites (strip_view known from s) opened
     → AreOpenSites (strip_view known from (s + 1)) opened
 next_shut known from s opened shuts listed =
-    listed ∙ ap (listing (open_at (strip_view known from s))) (view_length known from s ∙ sym (view_length known from (s + 1)))
+    listed ∙ ap (rising_sites (open_at (strip_view known from s))) (view_length known from s ∙ sym (view_length known from (s + 1)))
     ∙ sym (listing_same (open_at (strip_view known from (s + 1))) (open_at (strip_view known from s)) (length (strip_view known from (s + 1)))
     (λ p l. elim (cases_eq p s) [
       | inl here ↦ still_shut known from s p here shuts
@@ -107,13 +107,13 @@ next_open known from s opened more after inside is adds listed =
     let v = strip_view known from s in
     let w = strip_view known from (s + 1) in
     let here : open_at w s ≡ true = inside_open known from (s + 1) s (in_range from (s + 1) s after (omega arith)) (open_true (choice_at known s) is) in
-    let below : listing (open_at v) s ≡ listing (open_at w) s = listing_same (open_at v) (open_at w) s (λ p l. sym (same_open known from s p (λ e. (omega (arith, l, e))))) in
+    let below : rising_sites (open_at v) s ≡ rising_sites (open_at w) s = listing_same (open_at v) (open_at w) s (λ p l. sym (same_open known from s p (λ e. (omega (arith, l, e))))) in
     adds ∙ ap (λ (xs : List ℕ). xs ++ s ∷ []) (listed ∙ before_end known from s (omega (arith, inside)) ∙ below)
-    ∙ sym (one_more (listing (open_at w) s) s (open_at w s) here)
-    ∙ ap (listing (open_at w)) (sym (add-one s)) ∙ sym (before_end known from (s + 1) (omega (arith, inside)))
+    ∙ sym (one_more (rising_sites (open_at w) s) s (open_at w s) here)
+    ∙ ap (rising_sites (open_at w)) (sym (add-one s)) ∙ sym (before_end known from (s + 1) (omega (arith, inside)))
 
 -- ---- the whole
 
 pub whole_listed : (known : List Choice) (to : ℕ) (opened : List ℕ) → length known ≤ to → AreOpenSites (strip_view known 0 to) opened → AreOpenSites known opened
 whole_listed known to opened all listed =
-    listed ∙ (λ j. listing (λ p. is_open (whole_is known to all j p)) (view_length known 0 to j))
+    listed ∙ (λ j. rising_sites (λ p. is_open (whole_is known to all j p)) (view_length known 0 to j))

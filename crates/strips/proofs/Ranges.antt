@@ -10,15 +10,15 @@ use Rattle.std.proofs.Math.ListN.{get_or-append}
 use Rattle.std.proofs.Math.Seq.{get_or-append_seam}
 use Rattle.move_energy.specs.declared.choice.Choice.{Choice}
 use Rattle.move_energy.specs.declared.choice.Choice.TheVariants.{Open, Zero, One}
-use Rattle.move_energy.specs.BySite.{listing}
+use Rattle.move_energy.specs.BySite.{rising_sites}
 use Rattle.move_energy.specs.Choices.{choice_at, is_open, open_at, AreOpenSites}
-use Rattle.closing_in.specs.Agreeing.{or_else, joined}
+use Rattle.closing_in.specs.Agreeing.{or_else, choices_or}
 use Rattle.closing_in.specs.Borders.{range_of}
 use Rattle.labellings.specs.declared.change.Move.{Move}
 use Rattle.labellings.specs.Energies.{Instance}
 use Rattle.solvers.specs.declared.jobs.SidesJob.{SidesJob}
-use Rattle.closing_in.specs.Strips.{Strip, told, told_by}
-use Rattle.closing_in.specs.Telling.{IsListed}
+use Rattle.closing_in.specs.Strips.{Strip, choice_of_bounds, told_by}
+use Rattle.closing_in.specs.Telling.{IsStripListed}
 use Rattle.strips.specs.Rounds.{HasSides, Tells, AreRanges, AreLaidOut, IsRangeCut, TellsRange, AreAnswered, AllTell}
 use Rattle.strips.specs.Views.{KeepsChosen, strip_view}
 use Rattle.strips.proofs.Views.{in_range, above_range, below_range, second_of, view_length, open_is, seen_in, seen_out, shut}
@@ -35,26 +35,26 @@ pub view_same : (old new : List Choice) (from to : ℕ) (opened : List ℕ) → 
     → ((p : ℕ) → range_of from to p ≡ true → choice_at new p ≡ choice_at old p)
     → AreOpenSites (strip_view old from to) opened → AreOpenSites (strip_view new from to) opened
 view_same old new from to opened count same listed =
-    listed ∙ ap (listing (open_at (strip_view old from to))) (view_length old from to ∙ sym count ∙ sym (view_length new from to))
+    listed ∙ ap (rising_sites (open_at (strip_view old from to))) (view_length old from to ∙ sym count ∙ sym (view_length new from to))
     ∙ sym (listing_same (open_at (strip_view new from to)) (open_at (strip_view old from to)) (length (strip_view new from to))
     (λ p l. open_is new from to p ∙ open_same (range_of from to p) (choice_at new p) (choice_at old p) (same p) ∙ sym (open_is old from to p)))
 
 -- ---- two ranges, one behind the other
 
 joined_listing : (c a b : ℕ → Bool) (from n : ℕ) → ((p : ℕ) → p < from → (c p ≡ a p) × (b p ≡ false)) → ((p : ℕ) → from ≤ p → (c p ≡ b p) × (a p ≡ false))
-    → listing c n ≡ listing a n ++ listing b n
+    → rising_sites c n ≡ rising_sites a n ++ rising_sites b n
 joined_listing c a b from zero low high = refl
 joined_listing c a b from (suc n) low high = elim (cases_lt n from) [
   | inl l ↦
-      let none : listing b (suc n) ≡ [] = listing_from b 0 (suc n) (omega arith) (λ p past small. (low p (omega (arith, small, l))).1) in
+      let none : rising_sites b (suc n) ≡ [] = listing_from b 0 (suc n) (omega arith) (λ p past small. (low p (omega (arith, small, l))).1) in
       listing_same c a (suc n) (λ p k. (low p (omega (arith, k, l))).0)
-      ∙ sym (ap (λ (xs : List ℕ). listing a (suc n) ++ xs) none ∙ append-nil (listing a (suc n)))
+      ∙ sym (ap (λ (xs : List ℕ). rising_sites a (suc n) ++ xs) none ∙ append-nil (rising_sites a (suc n)))
   | inr past ↦
       let last = high n (omega (arith, past)) in
-      let e : (listing a n ++ listing b n) ++ cond (b n) (n ∷ []) [] ≡ listing a n ++ (listing b n ++ cond (b n) (n ∷ []) []) = simp append_assoc in
+      let e : (rising_sites a n ++ rising_sites b n) ++ cond (b n) (n ∷ []) [] ≡ rising_sites a n ++ (rising_sites b n ++ cond (b n) (n ∷ []) []) = simp append_assoc in
       ap (λ (xs : List ℕ). xs ++ cond (c n) (n ∷ []) []) (joined_listing c a b from n low high)
-      ∙ ap (λ (t : Bool). (listing a n ++ listing b n) ++ cond t (n ∷ []) []) last.0
-      ∙ e ∙ ap (λ (xs : List ℕ). xs ++ listing b (suc n)) (sym (none_more (listing a n) n (a n) last.1))
+      ∙ ap (λ (t : Bool). (rising_sites a n ++ rising_sites b n) ++ cond t (n ∷ []) []) last.0
+      ∙ e ∙ ap (λ (xs : List ℕ). xs ++ rising_sites b (suc n)) (sym (none_more (rising_sites a n) n (a n) last.1))
 ]
 
 inside_both : (known : List Choice) (from to begin end p : ℕ) → range_of from to p ≡ true → range_of begin end p ≡ true
@@ -74,8 +74,8 @@ ranges_join known from to left right order before after =
     let c = open_at (strip_view known 0 to) in
     let a = open_at (strip_view known 0 from) in
     let b = open_at (strip_view known from to) in
-    let first : left ≡ listing a n = before ∙ ap (listing a) (view_length known 0 from ∙ sym (view_length known 0 to)) in
-    let second : right ≡ listing b n = after ∙ ap (listing b) (view_length known from to ∙ sym (view_length known 0 to)) in
+    let first : left ≡ rising_sites a n = before ∙ ap (rising_sites a) (view_length known 0 from ∙ sym (view_length known 0 to)) in
+    let second : right ≡ rising_sites b n = after ∙ ap (rising_sites b) (view_length known from to ∙ sym (view_length known 0 to)) in
     (λ j. first j ++ second j)
     ∙ sym (joined_listing c a b from n
     (λ p l. (
@@ -95,7 +95,7 @@ ranges_join known from to left right order before after =
 -- each listed site that is open has what the sides tell
 pub record HasTold (known new : List Choice) (opened : List ℕ) (lower upper : List Bool) : Type 0 where
   pub count : length new ≡ length known
-  pub each : (strip : Strip) → IsListed opened lower upper strip → (p : ℕ) → p < length known → choice_at new p ≡ joined (choice_at known) (told_by strip) p
+  pub each : (strip : Strip) → IsStripListed opened lower upper strip → (p : ℕ) → p < length known → choice_at new p ≡ choices_or (choice_at known) (told_by strip) p
 
 pub told_keeps : (start known new : List Choice) (from to : ℕ) (opened : List ℕ) (lower upper : List Bool) → HasTold known new opened lower upper
     → AreOpenSites (strip_view known from to) opened → KeepsChosen start known → KeepsChosen start new
@@ -121,7 +121,7 @@ told_others known new from to opened lower upper has listed p out = elim (cases_
   | inl l ↦
       let strip = strip_of known from to lower upper in
       has.each strip (strip_listed known from to opened lower upper listed) p l
-      ∙ ap (or_else (choice_at known p)) (second_of (strip.set p) (told (strip.lower p) (strip.upper p)) Open (open_is known from to p ∙ seen_out known from to p out))
+      ∙ ap (or_else (choice_at known p)) (second_of (strip.set p) (choice_of_bounds (strip.lower p) (strip.upper p)) Open (open_is known from to p ∙ seen_out known from to p out))
       ∙ else_open (choice_at known p)
   | inr past ↦ get_or_past new p Zero (omega (arith, past, has.count)) ∙ sym (get_or_past known p Zero (omega (arith, past)))
 ]

@@ -10,13 +10,13 @@ use Rattle.labellings.specs.declared.change.Move.{Move}
 use Rattle.labellings.specs.Energies.{Instance, IsInstance}
 use Rattle.move_energy.specs.declared.choice.Choice.{Choice}
 use Rattle.move_energy.specs.declared.choice.Choice.TheVariants.{Open, Zero, One}
-use Rattle.move_energy.specs.Choices.{bit_of, choice_at, is_open, openness, open_at, rank}
+use Rattle.move_energy.specs.Choices.{bit_of, choice_at, is_open, openness, open_at, open_rank}
 use Rattle.move_energy.specs.Weights.{AreWeights}
 use Rattle.deciding.proofs.Rises.{move_over}
-use Rattle.closing_in.specs.Fixing.{fixed}
-use Rattle.closing_in.specs.Agreeing.{or_else, joined}
+use Rattle.closing_in.specs.Fixing.{with_choices}
+use Rattle.closing_in.specs.Agreeing.{or_else, choices_or}
 use Rattle.closing_in.specs.Borders.{range_of, is_inside}
-use Rattle.strips.specs.Views.{seen, strip_view, KeepsChosen}
+use Rattle.strips.specs.Views.{choices_seen, strip_view, KeepsChosen}
 
 -- ---- choices that are the same at the sites
 
@@ -24,8 +24,8 @@ pub weights_same : (m : Instance) (move : Move) (f : ℕ → ℕ) (choice other 
     → ((p : ℕ) → p < m.sites → choice p ≡ other p) → AreWeights m move f choice weights → AreWeights m move f other weights
 weights_same m move f choice other weights pairs same are u l opened =
     let over = move_over m move f pairs in
-    let one = over (fixed choice (λ p. p == u)) (fixed other (λ p. p == u)) (λ p k. ap (λ (c : Choice). bit_of c (p == u)) (same p k)) in
-    let none = over (fixed choice (λ p. false)) (fixed other (λ p. false)) (λ p k. ap (λ (c : Choice). bit_of c false) (same p k)) in
+    let one = over (with_choices choice (λ p. p == u)) (with_choices other (λ p. p == u)) (λ p k. ap (λ (c : Choice). bit_of c (p == u)) (same p k)) in
+    let none = over (with_choices choice (λ p. false)) (with_choices other (λ p. false)) (λ p k. ap (λ (c : Choice). bit_of c false) (same p k)) in
     are u l (same u l ∙ opened) ∙ (λ i. one i -ℤ none i)
 
 -- ---- the sites of a range
@@ -64,25 +64,25 @@ none_or false = refl
 
 pub view_length : (known : List Choice) (from to : ℕ) → length (strip_view known from to) ≡ length known
 unfolding strip_view
-view_length known from to = length-map-range_with_len (seen known from to) 0 (length known)
+view_length known from to = length-map-range_with_len (choices_seen known from to) 0 (length known)
 
-pub view_at : (known : List Choice) (from to p : ℕ) → choice_at (strip_view known from to) p ≡ seen known from to p
+pub view_at : (known : List Choice) (from to p : ℕ) → choice_at (strip_view known from to) p ≡ choices_seen known from to p
 unfolding strip_view
 view_at known from to p = elim (cases_lt p (length known)) [
-  | inl l ↦ get_or-map-range_with_len (seen known from to) 0 (length known) p p Zero l (omega arith)
+  | inl l ↦ get_or-map-range_with_len (choices_seen known from to) 0 (length known) p p Zero l (omega arith)
   | inr past ↦
-      get_or_past (strip_view known from to) p Zero (omega (arith, past, length-map-range_with_len (seen known from to) 0 (length known)))
+      get_or_past (strip_view known from to) p Zero (omega (arith, past, length-map-range_with_len (choices_seen known from to) 0 (length known)))
       ∙ sym (ap (λ (c : Choice). cond (range_of from to p) c (or_else c Zero)) (get_or_past known p Zero (omega (arith, past))) ∙ none_or (range_of from to p))
 ]
 
-pub view_is : (known : List Choice) (from to : ℕ) → choice_at (strip_view known from to) ≡ seen known from to
+pub view_is : (known : List Choice) (from to : ℕ) → choice_at (strip_view known from to) ≡ choices_seen known from to
 view_is known from to = λ j p. view_at known from to p j
 
-pub open_is : (known : List Choice) (from to p : ℕ) → open_at (strip_view known from to) p ≡ is_open (seen known from to p)
+pub open_is : (known : List Choice) (from to p : ℕ) → open_at (strip_view known from to) p ≡ is_open (choices_seen known from to p)
 open_is known from to p = ap is_open (view_at known from to p)
 
 -- inside the range it is what is known, and outside it nothing is open
-pub seen_in : (known : List Choice) (from to p : ℕ) → range_of from to p ≡ true → seen known from to p ≡ choice_at known p
+pub seen_in : (known : List Choice) (from to p : ℕ) → range_of from to p ≡ true → choices_seen known from to p ≡ choice_at known p
 seen_in known from to p h = first_of (range_of from to p) (choice_at known p) (or_else (choice_at known p) Zero) h
 
 pub shut : (c : Choice) → is_open (or_else c Zero) ≡ false
@@ -90,7 +90,7 @@ shut Open = refl
 shut Zero = refl
 shut One = refl
 
-pub seen_out : (known : List Choice) (from to p : ℕ) → range_of from to p ≡ false → is_open (seen known from to p) ≡ false
+pub seen_out : (known : List Choice) (from to p : ℕ) → range_of from to p ≡ false → is_open (choices_seen known from to p) ≡ false
 seen_out known from to p h =
     ap is_open (second_of (range_of from to p) (choice_at known p) (or_else (choice_at known p) Zero) h) ∙ shut (choice_at known p)
 
@@ -118,7 +118,7 @@ inside_is known from to p = inside_by (range_of from to p) (choice_at known p) �
 
 -- ---- the whole
 
-whole_at : (known : List Choice) (to p : ℕ) → length known ≤ to → seen known 0 to p ≡ choice_at known p
+whole_at : (known : List Choice) (to p : ℕ) → length known ≤ to → choices_seen known 0 to p ≡ choice_at known p
 whole_at known to p all = elim (cases_lt p to) [
   | inl l ↦ seen_in known 0 to p (in_range 0 to p (omega arith) l)
   | inr past ↦
@@ -132,7 +132,7 @@ whole_is known to all = λ j p. (view_at known 0 to p ∙ whole_at known to p al
 abbrev rank_by : (ℕ → Choice) → ℕ → ℕ
 rank_by choice n = sum_below n (λ p. openness (choice p))
 
-pub whole_rank : (known : List Choice) (to : ℕ) → length known ≤ to → rank (strip_view known 0 to) ≡ rank known
+pub whole_rank : (known : List Choice) (to : ℕ) → length known ≤ to → open_rank (strip_view known 0 to) ≡ open_rank known
 whole_rank known to all = λ j n. rank_by (whole_is known to all j) n
 
 -- ---- what is known goes on from the start
@@ -142,5 +142,5 @@ joined_at Open v h = refl
 joined_at Zero v h = sym (h (λ e. absurd (cc (e))))
 joined_at One v h = sym (h (λ e. absurd (cc (e))))
 
-pub goes_on_joined : (start known : List Choice) (p : ℕ) → KeepsChosen start known → p < length known → joined (choice_at start) (choice_at known) p ≡ choice_at known p
+pub goes_on_joined : (start known : List Choice) (p : ℕ) → KeepsChosen start known → p < length known → choices_or (choice_at start) (choice_at known) p ≡ choice_at known p
 goes_on_joined start known p on l = joined_at (choice_at start p) (choice_at known p) (on p l)

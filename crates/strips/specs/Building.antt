@@ -11,7 +11,7 @@ use Rattle.move_energy.specs.declared.by_site.Neighbours.{Neighbours}
 use Rattle.move_energy.specs.declared.choice.Choice.{Choice}
 use Rattle.move_energy.specs.BySite.{AreBySite, pair_beside}
 use Rattle.move_energy.specs.Limits.{surplus_limit, weights_limit}
-use Rattle.move_energy.specs.Weights.{surplus_of, term_of}
+use Rattle.move_energy.specs.Weights.{surplus_of, pair_table}
 use Rattle.strips.specs.Views.{KeepsChosen}
 
 -- the closure takes each pair that the neighbours tell
@@ -26,7 +26,7 @@ GivesSmall gives = (pair : Pair) (z : ℤ) → gives pair z → unsigned_abs z �
 -- its answers are the surpluses of this move
 abbrev pub GivesSurpluses : (Pair → ℤ → Type 0) → Instance → Move → (ℕ → ℕ) → Type 0
 GivesSurpluses gives m move f =
-    (pair : Pair) (z : ℤ) → gives pair z → z ≡ surplus_of (term_of m move f pair)
+    (pair : Pair) (z : ℤ) → gives pair z → z ≡ surplus_of (pair_table m move f pair)
 
 -- the move is allowed, over these sites and pairs
 pub record IsMoveOver (pairs : PairList) (m : Instance) (move : Move) (f : ℕ → ℕ) : Type 0 where

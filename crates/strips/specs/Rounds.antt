@@ -10,15 +10,15 @@ use Rattle.solvers.specs.declared.jobs.SidesJob.{SidesJob}
 use Rattle.move_energy.specs.declared.choice.Choice.{Choice}
 use Rattle.move_energy.specs.Choices.{choice_at, AreOpenSites}
 use Rattle.deciding.specs.MoveValues.{move_value}
-use Rattle.closing_in.specs.Strips.{Strip, IsBounded}
-use Rattle.closing_in.specs.Telling.{IsListed}
+use Rattle.closing_in.specs.Strips.{Strip, IsStripBounded}
+use Rattle.closing_in.specs.Telling.{IsStripListed}
 use Rattle.strips.specs.Views.{strip_view}
 
 -- two sides bound the listed sites, with what was known then
 abbrev pub AreBounds : Instance → Move → (ℕ → ℕ) → List Choice → List ℕ → BothSides → Type 0
 AreBounds m move f known opened sides =
-    (strip : Strip) × IsListed opened sides.lower.items sides.upper.items strip
-    × IsBounded m.sites (move_value m move f) (choice_at known) strip
+    (strip : Strip) × IsStripListed opened sides.lower.items sides.upper.items strip
+    × IsStripBounded m.sites (move_value m move f) (choice_at known) strip
 
 -- the job's strip was cut, and its sides have a bit for each of so many sites, unless memory was
 -- refused

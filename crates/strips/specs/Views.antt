@@ -25,12 +25,12 @@ KeepsChosen start known = (p : ℕ) → p < length known → choice_at start p �
     → choice_at known p ≡ choice_at start p
 
 -- what a strip sees that is a range of sites: what is known, and each open site outside it at 0
-abbrev pub seen : List Choice → ℕ → ℕ → ℕ → Choice
-seen known from to = others_at Zero (range_of from to) (choice_at known)
+abbrev pub choices_seen : List Choice → ℕ → ℕ → ℕ → Choice
+choices_seen known from to = others_at Zero (range_of from to) (choice_at known)
 
 -- the same in a list
 unfoldable pub strip_view : List Choice → ℕ → ℕ → List Choice
-strip_view known from to = map (seen known from to) (range_with_len 0 (length known))
+strip_view known from to = map (choices_seen known from to) (range_with_len 0 (length known))
 
 -- the weight of a site by now: less by the surplus of its pairs to sites that were open at the
 -- start and are at 1

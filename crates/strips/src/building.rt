@@ -6,9 +6,9 @@ ghost use Rattle.labellings.specs.declared.change.Move.{Move};
 ghost use Rattle.labellings.specs.Energies.{Instance};
 ghost use Rattle.pseudo_bool.specs.Limits.{term_limit};
 ghost use Rattle.compile_cut.specs.Limits.{form_size};
-ghost use Rattle.compile_cut.specs.Quadratics.{IsBounded, IsConstant};
+ghost use Rattle.compile_cut.specs.Quadratics.{IsQuadraticBounded, IsConstant};
 ghost use Rattle.compile_cut.specs.Weights.{weights_size, weights_value};
-ghost use Rattle.move_energy.specs.Choices.{choice_at, rank, IsNumbering};
+ghost use Rattle.move_energy.specs.Choices.{choice_at, open_rank, IsNumbering};
 ghost use Rattle.move_energy.specs.Choices.{AreOpenSites, StandsFor};
 ghost use Rattle.move_energy.specs.declared.choice.Choice.{Choice as AnyChoice};
 ghost use Rattle.move_energy.specs.Weights.{AreWeights};
@@ -93,13 +93,14 @@ pub(crate) fn build_strip<S: Fn(Pair) -> i64>(
     requires small { GivesSmall (S.post savings.now) }
     requires can { CanBuild pairs.now ends.now start.now known.now weights.now }
     requires opened { AreOpenSites (strip_view known.now from to) opened.now }
-    ensures bounded { OnOk result (IsBounded term_limit form.new) }
+    ensures bounded { OnOk result (IsQuadraticBounded term_limit form.new) }
     ensures nodes { OnOk result (vec_len form.new.weights ≡ length opened.now) }
     ensures few { OnOk result (vec_len form.new.weights ≤ site_limit) }
     ensures built { (m : Instance) (move : Move) (f : ℕ → ℕ) →
         GivesSurpluses (S.post savings.now) m move f → IsMoveOver pairs.now m move f →
         AreWeights m move f (choice_at start.now) weights.now → OnOk result (StandsFor m move f
-        (choice_at (strip_view known.now from to)) form.new (rank (strip_view known.now from to))) }
+        (choice_at (strip_view known.now from to)) form.new
+        (open_rank (strip_view known.now from to))) }
     ensures count { OnOk result (length borders.new.items ≡ length opened.now) }
     ensures small { OnOk result (sum borders.new.items ≤ borders_limit) }
     ensures borders { (m : Instance) (move : Move) (f : ℕ → ℕ) →

@@ -5,9 +5,9 @@ ghost use Rattle.label_field.specs.Limits.{site_limit};
 ghost use Rattle.labellings.specs.Energies.{labelling};
 ghost use Rattle.labellings.specs.Moves.{IsAllowed};
 ghost use Rattle.pseudo_bool.specs.Limits.{term_limit};
-ghost use Rattle.compile_cut.specs.Quadratics.{IsBounded};
+ghost use Rattle.compile_cut.specs.Quadratics.{IsQuadraticBounded};
 ghost use Rattle.compile_cut.specs.Weights.{weights_size};
-ghost use Rattle.cost_store.specs.Posed.{IsPosed, IsAsked, Meant};
+ghost use Rattle.cost_store.specs.Posed.{IsPosed, IsAsked, WhereMeant};
 ghost use Rattle.move_energy.specs.BySite.{AreBySite};
 ghost use Rattle.move_energy.specs.Choices.{choice_at, AreOpenSites};
 ghost use Rattle.move_energy.specs.declared.choice.Choice.{Choice as AnyChoice};
@@ -15,7 +15,7 @@ ghost use Rattle.move_energy.specs.Problems.{Stands};
 ghost use Rattle.move_energy.specs.Limits.{weights_limit};
 ghost use Rattle.move_energy.specs.Weights.{AreWeights};
 ghost use Rattle.deciding.specs.MoveValues.{move_value};
-ghost use Rattle.deciding.specs.Rising.{IsSized, IsTableOf};
+ghost use Rattle.deciding.specs.Rising.{IsRiseTable, IsTableOf};
 ghost use Rattle.closing_in.specs.Agreeing.{Agree};
 ghost use Rattle.strips.specs.Rounds.{AreRanges, AreLaidOut};
 ghost use Rattle.strips.specs.Views.{IsView, KeepsChosen, strip_view};
@@ -191,13 +191,14 @@ impl Strips {
         requires posed { IsPosed F.Fn V.Fn problem.now }
         requires asked { IsAsked problem.now at.now change }
         requires by_site { AreBySite problem.now.pairs ends.now }
-        requires labels { IsSized problem.now.data_cost.labels table.now }
-        requires table { Meant F.Fn V.Fn problem.now (λ m. IsTableOf m change table.now) }
+        requires labels { IsRiseTable problem.now.data_cost.labels table.now }
+        requires table { WhereMeant F.Fn V.Fn problem.now (λ m. IsTableOf m change table.now) }
         requires count { (length start.now ≡ length at.now) × (length weights.now ≡ length at.now) }
         requires size { weights_size weights.now ≤ weights_limit }
-        requires weights { Meant F.Fn V.Fn problem.now (λ m. AreWeights m change (labelling at.now)
+        requires weights { WhereMeant F.Fn V.Fn problem.now
+            (λ m. AreWeights m change (labelling at.now)
             (choice_at start.now) weights.now) }
-        requires allowed { Meant F.Fn V.Fn problem.now
+        requires allowed { WhereMeant F.Fn V.Fn problem.now
             (λ m. IsAllowed m change (labelling at.now)) }
         requires choices { length built.old.variables.choices.items ≡ length at.now }
         requires goes_on { KeepsChosen start.now built.old.variables.choices.items }
@@ -210,7 +211,7 @@ impl Strips {
         ensures inside { IfOk result (λ end. (to ≤ end) × (end ≤ length at.now)) }
         ensures opened { IfOk result (λ end. AreOpenSites
             (strip_view built.new.variables.choices.items 0 end) self.new.opened.items) }
-        ensures agree { Meant F.Fn V.Fn problem.now (λ m.
+        ensures agree { WhereMeant F.Fn V.Fn problem.now (λ m.
             Agree m.sites (move_value m change (labelling at.now))
             (choice_at built.old.variables.choices.items) →
             OnOk result (Agree m.sites (move_value m change (labelling at.now))
@@ -227,8 +228,8 @@ impl Strips {
         } = round;
         let fork = how.fork();
         let jobs = cut_round(
-            alloc, &fork, problem, table, at, change, ends, start, known, weights, &bounds,
-            &lists, jobs,
+            alloc, &fork, problem, table, at, change, ends, start, known, weights, &bounds, &lists,
+            jobs,
         )?;
         tell_round(known, &bounds, &lists, &jobs, &mut self.opened, end)?;
         self.keep_jobs(jobs)?;
@@ -257,25 +258,26 @@ impl Strips {
         requires posed { IsPosed F.Fn V.Fn problem.now }
         requires asked { IsAsked problem.now at.now change }
         requires by_site { AreBySite problem.now.pairs ends.now }
-        requires labels { IsSized problem.now.data_cost.labels table.now }
-        requires table { Meant F.Fn V.Fn problem.now (λ m. IsTableOf m change table.now) }
+        requires labels { IsRiseTable problem.now.data_cost.labels table.now }
+        requires table { WhereMeant F.Fn V.Fn problem.now (λ m. IsTableOf m change table.now) }
         requires count { (length start.now ≡ length at.now) × (length weights.now ≡ length at.now) }
         requires some { 0 < size }
         requires size { weights_size weights.now ≤ weights_limit }
-        requires weights { Meant F.Fn V.Fn problem.now (λ m. AreWeights m change (labelling at.now)
+        requires weights { WhereMeant F.Fn V.Fn problem.now
+            (λ m. AreWeights m change (labelling at.now)
             (choice_at start.now) weights.now) }
-        requires allowed { Meant F.Fn V.Fn problem.now
+        requires allowed { WhereMeant F.Fn V.Fn problem.now
             (λ m. IsAllowed m change (labelling at.now)) }
         ensures count { OnOk result (length built.new.variables.choices.items ≡ length at.now) }
         ensures more { OnOk result
             (IsView start.now built.new.variables.choices.items (length at.now)) }
         ensures opened { OnOk result
             (AreOpenSites built.new.variables.choices.items self.new.opened.items) }
-        ensures bounded { OnOk result (IsBounded term_limit built.new.form) }
+        ensures bounded { OnOk result (IsQuadraticBounded term_limit built.new.form) }
         ensures few { OnOk result (vec_len built.new.form.weights ≤ site_limit) }
-        ensures stands { Meant F.Fn V.Fn problem.now
+        ensures stands { WhereMeant F.Fn V.Fn problem.now
             (λ m. OnOk result (Stands m change at.now built.new)) }
-        ensures agree { Meant F.Fn V.Fn problem.now (λ m.
+        ensures agree { WhereMeant F.Fn V.Fn problem.now (λ m.
             Agree m.sites (move_value m change (labelling at.now)) (choice_at start.now) →
             OnOk result (Agree m.sites (move_value m change (labelling at.now))
             (choice_at built.new.variables.choices.items))) }

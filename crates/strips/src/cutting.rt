@@ -9,12 +9,12 @@ ghost use Rattle.labellings.specs.declared.change.Move.{Move as AnyMove};
 ghost use Rattle.labellings.specs.Energies.{Instance, labelling};
 ghost use Rattle.labellings.specs.Moves.{IsAllowed};
 ghost use Rattle.pseudo_bool.specs.Limits.{term_limit};
-ghost use Rattle.compile_cut.specs.Quadratics.{IsBounded};
-ghost use Rattle.cost_store.specs.Posed.{IsPosed, IsAsked, Meant};
-ghost use Rattle.move_energy.specs.Choices.{choice_at, rank, AreOpenSites, StandsFor};
+ghost use Rattle.compile_cut.specs.Quadratics.{IsQuadraticBounded};
+ghost use Rattle.cost_store.specs.Posed.{IsPosed, IsAsked, WhereMeant};
+ghost use Rattle.move_energy.specs.Choices.{choice_at, open_rank, AreOpenSites, StandsFor};
 ghost use Rattle.move_energy.specs.Limits.{surplus_limit};
-ghost use Rattle.move_energy.specs.Weights.{AreWeights, surplus_of, term_of};
-ghost use Rattle.deciding.specs.Rising.{IsSized, IsTableOf};
+ghost use Rattle.move_energy.specs.Weights.{AreWeights, surplus_of, pair_table};
+ghost use Rattle.deciding.specs.Rising.{IsRiseTable, IsTableOf};
 ghost use Rattle.deciding.specs.Savings.{CoversPair, IsTableFrom};
 ghost use Rattle.strips.specs.Building.{TakesPairs, GivesSmall, GivesSurpluses, IsMoveOver, CanBuild};
 ghost use Rattle.strips.specs.Rounds.{AreBounds, AreAllRanges, AreLaidOut, IsRangeCut, TellsRange};
@@ -144,7 +144,7 @@ fn do_told_strip(
         requires covered { CoversPair table.now at.now pair }
         ensures value { (m : Instance) (move : AnyMove) (f : ℕ → ℕ) →
             IsTableFrom table.entry.now at.entry.now m move f →
-            result ≡ surplus_of (term_of m move f pair) }
+            result ≡ surplus_of (pair_table m move f pair) }
         ensures range { unsigned_abs result ≤ surplus_limit }
     { told_surplus(table, at, pair) };
     let alloc = *job.more.allocator();
@@ -217,26 +217,27 @@ fn cut_asked<F: Fn(u32, u32) -> i64 + Sync, V: Fn(u32, u32) -> i64 + Sync>(
 ) -> Vec<SidesJob>
     requires posed { IsPosed F.Fn V.Fn problem.now }
     requires asked { IsAsked problem.now at.now change }
-    requires labels { IsSized problem.now.data_cost.labels table.now }
-    requires table { Meant F.Fn V.Fn problem.now (λ m. IsTableOf m change table.now) }
+    requires labels { IsRiseTable problem.now.data_cost.labels table.now }
+    requires table { WhereMeant F.Fn V.Fn problem.now (λ m. IsTableOf m change table.now) }
     requires can { CanBuild problem.now.pairs ends.now start.now known.now weights.now }
     requires ranges { AreAllRanges known.now bounds.now lists.now }
     requires laid { AreLaidOut lists.now jobs.items }
-    requires weights { Meant F.Fn V.Fn problem.now (λ m. AreWeights m change (labelling at.now)
+    requires weights { WhereMeant F.Fn V.Fn problem.now (λ m. AreWeights m change (labelling at.now)
         (choice_at start.now) weights.now) }
-    requires allowed { Meant F.Fn V.Fn problem.now (λ m. IsAllowed m change (labelling at.now)) }
+    requires allowed { WhereMeant F.Fn V.Fn problem.now
+        (λ m. IsAllowed m change (labelling at.now)) }
     ensures answered { AreAnswered lists.now result.items }
-    ensures tells { Meant F.Fn V.Fn problem.now (λ m.
+    ensures tells { WhereMeant F.Fn V.Fn problem.now (λ m.
         AllTell m change (labelling at.now) known.now lists.now result.items) }
 {
     let savings = |pair: Pair| -> i64
         requires posed { IsPosed F.Fn V.Fn problem.now }
         requires asked { IsAsked problem.now at.now change }
-        requires labels { IsSized problem.now.data_cost.labels table.now }
-        requires table { Meant F.Fn V.Fn problem.now (λ m. IsTableOf m change table.now) }
+        requires labels { IsRiseTable problem.now.data_cost.labels table.now }
+        requires table { WhereMeant F.Fn V.Fn problem.now (λ m. IsTableOf m change table.now) }
         requires pair { IsPair (length at.now) pair }
-        ensures value { Meant F.Fn V.Fn problem.entry.now (λ m.
-            result ≡ surplus_of (term_of m change (labelling at.entry.now) pair)) }
+        ensures value { WhereMeant F.Fn V.Fn problem.entry.now (λ m.
+            result ≡ surplus_of (pair_table m change (labelling at.entry.now) pair)) }
         ensures range { unsigned_abs result ≤ surplus_limit }
     { pair_surplus(problem, table, at, change, pair) };
     let mut jobs = jobs;
@@ -285,16 +286,17 @@ pub(crate) fn cut_round<F: Fn(u32, u32) -> i64 + Sync, V: Fn(u32, u32) -> i64 + 
     requires able { K.can_do fork.now }
     requires posed { IsPosed F.Fn V.Fn problem.now }
     requires asked { IsAsked problem.now at.now change }
-    requires labels { IsSized problem.now.data_cost.labels table.now }
-    requires table { Meant F.Fn V.Fn problem.now (λ m. IsTableOf m change table.now) }
+    requires labels { IsRiseTable problem.now.data_cost.labels table.now }
+    requires table { WhereMeant F.Fn V.Fn problem.now (λ m. IsTableOf m change table.now) }
     requires can { CanBuild problem.now.pairs ends.now start.now known.now weights.now }
     requires ranges { AreAllRanges known.now bounds.now lists.now }
     requires laid { AreLaidOut lists.now jobs.items }
-    requires weights { Meant F.Fn V.Fn problem.now (λ m. AreWeights m change (labelling at.now)
+    requires weights { WhereMeant F.Fn V.Fn problem.now (λ m. AreWeights m change (labelling at.now)
         (choice_at start.now) weights.now) }
-    requires allowed { Meant F.Fn V.Fn problem.now (λ m. IsAllowed m change (labelling at.now)) }
+    requires allowed { WhereMeant F.Fn V.Fn problem.now
+        (λ m. IsAllowed m change (labelling at.now)) }
     ensures answered { IfOk result (λ done. AreAnswered lists.now done.items) }
-    ensures tells { Meant F.Fn V.Fn problem.now (λ m. IfOk result (λ done.
+    ensures tells { WhereMeant F.Fn V.Fn problem.now (λ m. IfOk result (λ done.
         AllTell m change (labelling at.now) known.now lists.now done.items)) }
 {
     let pairs = &problem.pairs;
@@ -326,27 +328,28 @@ pub(crate) fn build_last<F: Fn(u32, u32) -> i64 + Sync, V: Fn(u32, u32) -> i64 +
 ) -> Result<(), AllocError>
     requires posed { IsPosed F.Fn V.Fn problem.now }
     requires asked { IsAsked problem.now at.now change }
-    requires labels { IsSized problem.now.data_cost.labels table.now }
-    requires table { Meant F.Fn V.Fn problem.now (λ m. IsTableOf m change table.now) }
+    requires labels { IsRiseTable problem.now.data_cost.labels table.now }
+    requires table { WhereMeant F.Fn V.Fn problem.now (λ m. IsTableOf m change table.now) }
     requires can { CanBuild problem.now.pairs ends.now start.now known.now weights.now }
     requires opened { AreOpenSites (strip_view known.now 0 to) opened.now }
-    requires weights { Meant F.Fn V.Fn problem.now (λ m. AreWeights m change (labelling at.now)
+    requires weights { WhereMeant F.Fn V.Fn problem.now (λ m. AreWeights m change (labelling at.now)
         (choice_at start.now) weights.now) }
-    requires allowed { Meant F.Fn V.Fn problem.now (λ m. IsAllowed m change (labelling at.now)) }
-    ensures bounded { OnOk result (IsBounded term_limit form.new) }
+    requires allowed { WhereMeant F.Fn V.Fn problem.now
+        (λ m. IsAllowed m change (labelling at.now)) }
+    ensures bounded { OnOk result (IsQuadraticBounded term_limit form.new) }
     ensures few { OnOk result (vec_len form.new.weights ≤ site_limit) }
-    ensures stands { Meant F.Fn V.Fn problem.now (λ m. OnOk result (StandsFor m change
+    ensures stands { WhereMeant F.Fn V.Fn problem.now (λ m. OnOk result (StandsFor m change
         (labelling at.now) (choice_at (strip_view known.now 0 to)) form.new
-        (rank (strip_view known.now 0 to)))) }
+        (open_rank (strip_view known.now 0 to)))) }
 {
     let savings = |pair: Pair| -> i64
         requires posed { IsPosed F.Fn V.Fn problem.now }
         requires asked { IsAsked problem.now at.now change }
-        requires labels { IsSized problem.now.data_cost.labels table.now }
-        requires table { Meant F.Fn V.Fn problem.now (λ m. IsTableOf m change table.now) }
+        requires labels { IsRiseTable problem.now.data_cost.labels table.now }
+        requires table { WhereMeant F.Fn V.Fn problem.now (λ m. IsTableOf m change table.now) }
         requires pair { IsPair (length at.now) pair }
-        ensures value { Meant F.Fn V.Fn problem.entry.now (λ m.
-            result ≡ surplus_of (term_of m change (labelling at.entry.now) pair)) }
+        ensures value { WhereMeant F.Fn V.Fn problem.entry.now (λ m.
+            result ≡ surplus_of (pair_table m change (labelling at.entry.now) pair)) }
         ensures range { unsigned_abs result ≤ surplus_limit }
     { pair_surplus(problem, table, at, change, pair) };
     build_strip(

@@ -8,10 +8,10 @@ ghost use Rattle.move_energy.specs.Choices.{choice_at, open_at, AreOpenSites};
 ghost use Rattle.move_energy.specs.declared.choice.Choice.{Choice as AnyChoice};
 ghost use Rattle.deciding.specs.Decisions.{IsSubmodular, IsOver};
 ghost use Rattle.deciding.specs.MoveValues.{move_value};
-ghost use Rattle.closing_in.specs.Agreeing.{Agree, ChooseMore, joined};
+ghost use Rattle.closing_in.specs.Agreeing.{Agree, ChooseMore, choices_or};
 ghost use Rattle.closing_in.specs.Borders.{range_of};
-ghost use Rattle.closing_in.specs.Strips.{Strip, IsBounded, told_by};
-ghost use Rattle.closing_in.specs.Telling.{IsListed};
+ghost use Rattle.closing_in.specs.Strips.{Strip, IsStripBounded, told_by};
+ghost use Rattle.closing_in.specs.Telling.{IsStripListed};
 ghost use Rattle.strips.specs.Rounds.{HasSides, Tells};
 ghost use Rattle.strips.specs.Rounds.{AreRanges, AreAnswered, AllTell};
 ghost use Rattle.strips.specs.Views.{KeepsChosen, strip_view};
@@ -36,13 +36,13 @@ fn tell_strip(
     requires upper { length sides.now.upper.items ≡ length opened.now }
     ensures count { length known.new.items ≡ length known.old.items }
     ensures told { (strip : Strip)
-        → IsListed opened.now sides.now.lower.items sides.now.upper.items strip →
+        → IsStripListed opened.now sides.now.lower.items sides.now.upper.items strip →
         (p : ℕ) → p < length known.old.items →
-        choice_at known.new.items p ≡ joined (choice_at known.old.items) (told_by strip) p }
+        choice_at known.new.items p ≡ choices_or (choice_at known.old.items) (told_by strip) p }
     ensures agree { (n : ℕ) (E : (ℕ → Bool) → ℤ) (start : ℕ → AnyChoice) (strip : Strip) →
         n ≤ length known.old.items → IsSubmodular E → IsOver n E →
-        IsListed opened.now sides.now.lower.items sides.now.upper.items strip →
-        IsBounded n E start strip → Agree n E start → Agree n E (choice_at known.old.items) →
+        IsStripListed opened.now sides.now.lower.items sides.now.upper.items strip →
+        IsStripBounded n E start strip → Agree n E start → Agree n E (choice_at known.old.items) →
         ChooseMore n start (choice_at known.old.items) →
         Agree n E (choice_at known.new.items) × ChooseMore n start (choice_at known.new.items) }
     ensures left { OnOk result (left.new.items

@@ -3,7 +3,7 @@
 ghost use Rattle.std.specs.Prelude.{◌≡◌, ◌<◌, ◌≤◌, ◌+◌, ◌*◌, ◌-◌, ◌-ℤ◌, ◌<ℤ◌, ◌∷◌, [], ◌&&◌, ℕ, ℤ};
 ghost use Rattle.std.specs.Prelude.{Bool, true, not, pos, map, length, vec_len, sum, sum_by, All};
 ghost use Rattle.std.specs.Prelude.{unsigned_abs, IfOk, OnOk};
-ghost use Rattle.sums.specs.Sums.{counted};
+ghost use Rattle.sums.specs.Sums.{count_if};
 ghost use Rattle.label_field.specs.Limits.{pair_limit};
 ghost use Rattle.label_field.specs.PairLists.{IsPairList};
 ghost use Rattle.labellings.specs.declared.change.Move.{Move};
@@ -11,15 +11,15 @@ ghost use Rattle.labellings.specs.Energies.{Instance};
 ghost use Rattle.pseudo_bool.specs.Energies.{IsValue};
 ghost use Rattle.pseudo_bool.specs.Limits.{term_limit};
 ghost use Rattle.regular.specs.Regularity.{IsRegularTable};
-ghost use Rattle.compile_cut.specs.Quadratics.{IsBounded};
+ghost use Rattle.compile_cut.specs.Quadratics.{IsQuadraticBounded};
 ghost use Rattle.compile_cut.specs.Weights.{weights_size};
-ghost use Rattle.move_energy.specs.BySite.{AreBySite, degree, start_at, head_at, is_counted};
+ghost use Rattle.move_energy.specs.BySite.{AreBySite, degree, neighbours_start, neighbour_at, is_counted};
 ghost use Rattle.move_energy.specs.BySite.{met_at, pair_beside as beside_at};
 ghost use Rattle.move_energy.specs.Built.{AddsCost, IsLonger};
-ghost use Rattle.move_energy.specs.Choices.{choice_at, open_at, rank, open_count, IsNumbering};
+ghost use Rattle.move_energy.specs.Choices.{choice_at, open_at, open_rank, open_count, IsNumbering};
 ghost use Rattle.move_energy.specs.Choices.{AreOpenSites};
 ghost use Rattle.move_energy.specs.Limits.{surplus_limit, weights_limit};
-ghost use Rattle.move_energy.specs.Weights.{pair_surplus as surplus_between, unsaved};
+ghost use Rattle.move_energy.specs.Weights.{pair_surplus as surplus_between, unsaved_surplus};
 ghost use Rattle.closing_in.specs.Borders.{border_at, is_beyond as beyond_of, not_ones, range_of};
 ghost use Rattle.closing_in.specs.Borders.{is_inside as inside_of};
 ghost use Rattle.strips.specs.Building.{TakesPairs, GivesSmall, GivesSurpluses, IsMoveOver};
@@ -77,10 +77,11 @@ fn counted_surplus<S: Fn(Pair) -> i64>(
     requires pairs { IsPairList pairs.now }
     requires by_site { AreBySite pairs.now ends.now }
     requires site { site < pairs.now.sites }
-    requires place { (start_at ends.now site ≤ place) × (place < start_at ends.now (site + 1)) }
+    requires place { (neighbours_start ends.now site ≤ place)
+        × (place < neighbours_start ends.now (site + 1)) }
     ensures value { (m : Instance) (move : Move) (f : ℕ → ℕ) →
         GivesSurpluses (S.post savings.now) m move f → IsMoveOver pairs.now m move f →
-        result ≡ pos (counted counts
+        result ≡ pos (count_if counts
         (surplus_between m move f (beside_at ends.now site place))) }
     ensures range { unsigned_abs result ≤ surplus_limit }
 {
@@ -107,10 +108,10 @@ fn add_saving(form: &mut Quadratic, first: u32, second: u32, surplus: i64) -> Re
     requires first { first < vec_len form.old.weights }
     requires second { second < vec_len form.old.weights }
     requires surplus { (pos 0 <ℤ surplus) × (unsigned_abs surplus ≤ surplus_limit) }
-    requires bounded { IsBounded term_limit form.old }
+    requires bounded { IsQuadraticBounded term_limit form.old }
     ensures longer { OnOk result (IsLonger 1 form.old form.new) }
     ensures adds { OnOk result (AddsCost form.old form.new
-        (λ x. counted (not (x first && x second)) (unsigned_abs surplus))) }
+        (λ x. count_if (not (x first && x second)) (unsigned_abs surplus))) }
 {
     let table = saving(surplus);
     form.add_pair(first, second, &table)
@@ -141,18 +142,19 @@ fn add_inside<S: Fn(Pair) -> i64>(
     requires nodes { vec_len form.old.weights ≡ open_count (strip_view known.now from to) }
     requires site { (site < pairs.now.sites)
         × (open_at (strip_view known.now from to) site ≡ true) }
-    requires place { (start_at ends.now site ≤ place) × (place < start_at ends.now (site + 1)) }
-    requires head { (head ≡ head_at ends.now place) × (head < pairs.now.sites) }
-    requires bounded { IsBounded term_limit form.old }
-    ensures longer { OnOk result (IsLonger (counted
+    requires place { (neighbours_start ends.now site ≤ place)
+        × (place < neighbours_start ends.now (site + 1)) }
+    requires head { (head ≡ neighbour_at ends.now place) × (head < pairs.now.sites) }
+    requires bounded { IsQuadraticBounded term_limit form.old }
+    ensures longer { OnOk result (IsLonger (count_if
         (is_counted (open_at (strip_view known.now from to)) site
         (beside_at ends.now site place)) 1) form.old form.new) }
     ensures adds { (m : Instance) (move : Move) (f : ℕ → ℕ) →
         GivesSurpluses (S.post savings.now) m move f → IsMoveOver pairs.now m move f →
-        OnOk result (AddsCost form.old form.new (λ x. counted
+        OnOk result (AddsCost form.old form.new (λ x. count_if
         (is_counted (open_at (strip_view known.now from to)) site (beside_at ends.now site place))
-        (unsaved m move f (choice_at (strip_view known.now from to))
-        (rank (strip_view known.now from to)) x (beside_at ends.now site place)))) }
+        (unsaved_surplus m move f (choice_at (strip_view known.now from to))
+        (open_rank (strip_view known.now from to)) x (beside_at ends.now site place)))) }
 {
     if !is_inside(known, from, to, head) {
         return Ok(());
@@ -204,7 +206,7 @@ fn add_row<S: Fn(Pair) -> i64>(
         × (open_at (strip_view known.now from to) site ≡ true) }
     requires met { met_at ends.now (open_at (strip_view known.now from to)) (λ pair. 1) site
         ≤ term_limit }
-    requires bounded { IsBounded (term_limit - met_at ends.now
+    requires bounded { IsQuadraticBounded (term_limit - met_at ends.now
         (open_at (strip_view known.now from to)) (λ pair. 1) site) form.old }
     ensures ones { (m : Instance) (move : Move) (f : ℕ → ℕ) →
         GivesSurpluses (S.post savings.now) m move f → IsMoveOver pairs.now m move f →
@@ -222,8 +224,8 @@ fn add_row<S: Fn(Pair) -> i64>(
     ensures adds { (m : Instance) (move : Move) (f : ℕ → ℕ) →
         GivesSurpluses (S.post savings.now) m move f → IsMoveOver pairs.now m move f →
         OnOk result (AddsCost form.old form.new (λ x. met_at ends.now
-        (open_at (strip_view known.now from to)) (unsaved m move f
-        (choice_at (strip_view known.now from to)) (rank (strip_view known.now from to)) x)
+        (open_at (strip_view known.now from to)) (unsaved_surplus m move f
+        (choice_at (strip_view known.now from to)) (open_rank (strip_view known.now from to)) x)
         site)) }
 {
     let mut ones = 0i64;
@@ -268,13 +270,13 @@ pub(crate) fn add_rows<S: Fn(Pair) -> i64>(
     requires opened { AreOpenSites (strip_view known.now from to) opened.now }
     requires numbering { IsNumbering (strip_view known.now from to) numbers.now }
     requires nodes { vec_len form.old.weights ≡ open_count (strip_view known.now from to) }
-    requires bounded { IsBounded 0 form.old }
+    requires bounded { IsQuadraticBounded 0 form.old }
     ensures count { OnOk result ((length list.new.items ≡ length opened.now)
         × (length borders.new.items ≡ length opened.now)) }
     ensures size { OnOk result (weights_size list.new.items ≤ weights_limit + borders_limit) }
     ensures small { OnOk result (sum borders.new.items ≤ borders_limit) }
     ensures nodes { OnOk result (vec_len form.new.weights ≡ vec_len form.old.weights) }
-    ensures bounded { OnOk result (IsBounded pair_limit form.new) }
+    ensures bounded { OnOk result (IsQuadraticBounded pair_limit form.new) }
     ensures weights { (m : Instance) (move : Move) (f : ℕ → ℕ) →
         GivesSurpluses (S.post savings.now) m move f → IsMoveOver pairs.now m move f →
         OnOk result (list.new.items ≡ map (weight_now m move f
@@ -286,8 +288,8 @@ pub(crate) fn add_rows<S: Fn(Pair) -> i64>(
     ensures adds { (m : Instance) (move : Move) (f : ℕ → ℕ) →
         GivesSurpluses (S.post savings.now) m move f → IsMoveOver pairs.now m move f →
         OnOk result (AddsCost form.old form.new (λ x. sum_by (met_at ends.now
-        (open_at (strip_view known.now from to)) (unsaved m move f
-        (choice_at (strip_view known.now from to)) (rank (strip_view known.now from to)) x))
+        (open_at (strip_view known.now from to)) (unsaved_surplus m move f
+        (choice_at (strip_view known.now from to)) (open_rank (strip_view known.now from to)) x))
         opened.now)) }
 {
     list.clear();

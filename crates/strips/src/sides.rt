@@ -3,7 +3,7 @@ ghost use Rattle.label_field.specs.Limits.{site_limit, label_limit};
 ghost use Rattle.pseudo_bool.specs.Energies.{assignment};
 ghost use Rattle.pseudo_bool.specs.Limits.{term_limit};
 ghost use Rattle.compile_cut.specs.declared.quadratic.Quadratic.{Quadratic as Form};
-ghost use Rattle.compile_cut.specs.Quadratics.{quadratic_value, IsBounded};
+ghost use Rattle.compile_cut.specs.Quadratics.{quadratic_value, IsQuadraticBounded};
 ghost use Rattle.deciding.specs.Decisions.{IsSmallestLeast};
 ghost use Rattle.strips.specs.Limits.{borders_limit};
 ghost use Rattle.strips.specs.Sides.{IsLessBorder};
@@ -22,7 +22,7 @@ pub fn least_sides(
     borders: &[u64],
     cutting: &mut Workspace,
 ) -> Result<BothSides, AllocError>
-    requires bounded { IsBounded term_limit form }
+    requires bounded { IsQuadraticBounded term_limit form }
     requires few { vec_len form.weights ≤ site_limit + label_limit }
     requires count { length borders.now ≡ vec_len form.weights }
     requires small { sum borders.now ≤ borders_limit }

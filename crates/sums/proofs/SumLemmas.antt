@@ -2,7 +2,7 @@ use Rattle.std.proofs.Common.{◌≡◌, ◌≢◌, ℕ, zero, suc, ◌+◌, ◌
 use Rattle.std.proofs.lemmas.Bool.{cases_lt}
 use Rattle.std.proofs.lemmas.Bool.Decides.{nat_tests}
 use Rattle.std.proofs.lemmas.List.Sums.{sum_by-cons}
-use Rattle.sums.specs.Sums.{sum_below, counted}
+use Rattle.sums.specs.Sums.{sum_below, count_if}
 
 pub sum_below-add : (n : ℕ) (f g : ℕ → ℕ) → sum_below n (λ i. f i + g i) ≡ sum_below n f + sum_below n g
 sum_below-add zero f g = refl
@@ -50,40 +50,40 @@ sum_below-change (suc n) u f g h same = elim (cases_lt u n) [
       omega (arith, ap f here, ap g here, sum_below-same n f g (λ i l. same i (omega arith) (omega arith)))
 ]
 
-pub counted-same : (u z : ℕ) → counted (eqb u u) z ≡ z
+pub counted-same : (u z : ℕ) → count_if (eqb u u) z ≡ z
 counted-same u z = grind (arith, nat_tests)
 
-pub counted-other : (u i z : ℕ) → i ≢ u → counted (eqb u i) z ≡ 0
+pub counted-other : (u i z : ℕ) → i ≢ u → count_if (eqb u i) z ≡ 0
 counted-other u i z ne = grind (arith, nat_tests)
 
-pub sum_below-counted : (m : ℕ) (b : Bool) (f : ℕ → ℕ) → counted b (sum_below m f) ≡ sum_below m (λ k. counted b (f k))
+pub sum_below-counted : (m : ℕ) (b : Bool) (f : ℕ → ℕ) → count_if b (sum_below m f) ≡ sum_below m (λ k. count_if b (f k))
 sum_below-counted m true f = refl
 sum_below-counted m false f = sym (sum_below-zero m)
 
-pub counted-counted : (a b : Bool) (z : ℕ) → counted a (counted b z) ≡ counted b (counted a z)
+pub counted-counted : (a b : Bool) (z : ℕ) → count_if a (count_if b z) ≡ count_if b (count_if a z)
 counted-counted true b z = refl
 counted-counted false true z = refl
 counted-counted false false z = refl
 
-pub counted-le : (b : Bool) (z : ℕ) → counted b z ≤ z
+pub counted-le : (b : Bool) (z : ℕ) → count_if b z ≤ z
 counted-le true z = omega arith
 counted-le false z = omega arith
 
 -- of all places, the one that is counted
-pub sum_below-pick : (n u : ℕ) (g : ℕ → ℕ) → u < n → sum_below n (λ v. counted (eqb u v) (g v)) ≡ g u
+pub sum_below-pick : (n u : ℕ) (g : ℕ → ℕ) → u < n → sum_below n (λ v. count_if (eqb u v) (g v)) ≡ g u
 sum_below-pick n u g h =
     omega (
       arith,
       counted-same u (g u),
       sum_below-zero n,
-      sum_below-change n u (λ v. 0) (λ v. counted (eqb u v) (g v)) h (λ v l ne. sym (counted-other u v (g v) ne)),
+      sum_below-change n u (λ v. 0) (λ v. count_if (eqb u v) (g v)) h (λ v l ne. sym (counted-other u v (g v) ne)),
     )
 
-pub counted-true : (b : Bool) (z : ℕ) → b ≡ true → counted b z ≡ z
+pub counted-true : (b : Bool) (z : ℕ) → b ≡ true → count_if b z ≡ z
 counted-true true z h = refl
 counted-true false z h = cc
 
-pub counted-zero : (b : Bool) (z : ℕ) → (b ≡ true → z ≡ 0) → counted b z ≡ 0
+pub counted-zero : (b : Bool) (z : ℕ) → (b ≡ true → z ≡ 0) → count_if b z ≡ 0
 counted-zero true z h = h refl
 counted-zero false z h = refl
 

@@ -3,7 +3,7 @@ use Rattle.std.proofs.Common.{◌≡◌, ◌∙◌, ℕ, suc, zero, ◌+◌, ◌
 use Rattle.std.proofs.lemmas.List.{take_all, drop_all, append-nil}
 use Rattle.label_field.specs.declared.pair.Pair.{Pair}
 use Rattle.label_field.specs.PairLists.{PairList}
-use Rattle.vision.specs.Problems.{weighted}
+use Rattle.vision.specs.Problems.{with_weight}
 
 one_more : (f : Pair → Pair) (list : List Pair) (i : ℕ) (x : Pair) → slice_get (map f (take i list) ++ drop i list) i ≡ Some x
     → slice_set (map f (take i list) ++ drop i list) i (f x) ≡ map f (take (suc i) list) ++ drop (suc i) list
@@ -26,14 +26,14 @@ listed sites list = record { sites = sites; list = list }
 
 -- the pair at the next place gets its weight
 pub weighed_step : (weight : Pair → ℕ) (sites : ℕ) (list : List Pair) (now new : PairList) (i : ℕ) (x : Pair) (w : ℕ)
-    → now ≡ listed sites (map (weighted weight) (take i list) ++ drop i list) → slice_get now.list i ≡ Some x
+    → now ≡ listed sites (map (with_weight weight) (take i list) ++ drop i list) → slice_get now.list i ≡ Some x
     → IfSome (slice_get now.list i) (λ pair. new ≡ record now { list = slice_set now.list i (record pair { weight = w }) }) → w ≡ weight x
-    → new ≡ listed sites (map (weighted weight) (take (i + 1) list) ++ drop (i + 1) list)
+    → new ≡ listed sites (map (with_weight weight) (take (i + 1) list) ++ drop (i + 1) list)
 weighed_step weight sites list now new i x w is here set w_is =
     let P : List Pair → PairList = λ xs. listed now.sites xs in
     let done : new ≡ listed now.sites (slice_set now.list i (record x { weight = w })) = rw here at set in
     let W : ℕ → PairList = λ n. listed now.sites (slice_set now.list i (record x { weight = n })) in
-    let lists : slice_set now.list i (weighted weight x) ≡ map (weighted weight) (take (i + 1) list) ++ drop (i + 1) list =
-    weighed_more (weighted weight) list now.list i x (ap (λ (q : PairList). q.list) is) here in
+    let lists : slice_set now.list i (with_weight weight x) ≡ map (with_weight weight) (take (i + 1) list) ++ drop (i + 1) list =
+    weighed_more (with_weight weight) list now.list i x (ap (λ (q : PairList). q.list) is) here in
     let same : now.sites ≡ sites = ap (λ (q : PairList). q.sites) is in
-    done ∙ ap W w_is ∙ ap P lists ∙ ap (λ n. listed n (map (weighted weight) (take (i + 1) list) ++ drop (i + 1) list)) same
+    done ∙ ap W w_is ∙ ap P lists ∙ ap (λ n. listed n (map (with_weight weight) (take (i + 1) list) ++ drop (i + 1) list)) same

@@ -100,8 +100,9 @@ IsStop After e = (failed : WriteFailed) × After failed.count × (e ≡ Write fa
 
 -- a refusal leaves the writer as it was, unless the writer failed: then it took the first bytes of the
 -- picture's written form, as many as are told
-abbrev pub Leaves : (Job → Type 0) → (VisionError → Type 0) → Stream → Stream → VisionError → Type 0
-Leaves IsJob HasError old new e = HasError e
+abbrev pub LeavesWriter : (Job → Type 0) → (VisionError → Type 0) → Stream → Stream
+    → VisionError → Type 0
+LeavesWriter IsJob HasError old new e = HasError e
     ⊎ ((job : Job) × IsJob job × IsStop (StopsAfter job old new) e)
 
 abbrev pub IsWrite : VisionError → Type 0

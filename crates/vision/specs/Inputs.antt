@@ -37,10 +37,10 @@ abbrev pub SameSizes : Picture → Picture → Type 0
 SameSizes a b = (a.width ≡ b.width) × (a.height ≡ b.height)
 
 -- the refusal of an image that begins at this place, its position counted from the first byte of the input
-abbrev pub moved : ℕ → PgmError → PgmError
-moved at (BadHeader k) = BadHeader (at + k)
-moved at (BadSample k) = BadSample (at + k)
-moved at e = e
+abbrev pub refusal_from : ℕ → PgmError → PgmError
+refusal_from at (BadHeader k) = BadHeader (at + k)
+refusal_from at (BadSample k) = BadSample (at + k)
+refusal_from at e = e
 
 -- that position, where there is one
 abbrev pub position_of : PgmError → ℕ
@@ -55,7 +55,7 @@ pub record RefusesSecond (input : List ℕ) (e : PgmError) : Type 0 where
   pub own : PgmError
   pub begins : BeginsSecond input first at
   pub refuses : RefusesFront (drop at input) own
-  pub e_is : e ≡ moved at own
+  pub e_is : e ≡ refusal_from at own
 
 -- the job that options and an input name
 abbrev pub IsRestoreJob : RestoreOptions → List ℕ → Job → Type 0

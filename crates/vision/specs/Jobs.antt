@@ -3,14 +3,14 @@ use Rattle.std.specs.Prelude.{◌≡◌, ℕ, ◌-◌, max, Bool, false, IsTrue,
 use Rattle.byte_streams.specs.Streams.{Stops, Stream, Takes}
 use Rattle.labellings.specs.declared.change.Move.{Move}
 use Rattle.labellings.specs.Energies.{Instance, labelling, data_energy, smooth_energy, label_energy, energy}
-use Rattle.labellings.specs.Chains.{IsChain, moves_of as cycle_of}
+use Rattle.labellings.specs.Chains.{IsChain, moves_of}
 use Rattle.moves.specs.Runs.{MayMake, TellsBound}
 use Rattle.moves.specs.Problems.{IsRunOfCycles}
 use Rattle.moves.specs.declared.error.MoveError.{MoveError}
 use Rattle.moves.specs.declared.error.MoveError.TheVariants.{LabelCostInSwap}
 use Rattle.pgm_image.specs.Picture.{Picture, picture, IsPicture}
-use Rattle.pgm_image.specs.Written.{written}
-use Rattle.run_options.specs.Limits.{smooth_limit}
+use Rattle.pgm_image.specs.Written.{written_form}
+use Rattle.run_options.specs.Limits.{greatest_smooth_cost}
 use Rattle.labellings.specs.declared.cycles.Moves.{Moves}
 use Rattle.labellings.specs.declared.cycles.Moves.TheVariants.{Expansion}
 use Rattle.run_options.specs.declared.options.RestoreOptions.{RestoreOptions}
@@ -57,8 +57,8 @@ abbrev pub segment_job : SegmentOptions → Picture → Picture → Job
 segment_job o p seeds = job_of (segment_problem o p seeds) Expansion o.cycles false p 1
 
 -- the moves of a cycle
-abbrev pub moves_of : Job → List Move
-moves_of job = cycle_of job.moves job.problem.labels
+abbrev pub job_moves : Job → List Move
+job_moves job = moves_of job.moves job.problem.labels
 
 -- the labelling that gives each site the label 0
 abbrev pub all_zero : Job → List ℕ
@@ -73,7 +73,7 @@ picture_of job labels = picture job.width job.height job.maxval labels
 pub record EndsAt (job : Job) (labels : List ℕ) : Type 0 where
   pub cycles : ℕ
   pub settled : Bool
-  pub chain : IsChain job.problem (moves_of job) job.cycles (all_zero job) labels cycles settled
+  pub chain : IsChain job.problem (job_moves job) job.cycles (all_zero job) labels cycles settled
   pub may_make : MayMake job.problem job.moves
   pub is_picture : IsPicture (picture_of job labels)
 
@@ -86,21 +86,21 @@ pub record Reports (job : Job) (labels : List ℕ) (settled : Bool) (report : Re
   pub label_is : report.label_part ≡ pos (label_energy job.problem (labelling labels))
   pub bound_is : IsTrue job.bound → TellsBound job.problem job.moves labels settled report.bound
   pub bound_none : IsFalse job.bound → report.bound ≡ None
-  pub bound_most : IfSome report.bound (λ bound. bound.vmax ≤ smooth_limit)
+  pub bound_most : IfSome report.bound (λ bound. bound.vmax ≤ greatest_smooth_cost)
 
 -- the writer took exactly the written form of the picture of the chain's last labels, of which the report
 -- tells
 pub record WritesPicture (job : Job) (old new : Stream) (report : Report) : Type 0 where
   pub labels : List ℕ
   pub ends : EndsAt job labels
-  pub took : Takes old new (written (picture_of job labels))
+  pub took : Takes old new (written_form (picture_of job labels))
   pub tells : Reports job labels ends.settled report
 
 -- the writer took exactly the first so many bytes of that written form, and not all; this is what would have been told
 pub record StopsAfter (job : Job) (old new : Stream) (count : ℕ) : Type 0 where
   pub labels : List ℕ
   pub ends : EndsAt job labels
-  pub took : Stops old new (written (picture_of job labels)) count
+  pub took : Stops old new (written_form (picture_of job labels)) count
   pub report : Report
   pub tells : Reports job labels ends.settled report
 
@@ -108,7 +108,7 @@ pub record StopsAfter (job : Job) (old new : Stream) (count : ℕ) : Type 0 wher
 -- by itself
 abbrev pub RefusesMove : Job → MoveError → Type 0
 RefusesMove job e =
-    (reached : List ℕ) × IsRunOfCycles job.problem (moves_of job) job.cycles (all_zero job) reached (Err e)
+    (reached : List ℕ) × IsRunOfCycles job.problem (job_moves job) job.cycles (all_zero job) reached (Err e)
     × (e ≡ LabelCostInSwap → ¬ MayMake job.problem job.moves)
 
 -- what is ready to be written: the picture of the chain's last labels, and their report

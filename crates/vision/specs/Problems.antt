@@ -18,9 +18,9 @@ abbrev pub sample : Picture → ℕ → ℕ
 sample p site = slice_index p.samples site
 
 -- the pairs of pixels that share an edge, or an edge or a corner, each of this weight
-abbrev pub pairs_of : Neighbours → ℕ → Picture → List Pair
-pairs_of Four weight p = grid p.width p.height weight steps4
-pairs_of Eight weight p = grid p.width p.height weight steps8
+abbrev pub pairs_of_picture : Neighbours → ℕ → Picture → List Pair
+pairs_of_picture Four weight p = grid p.width p.height weight steps4
+pairs_of_picture Eight weight p = grid p.width p.height weight steps8
 
 -- restore: a label is a grey level, and costs a pixel as much as it is away from its sample, and by itself what is given,
 -- or nothing
@@ -30,7 +30,7 @@ restore_problem o p = record {
   labels = p.maxval + 1;
   data_cost = λ site label. distance (sample p site) label;
   smooth_cost = shape_cost o.smooth o.trunc;
-  pairs = pairs_of o.neighbours o.weight p;
+  pairs = pairs_of_picture o.neighbours o.weight p;
   label_cost = λ label. unwrap_or o.label_cost 0;
 }
 
@@ -60,7 +60,7 @@ stereo_problem o left right = record {
   labels = o.labels;
   data_cost = shift_cost o.cap left right;
   smooth_cost = shape_cost o.smooth o.trunc;
-  pairs = pairs_of o.neighbours o.weight left;
+  pairs = pairs_of_picture o.neighbours o.weight left;
   label_cost = λ label. 0;
 }
 
@@ -82,8 +82,8 @@ edge_weight o p pair =
     if nat_le (distance (sample p pair.first) (sample p pair.second)) o.edge then o.strong else o.weak
 
 -- a pair with another weight
-abbrev pub weighted : (Pair → ℕ) → Pair → Pair
-weighted weight pair = record pair { weight = weight pair }
+abbrev pub with_weight : (Pair → ℕ) → Pair → Pair
+with_weight weight pair = record pair { weight = weight pair }
 
 -- segment: label 0 is near the one sample, label 1 near the other
 abbrev pub segment_problem : SegmentOptions → Picture → Picture → Instance
@@ -92,6 +92,6 @@ segment_problem o p seeds = record {
   labels = 2;
   data_cost = λ site label. part_cost o (sample p site) (sample seeds site) label;
   smooth_cost = shape_cost Potts 1;
-  pairs = map (weighted (edge_weight o p)) (pairs_of o.neighbours 0 p);
+  pairs = map (with_weight (edge_weight o p)) (pairs_of_picture o.neighbours 0 p);
   label_cost = λ label. 0;
 }

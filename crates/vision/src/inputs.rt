@@ -2,7 +2,7 @@
 ghost use Rattle.std.specs.Prelude.{◌≡◌, ◌+◌, ◌<◌, ◌≤◌, ◌^◌, IfOk, IfErr, length};
 ghost use Rattle.pgm_image.specs.Signs.{is_space};
 ghost use Rattle.vision.specs.Faults.{HasImageError, HasPairError};
-ghost use Rattle.vision.specs.Inputs.{HoldsPicture, HoldsTwo, IsPastSpaces, SameSizes, moved, position_of};
+ghost use Rattle.vision.specs.Inputs.{HoldsPicture, HoldsTwo, IsPastSpaces, SameSizes, refusal_from, position_of};
 
 use crate::VisionError;
 use pgm_image::{Image, PgmError, read_image};
@@ -27,7 +27,7 @@ pub(crate) fn read_two(alloc: Global, input: &[u8]) -> Result<(Image, Image), Vi
     let at = past_spaces(input, used);
     let (second, _) = match read_image(alloc, &input[at..]) {
         Ok(found) => found,
-        Err(error) => return Err(VisionError::from(moved(error, at))),
+        Err(error) => return Err(VisionError::from(refusal_from(error, at))),
     };
     if first.width() != second.width() || first.height() != second.height() {
         return Err(VisionError::SizesDiffer);
@@ -36,9 +36,9 @@ pub(crate) fn read_two(alloc: Global, input: &[u8]) -> Result<(Image, Image), Vi
 }
 
 /// A refusal of an image that begins at this place, with its position counted from the first byte of the input.
-fn moved(error: PgmError, at: usize) -> PgmError
+fn refusal_from(error: PgmError, at: usize) -> PgmError
     requires { at + position_of error < 2 ^ 64 }
-    ensures { result ≡ moved at error }
+    ensures { result ≡ refusal_from at error }
 {
     match error {
         PgmError::BadHeader(place) => PgmError::BadHeader(at + place),

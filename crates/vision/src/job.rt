@@ -9,8 +9,8 @@ ghost use Rattle.cost_store.specs.Promises.{IsCost, IsMetricTable, IsTable, Keep
 ghost use Rattle.moves.specs.Instances.{IsInstanceOf};
 ghost use Rattle.moves.specs.Runs.{IsRunInRange};
 ghost use Rattle.pgm_image.specs.Picture.{IsPicture, picture};
-ghost use Rattle.pgm_image.specs.Written.{written};
-ghost use Rattle.run_options.specs.Limits.{label_cost_limit, trunc_limit};
+ghost use Rattle.pgm_image.specs.Written.{written_form};
+ghost use Rattle.run_options.specs.Limits.{greatest_label_cost, trunc_limit};
 ghost use Rattle.run_options.specs.Shapes.{shape_cost};
 ghost use Rattle.vision.specs.Faults.{HasRunError, IsStop, IsOfPair};
 ghost use Rattle.vision.specs.Jobs.{IsReadyToWrite, job_of};
@@ -201,7 +201,7 @@ pub(crate) fn equal_costs(
     cost: Option<u32>,
     labels: u32,
 ) -> Result<Option<Vec<i64>>, AllocError>
-    requires { IfSome cost (λ given. given ≤ label_cost_limit) }
+    requires { IfSome cost (λ given. given ≤ greatest_label_cost) }
     ensures costs { IfOk result (AreLabelCosts labels) }
     ensures each { IfOk result (λ costs. (label : ℕ) → label < labels →
         cost_at (costs_of costs) label ≡ unwrap_or cost 0) }
@@ -218,9 +218,9 @@ pub(crate) fn put_finished<S: Sink>(
     sink: &mut S,
 ) -> Result<Report, VisionError>
     ensures told { IfOk result (λ report. report ≡ finished.now.report) }
-    ensures takes { OnOk result (Takes (S.stream sink.old) (S.stream sink.new) (written finished.now.image)) }
+    ensures takes { OnOk result (Takes (S.stream sink.old) (S.stream sink.new) (written_form finished.now.image)) }
     ensures stops { IfErr result (IsStop
-        (Stops (S.stream sink.old) (S.stream sink.new) (written finished.now.image))) }
+        (Stops (S.stream sink.old) (S.stream sink.new) (written_form finished.now.image))) }
     ensures kept { S.loan sink.new ≡ S.loan sink.old }
 {
     put_image(&finished.image, sink)?;

@@ -3,7 +3,7 @@ ghost use Rattle.std.specs.Prelude.{◌≡◌, ◌≤◌, ◌*◌, IfOk, map};
 ghost use Rattle.run_options.specs.Ranges.{AreSegmentOptions};
 ghost use Rattle.label_field.specs.Limits.{weight_limit};
 ghost use Rattle.label_field.specs.PairLists.{IsPair};
-ghost use Rattle.vision.specs.Problems.{edge_weight, pairs_of, weighted};
+ghost use Rattle.vision.specs.Problems.{edge_weight, pairs_of_picture, with_weight};
 
 use label_field::{Pair, Pairs};
 use pgm_image::Image;
@@ -20,7 +20,7 @@ pub(crate) fn pairs_of(
     requires { weight ≤ weight_limit }
     ensures { IfOk result (λ pairs. pairs ≡ record {
       sites = picture.now.width * picture.now.height;
-      list = pairs_of neighbours weight picture.now;
+      list = pairs_of_picture neighbours weight picture.now;
     }) }
 {
     let _samples = picture.samples();
@@ -39,8 +39,8 @@ pub(crate) fn edge_pairs(
     requires { AreSegmentOptions options.now }
     ensures { IfOk result (λ pairs. pairs ≡ record {
       sites = picture.now.width * picture.now.height;
-      list = map (weighted (edge_weight options.now picture.now))
-          (pairs_of options.now.neighbours 0 picture.now);
+      list = map (with_weight (edge_weight options.now picture.now))
+          (pairs_of_picture options.now.neighbours 0 picture.now);
     }) }
 {
     let mut pairs = pairs_of(alloc, picture, options.neighbours, 0)?;
@@ -53,7 +53,7 @@ fn weigh(pairs: &mut Pairs, picture: &Image, options: &SegmentOptions)
     requires options { AreSegmentOptions options.now }
     requires sites { pairs.old.sites ≡ picture.now.width * picture.now.height }
     ensures { pairs.new ≡ record pairs.old {
-      list = map (weighted (edge_weight options.now picture.now)) pairs.old.list;
+      list = map (with_weight (edge_weight options.now picture.now)) pairs.old.list;
     } }
 {
     for index in 0..pairs.len() {

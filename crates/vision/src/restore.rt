@@ -3,7 +3,7 @@ ghost use Rattle.std.specs.Prelude.{◌≡◌, ◌≢◌, ◌+◌, ◌<◌, ◌�
 ghost use Rattle.label_field.specs.Grids.{distance};
 ghost use Rattle.run_options.specs.Ranges.{AreRestoreOptions};
 ghost use Rattle.run_options.specs.declared.shape.Shape.TheVariants.{Quadratic};
-ghost use Rattle.vision.specs.Faults.{HasRestoreError, HasRunError, IsWrite, Leaves, IsOfPair};
+ghost use Rattle.vision.specs.Faults.{HasRestoreError, HasRunError, IsWrite, LeavesWriter, IsOfPair};
 ghost use Rattle.vision.specs.Inputs.{IsRestoreJob};
 ghost use Rattle.vision.specs.Jobs.{WritesPicture, IsReadyToWrite, Job, restore_job};
 
@@ -48,7 +48,7 @@ pub fn run_restore<H: How, S: Sink>(
     requires ready { H.ready how.now }
     ensures done { IfOk result (λ report. (job : Job) × IsRestoreJob options.now input.now job
         × WritesPicture job (S.stream sink.old) (S.stream sink.new) report) }
-    ensures refused { IfErr result (Leaves (IsRestoreJob options.now input.now)
+    ensures refused { IfErr result (LeavesWriter (IsRestoreJob options.now input.now)
         (HasRestoreError (H.refuses how.now) options.now input.now) (S.stream sink.old) (S.stream sink.new)) }
     ensures metric { options.now.smooth ≢ Quadratic → IfErr result (λ e. ¬ IsOfPair e) }
     ensures unchanged { IfErr result (λ e. (¬ IsWrite e) → sink.new ≡ sink.old) }

@@ -2,7 +2,7 @@
 ghost use Rattle.std.specs.Prelude.{◌≡◌, ◌*◌, ◌<◌, ◌≤◌, pos, All, IfOk, IfErr, MatchOption, MatchResult, length, slice_index};
 ghost use Rattle.run_options.specs.Ranges.{AreSegmentOptions};
 ghost use Rattle.pgm_image.specs.Raster.{IsFirstAbove};
-ghost use Rattle.vision.specs.Faults.{HasRunError, HasSegmentError, IsWrite, Leaves, IsOfPair};
+ghost use Rattle.vision.specs.Faults.{HasRunError, HasSegmentError, IsWrite, LeavesWriter, IsOfPair};
 ghost use Rattle.vision.specs.Inputs.{AreSeeds, IsSegmentJob, SameSizes};
 ghost use Rattle.vision.specs.Jobs.{WritesPicture, IsReadyToWrite, Job, segment_job};
 ghost use Rattle.vision.specs.Problems.{part_cost};
@@ -50,7 +50,7 @@ pub fn run_segment<H: How, S: Sink>(
     requires ready { H.ready how.now }
     ensures done { IfOk result (λ report. (job : Job) × IsSegmentJob options.now input.now job
         × WritesPicture job (S.stream sink.old) (S.stream sink.new) report) }
-    ensures refused { IfErr result (Leaves (IsSegmentJob options.now input.now)
+    ensures refused { IfErr result (LeavesWriter (IsSegmentJob options.now input.now)
         (HasSegmentError (H.refuses how.now) options.now input.now) (S.stream sink.old) (S.stream sink.new)) }
     ensures metric { IfErr result (λ e. ¬ IsOfPair e) }
     ensures unchanged { IfErr result (λ e. (¬ IsWrite e) → sink.new ≡ sink.old) }

@@ -4,7 +4,7 @@ ghost use Rattle.run_options.specs.Limits.{cap_limit};
 ghost use Rattle.run_options.specs.Ranges.{AreStereoOptions};
 ghost use Rattle.pgm_image.specs.Picture.{sample_limit};
 ghost use Rattle.run_options.specs.declared.shape.Shape.TheVariants.{Quadratic};
-ghost use Rattle.vision.specs.Faults.{HasRunError, HasStereoError, IsWrite, Leaves, IsOfPair};
+ghost use Rattle.vision.specs.Faults.{HasRunError, HasStereoError, IsWrite, LeavesWriter, IsOfPair};
 ghost use Rattle.vision.specs.Inputs.{IsStereoJob, SameSizes};
 ghost use Rattle.vision.specs.Jobs.{WritesPicture, IsReadyToWrite, Job, stereo_job};
 ghost use Rattle.vision.specs.Problems.{AreColumns, cost_by_columns};
@@ -46,7 +46,7 @@ pub fn run_stereo<H: How, S: Sink>(
     requires ready { H.ready how.now }
     ensures done { IfOk result (λ report. (job : Job) × IsStereoJob options.now input.now job
         × WritesPicture job (S.stream sink.old) (S.stream sink.new) report) }
-    ensures refused { IfErr result (Leaves (IsStereoJob options.now input.now)
+    ensures refused { IfErr result (LeavesWriter (IsStereoJob options.now input.now)
         (HasStereoError (H.refuses how.now) options.now input.now) (S.stream sink.old) (S.stream sink.new)) }
     ensures metric { options.now.smooth ≢ Quadratic → IfErr result (λ e. ¬ IsOfPair e) }
     ensures unchanged { IfErr result (λ e. (¬ IsWrite e) → sink.new ≡ sink.old) }

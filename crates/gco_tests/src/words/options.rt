@@ -1,7 +1,7 @@
 //! The options of each command, their ranges and their defaults: what the tables of docs/IMAGES.md
 //! and docs/LABEL.md say.
 use crate::rows::expect;
-use crate::streams::{CutWriter, ROOM, SlowReader, joined, run};
+use crate::streams::{CutWriter, ROOM, SlowReader, join_words, run};
 use std::alloc::{AllocError, Global};
 use std::str;
 use std::sync::Wait;
@@ -116,7 +116,7 @@ fn is_told(
     said: &str,
 ) -> Result<bool, AllocError> {
     let option = format!(in rt.alloc(); "--{name}={value}")?;
-    let words = joined(rt.alloc(), words, &[option.as_str()])?;
+    let words = join_words(rt.alloc(), words, &[option.as_str()])?;
     let mut reader = SlowReader::new(b"", ROOM, false);
     let mut writer = CutWriter::ample();
     let mut faults = CutWriter::ample();
@@ -182,7 +182,7 @@ fn is_group_helped(
     group: &Group,
 ) -> Result<bool, AllocError> {
     let (words, _, rows) = group;
-    let words = joined(rt.alloc(), words, &["--help"])?;
+    let words = join_words(rt.alloc(), words, &["--help"])?;
     let mut reader = SlowReader::new(b"", ROOM, false);
     let mut writer = CutWriter::ample();
     let mut faults = CutWriter::ample();

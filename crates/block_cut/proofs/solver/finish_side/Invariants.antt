@@ -1,5 +1,5 @@
 use Rattle.std.proofs.Common.{◌≡◌}
-use Rattle.block_events.specs.Soundness.{count}
+use Rattle.block_events.specs.Soundness.{potential}
 use Rattle.global_relabel.specs.Workspaces.{Serves}
 use Rattle.block_cut.proofs.solver.finish_side.Given as goal
 
@@ -7,4 +7,4 @@ abbrev pub invariant-rounds : goal.invariant-rounds
 invariant-rounds l = Serves l.state.net l.workspace × (l.state.net ≡ l.fn.state.net)
 
 abbrev pub decreases-rounds : goal.decreases-rounds
-decreases-rounds l = count l.state
+decreases-rounds l = potential l.state

@@ -5,7 +5,7 @@ use Rattle.block_events.specs.declared.direction.Direction.{Direction}
 use Rattle.block_events.specs.Directions.{forward, backward, near}
 use Rattle.block_events.specs.States.{block_of}
 use Rattle.block_net.specs.Whole.{index_of}
-use Rattle.block_net.specs.Split.{BlockRows, no_rows, first_of, rows_made, ranks_made, lane_by, border_by, AreWritten}
+use Rattle.block_net.specs.Split.{BlockRows, no_rows, first_node, rows_made, ranks_made, lane_by, border_by, AreWritten}
 use Rattle.block_net.proofs.Tables.{length_table}
 use Rattle.block_net.proofs.Ordered.{starts_length}
 use Rattle.block_net.proofs.Written.{back_read, written_twice, slots_more}
@@ -14,11 +14,11 @@ use Rattle.block_net.proofs.filling.put_arc.Goals as goal
 
 pub bounds-firsts-from : goal.bounds-firsts-from
 bounds-firsts-from c =
-    omega (arith, c.home_of-from.ensures.below, ap (length {A = ℕ}) c.requires.firsts, length_table c.args.blocks (first_of (nodes c.args.net.now) c.args.blocks))
+    omega (arith, c.home_of-from.ensures.below, ap (length {A = ℕ}) c.requires.firsts, length_table c.args.blocks (first_node (nodes c.args.net.now) c.args.blocks))
 
 pub bounds-firsts-to : goal.bounds-firsts-to
 bounds-firsts-to c =
-    omega (arith, c.home_of-to.ensures.below, ap (length {A = ℕ}) c.requires.firsts, length_table c.args.blocks (first_of (nodes c.args.net.now) c.args.blocks))
+    omega (arith, c.home_of-to.ensures.below, ap (length {A = ℕ}) c.requires.firsts, length_table c.args.blocks (first_node (nodes c.args.net.now) c.args.blocks))
 
 pub offset_bounds-starts-tail : goal.offset_bounds-starts-tail
 offset_bounds-starts-tail c =
@@ -40,7 +40,7 @@ offset_bounds-starts-tail c =
     let sx = step_of net blocks false x c.requires.net c.requires.split c.requires.arc kx in
     let sy = step_of net blocks false y c.requires.net c.requires.split c.requires.arc ky in
     let bx = inner_base net blocks (block_of net blocks (near net x)) (slice_index c.args.firsts.now from) c.args.starts.now c.requires.starts fx in
-    let bz = inner_base net blocks (block_of net blocks (near net y)) (slice_index c.args.firsts.now from) c.args.starts.now c.requires.starts (fx ∙ ap (first_of n blocks) (sym ex ∙ (c.if-from-to.true ∙ ey))) in
+    let bz = inner_base net blocks (block_of net blocks (near net y)) (slice_index c.args.firsts.now from) c.args.starts.now c.requires.starts (fx ∙ ap (first_node n blocks) (sym ex ∙ (c.if-from-to.true ∙ ey))) in
     omega (arith, fx, sx.first, sx.node, c.requires.net.count)
 
 pub bounds-starts-tail : goal.bounds-starts-tail
@@ -63,7 +63,7 @@ bounds-starts-tail c =
     let sx = step_of net blocks false x c.requires.net c.requires.split c.requires.arc kx in
     let sy = step_of net blocks false y c.requires.net c.requires.split c.requires.arc ky in
     let bx = inner_base net blocks (block_of net blocks (near net x)) (slice_index c.args.firsts.now from) c.args.starts.now c.requires.starts fx in
-    let bz = inner_base net blocks (block_of net blocks (near net y)) (slice_index c.args.firsts.now from) c.args.starts.now c.requires.starts (fx ∙ ap (first_of n blocks) (sym ex ∙ (c.if-from-to.true ∙ ey))) in
+    let bz = inner_base net blocks (block_of net blocks (near net y)) (slice_index c.args.firsts.now from) c.args.starts.now c.requires.starts (fx ∙ ap (first_node n blocks) (sym ex ∙ (c.if-from-to.true ∙ ey))) in
     omega (arith, fx, sx.first, sx.node, starts_length net blocks c.args.starts.now c.requires.starts)
 
 pub take_slot-forth_slot-requires-clause-base : goal.take_slot-forth_slot-requires-clause-base
@@ -86,7 +86,7 @@ take_slot-forth_slot-requires-clause-base c =
     let sx = step_of net blocks false x c.requires.net c.requires.split c.requires.arc kx in
     let sy = step_of net blocks false y c.requires.net c.requires.split c.requires.arc ky in
     let bx = inner_base net blocks (block_of net blocks (near net x)) (slice_index c.args.firsts.now from) c.args.starts.now c.requires.starts fx in
-    let bz = inner_base net blocks (block_of net blocks (near net y)) (slice_index c.args.firsts.now from) c.args.starts.now c.requires.starts (fx ∙ ap (first_of n blocks) (sym ex ∙ (c.if-from-to.true ∙ ey))) in
+    let bz = inner_base net blocks (block_of net blocks (near net y)) (slice_index c.args.firsts.now from) c.args.starts.now c.requires.starts (fx ∙ ap (first_node n blocks) (sym ex ∙ (c.if-from-to.true ∙ ey))) in
     let rx = c.requires.slots.rest x c.requires.arc (omega arith) in
     omega (arith, bx, rx, sx.base)
 
@@ -110,7 +110,7 @@ take_slot-back_slot-requires-clause-base c =
     let sx = step_of net blocks false x c.requires.net c.requires.split c.requires.arc kx in
     let sy = step_of net blocks false y c.requires.net c.requires.split c.requires.arc ky in
     let bx = inner_base net blocks (block_of net blocks (near net x)) (slice_index c.args.firsts.now from) c.args.starts.now c.requires.starts fx in
-    let bz = inner_base net blocks (block_of net blocks (near net y)) (slice_index c.args.firsts.now from) c.args.starts.now c.requires.starts (fx ∙ ap (first_of n blocks) (sym ex ∙ (c.if-from-to.true ∙ ey))) in
+    let bz = inner_base net blocks (block_of net blocks (near net y)) (slice_index c.args.firsts.now from) c.args.starts.now c.requires.starts (fx ∙ ap (first_node n blocks) (sym ex ∙ (c.if-from-to.true ∙ ey))) in
     let ry = c.requires.slots.rest y c.requires.arc (omega arith) in
     let em : length c.arcs-arcs.result.now ≡ length net.arcs = ap length c.arcs-arcs.ensures.value in
     let there = back_read net c.args.slots.now c.take_slot-forth_slot.new.slots k _ (length c.arcs-arcs.result.now) em c.requires.arc c.take_slot-forth_slot.ensures.slots in
@@ -136,7 +136,7 @@ put_lane-requires-clause-far c =
     let sx = step_of net blocks false x c.requires.net c.requires.split c.requires.arc kx in
     let sy = step_of net blocks false y c.requires.net c.requires.split c.requires.arc ky in
     let bx = inner_base net blocks (block_of net blocks (near net x)) (slice_index c.args.firsts.now from) c.args.starts.now c.requires.starts fx in
-    let bz = inner_base net blocks (block_of net blocks (near net y)) (slice_index c.args.firsts.now from) c.args.starts.now c.requires.starts (fx ∙ ap (first_of n blocks) (sym ex ∙ (c.if-from-to.true ∙ ey))) in
+    let bz = inner_base net blocks (block_of net blocks (near net y)) (slice_index c.args.firsts.now from) c.args.starts.now c.requires.starts (fx ∙ ap (first_node n blocks) (sym ex ∙ (c.if-from-to.true ∙ ey))) in
     omega (arith, fx, far_above net blocks x c.requires.net c.requires.split.some c.requires.arc kx)
 
 pub put_lane-requires-clause-slot : goal.put_lane-requires-clause-slot
@@ -159,7 +159,7 @@ put_lane-requires-clause-slot c =
     let sx = step_of net blocks false x c.requires.net c.requires.split c.requires.arc kx in
     let sy = step_of net blocks false y c.requires.net c.requires.split c.requires.arc ky in
     let bx = inner_base net blocks (block_of net blocks (near net x)) (slice_index c.args.firsts.now from) c.args.starts.now c.requires.starts fx in
-    let bz = inner_base net blocks (block_of net blocks (near net y)) (slice_index c.args.firsts.now from) c.args.starts.now c.requires.starts (fx ∙ ap (first_of n blocks) (sym ex ∙ (c.if-from-to.true ∙ ey))) in
+    let bz = inner_base net blocks (block_of net blocks (near net y)) (slice_index c.args.firsts.now from) c.args.starts.now c.requires.starts (fx ∙ ap (first_node n blocks) (sym ex ∙ (c.if-from-to.true ∙ ey))) in
     let rx = c.requires.slots.rest x c.requires.arc (omega arith) in
     let ry = c.requires.slots.rest y c.requires.arc (omega arith) in
     let em : length c.arcs-arcs.result.now ≡ length net.arcs = ap length c.arcs-arcs.ensures.value in
@@ -192,7 +192,7 @@ put_lane-requires-then-from-to-clause-far c =
     let sx = step_of net blocks false x c.requires.net c.requires.split c.requires.arc kx in
     let sy = step_of net blocks false y c.requires.net c.requires.split c.requires.arc ky in
     let bx = inner_base net blocks (block_of net blocks (near net x)) (slice_index c.args.firsts.now from) c.args.starts.now c.requires.starts fx in
-    let bz = inner_base net blocks (block_of net blocks (near net y)) (slice_index c.args.firsts.now from) c.args.starts.now c.requires.starts (fx ∙ ap (first_of n blocks) (sym ex ∙ (c.if-from-to.true ∙ ey))) in
+    let bz = inner_base net blocks (block_of net blocks (near net y)) (slice_index c.args.firsts.now from) c.args.starts.now c.requires.starts (fx ∙ ap (first_node n blocks) (sym ex ∙ (c.if-from-to.true ∙ ey))) in
     omega (arith, fy, far_above net blocks y c.requires.net c.requires.split.some c.requires.arc ky)
 
 pub put_lane-requires-then-from-to-clause-slot : goal.put_lane-requires-then-from-to-clause-slot
@@ -215,7 +215,7 @@ put_lane-requires-then-from-to-clause-slot c =
     let sx = step_of net blocks false x c.requires.net c.requires.split c.requires.arc kx in
     let sy = step_of net blocks false y c.requires.net c.requires.split c.requires.arc ky in
     let bx = inner_base net blocks (block_of net blocks (near net x)) (slice_index c.args.firsts.now from) c.args.starts.now c.requires.starts fx in
-    let bz = inner_base net blocks (block_of net blocks (near net y)) (slice_index c.args.firsts.now from) c.args.starts.now c.requires.starts (fx ∙ ap (first_of n blocks) (sym ex ∙ (c.if-from-to.true ∙ ey))) in
+    let bz = inner_base net blocks (block_of net blocks (near net y)) (slice_index c.args.firsts.now from) c.args.starts.now c.requires.starts (fx ∙ ap (first_node n blocks) (sym ex ∙ (c.if-from-to.true ∙ ey))) in
     let rx = c.requires.slots.rest x c.requires.arc (omega arith) in
     let ry = c.requires.slots.rest y c.requires.arc (omega arith) in
     let em : length c.arcs-arcs.result.now ≡ length net.arcs = ap length c.arcs-arcs.ensures.value in
@@ -562,7 +562,7 @@ returns-then-from-to-clause-slots c =
     let sx = step_of net blocks false x c.requires.net c.requires.split c.requires.arc kx in
     let sy = step_of net blocks false y c.requires.net c.requires.split c.requires.arc ky in
     let bx = inner_base net blocks (block_of net blocks (near net x)) (slice_index c.args.firsts.now from) c.args.starts.now c.requires.starts fx in
-    let bz = inner_base net blocks (block_of net blocks (near net y)) (slice_index c.args.firsts.now from) c.args.starts.now c.requires.starts (fx ∙ ap (first_of n blocks) (sym ex ∙ (c.if-from-to.true ∙ ey))) in
+    let bz = inner_base net blocks (block_of net blocks (near net y)) (slice_index c.args.firsts.now from) c.args.starts.now c.requires.starts (fx ∙ ap (first_node n blocks) (sym ex ∙ (c.if-from-to.true ∙ ey))) in
     let rx = c.requires.slots.rest x c.requires.arc (omega arith) in
     let ry = c.requires.slots.rest y c.requires.arc (omega arith) in
     let em : length c.arcs-arcs.result.now ≡ length net.arcs = ap length c.arcs-arcs.ensures.value in
@@ -594,7 +594,7 @@ returns-then-from-to-clause-lists c =
     let sx = step_of net blocks false x c.requires.net c.requires.split c.requires.arc kx in
     let sy = step_of net blocks false y c.requires.net c.requires.split c.requires.arc ky in
     let bx = inner_base net blocks (block_of net blocks (near net x)) (slice_index c.args.firsts.now from) c.args.starts.now c.requires.starts fx in
-    let bz = inner_base net blocks (block_of net blocks (near net y)) (slice_index c.args.firsts.now from) c.args.starts.now c.requires.starts (fx ∙ ap (first_of n blocks) (sym ex ∙ (c.if-from-to.true ∙ ey))) in
+    let bz = inner_base net blocks (block_of net blocks (near net y)) (slice_index c.args.firsts.now from) c.args.starts.now c.requires.starts (fx ∙ ap (first_node n blocks) (sym ex ∙ (c.if-from-to.true ∙ ey))) in
     let rx = c.requires.slots.rest x c.requires.arc (omega arith) in
     let ry = c.requires.slots.rest y c.requires.arc (omega arith) in
     let em : length c.arcs-arcs.result.now ≡ length net.arcs = ap length c.arcs-arcs.ensures.value in

@@ -3,7 +3,7 @@ use Rattle.std.proofs.Common.{◌≡◌, ◌∙◌, ℕ, sym, ap, arith}
 use Rattle.flow_network.specs.Cut.{nodes}
 use Rattle.block_events.specs.States.{block_of}
 use Rattle.block_net.specs.Whole.{table}
-use Rattle.block_net.specs.Split.{first_of}
+use Rattle.block_net.specs.Split.{first_node}
 use Rattle.block_net.proofs.Numbers.{first_zero, first_last}
 use Rattle.block_net.proofs.homes.homes_of.Goals as goal
 
@@ -21,4 +21,4 @@ returns c =
     let net = c.args.net.now in
     let f = block_of net c.args.blocks in
     let all : c.loop-block.block ≡ c.args.blocks = omega (arith, c.loop-block-test.false, c.loop-block.auto.block-end) in
-    c.loop-block.invariant.made ∙ (ap (λ (k : ℕ). table (first_of (nodes net) c.args.blocks k) f) all ∙ ap (λ (k : ℕ). table k f) (first_last (nodes net) c.args.blocks c.requires.some))
+    c.loop-block.invariant.made ∙ (ap (λ (k : ℕ). table (first_node (nodes net) c.args.blocks k) f) all ∙ ap (λ (k : ℕ). table k f) (first_last (nodes net) c.args.blocks c.requires.some))

@@ -3,12 +3,12 @@ use Rattle.std.specs.Vec.{vec_len, vec_capacity}
 use Rattle.flow_network.specs.Cut.{nodes}
 use Rattle.block_events.specs.States.{block_of}
 use Rattle.block_net.specs.Whole.{table}
-use Rattle.block_net.specs.Split.{first_of}
+use Rattle.block_net.specs.Split.{first_node}
 use Rattle.block_net.proofs.homes.homes_of.Given as goal
 
 abbrev pub invariant-loop-block : goal.invariant-loop-block
 invariant-loop-block l = record {
-  made : l.homes.items ≡ table (first_of (nodes l.net) l.blocks l.block) (block_of l.net l.blocks);
-  len : vec_len l.homes ≡ first_of (nodes l.net) l.blocks l.block;
+  made : l.homes.items ≡ table (first_node (nodes l.net) l.blocks l.block) (block_of l.net l.blocks);
+  len : vec_len l.homes ≡ first_node (nodes l.net) l.blocks l.block;
   room : vec_capacity l.homes ≡ nodes l.net;
 }

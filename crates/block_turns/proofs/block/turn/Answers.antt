@@ -2,7 +2,7 @@ use Rattle.std.proofs.Common.{◌≡◌, ℕ, ◌+◌, ◌<◌, inl, inr, Contai
 use Rattle.std.proofs.lemmas.Bool.{cases_lt}
 use Rattle.block_net.specs.Views.{CellsView, count}
 use Rattle.block_turns.specs.Standing.{BucketedView, IsAside}
-use Rattle.block_turns.specs.Steps.{held, DoesMany, IsSure}
+use Rattle.block_turns.specs.Steps.{turn_view, DoesMany, IsSure}
 use Rattle.block_turns.specs.Works.{IsIdle}
 use Rattle.block_turns.specs.Turns.{IsKnown}
 use Rattle.block_turns.proofs.Runs.{alike_more, does_more, idle_look}
@@ -29,7 +29,7 @@ returns-clause-does g c =
     let both = does_more old c.receive_all-takes.new.cells.block c.push_wave-pushes.new.cells.block was one two c.receive_all-takes.result c.push_wave-pushes.result
     c.receive_all-takes.ensures.does c.push_wave-pushes.ensures.does in
     let all = does_more old c.push_wave-pushes.new.cells.block c.work-rest.new.cells.block was two three (c.receive_all-takes.result + c.push_wave-pushes.result) c.work-rest.result.0 both c.work-rest.ensures.does in
-    subst (λ (b : CellsView). DoesMany (held b was) (c.receive_all-takes.result + c.push_wave-pushes.result + c.work-rest.result.0) (held c.work-rest.new.cells.block three))
+    subst (λ (b : CellsView). DoesMany (turn_view b was) (c.receive_all-takes.result + c.push_wave-pushes.result + c.work-rest.result.0) (turn_view c.work-rest.new.cells.block three))
     (c.restore_aside.ensures.block ∙ c.block.view_is) all.run
 
 pub returns-clause-some : goal.returns-clause-some

@@ -1,7 +1,7 @@
 use Rattle.std.proofs.Common.{◌≡◌, ℕ, ◌+◌, ◌<◌, inl, inr, refl, sym, ◌∙◌, ap, subst, arith}
 use Rattle.block_net.specs.Views.{CellsView, count}
-use Rattle.block_turns.specs.Active.{IsActive}
-use Rattle.block_turns.specs.Standing.{BucketedView, IsAside, waiting}
+use Rattle.block_turns.specs.Active.{IsActiveInBlock}
+use Rattle.block_turns.specs.Standing.{BucketedView, IsAside, waiting_count}
 use Rattle.block_turns.specs.Works.{DoesEvents, IsIdle}
 use Rattle.block_turns.proofs.Runs.{does_look, does_more, does_as, look_more, idle_look}
 use Rattle.block_turns.proofs.Passing.{active_idle}
@@ -51,7 +51,7 @@ pub nodes-smaller : goal.nodes-smaller
 nodes-smaller g c =
     let none : c.visit-did.result.0 ≡ 0 = omega arith in
     let same : c.visit-did.new.cells ≡ c.nodes.cells = c.visit-did.ensures.still none ∙ c.in-Some.ensures.same in
-    subst (λ (x : BucketedView). waiting c.set_aside.new.self < waiting x) same c.set_aside.ensures.fewer
+    subst (λ (x : BucketedView). waiting_count c.set_aside.new.self < waiting_count x) same c.set_aside.ensures.fewer
 
 pub returns-clause-idle : goal.returns-clause-idle
 returns-clause-idle g c = λ none some fresh.
@@ -59,7 +59,7 @@ returns-clause-idle g c = λ none some fresh.
     let was = g.W.Ways.seen c.args.ways.now in
     let first = c.nodes.invariant.does.still refl in
     active_idle old was (λ v on.
-    let on' : IsActive c.nodes.cells.block v = subst (λ (b : CellsView). IsActive b v) (sym first.0) on in
+    let on' : IsActiveInBlock c.nodes.cells.block v = subst (λ (b : CellsView). IsActiveInBlock b v) (sym first.0) on in
     elim (c.nodes.invariant.idle some v (c.in_default.ensures.node v on')) [
       | inl out ↦ absurd (fresh v on.node out)
       | inr idle ↦ idle

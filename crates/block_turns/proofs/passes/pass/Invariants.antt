@@ -1,10 +1,10 @@
 use Rattle.std.proofs.Common.{◌≡◌, ◌⊎◌, ℕ, ◌<◌}
-use Rattle.block_turns.specs.Standing.{IsAside, waiting}
+use Rattle.block_turns.specs.Standing.{IsAside, waiting_count}
 use Rattle.block_turns.specs.Works.{DoesEvents, IsIdle}
 use Rattle.block_turns.proofs.passes.pass.Given as goal
 
 abbrev pub decreases-nodes : goal.decreases-nodes
-decreases-nodes g l = waiting l.cells
+decreases-nodes g l = waiting_count l.cells
 
 abbrev pub invariant-nodes : goal.invariant-nodes
 invariant-nodes g l = record {

@@ -2,7 +2,7 @@ use Rattle.std.proofs.Common.{◌≡◌, ℕ, ◌+◌, inl, inr, List, slice_ind
 use Rattle.std.proofs.lemmas.Bool.{cases_lt, false≢true}
 use Rattle.block_net.specs.Views.{CellsView}
 use Rattle.block_net.specs.Views.{MayPush}
-use Rattle.block_turns.specs.Active.{IsActive}
+use Rattle.block_turns.specs.Active.{IsActiveInBlock}
 use Rattle.block_turns.proofs.Runs.{no_seen, does_more}
 use Rattle.block_turns.proofs.visits.push_all.Goals as goal
 
@@ -12,7 +12,7 @@ is_active-requires c = omega (arith, c.requires.node, (c.lanes.invariant.does no
 pub returns-then-not-is_active-clause-idle : goal.returns-then-not-is_active-clause-idle
 returns-then-not-is_active-clause-idle c = λ none some j on.
     let same = ((c.lanes.invariant.does no_seen).still none).0 in
-    let active : IsActive c.lanes.cells.block c.args.v = subst (λ (b : CellsView). IsActive b c.args.v) (sym same) on.0 in
+    let active : IsActiveInBlock c.lanes.cells.block c.args.v = subst (λ (b : CellsView). IsActiveInBlock b c.args.v) (sym same) on.0 in
     false≢true (sym c.if-not-is_active.true ∙ c.is_active.ensures.1 active)
 
 pub try_push-count-requires-clause-lane : goal.try_push-count-requires-clause-lane

@@ -1,12 +1,12 @@
 use Rattle.std.proofs.Common.{arith}
 use Rattle.std.proofs.lemmas.Grind.{common_steps}
 use Rattle.block_turns.proofs.Runs.{look_same, look_more}
-use Rattle.block_workers.specs.Seeing.{seen}
+use Rattle.block_workers.specs.Seeing.{ways_of_ports}
 use Rattle.block_workers.proofs.Looking.{same_ports, same_more, looked, kept}
 use Rattle.block_workers.proofs.ends.has_letter.Goals as goal
 
 pub loop-k-init : goal.loop-k-init
-loop-k-init c = record { look = look_same (seen c.args.ports.now.items); same = same_ports c.args.ports.now.items }
+loop-k-init c = record { look = look_same (ways_of_ports c.args.ports.now.items); same = same_ports c.args.ports.now.items }
 
 pub returns-then-is_some-clause-look : goal.returns-then-is_some-clause-look
 returns-then-is_some-clause-look c =

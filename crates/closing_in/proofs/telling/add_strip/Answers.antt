@@ -5,9 +5,9 @@ use Rattle.closing_in.proofs.telling.add_strip.Goals as goal
 
 pub loop-place-preserved : goal.loop-place-preserved
 loop-place-preserved c =
-    told_more c.args.sites.now c.args.lower.now c.args.upper.now c.args.choices.now c.loop-place.choices _ c.loop-place.place _ c.or_else.result c.told.result
+    told_more c.args.sites.now c.args.lower.now c.args.upper.now c.args.choices.now c.loop-place.choices _ c.loop-place.place _ c.or_else.result c.choice_of_bounds.result
     c.loop-place-test.true (All-get_or (λ (p : ℕ). p < length c.args.choices.now) c.args.sites.now c.loop-place.place 0 c.loop-place-test.true c.requires.sites) refl
-    c.or_else.ensures c.told.ensures refl c.loop-place.invariant
+    c.or_else.ensures c.choice_of_bounds.ensures refl c.loop-place.invariant
 
 pub returns-clause-told : goal.returns-clause-told
 returns-clause-told c =

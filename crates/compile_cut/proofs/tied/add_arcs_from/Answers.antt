@@ -1,6 +1,6 @@
 use Rattle.std.proofs.Common.{◌<◌, not, ◌&&◌, get_or, length, arith}
 use Rattle.std.proofs.lemmas.List.Sums.{sum_by_more}
-use Rattle.sums.specs.Sums.{counted}
+use Rattle.sums.specs.Sums.{count_if}
 use Rattle.compile_cut.proofs.tied.add_arcs_from.Goals as goal
 
 pub loop-index-preserved : goal.loop-index-preserved
@@ -9,7 +9,7 @@ loop-index-preserved c =
     let i = c.loop-index.index in
     let inside : i < length nodes = omega arith in
     record {
-      value = λ x. omega (arith, c.in_ok-add_arc.ensures.value x, c.loop-index.invariant.value x, sum_by_more (λ node. counted (x node && not (x c.args.from)) c.args.capacity) nodes i 0 inside);
+      value = λ x. omega (arith, c.in_ok-add_arc.ensures.value x, c.loop-index.invariant.value x, sum_by_more (λ node. count_if (x node && not (x c.args.from)) c.args.capacity) nodes i 0 inside);
       size = omega (arith, c.in_ok-add_arc.ensures.size, c.loop-index.invariant.size);
       nodes = λ n own below all. (let here : get_or nodes i 0 < n = below i 0 inside in c.in_ok-add_arc.ensures.nodes n own here (c.loop-index.invariant.nodes n own below all));
       above = λ all. c.in_ok-add_arc.ensures.above (c.loop-index.invariant.above all);

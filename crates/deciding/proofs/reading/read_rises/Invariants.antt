@@ -1,18 +1,18 @@
 use Rattle.std.proofs.Common.{◌≡◌, ◌+◌, ◌-◌, ◌*◌, ◌≤◌, true, false, unsigned_abs}
 use Rattle.labellings.specs.declared.change.Move.{Move}
 use Rattle.labellings.specs.Energies.{Instance, labelling}
-use Rattle.move_energy.specs.BySite.{start_at}
-use Rattle.deciding.specs.Working.{valued}
+use Rattle.move_energy.specs.BySite.{neighbours_start}
+use Rattle.deciding.specs.Working.{decided_or}
 use Rattle.deciding.specs.Parts.{AreRisesOf}
 use Rattle.deciding.proofs.SiteSums.{risen}
 use Rattle.deciding.proofs.reading.read_rises.Given as goal
 
 abbrev pub invariant-loop-place : goal.invariant-loop-place
 invariant-loop-place l = record {
-  least_small : unsigned_abs l.least ≤ 10000000 + 10000000 * (l.place - start_at l.ends l.site);
-  greatest_small : unsigned_abs l.greatest ≤ 10000000 + 10000000 * (l.place - start_at l.ends l.site);
+  least_small : unsigned_abs l.least ≤ 10000000 + 10000000 * (l.place - neighbours_start l.ends l.site);
+  greatest_small : unsigned_abs l.greatest ≤ 10000000 + 10000000 * (l.place - neighbours_start l.ends l.site);
   least : (m : Instance) (move : Move) → AreRisesOf m move l.pairs l.table l.own l.at
-      → l.least ≡ risen m move (labelling l.at) l.ends l.site (valued l.known true) (l.place - start_at l.ends l.site);
+      → l.least ≡ risen m move (labelling l.at) l.ends l.site (decided_or l.known true) (l.place - neighbours_start l.ends l.site);
   greatest : (m : Instance) (move : Move) → AreRisesOf m move l.pairs l.table l.own l.at
-      → l.greatest ≡ risen m move (labelling l.at) l.ends l.site (valued l.known false) (l.place - start_at l.ends l.site);
+      → l.greatest ≡ risen m move (labelling l.at) l.ends l.site (decided_or l.known false) (l.place - neighbours_start l.ends l.site);
 }

@@ -1,10 +1,10 @@
 use Rattle.std.proofs.Common.{◌≡◌, ◌<◌, ◌≤◌, ◌+◌, ◌-◌, ◌∙◌, pos, ◌-ℤ◌, w64, to_z, true, false, ap, sym, subst, inl, inr, arith}
 use Rattle.std.proofs.lemmas.Bool.{cases_eq}
 use Rattle.label_field.specs.declared.pair.Pair.{Pair}
-use Rattle.move_energy.specs.BySite.{degree, start_at, pair_beside}
+use Rattle.move_energy.specs.BySite.{degree, neighbours_start, pair_beside}
 use Rattle.labellings.specs.Energies.{labelling}
-use Rattle.labellings.specs.Moves.{label_in}
-use Rattle.deciding.specs.Working.{valued, AvoidsSite}
+use Rattle.labellings.specs.Moves.{label_after}
+use Rattle.deciding.specs.Working.{decided_or, AvoidsSite}
 use Rattle.deciding.proofs.Numbers.{passed_on, passed_range}
 use Rattle.deciding.proofs.SiteSums.{risen, risen_none, risen_more, risen_all, sum_fits, range_more, added_is}
 use Rattle.deciding.proofs.Left.{degree_most}
@@ -37,13 +37,13 @@ loop-place-init g c =
       least_small = omega (arith, small);
       greatest_small = omega (arith, small);
       least = λ m answers.
-          risen_none m a.change (labelling a.at.now) a.ends.now a.site (valued a.choices.now true) _ _
+          risen_none m a.change (labelling a.at.now) a.ends.now a.site (decided_or a.choices.now true) _ _
           (passed_on own.result (omega (arith, own.ensures.range)) ∙ own.ensures.rise m answers
-          ∙ ap (λ l. pos (m.data_cost a.site (label_in a.change l true)) -ℤ pos (m.data_cost a.site (label_in a.change l false))) c.from-label.ensures) start;
+          ∙ ap (λ l. pos (m.data_cost a.site (label_after a.change l true)) -ℤ pos (m.data_cost a.site (label_after a.change l false))) c.from-label.ensures) start;
       greatest = λ m answers.
-          risen_none m a.change (labelling a.at.now) a.ends.now a.site (valued a.choices.now false) _ _
+          risen_none m a.change (labelling a.at.now) a.ends.now a.site (decided_or a.choices.now false) _ _
           (passed_on own.result (omega (arith, own.ensures.range)) ∙ own.ensures.rise m answers
-          ∙ ap (λ l. pos (m.data_cost a.site (label_in a.change l true)) -ℤ pos (m.data_cost a.site (label_in a.change l false))) c.from-label.ensures) start;
+          ∙ ap (λ l. pos (m.data_cost a.site (label_after a.change l true)) -ℤ pos (m.data_cost a.site (label_after a.change l false))) c.from-label.ensures) start;
       alone = λ none p u from before below opened. absurd (omega (arith, start, from, before));
     }
 
@@ -53,11 +53,11 @@ overflow_add-least g c =
     let inside : a.site < a.problem.now.pairs.sites = omega (arith, c.requires.site, c.requires.asked.sites) in
     let start = start_read a.problem.now.pairs a.ends.now a.site _ c.requires.by_site (omega (arith, inside)) c.index-place.ensures in
     let end = start_read a.problem.now.pairs a.ends.now (a.site + 1) _ c.requires.by_site (omega (arith, inside)) c.index-place-end.ensures in
-    let from : start_at a.ends.now a.site ≤ c.loop-place.place = omega (arith, start, c.loop-place.auto.place) in
-    let to : c.loop-place.place < start_at a.ends.now (a.site + 1) = omega (arith, end, c.loop-place-test.true) in
-    let few : c.loop-place.place - start_at a.ends.now a.site ≤ 8388608 =
+    let from : neighbours_start a.ends.now a.site ≤ c.loop-place.place = omega (arith, start, c.loop-place.auto.place) in
+    let to : c.loop-place.place < neighbours_start a.ends.now (a.site + 1) = omega (arith, end, c.loop-place-test.true) in
+    let few : c.loop-place.place - neighbours_start a.ends.now a.site ≤ 8388608 =
     omega (arith, degree_most a.problem.now.pairs a.ends.now a.site c.requires.by_site inside, from, to, c.requires.posed.pairs.count) in
-    sum_fits (to_z w64 c.loop-place.least-bits) c.pair_rises-rises.result.least (c.loop-place.place - start_at a.ends.now a.site) c.loop-place.invariant.least_small c.pair_rises-rises.ensures.range.0 few
+    sum_fits (to_z w64 c.loop-place.least-bits) c.pair_rises-rises.result.least (c.loop-place.place - neighbours_start a.ends.now a.site) c.loop-place.invariant.least_small c.pair_rises-rises.ensures.range.0 few
 
 pub overflow_add-greatest : goal.overflow_add-greatest
 overflow_add-greatest g c =
@@ -65,11 +65,11 @@ overflow_add-greatest g c =
     let inside : a.site < a.problem.now.pairs.sites = omega (arith, c.requires.site, c.requires.asked.sites) in
     let start = start_read a.problem.now.pairs a.ends.now a.site _ c.requires.by_site (omega (arith, inside)) c.index-place.ensures in
     let end = start_read a.problem.now.pairs a.ends.now (a.site + 1) _ c.requires.by_site (omega (arith, inside)) c.index-place-end.ensures in
-    let from : start_at a.ends.now a.site ≤ c.loop-place.place = omega (arith, start, c.loop-place.auto.place) in
-    let to : c.loop-place.place < start_at a.ends.now (a.site + 1) = omega (arith, end, c.loop-place-test.true) in
-    let few : c.loop-place.place - start_at a.ends.now a.site ≤ 8388608 =
+    let from : neighbours_start a.ends.now a.site ≤ c.loop-place.place = omega (arith, start, c.loop-place.auto.place) in
+    let to : c.loop-place.place < neighbours_start a.ends.now (a.site + 1) = omega (arith, end, c.loop-place-test.true) in
+    let few : c.loop-place.place - neighbours_start a.ends.now a.site ≤ 8388608 =
     omega (arith, degree_most a.problem.now.pairs a.ends.now a.site c.requires.by_site inside, from, to, c.requires.posed.pairs.count) in
-    sum_fits (to_z w64 c.loop-place.greatest-bits) c.pair_rises-rises.result.greatest (c.loop-place.place - start_at a.ends.now a.site) c.loop-place.invariant.greatest_small c.pair_rises-rises.ensures.range.1 few
+    sum_fits (to_z w64 c.loop-place.greatest-bits) c.pair_rises-rises.result.greatest (c.loop-place.place - neighbours_start a.ends.now a.site) c.loop-place.invariant.greatest_small c.pair_rises-rises.ensures.range.1 few
 
 pub loop-place-preserved : goal.loop-place-preserved
 loop-place-preserved g c =
@@ -77,23 +77,23 @@ loop-place-preserved g c =
     let inside : a.site < a.problem.now.pairs.sites = omega (arith, c.requires.site, c.requires.asked.sites) in
     let start = start_read a.problem.now.pairs a.ends.now a.site _ c.requires.by_site (omega (arith, inside)) c.index-place.ensures in
     let end = start_read a.problem.now.pairs a.ends.now (a.site + 1) _ c.requires.by_site (omega (arith, inside)) c.index-place-end.ensures in
-    let from : start_at a.ends.now a.site ≤ c.loop-place.place = omega (arith, start, c.loop-place.auto.place) in
-    let to : c.loop-place.place < start_at a.ends.now (a.site + 1) = omega (arith, end, c.loop-place-test.true) in
-    let few : c.loop-place.place - start_at a.ends.now a.site ≤ 8388608 =
+    let from : neighbours_start a.ends.now a.site ≤ c.loop-place.place = omega (arith, start, c.loop-place.auto.place) in
+    let to : c.loop-place.place < neighbours_start a.ends.now (a.site + 1) = omega (arith, end, c.loop-place-test.true) in
+    let few : c.loop-place.place - neighbours_start a.ends.now a.site ≤ 8388608 =
     omega (arith, degree_most a.problem.now.pairs a.ends.now a.site c.requires.by_site inside, from, to, c.requires.posed.pairs.count) in
     let i = c.loop-place.invariant in
     let e = c.pair_rises-rises.ensures in
-    let low = added_is (to_z w64 c.loop-place.least-bits) c.pair_rises-rises.result.least (c.loop-place.place - start_at a.ends.now a.site) i.least_small e.range.0 few in
-    let high = added_is (to_z w64 c.loop-place.greatest-bits) c.pair_rises-rises.result.greatest (c.loop-place.place - start_at a.ends.now a.site) i.greatest_small e.range.1 few in
+    let low = added_is (to_z w64 c.loop-place.least-bits) c.pair_rises-rises.result.least (c.loop-place.place - neighbours_start a.ends.now a.site) i.least_small e.range.0 few in
+    let high = added_is (to_z w64 c.loop-place.greatest-bits) c.pair_rises-rises.result.greatest (c.loop-place.place - neighbours_start a.ends.now a.site) i.greatest_small e.range.1 few in
     record {
-      least_small = range_more (to_z w64 c.loop-place.least-bits) c.pair_rises-rises.result.least _ (start_at a.ends.now a.site) c.loop-place.place from i.least_small e.range.0 low;
-      greatest_small = range_more (to_z w64 c.loop-place.greatest-bits) c.pair_rises-rises.result.greatest _ (start_at a.ends.now a.site) c.loop-place.place from i.greatest_small e.range.1 high;
+      least_small = range_more (to_z w64 c.loop-place.least-bits) c.pair_rises-rises.result.least _ (neighbours_start a.ends.now a.site) c.loop-place.place from i.least_small e.range.0 low;
+      greatest_small = range_more (to_z w64 c.loop-place.greatest-bits) c.pair_rises-rises.result.greatest _ (neighbours_start a.ends.now a.site) c.loop-place.place from i.greatest_small e.range.1 high;
       least = λ m answers.
-          risen_more m a.change (labelling a.at.now) a.ends.now a.site (valued a.choices.now true) c.loop-place.place c.pair_beside-pair.result (to_z w64 c.loop-place.least-bits) c.pair_rises-rises.result.least _ from
+          risen_more m a.change (labelling a.at.now) a.ends.now a.site (decided_or a.choices.now true) c.loop-place.place c.pair_beside-pair.result (to_z w64 c.loop-place.least-bits) c.pair_rises-rises.result.least _ from
           (sym c.pair_beside-pair.ensures.value)
           (e.least m answers) low (i.least m answers);
       greatest = λ m answers.
-          risen_more m a.change (labelling a.at.now) a.ends.now a.site (valued a.choices.now false) c.loop-place.place c.pair_beside-pair.result (to_z w64 c.loop-place.greatest-bits) c.pair_rises-rises.result.greatest _ from
+          risen_more m a.change (labelling a.at.now) a.ends.now a.site (decided_or a.choices.now false) c.loop-place.place c.pair_beside-pair.result (to_z w64 c.loop-place.greatest-bits) c.pair_rises-rises.result.greatest _ from
           (sym c.pair_beside-pair.ensures.value)
           (e.greatest m answers) high (i.greatest m answers);
       alone = λ none p u lower before below opened.
@@ -112,10 +112,10 @@ returns-clause-least g c = λ m answers.
     let inside : a.site < a.problem.now.pairs.sites = omega (arith, c.requires.site, c.requires.asked.sites) in
     let start = start_read a.problem.now.pairs a.ends.now a.site _ c.requires.by_site (omega (arith, inside)) c.index-place.ensures in
     let end = start_read a.problem.now.pairs a.ends.now (a.site + 1) _ c.requires.by_site (omega (arith, inside)) c.index-place-end.ensures in
-    let last : c.loop-place.place - start_at a.ends.now a.site ≡ degree a.ends.now a.site =
+    let last : c.loop-place.place - neighbours_start a.ends.now a.site ≡ degree a.ends.now a.site =
     omega (arith, start, end, starts_rise a.problem.now.pairs a.ends.now a.site c.requires.by_site inside, c.loop-place.auto.place-end, c.loop-place-test.false) in
-    c.loop-place.invariant.least m answers ∙ ap (risen m a.change (labelling a.at.now) a.ends.now a.site (valued a.choices.now true)) last
-    ∙ risen_all m a.change (labelling a.at.now) a.ends.now a.site (valued a.choices.now true)
+    c.loop-place.invariant.least m answers ∙ ap (risen m a.change (labelling a.at.now) a.ends.now a.site (decided_or a.choices.now true)) last
+    ∙ risen_all m a.change (labelling a.at.now) a.ends.now a.site (decided_or a.choices.now true)
     (meant_pairs m a.problem.now.pairs answers.pairs_are answers.sites_are c.requires.posed.pairs) (meant_beside m a.problem.now.pairs a.ends.now answers.pairs_are answers.sites_are c.requires.by_site)
     (omega (arith, inside, answers.sites_are))
 
@@ -125,10 +125,10 @@ returns-clause-greatest g c = λ m answers.
     let inside : a.site < a.problem.now.pairs.sites = omega (arith, c.requires.site, c.requires.asked.sites) in
     let start = start_read a.problem.now.pairs a.ends.now a.site _ c.requires.by_site (omega (arith, inside)) c.index-place.ensures in
     let end = start_read a.problem.now.pairs a.ends.now (a.site + 1) _ c.requires.by_site (omega (arith, inside)) c.index-place-end.ensures in
-    let last : c.loop-place.place - start_at a.ends.now a.site ≡ degree a.ends.now a.site =
+    let last : c.loop-place.place - neighbours_start a.ends.now a.site ≡ degree a.ends.now a.site =
     omega (arith, start, end, starts_rise a.problem.now.pairs a.ends.now a.site c.requires.by_site inside, c.loop-place.auto.place-end, c.loop-place-test.false) in
-    c.loop-place.invariant.greatest m answers ∙ ap (risen m a.change (labelling a.at.now) a.ends.now a.site (valued a.choices.now false)) last
-    ∙ risen_all m a.change (labelling a.at.now) a.ends.now a.site (valued a.choices.now false)
+    c.loop-place.invariant.greatest m answers ∙ ap (risen m a.change (labelling a.at.now) a.ends.now a.site (decided_or a.choices.now false)) last
+    ∙ risen_all m a.change (labelling a.at.now) a.ends.now a.site (decided_or a.choices.now false)
     (meant_pairs m a.problem.now.pairs answers.pairs_are answers.sites_are c.requires.posed.pairs) (meant_beside m a.problem.now.pairs a.ends.now answers.pairs_are answers.sites_are c.requires.by_site)
     (omega (arith, inside, answers.sites_are))
 
@@ -138,7 +138,7 @@ returns-clause-range g c =
     let inside : a.site < a.problem.now.pairs.sites = omega (arith, c.requires.site, c.requires.asked.sites) in
     let start = start_read a.problem.now.pairs a.ends.now a.site _ c.requires.by_site (omega (arith, inside)) c.index-place.ensures in
     let end = start_read a.problem.now.pairs a.ends.now (a.site + 1) _ c.requires.by_site (omega (arith, inside)) c.index-place-end.ensures in
-    let last : c.loop-place.place - start_at a.ends.now a.site ≡ degree a.ends.now a.site =
+    let last : c.loop-place.place - neighbours_start a.ends.now a.site ≡ degree a.ends.now a.site =
     omega (arith, start, end, starts_rise a.problem.now.pairs a.ends.now a.site c.requires.by_site inside, c.loop-place.auto.place-end, c.loop-place-test.false) in
     (omega (arith, last, c.loop-place.invariant.least_small), omega (arith, last, c.loop-place.invariant.greatest_small))
 

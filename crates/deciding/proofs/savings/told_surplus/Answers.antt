@@ -1,5 +1,5 @@
 use Rattle.std.proofs.Common.{◌≡◌, ◌<◌, ◌∙◌, ℕ, ap, sym, refl, arith}
-use Rattle.move_energy.specs.Weights.{surplus_of, term_of}
+use Rattle.move_energy.specs.Weights.{surplus_of, pair_table}
 use Rattle.deciding.proofs.Numbers.{passed_on, passed_range}
 use Rattle.deciding.proofs.Tables.{table_surplus, surplus_small}
 use Rattle.deciding.proofs.savings.told_surplus.Goals as goal
@@ -16,7 +16,7 @@ returns-clause-value c = λ m move f tells.
     let small = surplus_small a.at.now a.pair a.table.now has.labels c.table_surplus.result has.within c.requires.covered.1 has.stands has.sized c.table_surplus.ensures in
     passed_on c.table_surplus.result small ∙ c.table_surplus.ensures
     ∙ table_surplus m move a.at.now a.pair a.table.now m.labels tells.within refl c.requires.covered.1 has.stands c.requires.covered.2 tells.rises
-    ∙ ap (λ (g : ℕ → ℕ). surplus_of (term_of m move g a.pair)) (sym tells.from)
+    ∙ ap (λ (g : ℕ → ℕ). surplus_of (pair_table m move g a.pair)) (sym tells.from)
 
 pub returns-clause-range : goal.returns-clause-range
 returns-clause-range c =

@@ -1,4 +1,4 @@
-use Rattle.problem_files.specs.Names.{told}
+use Rattle.problem_files.specs.Names.{problem_view}
 use Rattle.vision.proofs.Coming.{any_run}
 use Rattle.gco_cli.proofs.LabelFaults.{run_fault}
 use Rattle.gco_cli.proofs.label.answer_problem.Goals as goal
@@ -8,4 +8,4 @@ move_fault-requires g c = any_run (g.H.How.refuses c.args.how.now) c.in-Err.erro
 
 pub returns-in-Err-clause-refused : goal.returns-in-Err-clause-refused
 returns-in-Err-clause-refused g c =
-    run_fault (g.H.How.refuses c.args.how.now) (told c.args.problem) c.in-Err.error c.move_fault.result c.in-Err.ensures.run c.in-Err.ensures.refused c.move_fault.ensures
+    run_fault (g.H.How.refuses c.args.how.now) (problem_view c.args.problem) c.in-Err.error c.move_fault.result c.in-Err.ensures.run c.in-Err.ensures.refused c.move_fault.ensures

@@ -1,13 +1,13 @@
 use Rattle.std.proofs.Common.{arith, ◌*◌, length, ap}
 use Rattle.std.proofs.lemmas.List.Elements.{All-same}
 use Rattle.label_field.specs.PairLists.{IsPair}
-use Rattle.label_field.specs.Grids.{pairs_at}
+use Rattle.label_field.specs.Grids.{pairs_of_steps}
 use Rattle.label_field.proofs.GridSteps.{front_more, length-front, front_are}
 use Rattle.label_field.proofs.grid.grid.Goals as goal
 
 pub loop-site-preserved : goal.loop-site-preserved
 loop-site-preserved c =
-    let one = front_more (pairs_at c.args.image.width c.args.image.height c.args.weight c.args.steps.now) c.loop-site.site in
+    let one = front_more (pairs_of_steps c.args.image.width c.args.image.height c.args.weight c.args.steps.now) c.loop-site.site in
     let pushed = c.in_ok-push_pairs.ensures in
     cc (one, pushed)
 

@@ -5,7 +5,7 @@ use Rattle.block_net.specs.Views.{CellsView, count}
 use Rattle.block_net.specs.Whole.{Whole, block_at, put_block, whole_of}
 use Rattle.block_net.proofs.Spans.{length_range, range_at}
 use Rattle.laid_blocks.specs.Views.{blocks_in}
-use Rattle.laid_blocks.specs.ByBlock.{IsLabelled}
+use Rattle.laid_blocks.specs.ByBlock.{HasLabelsInBlock}
 use Rattle.laid_blocks.proofs.Steps.{at_read, top_read}
 use Rattle.laid_blocks.proofs.ByBlock.{read_block, labelled_block}
 use Rattle.laid_blocks.proofs.by_block.label_block.Goals as goal
@@ -55,5 +55,5 @@ returns c =
     let made : c.write_labels.new.self ≡ record (block_at w b) { labels = slice_range labels (slice_index w.firsts b) (slice_index w.firsts b + count (block_at w b)) } =
     c.write_labels.ensures ∙ (ap (λ (q : CellsView). record q { labels = slice_range labels first (first + c.len-nodes.result) }) (sym at.is)
     ∙ ap (λ (xs : List ℕ). record (block_at w b) { labels = xs }) part) in
-    subst (λ (q : CellsView). IsLabelled w (put_block w b q) b labels) (sym made)
+    subst (λ (q : CellsView). HasLabelsInBlock w (put_block w b q) b labels) (sym made)
     (labelled_block w b labels c.requires.laid c.requires.block (omega (arith, read.within, read.many, read.first, c.requires.len)))

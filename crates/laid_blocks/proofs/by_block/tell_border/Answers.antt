@@ -1,6 +1,6 @@
 use Rattle.std.proofs.Common.{◌≡◌, sym, ◌∙◌, ap, subst, refl, slice_index}
 use Rattle.block_events.specs.Directions.{far}
-use Rattle.block_net.specs.Views.{CellsView, informed}
+use Rattle.block_net.specs.Views.{CellsView, cells_with_known}
 use Rattle.block_net.specs.Whole.{Whole, block_at, put_block, whole_of}
 use Rattle.laid_blocks.specs.Views.{IsLaid, blocks_in}
 use Rattle.laid_blocks.specs.ByBlock.{direction_at}
@@ -14,6 +14,6 @@ returns-clause-laid c =
     let b = c.args.block in
     let j = c.args.j in
     let at = at_read w (blocks_in w) b c.index_mut.result.now c.requires.laid refl c.requires.block c.index_mut.ensures.value in
-    let made : c.inform.new.self ≡ informed (block_at w b) j (slice_index (blocks_in w).labels (far w.net (direction_at w b j))) =
-    c.inform.ensures ∙ (ap (λ (q : CellsView). informed q j c.far_label-label.result) (sym at.is) ∙ ap (informed (block_at w b) j) c.far_label-label.ensures.value) in
+    let made : c.inform.new.self ≡ cells_with_known (block_at w b) j (slice_index (blocks_in w).labels (far w.net (direction_at w b j))) =
+    c.inform.ensures ∙ (ap (λ (q : CellsView). cells_with_known q j c.far_label-label.result) (sym at.is) ∙ ap (cells_with_known (block_at w b) j) c.far_label-label.ensures.value) in
     subst (λ (q : CellsView). IsLaid (put_block w b q)) (sym made) (lemma.informed w b j c.requires.laid c.requires.block c.requires.place).laid

@@ -1,5 +1,5 @@
 use Rattle.std.proofs.Common.{rules, ◌∙◌, ap, true, refl}
-use Rattle.labellings.specs.Moves.{label_in}
+use Rattle.labellings.specs.Moves.{label_after}
 use Rattle.move_energy.proofs.Values.{first_adds, second_adds, none_adds, ends_fit, label_below}
 use Rattle.move_energy.proofs.Steps.{longer_still}
 use Rattle.move_energy.proofs.ends.add_ends.Goals as goal
@@ -11,7 +11,7 @@ returns-then-is_open-clause-adds g c = λ m answers.
     (λ one two. (let yes = c.is_open-then-is_open.ensures.1 two in absurd (cc (yes))))
     (first_adds a.form.now c.add_first.new.form a.change a.weight c.label-other.result m.smooth_cost a.first a.second (c.is_open.ensures.0 c.if-is_open.true)
     (λ two. (let yes = c.is_open-then-is_open.ensures.1 two in absurd (cc (yes))))
-    (c.label-other.ensures ∙ ap (label_in a.change a.second.label) c.bit.ensures) (c.add_first.ensures.adds m answers))
+    (c.label-other.ensures ∙ ap (label_after a.change a.second.label) c.bit.ensures) (c.add_first.ensures.adds m answers))
 
 pub returns-then-not-is_open-clause-adds : goal.returns-then-not-is_open-clause-adds
 returns-then-not-is_open-clause-adds g c = λ m answers.
@@ -28,7 +28,7 @@ returns-clause-adds g c = λ m answers.
     (λ one two. (let yes = c.is_open.ensures.1 one in absurd (cc (yes))))
     (second_adds a.form.now c.add_second.new.form a.change a.weight c.label-other-2.result m.smooth_cost a.first a.second
     (λ one. (let yes = c.is_open.ensures.1 one in absurd (cc (yes)))) (c.is_open-2.ensures.0 c.if-not-is_open.false)
-    (c.label-other-2.ensures ∙ ap (label_in a.change a.first.label) c.bit-2.ensures) (c.add_second.ensures.adds m answers))
+    (c.label-other-2.ensures ∙ ap (label_after a.change a.first.label) c.bit-2.ensures) (c.add_second.ensures.adds m answers))
 
 pub add_both-requires-clause-weight : goal.add_both-requires-clause-weight
 add_both-requires-clause-weight g c = λ κs lives. c.requires.weight

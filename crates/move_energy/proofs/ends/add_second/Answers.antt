@@ -1,6 +1,6 @@
 use Rattle.std.proofs.Common.{◌*◌, ◌∙◌, ap, pos, Bool, w64, FitsSigned, true, false}
 use Rattle.std.proofs.lemmas.Int.{to_z-of_z}
-use Rattle.labellings.specs.Moves.{label_in}
+use Rattle.labellings.specs.Moves.{label_after}
 use Rattle.move_energy.proofs.Values.{one_adds, label_below}
 use Rattle.move_energy.proofs.Steps.{longer_term}
 use Rattle.move_energy.proofs.ends.add_second.Goals as goal
@@ -14,7 +14,7 @@ returns-clause-adds g c =
     let stays : FitsSigned w64 c.pair_cost-stays.result = record { sfits = c.pair_cost-stays.type_inv } in
     let turns : FitsSigned w64 c.pair_cost-turns.result = record { sfits = c.pair_cost-turns.type_inv } in
     λ m answers.
-    one_adds a.form.now c.add_one.new.self a.end.variable (λ (b : Bool). a.weight * m.smooth_cost a.other (label_in a.change a.end.label b)) _ _
+    one_adds a.form.now c.add_one.new.self a.end.variable (λ (b : Bool). a.weight * m.smooth_cost a.other (label_after a.change a.end.label b)) _ _
     (to_z-of_z w64 c.pair_cost-stays.result stays ∙ c.pair_cost-stays.ensures.cost m answers ∙ ap (λ l. pos (a.weight * m.smooth_cost a.other l)) c.label.ensures)
     (to_z-of_z w64 c.pair_cost-turns.result turns ∙ c.pair_cost-turns.ensures.cost m answers ∙ ap (λ l. pos (a.weight * m.smooth_cost a.other l)) c.label-2.ensures)
     c.add_one.ensures.value

@@ -1,17 +1,17 @@
 use Rattle.std.proofs.Common.{ℕ, sym, subst}
 use Rattle.std.proofs.lemmas.Result.{on_ok_weaker}
-use Rattle.sums.specs.Sums.{counted}
+use Rattle.sums.specs.Sums.{count_if}
 use Rattle.move_energy.specs.LabelCosts.{uses, AddsHidden}
 use Rattle.move_energy.proofs.Costing.{adds_fixed, none_paid}
 use Rattle.move_energy.proofs.label_costs.add_label.Goals as goal
 
 pub returns-then-cost-eq0-clause-adds : goal.returns-then-cost-eq0-clause-adds
 returns-then-cost-eq0-clause-adds c =
-    adds_fixed c.args.form.now (λ x. counted (uses c.args.alpha c.args.at.now c.args.variables.now.choices.items c.args.label x) c.args.cost) 0
+    adds_fixed c.args.form.now (λ x. count_if (uses c.args.alpha c.args.at.now c.args.variables.now.choices.items c.args.label x) c.args.cost) 0
     (λ x. none_paid (uses c.args.alpha c.args.at.now c.args.variables.now.choices.items c.args.label x) c.args.cost c.if-cost-eq0.true)
 
 pub returns-then-label-alpha-clause-adds : goal.returns-then-label-alpha-clause-adds
 returns-then-label-alpha-clause-adds c =
     on_ok_weaker c.add_own.result (λ adds.
-    let P : ℕ → Type 0 = λ label. AddsHidden c.args.form.now c.add_own.new.form (λ x. counted (uses c.args.alpha c.args.at.now c.args.variables.now.choices.items label x) c.args.cost) in
+    let P : ℕ → Type 0 = λ label. AddsHidden c.args.form.now c.add_own.new.form (λ x. count_if (uses c.args.alpha c.args.at.now c.args.variables.now.choices.items label x) c.args.cost) in
     subst P (sym c.if-label-alpha.true) adds) c.add_own.ensures.adds

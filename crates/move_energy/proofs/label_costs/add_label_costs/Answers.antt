@@ -1,6 +1,6 @@
 use Rattle.std.proofs.Common.{◌≡◌, ℕ, ◌+◌, ◌*◌, ◌<◌, ◌≤◌, Bool, length, vec_len, pos, unsigned_abs, sym, ap, ◌∙◌, subst, arith, rules}
 use Rattle.std.proofs.lemmas.Int.{ints}
-use Rattle.sums.specs.Sums.{counted}
+use Rattle.sums.specs.Sums.{count_if}
 use Rattle.compile_cut.specs.Shown.{Shows}
 use Rattle.compile_cut.proofs.TermLemmas.{bounded-weaker}
 use Rattle.move_energy.proofs.Numbers.{rank_most}
@@ -40,12 +40,12 @@ loop-label-preserved c =
     let i = c.loop-label.label in
     let cost : c.unsigned_abs-cost.result ≡ cost_at costs i = search (rules, ints) in
     let same = λ (x y : ℕ → Bool) (shown : Shows (vec_len old.weights) x y).
-    ap (λ (b : Bool). counted b c.unsigned_abs-cost.result) (uses_same c.args.alpha f choices i x y (vec_len old.weights) c.requires.opened.count (omega (arith, c.requires.nodes)) shown) in
-    let both = adds_both old c.loop-label.form c.add_label.new.form (costs_below i c.args.alpha f choices costs) (λ x. counted (uses c.args.alpha f choices i x) c.unsigned_abs-cost.result)
+    ap (λ (b : Bool). count_if b c.unsigned_abs-cost.result) (uses_same c.args.alpha f choices i x y (vec_len old.weights) c.requires.opened.count (omega (arith, c.requires.nodes)) shown) in
+    let both = adds_both old c.loop-label.form c.add_label.new.form (costs_below i c.args.alpha f choices costs) (λ x. count_if (uses c.args.alpha f choices i x) c.unsigned_abs-cost.result)
     c.loop-label.invariant.adds c.in_ok-add_label.ensures.adds same in
     record {
       wider = wider_more i old c.loop-label.form c.add_label.new.form c.loop-label.invariant.wider c.in_ok-add_label.ensures.wider;
-      adds = adds_along old c.add_label.new.form (λ x. costs_below i c.args.alpha f choices costs x + counted (uses c.args.alpha f choices i x) c.unsigned_abs-cost.result)
+      adds = adds_along old c.add_label.new.form (λ x. costs_below i c.args.alpha f choices costs x + count_if (uses c.args.alpha f choices i x) c.unsigned_abs-cost.result)
           (costs_below (i + 1) c.args.alpha f choices costs)
           (λ x. more_costs i c.args.alpha f choices costs x c.unsigned_abs-cost.result cost) both;
     }

@@ -2,7 +2,7 @@ use Rattle.std.proofs.Common.{◌≡◌, ◌==◌, ℕ, ◌+◌, ◌<◌, ◌≤
 use Rattle.std.specs.List.{list_all}
 use Rattle.std.proofs.lemmas.List.Elements.{All-weaker}
 use Rattle.std.proofs.lemmas.Result.{on_ok_weaker}
-use Rattle.sums.specs.Sums.{counted}
+use Rattle.sums.specs.Sums.{count_if}
 use Rattle.labellings.specs.Energies.{labelling, is_used as is_used_in}
 use Rattle.compile_cut.specs.Quadratics.{AddsLeast, IsTied}
 use Rattle.move_energy.specs.Choices.{open_count}
@@ -18,8 +18,8 @@ returns-then-not-used-clause-adds c =
     let f = c.args.at.now in
     let choices = c.args.variables.now.choices.items in
     let none : is_used_in (length f) (labelling f) c.args.label ≡ false = sym c.requires.used ∙ c.if-not-used.true in
-    adds_fixed c.args.form.now (λ x. counted (uses c.args.alpha f choices c.args.label x) c.args.cost) 0
-    (λ x. ap (λ (b : Bool). counted b c.args.cost) (never_used c.args.alpha (labelling f) choices c.args.label x (length f) c.requires.other
+    adds_fixed c.args.form.now (λ x. count_if (uses c.args.alpha f choices c.args.label x) c.args.cost) 0
+    (λ x. ap (λ (b : Bool). count_if b c.args.cost) (never_used c.args.alpha (labelling f) choices c.args.label x (length f) c.requires.other
     (λ p l. used_nowhere (length f) (labelling f) c.args.label p none l)))
 
 pub add_unless_all-requires-clause-nodes : goal.add_unless_all-requires-clause-nodes
@@ -50,12 +50,12 @@ returns-clause-adds c =
     let chosen = λ (p : ℕ). labelling f p == c.args.label in
     let is : c.deref.result.now ≡ nodes_of chosen choices (length f) = c.deref.ensures.value ∙ c.in_ok-list_having.ensures in
     let told = λ (x : ℕ → Bool).
-    ap (λ (xs : List ℕ). counted (not (list_all x xs)) c.args.cost) is
-    ∙ ap (λ (b : Bool). counted b c.args.cost) (other_used c.args.alpha (labelling f) choices c.args.label x (length f) c.requires.other
+    ap (λ (xs : List ℕ). count_if (not (list_all x xs)) c.args.cost) is
+    ∙ ap (λ (b : Bool). count_if b c.args.cost) (other_used c.args.alpha (labelling f) choices c.args.label x (length f) c.requires.other
     (λ p l has. open_where c.args.alpha f choices p c.requires.opened l (λ same. c.requires.other (sym has ∙ same)))) in
     on_ok_both c.add_unless_all.result (IsTied (length c.deref.result.now + 1) c.args.cost c.args.form.now c.add_unless_all.new.self)
-    (AddsLeast c.args.form.now c.add_unless_all.new.self (λ x. counted (not (list_all x c.deref.result.now)) c.args.cost))
-    (AddsHidden c.args.form.now c.add_unless_all.new.self (λ x. counted (uses c.args.alpha f choices c.args.label x) c.args.cost))
+    (AddsLeast c.args.form.now c.add_unless_all.new.self (λ x. count_if (not (list_all x c.deref.result.now)) c.args.cost))
+    (AddsHidden c.args.form.now c.add_unless_all.new.self (λ x. count_if (uses c.args.alpha f choices c.args.label x) c.args.cost))
     (λ tied adds. adds_tied c.args.form.now c.add_unless_all.new.self (length c.deref.result.now + 1) c.args.cost
-    (λ x. counted (not (list_all x c.deref.result.now)) c.args.cost) (λ x. counted (uses c.args.alpha f choices c.args.label x) c.args.cost) tied adds told)
+    (λ x. count_if (not (list_all x c.deref.result.now)) c.args.cost) (λ x. count_if (uses c.args.alpha f choices c.args.label x) c.args.cost) tied adds told)
     c.add_unless_all.ensures.tied c.add_unless_all.ensures.value

@@ -2,7 +2,7 @@ use Rattle.std.proofs.Common.{◌≡◌, ◌≢◌, ℕ, ◌+◌, ◌<◌, ◌�
 use Rattle.std.specs.List.{list_any}
 use Rattle.std.proofs.lemmas.List.Elements.{All-weaker}
 use Rattle.std.proofs.lemmas.Result.{on_ok_weaker}
-use Rattle.sums.specs.Sums.{counted}
+use Rattle.sums.specs.Sums.{count_if}
 use Rattle.labellings.specs.Energies.{labelling, is_used as is_used_in}
 use Rattle.compile_cut.specs.Quadratics.{AddsLeast, IsTied}
 use Rattle.move_energy.specs.declared.choice.Choice.TheVariants.{Open}
@@ -18,8 +18,8 @@ returns-then-used-clause-adds c =
     let f = c.args.at.now in
     let choices = c.args.variables.now.choices.items in
     let used : is_used_in (length f) (labelling f) c.args.alpha ≡ true = sym c.requires.used ∙ c.if-used.true in
-    adds_fixed c.args.form.now (λ x. counted (uses c.args.alpha f choices c.args.alpha x) c.args.cost) c.args.cost
-    (λ x. ap (λ (b : Bool). counted b c.args.cost) (used_already c.args.alpha (labelling f) choices x (length f) used))
+    adds_fixed c.args.form.now (λ x. count_if (uses c.args.alpha f choices c.args.alpha x) c.args.cost) c.args.cost
+    (λ x. ap (λ (b : Bool). count_if b c.args.cost) (used_already c.args.alpha (labelling f) choices x (length f) used))
 
 pub list_each-requires-clause-opened : goal.list_each-requires-clause-opened
 list_each-requires-clause-opened c = λ p l.
@@ -57,15 +57,15 @@ returns-clause-adds c =
     let is : c.deref.result.now ≡ nodes_of (λ p. true) choices (length choices) = c.deref.ensures.value ∙ c.in_ok-list_each.ensures in
     let off : (p : ℕ) → p < length choices → labelling f p ≢ c.args.alpha = λ p l. used_nowhere (length f) (labelling f) c.args.alpha p none (omega (arith, l, c.requires.opened.count)) in
     let told = λ (x : ℕ → Bool).
-    ap (λ (xs : List ℕ). counted (list_any x xs) c.args.cost) is
-    ∙ ap (λ (b : Bool). counted b c.args.cost) (
+    ap (λ (xs : List ℕ). count_if (list_any x xs) c.args.cost) is
+    ∙ ap (λ (b : Bool). count_if b c.args.cost) (
     own_used c.args.alpha (labelling f) choices x (length choices) off
     (λ p l. open_where c.args.alpha f choices p c.requires.opened (omega (arith, l, c.requires.opened.count)) (off p l))
     ∙ ap (λ (n : ℕ). is_used_in n (made_at c.args.alpha (labelling f) choices x) c.args.alpha) c.requires.opened.count
     ) in
     on_ok_both c.add_if_any.result (IsTied (length c.deref.result.now + 1) c.args.cost c.args.form.now c.add_if_any.new.self)
-    (AddsLeast c.args.form.now c.add_if_any.new.self (λ x. counted (list_any x c.deref.result.now) c.args.cost))
-    (AddsHidden c.args.form.now c.add_if_any.new.self (λ x. counted (uses c.args.alpha f choices c.args.alpha x) c.args.cost))
+    (AddsLeast c.args.form.now c.add_if_any.new.self (λ x. count_if (list_any x c.deref.result.now) c.args.cost))
+    (AddsHidden c.args.form.now c.add_if_any.new.self (λ x. count_if (uses c.args.alpha f choices c.args.alpha x) c.args.cost))
     (λ tied adds. adds_tied c.args.form.now c.add_if_any.new.self (length c.deref.result.now + 1) c.args.cost
-    (λ x. counted (list_any x c.deref.result.now) c.args.cost) (λ x. counted (uses c.args.alpha f choices c.args.alpha x) c.args.cost) tied adds told)
+    (λ x. count_if (list_any x c.deref.result.now) c.args.cost) (λ x. count_if (uses c.args.alpha f choices c.args.alpha x) c.args.cost) tied adds told)
     c.add_if_any.ensures.tied c.add_if_any.ensures.value

@@ -2,7 +2,7 @@ use Rattle.std.proofs.Common.{◌+◌, ◌<◌, ◌≤◌, ◌∙◌, ℕ, Bool,
 use Rattle.std.proofs.lemmas.List.Elements.{All-get_or}
 use Rattle.labellings.specs.Energies.{labelling}
 use Rattle.compile_cut.proofs.TermLemmas.{bounded-weaker}
-use Rattle.move_energy.specs.Choices.{choice_at, rank, made_by}
+use Rattle.move_energy.specs.Choices.{choice_at, open_rank, made_by}
 use Rattle.move_energy.proofs.Steps.{longer_none, longer_more}
 use Rattle.move_energy.proofs.Joins.{site_read, variable_below}
 use Rattle.move_energy.proofs.Adding.{cost_none, site_more, site_all}
@@ -21,7 +21,7 @@ loop-index-preserved g c =
     record {
       longer = longer_more c.loop-index.index a.form.now c.loop-index.form c.add_site.new.form c.loop-index.invariant.longer c.add_site.ensures.longer;
       adds = λ m answers.
-          site_more a.form.now c.loop-index.form c.add_site.new.form (λ (x : ℕ → Bool) (p : ℕ). m.data_cost p (made_by a.change (labelling a.at.now) (choice_at choices) (rank choices) x p))
+          site_more a.form.now c.loop-index.form c.add_site.new.form (λ (x : ℕ → Bool) (p : ℕ). m.data_cost p (made_by a.change (labelling a.at.now) (choice_at choices) (open_rank choices) x p))
           a.opened.now c.loop-index.index c.loop-index-test.true (c.loop-index.invariant.adds m answers)
           (site_read m a.change a.at.now choices c.loop-index.form c.add_site.new.form (get_or a.opened.now c.loop-index.index 0) c.end-end.result c.end-end.ensures
           (c.add_site.ensures.adds m answers));
@@ -31,7 +31,7 @@ pub returns-clause-adds : goal.returns-clause-adds
 returns-clause-adds g c = λ m answers.
     let a = c.args in
     let choices = a.variables.now.choices.items in
-    site_all a.form.now c.loop-index.form (λ (x : ℕ → Bool) (p : ℕ). m.data_cost p (made_by a.change (labelling a.at.now) (choice_at choices) (rank choices) x p))
+    site_all a.form.now c.loop-index.form (λ (x : ℕ → Bool) (p : ℕ). m.data_cost p (made_by a.change (labelling a.at.now) (choice_at choices) (open_rank choices) x p))
     a.opened.now c.loop-index.index (omega (arith, c.loop-index-test.false)) (c.loop-index.invariant.adds m answers)
 
 pub end-end-requires-clause-site : goal.end-end-requires-clause-site

@@ -1,7 +1,7 @@
 use Rattle.std.proofs.Common.{take, sum_by}
 use Rattle.cost_store.specs.Posed.{IsMeant}
 use Rattle.labellings.specs.Energies.{Instance, labelling}
-use Rattle.move_energy.specs.Choices.{choice_at, rank, made_by}
+use Rattle.move_energy.specs.Choices.{choice_at, open_rank, made_by}
 use Rattle.move_energy.specs.Built.{AddsCost, IsLonger}
 use Rattle.move_energy.proofs.listed.add_listed_sites.Given as goal
 
@@ -9,5 +9,5 @@ abbrev pub invariant-loop-index : goal.invariant-loop-index
 invariant-loop-index g l = record {
   longer : IsLonger l.index l.fn.form l.form;
   adds : (m : Instance) → IsMeant g.F.Fn g.V.Fn l.problem m →
-      AddsCost l.fn.form l.form (λ x. sum_by (λ p. m.data_cost p (made_by l.change (labelling l.at) (choice_at l.variables.choices.items) (rank l.variables.choices.items) x p)) (take l.index l.opened));
+      AddsCost l.fn.form l.form (λ x. sum_by (λ p. m.data_cost p (made_by l.change (labelling l.at) (choice_at l.variables.choices.items) (open_rank l.variables.choices.items) x p)) (take l.index l.opened));
 }

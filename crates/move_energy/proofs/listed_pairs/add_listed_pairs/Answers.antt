@@ -1,8 +1,8 @@
 use Rattle.std.proofs.Common.{◌≤◌, ◌∙◌, ℕ, Bool, sum_by, length, refl, arith}
 use Rattle.move_energy.specs.BySite.{met_at}
 use Rattle.labellings.specs.Energies.{labelling}
-use Rattle.move_energy.specs.Added.{added}
-use Rattle.move_energy.specs.Choices.{choice_at, open_at, rank}
+use Rattle.move_energy.specs.Added.{added_by_pair}
+use Rattle.move_energy.specs.Choices.{choice_at, open_at, open_rank}
 use Rattle.move_energy.proofs.Steps.{longer_none}
 use Rattle.move_energy.proofs.Opened.{opened_has}
 use Rattle.move_energy.proofs.Adding.{cost_none, site_more, site_all, met_few, sum_longer, sum_room, sum_bounded}
@@ -62,7 +62,7 @@ loop-index-preserved g c =
           c.loop-index-test.true c.loop-index.invariant.longer c.in_ok-add_pairs_at.ensures.longer;
       adds = λ m answers fit.
           site_more a.form.now c.loop-index.form c.add_pairs_at.new.form
-          (λ (x : ℕ → Bool). met_at a.ends.now (open_at choices) (added a.adds m a.change (labelling a.at.now) (choice_at choices) (rank choices) x))
+          (λ (x : ℕ → Bool). met_at a.ends.now (open_at choices) (added_by_pair a.adds m a.change (labelling a.at.now) (choice_at choices) (open_rank choices) x))
           a.opened.now c.loop-index.index c.loop-index-test.true (c.loop-index.invariant.adds m answers fit) (c.in_ok-add_pairs_at.ensures.adds m answers fit);
     }
 
@@ -82,5 +82,5 @@ returns-clause-adds g c = λ m answers fit.
     let a = c.args in
     let choices = a.variables.now.choices.items in
     site_all a.form.now c.loop-index.form
-    (λ (x : ℕ → Bool). met_at a.ends.now (open_at choices) (added a.adds m a.change (labelling a.at.now) (choice_at choices) (rank choices) x))
+    (λ (x : ℕ → Bool). met_at a.ends.now (open_at choices) (added_by_pair a.adds m a.change (labelling a.at.now) (choice_at choices) (open_rank choices) x))
     a.opened.now c.loop-index.index (omega (arith, c.loop-index-test.false)) (c.loop-index.invariant.adds m answers fit)

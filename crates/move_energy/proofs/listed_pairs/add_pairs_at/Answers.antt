@@ -5,8 +5,8 @@ use Rattle.move_energy.specs.BySite.{degree, met_below}
 use Rattle.move_energy.proofs.Parts.{pair_has}
 use Rattle.labellings.specs.Energies.{labelling}
 use Rattle.move_energy.specs.Built.{AddsCost, IsLonger}
-use Rattle.move_energy.specs.Added.{added, IsRightFor}
-use Rattle.move_energy.specs.Choices.{choice_at, open_at, rank}
+use Rattle.move_energy.specs.Added.{added_by_pair, IsRightFor}
+use Rattle.move_energy.specs.Choices.{choice_at, open_at, open_rank}
 use Rattle.move_energy.proofs.Steps.{longer_none}
 use Rattle.move_energy.proofs.Adding.{cost_none, met_longer, met_adds, met_room}
 use Rattle.move_energy.proofs.listed_pairs.add_pairs_at.Goals as goal
@@ -59,7 +59,7 @@ loop-index-preserved g c =
           let P : Pair → Type 0 = λ pair. IsRightFor a.adds m a.change (labelling a.at.now) (choice_at choices) pair in
           let fits = subst P (sym c.pair_at-pair.ensures.value) (pair_has P a.problem.now.pairs a.ends.now a.site c.loop-index.index fit c.requires.by_site inside within) in
           met_adds a.ends.now (open_at choices)
-          (λ (x : ℕ → Bool) (pair : Pair). added a.adds m a.change (labelling a.at.now) (choice_at choices) (rank choices) x pair)
+          (λ (x : ℕ → Bool) (pair : Pair). added_by_pair a.adds m a.change (labelling a.at.now) (choice_at choices) (open_rank choices) x pair)
           a.site c.loop-index.index c.pair_at-pair.result a.form.now c.loop-index.form c.add_counted.new.form
           c.pair_at-pair.ensures.value (c.loop-index.invariant.adds m answers fit) (c.in_ok-add_counted.ensures.adds m answers fits);
     }
@@ -75,5 +75,5 @@ returns-clause-adds g c = λ m answers fit.
     let a = c.args in
     let choices = a.variables.now.choices.items in
     let P : ℕ → Type 0 = λ k. AddsCost a.form.now c.loop-index.form (λ x. met_below a.ends.now (open_at choices)
-    (added a.adds m a.change (labelling a.at.now) (choice_at choices) (rank choices) x) a.site k) in
+    (added_by_pair a.adds m a.change (labelling a.at.now) (choice_at choices) (open_rank choices) x) a.site k) in
     subst P (omega (arith, c.loop-index-test.false, c.loop-index.auto, c.ends_at-index-end.ensures)) (c.loop-index.invariant.adds m answers fit)

@@ -2,8 +2,8 @@ use Rattle.std.proofs.Common.{All}
 use Rattle.cost_store.specs.Posed.{IsMeant}
 use Rattle.move_energy.specs.BySite.{met_below}
 use Rattle.labellings.specs.Energies.{Instance, labelling}
-use Rattle.move_energy.specs.Added.{added, IsRightFor}
-use Rattle.move_energy.specs.Choices.{choice_at, open_at, rank}
+use Rattle.move_energy.specs.Added.{added_by_pair, IsRightFor}
+use Rattle.move_energy.specs.Choices.{choice_at, open_at, open_rank}
 use Rattle.move_energy.specs.Built.{AddsCost, IsLonger}
 use Rattle.move_energy.proofs.listed_pairs.add_pairs_at.Given as goal
 
@@ -13,5 +13,5 @@ invariant-loop-index g l = record {
   adds : (m : Instance) → IsMeant g.F.Fn g.V.Fn l.problem m →
       All (IsRightFor l.adds m l.change (labelling l.at) (choice_at l.variables.choices.items)) l.problem.pairs.list →
       AddsCost l.fn.form l.form (λ x. met_below l.ends (open_at l.variables.choices.items)
-      (added l.adds m l.change (labelling l.at) (choice_at l.variables.choices.items) (rank l.variables.choices.items) x) l.site l.index);
+      (added_by_pair l.adds m l.change (labelling l.at) (choice_at l.variables.choices.items) (open_rank l.variables.choices.items) x) l.site l.index);
 }

@@ -2,7 +2,7 @@ use Rattle.std.proofs.Common.{◌<◌, pos, ◌≤ℤ◌, ◌<ℤ◌, length, un
 use Rattle.std.proofs.lemmas.Int.{ints}
 use Rattle.std.proofs.lemmas.Result.{on_ok_weaker}
 use Rattle.labellings.specs.Energies.{labelling}
-use Rattle.move_energy.specs.Choices.{choice_at, rank}
+use Rattle.move_energy.specs.Choices.{choice_at, open_rank}
 use Rattle.move_energy.proofs.Numbers.{rank_below}
 use Rattle.move_energy.proofs.Weighed.{surplus_adds, surplus_none, surplus_passed, number_read, first_open, second_open}
 use Rattle.move_energy.proofs.weighted.add_surplus.Goals as goal
@@ -12,7 +12,7 @@ returns-then-surplus-le0-clause-adds g c = λ m answers regular.
     let a = c.args in
     let choices = a.variables.now.choices.items in
     let none : c.open_surplus-surplus.result ≤ℤ pos 0 = omega (arith, ints, c.open_surplus-surplus.ensures.range) in
-    surplus_none m a.change (labelling a.at.now) (choice_at choices) (rank choices) a.form.now a.pair c.open_surplus-surplus.result
+    surplus_none m a.change (labelling a.at.now) (choice_at choices) (open_rank choices) a.form.now a.pair c.open_surplus-surplus.result
     (c.open_surplus-surplus.ensures.value m answers regular) none
 
 pub add_saving-requires-clause-first : goal.add_saving-requires-clause-first
@@ -47,5 +47,5 @@ returns-clause-adds g c =
     let second = number_read choices a.variables.now.of_sites.items a.pair.second _ c.requires.numbering second_within (second_open (choice_at choices) a.pair both) c.index-second.ensures in
     let size = ap unsigned_abs (surplus_passed c.open_surplus-surplus.result c.open_surplus-surplus.ensures.range) in
     on_ok_weaker c.add_saving.result (λ adds m answers regular.
-    surplus_adds m a.change (labelling a.at.now) (choice_at choices) (rank choices) a.form.now c.add_saving.new.form a.pair _ _ _ c.open_surplus-surplus.result
+    surplus_adds m a.change (labelling a.at.now) (choice_at choices) (open_rank choices) a.form.now c.add_saving.new.form a.pair _ _ _ c.open_surplus-surplus.result
     first second both (c.open_surplus-surplus.ensures.value m answers regular) size adds) c.add_saving.ensures.adds

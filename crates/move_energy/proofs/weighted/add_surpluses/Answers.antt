@@ -1,6 +1,6 @@
 use Rattle.std.proofs.Common.{◌+◌, ◌≤◌, ◌∙◌, refl, arith}
 use Rattle.labellings.specs.Energies.{labelling}
-use Rattle.move_energy.specs.Choices.{choice_at, rank}
+use Rattle.move_energy.specs.Choices.{choice_at, open_rank}
 use Rattle.compile_cut.proofs.TermLemmas.{bounded-weaker}
 use Rattle.move_energy.proofs.Steps.{longer_none, longer_more}
 use Rattle.move_energy.proofs.Adding.{cost_none}
@@ -17,7 +17,7 @@ pub loop-index-preserved : goal.loop-index-preserved
 loop-index-preserved g c = record {
   longer = longer_more c.loop-index.index c.args.form.now c.loop-index.form c.add_surplus.new.form c.loop-index.invariant.longer c.in_ok-add_surplus.ensures.longer;
   adds = λ m answers allowed.
-      savings_more m c.args.change (labelling c.args.at.now) (choice_at c.args.variables.now.choices.items) (rank c.args.variables.now.choices.items)
+      savings_more m c.args.change (labelling c.args.at.now) (choice_at c.args.variables.now.choices.items) (open_rank c.args.variables.now.choices.items)
       c.args.form.now c.loop-index.form c.add_surplus.new.form c.loop-index.index c.args.problem.now.pairs.list c.get-pair.result answers.pairs_are
       (omega (arith, c.loop-index-test.true, c.len-index-end.ensures.value)) c.get-pair.ensures.value allowed
       (c.loop-index.invariant.adds m answers allowed) (c.in_ok-add_surplus.ensures.adds m answers);
@@ -47,6 +47,6 @@ returns-clause-small g c =
 
 pub returns-clause-adds : goal.returns-clause-adds
 returns-clause-adds g c = λ m answers allowed.
-    savings_all m c.args.change (labelling c.args.at.now) (choice_at c.args.variables.now.choices.items) (rank c.args.variables.now.choices.items)
+    savings_all m c.args.change (labelling c.args.at.now) (choice_at c.args.variables.now.choices.items) (open_rank c.args.variables.now.choices.items)
     c.args.form.now c.loop-index.form c.loop-index.index c.args.problem.now.pairs.list answers.pairs_are
     (omega (arith, c.loop-index-test.false, c.len-index-end.ensures.value)) (c.loop-index.invariant.adds m answers allowed)

@@ -2,15 +2,15 @@ use Rattle.std.proofs.Common.{take, sum_by}
 use Rattle.cost_store.specs.Posed.{IsMeant}
 use Rattle.labellings.specs.Energies.{Instance, labelling}
 use Rattle.labellings.specs.Moves.{IsAllowed}
-use Rattle.move_energy.specs.Choices.{choice_at, rank}
+use Rattle.move_energy.specs.Choices.{choice_at, open_rank}
 use Rattle.move_energy.specs.Built.{AddsCost, IsLonger}
-use Rattle.move_energy.specs.Weights.{unsaved}
+use Rattle.move_energy.specs.Weights.{unsaved_surplus}
 use Rattle.move_energy.proofs.weighted.add_surpluses.Given as goal
 
 abbrev pub invariant-loop-index : goal.invariant-loop-index
 invariant-loop-index g l = record {
   longer : IsLonger l.index l.fn.form l.form;
   adds : (m : Instance) → IsMeant g.F.Fn g.V.Fn l.problem m → IsAllowed m l.change (labelling l.at) →
-      AddsCost l.fn.form l.form (λ x. sum_by (unsaved m l.change (labelling l.at) (choice_at l.variables.choices.items) (rank l.variables.choices.items) x)
+      AddsCost l.fn.form l.form (λ x. sum_by (unsaved_surplus m l.change (labelling l.at) (choice_at l.variables.choices.items) (open_rank l.variables.choices.items) x)
       (take l.index m.pairs));
 }

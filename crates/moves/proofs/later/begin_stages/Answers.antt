@@ -8,7 +8,7 @@ use Rattle.deciding.specs.MoveValues.{move_value}
 use Rattle.stages.specs.Changes.{made_of}
 use Rattle.closing_in.specs.Fixing.{AreLeastZeros}
 use Rattle.stages.specs.Fresh.{AreFresh}
-use Rattle.stages.specs.Looking.{marked, changed_since}
+use Rattle.stages.specs.Looking.{is_marked, changed_since}
 use Rattle.moves.proofs.Stages.{first_zeros, on_ok, on_ok_map}
 use Rattle.moves.proofs.later.begin_stages.Goals as goal
 
@@ -18,7 +18,7 @@ returns-clause-fresh g c = λ m meant.
     let f = labelling c.args.at.now in
     let changes = c.args.changes.now in
     let fresh = c.in_ok-mark_fresh.ensures.fresh.fresh m meant.sites_are meant.pairs_are in
-    let A : List ℕ → ℕ → List Bool → Type 0 = λ stamps since flags. AreFresh m a f (changed_since stamps since) (marked flags) in
+    let A : List ℕ → ℕ → List Bool → Type 0 = λ stamps since flags. AreFresh m a f (changed_since stamps since) (is_marked flags) in
     let B : List ℕ → Type 0 = λ stamps. A stamps c.last.result c.mark_fresh.new.self.fresh.items in
     let D : ℕ → Type 0 = λ since. A changes.stamps.items since c.mark_fresh.new.self.fresh.items in
     let F : List Bool → Type 0 = λ flags. A changes.stamps.items (made_of changes a) flags in

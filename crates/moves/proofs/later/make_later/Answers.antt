@@ -8,7 +8,7 @@ use Rattle.deciding.specs.Decisions.{IsSmallestLeast}
 use Rattle.deciding.specs.MoveValues.{move_value}
 use Rattle.stages.specs.Changes.{changed_after}
 use Rattle.stages.specs.Fresh.{WasExpanded}
-use Rattle.stages.specs.Looking.{marked, AreTaking}
+use Rattle.stages.specs.Looking.{is_marked, AreTaking}
 use Rattle.moves.proofs.Answers.{costs_free, cut_refusal}
 use Rattle.moves.proofs.Relabelled.{values_reach}
 use Rattle.moves.proofs.Stages.{metric_allowed, taken_best}
@@ -33,7 +33,7 @@ pub returns-clause-moved : goal.returns-clause-moved
 returns-clause-moved g c = λ m meant.
     let a = c.args.alpha in
     let f = c.args.labelling.now.at in
-    let took = marked c.look.new.space.stage.taken.items in
+    let took = is_marked c.look.new.space.stage.taken.items in
     let pairs = pairs_meant _ _ _ m c.requires.posed meant in
     let sizes = c.can_look.ensures.sizes c.if-not-can_look.false in
     let size = c.requires.fits.sites ∙ sym meant.sites_are in
@@ -53,7 +53,7 @@ returns-clause-moved g c = λ m meant.
 
 pub returns-clause-made : goal.returns-clause-made
 returns-clause-made g c =
-    let took = marked c.look.new.space.stage.taken.items in
+    let took = is_marked c.look.new.space.stage.taken.items in
     let taking = c.in_ok-look.ensures.taking c.if-not-branch.false in
     let taken = c.take.ensures.each took (λ p l.
     subst (λ (xs : List ℕ). (took p ≡ true) ↔ Contains xs p) (sym c.deref.ensures.value) (taking.listed p (omega (arith, l, c.requires.fits.sites)))) in
@@ -61,7 +61,7 @@ returns-clause-made g c =
 
 pub returns-clause-taken : goal.returns-clause-taken
 returns-clause-taken g c =
-    let took = marked c.look.new.space.stage.taken.items in
+    let took = is_marked c.look.new.space.stage.taken.items in
     let taking = c.in_ok-look.ensures.taking c.if-not-branch.false in
     let taken = c.take.ensures.each took (λ p l.
     subst (λ (xs : List ℕ). (took p ≡ true) ↔ Contains xs p) (sym c.deref.ensures.value) (taking.listed p (omega (arith, l, c.requires.fits.sites)))) in

@@ -1,7 +1,7 @@
 use Rattle.std.proofs.Common.{◌≤◌, ◌∙◌, pos, ◌-ℤ◌, length, get_or, sym, ap, refl, arith, w64, to_z}
 use Rattle.sums.specs.Sums.{sum_below}
 use Rattle.labellings.specs.Energies.{labelling}
-use Rattle.labellings.specs.Moves.{made}
+use Rattle.labellings.specs.Moves.{labelling_made}
 use Rattle.moves.specs.Building.{site_values}
 use Rattle.moves.proofs.Rising.{rise_sum, rise_small}
 use Rattle.moves.proofs.Changes.{site_has, sites_few, unchosen, rise_more, rise_all, rise_fits, sites_rise}
@@ -29,7 +29,7 @@ loop-index-preserved g c =
       small = rise_small (to_z w64 c.loop-index.total-bits) c.site_rise-total.result c.loop-index.index c.loop-index.invariant.small c.site_rise-total.ensures.range few;
       so_far = λ m answers.
           rise_sum (to_z w64 c.loop-index.total-bits) c.site_rise-total.result c.loop-index.index c.loop-index.invariant.small c.site_rise-total.ensures.range few
-          ∙ rise_more (λ p. m.data_cost p (made a.change (labelling a.at.now) (site_values a.choices.now) p)) (λ p. m.data_cost p (labelling a.at.now p))
+          ∙ rise_more (λ p. m.data_cost p (labelling_made a.change (labelling a.at.now) (site_values a.choices.now) p)) (λ p. m.data_cost p (labelling a.at.now p))
           a.sites.now c.loop-index.index _ _ (get_or a.sites.now c.loop-index.index 0) c.loop-index-test.true refl
           (c.loop-index.invariant.so_far m answers) (c.site_rise-total.ensures.rise m answers);
     }
@@ -38,7 +38,7 @@ pub returns-clause-rise : goal.returns-clause-rise
 returns-clause-rise g c = λ m answers.
     let a = c.args in
     let changes = c.requires.changes in
-    let new = λ (p : _). m.data_cost p (made a.change (labelling a.at.now) (site_values a.choices.now) p) in
+    let new = λ (p : _). m.data_cost p (labelling_made a.change (labelling a.at.now) (site_values a.choices.now) p) in
     let old = λ (p : _). m.data_cost p (labelling a.at.now p) in
     sites_rise changes.chosen (length a.at.now) a.sites.now new old _ changes.listed
     (λ p l none. ap (m.data_cost p) (unchosen a.change a.at.now a.choices.now a.sites.now p changes l none))

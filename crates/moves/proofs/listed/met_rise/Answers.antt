@@ -1,9 +1,9 @@
 use Rattle.std.proofs.Common.{◌≡◌, ◌≤◌, ◌+◌, ◌∙◌, pos, ◌-ℤ◌, ap, arith, w64, to_z}
-use Rattle.sums.specs.Sums.{counted}
+use Rattle.sums.specs.Sums.{count_if}
 use Rattle.sums.proofs.SumLemmas.{counted-le}
 use Rattle.move_energy.specs.BySite.{is_counted, met_below}
 use Rattle.labellings.specs.Energies.{labelling, pair_cost}
-use Rattle.labellings.specs.Moves.{made}
+use Rattle.labellings.specs.Moves.{labelling_made}
 use Rattle.moves.specs.Building.{site_values, moves_site}
 use Rattle.moves.proofs.Changes.{met_more, met_count, met_count_more, met_count_few, rise_adds, rise_within, rise_fits}
 use Rattle.moves.proofs.listed.met_rise.Goals as goal
@@ -17,7 +17,7 @@ overflow_add-total g c =
     let own = counted-le (is_counted moved a.site c.pair_at-pair.result) 1 in
     let range = c.ends_at-number-end.type_inv in
     let few : count ≤ 4294967296 = omega (arith, c.loop-number-test.true, most) in
-    (rise_fits (to_z w64 c.loop-number.total-bits) c.counted_rise-total.result count (counted (is_counted moved a.site c.pair_at-pair.result) 1)
+    (rise_fits (to_z w64 c.loop-number.total-bits) c.counted_rise-total.result count (count_if (is_counted moved a.site c.pair_at-pair.result) 1)
     c.loop-number.invariant.small c.counted_rise-total.ensures.range few (omega (arith, own)))
 
 pub loop-number-preserved : goal.loop-number-preserved
@@ -29,7 +29,7 @@ loop-number-preserved g c =
     let pair = c.pair_at-pair.result in
     let read = c.pair_at-pair.ensures.value in
     let count = met_count a.ends.now moved a.site k in
-    let one = counted (is_counted moved a.site pair) 1 in
+    let one = count_if (is_counted moved a.site pair) 1 in
     let most = met_count_few a.ends.now moved a.site k in
     let own = counted-le (is_counted moved a.site pair) 1 in
     let range = c.ends_at-number-end.type_inv in
@@ -40,7 +40,7 @@ loop-number-preserved g c =
           c.loop-number.invariant.small c.counted_rise-total.ensures.range few small (met_count_more a.ends.now moved a.site k pair read);
       so_far = λ m answers.
           rise_adds (to_z w64 c.loop-number.total-bits) c.counted_rise-total.result count one c.loop-number.invariant.small c.counted_rise-total.ensures.range few small
-          ∙ met_more a.ends.now moved (pair_cost m (made a.change (labelling a.at.now) (site_values a.choices.now))) (pair_cost m (labelling a.at.now)) a.site k _ _ pair read
+          ∙ met_more a.ends.now moved (pair_cost m (labelling_made a.change (labelling a.at.now) (site_values a.choices.now))) (pair_cost m (labelling a.at.now)) a.site k _ _ pair read
           (c.loop-number.invariant.so_far m answers) (c.counted_rise-total.ensures.rise m answers);
     }
 
@@ -51,5 +51,5 @@ returns-clause-rise g c = λ m answers.
     let list = a.problem.now.pairs.list in
     let end : c.loop-number.number ≡ c.ends_at-number-end.result = omega (arith, c.loop-number-test.false, c.loop-number.auto.number-end) in
     c.loop-number.invariant.so_far m answers
-    ∙ ap (λ n. pos (met_below a.ends.now moved (pair_cost m (made a.change (labelling a.at.now) (site_values a.choices.now))) a.site n)
+    ∙ ap (λ n. pos (met_below a.ends.now moved (pair_cost m (labelling_made a.change (labelling a.at.now) (site_values a.choices.now))) a.site n)
     -ℤ pos (met_below a.ends.now moved (pair_cost m (labelling a.at.now)) a.site n)) (end ∙ c.ends_at-number-end.ensures)

@@ -2,7 +2,7 @@ use Rattle.std.proofs.Common.{◌≡◌, ◌≤◌, ◌*◌, pos, ◌-ℤ◌, un
 use Rattle.move_energy.specs.BySite.{met_below}
 use Rattle.cost_store.specs.Posed.{IsMeant}
 use Rattle.labellings.specs.Energies.{Instance, labelling, pair_cost}
-use Rattle.labellings.specs.Moves.{made}
+use Rattle.labellings.specs.Moves.{labelling_made}
 use Rattle.moves.specs.Building.{site_values, moves_site}
 use Rattle.moves.proofs.Changes.{met_count}
 use Rattle.moves.proofs.listed.met_rise.Given as goal
@@ -12,6 +12,6 @@ invariant-loop-number g l = record {
   small : unsigned_abs l.total ≤ 10000000 * met_count l.ends (moves_site l.change (labelling l.at) l.choices) l.site l.number;
   so_far : (m : Instance) → IsMeant g.F.Fn g.V.Fn l.problem m →
       l.total ≡ pos (met_below l.ends (moves_site l.change (labelling l.at) l.choices)
-      (pair_cost m (made l.change (labelling l.at) (site_values l.choices))) l.site l.number)
+      (pair_cost m (labelling_made l.change (labelling l.at) (site_values l.choices))) l.site l.number)
       -ℤ pos (met_below l.ends (moves_site l.change (labelling l.at) l.choices) (pair_cost m (labelling l.at)) l.site l.number);
 }

@@ -1,7 +1,7 @@
 use Rattle.std.proofs.Common.{◌≤◌, ◌+◌, ◌∙◌, length, get_or, take, sum_by, refl, arith, w64, to_z}
 use Rattle.std.proofs.lemmas.List.Sums.{sum_by_more}
 use Rattle.labellings.specs.Energies.{labelling, pair_cost}
-use Rattle.labellings.specs.Moves.{made}
+use Rattle.labellings.specs.Moves.{labelling_made}
 use Rattle.moves.specs.Building.{site_values, moves_site, moved_met}
 use Rattle.moves.proofs.Changes.{site_has, counts_few, counts_whole, rise_more, rise_all, rise_adds, rise_within, rise_fits, pairs_rise}
 use Rattle.moves.proofs.listed.smooth_rise_listed.Goals as goal
@@ -41,7 +41,7 @@ loop-index-preserved g c =
       so_far = λ m answers.
           rise_adds (to_z w64 c.loop-index.total-bits) c.moved_rise-total.result (sum_by one (take i a.sites.now)) (one site)
           c.loop-index.invariant.small c.moved_rise-total.ensures.range before own
-          ∙ rise_more (moved_met a.ends.now moved (pair_cost m (made a.change (labelling a.at.now) (site_values a.choices.now))))
+          ∙ rise_more (moved_met a.ends.now moved (pair_cost m (labelling_made a.change (labelling a.at.now) (site_values a.choices.now))))
           (moved_met a.ends.now moved (pair_cost m (labelling a.at.now))) a.sites.now i _ _ site c.loop-index-test.true refl
           (c.loop-index.invariant.so_far m answers) (c.moved_rise-total.ensures.rise m answers);
     }
@@ -53,7 +53,7 @@ returns-clause-rise g c = λ m answers.
     let list = a.problem.now.pairs.list in
     pairs_rise m a.problem.now.pairs a.ends.now a.change a.at.now a.choices.now a.sites.now _ answers.pairs_are
     c.requires.posed.pairs.each c.requires.by_site c.requires.asked.sites c.requires.changes
-    (rise_all (moved_met a.ends.now moved (pair_cost m (made a.change (labelling a.at.now) (site_values a.choices.now))))
+    (rise_all (moved_met a.ends.now moved (pair_cost m (labelling_made a.change (labelling a.at.now) (site_values a.choices.now))))
     (moved_met a.ends.now moved (pair_cost m (labelling a.at.now))) a.sites.now c.loop-index.index _ c.loop-index-test.false
     (c.loop-index.invariant.so_far m answers))
 

@@ -1,6 +1,6 @@
 use Rattle.std.proofs.Common.{◌≡◌, ◌↔◌, List, ℕ, true, sym, subst, arith}
 use Rattle.std.specs.List.{Contains}
-use Rattle.stages.specs.Looking.{marked}
+use Rattle.stages.specs.Looking.{is_marked}
 use Rattle.stages.proofs.Noting.{move_stamped}
 use Rattle.moves.proofs.Answers.{costs_free}
 use Rattle.moves.proofs.Stages.{not_taken}
@@ -8,7 +8,7 @@ use Rattle.moves.proofs.next.note_later.Goals as goal
 
 pub returns : goal.returns
 returns g c = λ f h listed taken m meant size best stamped.
-    let took = marked c.args.stage.now.taken.items in
+    let took = is_marked c.args.stage.now.taken.items in
     let free = costs_free m c.args.problem.now.label_costs meant.costs_are c.requires.free in
     let noted = c.note_sites.ensures took (λ within p l.
     subst (λ (xs : List ℕ). (took p ≡ true) ↔ Contains xs p) (sym c.deref.ensures.value)

@@ -4,7 +4,7 @@ use Rattle.labellings.specs.Energies.{labelling}
 use Rattle.labellings.specs.Moves.{IsMoveOf}
 use Rattle.pseudo_bool.specs.Energies.{assignment}
 use Rattle.compile_cut.specs.declared.quadratic.Quadratic.{Quadratic}
-use Rattle.compile_cut.specs.Quadratics.{quadratic_value, IsBounded}
+use Rattle.compile_cut.specs.Quadratics.{quadratic_value, IsQuadraticBounded}
 use Rattle.deciding.specs.Decisions.{IsSmallestLeast}
 use Rattle.moves.proofs.Answers.{cut_refusal, cut_may_come, pair_may_come, pair_refusal, taken_free, costs_costly}
 use Rattle.move_energy.specs.BySite.{AreBySite}
@@ -106,7 +106,7 @@ returns-in-Err-OutOfMemory-clause-refused g c = tt
 
 pub minimise-requires-clause-bounded : goal.minimise-requires-clause-bounded
 minimise-requires-clause-bounded g c =
-    let P : Quadratic → Type 0 = λ q. IsBounded 8388608 q in
+    let P : Quadratic → Type 0 = λ q. IsQuadraticBounded 8388608 q in
     subst P (sym c.replace-form.ensures.value) c.in-Ok.ensures.bounded
 
 pub minimise-requires-clause-few : goal.minimise-requires-clause-few

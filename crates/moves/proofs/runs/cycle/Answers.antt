@@ -3,7 +3,7 @@ use Rattle.std.specs.Prelude.{slice_get}
 use Rattle.labellings.specs.Moves.{IsMoveOf}
 use Rattle.labellings.specs.Chains.{MovesLead}
 use Rattle.cost_store.proofs.Meaning.{pairs_meant}
-use Rattle.moves.specs.Problems.{IsRefusal}
+use Rattle.moves.specs.Problems.{IsCauseOfRefusal}
 use Rattle.labellings.specs.Chains.{moves_of}
 use Rattle.moves.proofs.Answers.{run_may_come, costs_swap}
 use Rattle.moves.proofs.Running.{so_far_starts, so_far_more, moves_split, stopped_leads, ended_leads, ended_known}
@@ -26,7 +26,7 @@ returns-in-Err-clause-cycled g c = λ m meant.
     let S : ℕ → Type 0 = λ k. slice_get (moves_of c.args.moves k) place ≡ Some next in
     let here = subst S (c.labels-labels.ensures.value ∙ c.requires.fits.labels) c.move_at.ensures.at in
     let P : List ℕ → Type 0 = λ x. MovesLead m (take place moves) c.args.labelling.now.at x in
-    let Q : List ℕ → Type 0 = λ x. IsRefusal m next x c.in-Err.refusal in
+    let Q : List ℕ → Type 0 = λ x. IsCauseOfRefusal m next x c.in-Err.refusal in
     (take place moves, drop (place + 1) moves, next, moves_split moves place next here, subst P (sym refused.0) so_far.leads, subst Q (sym refused.0) refused.1)
 
 pub loop-place-preserved : goal.loop-place-preserved

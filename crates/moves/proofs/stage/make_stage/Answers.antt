@@ -6,7 +6,7 @@ use Rattle.move_energy.specs.Choices.{choice_at, value_of}
 use Rattle.cost_store.proofs.Meaning.{pairs_meant}
 use Rattle.deciding.specs.MoveValues.{move_value}
 use Rattle.closing_in.specs.Fixing.{AreLeastZeros}
-use Rattle.stages.specs.Looking.{marked, IsClosedIn}
+use Rattle.stages.specs.Looking.{is_marked, IsClosedIn}
 use Rattle.moves.proofs.Stages.{closed_ends, next_zeros}
 use Rattle.moves.proofs.stage.make_stage.Goals as goal
 
@@ -16,8 +16,8 @@ returns-in-Ok-clause-closed g c = λ m meant is changed was fresh zeros.
     let at = c.args.at.now in
     let pairs = c.args.problem.now.pairs in
     let choices = c.cut_stage.new.built.variables.choices.items in
-    let taken = marked c.end_stage.new.space.stage.taken.items in
-    let marks = marked c.args.space.now.stage.fresh.items in
+    let taken = is_marked c.end_stage.new.space.stage.taken.items in
+    let marks = is_marked c.args.space.now.stage.fresh.items in
     let C : List Bool → Type 0 = λ bits. IsClosedIn pairs (value_of choices bits) (choice_at choices) taken marks in
     let Z : List Choice → Type 0 = λ cs. AreLeastZeros m.sites (move_value m (Expand a) (labelling at)) (choice_at cs) in
     closed_ends m a at pairs choices c.in_ok-bits.bits.items taken marks changed (pairs_meant _ _ _ m c.requires.posed meant) meant.sites_are meant.pairs_are

@@ -6,14 +6,14 @@ use Rattle.moves.proofs.Entries.{smooth_keeps, below_along, smooth_along, metric
 use Rattle.moves.proofs.Telling.{bound_small}
 use Rattle.moves.proofs.tables.run_with_table.Goals as goal
 
-pub stored-requires-clause-keeps : goal.stored-requires-clause-keeps
-stored-requires-clause-keeps g c =
+pub with_metric-requires-clause-keeps : goal.with_metric-requires-clause-keeps
+with_metric-requires-clause-keeps g c =
     smooth_keeps (pos 10000) c.args.smooth.now c.labels-labels.result c.labels-labels.result
     (c.requires.smooth.0 ∙ (λ i. sym c.labels-labels.ensures.value i * sym c.labels-labels.ensures.value i))
     c.labels-labels.ensures.sizes.2 c.requires.smooth.1
 
-pub stored-requires-clause-metric : goal.stored-requires-clause-metric
-stored-requires-clause-metric g c = λ met cost entries.
+pub with_metric-requires-clause-metric : goal.with_metric-requires-clause-metric
+with_metric-requires-clause-metric g c = λ met cost entries.
     let T : ℕ → Type 0 = λ k. IsMetricTable k c.args.smooth.now in
     metric_kept c.labels-labels.result c.args.smooth.now (subst T (sym c.labels-labels.ensures.value) (c.requires.known.0 met)) cost entries
 
@@ -22,10 +22,10 @@ run_problem-requires-clause-posed g c = λ lives within.
     let A : ℕ → Type 0 = λ k. AreLabelCosts k c.args.label_costs in
     record {
       costs = c.requires.costs;
-      smooth = c.stored.ensures.keeps;
+      smooth = c.with_metric.ensures.keeps;
       pairs = c.keeps.ensures;
       data_sites = c.requires.sites.1;
-      smooth_labels = rw c.stored.ensures.stored (c.labels-labels.ensures.value ∙ sym c.requires.labels);
+      smooth_labels = rw c.with_metric.ensures.stored (c.labels-labels.ensures.value ∙ sym c.requires.labels);
       label_costs = subst A (sym c.requires.labels) c.requires.label_costs;
     }
 
@@ -36,7 +36,7 @@ pub run_problem-requires-clause-known : goal.run_problem-requires-clause-known
 run_problem-requires-clause-known g c = λ lives within.
     let labels = c.labels-labels.ensures.value in
     let T : ℕ → Type 0 = λ k. IsMetricTable k c.args.smooth.now in
-    rw c.stored.ensures.stored
+    rw c.with_metric.ensures.stored
     (λ m meant metric. c.requires.known.1 (subst T labels
     (table_metric m c.labels-labels.result c.args.data_cost.labels c.args.smooth.now c.labels-labels.ensures.sizes.1
     (c.requires.smooth.0 ∙ (λ i. sym labels i * sym labels i)) meant.labels_are (c.requires.labels ∙ sym labels) meant.smooth_are metric)))
@@ -45,7 +45,7 @@ pub returns-clause-run : goal.returns-clause-run
 returns-clause-run g c = λ m is has.
     let labels = c.labels-labels.ensures.value in
     c.run_problem.ensures.run m
-    (rw c.stored.ensures.stored (record {
+    (rw c.with_metric.ensures.stored (record {
       sites_are = is.sites_are;
       labels_are = is.labels_are ∙ sym c.requires.labels;
       pairs_are = is.pairs_are;
@@ -58,8 +58,8 @@ returns-clause-run g c = λ m is has.
 pub returns-clause-metric : goal.returns-clause-metric
 returns-clause-metric g c = λ metric m is has.
     let labels = c.labels-labels.ensures.value in
-    c.run_problem.ensures.metric (rw c.stored.ensures.stored (c.requires.known.1 metric)) m
-    (rw c.stored.ensures.stored (record {
+    c.run_problem.ensures.metric (rw c.with_metric.ensures.stored (c.requires.known.1 metric)) m
+    (rw c.with_metric.ensures.stored (record {
       sites_are = is.sites_are;
       labels_are = is.labels_are ∙ sym c.requires.labels;
       pairs_are = is.pairs_are;
@@ -73,7 +73,7 @@ pub returns-clause-over_metric : goal.returns-clause-over_metric
 returns-clause-over_metric g c = λ m is has.
     let labels = c.labels-labels.ensures.value in
     c.run_problem.ensures.over_metric m
-    (rw c.stored.ensures.stored (record {
+    (rw c.with_metric.ensures.stored (record {
       sites_are = is.sites_are;
       labels_are = is.labels_are ∙ sym c.requires.labels;
       pairs_are = is.pairs_are;

@@ -1,6 +1,6 @@
 use Rattle.std.proofs.Common.{◌≡◌}
 use Rattle.std.specs.Prelude.{slice_index}
-use Rattle.labellings.specs.Moves.{label_in}
+use Rattle.labellings.specs.Moves.{label_after}
 use Rattle.moves.specs.Building.{site_values}
 use Rattle.moves.proofs.Relabelled.{AreWritten}
 use Rattle.moves.proofs.taking.relabel_all.Given as goal
@@ -9,6 +9,6 @@ abbrev pub invariant-loop-site : goal.invariant-loop-site
 invariant-loop-site l = record {
   labels : l.labelling.labels ≡ l.fn.labelling.labels;
   written : AreWritten l.fn.labelling.at l.labelling.at
-      (λ p. label_in l.change (slice_index l.fn.labelling.at p) (site_values l.choices p))
+      (λ p. label_after l.change (slice_index l.fn.labelling.at p) (site_values l.choices p))
       l.site l.changed;
 }

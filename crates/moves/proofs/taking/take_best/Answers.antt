@@ -8,7 +8,7 @@ use Rattle.moves.proofs.Answers.{costs_free}
 use Rattle.moves.proofs.Least.{expanded_best, lower_best, kept_best, free_le, free_lt}
 use Rattle.std.specs.Prelude.{slice_index}
 use Rattle.labellings.specs.Energies.{labelling}
-use Rattle.labellings.specs.Moves.{label_in}
+use Rattle.labellings.specs.Moves.{label_after}
 use Rattle.labellings.proofs.Best.{stays-reached}
 use Rattle.moves.proofs.Relabelled.{values_reach}
 use Rattle.moves.proofs.Rising.{not_lower}
@@ -90,7 +90,7 @@ returns-else-not-lowers-clause-sizes g c = record { labels = c.relabel-in-Swap.e
 
 pub returns-in-Expand-clause-taken : goal.returns-in-Expand-clause-taken
 returns-in-Expand-clause-taken g c = λ a is p l.
-    subst (λ (move : Move). slice_index c.relabel.new.labelling.at p ≡ label_in move (slice_index c.args.field.now.at p) (site_values c.args.space.now.built.variables.choices.items p)) is
+    subst (λ (move : Move). slice_index c.relabel.new.labelling.at p ≡ label_after move (slice_index c.args.field.now.at p) (site_values c.args.space.now.built.variables.choices.items p)) is
     (c.relabel.ensures.each p l)
 
 pub returns-then-not-lowers-clause-taken : goal.returns-then-not-lowers-clause-taken

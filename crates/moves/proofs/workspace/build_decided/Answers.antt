@@ -3,7 +3,7 @@ use Rattle.std.proofs.lemmas.Result.{err_from_is_err_and}
 use Rattle.pseudo_bool.specs.Energies.{assignment}
 use Rattle.labellings.specs.Energies.{labelling}
 use Rattle.move_energy.specs.declared.choice.Choice.{Choice}
-use Rattle.move_energy.specs.Choices.{choice_at, rank}
+use Rattle.move_energy.specs.Choices.{choice_at, open_rank}
 use Rattle.cost_store.proofs.Meaning.{pairs_meant}
 use Rattle.deciding.specs.MoveValues.{move_value}
 use Rattle.closing_in.specs.Agreeing.{Agree}
@@ -31,7 +31,7 @@ returns-clause-built g c = λ m meant.
     let agree : P made.variables.choices.items =
     subst P (sym c.in_ok-build_open.ensures.kept) (decided_agree m move f (choice_at c.decide.new.space.built.variables.choices.items) pairs decided.0 decided.1) in (
       decided.0,
-      λ bits least. agreed_least m move f (choice_at made.variables.choices.items) made.form (rank made.variables.choices.items) (assignment bits) pairs decided.0 agree
+      λ bits least. agreed_least m move f (choice_at made.variables.choices.items) made.form (open_rank made.variables.choices.items) (assignment bits) pairs decided.0 agree
           (c.in_ok-build_open.ensures.stands m meant) least,
     )
 
@@ -61,7 +61,7 @@ returns-in-Some-clause-built g c = λ m meant.
     let agree = c.in_ok-build_strips.ensures.agree m meant
     (decided_agree m c.args.change (labelling c.args.at.now) (choice_at c.decide.new.space.built.variables.choices.items) pairs decided.0 decided.1) in (
       decided.0,
-      λ bits least. agreed_least m c.args.change (labelling c.args.at.now) (choice_at made.variables.choices.items) made.form (rank made.variables.choices.items)
+      λ bits least. agreed_least m c.args.change (labelling c.args.at.now) (choice_at made.variables.choices.items) made.form (open_rank made.variables.choices.items)
           (assignment bits) pairs decided.0 agree (c.in_ok-build_strips.ensures.stands m meant) least,
     )
 

@@ -1,7 +1,7 @@
 use Rattle.std.proofs.lemmas.Grind.{common_steps}
 use Rattle.std.proofs.lemmas.Result.{on_ok_weaker}
 use Rattle.std.proofs.Common.{arith, refl, ◌<◌}
-use Rattle.flow_network.specs.Preflow.{given}
+use Rattle.flow_network.specs.Preflow.{sink_flows}
 use Rattle.sink_distances.specs.Rows.{head_at, residual_at}
 use Rattle.sink_distances.proofs.Showing.{directed, place_residual}
 use Rattle.flow_network.specs.Cut.{nodes}
@@ -26,7 +26,7 @@ push_along-requires-clause-down c =
     let p = c.args.p in
     let some : 0 < residual_at old.rows p = omega (arith, c.cell-cell.ensures.residual, c.if-cell-eq0.false) in
     let fall = c.requires.work.sound.labelling.arcs v (head_at old.rows p)
-    (place_residual net old.rows (given net old.rooms.items) v p c.requires.work.shown c.requires.node c.requires.place some) in
+    (place_residual net old.rows (sink_flows net old.rooms.items) v p c.requires.work.shown c.requires.node c.requires.place some) in
     grind (arith, common_steps, fall)
 
 pub push_along-requires-clause-some : goal.push_along-requires-clause-some

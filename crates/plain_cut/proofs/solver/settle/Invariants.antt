@@ -2,7 +2,7 @@ use Rattle.std.proofs.Common.{◌≡◌, ◌+◌, ◌*◌, ◌≤◌, cond, ltb}
 use Rattle.flow_network.specs.Cut.{nodes}
 use Rattle.flow_network.specs.Progress.{top}
 use Rattle.sink_distances.specs.Distances.{AreDistances}
-use Rattle.plain_cut.specs.State.{work_flow, IsWork, left}
+use Rattle.plain_cut.specs.State.{work_flow, IsWork, work_measure}
 use Rattle.plain_cut.proofs.solver.settle.Given as goal
 
 abbrev pub invariant-rounds : goal.invariant-rounds
@@ -16,4 +16,4 @@ invariant-rounds l = record {
 
 -- a round with new labels lowers what is left; after one without the search is a full one
 abbrev pub decreases-rounds : goal.decreases-rounds
-decreases-rounds l = 2 * left l.net l.work + cond (ltb l.extent.limit (top l.net)) 1 0
+decreases-rounds l = 2 * work_measure l.net l.work + cond (ltb l.extent.limit (top l.net)) 1 0

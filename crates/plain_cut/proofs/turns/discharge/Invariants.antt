@@ -1,5 +1,5 @@
 use Rattle.std.proofs.Common.{◌≡◌, ◌≤◌, slice_index}
-use Rattle.plain_cut.specs.State.{IsSteps, left}
+use Rattle.plain_cut.specs.State.{IsSteps, work_measure}
 use Rattle.plain_cut.proofs.turns.discharge.Given as goal
 
 abbrev pub invariant-steps : goal.invariant-steps
@@ -9,4 +9,4 @@ invariant-steps l = record {
 }
 
 abbrev pub decreases-steps : goal.decreases-steps
-decreases-steps l = left l.net l.work
+decreases-steps l = work_measure l.net l.work

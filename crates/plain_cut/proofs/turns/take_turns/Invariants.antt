@@ -1,14 +1,14 @@
 use Rattle.std.proofs.Common.{◌+◌, ◌≤◌, length}
 use Rattle.flow_network.specs.Cut.{nodes}
-use Rattle.plain_cut.specs.State.{IsWork, IsQueuedBut, left}
+use Rattle.plain_cut.specs.State.{IsWork, IsQueuedBut, work_measure}
 use Rattle.plain_cut.proofs.turns.take_turns.Given as goal
 
 abbrev pub invariant-turns : goal.invariant-turns
 invariant-turns l = record {
   work : IsWork l.net l.work;
   queued : IsQueuedBut l.net l.limit (nodes l.net) l.work;
-  counted : left l.net l.work + l.work.relabels ≤ left l.net l.initial.work + l.initial.work.relabels;
+  counted : work_measure l.net l.work + l.work.relabels ≤ work_measure l.net l.initial.work + l.initial.work.relabels;
 }
 
 abbrev pub decreases-turns : goal.decreases-turns
-decreases-turns l = left l.net l.work + length l.work.queue.items
+decreases-turns l = work_measure l.net l.work + length l.work.queue.items

@@ -2,7 +2,7 @@ use Rattle.std.proofs.Common.{◌≡◌, ◌*◌, IfOk, Ok, arith, rules}
 use Rattle.toml.specs.View.{table_view}
 use Rattle.problem_files.specs.Smooths.{table_by}
 use Rattle.problem_files.proofs.LimitLemmas.{data_kept, smooth_kept}
-use Rattle.problem_files.specs.Names.{names, told}
+use Rattle.problem_files.specs.Names.{problem_of_table, problem_view}
 use Rattle.problem_files.proofs.StatedLabelLemmas.{all_stated}
 use Rattle.problem_files.proofs.labels.problem_of.Goals as goal
 
@@ -23,5 +23,5 @@ rest_of-requires-clause-costs c =
 
 pub returns-clause-stated : goal.returns-clause-stated
 returns-clause-stated c =
-    let named : IfOk c.rest_of.result (λ p. names (table_view c.args.table.now) ≡ Ok (told p)) = search rules in
+    let named : IfOk c.rest_of.result (λ p. problem_of_table (table_view c.args.table.now) ≡ Ok (problem_view p)) = search rules in
     all_stated (table_view c.args.table.now) c.rest_of.result named

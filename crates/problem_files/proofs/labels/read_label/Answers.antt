@@ -1,5 +1,5 @@
 use Rattle.std.proofs.Common.{◌≡◌, IfOk, Ok, rules}
-use Rattle.problem_files.specs.Names.{problem_in, told}
+use Rattle.problem_files.specs.Names.{problem_in, problem_view}
 use Rattle.problem_files.proofs.StatedLabelLemmas.{all_texts}
 use Rattle.problem_files.proofs.labels.read_label.Goals as goal
 
@@ -11,5 +11,5 @@ returns-in-Err-OutOfMemory-clause-text c = search rules
 
 pub returns-clause-stated : goal.returns-clause-stated
 returns-clause-stated c =
-    let named : IfOk c.problem_of.result (λ p. problem_in c.args.bytes.now ≡ Ok (told p)) = search rules in
+    let named : IfOk c.problem_of.result (λ p. problem_in c.args.bytes.now ≡ Ok (problem_view p)) = search rules in
     all_texts c.args.bytes.now c.problem_of.result named

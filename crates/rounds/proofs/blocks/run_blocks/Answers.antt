@@ -3,8 +3,8 @@ use Rattle.block_workers.specs.Workers.{turns_of}
 use Rattle.rounds.proofs.Runs.{still_mated, have_run, room_kept}
 use Rattle.rounds.proofs.blocks.run_blocks.Goals as goal
 
-pub gathered-requires-clause-mated : goal.gathered-requires-clause-mated
-gathered-requires-clause-mated g c =
+pub gather_seats-requires-clause-mated : goal.gather_seats-requires-clause-mated
+gather_seats-requires-clause-mated g c =
     let blocks = c.args.blocks in
     let some : 0 < length blocks.items = omega (arith, c.requires.some, blocks.ok.0) in
     let old = c.in_ok-seats in
@@ -15,12 +15,12 @@ returns-clause-run g c =
     let blocks = c.args.blocks in
     let some : 0 < length blocks.items = omega (arith, c.requires.some, blocks.ok.0) in
     let old = c.in_ok-seats in
-    let e = c.gathered.ensures in
+    let e = c.gather_seats.ensures in
     let all = c.in_ok-book.ensures.budget.1 in
     let some_drawn = c.in_ok-back.ensures.few in
     let few : turns_of c.in_ok-back.back.items ≤ c.args.options.now.turns = omega (arith, all, some_drawn) in
     have_run blocks.items c.args.options.now.ring old.seats.items c.in_ok-back.back.items some old.ensures.seated old.ensures.joined c.in_ok-back.ensures.worked
-    c.args.options.now.turns c.gathered.result.blocks.items c.gathered.result.rings c.requires.options.ring_least e.blocks e.count e.sent e.taken few
+    c.args.options.now.turns c.gather_seats.result.blocks.items c.gather_seats.result.rings c.requires.options.ring_least e.blocks e.count e.sent e.taken few
 
 pub returns-clause-room : goal.returns-clause-room
 returns-clause-room g c =
@@ -28,4 +28,4 @@ returns-clause-room g c =
     let some : 0 < length blocks.items = omega (arith, c.requires.some, blocks.ok.0) in
     let old = c.in_ok-seats in
     room_kept blocks.items c.args.options.now.ring old.seats.items c.in_ok-back.back.items some old.ensures.seated old.ensures.joined c.in_ok-back.ensures.worked
-    c.gathered.result.rings c.gathered.ensures.room
+    c.gather_seats.result.rings c.gather_seats.ensures.room

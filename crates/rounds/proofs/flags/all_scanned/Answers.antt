@@ -19,7 +19,7 @@ loop-b-preserved c =
       len = grind (arith, common_steps);
       each = subst (λ (r : List (List Bool)). (i : ℕ) (d : CellsView) → i < c.loop-b.b + 1 → IsScanned (length cells) (get_or cells i d) (get_or r i []))
           (sym (ap (map items) c.in_ok-push.ensures.items ∙ map_push items rows row))
-          (scans_more cells (map items rows) row.items block c.loop-b.b (length-map rows items ∙ was.len) (grind (arith, common_steps)) here c.in_ok-scanned.ensures was.each);
+          (scans_more cells (map items rows) row.items block c.loop-b.b (length-map rows items ∙ was.len) (grind (arith, common_steps)) here c.in_ok-scan_cells.ensures was.each);
     }
 
 pub returns : goal.returns

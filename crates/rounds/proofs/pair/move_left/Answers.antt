@@ -1,6 +1,6 @@
 use Rattle.std.proofs.Common.{◌≡◌, ◌+◌, length, refl, ◌∙◌, ap, arith}
 use Rattle.std.proofs.lemmas.Grind.{common_steps}
-use Rattle.block_workers.specs.Ports.{waiting}
+use Rattle.block_workers.specs.Ports.{letters_waiting}
 use Rattle.rounds.proofs.Moving.{long_more, kept_more, square_more, left_more, kept_tail, moved_all}
 use Rattle.rounds.proofs.pair.move_left.Goals as goal
 
@@ -15,7 +15,7 @@ loop-preserved c =
     let low_c = c.requires.second in
     let put = c.put.ensures.messages in
     let first = c.args.ways.now.messages in
-    let shorter : length (waiting c.loop.to) ≡ length (waiting c.take.new.self) + 1 = (let e = ap length front in omega (arith, e)) in
+    let shorter : length (letters_waiting c.loop.to) ≡ length (letters_waiting c.take.new.self) + 1 = (let e = ap length front in omega (arith, e)) in
     let longer = long_more first old new c.args.b c.args.c m was.square low_b low_c put in
     record {
       kept = kept_more first old new c.args.b c.args.c m was.square low_b low_c put was.kept;
@@ -35,5 +35,5 @@ returns-clause-messages c =
     let rest = was.rest in
     let count = c.see_left-count.ensures.count in
     let done = c.loop-test.false in
-    let none : length (waiting c.loop.to) ≡ 0 = omega (arith, rest, count, done) in
-    moved_all c.args.ways.now.messages c.loop.ways.messages c.args.b c.args.c (waiting c.loop.to) (waiting c.see_left-count.new.to) _ _ was.kept was.left none c.see_left-count.ensures.left
+    let none : length (letters_waiting c.loop.to) ≡ 0 = omega (arith, rest, count, done) in
+    moved_all c.args.ways.now.messages c.loop.ways.messages c.args.b c.args.c (letters_waiting c.loop.to) (letters_waiting c.see_left-count.new.to) _ _ was.kept was.left none c.see_left-count.ensures.left

@@ -1,6 +1,6 @@
 use Rattle.std.proofs.Common.{arith, ◌∙◌}
-use Rattle.flow_network.specs.Preflow.{Flow, flow_by, given}
-use Rattle.sink_distances.specs.Rows.{carried}
+use Rattle.flow_network.specs.Preflow.{Flow, flow_by, sink_flows}
+use Rattle.sink_distances.specs.Rows.{carried_flow}
 use Rattle.sink_distances.proofs.Nearing.{rooms-small, raised_labelling, raised_low, raised_near, raised_exact, AreRaisedTo}
 use Rattle.sink_distances.proofs.near.raise_labels.Goals as goal
 
@@ -10,7 +10,7 @@ search_near-extent-requires-clause-small c = rooms-small c.args.net.now c.args.r
 pub returns : goal.returns
 returns c =
     let net = c.args.net.now in
-    let flow : Flow = flow_by (carried c.args.rows.now) (given net c.args.rooms.now) in
+    let flow : Flow = flow_by (carried_flow c.args.rows.now) (sink_flows net c.args.rooms.now) in
     let h = c.search_near-extent.ensures.limits in
     let old = c.args.labels.now in
     let new = c.raise_to.new.labels in

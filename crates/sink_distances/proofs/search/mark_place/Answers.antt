@@ -1,5 +1,5 @@
 use Rattle.std.proofs.Common.{◌≡◌, subst, sym, arith}
-use Rattle.sink_distances.specs.Rows.{head_at, carried}
+use Rattle.sink_distances.specs.Rows.{head_at, carried_flow}
 use Rattle.sink_distances.specs.Search.{found_of, IsBefore}
 use Rattle.sink_distances.proofs.Showing.{directed, place_before}
 use Rattle.sink_distances.proofs.Seeing.{grows_for}
@@ -25,6 +25,6 @@ returns-then-back-gt0-clause-grows c =
     let w = c.args.w in
     let same = c.cell.ensures.head in
     let before = place_before net rows w c.args.p c.requires.rows c.requires.node c.requires.place (omega (arith, c.if-back-gt0.true, c.back.ensures)) in
-    grows_for c.args.label (λ u. u ≡ c.cell.result.head) (IsBefore net (carried rows) w) (found_of c.args.labels.now c.args.order.now c.args.count)
+    grows_for c.args.label (λ u. u ≡ c.cell.result.head) (IsBefore net (carried_flow rows) w) (found_of c.args.labels.now c.args.order.now c.args.count)
     (found_of c.mark.new.labels c.mark.new.order c.mark.result)
-    (λ v e. subst (IsBefore net (carried rows) w) (sym (let x : v ≡ head_at rows c.args.p = omega (arith, e, same) in x)) before) c.mark.ensures.grows
+    (λ v e. subst (IsBefore net (carried_flow rows) w) (sym (let x : v ≡ head_at rows c.args.p = omega (arith, e, same) in x)) before) c.mark.ensures.grows

@@ -1,4 +1,4 @@
-use Rattle.flow_network.specs.Preflow.{Flow, flow_by, given}
+use Rattle.flow_network.specs.Preflow.{Flow, flow_by, sink_flows}
 use Rattle.sink_distances.specs.Search.{found_of}
 use Rattle.sink_distances.proofs.Searching.{searched_begins, searched_more, searched_exact}
 use Rattle.sink_distances.proofs.search.write_distances.Goals as goal
@@ -10,7 +10,7 @@ search-init c =
 
 pub search-preserved : goal.search-preserved
 search-preserved c =
-    let flow : Flow = flow_by c.args.arc_flow.now (given c.args.net.now c.args.rooms.now) in
+    let flow : Flow = flow_by c.args.arc_flow.now (sink_flows c.args.net.now c.args.rooms.now) in
     let s = found_of c.search.labels c.search.order c.search.count in
     let t = found_of c.mark_before-count.new.labels c.mark_before-count.new.order c.mark_before-count.result in
     searched_more c.args.net.now flow c.search.next s t c.search.invariant c.search-test.true
@@ -18,6 +18,6 @@ search-preserved c =
 
 pub returns : goal.returns
 returns c =
-    let flow : Flow = flow_by c.args.arc_flow.now (given c.args.net.now c.args.rooms.now) in
+    let flow : Flow = flow_by c.args.arc_flow.now (sink_flows c.args.net.now c.args.rooms.now) in
     searched_exact c.args.net.now flow c.search.next (found_of c.search.labels c.search.order c.search.count)
     (rw c.of-outline.ensures at c.mark_starts-count.ensures.limits) c.search.invariant c.search-test.false

@@ -1,17 +1,17 @@
-use Rattle.flow_network.specs.Preflow.{Flow, flow_by, given}
-use Rattle.sink_distances.specs.Rows.{carried}
+use Rattle.flow_network.specs.Preflow.{Flow, flow_by, sink_flows}
+use Rattle.sink_distances.specs.Rows.{carried_flow}
 use Rattle.sink_distances.specs.Search.{found_of}
 use Rattle.sink_distances.proofs.Searching.{searched_begins, searched_more, searched_exact}
 use Rattle.sink_distances.proofs.search.write_row_distances.Goals as goal
 
 pub levels-init : goal.levels-init
 levels-init c =
-    searched_begins c.args.net.now (carried c.args.rows.now) c.args.rooms.now (found_of c.mark_starts-count.new.labels c.mark_starts-count.new.order c.mark_starts-count.result)
+    searched_begins c.args.net.now (carried_flow c.args.rows.now) c.args.rooms.now (found_of c.mark_starts-count.new.labels c.mark_starts-count.new.order c.mark_starts-count.result)
     c.mark_starts-count.ensures.limits c.requires.rooms c.mark_starts-count.ensures.starts
 
 pub levels-preserved : goal.levels-preserved
 levels-preserved c =
-    let flow : Flow = flow_by (carried c.args.rows.now) (given c.args.net.now c.args.rooms.now) in
+    let flow : Flow = flow_by (carried_flow c.args.rows.now) (sink_flows c.args.net.now c.args.rooms.now) in
     let s = found_of c.levels.labels c.levels.order c.levels.count in
     let t = found_of c.mark_behind-count.new.labels c.mark_behind-count.new.order c.mark_behind-count.result in
     searched_more c.args.net.now flow c.levels.next s t c.levels.invariant c.levels-test.true
@@ -19,6 +19,6 @@ levels-preserved c =
 
 pub returns : goal.returns
 returns c =
-    let flow : Flow = flow_by (carried c.args.rows.now) (given c.args.net.now c.args.rooms.now) in
+    let flow : Flow = flow_by (carried_flow c.args.rows.now) (sink_flows c.args.net.now c.args.rooms.now) in
     searched_exact c.args.net.now flow c.levels.next (found_of c.levels.labels c.levels.order c.levels.count)
     c.mark_starts-count.ensures.limits c.levels.invariant c.levels-test.false

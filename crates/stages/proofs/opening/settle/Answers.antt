@@ -14,8 +14,8 @@ index_mut-requires c =
 
 pub loop-index-preserved : goal.loop-index-preserved
 loop-index-preserved c =
-    values_more c.args.choices.now.items c.args.bits.now c.args.opened.now c.loop-index.choices.items _ c.loop-index.index _ _ c.shown.result
-    c.requires.listed c.loop-index-test.true refl refl c.shown.ensures refl c.loop-index.invariant
+    values_more c.args.choices.now.items c.args.bits.now c.args.opened.now c.loop-index.choices.items _ c.loop-index.index _ _ c.choice_of.result
+    c.requires.listed c.loop-index-test.true refl refl c.choice_of.ensures refl c.loop-index.invariant
 
 pub returns : goal.returns
 returns c =

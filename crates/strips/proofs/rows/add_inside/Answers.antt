@@ -2,11 +2,11 @@ use Rattle.std.proofs.Common.{◌≡◌, ◌<◌, ◌∙◌, Bool, true, false, 
 use Rattle.std.proofs.lemmas.Int.{ints}
 use Rattle.std.proofs.lemmas.Result.{on_ok_weaker}
 use Rattle.label_field.specs.declared.pair.Pair.{Pair}
-use Rattle.sums.specs.Sums.{counted}
+use Rattle.sums.specs.Sums.{count_if}
 use Rattle.move_energy.specs.BySite.{is_counted, pair_beside}
 use Rattle.move_energy.specs.Built.{AddsCost}
-use Rattle.move_energy.specs.Choices.{choice_at, open_at, rank}
-use Rattle.move_energy.specs.Weights.{are_open, unsaved}
+use Rattle.move_energy.specs.Choices.{choice_at, open_at, open_rank}
+use Rattle.move_energy.specs.Weights.{are_open, unsaved_surplus}
 use Rattle.move_energy.proofs.Numbers.{rank_below}
 use Rattle.move_energy.proofs.Adding.{counted_adds, uncounted_adds}
 use Rattle.move_energy.proofs.Weighed.{surplus_counted, surplus_adds, surplus_none, surplus_passed, first_open, second_open}
@@ -26,7 +26,7 @@ returns-then-not-is_inside-clause-adds g c = λ m move f gives over.
     let a = c.args in
     let v = strip_view a.known.now a.from a.to in
     let shuts : open_at v a.head ≡ false = sym (inside_is a.known.now a.from a.to a.head) ∙ sym c.is_inside.ensures ∙ c.if-not-is_inside.true in
-    nothing_adds m move f (choice_at v) (rank v) a.form.now (pair_beside a.ends.now a.site a.place)
+    nothing_adds m move f (choice_at v) (open_rank v) a.form.now (pair_beside a.ends.now a.site a.place)
     (is_counted (open_at v) a.site (pair_beside a.ends.now a.site a.place)) (shut_beside (choice_at v) a.ends.now a.site a.place a.head c.requires.head.0 shuts)
 
 pub returns-then-pair-site-clause-adds : goal.returns-then-pair-site-clause-adds
@@ -38,7 +38,7 @@ returns-then-pair-site-clause-adds g c = λ m move f gives over.
     let opened_head : open_at v a.head ≡ true = sym (inside_is a.known.now a.from a.to a.head) ∙ sym c.is_inside.ensures ∙ c.if-not-is_inside.false in
     let both : are_open (choice_at v) pair ≡ true = open_beside (choice_at v) a.ends.now a.site a.place a.head pair is c.requires.head.0 c.requires.site.1 opened_head in
     let b : Bool = is_counted (open_at v) a.site (pair_beside a.ends.now a.site a.place) in
-    uncounted_adds a.form.now (λ x. unsaved m move f (choice_at v) (rank v) x (pair_beside a.ends.now a.site a.place)) b
+    uncounted_adds a.form.now (λ x. unsaved_surplus m move f (choice_at v) (open_rank v) x (pair_beside a.ends.now a.site a.place)) b
     (ap (is_counted (open_at v) a.site) (sym is) ∙ uncounted_second (choice_at v) a.site pair c.if-pair-site.true both)
 
 pub returns-then-surplus-le0-clause-adds : goal.returns-then-surplus-le0-clause-adds
@@ -54,10 +54,10 @@ returns-then-surplus-le0-clause-adds g c = λ m move f gives over.
     let worth = surplus_counted m move f pair (are_open (choice_at v) pair) c.savings-surplus.result both regular (gives _ _ c.savings-surplus.ensures) in
     let counts : is_counted (open_at v) a.site pair ≡ true = counted_first (choice_at v) a.site pair c.if-pair-site.false in
     let none : c.savings-surplus.result ≤ℤ pos 0 = omega (arith, ints, (c.requires.small _ _ c.savings-surplus.ensures)) in
-    let P : Pair → Type 0 = λ p. AddsCost a.form.now a.form.now (λ x. counted (is_counted (open_at v) a.site p) (unsaved m move f (choice_at v) (rank v) x p)) in
+    let P : Pair → Type 0 = λ p. AddsCost a.form.now a.form.now (λ x. count_if (is_counted (open_at v) a.site p) (unsaved_surplus m move f (choice_at v) (open_rank v) x p)) in
     subst P is
-    (counted_adds a.form.now a.form.now (λ x. unsaved m move f (choice_at v) (rank v) x pair) (is_counted (open_at v) a.site pair) counts
-    (surplus_none m move f (choice_at v) (rank v) a.form.now pair c.savings-surplus.result worth none))
+    (counted_adds a.form.now a.form.now (λ x. unsaved_surplus m move f (choice_at v) (open_rank v) x pair) (is_counted (open_at v) a.site pair) counts
+    (surplus_none m move f (choice_at v) (open_rank v) a.form.now pair c.savings-surplus.result worth none))
 
 pub bounds-numbers-pair-2 : goal.bounds-numbers-pair-2
 bounds-numbers-pair-2 g c =
@@ -108,9 +108,9 @@ returns-clause-adds g c = λ m move f gives over.
     let first = c.requires.numbering.each pair.first first_within (first_open (choice_at v) pair both) in
     let second = c.requires.numbering.each pair.second second_within (second_open (choice_at v) pair both) in
     let size = ap unsigned_abs (surplus_passed c.savings-surplus.result (c.requires.small _ _ c.savings-surplus.ensures)) in
-    let P : Pair → Type 0 = λ p. AddsCost a.form.now c.add_saving.new.form (λ x. counted (is_counted (open_at v) a.site p) (unsaved m move f (choice_at v) (rank v) x p)) in
+    let P : Pair → Type 0 = λ p. AddsCost a.form.now c.add_saving.new.form (λ x. count_if (is_counted (open_at v) a.site p) (unsaved_surplus m move f (choice_at v) (open_rank v) x p)) in
     on_ok_weaker c.add_saving.result (λ adds.
     subst P is
-    (counted_adds a.form.now c.add_saving.new.form (λ x. unsaved m move f (choice_at v) (rank v) x pair) (is_counted (open_at v) a.site pair) counts
-    (surplus_adds m move f (choice_at v) (rank v) a.form.now c.add_saving.new.form pair _ _ _ c.savings-surplus.result
+    (counted_adds a.form.now c.add_saving.new.form (λ x. unsaved_surplus m move f (choice_at v) (open_rank v) x pair) (is_counted (open_at v) a.site pair) counts
+    (surplus_adds m move f (choice_at v) (open_rank v) a.form.now c.add_saving.new.form pair _ _ _ c.savings-surplus.result
     first second both worth size adds))) c.add_saving.ensures.adds

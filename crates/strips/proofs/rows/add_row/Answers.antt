@@ -1,8 +1,8 @@
 use Rattle.std.proofs.Common.{◌≡◌, ◌<◌, ◌≤◌, ◌+◌, ◌-◌, ◌∙◌, ℕ, Bool, arith, w64, to_z}
 use Rattle.label_field.specs.declared.pair.Pair.{Pair}
-use Rattle.move_energy.specs.BySite.{degree, start_at}
-use Rattle.move_energy.specs.Choices.{choice_at, open_at, rank}
-use Rattle.move_energy.specs.Weights.{unsaved}
+use Rattle.move_energy.specs.BySite.{degree, neighbours_start}
+use Rattle.move_energy.specs.Choices.{choice_at, open_at, open_rank}
+use Rattle.move_energy.specs.Weights.{unsaved_surplus}
 use Rattle.move_energy.proofs.Parts.{start_read, starts_rise, head_read}
 use Rattle.move_energy.proofs.Adding.{met_room}
 use Rattle.deciding.proofs.Left.{degree_most}
@@ -20,8 +20,8 @@ is_one-one-requires g c =
     let inside : a.site < a.pairs.now.sites = omega (arith, c.requires.site.0) in
     let start = start_read a.pairs.now a.ends.now a.site _ c.requires.by_site (omega (arith, inside)) c.index-place.ensures in
     let end = start_read a.pairs.now a.ends.now (a.site + 1) _ c.requires.by_site (omega (arith, inside)) c.index-place-end.ensures in
-    let from : start_at a.ends.now a.site ≤ p = omega (arith, start, c.loop-place.auto.place) in
-    let to : p < start_at a.ends.now (a.site + 1) = omega (arith, end, c.loop-place-test.true) in
+    let from : neighbours_start a.ends.now a.site ≤ p = omega (arith, start, c.loop-place.auto.place) in
+    let to : p < neighbours_start a.ends.now (a.site + 1) = omega (arith, end, c.loop-place-test.true) in
     let head = head_read a.pairs.now a.ends.now a.site p _ c.requires.by_site inside to c.index-head.ensures in
     let within = head_inside a.pairs.now a.ends.now a.site p c.requires.pairs.each c.requires.by_site inside from to in
     (omega (arith, head, within, c.requires.sizes.0), omega (arith, head, within, c.requires.sizes.1))
@@ -33,8 +33,8 @@ is_beyond-past-requires g c =
     let inside : a.site < a.pairs.now.sites = omega (arith, c.requires.site.0) in
     let start = start_read a.pairs.now a.ends.now a.site _ c.requires.by_site (omega (arith, inside)) c.index-place.ensures in
     let end = start_read a.pairs.now a.ends.now (a.site + 1) _ c.requires.by_site (omega (arith, inside)) c.index-place-end.ensures in
-    let from : start_at a.ends.now a.site ≤ p = omega (arith, start, c.loop-place.auto.place) in
-    let to : p < start_at a.ends.now (a.site + 1) = omega (arith, end, c.loop-place-test.true) in
+    let from : neighbours_start a.ends.now a.site ≤ p = omega (arith, start, c.loop-place.auto.place) in
+    let to : p < neighbours_start a.ends.now (a.site + 1) = omega (arith, end, c.loop-place-test.true) in
     let head = head_read a.pairs.now a.ends.now a.site p _ c.requires.by_site inside to c.index-head.ensures in
     let within = head_inside a.pairs.now a.ends.now a.site p c.requires.pairs.each c.requires.by_site inside from to in
     omega (arith, head, within, c.requires.sizes.1)
@@ -55,8 +55,8 @@ add_inside-requires-clause-head g c =
     let inside : a.site < a.pairs.now.sites = omega (arith, c.requires.site.0) in
     let start = start_read a.pairs.now a.ends.now a.site _ c.requires.by_site (omega (arith, inside)) c.index-place.ensures in
     let end = start_read a.pairs.now a.ends.now (a.site + 1) _ c.requires.by_site (omega (arith, inside)) c.index-place-end.ensures in
-    let from : start_at a.ends.now a.site ≤ p = omega (arith, start, c.loop-place.auto.place) in
-    let to : p < start_at a.ends.now (a.site + 1) = omega (arith, end, c.loop-place-test.true) in
+    let from : neighbours_start a.ends.now a.site ≤ p = omega (arith, start, c.loop-place.auto.place) in
+    let to : p < neighbours_start a.ends.now (a.site + 1) = omega (arith, end, c.loop-place-test.true) in
     let head = head_read a.pairs.now a.ends.now a.site p _ c.requires.by_site inside to c.index-head.ensures in
     let within = head_inside a.pairs.now a.ends.now a.site p c.requires.pairs.each c.requires.by_site inside from to in
     (head, omega (arith, head, within))
@@ -68,9 +68,9 @@ add_inside-requires-clause-bounded g c =
     let inside : a.site < a.pairs.now.sites = omega (arith, c.requires.site.0) in
     let start = start_read a.pairs.now a.ends.now a.site _ c.requires.by_site (omega (arith, inside)) c.index-place.ensures in
     let end = start_read a.pairs.now a.ends.now (a.site + 1) _ c.requires.by_site (omega (arith, inside)) c.index-place-end.ensures in
-    let from : start_at a.ends.now a.site ≤ p = omega (arith, start, c.loop-place.auto.place) in
-    let to : p < start_at a.ends.now (a.site + 1) = omega (arith, end, c.loop-place-test.true) in
-    met_room a.ends.now (open_at (strip_view a.known.now a.from a.to)) a.site (p - start_at a.ends.now a.site) a.form.now c.loop-place.form
+    let from : neighbours_start a.ends.now a.site ≤ p = omega (arith, start, c.loop-place.auto.place) in
+    let to : p < neighbours_start a.ends.now (a.site + 1) = omega (arith, end, c.loop-place-test.true) in
+    met_room a.ends.now (open_at (strip_view a.known.now a.from a.to)) a.site (p - neighbours_start a.ends.now a.site) a.form.now c.loop-place.form
     (omega (arith, from, to)) c.requires.met c.requires.bounded c.loop-place.invariant.longer
 
 pub loop-place-init : goal.loop-place-init
@@ -86,7 +86,7 @@ loop-place-init g c =
       beyond = λ m move f gives over. border_none m move f (choice_at a.known.now) (range_of a.from a.to) a.ends.now a.site _ start;
       longer = row_none a.ends.now (open_at v) a.site _ a.form.now start;
       adds = λ m move f gives over.
-          nothing_adds_yet a.ends.now (open_at v) (unsaved m move f (choice_at v) (rank v)) a.site _ a.form.now start;
+          nothing_adds_yet a.ends.now (open_at v) (unsaved_surplus m move f (choice_at v) (open_rank v)) a.site _ a.form.now start;
     }
 
 pub loop-place-preserved : goal.loop-place-preserved
@@ -96,20 +96,20 @@ loop-place-preserved g c =
     let inside : a.site < a.pairs.now.sites = omega (arith, c.requires.site.0) in
     let start = start_read a.pairs.now a.ends.now a.site _ c.requires.by_site (omega (arith, inside)) c.index-place.ensures in
     let end = start_read a.pairs.now a.ends.now (a.site + 1) _ c.requires.by_site (omega (arith, inside)) c.index-place-end.ensures in
-    let from : start_at a.ends.now a.site ≤ p = omega (arith, start, c.loop-place.auto.place) in
-    let to : p < start_at a.ends.now (a.site + 1) = omega (arith, end, c.loop-place-test.true) in
-    let few : p - start_at a.ends.now a.site ≤ 4294967296 =
+    let from : neighbours_start a.ends.now a.site ≤ p = omega (arith, start, c.loop-place.auto.place) in
+    let to : p < neighbours_start a.ends.now (a.site + 1) = omega (arith, end, c.loop-place-test.true) in
+    let few : p - neighbours_start a.ends.now a.site ≤ 4294967296 =
     omega (arith, degree_most a.pairs.now a.ends.now a.site c.requires.by_site inside, from, to, c.requires.pairs.count) in
     let head = head_read a.pairs.now a.ends.now a.site p _ c.requires.by_site inside to c.index-head.ensures in
     let i = c.loop-place.invariant in
     let v = strip_view a.known.now a.from a.to in
     let one = c.counted_surplus-ones in
     let past = c.counted_surplus-beyond in
-    let ones_is = total_is (to_z w64 c.loop-place.ones-bits) one.result (p - start_at a.ends.now a.site) i.ones_small one.ensures.range few in
-    let past_is = total_is (to_z w64 c.loop-place.beyond-bits) past.result (p - start_at a.ends.now a.site) i.beyond_small past.ensures.range few in
+    let ones_is = total_is (to_z w64 c.loop-place.ones-bits) one.result (p - neighbours_start a.ends.now a.site) i.ones_small one.ensures.range few in
+    let past_is = total_is (to_z w64 c.loop-place.beyond-bits) past.result (p - neighbours_start a.ends.now a.site) i.beyond_small past.ensures.range few in
     record {
-      ones_small = border_small (to_z w64 c.loop-place.ones-bits) one.result _ (start_at a.ends.now a.site) p from i.ones_small one.ensures.range ones_is;
-      beyond_small = border_small (to_z w64 c.loop-place.beyond-bits) past.result _ (start_at a.ends.now a.site) p from i.beyond_small past.ensures.range past_is;
+      ones_small = border_small (to_z w64 c.loop-place.ones-bits) one.result _ (neighbours_start a.ends.now a.site) p from i.ones_small one.ensures.range ones_is;
+      beyond_small = border_small (to_z w64 c.loop-place.beyond-bits) past.result _ (neighbours_start a.ends.now a.site) p from i.beyond_small past.ensures.range past_is;
       ones = λ m move f gives over.
           border_more m move f (choice_at a.start.now) (not_ones (choice_at a.known.now))
           a.pairs.now a.ends.now a.site p _ c.is_one-one.result (to_z w64 c.loop-place.ones-bits) one.result _
@@ -120,7 +120,7 @@ loop-place-preserved g c =
           c.requires.pairs.each c.requires.by_site inside from to head c.is_beyond-past.ensures past_is (i.beyond m move f gives over) (past.ensures.value m move f gives over);
       longer = row_longer a.ends.now (open_at v) a.site p a.form.now c.loop-place.form c.add_inside.new.form from i.longer c.in_ok-add_inside.ensures.longer;
       adds = λ m move f gives over.
-          row_adds a.ends.now (open_at v) (λ (x : ℕ → Bool) (pair : Pair). unsaved m move f (choice_at v) (rank v) x pair) a.site p
+          row_adds a.ends.now (open_at v) (λ (x : ℕ → Bool) (pair : Pair). unsaved_surplus m move f (choice_at v) (open_rank v) x pair) a.site p
           a.form.now c.loop-place.form c.add_inside.new.form from (i.adds m move f gives over) (c.in_ok-add_inside.ensures.adds m move f gives over);
     }
 
@@ -131,7 +131,7 @@ returns-clause-ones g c =
     let inside : a.site < a.pairs.now.sites = omega (arith, c.requires.site.0) in
     let start = start_read a.pairs.now a.ends.now a.site _ c.requires.by_site (omega (arith, inside)) c.index-place.ensures in
     let end = start_read a.pairs.now a.ends.now (a.site + 1) _ c.requires.by_site (omega (arith, inside)) c.index-place-end.ensures in
-    let last : c.loop-place.place - start_at a.ends.now a.site ≡ degree a.ends.now a.site =
+    let last : c.loop-place.place - neighbours_start a.ends.now a.site ≡ degree a.ends.now a.site =
     omega (arith, start, end, starts_rise a.pairs.now a.ends.now a.site c.requires.by_site inside, c.loop-place.auto.place-end, c.loop-place-test.false) in
     total_all m move f (choice_at a.start.now) (not_ones (choice_at a.known.now)) a.pairs.now a.ends.now a.site _ _
     over.pairs_are over.sites_are c.requires.pairs c.requires.by_site inside last (c.loop-place.invariant.ones m move f gives over)
@@ -143,7 +143,7 @@ returns-clause-beyond g c =
     let inside : a.site < a.pairs.now.sites = omega (arith, c.requires.site.0) in
     let start = start_read a.pairs.now a.ends.now a.site _ c.requires.by_site (omega (arith, inside)) c.index-place.ensures in
     let end = start_read a.pairs.now a.ends.now (a.site + 1) _ c.requires.by_site (omega (arith, inside)) c.index-place-end.ensures in
-    let last : c.loop-place.place - start_at a.ends.now a.site ≡ degree a.ends.now a.site =
+    let last : c.loop-place.place - neighbours_start a.ends.now a.site ≡ degree a.ends.now a.site =
     omega (arith, start, end, starts_rise a.pairs.now a.ends.now a.site c.requires.by_site inside, c.loop-place.auto.place-end, c.loop-place-test.false) in
     total_all m move f (choice_at a.known.now) (range_of a.from a.to) a.pairs.now a.ends.now a.site _ _
     over.pairs_are over.sites_are c.requires.pairs c.requires.by_site inside last (c.loop-place.invariant.beyond m move f gives over)
@@ -154,7 +154,7 @@ returns-clause-range g c =
     let inside : a.site < a.pairs.now.sites = omega (arith, c.requires.site.0) in
     let start = start_read a.pairs.now a.ends.now a.site _ c.requires.by_site (omega (arith, inside)) c.index-place.ensures in
     let end = start_read a.pairs.now a.ends.now (a.site + 1) _ c.requires.by_site (omega (arith, inside)) c.index-place-end.ensures in
-    let last : c.loop-place.place - start_at a.ends.now a.site ≡ degree a.ends.now a.site =
+    let last : c.loop-place.place - neighbours_start a.ends.now a.site ≡ degree a.ends.now a.site =
     omega (arith, start, end, starts_rise a.pairs.now a.ends.now a.site c.requires.by_site inside, c.loop-place.auto.place-end, c.loop-place-test.false) in
     (omega (arith, last, c.loop-place.invariant.ones_small), omega (arith, last, c.loop-place.invariant.beyond_small))
 
@@ -164,7 +164,7 @@ returns-clause-longer g c =
     let inside : a.site < a.pairs.now.sites = omega (arith, c.requires.site.0) in
     let start = start_read a.pairs.now a.ends.now a.site _ c.requires.by_site (omega (arith, inside)) c.index-place.ensures in
     let end = start_read a.pairs.now a.ends.now (a.site + 1) _ c.requires.by_site (omega (arith, inside)) c.index-place-end.ensures in
-    let last : c.loop-place.place - start_at a.ends.now a.site ≡ degree a.ends.now a.site =
+    let last : c.loop-place.place - neighbours_start a.ends.now a.site ≡ degree a.ends.now a.site =
     omega (arith, start, end, starts_rise a.pairs.now a.ends.now a.site c.requires.by_site inside, c.loop-place.auto.place-end, c.loop-place-test.false) in
     row_longer_all a.ends.now (open_at (strip_view a.known.now a.from a.to)) a.site _ a.form.now c.loop-place.form last c.loop-place.invariant.longer
 
@@ -175,8 +175,8 @@ returns-clause-adds g c =
     let inside : a.site < a.pairs.now.sites = omega (arith, c.requires.site.0) in
     let start = start_read a.pairs.now a.ends.now a.site _ c.requires.by_site (omega (arith, inside)) c.index-place.ensures in
     let end = start_read a.pairs.now a.ends.now (a.site + 1) _ c.requires.by_site (omega (arith, inside)) c.index-place-end.ensures in
-    let last : c.loop-place.place - start_at a.ends.now a.site ≡ degree a.ends.now a.site =
+    let last : c.loop-place.place - neighbours_start a.ends.now a.site ≡ degree a.ends.now a.site =
     omega (arith, start, end, starts_rise a.pairs.now a.ends.now a.site c.requires.by_site inside, c.loop-place.auto.place-end, c.loop-place-test.false) in
     let v = strip_view a.known.now a.from a.to in
-    row_adds_all a.ends.now (open_at v) (λ (x : ℕ → Bool) (pair : Pair). unsaved m move f (choice_at v) (rank v) x pair) a.site _
+    row_adds_all a.ends.now (open_at v) (λ (x : ℕ → Bool) (pair : Pair). unsaved_surplus m move f (choice_at v) (open_rank v) x pair) a.site _
     a.form.now c.loop-place.form last (c.loop-place.invariant.adds m move f gives over)

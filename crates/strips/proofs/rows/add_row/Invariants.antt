@@ -2,10 +2,10 @@ use Rattle.std.proofs.Common.{◌≡◌, ◌-◌, ◌*◌, ◌≤◌, pos, unsig
 use Rattle.sums.specs.Sums.{sum_below}
 use Rattle.labellings.specs.declared.change.Move.{Move}
 use Rattle.labellings.specs.Energies.{Instance}
-use Rattle.move_energy.specs.BySite.{pair_of, start_at, met_below}
+use Rattle.move_energy.specs.BySite.{pair_of, neighbours_start, met_below}
 use Rattle.move_energy.specs.Built.{AddsCost, IsLonger}
-use Rattle.move_energy.specs.Choices.{choice_at, open_at, rank}
-use Rattle.move_energy.specs.Weights.{unsaved}
+use Rattle.move_energy.specs.Choices.{choice_at, open_at, open_rank}
+use Rattle.move_energy.specs.Weights.{unsaved_surplus}
 use Rattle.closing_in.specs.Borders.{not_ones, range_of, pair_border}
 use Rattle.strips.specs.Building.{GivesSurpluses, IsMoveOver}
 use Rattle.strips.specs.Views.{strip_view}
@@ -13,16 +13,16 @@ use Rattle.strips.proofs.rows.add_row.Given as goal
 
 abbrev pub invariant-loop-place : goal.invariant-loop-place
 invariant-loop-place g l = record {
-  ones_small : unsigned_abs l.ones ≤ 20000000 * (l.place - start_at l.ends l.site);
-  beyond_small : unsigned_abs l.beyond ≤ 20000000 * (l.place - start_at l.ends l.site);
+  ones_small : unsigned_abs l.ones ≤ 20000000 * (l.place - neighbours_start l.ends l.site);
+  beyond_small : unsigned_abs l.beyond ≤ 20000000 * (l.place - neighbours_start l.ends l.site);
   ones : (m : Instance) (move : Move) (f : ℕ → ℕ) → GivesSurpluses (goal.S-post g l.savings) m move f → IsMoveOver l.pairs m move f
-      → l.ones ≡ pos (sum_below (l.place - start_at l.ends l.site) (λ i. pair_border m move f (choice_at l.start)
+      → l.ones ≡ pos (sum_below (l.place - neighbours_start l.ends l.site) (λ i. pair_border m move f (choice_at l.start)
       (not_ones (choice_at l.known)) l.site (pair_of l.ends l.site i)));
   beyond : (m : Instance) (move : Move) (f : ℕ → ℕ) → GivesSurpluses (goal.S-post g l.savings) m move f → IsMoveOver l.pairs m move f
-      → l.beyond ≡ pos (sum_below (l.place - start_at l.ends l.site) (λ i. pair_border m move f
+      → l.beyond ≡ pos (sum_below (l.place - neighbours_start l.ends l.site) (λ i. pair_border m move f
       (choice_at l.known) (range_of l.from l.to) l.site (pair_of l.ends l.site i)));
-  longer : IsLonger (met_below l.ends (open_at (strip_view l.known l.from l.to)) (λ pair. 1) l.site (l.place - start_at l.ends l.site)) l.fn.form l.form;
+  longer : IsLonger (met_below l.ends (open_at (strip_view l.known l.from l.to)) (λ pair. 1) l.site (l.place - neighbours_start l.ends l.site)) l.fn.form l.form;
   adds : (m : Instance) (move : Move) (f : ℕ → ℕ) → GivesSurpluses (goal.S-post g l.savings) m move f → IsMoveOver l.pairs m move f
       → AddsCost l.fn.form l.form (λ x. met_below l.ends (open_at (strip_view l.known l.from l.to))
-      (unsaved m move f (choice_at (strip_view l.known l.from l.to)) (rank (strip_view l.known l.from l.to)) x) l.site (l.place - start_at l.ends l.site));
+      (unsaved_surplus m move f (choice_at (strip_view l.known l.from l.to)) (open_rank (strip_view l.known l.from l.to)) x) l.site (l.place - neighbours_start l.ends l.site));
 }

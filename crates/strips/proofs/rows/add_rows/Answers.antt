@@ -2,8 +2,8 @@ use Rattle.std.proofs.Common.{◌<◌, ◌≤◌, ◌-ℤ◌, ◌∙◌, ℕ, �
 use Rattle.std.proofs.lemmas.Grind.{common_steps}
 use Rattle.compile_cut.specs.Weights.{weights_size}
 use Rattle.move_energy.specs.BySite.{degree, met_at}
-use Rattle.move_energy.specs.Choices.{choice_at, open_at, rank}
-use Rattle.move_energy.specs.Weights.{weight_at, unsaved}
+use Rattle.move_energy.specs.Choices.{choice_at, open_at, open_rank}
+use Rattle.move_energy.specs.Weights.{weight_at, unsaved_surplus}
 use Rattle.move_energy.proofs.Opened.{opened_has, open_true}
 use Rattle.move_energy.proofs.Steps.{longer_none}
 use Rattle.move_energy.proofs.Adding.{cost_none, site_more, site_all, met_few, sum_longer}
@@ -138,7 +138,7 @@ loop-index-preserved g c =
       longer = sum_longer (met_at a.ends.now (open_at v) (λ pair. 1)) a.opened.now i a.form.now c.loop-index.form c.add_row.new.form l inv.longer says.longer;
       adds = λ m move f gives over.
           site_more a.form.now c.loop-index.form c.add_row.new.form
-          (λ (x : ℕ → Bool). met_at a.ends.now (open_at v) (unsaved m move f (choice_at v) (rank v) x))
+          (λ (x : ℕ → Bool). met_at a.ends.now (open_at v) (unsaved_surplus m move f (choice_at v) (open_rank v) x))
           a.opened.now i l (inv.adds m move f gives over) (says.adds m move f gives over);
     }
 
@@ -173,5 +173,5 @@ returns-clause-adds g c = λ m move f gives over.
     let a = c.args in
     let v = strip_view a.known.now a.from a.to in
     site_all a.form.now c.loop-index.form
-    (λ (x : ℕ → Bool). met_at a.ends.now (open_at v) (unsaved m move f (choice_at v) (rank v) x))
+    (λ (x : ℕ → Bool). met_at a.ends.now (open_at v) (unsaved_surplus m move f (choice_at v) (open_rank v) x))
     a.opened.now c.loop-index.index (omega (arith, c.loop-index-test.false)) (c.loop-index.invariant.adds m move f gives over)

@@ -5,8 +5,8 @@ use Rattle.labellings.specs.Energies.{Instance}
 use Rattle.compile_cut.specs.Weights.{weights_size}
 use Rattle.move_energy.specs.BySite.{degree, met_at}
 use Rattle.move_energy.specs.Built.{AddsCost, IsLonger}
-use Rattle.move_energy.specs.Choices.{choice_at, open_at, rank}
-use Rattle.move_energy.specs.Weights.{weight_at, unsaved}
+use Rattle.move_energy.specs.Choices.{choice_at, open_at, open_rank}
+use Rattle.move_energy.specs.Weights.{weight_at, unsaved_surplus}
 use Rattle.closing_in.specs.Borders.{border_at, range_of}
 use Rattle.strips.specs.Building.{GivesSurpluses, IsMoveOver}
 use Rattle.strips.specs.Views.{strip_view, weight_now}
@@ -28,5 +28,5 @@ invariant-loop-index g l = record {
   longer : IsLonger (sum_by (met_at l.ends (open_at (strip_view l.known l.from l.to)) (λ pair. 1)) (take l.index l.opened)) l.fn.form l.form;
   adds : (m : Instance) (move : Move) (f : ℕ → ℕ) → GivesSurpluses (goal.S-post g l.savings) m move f → IsMoveOver l.pairs m move f
       → AddsCost l.fn.form l.form (λ x. sum_by (met_at l.ends (open_at (strip_view l.known l.from l.to))
-      (unsaved m move f (choice_at (strip_view l.known l.from l.to)) (rank (strip_view l.known l.from l.to)) x)) (take l.index l.opened));
+      (unsaved_surplus m move f (choice_at (strip_view l.known l.from l.to)) (open_rank (strip_view l.known l.from l.to)) x)) (take l.index l.opened));
 }

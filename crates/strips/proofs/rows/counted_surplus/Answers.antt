@@ -1,6 +1,6 @@
 use Rattle.std.proofs.Common.{◌<◌, ◌∙◌, pos, ap, arith}
 use Rattle.move_energy.specs.Weights.{pair_surplus}
-use Rattle.sums.specs.Sums.{counted}
+use Rattle.sums.specs.Sums.{count_if}
 use Rattle.move_energy.proofs.Weighed.{surplus_counted, surplus_uncounted, surplus_passed}
 use Rattle.strips.proofs.Borders.{regular_beside}
 use Rattle.strips.proofs.rows.counted_surplus.Goals as goal
@@ -17,4 +17,4 @@ returns-clause-value g c = λ m move f gives over.
     surplus_passed c.savings.result (c.requires.small _ _ c.savings.ensures)
     ∙ surplus_counted m move f c.pair_beside-pair.result a.counts _ c.if-not-counts.false regular
     (gives _ _ c.savings.ensures)
-    ∙ ap (λ p. pos (counted a.counts (pair_surplus m move f p))) is
+    ∙ ap (λ p. pos (count_if a.counts (pair_surplus m move f p))) is

@@ -6,8 +6,8 @@ use Rattle.vision.proofs.Places.{place_within}
 use Rattle.vision.proofs.inputs.read_two.Goals as goal
 use Rattle.vision.proofs.inputs.read_two.Goals.{then-width-via-then-width, then-width-via-else-width+then-height}
 
-pub moved-requires : goal.moved-requires
-moved-requires c =
+pub refusal_from-requires : goal.refusal_from-requires
+refusal_from-requires c =
     let R : List ℕ → Type 0 = λ bytes. RefusesFront bytes c.in-Err.error in
     let within = place_within _ c.in-Err.error (subst R (take_rest c.args.input.now c.past_spaces-at.result) c.in-Err.ensures.refused) in
     let size = length-drop c.past_spaces-at.result c.args.input.now in
@@ -22,14 +22,14 @@ pub returns-in-Err-clause-refused : goal.returns-in-Err-clause-refused
 returns-in-Err-clause-refused c =
     let R : List ℕ → Type 0 = λ bytes. RefusesFront bytes c.in-Err.error in
     inl (
-      c.moved.result,
+      c.refusal_from.result,
       inr (record {
         first = c.in_ok-first.first;
         at = c.past_spaces-at.result;
         own = c.in-Err.error;
         begins = record { used = c.in_ok-first.used; front = c.in_ok-first.ensures.image; past = c.past_spaces-at.ensures };
         refuses = subst R (take_rest c.args.input.now c.past_spaces-at.result) c.in-Err.ensures.refused;
-        e_is = c.moved.ensures;
+        e_is = c.refusal_from.ensures;
       }),
       c.from.ensures,
     )

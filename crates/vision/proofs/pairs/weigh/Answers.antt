@@ -1,5 +1,5 @@
 use Rattle.std.proofs.Common.{◌∙◌, ap, arith}
-use Rattle.vision.specs.Problems.{edge_weight, weighted}
+use Rattle.vision.specs.Problems.{edge_weight, with_weight}
 use Rattle.vision.proofs.Weights.{weighed_step, weighed_all, listed}
 use Rattle.vision.proofs.pairs.weigh.Goals as goal
 
@@ -11,4 +11,4 @@ loop-index-preserved c =
 pub returns : goal.returns
 returns c =
     c.loop-index.invariant
-    ∙ ap (λ xs. listed c.args.pairs.now.sites xs) (weighed_all (weighted (edge_weight c.args.options.now c.args.picture.now)) c.args.pairs.now.list c.loop-index.index (omega arith))
+    ∙ ap (λ xs. listed c.args.pairs.now.sites xs) (weighed_all (with_weight (edge_weight c.args.options.now c.args.picture.now)) c.args.pairs.now.list c.loop-index.index (omega arith))

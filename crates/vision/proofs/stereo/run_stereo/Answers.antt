@@ -1,6 +1,6 @@
 use Rattle.std.proofs.Common.{◌≡◌, ℕ, inl, rules}
 use Rattle.byte_streams.specs.Streams.{Stops}
-use Rattle.pgm_image.specs.Written.{written}
+use Rattle.pgm_image.specs.Written.{written_form}
 use Rattle.vision.specs.Faults.{HasStereoError}
 use Rattle.vision.specs.Inputs.{IsStereoJob}
 use Rattle.vision.specs.Jobs.{Job}
@@ -30,7 +30,7 @@ returns-clause-refused g c =
 
 pub returns-clause-unchanged : goal.returns-clause-unchanged
 returns-clause-unchanged g c =
-    told_as_write (λ (count : ℕ). Stops (g.S.Sink.stream c.args.sink.now) (g.S.Sink.stream c.put_finished.new.sink) (written c.in_ok-finished.finished.image) count)
+    told_as_write (λ (count : ℕ). Stops (g.S.Sink.stream c.args.sink.now) (g.S.Sink.stream c.put_finished.new.sink) (written_form c.in_ok-finished.finished.image) count)
     (c.put_finished.new.sink ≡ c.args.sink.now) c.put_finished.result c.put_finished.ensures.stops
 
 pub returns-in_err-finished-clause-metric : goal.returns-in_err-finished-clause-metric

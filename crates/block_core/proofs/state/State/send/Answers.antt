@@ -1,7 +1,7 @@
 use Rattle.std.proofs.Common.{◌≡◌, slice_index, refl, sym, ◌∙◌, ap, subst}
 use Rattle.block_events.specs.States as core
 use Rattle.block_events.specs.declared.event.Event.TheVariants.{Send}
-use Rattle.block_events.specs.Events.{Enabled}
+use Rattle.block_events.specs.Events.{IsEnabled}
 use Rattle.block_events.specs.Effects.{state_of}
 use Rattle.block_core.proofs.Keeping.{held_next}
 use Rattle.block_core.proofs.Effects.{send_room, sent_is}
@@ -11,7 +11,7 @@ pub put-requires-clause-room : goal.put-requires-clause-room
 put-requires-clause-room c =
     let x = c.args.direction in
     let s : core.State = state_of c.self.inside.blocks c.self.inside.ways.messages c.self.inside.got in
-    let on : Enabled s (Send x) = subst (λ (t : core.State). Enabled t (Send x)) (sym c.self.view_is) (c.may_send.ensures.0 c.if-not-may_send.false) in
+    let on : IsEnabled s (Send x) = subst (λ (t : core.State). IsEnabled t (Send x)) (sym c.self.view_is) (c.may_send.ensures.0 c.if-not-may_send.false) in
     let from : c.home-from.result ≡ core.near_block s.net s.blocks x = c.home-from.ensures.value ∙ ap (core.block_of s.net s.blocks) c.near-near.ensures.value in
     let to : c.home-to.result ≡ core.far_block s.net s.blocks x = c.home-to.ensures.value ∙ ap (core.block_of s.net s.blocks) c.far-far.ensures.value in
     rw (from, to) (send_room x c.self.invariant on)
@@ -20,7 +20,7 @@ pub invariant_of-self : goal.invariant_of-self
 invariant_of-self c =
     let x = c.args.direction in
     let s : core.State = state_of c.self.inside.blocks c.self.inside.ways.messages c.self.inside.got in
-    let on : Enabled s (Send x) = subst (λ (t : core.State). Enabled t (Send x)) (sym c.self.view_is) (c.may_send.ensures.0 c.if-not-may_send.false) in
+    let on : IsEnabled s (Send x) = subst (λ (t : core.State). IsEnabled t (Send x)) (sym c.self.view_is) (c.may_send.ensures.0 c.if-not-may_send.false) in
     let parcel = c.send-parcel.ensures.parcel in
     let put = c.put.ensures.messages ∙ ap (core.put_message c.self.inside.ways.messages c.home-from.result c.home-to.result) parcel in
     let made = sent_is c.self.inside.blocks c.send-parcel.new.self c.self.inside.ways.messages c.put.new.self.messages c.self.inside.got x

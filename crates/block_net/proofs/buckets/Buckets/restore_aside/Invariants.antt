@@ -1,5 +1,5 @@
 use Rattle.std.proofs.Common.{ℕ, ◌≡◌, ◌<◌, cond, eqb, sum_by, slice_index}
-use Rattle.block_net.specs.Standing.{nodes, row_in, aside, bucket_of}
+use Rattle.block_net.specs.Standing.{row_count, row_in, aside, bucket_of}
 use Rattle.block_net.proofs.buckets.Buckets.restore_aside.Given as goal
 
 abbrev pub decreases-aside : goal.decreases-aside
@@ -9,7 +9,7 @@ abbrev pub invariant-aside : goal.invariant-aside
 invariant-aside l = record {
   row : l.row ≡ aside l.self;
   buckets : l.self.buckets ≡ l.fn.self.buckets;
-  size : nodes l.self ≡ nodes l.fn.self;
-  back : (v : ℕ) → v < nodes l.fn.self → row_in l.fn.self v ≡ aside l.fn.self → ¬ (row_in l.self v ≡ aside l.fn.self) → row_in l.self v ≡ bucket_of l.fn.self (slice_index l.labels v);
-  others : (v : ℕ) → v < nodes l.fn.self → ¬ (row_in l.fn.self v ≡ aside l.fn.self) → row_in l.self v ≡ row_in l.fn.self v;
+  size : row_count l.self ≡ row_count l.fn.self;
+  back : (v : ℕ) → v < row_count l.fn.self → row_in l.fn.self v ≡ aside l.fn.self → ¬ (row_in l.self v ≡ aside l.fn.self) → row_in l.self v ≡ bucket_of l.fn.self (slice_index l.labels v);
+  others : (v : ℕ) → v < row_count l.fn.self → ¬ (row_in l.fn.self v ≡ aside l.fn.self) → row_in l.self v ≡ row_in l.fn.self v;
 }

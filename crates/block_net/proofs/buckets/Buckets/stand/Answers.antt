@@ -1,6 +1,6 @@
 use Rattle.std.proofs.Common.{◌≡◌, ◌+◌, ◌<◌, ◌≤◌, ◌∙◌, length, sym, ap, subst, arith}
-use Rattle.block_net.specs.Circles.{unlinked, linked, after_left}
-use Rattle.block_net.specs.Standing.{Standing, nodes, aside}
+use Rattle.block_net.specs.Circles.{without_link, with_link, after_left}
+use Rattle.block_net.specs.Standing.{BucketsView, row_count, aside}
 use Rattle.block_net.proofs.Linking.{two_length}
 use Rattle.block_net.proofs.Moving.{stood_rows, held_rows, whole}
 use Rattle.block_net.proofs.buckets.Buckets.stand.Goals as goal
@@ -14,16 +14,16 @@ invariant_of-self c =
     let rows = c.self.inside.rows.items in
     let next = c.self.inside.next.items in
     let prev = c.self.inside.prev.items in
-    let lv : v < length rows = subst (λ (s : Standing). v < nodes s) (sym c.self.view_is) c.requires.node in
-    let lr : c.args.row ≤ c.self.inside.buckets = subst (λ (s : Standing). c.args.row ≤ aside s) (sym c.self.view_is) c.requires.row in
+    let lv : v < length rows = subst (λ (s : BucketsView). v < row_count s) (sym c.self.view_is) c.requires.node in
+    let lr : c.args.row ≤ c.self.inside.buckets = subst (λ (s : BucketsView). c.args.row ≤ aside s) (sym c.self.view_is) c.requires.row in
     let s = length rows + c.args.row in
     let place : c.len.result + c.args.row ≡ s = omega (arith, c.len.ensures, c.self.inside.rows.ok.0) in
     let w = after_left next prev s v in
-    let en : c.relink.new.next ≡ linked (unlinked next prev v) s v w = rw (place, c.as_mut_slice.ensures.value, c.as_mut_slice-2.ensures.value) at c.relink.ensures.next in
-    let ep : c.relink.new.prev ≡ linked (unlinked prev next v) w v s = rw (place, c.as_mut_slice.ensures.value, c.as_mut_slice-2.ensures.value) at c.relink.ensures.prev in
+    let en : c.relink.new.next ≡ with_link (without_link next prev v) s v w = rw (place, c.as_mut_slice.ensures.value, c.as_mut_slice-2.ensures.value) at c.relink.ensures.next in
+    let ep : c.relink.new.prev ≡ with_link (without_link prev next v) w v s = rw (place, c.as_mut_slice.ensures.value, c.as_mut_slice-2.ensures.value) at c.relink.ensures.prev in
     let ln = whole next c.relink.new.next c.self.inside.next.len (omega (arith, c.as_mut_slice.ensures.len, ap length c.as_mut_slice.ensures.value))
-    (ap length en ∙ (two_length (unlinked next prev v) s v v w ∙ two_length next _ _ v v)) in
+    (ap length en ∙ (two_length (without_link next prev v) s v v w ∙ two_length next _ _ v v)) in
     let lp = whole prev c.relink.new.prev c.self.inside.prev.len (omega (arith, c.as_mut_slice-2.ensures.len, ap length c.as_mut_slice-2.ensures.value))
-    (ap length ep ∙ (two_length (unlinked prev next v) w v v s ∙ two_length prev _ _ v v)) in
+    (ap length ep ∙ (two_length (without_link prev next v) w v v s ∙ two_length prev _ _ v v)) in
     let told = c.top_with-self-inside.ensures in
     held_rows _ _ _ _ _ _ _ (ln ∙ en) (lp ∙ ep) (stood_rows _ _ _ c.args.row rows next prev v lv lr told.low told.high told.covers c.self.invariant)

@@ -1,12 +1,12 @@
 use Rattle.std.proofs.Common.{ℕ, MatchOption, IfSome, subst}
-use Rattle.block_turns.specs.Active.{IsActive}
+use Rattle.block_turns.specs.Active.{IsActiveInBlock}
 use Rattle.block_turns.specs.Standing.{BucketedView, IsAside, HasHighestBucket}
 use Rattle.block_turns.proofs.Placing.{bucket_gives, highest_gives}
 use Rattle.block_turns.proofs.bucketed.Bucketed.highest.Goals as goal
 
 pub returns-clause-node : goal.returns-clause-node
 returns-clause-node c =
-    subst (λ (x : BucketedView). MatchOption c.highest.result ((v : ℕ) → IsActive x.block v → IsAside x v) (λ (v : ℕ). IsActive x.block v × (¬ IsAside x v))) c.self.view_is
+    subst (λ (x : BucketedView). MatchOption c.highest.result ((v : ℕ) → IsActiveInBlock x.block v → IsAside x v) (λ (v : ℕ). IsActiveInBlock x.block v × (¬ IsAside x v))) c.self.view_is
     (highest_gives c.self.inside.cells c.self.inside.buckets c.highest.result c.self.invariant c.highest.ensures.highest)
 
 pub returns-clause-highest : goal.returns-clause-highest

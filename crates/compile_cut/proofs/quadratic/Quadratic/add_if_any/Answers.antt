@@ -1,7 +1,7 @@
 use Rattle.std.proofs.Common.{arith, ◌≡◌, ◌<◌, ◌∙◌, ap, ℕ, Bool, true, false, not, ◌&&◌, pos, [], ◌∷◌, ◌++◌, All, length}
 use Rattle.std.specs.List.{list_any, sum_by}
 use Rattle.std.proofs.lemmas.Int.{ints}
-use Rattle.sums.specs.Sums.{counted}
+use Rattle.sums.specs.Sums.{count_if}
 use Rattle.compile_cut.specs.declared.quadratic.Quadratic.{Quadratic}
 use Rattle.compile_cut.specs.Weights.{weights_value, arcs_value}
 use Rattle.compile_cut.specs.Quadratics.{quadratic_value}
@@ -24,9 +24,9 @@ returns-clause-value c =
     let tied : IsTiedAt (length ws) (quadratic_value old) (quadratic_value new) cost (λ x. list_any x nodes) (λ x. paid x nodes cost) true false = record {
       either = true_or_false;
       at_pays = λ x is. any_pays old.constant (weights_value ws x) (weights_value c.push.new.self.items x) (arcs_value old.arcs.items x) (arcs_value c.add_arcs_from.new.arcs.items x)
-          (sum_by (λ node. counted (x node && not (x (length ws))) cost) nodes) cost (x (length ws)) (weights x) (rw place at (c.in_ok-add_arcs_from.ensures.value x)) is (out_none x (length ws) nodes cost is);
+          (sum_by (λ node. count_if (x node && not (x (length ws))) cost) nodes) cost (x (length ws)) (weights x) (rw place at (c.in_ok-add_arcs_from.ensures.value x)) is (out_none x (length ws) nodes cost is);
       at_saves = λ x is. any_saves old.constant (weights_value ws x) (weights_value c.push.new.self.items x) (arcs_value old.arcs.items x) (arcs_value c.add_arcs_from.new.arcs.items x)
-          (sum_by (λ node. counted (x node && not (x (length ws))) cost) nodes) (paid x nodes cost) cost (x (length ws)) (weights x) (rw place at (c.in_ok-add_arcs_from.ensures.value x)) is (out_some x (length ws) nodes cost is);
+          (sum_by (λ node. count_if (x node && not (x (length ws))) cost) nodes) (paid x nodes cost) cost (x (length ws)) (weights x) (rw place at (c.in_ok-add_arcs_from.ensures.value x)) is (out_some x (length ws) nodes cost is);
       once = λ x. paid_once x nodes cost;
       never = λ x none. paid_never x nodes cost none;
       old_same = λ x y shown. omega (arith, ints, weights_value-same ws x y shown, arcs_value-same (length ws) old.arcs.items x y shown (rw full at c.requires.bounded.arcs));

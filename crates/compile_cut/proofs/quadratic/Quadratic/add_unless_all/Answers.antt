@@ -3,7 +3,7 @@ use Rattle.std.specs.List.{list_all, sum_by}
 use Rattle.std.proofs.lemmas.Int.{ints}
 use Rattle.std.proofs.lemmas.List.Sums.{sum_by_push}
 use Rattle.std.proofs.lemmas.List.Elements.{All-weaker}
-use Rattle.sums.specs.Sums.{counted}
+use Rattle.sums.specs.Sums.{count_if}
 use Rattle.flow_network.specs.Cut.{IsArc}
 use Rattle.compile_cut.specs.declared.quadratic.Quadratic.{Quadratic}
 use Rattle.compile_cut.specs.Weights.{weights_value, weights_size, arcs_value, arcs_size}
@@ -61,10 +61,10 @@ returns-clause-value c =
     let tied : IsTiedAt (length ws) (quadratic_value old) (quadratic_value new) cost some s false true = record {
       either = false_or_true;
       at_pays = λ x is. unless_pays old.constant (weights_value ws x) (weights_value c.push.new.self.items x) (arcs_value old.arcs.items x) (arcs_value c.add_arcs_to.new.arcs.items x)
-          (sum_by (λ node. counted (x (length ws) && not (x node)) cost) nodes) cost (x (length ws)) (weights x) (rw place at (c.in_ok-add_arcs_to.ensures.value x)) is (into_none x (length ws) nodes cost is);
+          (sum_by (λ node. count_if (x (length ws) && not (x node)) cost) nodes) cost (x (length ws)) (weights x) (rw place at (c.in_ok-add_arcs_to.ensures.value x)) is (into_none x (length ws) nodes cost is);
       at_saves = λ x is. unless_saves old.constant (weights_value ws x) (weights_value c.push.new.self.items x) (arcs_value old.arcs.items x) (arcs_value c.add_arcs_to.new.arcs.items x)
-          (sum_by (λ node. counted (x (length ws) && not (x node)) cost) nodes) (s x) cost (x (length ws)) (weights x) (rw place at (c.in_ok-add_arcs_to.ensures.value x)) is (into_some x (length ws) nodes cost is);
-      once = λ x. omega (arith, paid_once (λ v. not (x v)) nodes cost, ap (λ (b : Bool). counted b cost) (any_not x nodes));
+          (sum_by (λ node. count_if (x (length ws) && not (x node)) cost) nodes) (s x) cost (x (length ws)) (weights x) (rw place at (c.in_ok-add_arcs_to.ensures.value x)) is (into_some x (length ws) nodes cost is);
+      once = λ x. omega (arith, paid_once (λ v. not (x v)) nodes cost, ap (λ (b : Bool). count_if b cost) (any_not x nodes));
       never = λ x none. paid_never (λ v. not (x v)) nodes cost (any_not x nodes ∙ none);
       old_same = λ x y shown. omega (arith, ints, weights_value-same ws x y shown, arcs_value-same (length ws) old.arcs.items x y shown (rw full at c.requires.bounded.arcs));
       some_same = λ x y shown. ap not (all-same (length ws) x y nodes below shown);

@@ -1,6 +1,6 @@
 use Rattle.std.proofs.Common.{◌<◌, ◌≤◌, ◌+◌, ◌-◌, ◌*◌, ◌/◌, ◌∙◌, ℕ, true, false, ap, sym, subst, refl, length, arith}
 use Rattle.grouping.specs.Grouping.{place_at}
-use Rattle.move_energy.specs.BySite.{degree, start_at, grouped_at}
+use Rattle.move_energy.specs.BySite.{degree, neighbours_start, grouped_at}
 use Rattle.labellings.specs.Energies.{labelling}
 use Rattle.move_energy.specs.Choices.{choice_at}
 use Rattle.deciding.specs.Working.{AreWaiting, SeesPair}
@@ -57,8 +57,8 @@ see-requires-clause-range g c = λ κs lives.
     let inside : a.site < a.problem.now.pairs.sites = omega (arith, c.requires.site.0, c.requires.sized.within, c.requires.asked.sites) in
     let start = start_read a.problem.now.pairs a.ends.now a.site _ c.requires.by_site (omega (arith, inside)) c.index-place.ensures in
     let end = start_read a.problem.now.pairs a.ends.now (a.site + 1) _ c.requires.by_site (omega (arith, inside)) c.index-place-end.ensures in
-    let from : start_at a.ends.now a.site ≤ c.loop-place.place = omega (arith, start, c.loop-place.auto.place) in
-    let to : c.loop-place.place < start_at a.ends.now (a.site + 1) = omega (arith, end, c.loop-place-test.true) in
+    let from : neighbours_start a.ends.now a.site ≤ c.loop-place.place = omega (arith, start, c.loop-place.auto.place) in
+    let to : c.loop-place.place < neighbours_start a.ends.now (a.site + 1) = omega (arith, end, c.loop-place-test.true) in
     range_enough a.problem.now.pairs a.ends.now a.site c.loop-place.place a.self.now c.loop-place.self c.requires.by_site c.requires.posed.pairs inside from to c.loop-place.invariant.range c.requires.range
 
 pub loop-place-preserved : goal.loop-place-preserved
@@ -67,8 +67,8 @@ loop-place-preserved g c =
     let inside : a.site < a.problem.now.pairs.sites = omega (arith, c.requires.site.0, c.requires.sized.within, c.requires.asked.sites) in
     let start = start_read a.problem.now.pairs a.ends.now a.site _ c.requires.by_site (omega (arith, inside)) c.index-place.ensures in
     let end = start_read a.problem.now.pairs a.ends.now (a.site + 1) _ c.requires.by_site (omega (arith, inside)) c.index-place-end.ensures in
-    let from : start_at a.ends.now a.site ≤ c.loop-place.place = omega (arith, start, c.loop-place.auto.place) in
-    let to : c.loop-place.place < start_at a.ends.now (a.site + 1) = omega (arith, end, c.loop-place-test.true) in
+    let from : neighbours_start a.ends.now a.site ≤ c.loop-place.place = omega (arith, start, c.loop-place.auto.place) in
+    let to : c.loop-place.place < neighbours_start a.ends.now (a.site + 1) = omega (arith, end, c.loop-place-test.true) in
     let looking = c.in_ok-see.ensures.looking in
     record {
       choices = looking.choices ∙ c.loop-place.invariant.choices;
@@ -80,7 +80,7 @@ loop-place-preserved g c =
       same = looking.least_len ∙ c.loop-place.invariant.same;
       waiting = (let P : ℕ → Type 0 = λ n. AreWaiting n c.see.new.self in subst P c.loop-place.invariant.same c.in_ok-see.ensures.waiting);
       more = omega (arith, looking.waiting, c.loop-place.invariant.more, from);
-      range = range_step (start_at a.ends.now a.site) c.loop-place.place a.self.now c.loop-place.self c.see.new.self from looking c.loop-place.invariant.range;
+      range = range_step (neighbours_start a.ends.now a.site) c.loop-place.place a.self.now c.loop-place.self c.see.new.self from looking c.loop-place.invariant.range;
       total = omega (arith, looking.total, c.loop-place.invariant.total, from);
       spread = λ m answers decided by_site.
           let G = grouped_at a.ends.now by_site.places in
@@ -101,8 +101,8 @@ returns-clause-range g c = λ most within.
     let end = start_read a.problem.now.pairs a.ends.now (a.site + 1) _ c.requires.by_site (omega (arith, inside)) c.index-place-end.ensures in
     let start = start_read a.problem.now.pairs a.ends.now a.site _ c.requires.by_site (omega (arith, inside)) c.index-place.ensures in
     let ordered = starts_rise a.problem.now.pairs a.ends.now a.site c.requires.by_site inside in
-    let last : c.loop-place.place - start_at a.ends.now a.site ≤ degree a.ends.now a.site = omega (arith, start, end, ordered, c.loop-place.auto.place-end) in
-    range_wider (most + 20000000 * (c.loop-place.place - start_at a.ends.now a.site)) (most + 20000000 * degree a.ends.now a.site) c.loop-place.self
+    let last : c.loop-place.place - neighbours_start a.ends.now a.site ≤ degree a.ends.now a.site = omega (arith, start, end, ordered, c.loop-place.auto.place-end) in
+    range_wider (most + 20000000 * (c.loop-place.place - neighbours_start a.ends.now a.site)) (most + 20000000 * degree a.ends.now a.site) c.loop-place.self
     (omega (arith, last)) (c.loop-place.invariant.range most within)
 
 pub returns-clause-left : goal.returns-clause-left
@@ -119,7 +119,7 @@ returns-clause-decided g c = λ m answers tells decided.
     let a = c.args in
     let inside : a.site < a.problem.now.pairs.sites = omega (arith, c.requires.site.0, c.requires.sized.within, c.requires.asked.sites) in
     let end = start_read a.problem.now.pairs a.ends.now (a.site + 1) _ c.requires.by_site (omega (arith, inside)) c.index-place-end.ensures in
-    let past : start_at a.ends.now (a.site + 1) ≤ c.loop-place.place = omega (arith, end, c.loop-place-test.false) in
+    let past : neighbours_start a.ends.now (a.site + 1) ≤ c.loop-place.place = omega (arith, end, c.loop-place-test.false) in
     let most : length a.self.now.least.items ≤ m.sites = omega (arith, c.requires.sized.within, c.requires.asked.sites, answers.sites_are) in
     spread_end m a.change (labelling a.at.now) (length a.self.now.least.items) a.site a.value (grouped_at a.ends.now c.requires.by_site.places) c.loop-place.place a.self.now c.mark.new.self c.loop-place.self
     (meant_pairs m a.problem.now.pairs answers.pairs_are answers.sites_are c.requires.posed.pairs) most c.requires.site.0 decided c.requires.site.1 tells c.mark.ensures c.loop-place.invariant.choices past
@@ -180,7 +180,7 @@ returns-clause-total g c =
     let end = start_read a.problem.now.pairs a.ends.now (a.site + 1) _ c.requires.by_site (omega (arith, inside)) c.index-place-end.ensures in
     let start = start_read a.problem.now.pairs a.ends.now a.site _ c.requires.by_site (omega (arith, inside)) c.index-place.ensures in
     let ordered = starts_rise a.problem.now.pairs a.ends.now a.site c.requires.by_site inside in
-    let last : c.loop-place.place - start_at a.ends.now a.site ≤ degree a.ends.now a.site = omega (arith, start, end, ordered, c.loop-place.auto.place-end) in
+    let last : c.loop-place.place - neighbours_start a.ends.now a.site ≤ degree a.ends.now a.site = omega (arith, start, end, ordered, c.loop-place.auto.place-end) in
     omega (arith, last, c.loop-place.invariant.total)
 
 pub returns-in_err-see-clause-total : goal.returns-in_err-see-clause-total

@@ -1,6 +1,6 @@
 use Rattle.std.proofs.Common.{◌≡◌, ◌+◌, ◌-◌, ◌*◌, ◌≤◌, ℕ, length}
 use Rattle.cost_store.specs.Posed.{IsMeant}
-use Rattle.move_energy.specs.BySite.{start_at, grouped_at, AreBySite}
+use Rattle.move_energy.specs.BySite.{neighbours_start, grouped_at, AreBySite}
 use Rattle.labellings.specs.Energies.{Instance, labelling}
 use Rattle.deciding.specs.Working.{IsSummed, AreWaiting, IsWithinRange, ArePartlyDecided, greatest_total}
 use Rattle.deciding.proofs.Spreading.{IsSpread}
@@ -12,9 +12,9 @@ invariant-loop-place g l = record {
   sized : IsSummed (length l.at) l.self;
   same : length l.self.least.items ≡ length l.fn.self.least.items;
   waiting : AreWaiting (length l.fn.self.least.items) l.self;
-  more : length l.self.waiting.items ≤ length l.fn.self.waiting.items + (l.place - start_at l.ends l.site);
-  range : (most : ℕ) → IsWithinRange most l.fn.self → IsWithinRange (most + 20000000 * (l.place - start_at l.ends l.site)) l.self;
-  total : greatest_total l.self ≤ greatest_total l.fn.self + 20000000 * (l.place - start_at l.ends l.site);
+  more : length l.self.waiting.items ≤ length l.fn.self.waiting.items + (l.place - neighbours_start l.ends l.site);
+  range : (most : ℕ) → IsWithinRange most l.fn.self → IsWithinRange (most + 20000000 * (l.place - neighbours_start l.ends l.site)) l.self;
+  total : greatest_total l.self ≤ greatest_total l.fn.self + 20000000 * (l.place - neighbours_start l.ends l.site);
   spread : (m : Instance) → IsMeant g.F.Fn g.V.Fn l.problem m
       → (decided : ArePartlyDecided m l.change (labelling l.at) (length l.fn.self.least.items) l.fn.self)
       → (by_site : AreBySite l.problem.pairs l.ends)

@@ -2,7 +2,7 @@ use Rattle.std.proofs.Common.{◌≡◌, ◌<◌, ◌≤◌, ◌*◌, ◌∙◌,
 use Rattle.std.proofs.lemmas.Result.{err_from_is_err_and}
 use Rattle.labellings.specs.Energies.{labelling}
 use Rattle.move_energy.specs.Choices.{choice_at}
-use Rattle.deciding.specs.Working.{AreWaiting, ArePartlyDecided, IsWithinRange, left, budget_of}
+use Rattle.deciding.specs.Working.{AreWaiting, ArePartlyDecided, IsWithinRange, open_ends, budget_of}
 use Rattle.move_energy.proofs.Parts.{starts_rise, starts_within}
 use Rattle.move_energy.proofs.PairEnds.{ends_len}
 use Rattle.deciding.proofs.Left.{left_most, starts_climb}
@@ -15,7 +15,7 @@ pub loop-site-init : goal.loop-site-init
 loop-site-init g c =
     let a = c.args in
     let u = c.requires.unsummed in
-    let L : ℕ → Type 0 = λ n. left a.ends.now n a.self.now.choices.items ≤ 2 * length a.problem.now.pairs.list in
+    let L : ℕ → Type 0 = λ n. open_ends a.ends.now n a.self.now.choices.items ≤ 2 * length a.problem.now.pairs.list in
     record {
       within = omega arith;
       sized = record { choices = u.choices; greatest = u.greatest ∙ sym u.least; within = omega (arith, u.least) };
@@ -24,7 +24,7 @@ loop-site-init g c =
       none = empty_list a.self.now.waiting.items u.none;
       few = subst L (sym c.requires.asked.sites) (left_most a.problem.now.pairs a.ends.now a.self.now.choices.items c.requires.by_site);
       range = empty_range _ a.self.now u.least u.greatest;
-      total = (let few : left a.ends.now (length a.at.now) a.self.now.choices.items ≤ 2 * length a.problem.now.pairs.list = subst L (sym c.requires.asked.sites) (left_most a.problem.now.pairs a.ends.now a.self.now.choices.items c.requires.by_site) in
+      total = (let few : open_ends a.ends.now (length a.at.now) a.self.now.choices.items ≤ 2 * length a.problem.now.pairs.list = subst L (sym c.requires.asked.sites) (left_most a.problem.now.pairs a.ends.now a.self.now.choices.items c.requires.by_site) in
           omega (arith, few, total_none a.self.now u.greatest));
       decided = λ m answers. c.requires.begun m answers;
     }
@@ -72,7 +72,7 @@ sum_site-requires-clause-left g c = λ κs lives.
     let next = c.in_ok-next.next in
     let i = c.loop-site.invariant in
     let passes = c.in_ok-next.ensures in
-    let same = ap (λ (v : _). left a.ends.now (length a.at.now) v.items) passes.choices in
+    let same = ap (λ (v : _). open_ends a.ends.now (length a.at.now) v.items) passes.choices in
     omega (arith, same, i.few)
 
 pub sum_site-requires-clause-range : goal.sum_site-requires-clause-range
@@ -82,7 +82,7 @@ sum_site-requires-clause-range g c = λ κs lives.
     let next = c.in_ok-next.next in
     let i = c.loop-site.invariant in
     let passes = c.in_ok-next.ensures in
-    let same = ap (λ (v : _). left a.ends.now (length a.at.now) v.items) passes.choices in
+    let same = ap (λ (v : _). open_ends a.ends.now (length a.at.now) v.items) passes.choices in
     let R : ℕ → Type 0 = λ n. IsWithinRange (budget_of n) mid in
     subst R (sym same) (passed_range c.loop-site.site next _ c.loop-site.self mid passes i.range)
 
@@ -104,14 +104,14 @@ settle_all-requires-clause-sized g c = λ κs lives. c.in_ok-sum_site.ensures.si
 pub settle_all-requires-clause-left : goal.settle_all-requires-clause-left
 settle_all-requires-clause-left g c = λ κs lives.
     let a = c.args in
-    let same = ap (λ (v : _). left a.ends.now (length a.at.now) v.items) c.in_ok-next.ensures.choices in
+    let same = ap (λ (v : _). open_ends a.ends.now (length a.at.now) v.items) c.in_ok-next.ensures.choices in
     omega (arith, same, c.in_ok-sum_site.ensures.left, c.loop-site.invariant.few)
 
 pub settle_all-requires-clause-range : goal.settle_all-requires-clause-range
 settle_all-requires-clause-range g c = λ κs lives.
     let a = c.args in
-    let was = left a.ends.now (length a.at.now) c.pass_closed.new.self.choices.items in
-    let now = left a.ends.now (length a.at.now) c.sum_site.new.self.choices.items in
+    let was = open_ends a.ends.now (length a.at.now) c.pass_closed.new.self.choices.items in
+    let now = open_ends a.ends.now (length a.at.now) c.sum_site.new.self.choices.items in
     let few : now ≤ was = c.in_ok-sum_site.ensures.left in
     range_wider (budget_of was) (budget_of now) c.sum_site.new.self (omega (arith, few)) c.in_ok-sum_site.ensures.range
 
@@ -141,7 +141,7 @@ loop-site-preserved g c =
       total = (let inside : next < a.problem.now.pairs.sites = omega (arith, passes.within, i.sized.choices, c.if-next-at.false, c.requires.asked.sites) in
           let ordered = starts_rise a.problem.now.pairs a.ends.now next c.requires.by_site inside in
           let climbs = starts_climb a.problem.now.pairs a.ends.now c.loop-site.site next c.requires.by_site passes.on (omega (arith, inside)) in
-          let same = ap (λ (v : _). left a.ends.now (length a.at.now) v.items) passes.choices in
+          let same = ap (λ (v : _). open_ends a.ends.now (length a.at.now) v.items) passes.choices in
           let before = passed_total c.loop-site.site next c.loop-site.self mid passes in
           omega (arith, e.total, one.total, one.left, same, before, ordered, climbs, passes.on, i.total));
       decided = λ m answers.

@@ -1,8 +1,8 @@
 use Rattle.std.proofs.Common.{◌≡◌, ◌+◌, ◌-◌, ◌*◌, ◌≤◌, [], length}
 use Rattle.cost_store.specs.Posed.{IsMeant}
-use Rattle.move_energy.specs.BySite.{start_at}
+use Rattle.move_energy.specs.BySite.{neighbours_start}
 use Rattle.labellings.specs.Energies.{Instance, labelling}
-use Rattle.deciding.specs.Working.{IsSummed, AreWaiting, IsWithinRange, ArePartlyDecided, left, budget_of, greatest_total}
+use Rattle.deciding.specs.Working.{IsSummed, AreWaiting, IsWithinRange, ArePartlyDecided, open_ends, budget_of, greatest_total}
 use Rattle.deciding.proofs.bounds.Bounds.decide_sites.Given as goal
 
 abbrev pub invariant-loop-site : goal.invariant-loop-site
@@ -12,10 +12,10 @@ invariant-loop-site g l = record {
   same : length l.self.least.items ≡ l.site;
   waiting : AreWaiting l.site l.self;
   none : l.self.waiting.items ≡ [];
-  few : left l.ends (length l.at) l.self.choices.items ≤ 2 * length l.problem.pairs.list;
-  range : IsWithinRange (budget_of (left l.ends (length l.at) l.self.choices.items)) l.self;
-  total : greatest_total l.self + 20000000 * left l.ends (length l.at) l.self.choices.items
-      ≤ 40000000 * length l.problem.pairs.list + 10000000 * l.site + 10000000 * start_at l.ends l.site;
+  few : open_ends l.ends (length l.at) l.self.choices.items ≤ 2 * length l.problem.pairs.list;
+  range : IsWithinRange (budget_of (open_ends l.ends (length l.at) l.self.choices.items)) l.self;
+  total : greatest_total l.self + 20000000 * open_ends l.ends (length l.at) l.self.choices.items
+      ≤ 40000000 * length l.problem.pairs.list + 10000000 * l.site + 10000000 * neighbours_start l.ends l.site;
   decided : (m : Instance) → IsMeant g.F.Fn g.V.Fn l.problem m → ArePartlyDecided m l.change (labelling l.at) l.site l.self;
 }
 

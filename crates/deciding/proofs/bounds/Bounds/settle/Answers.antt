@@ -1,7 +1,7 @@
 use Rattle.std.proofs.Common.{length, arith}
 use Rattle.std.proofs.lemmas.Result.{on_ok_weaker}
 use Rattle.move_energy.specs.BySite.{degree}
-use Rattle.deciding.specs.Working.{left}
+use Rattle.deciding.specs.Working.{open_ends}
 use Rattle.deciding.proofs.Places.{on_ok_two, room_grows}
 use Rattle.deciding.proofs.bounds.Bounds.settle.Goals as goal
 
@@ -9,7 +9,7 @@ pub returns-clause-range : goal.returns-clause-range
 returns-clause-range g c =
     let a = c.args in
     on_ok_two c.decide.result _ _ _ (λ less range.
-    room_grows (left a.ends.now (length a.at.now) a.self.now.choices.items) (left a.ends.now (length a.at.now) c.decide.new.self.choices.items) (degree a.ends.now a.site) (length a.problem.now.pairs.list)
+    room_grows (open_ends a.ends.now (length a.at.now) a.self.now.choices.items) (open_ends a.ends.now (length a.at.now) c.decide.new.self.choices.items) (degree a.ends.now a.site) (length a.problem.now.pairs.list)
     a.self.now c.decide.new.self less c.requires.left c.requires.posed.pairs.count range c.requires.range) c.decide.ensures.left c.decide.ensures.range
 
 pub returns-clause-decided : goal.returns-clause-decided

@@ -6,7 +6,7 @@ use Rattle.move_energy.specs.Choices.{choice_at}
 use Rattle.move_energy.specs.declared.choice.Choice.{Choice}
 use Rattle.deciding.specs.Decisions.{rise}
 use Rattle.deciding.specs.MoveValues.{move_value}
-use Rattle.deciding.specs.Working.{valued, left, budget_of, HasNoneBefore}
+use Rattle.deciding.specs.Working.{decided_or, open_ends, budget_of, HasNoneBefore}
 use Rattle.deciding.proofs.Answering.{answered_bounds, answered_summed, answered_waits, answered_left, answered_decides}
 use Rattle.deciding.proofs.Left.{degree_most}
 use Rattle.deciding.proofs.Places.{meant_pairs, meant_beside}
@@ -34,7 +34,7 @@ returns-clause-left g c =
     let a = c.args in
     let added = added_of a.site _ _ a.self.now c.add_bounds.new.self c.requires.site.1 c.requires.sized.greatest c.in_ok-add_bounds.ensures.adds in
     let opened = ap (λ (v : _). choice_at v.items a.site) added.choices ∙ c.requires.opened in
-    let same = ap (λ (v : _). left a.ends.now (length a.at.now) v.items) added.choices in
+    let same = ap (λ (v : _). open_ends a.ends.now (length a.at.now) v.items) added.choices in
     on_ok_weaker c.answer.result (λ told.
     (let less = answered_left a.ends.now (length a.at.now) a.site _ c.add_bounds.new.self c.answer.new.self c.requires.site.0 opened told in
     omega (arith, less, same))) c.answer.ensures
@@ -65,7 +65,7 @@ returns-clause-range g c =
     on_ok_weaker c.answer.result (λ told.
     (let same = answered_bounds a.site _ c.add_bounds.new.self c.answer.new.self told in
     range_same c.add_bounds.new.self c.answer.new.self _ same.0 same.1
-    (added_range a.site (budget_of (left a.ends.now (length a.at.now) a.self.now.choices.items)) _ _ a.self.now c.add_bounds.new.self added
+    (added_range a.site (budget_of (open_ends a.ends.now (length a.at.now) a.self.now.choices.items)) _ _ a.self.now c.add_bounds.new.self added
     (sum_room rises.result.least (degree a.ends.now a.site) _ rises.ensures.range.0 few (omega (arith, c.requires.left, c.requires.posed.pairs.count)))
     (sum_room rises.result.greatest (degree a.ends.now a.site) _ rises.ensures.range.1 few (omega (arith, c.requires.left, c.requires.posed.pairs.count))) c.requires.range))) c.answer.ensures
 
@@ -96,9 +96,9 @@ returns-clause-decided g c =
     (partly_more m a.change (labelling a.at.now) a.site _ _ a.self.now c.add_bounds.new.self (meant_pairs m a.problem.now.pairs answers.pairs_are answers.sites_are c.requires.posed.pairs) added
     (λ here. (
       sum_passed rises.result.least (degree a.ends.now a.site) rises.ensures.range.0 few ∙ rises.ensures.least m answers
-          ∙ ap (λ (cs : List Choice). rise (move_value m a.change (labelling a.at.now)) a.site (valued cs true)) c.deref.ensures.value,
+          ∙ ap (λ (cs : List Choice). rise (move_value m a.change (labelling a.at.now)) a.site (decided_or cs true)) c.deref.ensures.value,
       sum_passed rises.result.greatest (degree a.ends.now a.site) rises.ensures.range.1 few ∙ rises.ensures.greatest m answers
-          ∙ ap (λ (cs : List Choice). rise (move_value m a.change (labelling a.at.now)) a.site (valued cs false)) c.deref.ensures.value,
+          ∙ ap (λ (cs : List Choice). rise (move_value m a.change (labelling a.at.now)) a.site (decided_or cs false)) c.deref.ensures.value,
     )) decided)) c.answer.ensures
 
 pub returns-clause-total : goal.returns-clause-total

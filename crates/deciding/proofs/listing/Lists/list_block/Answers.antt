@@ -1,6 +1,6 @@
 use Rattle.std.proofs.Common.{◌∙◌, ◌==◌, ◌||◌, not, false, ap, arith}
 use Rattle.std.proofs.lemmas.List.{get_or_default}
-use Rattle.labellings.specs.Moves.{label_in}
+use Rattle.labellings.specs.Moves.{label_after}
 use Rattle.move_energy.specs.declared.choice.Choice.TheVariants.{Open, Zero}
 use Rattle.labellings.specs.Energies.{labelling}
 use Rattle.move_energy.specs.Choices.{bit_of, is_open, open_at}
@@ -30,7 +30,7 @@ loop-site-preserved c =
     record {
       opened = listed_more (open_at a.choices.now) c.loop-site.site _ _ _ (ap is_open read) e.opened i.opened;
       changing = listed_more (changes a.change (labelling a.at.now) a.choices.now) c.loop-site.site _ _ _
-          (λ j. is_open (read j) || not (label_in a.change (c.from.ensures j) (bit_of (read j) false) == c.from.ensures j)) e.changing i.changing;
+          (λ j. is_open (read j) || not (label_after a.change (c.from.ensures j) (bit_of (read j) false) == c.from.ensures j)) e.changing i.changing;
       count = e.same.0 ∙ i.count;
       listed = e.same.1 ∙ i.listed;
     }

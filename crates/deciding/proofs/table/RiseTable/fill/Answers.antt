@@ -1,6 +1,6 @@
 use Rattle.std.proofs.Common.{◌<◌, ◌∙◌, ℕ, Bool, true, false, subst, arith}
 use Rattle.deciding.specs.declared.table.EndRises.{EndRises}
-use Rattle.deciding.specs.Rising.{rises_at, AreRises, AreSmall}
+use Rattle.deciding.specs.Rising.{rises_at, AreRises, AreRisesSmall}
 use Rattle.deciding.proofs.Tables.{rows_more}
 use Rattle.deciding.proofs.table.RiseTable.fill.Goals as goal
 
@@ -23,7 +23,7 @@ loop-own-preserved g c =
           rows_more (λ (first : Bool) (own other : ℕ) (r : EndRises). AreRises m a.change a.self.now.weight first own other r) now.entries.items one.entries.items two.entries.items n labels
           few c.requires.few e.others f.others (c.loop-own.invariant.rises m answers)
           (subst W c.loop-own.invariant.weight (e.rises m answers)) (subst V weight (f.rises m answers));
-      small = rows_more (λ (first : Bool) (own other : ℕ) (r : EndRises). AreSmall r) now.entries.items one.entries.items two.entries.items n labels
+      small = rows_more (λ (first : Bool) (own other : ℕ) (r : EndRises). AreRisesSmall r) now.entries.items one.entries.items two.entries.items n labels
           few c.requires.few e.others f.others c.loop-own.invariant.small e.small f.small;
       size = f.size;
       stands = f.same.0 ∙ e.same.0 ∙ c.loop-own.invariant.stands;

@@ -9,7 +9,7 @@ use Rattle.block_events.specs.Soundness.{amount_out}
 use Rattle.block_events.proofs.Lanes.{border_opposite}
 use Rattle.block_net.specs.Views.{CellsView, border_in}
 use Rattle.block_net.specs.Whole.{Whole, put_block, is_outer, whole_of}
-use Rattle.block_events.specs.Effects.{accepted}
+use Rattle.block_events.specs.Effects.{blocks_after_accept}
 use Rattle.laid_blocks.specs.Views.{blocks_in, IsLaid, IsRow}
 use Rattle.laid_blocks.proofs.Steps.{at_read, border_read, border_capacity, row_as, back_spot, back_names, out_same, accepted_at}
 use Rattle.laid_blocks.proofs.blocks.Blocks.accept.Goals as goal
@@ -52,7 +52,7 @@ returns-clause-accepted c =
     let x = c.args.direction in
     let found = subst (λ (q : Direction). IsRow w q (is_outer w q) b p) c.opposite_of.ensures c.row-block.ensures in
     let row = row_as w _ b B (opposite x) true p at found (border_opposite c.args.self.now.net c.args.self.now.blocks x ∙ c.requires.border) in
-    subst (λ (q : CellsView). blocks_in (put_block w b q) ≡ accepted c.args.self.now x c.args.amount c.args.label) (sym c.accept.ensures.accepted) (accepted_at w _ b B x p c.args.amount c.args.label at row (back_spot w _ b B x p at row)).view
+    subst (λ (q : CellsView). blocks_in (put_block w b q) ≡ blocks_after_accept c.args.self.now x c.args.amount c.args.label) (sym c.accept.ensures.accepted) (accepted_at w _ b B x p c.args.amount c.args.label at row (back_spot w _ b B x p at row)).view
 
 pub accept-requires-clause-label : goal.accept-requires-clause-label
 accept-requires-clause-label c = grind (arith, common_steps)

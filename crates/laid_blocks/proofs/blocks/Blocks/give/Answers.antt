@@ -1,7 +1,7 @@
 use Rattle.std.proofs.Common.{◌≡◌, min, slice_index, sym, ◌∙◌, ap, subst}
 use Rattle.block_net.specs.Views.{CellsView, excess_in, room_in}
 use Rattle.block_net.specs.Whole.{Whole, put_block, whole_of}
-use Rattle.block_events.specs.Effects.{given}
+use Rattle.block_events.specs.Effects.{blocks_after_sink_push}
 use Rattle.laid_blocks.specs.Views.{blocks_in, IsLaid}
 use Rattle.laid_blocks.proofs.Steps.{at_read, given_amount, gave_at}
 use Rattle.laid_blocks.proofs.blocks.Blocks.give.Goals as goal
@@ -28,8 +28,8 @@ returns-clause-given c =
     let v = c.args.self.now in
     let a = min (excess_in B p) (room_in B p) in
     let amount = given_amount w v b B c.args.v p at c.spot-block.ensures in
-    subst (λ (q : CellsView). blocks_in (put_block w b q) ≡ given v c.args.v (min (slice_index v.excess c.args.v) (slice_index v.rooms c.args.v))) (sym c.give.ensures.given)
-    ((gave_at w _ b B c.args.v p a at c.spot-block.ensures c.give.ensures.place).view ∙ ap (given v c.args.v) amount)
+    subst (λ (q : CellsView). blocks_in (put_block w b q) ≡ blocks_after_sink_push v c.args.v (min (slice_index v.excess c.args.v) (slice_index v.rooms c.args.v))) (sym c.give.ensures.given)
+    ((gave_at w _ b B c.args.v p a at c.spot-block.ensures c.give.ensures.place).view ∙ ap (blocks_after_sink_push v c.args.v) amount)
 
 pub returns-clause-amount : goal.returns-clause-amount
 returns-clause-amount c =

@@ -3,7 +3,7 @@ use Rattle.block_events.specs.Directions.{near}
 use Rattle.block_events.specs.States as core
 use Rattle.block_net.specs.Views.{CellsView, excess_in, lane_in}
 use Rattle.block_net.specs.Whole.{Whole, put_block, whole_of}
-use Rattle.block_events.specs.Effects.{pushed}
+use Rattle.block_events.specs.Effects.{blocks_after_push}
 use Rattle.laid_blocks.specs.Views.{blocks_in, IsLaid}
 use Rattle.laid_blocks.proofs.Steps.{at_read, row_as, spot_as, pushed_amount, far_spot, back_row, far_other, pushed_at}
 use Rattle.laid_blocks.proofs.blocks.Blocks.push.Goals as goal
@@ -54,5 +54,5 @@ returns c =
     let a = min (excess_in B p) (lane_in B j).residual in
     let after = pushed_at w _ b B x j p a at row spot (back_row w _ b B x j at row) (far_spot w _ b B x j at row) in
     let amount = pushed_amount w v b B x j p at row spot in
-    subst (λ (q : CellsView). blocks_in (put_block w b q) ≡ pushed v x (min (slice_index v.excess (near v.net x)) (core.lane_at v.lanes x).residual)) (sym c.push.ensures)
-    (after.view ∙ ap (pushed v x) amount)
+    subst (λ (q : CellsView). blocks_in (put_block w b q) ≡ blocks_after_push v x (min (slice_index v.excess (near v.net x)) (core.lane_at v.lanes x).residual)) (sym c.push.ensures)
+    (after.view ∙ ap (blocks_after_push v x) amount)

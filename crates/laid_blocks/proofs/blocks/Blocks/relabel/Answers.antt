@@ -1,7 +1,7 @@
 use Rattle.std.proofs.Common.{◌≡◌, sym, subst}
 use Rattle.block_net.specs.Views.{CellsView}
 use Rattle.block_net.specs.Whole.{Whole, put_block, whole_of}
-use Rattle.block_events.specs.Effects.{labelled}
+use Rattle.block_events.specs.Effects.{blocks_after_relabel}
 use Rattle.laid_blocks.specs.Views.{blocks_in, IsLaid}
 use Rattle.laid_blocks.proofs.Steps.{at_read, labelled_at}
 use Rattle.laid_blocks.proofs.blocks.Blocks.relabel.Goals as goal
@@ -24,4 +24,4 @@ returns c =
     let p = c.spot-block.result.1 in
     let B = c.index_mut.result.now in
     let at = at_read w c.args.self.now b B c.self.invariant c.self.view_is c.spot-block.ensures.block c.index_mut.ensures.value in
-    subst (λ (q : CellsView). blocks_in (put_block w b q) ≡ labelled c.args.self.now c.args.v c.args.label) (sym c.relabel.ensures.labelled) (labelled_at w _ b B c.args.v p c.args.label at c.spot-block.ensures c.relabel.ensures.place).view
+    subst (λ (q : CellsView). blocks_in (put_block w b q) ≡ blocks_after_relabel c.args.self.now c.args.v c.args.label) (sym c.relabel.ensures.labelled) (labelled_at w _ b B c.args.v p c.args.label at c.spot-block.ensures c.relabel.ensures.place).view

@@ -5,7 +5,7 @@ use Rattle.block_events.specs.Directions.{near}
 use Rattle.block_events.specs.States as core
 use Rattle.block_net.specs.Views.{CellsView, excess_in, border_in}
 use Rattle.block_net.specs.Whole.{Whole, put_block, whole_of}
-use Rattle.block_events.specs.Effects.{sent}
+use Rattle.block_events.specs.Effects.{blocks_after_send}
 use Rattle.laid_blocks.specs.Views.{blocks_in, IsLaid}
 use Rattle.laid_blocks.proofs.Steps.{at_read, border_read, row_as, spot_as, sent_amount, sent_parcel, sent_at}
 use Rattle.laid_blocks.proofs.blocks.Blocks.send.Goals as goal
@@ -62,8 +62,8 @@ returns-clause-sent c =
     let a = min (excess_in B p) (border_in B j).residual in
     let after = sent_at w _ b B x j p a at row spot in
     let amount = sent_amount w v b B x j p at row spot in
-    subst (λ (q : CellsView). blocks_in (put_block w b q) ≡ sent v x (min (slice_index v.excess (near v.net x)) (core.lane_at v.lanes x).residual)) (sym c.send.ensures.sent)
-    (after.view ∙ ap (sent v x) amount)
+    subst (λ (q : CellsView). blocks_in (put_block w b q) ≡ blocks_after_send v x (min (slice_index v.excess (near v.net x)) (core.lane_at v.lanes x).residual)) (sym c.send.ensures.sent)
+    (after.view ∙ ap (blocks_after_send v x) amount)
 
 pub returns-clause-parcel : goal.returns-clause-parcel
 returns-clause-parcel c =

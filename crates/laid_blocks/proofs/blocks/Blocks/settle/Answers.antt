@@ -2,7 +2,7 @@ use Rattle.std.proofs.lemmas.Grind.{common_steps}
 use Rattle.std.proofs.Common.{◌≡◌, true, sym, subst, arith}
 use Rattle.block_net.specs.Views.{CellsView}
 use Rattle.block_net.specs.Whole.{Whole, put_block, whole_of}
-use Rattle.block_events.specs.Effects.{settled}
+use Rattle.block_events.specs.Effects.{blocks_after_settle}
 use Rattle.laid_blocks.specs.Views.{blocks_in, IsLaid}
 use Rattle.laid_blocks.proofs.Steps.{at_read, row_as, settled_at}
 use Rattle.laid_blocks.proofs.blocks.Blocks.settle.Goals as goal
@@ -29,7 +29,7 @@ returns c =
     let at = at_read w c.args.self.now b B c.self.invariant c.self.view_is c.row-block.ensures.block c.index_mut.ensures.value in
     let x = c.args.direction in
     let row = row_as w _ b B x true p at c.row-block.ensures c.requires.border in
-    subst (λ (q : CellsView). blocks_in (put_block w b q) ≡ settled c.args.self.now x) (sym c.settle.ensures) (settled_at w _ b B x p at row).view
+    subst (λ (q : CellsView). blocks_in (put_block w b q) ≡ blocks_after_settle c.args.self.now x) (sym c.settle.ensures) (settled_at w _ b B x p at row).view
 
 pub settle-requires : goal.settle-requires
 settle-requires c = grind (arith, common_steps)

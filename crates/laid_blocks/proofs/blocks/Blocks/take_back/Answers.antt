@@ -5,7 +5,7 @@ use Rattle.block_events.specs.States as core
 use Rattle.block_events.specs.Soundness.{amount_out}
 use Rattle.block_net.specs.Views.{CellsView, border_in}
 use Rattle.block_net.specs.Whole.{Whole, put_block, whole_of}
-use Rattle.block_events.specs.Effects.{returned}
+use Rattle.block_events.specs.Effects.{blocks_after_return}
 use Rattle.laid_blocks.specs.Views.{blocks_in, IsLaid}
 use Rattle.laid_blocks.proofs.Steps.{at_read, top_read, border_read, row_as, border_spot, out_same, returned_at}
 use Rattle.laid_blocks.proofs.blocks.Blocks.take_back.Goals as goal
@@ -56,7 +56,7 @@ returns c =
     let at = at_read w c.args.self.now b B c.self.invariant c.self.view_is c.row-block.ensures.block c.index_mut.ensures.value in
     let x = c.args.direction in
     let row = row_as w _ b B x true p at c.row-block.ensures c.requires.border in
-    subst (λ (q : CellsView). blocks_in (put_block w b q) ≡ returned c.args.self.now x c.args.amount c.args.told) (sym c.take_back.ensures) (returned_at w _ b B x p c.args.amount c.args.told at row (border_spot w _ b B x p at row)).view
+    subst (λ (q : CellsView). blocks_in (put_block w b q) ≡ blocks_after_return c.args.self.now x c.args.amount c.args.told) (sym c.take_back.ensures) (returned_at w _ b B x p c.args.amount c.args.told at row (border_spot w _ b B x p at row)).view
 
 pub take_back-requires-clause-place : goal.take_back-requires-clause-place
 take_back-requires-clause-place c = grind (arith, common_steps)

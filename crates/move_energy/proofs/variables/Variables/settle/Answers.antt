@@ -25,8 +25,8 @@ loop-site-preserved c =
           record {
             counted = omega (arith, w.next-is, so_far.counted, more);
             few = omega (arith, w.next-is, so_far.few);
-            settled = settled_own old bits now c.if-is_open.self.choices.items n c.loop-site.next w.bit_at.result w.decided.result within opened so_far.counted
-                (ap (λ (v : Variables). v.choices.items) w.self-is) w.decided.ensures w.bit_at.ensures so_far.settled;
+            settled = settled_own old bits now c.if-is_open.self.choices.items n c.loop-site.next w.bit_at.result w.choice_of.result within opened so_far.counted
+                (ap (λ (v : Variables). v.choices.items) w.self-is) w.choice_of.ensures w.bit_at.ensures so_far.settled;
           }
       | else-is_open w ↦
           let decided : ¬ (choice_at now n ≡ Open) = λ opened. (let yes = c.is_open.ensures.1 (read ∙ opened) in absurd (cc (yes, w.if-is_open.false))) in

@@ -10,7 +10,7 @@ index_mut-requires c =
 pub loop-index-preserved : goal.loop-index-preserved
 loop-index-preserved c = record {
   settled = values_more c.args.self.now.choices.items c.args.bits.now c.args.opened.now c.loop-index.self.choices.items _ c.loop-index.index _ c.bit_at.result
-      c.decided.result c.requires c.loop-index-test.true refl refl c.decided.ensures c.bit_at.ensures c.loop-index.invariant.settled;
+      c.choice_of.result c.requires c.loop-index-test.true refl refl c.choice_of.ensures c.bit_at.ensures c.loop-index.invariant.settled;
 }
 
 pub returns : goal.returns

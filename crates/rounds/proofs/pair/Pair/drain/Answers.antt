@@ -1,8 +1,8 @@
 use Rattle.std.proofs.Common.{List, sym, ap, subst}
 use Rattle.block_turns.specs.declared.letter.Letter.{Letter}
-use Rattle.block_workers.specs.Ports.{put, taken}
+use Rattle.block_workers.specs.Ports.{letters_put, letters_taken}
 use Rattle.block_workers.specs.Seeing.{messages}
-use Rattle.rounds.specs.Left.{AreKept, rest_of}
+use Rattle.rounds.specs.Left.{AreKeptByWays, rest_of}
 use Rattle.rounds.specs.Links.{link}
 use Rattle.rounds.proofs.Draining.{second_room, second_drained}
 use Rattle.rounds.proofs.pair.Pair.drain.Goals as goal
@@ -23,8 +23,8 @@ move_left-requires-2-clause-room c =
 pub move_left-requires-2-clause-arcs : goal.move_left-requires-2-clause-arcs
 move_left-requires-2-clause-arcs c =
     let one = c.move_left.ensures in
-    subst (λ (sent : List Letter). AreKept (rest_of (messages sent) (messages (taken c.move_left.new.from)))) (sym one.put)
-    (subst (λ (took : List Letter). AreKept (rest_of (messages (put c.args.self.second)) (messages took))) (sym one.from.taken) c.requires.room.arcs_up)
+    subst (λ (sent : List Letter). AreKeptByWays (rest_of (messages sent) (messages (letters_taken c.move_left.new.from)))) (sym one.put)
+    (subst (λ (took : List Letter). AreKeptByWays (rest_of (messages (letters_put c.args.self.second)) (messages took))) (sym one.from.taken) c.requires.room.arcs_up)
 
 pub returns-clause-messages : goal.returns-clause-messages
 returns-clause-messages c =

@@ -1,5 +1,5 @@
 use Rattle.std.proofs.Common.{◌≡◌, ◌≤◌, ◌++◌, length, sym, ◌∙◌, ap, arith}
-use Rattle.block_workers.specs.Ports.{put, taken, waiting, capacity}
+use Rattle.block_workers.specs.Ports.{letters_put, letters_taken, letters_waiting, capacity}
 use Rattle.rounds.proofs.Leaving.{letters_few, letters_split}
 use Rattle.rounds.proofs.pair.Pair.see.Goals as goal
 
@@ -8,11 +8,11 @@ returns-clause-seen c =
     let old = c.args.self.now in
     let one = c.see_left.ensures in
     let two = c.see_left-2.ensures in
-    let back : put old.second ≡ taken old.first ++ waiting c.see_left-2.new.to = sym one.to.put ∙ (two.left ∙ ap (λ t. t ++ waiting c.see_left-2.new.to) one.from.taken) in
-    let few : length (waiting c.see_left-2.new.to) ≤ capacity old.second = omega (arith, two.count, two.room, one.to.same.to_ring.1) in
+    let back : letters_put old.second ≡ letters_taken old.first ++ letters_waiting c.see_left-2.new.to = sym one.to.put ∙ (two.left ∙ ap (λ t. t ++ letters_waiting c.see_left-2.new.to) one.from.taken) in
+    let few : length (letters_waiting c.see_left-2.new.to) ≤ capacity old.second = omega (arith, two.count, two.room, one.to.same.to_ring.1) in
     record {
-      few_down = letters_few (put old.first) (taken old.second) (waiting c.see_left.new.to) (capacity old.first) one.left (omega (arith, one.count, one.room));
-      few_up = letters_few (put old.second) (taken old.first) (waiting c.see_left-2.new.to) (capacity old.second) back few;
-      down = letters_split (put old.first) (taken old.second) (waiting c.see_left.new.to) one.left;
-      up = letters_split (put old.second) (taken old.first) (waiting c.see_left-2.new.to) back;
+      few_down = letters_few (letters_put old.first) (letters_taken old.second) (letters_waiting c.see_left.new.to) (capacity old.first) one.left (omega (arith, one.count, one.room));
+      few_up = letters_few (letters_put old.second) (letters_taken old.first) (letters_waiting c.see_left-2.new.to) (capacity old.second) back few;
+      down = letters_split (letters_put old.first) (letters_taken old.second) (letters_waiting c.see_left.new.to) one.left;
+      up = letters_split (letters_put old.second) (letters_taken old.first) (letters_waiting c.see_left-2.new.to) back;
     }

@@ -1,5 +1,5 @@
 use Rattle.std.proofs.Common.{subst}
-use Rattle.rounds.specs.Links.{AreWithin}
+use Rattle.rounds.specs.Links.{AreWithinRoom}
 use Rattle.rounds.proofs.Leaving.{left_ways, all_within, AnyLeft}
 use Rattle.rounds.proofs.rings.Rings.see.Goals as goal
 
@@ -7,4 +7,4 @@ pub returns-clause-left : goal.returns-clause-left
 returns-clause-left c = subst AnyLeft c.self.view_is (left_ways _ c.self.invariant c.see_all.ensures.seen)
 
 pub returns-clause-within : goal.returns-clause-within
-returns-clause-within c = subst AreWithin c.self.view_is (all_within _ c.self.invariant c.see_all.ensures.seen)
+returns-clause-within c = subst AreWithinRoom c.self.view_is (all_within _ c.self.invariant c.see_all.ensures.seen)

@@ -1,7 +1,7 @@
 use Rattle.std.proofs.Common.{ℕ, ◌+◌, length, sym, subst, arith}
 use Rattle.labellings.specs.Energies.{labelling}
-use Rattle.stages.specs.Looking.{marked, changed_since}
-use Rattle.stages.specs.Working.{AreMarks}
+use Rattle.stages.specs.Looking.{is_marked, changed_since}
+use Rattle.stages.specs.Working.{AreSiteMarks}
 use Rattle.stages.proofs.Around.{all_fresh}
 use Rattle.stages.specs.declared.stage.Stage.{Stage}
 use Rattle.stages.proofs.Scanning.{AreScanned, scanned_changed, scanned_same}
@@ -28,12 +28,12 @@ loop-site-preserved c =
 pub returns : goal.returns
 returns c =
     let a = c.args in
-    let P : ℕ → Type 0 = λ n. AreMarks n c.loop-site.self.fresh.items c.loop-site.self.fresh_sites.items in
-    let marks : AreMarks a.pairs.now.sites c.loop-site.self.fresh.items c.loop-site.self.fresh_sites.items = subst P c.requires.sites.0 c.loop-site.invariant.marks in
+    let P : ℕ → Type 0 = λ n. AreSiteMarks n c.loop-site.self.fresh.items c.loop-site.self.fresh_sites.items in
+    let marks : AreSiteMarks a.pairs.now.sites c.loop-site.self.fresh.items c.loop-site.self.fresh_sites.items = subst P c.requires.sites.0 c.loop-site.invariant.marks in
     record {
       fresh = record {
         count = marks.count;
-        fresh = all_fresh a.pairs.now a.ends.now a.alpha (labelling a.at.now) (changed_since a.stamps.now a.since) (marked c.loop-site.self.fresh.items) c.requires.by_site
+        fresh = all_fresh a.pairs.now a.ends.now a.alpha (labelling a.at.now) (changed_since a.stamps.now a.since) (is_marked c.loop-site.self.fresh.items) c.requires.by_site
             c.keeps.ensures.each (λ p l held. c.loop-site.invariant.around p (omega (arith, l, c.loop-site-test.false, c.sites-count.ensures.value)) held);
         only = c.loop-site.invariant.only;
         listed = λ p l held. (marks.listed p l).0 held;

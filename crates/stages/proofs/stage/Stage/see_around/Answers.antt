@@ -1,7 +1,7 @@
 use Rattle.std.proofs.Common.{◌∙◌, subst, below_more}
 use Rattle.label_field.specs.declared.pair.Pair.{Pair}
 use Rattle.move_energy.specs.BySite.{pair_of}
-use Rattle.stages.specs.Working.{IsSeen, IsSeenAcross}
+use Rattle.stages.specs.Working.{IsSiteSeen, IsSeenAcross}
 use Rattle.stages.proofs.Around.{at_other}
 use Rattle.stages.proofs.Seen.{wider_then, across_wider}
 use Rattle.stages.proofs.stage.Stage.see_around.Goals as goal
@@ -22,7 +22,7 @@ loop-index-preserved c =
       seen = below_more (λ k. P (pair_of a.ends.now a.site k)) c.loop-index.index
           (λ k l. across_wider a.choices.now a.bits.now a.site (pair_of a.ends.now a.site k) now new e.wider (invariant.seen k l))
           (subst P c.pair_at-pair.ensures.value
-          (at_other (λ q. IsSeen a.choices.now a.bits.now q new) pair a.site c.other_end.result c.pair_at-pair.ensures.pair.unequal c.other_end.ensures e.seen));
+          (at_other (λ q. IsSiteSeen a.choices.now a.bits.now q new) pair a.site c.other_end.result c.pair_at-pair.ensures.pair.unequal c.other_end.ensures e.seen));
       fresh = same.0 ∙ invariant.fresh;
       fresh_sites = same.1 ∙ invariant.fresh_sites;
       opened = same.2 ∙ invariant.opened;

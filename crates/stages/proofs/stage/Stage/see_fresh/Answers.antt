@@ -1,7 +1,7 @@
 use Rattle.std.proofs.Common.{◌≡◌, ◌∙◌, ◌<◌, ℕ, length, get_or, ap, subst, below_more, arith}
 use Rattle.std.proofs.lemmas.List.Elements.{All-from_get_or}
 use Rattle.move_energy.proofs.Joins.{read_at}
-use Rattle.stages.specs.Working.{IsSeen}
+use Rattle.stages.specs.Working.{IsSiteSeen}
 use Rattle.stages.proofs.Seen.{seen_wider}
 use Rattle.stages.proofs.stage.Stage.see_fresh.Goals as goal
 
@@ -17,7 +17,7 @@ loop-index-preserved c =
     let within : c.loop-index.index < length now.fresh_sites.items = omega (arith, c.loop-index-test.true, c.len-index-end.ensures, ap (λ (v : _). length v.items) invariant.fresh_sites) in
     let read : c.index-site.result.now ≡ get_or sites c.loop-index.index 0 =
     read_at now.fresh_sites.items c.loop-index.index c.index-site.result.now 0 within c.index-site.ensures ∙ ap (λ (v : _). get_or v.items c.loop-index.index 0) invariant.fresh_sites in
-    let P : ℕ → Type 0 = λ p. IsSeen a.choices.now a.bits.now p new in
+    let P : ℕ → Type 0 = λ p. IsSiteSeen a.choices.now a.bits.now p new in
     record {
       shown = e.shown;
       seen = below_more (λ k. P (get_or sites k 0)) c.loop-index.index
@@ -31,5 +31,5 @@ loop-index-preserved c =
 pub returns-clause-seen : goal.returns-clause-seen
 returns-clause-seen c =
     let a = c.args in
-    All-from_get_or (λ p. IsSeen a.choices.now a.bits.now p c.loop-index.self) a.self.now.fresh_sites.items 0
+    All-from_get_or (λ p. IsSiteSeen a.choices.now a.bits.now p c.loop-index.self) a.self.now.fresh_sites.items 0
     (λ k l. c.loop-index.invariant.seen k (omega (arith, l, c.loop-index-test.false, c.len-index-end.ensures)))

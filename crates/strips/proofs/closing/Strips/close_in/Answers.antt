@@ -2,7 +2,7 @@ use Rattle.std.proofs.Common.{◌≤◌, ℕ, List, length, sym, ap, subst, arit
 use Rattle.std.specs.Global.{Vec}
 use Rattle.labellings.specs.Energies.{labelling}
 use Rattle.move_energy.specs.declared.choice.Choice.{Choice}
-use Rattle.move_energy.specs.Choices.{choice_at, AreOpenSites, StandsFor, rank}
+use Rattle.move_energy.specs.Choices.{choice_at, AreOpenSites, StandsFor, open_rank}
 use Rattle.deciding.specs.MoveValues.{move_value}
 use Rattle.closing_in.specs.Agreeing.{Agree}
 use Rattle.strips.specs.Views.{strip_view}
@@ -41,7 +41,7 @@ returns-clause-stands g c = λ m meant.
     let known = c.strips.built.variables.choices.items in
     let all : length known ≤ c.strips.to = omega (arith, c.strips.invariant.count, c.strips-test.false) in
     let S : (ℕ → Choice) → (ℕ → ℕ) → Type 0 = λ choice variable. StandsFor m c.args.change (labelling c.args.at.now) choice c.build_last.new.form variable in
-    let P : (ℕ → Choice) → Type 0 = λ choice. S choice (rank (strip_view known 0 c.strips.to)) in
+    let P : (ℕ → Choice) → Type 0 = λ choice. S choice (open_rank (strip_view known 0 c.strips.to)) in
     let Q : (ℕ → ℕ) → Type 0 = λ variable. S (choice_at known) variable in
-    let K : List Choice → Type 0 = λ xs. S (choice_at (strip_view xs 0 c.strips.to)) (rank (strip_view xs 0 c.strips.to)) in
+    let K : List Choice → Type 0 = λ xs. S (choice_at (strip_view xs 0 c.strips.to)) (open_rank (strip_view xs 0 c.strips.to)) in
     subst Q (whole_rank known c.strips.to all) (subst P (whole_is known c.strips.to all) (subst K c.deref-2.ensures.value (c.in_ok-build_last.ensures.stands m meant)))

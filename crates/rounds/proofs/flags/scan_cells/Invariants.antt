@@ -1,7 +1,7 @@
 use Rattle.std.proofs.Common.{◌≡◌, ℕ, ◌<◌, false, true, length, get_or}
 use Rattle.block_net.specs.Views.{border_in}
 use Rattle.rounds.proofs.Scanning.{LeadsBefore}
-use Rattle.rounds.proofs.flags.scanned.Given as goal
+use Rattle.rounds.proofs.flags.scan_cells.Given as goal
 
 abbrev pub invariant-loop-j : goal.invariant-loop-j
 invariant-loop-j l = record {

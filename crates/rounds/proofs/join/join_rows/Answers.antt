@@ -1,7 +1,7 @@
 use Rattle.std.proofs.Common.{◌≡◌, [], length, replicate, ap, ◌∙◌, arith}
 use Rattle.std.proofs.lemmas.Grind.{common_steps}
 use Rattle.rounds.proofs.Joining.{begun_none}
-use Rattle.rounds.proofs.join.joined.Goals as goal
+use Rattle.rounds.proofs.join.join_rows.Goals as goal
 
 pub loop-b-init : goal.loop-b-init
 loop-b-init c =

@@ -3,7 +3,7 @@ use Rattle.sums.specs.Sums.{sum_below}
 use Rattle.block_net.specs.Whole.{Whole, whole_of}
 use Rattle.block_core.specs.Pieces.{state_in, given_by}
 use Rattle.block_core.proofs.Given.{some_blocks, given_all}
-use Rattle.block_core.proofs.pieces.Pieces.given.Goals as goal
+use Rattle.block_core.proofs.pieces.Pieces.sink_total.Goals as goal
 
 pub overflow_add-given : goal.overflow_add-given
 overflow_add-given c =
