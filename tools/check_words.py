@@ -3,12 +3,12 @@
 
     python3 tools/check_words.py                   lists what is wrong; the status is then 1
     python3 tools/check_words.py --wrap [CRATE ..] first breaks wide lines, then `rt fmt` is due
-    python3 tools/check_words.py --renew           first writes the lists of what still stands
+    python3 tools/check_words.py --renew           first writes the list of what still stands
 
 A comment, a clause and a definition of specs/ are at most 100 columns wide. The name of a
-definition stands in one crate. Two files list what still breaks these rules: wide_crates.txt the
-crates with wide lines, double_names.txt the names that stand in two crates or more. A list may only
-lose lines: an entry that breaks no rule is told, too. ALLOWED has the names that stay for good.
+definition stands in one crate. The name of a definition or a function is not a bare participle.
+The file wide_crates.txt lists the crates that still have wide lines. It may only lose lines: an
+entry that breaks no rule is told, too. ALLOWED and BARE have the names that stay for good.
 """
 
 import re
@@ -17,13 +17,32 @@ from collections import defaultdict
 from pathlib import Path
 
 TOP = Path(__file__).resolve().parent.parent
-NAMES = TOP / "tools" / "double_names.txt"
 WIDE = TOP / "tools" / "wide_crates.txt"
 COLUMNS = 100
 
 # Names that stay in two crates, each with its reason.
 ALLOWED = {}
 
+# Names of one word that look like participles and stay, each with its reason.
+BARE = {
+    "labelling": "a noun of the field",
+    "holding": "a noun: what a node holds",
+    "saving": "a noun: what a pair saves",
+    "got": "hands out a field of a state: what the sink got",
+    "known": "hands out a field of a direction: the label that is known",
+    "drawn": "hands out a number of a book of turns",
+    "left": "hands out a number of a book of turns",
+    "met": "hands out a field of a gate of the tests",
+}
+IRREGULAR = set(
+    """begun bent bound bought broken brought built caught chosen dealt done drawn driven eaten
+    fallen fed felt fought found forgotten given gone got gotten grown heard held hidden kept known
+    laid led left lent lost made meant met paid ridden risen said seen sent shaken shown slept sold
+    sought spent spoken spun stood struck stuck sworn swept swung taken taught thought thrown told
+    torn understood woken won worn wound written""".split()
+)
+ENDING = re.compile(r"\w*[aeiouy]\w*(?:[^e]ed|ing)")
+FUNCTION = re.compile(r"\s*(?:pub(?:\(crate\))? )?(?:const )?fn (\w+)")
 DEFINING = re.compile(
     r"(?:pub (?:record|data)|(?:abbrev|unfoldable|record|data)(?: pub)?|pub) ([A-Za-z_][\w'-]*)"
 )
@@ -235,19 +254,42 @@ def double_names(crates):
     return {name: own for name, own in found.items() if len(own) > 1}
 
 
+def is_participle(name):
+    """Whether a name is one word that reads as a participle: `taken`, `Joined`, `waiting`."""
+    word = name.lower()
+    if "_" in name or re.search("[a-z][A-Z]", name):
+        return False
+    return word in IRREGULAR or ENDING.fullmatch(word) is not None
+
+
+def bare_participles(crates):
+    """The definitions and functions whose names are bare participles, with their places."""
+    kinds = [("specs", ".antt", DEFINING), ("src", ".rt", FUNCTION)]
+    for crate in crates:
+        for kind, ending, naming in kinds:
+            for path in sources(crate, kind, ending):
+                for number, line in enumerate(path.read_text(encoding="utf-8").split("\n"), 1):
+                    named = naming.match(line)
+                    if named and is_participle(named.group(1)) and named.group(1) not in BARE:
+                        if not line.startswith(("pub mod", "pub use")):
+                            yield f"{path.relative_to(TOP)}:{number}", named.group(1)
+
+
+def faults_of_participles(crates):
+    for at, name in bare_participles(crates):
+        yield f"{at}: {name} is a bare participle, which says nothing of what it is"
+
+
 def listed_in(path):
     return set(path.read_text(encoding="utf-8").split()) if path.exists() else set()
 
 
 def faults_of_names(double):
-    """What is wrong with the names, and with the list of those that still stand in two crates."""
-    listed = listed_in(NAMES)
+    """The names that stand in two crates and are not allowed to."""
     for name, own in sorted(double.items()):
-        if name not in listed and name not in ALLOWED:
+        if name not in ALLOWED:
             places_of = ", ".join(at for it in own.values() for at in it)
             yield f"{name} is defined in two crates: {places_of}"
-    for name in sorted(listed - set(double)):
-        yield f"{NAMES.relative_to(TOP)}: {name} stands in one crate, so the list has to lose it"
 
 
 def faults_of_widths(wide):
@@ -286,9 +328,9 @@ def main():
                 wrap(path)
     double, wide = double_names(crates), wide_places(crates)
     if asked == ["--renew"]:
-        write_list(NAMES, set(double) - set(ALLOWED))
         write_list(WIDE, wide)
     faults = list(faults_of_widths(wide)) + list(faults_of_names(double))
+    faults += faults_of_participles(crates)
     for fault in faults:
         print(fault)
     sys.exit(1 if faults else 0)
