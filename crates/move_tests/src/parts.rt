@@ -53,7 +53,7 @@ const PICTURES: u32 = 8;
 const PARTS: &[usize] = &[2, 3, 7, 50];
 
 /// A number below 65,536 that a picture has at a place: a mix of the two.
-fn mixed(picture: u32, place: u32) -> u32
+fn hash_of(picture: u32, place: u32) -> u32
     ensures { result < 65536 }
 {
     let seed = picture
@@ -73,7 +73,7 @@ fn pairs_of(rt: &impl Abort, alloc: Global, picture: u32) -> Pairs {
             if site % SIDE == SIDE - 1 && step != SIDE || SITES <= site + step {
                 continue;
             }
-            let is_turned = mixed(picture, 7 * site + step) % 2 == 0;
+            let is_turned = hash_of(picture, 7 * site + step) % 2 == 0;
             let ends = if is_turned && picture % 2 == 0 {
                 (site + step, site)
             } else {
@@ -140,7 +140,7 @@ fn try_picture(rt: &impl Abort, alloc: Global, picture: u32) -> Result<Option<us
     let mut labelling = Labelling::new(alloc, SITES, 4)?;
     for site in 0..SITES {
         labelling
-            .set_label(site, mixed(picture, 1000 + site) % 4)
+            .set_label(site, hash_of(picture, 1000 + site) % 4)
             .expect(rt, "a label");
     }
     pairs.keeps();
@@ -151,7 +151,7 @@ fn try_picture(rt: &impl Abort, alloc: Global, picture: u32) -> Result<Option<us
             |site: u32, label: u32| -> i64
                 requires { (site < 81) × (label < 4) }
                 ensures { (pos 0 ≤ℤ result) × (result ≤ℤ pos 65535) }
-            { i64::from(mixed(picture, 2000 + 4 * site + label)) },
+            { i64::from(hash_of(picture, 2000 + 4 * site + label)) },
             SITES,
             4,
         ),
