@@ -29,7 +29,8 @@ pushed_is b b' ways got x v e a lane at_v excess is amount made =
 
 -- ---- room on the ways
 
--- a way that an enabled event puts a message on has room for it: the state after the event is sound too
+-- a way that an enabled event puts a message on has room for it: the state after the event is sound
+-- too
 pub room_after : {rooms : List (List ℕ)} {s : core.State} (e : Event) (ways : List (List (List Message))) (b c : ℕ) (m : Message) → IsHeld rooms s → IsEnabled s e
     → (effect s e).ways ≡ core.put_message ways b c m → IsSquare s.blocks ways → b < s.blocks → c < s.blocks → (b ≡ c → ⊥)
     → length (core.way_at ways b c) < room_at rooms b c

@@ -16,7 +16,8 @@ pub record IsSquareOf (n : ℕ) (rooms : List (List ℕ)) : Type 0 where
 -- how many directions of an arc lie between two blocks
 abbrev pub directions_between : BlocksView → ℕ → ℕ → ℕ → ℕ
 directions_between v b c k =
-    count_if (joins v.net v.blocks b c (forward k)) 1 + count_if (joins v.net v.blocks b c (backward k)) 1
+    count_if (joins v.net v.blocks b c (forward k)) 1
+    + count_if (joins v.net v.blocks b c (backward k)) 1
 
 -- each way between two blocks has room for the directions of the first so many arcs
 pub record IsCounted (v : BlocksView) (arcs : ℕ) (rooms : List (List ℕ)) : Type 0 where

@@ -19,7 +19,8 @@ room_at rooms b c = slice_index (slice_index_or rooms b []) c
 -- each way between two blocks has room for a message of each direction between them
 abbrev pub HasRooms : Network → ℕ → List (List ℕ) → Type 0
 HasRooms net blocks rooms =
-    (b c : ℕ) → b < blocks → c < blocks → (b ≡ c → ⊥) → room_between net blocks b c ≤ room_at rooms b c
+    (b c : ℕ) → b < blocks → c < blocks → (b ≡ c → ⊥)
+    → room_between net blocks b c ≤ room_at rooms b c
 
 -- a sound state, and ways that have room
 pub record IsHeld (rooms : List (List ℕ)) (s : State) : Type 0 where

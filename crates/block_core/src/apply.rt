@@ -17,8 +17,9 @@ pub struct NotEnabled;
 
 /// The core: a sound state that goes from event to event, each enabled where it stands.
 ///
-/// Its steps are those of the push-relabel method over blocks that know of each other only by messages
-/// (Goldberg, Tarjan 1988, sections 2 and 4). Whatever the order of events, the state stays sound.
+/// Its steps are those of the push-relabel method over blocks that know of each other only by
+/// messages (Goldberg, Tarjan 1988, sections 2 and 4). Whatever the order of events, the state
+/// stays sound.
 #[derive(Drop)]
 pub struct Core {
     state: State,
@@ -33,8 +34,9 @@ impl Model for Core {
 }
 
 impl Core {
-    /// The opening of a net in so many blocks, at least one and at most `BLOCK_LIMIT`, where it has at most
-    /// `ARC_LIMIT` arcs: node i of n lies in block `i * blocks / n`. The only error is that memory runs out.
+    /// The opening of a net in so many blocks, at least one and at most `BLOCK_LIMIT`, where it has
+    /// at most `ARC_LIMIT` arcs: node i of n lies in block `i * blocks / n`. The only error is that
+    /// memory runs out.
     pub fn open(alloc: Global, net: &Net, blocks: usize) -> Result<Core, AllocError>
         requires { CanSplit net.now blocks }
         ensures { IfOk result (λ core. core ≡ opening_state net.now blocks) }
@@ -43,8 +45,8 @@ impl Core {
         Ok(Core { state })
     }
 
-    /// The event happens, where it is enabled; otherwise it is refused, and nothing is changed. Takes no
-    /// memory.
+    /// The event happens, where it is enabled; otherwise it is refused, and nothing is changed.
+    /// Takes no memory.
     pub fn apply(&mut self, event: Event) -> Result<(), NotEnabled>
         ensures done { OnOk result (Happens self.old event self.new) }
         ensures refused { OnErr result ((¬ IsEnabled self.old event) × (self.new ≡ self.old)) }

@@ -36,7 +36,8 @@ impl Model for CompactMessage {
 
     ghost use Rattle.block_core.specs.Compact.{message_of};
 
-    ghost view = { λ m. message_of m.kind (record { arc = m.arc; back = m.back }) m.amount m.label m.told };
+    ghost view = { λ m. message_of m.kind (record { arc = m.arc; back = m.back })
+        m.amount m.label m.told };
 }
 
 impl CompactMessage {

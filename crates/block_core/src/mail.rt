@@ -33,7 +33,8 @@ impl Model for Mail {
 
 /// Empty ways of one block, each with the room that is told.
 fn empty_ways(alloc: Global, rooms: &[usize]) -> Result<Vec<VecDeque<CompactMessage>>, AllocError>
-    ensures messages { IfOk result (λ ways. map (λ way. way.items) ways.items ≡ map (λ n. []) rooms.now) }
+    ensures messages { IfOk result
+        (λ ways. map (λ way. way.items) ways.items ≡ map (λ n. []) rooms.now) }
     ensures rooms { IfOk result (λ ways. map (λ way. deque_capacity way) ways.items ≡ rooms.now) }
 {
     let mut ways = Vec::with_capacity(alloc, rooms.len())?;
@@ -46,7 +47,8 @@ fn empty_ways(alloc: Global, rooms: &[usize]) -> Result<Vec<VecDeque<CompactMess
 impl Mail {
     /// Empty ways, with the rooms that are told: of each block those of its ways to each other.
     pub fn open(alloc: Global, rooms: &Rooms) -> Result<Mail, AllocError>
-        ensures messages { IfOk result (λ mail. mail.messages ≡ map (λ row. map (λ n. []) row) rooms.now) }
+        ensures messages { IfOk result
+            (λ mail. mail.messages ≡ map (λ row. map (λ n. []) row) rooms.now) }
         ensures rooms { IfOk result (λ mail. mail.rooms ≡ rooms.now) }
     {
         let mut rows = Vec::with_capacity(alloc, rooms.len())?;
@@ -134,7 +136,8 @@ impl Mail {
     /// Whether no message is on the way between so many blocks.
     pub fn is_quiet(&self, count: usize) -> bool
         requires { IsSquare count self.now.messages }
-        ensures { IsTrue result ↔ ((b c : ℕ) → b < count → c < count → way_at self.now.messages b c ≡ []) }
+        ensures { IsTrue result ↔
+            ((b c : ℕ) → b < count → c < count → way_at self.now.messages b c ≡ []) }
     {
         for from in 0..count {
             if !self.is_row_quiet(from, count) {

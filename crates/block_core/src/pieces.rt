@@ -13,7 +13,8 @@ use flow_network::Net;
 
 /// A state in its pieces, so that each block can be worked on by itself, and the ways between them.
 ///
-/// `State::into_pieces` takes a state apart, and `Pieces::into_state` puts together what is a state again.
+/// `State::into_pieces` takes a state apart, and `Pieces::into_state` puts together what is a state
+/// again.
 #[derive(Drop)]
 pub struct Pieces {
     /// The net.
@@ -27,8 +28,8 @@ pub struct Pieces {
 }
 
 impl Pieces {
-    /// The state that the pieces make, where each node and each direction has its place in them and the state
-    /// is sound and its ways have room. Takes no memory.
+    /// The state that the pieces make, where each node and each direction has its place in them and
+    /// the state is sound and its ways have room. Takes no memory.
     pub fn into_state(self) -> State
         requires laid { IsLaid (whole_of self.net self.parts) }
         requires held { IsHeld self.ways.rooms (state_in self) }
@@ -37,8 +38,9 @@ impl Pieces {
         State::of_pieces(self)
     }
 
-    /// What the sink got by what the blocks hold: of each node, what it could give the sink at the opening less
-    /// what it still can. In a sound state that is what the sink got. Takes time linear in the number of nodes.
+    /// What the sink got by what the blocks hold: of each node, what it could give the sink at the
+    /// opening less what it still can. In a sound state that is what the sink got. Takes time
+    /// linear in the number of nodes.
     pub fn sink_total(&self) -> u64
         requires laid { IsLaid (whole_of self.now.net self.now.parts) }
         requires rooms { (v : ℕ) → v < nodes self.now.net
@@ -53,12 +55,14 @@ impl Pieces {
     }
 }
 
-/// What the nodes of a block gave the sink. They follow one another, so that no node's block is looked up.
+/// What the nodes of a block gave the sink. They follow one another, so that no node's block is
+/// looked up.
 fn given_in(net: &Net, parts: &Parts, block: usize) -> u64
     requires laid { IsLaid (whole_of net.now parts.now) }
     requires block { block < length parts.now.blocks.items }
     requires rooms { (v : ℕ) → v < nodes net.now
-        → slice_index (blocks_in (whole_of net.now parts.now)).rooms v ≤ slice_index net.now.sinks v }
+        → slice_index (blocks_in (whole_of net.now parts.now)).rooms v
+        ≤ slice_index net.now.sinks v }
     ensures { result ≡ given_by (whole_of net.now parts.now) block }
 {
     let cells = &parts.blocks[block];

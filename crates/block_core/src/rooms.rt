@@ -75,7 +75,8 @@ impl Rooms {
     fn add_two(&mut self, from: usize, to: usize) -> Result<(), AllocError>
         requires from { from < length self.old }
         requires to { to < length (slice_index_or self.old from []) }
-        ensures { OnOk result (self.new ≡ put_room self.old from to (room_at self.old from to + 2)) }
+        ensures { OnOk result (self.new
+            ≡ put_room self.old from to (room_at self.old from to + 2)) }
     {
         let room = self.row(from)[to];
         let Some(more) = room.checked_add(2) else {
@@ -85,7 +86,8 @@ impl Rooms {
         Ok(())
     }
 
-    /// The ways between the blocks of an arc's ends have room for a message of each of its directions.
+    /// The ways between the blocks of an arc's ends have room for a message of each of its
+    /// directions.
     fn count_arc(&mut self, blocks: &Blocks, homes: &[u8], arc: usize) -> Result<(), AllocError>
         requires some { 1 ≤ blocks.now.blocks }
         requires homes { homes.now ≡ homes_made blocks.now.net blocks.now.blocks }
@@ -104,7 +106,8 @@ impl Rooms {
         Ok(())
     }
 
-    /// Each way has room for a message of each direction between its blocks. One block has no way to another, and no arc is read.
+    /// Each way has room for a message of each direction between its blocks. One block has no way
+    /// to another, and no arc is read.
     pub fn count(alloc: Global, blocks: &Blocks) -> Result<Rooms, AllocError>
         ensures { IfOk result (IsCounted blocks.now (length blocks.now.net.arcs)) }
     {

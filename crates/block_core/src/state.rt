@@ -254,7 +254,8 @@ impl State {
     /// changes.
     fn push_inner(&mut self, direction: Direction) -> bool
         ensures { MatchBool result
-            (IsEnabled self.old (PushInner direction) × (self.new ≡ effect self.old (PushInner direction)))
+            (IsEnabled self.old (PushInner direction)
+            × (self.new ≡ effect self.old (PushInner direction)))
             ((¬ IsEnabled self.old (PushInner direction)) × (self.new ≡ self.old)) }
     {
         if !self.may_push_inner(direction) {

@@ -14,8 +14,8 @@ use Rattle.block_events.specs.Soundness.{IsSound, IsFinished}
 use Rattle.block_events.proofs.Finishing.{quiet_preflow, quiet_gets, finished_smallest, finished_full}
 use Rattle.global_relabel.proofs.Bridge.{reach_of}
 
--- the answer has the flow that the state shows, the nodes whose exact label is below the top one, and what the
--- sink got
+-- the answer has the flow that the state shows, the nodes whose exact label is below the top one,
+-- and what the sink got
 pub record IsShownBy (s : State) (labels : List ℕ) (r : Solved) : Type 0 where
   pub exact : AreExact s labels
   pub flow : flow_of r ≡ shown_flow s

@@ -1,5 +1,5 @@
--- All blocks as they came back, beside the blocks of old with one of them alone as it came back: what lies in that
--- block is the same.
+-- All blocks as they came back, beside the blocks of old with one of them alone as it came back:
+-- what lies in that block is the same.
 use Rattle.std.proofs.Common.{◌≡◌, ℕ, ◌-◌, ◌*◌, ◌/◌, ◌<◌, cond, List, length, slice_index, sym, ◌∙◌, ap}
 use Rattle.flow_network.specs.Cut.{nodes}
 use Rattle.block_events.specs.declared.direction.Direction.{Direction}

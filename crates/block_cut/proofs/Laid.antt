@@ -1,4 +1,5 @@
--- Each block of a net that is laid stands in its place, and blocks that were filled one by one are filled together.
+-- Each block of a net that is laid stands in its place, and blocks that were filled one by one are
+-- filled together.
 use Rattle.std.proofs.Common.{◌≡◌, ℕ, ◌*◌, ◌/◌, ◌-◌, ◌<◌, List, length, slice_index, sym, ◌∙◌, ap, subst, arith}
 use Rattle.std.proofs.lemmas.List.{set-get_or, length-set}
 use Rattle.flow_network.specs.Cut.{nodes}

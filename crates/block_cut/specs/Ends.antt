@@ -11,8 +11,8 @@ use Rattle.block_turns.specs.declared.letter.Letter.{Letter}
 use Rattle.block_turns.specs.Seen.{WaysView}
 use Rattle.block_cut.specs.TurnEvents.{IsTurned}
 
--- which of how many blocks the ends are of, the ways when they were made and now, and of each direction of so
--- many arcs its place in its block
+-- which of how many blocks the ends are of, the ways when they were made and now, and of each
+-- direction of so many arcs its place in its block
 pub record EndsView : Type 0 where
   pub block : ℕ
   pub blocks : ℕ
@@ -50,15 +50,16 @@ outward_direction (Refused x a d told) = x
 
 -- the place of a direction in its block
 abbrev pub place_in : EndsView → Direction → ℕ
-place_in e x = cond (nat_lt x.arc e.arcs) (slice_index e.slots (cond x.back (e.arcs + x.arc) x.arc)) 0
+place_in e x = cond (nat_lt x.arc e.arcs)
+    (slice_index e.slots (cond x.back (e.arcs + x.arc) x.arc)) 0
 
 -- the letter in front of a way
 abbrev pub letter_of : EndsView → List Message → Option Letter
 letter_of e [] = None
 letter_of e (m ∷ rest) = Some (record { message = m; place = place_in e (outward_direction m) })
 
--- what was put beyond the ways as they were, what they lost in front, where room is left, and what is in
--- front
+-- what was put beyond the ways as they were, what they lost in front, where room is left, and what
+-- is in front
 abbrev pub seen_by : EndsView → WaysView
 seen_by e = record {
   sent = λ c. drop (length (first_to e c)) (now_to e c);
@@ -73,5 +74,7 @@ pub record IsEnds (e : EndsView) : Type 0 where
   pub slots : length e.slots ≡ 2 * e.arcs
   pub arcs : e.arcs ≤ arc_limit
   pub rooms : e.now.rooms ≡ e.first.rooms
-  pub turned : IsTurned e.blocks e.block (seen_by e).sent (now_from e) e.first.messages e.now.messages
-  pub takes : (c : ℕ) → c < e.blocks → e.block ≢ c → first_from e c ≡ (seen_by e).taken c ++ now_from e c
+  pub turned : IsTurned e.blocks e.block (seen_by e).sent (now_from e)
+      e.first.messages e.now.messages
+  pub takes : (c : ℕ) → c < e.blocks → e.block ≢ c
+      → first_from e c ≡ (seen_by e).taken c ++ now_from e c

@@ -33,7 +33,8 @@ StartIsSure =
 abbrev pub RoomsTellGot : Type 0
 RoomsTellGot =
     (w : Whole) (got : ℕ) (ways : Ways)
-    → IsLaid w → All (λ B. length B.rooms ≡ count B) w.blocks → IsSound (state_of (blocks_in w) ways got)
+    → IsLaid w → All (λ B. length B.rooms ≡ count B) w.blocks
+    → IsSound (state_of (blocks_in w) ways got)
     → got + sum_by (λ B. sum B.rooms) w.blocks ≡ sum w.net.sinks
 
 -- a sound and quiet state of blocks is one before a round
@@ -46,7 +47,8 @@ QuietIsStart =
 -- after a round what is left on the ways has room there, and the state is held
 abbrev pub RoundIsHeld : Type 0
 RoundIsHeld =
-    (w : Whole) (got : ℕ) (blocks : List CellsView) (left : Ways) (steps : ℕ → ℕ) (rooms : List (List ℕ))
+    (w : Whole) (got : ℕ) (blocks : List CellsView) (left : Ways) (steps : ℕ → ℕ)
+    (rooms : List (List ℕ))
     → HasRooms w.net (length w.blocks) rooms → IsRoundOfTurns w got blocks left steps
     → IsHeld rooms (state_after w blocks left)
     × ((b c : ℕ) → b < length w.blocks → c < length w.blocks → b ≢ c

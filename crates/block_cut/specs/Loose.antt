@@ -8,12 +8,14 @@ use Rattle.block_turns.specs.Steps.{IsOfNode}
 use Rattle.block_cut.specs.Seats.{IsSeated, state_with}
 
 -- the block stands in its place among the others, in a sound state
-pub record IsInPlace (w : Whole) (b : ℕ) (B : CellsView) (ways : List (List (List Message))) (got : ℕ)
+pub record IsInPlace (w : Whole) (b : ℕ) (B : CellsView)
+    (ways : List (List (List Message))) (got : ℕ)
     : Type 0 where
   pub seated : IsSeated w b B
   pub sound : IsSound (state_with w b B ways got)
 
--- an amount of a node's excess that a direction can carry goes on to a node that is at most one label higher
+-- an amount of a node's excess that a direction can carry goes on to a node that is at most one
+-- label higher
 abbrev pub LoosePushKeeps : Type 0
 LoosePushKeeps =
     (w : Whole) (b : ℕ) (B : CellsView) (ways : List (List (List Message))) (got p j a : ℕ)

@@ -19,8 +19,9 @@ IsFlat B = (v : ℕ) → v < count B → label_in B v ≡ 0
 abbrev pub AreLabelsZero : State → Type 0
 AreLabelsZero s = (v : ℕ) → v < nodes s.net → label_of s v ≡ 0
 
--- the same nodes with the same labels and as many directions; where all labels are 0 and the one block stands
--- in its place in a sound state, so does the other, by another amount that the sink got
+-- the same nodes with the same labels and as many directions; where all labels are 0 and the one
+-- block stands in its place in a sound state, so does the other, by another amount that the sink
+-- got
 pub record Opens (old new : CellsView) : Type 0 where
   pub nodes : count new ≡ count old
   pub starts : new.starts ≡ old.starts
@@ -29,10 +30,12 @@ pub record Opens (old new : CellsView) : Type 0 where
   pub stands : (w : Whole) (b : ℕ) (ways : List (List (List Message))) (got : ℕ)
       → IsFlat old → IsInPlace w b old ways got → (got' : ℕ) × IsInPlace w b new ways got'
 
--- as many blocks make a sound state of the pieces' net with the pieces' ways, and all their labels are 0
+-- as many blocks make a sound state of the pieces' net with the pieces' ways, and all their labels
+-- are 0
 pub record AreOpening (p : Pieces) (blocks : List CellsView) : Type 0 where
   pub got : ℕ
   pub size : length blocks ≡ length p.parts.blocks.items
   pub laid : IsLaid (with_blocks (whole_of p.net p.parts) blocks)
   pub sound : IsSound (state_at p blocks p.ways.messages got)
-  pub flat : (b : ℕ) → b < length blocks → IsFlat (block_at (with_blocks (whole_of p.net p.parts) blocks) b)
+  pub flat : (b : ℕ) → b < length blocks
+      → IsFlat (block_at (with_blocks (whole_of p.net p.parts) blocks) b)

@@ -16,10 +16,11 @@ use Rattle.block_core.specs.Pieces.{state_in}
 
 -- the state that other blocks of the pieces' net make with these ways
 abbrev pub state_at : Pieces → List CellsView → List (List (List Message)) → ℕ → State
-state_at p blocks messages got = state_of (blocks_in (with_blocks (whole_of p.net p.parts) blocks)) messages got
+state_at p blocks messages got =
+    state_of (blocks_in (with_blocks (whole_of p.net p.parts) blocks)) messages got
 
--- as many blocks and ways with the same rooms make a sound state of the pieces' net, whose count lies at
--- least n below that of the state in the pieces
+-- as many blocks and ways with the same rooms make a sound state of the pieces' net, whose count
+-- lies at least n below that of the state in the pieces
 pub record IsGoing (p : Pieces) (blocks : List CellsView) (ways : MailView) (n : ℕ) : Type 0 where
   pub got : ℕ
   pub size : length blocks ≡ length p.parts.blocks.items
@@ -33,7 +34,9 @@ pub record IsQuietAndHeld (p : Pieces) : Type 0 where
   pub quiet : IsQuiet (state_in p)
   pub held : IsHeld p.ways.rooms (state_in p)
 
--- the state is as it was, and none of the first so many blocks may do an event that takes no message
-pub record IsStill (p : Pieces) (blocks : List CellsView) (ways : MailView) (first : ℕ) : Type 0 where
+-- the state is as it was, and none of the first so many blocks may do an event that takes no
+-- message
+pub record IsStill (p : Pieces) (blocks : List CellsView) (ways : MailView)
+    (first : ℕ) : Type 0 where
   pub same : state_at p blocks ways.messages p.got ≡ state_in p
   pub none : (b : ℕ) → b < first → (e : Event) → ¬ MayStart b (state_in p) e

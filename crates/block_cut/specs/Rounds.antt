@@ -45,7 +45,8 @@ pub record AreBack (w : Whole) (got : ℕ) (blocks : List CellsView) (left : Way
       → sent b c ≡ taken c b ++ way_at left b c
   pub none : (b : ℕ) → b < length w.blocks → way_at left b b ≡ []
   -- a block that could do something without taking a message did something
-  pub busy : (b : ℕ) (e : Event) → b < length w.blocks → MayStart b (quiet_state w got) e → 0 < steps b
+  pub busy : (b : ℕ) (e : Event) → b < length w.blocks
+      → MayStart b (quiet_state w got) e → 0 < steps b
 
 -- what the rooms lack of what the nodes can send the sink
 abbrev pub rooms_lack : Whole → ℕ
@@ -56,11 +57,13 @@ abbrev pub state_after : Whole → List CellsView → Ways → State
 state_after w blocks left =
     state_of (blocks_in (with_blocks w blocks)) left (rooms_lack (with_blocks w blocks))
 
--- a round of so many events of each block led there, the state is sound, and everything has its place again
+-- a round of so many events of each block led there, the state is sound, and everything has its
+-- place again
 pub record IsRoundOfTurns (w : Whole) (got : ℕ) (blocks : List CellsView)
     (left : Ways) (steps : ℕ → ℕ)
     : Type 0 where
   pub round : RoundOf (quiet_state w got) (state_after w blocks left)
-  pub numbers : (b : ℕ) → b < length w.blocks → length (slice_index_or round.histories b []) ≡ steps b
+  pub numbers : (b : ℕ) → b < length w.blocks
+      → length (slice_index_or round.histories b []) ≡ steps b
   pub sound : IsSound (state_after w blocks left)
   pub laid : IsLaid (with_blocks w blocks)

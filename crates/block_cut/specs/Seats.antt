@@ -9,16 +9,16 @@ use Rattle.block_events.specs.Effects.{state_of}
 use Rattle.laid_blocks.specs.Views.{IsLaid, IsSpot, IsRow, blocks_in}
 use Rattle.block_turns.specs.Steps.{TurnView}
 
--- what went through the ends of the ways of block b: on the way from b to j what it put for j, and on the way
--- from i to b what it took from i
+-- what went through the ends of the ways of block b: on the way from b to j what it put for j, and
+-- on the way from i to b what it took from i
 abbrev pub log_at : ℕ → (ℕ → List Message) → (ℕ → List Message) → ℕ → ℕ → List Message
 log_at b sent taken i j = cond (i == b) (sent j) (cond (j == b) (taken i) [])
 
 abbrev pub logs_of : ℕ → ℕ → (ℕ → List Message) → (ℕ → List Message) → List (List (List Message))
 logs_of n b sent taken = table n (λ i. table n (log_at b sent taken i))
 
--- a block stands in the stead of block b, each of its nodes is one of the net, and each of its places among
--- the directions to other blocks is that of one
+-- a block stands in the stead of block b, each of its nodes is one of the net, and each of its
+-- places among the directions to other blocks is that of one
 pub record IsSeated (w : Whole) (b : ℕ) (B : CellsView) : Type 0 where
   pub laid : IsLaid (put_block w b B)
   pub block : b < length w.blocks

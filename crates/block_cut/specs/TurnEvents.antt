@@ -28,9 +28,10 @@ TurnIsHistory =
 
 -- ---- on one thread
 
--- what a turn of block b makes of the ways between n blocks: what it put stands at their ends, of those to it
--- so much is left, and the ways between two other blocks stay
-pub record IsTurned (n b : ℕ) (sent left : ℕ → List Message) (before after : List (List (List Message)))
+-- what a turn of block b makes of the ways between n blocks: what it put stands at their ends, of
+-- those to it so much is left, and the ways between two other blocks stay
+pub record IsTurned (n b : ℕ) (sent left : ℕ → List Message)
+    (before after : List (List (List Message)))
     : Type 0 where
   pub puts : (c : ℕ) → c < n → b ≢ c → way_at after b c ≡ way_at before b c ++ sent c
   pub takes : (c : ℕ) → c < n → b ≢ c → way_at after c b ≡ left c
@@ -38,10 +39,11 @@ pub record IsTurned (n b : ℕ) (sent left : ℕ → List Message) (before after
   pub own : way_at after b b ≡ way_at before b b
   pub square : IsSquare n after
 
--- n events of the core lead from the state with the one block to that with the other, and the count falls by
--- at least as much
+-- n events of the core lead from the state with the one block to that with the other, and the count
+-- falls by at least as much
 pub record IsTurnRun
-    (w : Whole) (b got n : ℕ) (old new : TurnView) (left : ℕ → List Message) (ways : List (List (List Message)))
+    (w : Whole) (b got n : ℕ) (old new : TurnView) (left : ℕ → List Message)
+    (ways : List (List (List Message)))
     : Type 0 where
   pub events : List Event
   pub number : length events ≡ n
@@ -52,13 +54,15 @@ pub record IsTurnRun
   pub turned : IsTurned (length w.blocks) b new.sent left ways ways'
   pub seated : IsSeated w b new.block
   pub sound : IsSound (state_with w b new.block ways' got')
-  pub lower : potential (state_with w b new.block ways' got') + n ≤ potential (state_with w b old.block ways got)
+  pub lower : potential (state_with w b new.block ways' got') + n
+      ≤ potential (state_with w b old.block ways got)
 
--- a list of a block's own steps, which took what stood in front of the ways of a sound state, is a run of the
--- core
+-- a list of a block's own steps, which took what stood in front of the ways of a sound state, is a
+-- run of the core
 abbrev pub TurnIsRun : Type 0
 TurnIsRun =
-    (w : Whole) (b got n : ℕ) (old new : TurnView) (left : ℕ → List Message) (ways : List (List (List Message)))
+    (w : Whole) (b got n : ℕ) (old new : TurnView) (left : ℕ → List Message)
+    (ways : List (List (List Message)))
     → IsSeated w b old.block → IsSound (state_with w b old.block ways got)
     → ((c : ℕ) → (old.sent c ≡ []) × (old.taken c ≡ []))
     → DoesMany old n new

@@ -9,8 +9,8 @@ use block_turns::{Letter, Ways};
 use std::marker::Model;
 use std::snapshot::Snapshot;
 
-/// One block's ends of the ways of the core, which they hold meanwhile, and the table by which a letter's place
-/// is found.
+/// One block's ends of the ways of the core, which they hold meanwhile, and the table by which a
+/// letter's place is found.
 #[derive(Drop)]
 pub(crate) struct Ends {
     block: usize,
@@ -28,7 +28,8 @@ impl Model for Ends {
 
     ghost view = { λ e. ends_view e.block e.blocks e.first.value e.ways e.slots.items e.arcs };
 
-    ghost invariant = { λ e. IsEnds (ends_view e.block e.blocks e.first.value e.ways e.slots.items e.arcs) };
+    ghost invariant = { λ e. IsEnds
+        (ends_view e.block e.blocks e.first.value e.ways e.slots.items e.arcs) };
 }
 
 /// The direction of a message, or its opposite: that which leaves the block that takes the message.

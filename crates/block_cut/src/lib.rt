@@ -6,11 +6,11 @@
 //! others take too are `push_first`, `answer_of` and `least_side`.
 //!
 //! `block_turns` says what a block did in the block's own terms: places of its lists, and messages.
-//! The laws of `histories` say the same in terms of the net: events of the core (`block_events`) that the
-//! block does by itself, one after another, and when a turn does at least one. Those of `loose` are
-//! of pushes that ask for less than the events do. Those of `seats` put all blocks together that
-//! come back from running workers: with the messages that are left on the way they are a round, so
-//! they show a sound state, and each stands in its seat for the next round.
+//! The laws of `histories` say the same in terms of the net: events of the core (`block_events`)
+//! that the block does by itself, one after another, and when a turn does at least one. Those of
+//! `loose` are of pushes that ask for less than the events do. Those of `seats` put all blocks
+//! together that come back from running workers: with the messages that are left on the way they
+//! are a round, so they show a sound state, and each stands in its seat for the next round.
 #![tactic(auto)]
 
 mod answers;

@@ -54,8 +54,8 @@ fn send_up(cells: &mut Cells, v: usize)
     }
 }
 
-/// Gives the sink what it can take of the node's excess, and sends the rest to lower nodes, by its last direction
-/// first.
+/// Gives the sink what it can take of the node's excess, and sends the rest to lower nodes, by its
+/// last direction first.
 fn send_down(cells: &mut Cells, v: usize)
     requires { v < count cells.old }
     ensures { Opens cells.old cells.new }
@@ -75,8 +75,8 @@ fn send_down(cells: &mut Cells, v: usize)
     }
 }
 
-/// Gives the sink what it can take of the node's excess, and sends the rest to higher nodes, by its last direction
-/// first.
+/// Gives the sink what it can take of the node's excess, and sends the rest to higher nodes, by its
+/// last direction first.
 fn send_again(cells: &mut Cells, v: usize)
     requires { v < count cells.old }
     ensures { Opens cells.old cells.new }
@@ -96,9 +96,10 @@ fn send_again(cells: &mut Cells, v: usize)
     }
 }
 
-/// Three passes over the nodes of a block: by rising nodes, each sends on to higher ones; then by falling nodes, each
-/// to lower ones; then by rising nodes again; the last two by each node's last direction first. So excess goes as far
-/// as it can one way, what the sink has not taken then the other way, and what is left goes other ways.
+/// Three passes over the nodes of a block: by rising nodes, each sends on to higher ones; then by
+/// falling nodes, each to lower ones; then by rising nodes again; the last two by each node's last
+/// direction first. So excess goes as far as it can one way, what the sink has not taken then the
+/// other way, and what is left goes other ways.
 fn open_block(cells: &mut Cells)
     ensures { Opens cells.old cells.new }
 {
@@ -126,7 +127,8 @@ fn open_blocks(old: &Snapshot<Pieces>, blocks: &mut Vec<Cells>)
 /// The state that the pieces make with what the sink got by what the blocks hold. Takes no memory.
 fn state_of(old: &Snapshot<Pieces>, pieces: Pieces) -> State
     requires held { IsHeld old.now.value.ways.rooms (state_in old.now.value) }
-    requires same { pieces ≡ record old.now.value { parts = record old.now.value.parts { blocks = pieces.parts.blocks } } }
+    requires same { pieces ≡ record old.now.value
+        { parts = record old.now.value.parts { blocks = pieces.parts.blocks } } }
     requires opening { AreOpening old.now.value pieces.parts.blocks.items }
     ensures { result.net ≡ old.now.value.net }
 {
@@ -160,10 +162,10 @@ fn are_labels_zero(state: &State) -> bool
     true
 }
 
-/// The state after the first pushes within its blocks, with no message on the way: each node gives the sink what it
-/// takes, and what is left goes on to neighbours within the block and by them to the sink, where all labels are 0; else
-/// the flow stays as it is. Before a first search from the sink this is worth several of them. No clause says how far
-/// excess goes. Takes no memory.
+/// The state after the first pushes within its blocks, with no message on the way: each node gives
+/// the sink what it takes, and what is left goes on to neighbours within the block and by them to
+/// the sink, where all labels are 0; else the flow stays as it is. Before a first search from the
+/// sink this is worth several of them. No clause says how far excess goes. Takes no memory.
 pub fn push_first(state: State) -> State
     ensures net { result.net ≡ state.net }
     ensures quiet { IsQuiet result }
@@ -173,8 +175,8 @@ pub fn push_first(state: State) -> State
     state
 }
 
-/// The state after the first pushes within its blocks, where all labels are 0; else the state as it is. Takes no
-/// memory.
+/// The state after the first pushes within its blocks, where all labels are 0; else the state as it
+/// is. Takes no memory.
 pub(crate) fn open_if_new(state: State) -> State
     ensures { result.net ≡ state.net }
 {
@@ -185,8 +187,8 @@ pub(crate) fn open_if_new(state: State) -> State
     }
 }
 
-/// The state after the first pushes within its blocks, in which excess goes on without regard to labels: while all of
-/// them are 0, they fit every flow. Takes no memory.
+/// The state after the first pushes within its blocks, in which excess goes on without regard to
+/// labels: while all of them are 0, they fit every flow. Takes no memory.
 fn open(state: State) -> State
     requires { AreLabelsZero state }
     ensures { result.net ≡ state.net }

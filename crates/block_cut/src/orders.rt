@@ -3,12 +3,12 @@ ghost use Rattle.std.specs.Prelude.{◌≤◌, length};
 use block_net::{Cells, Parts};
 use std::alloc::{AllocError, Global};
 
-/// In a round, the nodes that first pass on what they have together hold this many times what the sink can still take:
-/// the rest of what there is hardly gets to the sink.
+/// In a round, the nodes that first pass on what they have together hold this many times what the
+/// sink can still take: the rest of what there is hardly gets to the sink.
 const SHARE: u64 = 2;
 
-/// One of so many of these nodes at least has something: else to go over them costs more than it gives, and the nodes
-/// that wait are discharged straight.
+/// One of so many of these nodes at least has something: else to go over them costs more than it
+/// gives, and the nodes that wait are discharged straight.
 const NODES_A_HOLDER: usize = 16;
 
 /// What a node has, and what it can still give the sink.
@@ -62,7 +62,8 @@ impl Nodes for Spread<'_> {
     }
 }
 
-/// What the sink can still take of the nodes of an order, in which those that can give it something stand first.
+/// What the sink can still take of the nodes of an order, in which those that can give it something
+/// stand first.
 fn amount_wanted<N: Nodes>(nodes: &N, order: &[u32]) -> u64 {
     let mut wanted = 0u64;
     'nodes: for v in order {
@@ -77,7 +78,8 @@ fn amount_wanted<N: Nodes>(nodes: &N, order: &[u32]) -> u64 {
     wanted
 }
 
-/// So many nodes, of which so many have something; none where that is fewer than one in `NODES_A_HOLDER`.
+/// So many nodes, of which so many have something; none where that is fewer than one in
+/// `NODES_A_HOLDER`.
 fn worth(near: usize, holders: usize) -> usize
     ensures { result ≤ near }
 {
@@ -87,9 +89,9 @@ fn worth(near: usize, holders: usize) -> usize
     near
 }
 
-/// How many of the first nodes of an order are to pass on what they have first: those up to the first with which they
-/// together have `SHARE` times what the sink can still take, or up to the last that has something; none where few of
-/// them have something.
+/// How many of the first nodes of an order are to pass on what they have first: those up to the
+/// first with which they together have `SHARE` times what the sink can still take, or up to the
+/// last that has something; none where few of them have something.
 fn near_nodes<N: Nodes>(nodes: &N, order: &[u32]) -> usize
     ensures { result ≤ length order.now }
 {
@@ -116,8 +118,8 @@ fn near_nodes<N: Nodes>(nodes: &N, order: &[u32]) -> usize
     worth(near, holders)
 }
 
-/// The order of the one block there is, whose nodes have the same numbers in it as in the net. The only error is that
-/// memory runs out.
+/// The order of the one block there is, whose nodes have the same numbers in it as in the net. The
+/// only error is that memory runs out.
 fn one_order(alloc: Global, cells: &Cells, order: &[u32]) -> Result<Vec<Vec<u32>>, AllocError> {
     let near = near_nodes(cells, order);
     let mut orders = Vec::with_capacity(alloc, 1)?;
@@ -125,8 +127,8 @@ fn one_order(alloc: Global, cells: &Cells, order: &[u32]) -> Result<Vec<Vec<u32>
     Ok(orders)
 }
 
-/// An empty order for each of so many blocks, with room for as many nodes as they have of so many on average. The only
-/// error is that memory runs out.
+/// An empty order for each of so many blocks, with room for as many nodes as they have of so many
+/// on average. The only error is that memory runs out.
 fn empty_orders(alloc: Global, nodes: usize, blocks: usize) -> Result<Vec<Vec<u32>>, AllocError> {
     let mut orders = Vec::with_capacity(alloc, blocks)?;
     'blocks: for b in 0..blocks {
@@ -135,8 +137,8 @@ fn empty_orders(alloc: Global, nodes: usize, blocks: usize) -> Result<Vec<Vec<u3
     Ok(orders)
 }
 
-/// The nodes of an order, each in that of its block and numbered from the block's first node. The only error is that
-/// memory runs out.
+/// The nodes of an order, each in that of its block and numbered from the block's first node. The
+/// only error is that memory runs out.
 fn deal(alloc: Global, spread: &Spread<'_>, order: &[u32]) -> Result<Vec<Vec<u32>>, AllocError> {
     let mut orders = empty_orders(alloc, order.len(), spread.parts.blocks.len())?;
     'nodes: for v in order {
@@ -149,10 +151,10 @@ fn deal(alloc: Global, spread: &Spread<'_>, order: &[u32]) -> Result<Vec<Vec<u32
     Ok(orders)
 }
 
-/// For each block those of its nodes that are to pass on what they have first, from the last on, numbered from the
-/// block's first node: of an order of all nodes the first that have enough for the sink, and none where few of them
-/// have something. `homes` tells the block of each node. What is no node is passed over. The only error is that memory
-/// runs out.
+/// For each block those of its nodes that are to pass on what they have first, from the last on,
+/// numbered from the block's first node: of an order of all nodes the first that have enough for
+/// the sink, and none where few of them have something. `homes` tells the block of each node. What
+/// is no node is passed over. The only error is that memory runs out.
 pub(crate) fn orders_of(
     alloc: Global,
     parts: &Parts,

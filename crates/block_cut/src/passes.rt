@@ -20,11 +20,12 @@ const PASSES: usize = 3;
 /// A turn ends after more new labels than its block has nodes, divided by this.
 const NODES_A_RISE: usize = 32;
 
-/// How many events a turn does at most: as many as can be counted, since it is new labels that end a turn here.
+/// How many events a turn does at most: as many as can be counted, since it is new labels that end
+/// a turn here.
 const EVENTS: u32 = u32::MAX;
 
-/// A turn of each block over the ways: the ways and the table of places afterwards, and whether some block did an
-/// event. Takes no memory.
+/// A turn of each block over the ways: the ways and the table of places afterwards, and whether
+/// some block did an event. Takes no memory.
 fn pass(
     old: &Snapshot<Pieces>,
     blocks: &mut Vec<Block>,
@@ -57,8 +58,8 @@ fn pass(
     (ways, slots, some)
 }
 
-/// Passes over the blocks until one does no event, at most so many: the ways and the table of places afterwards,
-/// and whether some block did an event. Takes no memory.
+/// Passes over the blocks until one does no event, at most so many: the ways and the table of
+/// places afterwards, and whether some block did an event. Takes no memory.
 fn passes(
     old: &Snapshot<Pieces>,
     blocks: &mut Vec<Block>,
@@ -115,8 +116,8 @@ fn more_passes(
     (ways, slots)
 }
 
-/// The blocks, in each of which the nodes that have excess and are not cut off wait, with their orders. The only error
-/// is that memory runs out.
+/// The blocks, in each of which the nodes that have excess and are not cut off wait, with their
+/// orders. The only error is that memory runs out.
 fn blocks_of(
     alloc: Global,
     cells: Vec<Cells>,
@@ -166,9 +167,10 @@ fn state_of(old: &Snapshot<Pieces>, net: Net, parts: Parts, ways: Mail) -> State
     pieces.into_state()
 }
 
-/// Turns of the blocks, in passes, in which nodes of each block first pass on what they have: of an order the first that
-/// have enough for the sink, in reverse, where enough of them have something. Best are the nearest to the sink first.
-/// `homes` tells the block of each node. The only error is that memory runs out.
+/// Turns of the blocks, in passes, in which nodes of each block first pass on what they have: of an
+/// order the first that have enough for the sink, in reverse, where enough of them have something.
+/// Best are the nearest to the sink first. `homes` tells the block of each node. The only error is
+/// that memory runs out.
 pub(crate) fn work(
     alloc: Global,
     state: State,

@@ -2,21 +2,23 @@
 
 ghost use Rattle.block_cut.specs.HistoryLaws.{SeatsMakeRound, StartIsSure, RoomsTellGot, QuietIsStart, RoundIsHeld};
 
-/// Blocks that came back, each after steps of its own, are a round from the state that they showed before:
-/// what they show now, with the messages that are left on the way, is a sound state, whatever the schedule
-/// was, and each block stands in its seat again. What the sink got is what the rooms lack.
+/// Blocks that came back, each after steps of its own, are a round from the state that they showed
+/// before: what they show now, with the messages that are left on the way, is a sound state,
+/// whatever the schedule was, and each block stands in its seat again. What the sink got is what
+/// the rooms lack.
 pub fn seats_make_round()
     ensures { SeatsMakeRound }
 {}
 
-/// Where no message is on the way, an event of a block that takes none is enabled, and room is seen for a
-/// message to each other block, one of the block's steps is sure: then its first turn does at least one.
+/// Where no message is on the way, an event of a block that takes none is enabled, and room is seen
+/// for a message to each other block, one of the block's steps is sure: then its first turn does at
+/// least one.
 pub fn start_is_sure()
     ensures { StartIsSure }
 {}
 
-/// In a sound state what the sink got, with the rooms of all blocks, is all that the nodes can send the sink:
-/// so the blocks alone tell what it got.
+/// In a sound state what the sink got, with the rooms of all blocks, is all that the nodes can send
+/// the sink: so the blocks alone tell what it got.
 pub fn rooms_tell_got()
     ensures { RoomsTellGot }
 {}
@@ -26,8 +28,8 @@ pub fn quiet_is_start()
     ensures { QuietIsStart }
 {}
 
-/// After a round, ways with a room for each direction between their blocks have room for what is left on them, and
-/// the state is one that the pieces can be put together to.
+/// After a round, ways with a room for each direction between their blocks have room for what is
+/// left on them, and the state is one that the pieces can be put together to.
 pub fn round_is_held()
     ensures { RoundIsHeld }
 {}

@@ -50,8 +50,8 @@ fn take_row(state: &mut State, from: u32) -> bool
     some
 }
 
-/// The messages that are on the way are taken, each way once; no where no message is on the way, and nothing
-/// changes.
+/// The messages that are on the way are taken, each way once; no where no message is on the way,
+/// and nothing changes.
 pub(crate) fn take_all(state: &mut State) -> bool
     ensures taken { IsTakenIn state.old state.new result }
     ensures none { IsFalse result → IsQuiet state.new }
@@ -70,8 +70,8 @@ pub(crate) fn take_all(state: &mut State) -> bool
     some
 }
 
-/// Takes all that is on the way: each parcel is taken or sent back, and each answer ends its flight, until no
-/// message is left. The labels stay. Takes no memory.
+/// Takes all that is on the way: each parcel is taken or sent back, and each answer ends its
+/// flight, until no message is left. The labels stay. Takes no memory.
 pub fn take_in(state: &mut State)
     ensures quiet { IsQuiet state.new }
     ensures took { TookIn state.old state.new }

@@ -9,8 +9,8 @@ use crate::ends::Ends;
 use block_core::Mail;
 use block_turns::{Block, turn};
 
-/// One turn of a block over the core's ways, by ends that were just made: it does a list of at most `limit` events,
-/// which is a run of the core, and answers how many. Takes no memory.
+/// One turn of a block over the core's ways, by ends that were just made: it does a list of at most
+/// `limit` events, which is a run of the core, and answers how many. Takes no memory.
 pub(crate) fn turn_over(block: &mut Block, ends: &mut Ends, limit: u32) -> u32
     requires { ends.old.now ≡ ends.old.first }
     ensures few { result ≤ limit }
@@ -25,8 +25,8 @@ pub(crate) fn turn_over(block: &mut Block, ends: &mut Ends, limit: u32) -> u32
     count
 }
 
-/// One turn of block `b` of so many over the ways that are given, with the table of the directions' places: the
-/// ways and the table afterwards, and how many events it did. Takes no memory.
+/// One turn of block `b` of so many over the ways that are given, with the table of the directions'
+/// places: the ways and the table afterwards, and how many events it did. Takes no memory.
 pub(crate) fn turn_of(
     block: &mut Block,
     ways: Mail,
@@ -44,8 +44,10 @@ pub(crate) fn turn_of(
     ensures slots { result.1.items ≡ slots.items }
     ensures few { result.2 ≤ limit }
     ensures some { 0 < limit → (e : Step)
-        → IsSure block.old (seen_by (ends_view b blocks ways ways slots.items arcs)) e → 0 < result.2 }
-    ensures run { ReachesFrom blocks b result.2 block.old block.new ways.messages result.0.messages }
+        → IsSure block.old (seen_by (ends_view b blocks ways ways slots.items arcs))
+        e → 0 < result.2 }
+    ensures run { ReachesFrom blocks b result.2 block.old block.new ways.messages
+        result.0.messages }
 {
     let mut ends = Ends::new(b, blocks, ways, slots, arcs);
     let count = turn_over(block, &mut ends, limit);

@@ -38,7 +38,8 @@ Tells x k (Parcel y a d) = y ≡ opposite x → d ≤ k
 Tells x k (Accepted y a) = Unit {0}
 Tells x k (Refused y a d told) = y ≡ x → told ≤ k
 
--- parcels of the opposite direction that stand before an answer that the direction's parcel was taken lie below d
+-- parcels of the opposite direction that stand before an answer that the direction's parcel was
+-- taken lie below d
 abbrev pub IsUnder : Direction → ℕ → Message → Message → Type 0
 IsUnder x d (Parcel y a k) (Accepted z n) = y ≡ opposite x → z ≡ x → k < d
 IsUnder x d (Parcel y a k) m = Unit {0}

@@ -1,4 +1,5 @@
--- What a parcel in front brings fits: why a parcel must not stand before the answer of the opposite direction.
+-- What a parcel in front brings fits: why a parcel must not stand before the answer of the opposite
+-- direction.
 use Rattle.std.proofs.Common.{◌≡◌, ℕ, suc, ◌+◌, ◌<◌, ◌≤◌, Bool, true, false, List, [], ◌∷◌, length, get_or, sum, Some, refl, sym, ◌∙◌, ap, inl, inr, arith}
 use Rattle.std.proofs.lemmas.Bool.{cases_eq, cases_lt, cases_Bool, eq-eqb}
 use Rattle.sums.specs.Sums.{count_if}
@@ -96,7 +97,8 @@ names_means x m h = elim (cases_Bool (is_same (direction_of m) x)) [
 amount_is : (a d : ℕ) (g : Flight) → Some (record { amount = a; label = d }) ≡ Some g → a ≡ g.amount
 amount_is a d g h = let e : record { amount = a; label = d } ≡ g = cc in ap (λ (q : Flight). q.amount) e
 
--- the message of the opposite direction's parcel carries its amount, where a parcel in front is to be taken
+-- the message of the opposite direction's parcel carries its amount, where a parcel in front is to
+-- be taken
 opposite_carries : (s : State) (b c b' c' k : ℕ) (x : Direction) (a d : ℕ) (rest : List Message) (g : Flight) (m : Message) → IsSound s
     → way_at s.ways b c ≡ Parcel x a d ∷ rest → near_block s.net s.blocks x ≡ b → far_block s.net s.blocks x ≡ c → label_of s (far s.net x) + 1 ≡ d
     → flight_of s (opposite x) ≡ Some g → k < length (way_at s.ways b' c') → get_or (way_at s.ways b' c') k (Parcel x a d) ≡ m
@@ -131,8 +133,8 @@ residual_at s k false = omega arith
 residual-le : (s : State) (x : Direction) → residual_of s (opposite x) ≤ residual_of s (forward x.arc) + residual_of s (backward x.arc)
 residual-le s x = residual_at s x.arc x.back
 
--- in a worker's own terms: the label is within the labels, and the amount fits beside the residual and the
--- flight of the opposite direction
+-- in a worker's own terms: the label is within the labels, and the amount fits beside the residual
+-- and the flight of the opposite direction
 pub accept_fits : (s : State) (b c : ℕ) (x : Direction) (a d : ℕ) (rest : List Message) → IsSound s → way_at s.ways b c ≡ Parcel x a d ∷ rest
     → label_of s (far s.net x) + 1 ≡ d
     → (d ≤ top s.net) × (residual_of s (opposite x) + amount_out (flight_of s (opposite x)) + a ≤ (arc_at s.net x.arc).capacity)

@@ -121,7 +121,8 @@ learned_at : (f : Option Flight) (k d : ℕ) → ((f ≡ None) × (cond (is_some
 learned_at None k d = inl (refl, refl)
 learned_at (Some g) k d = inr (g, refl, refl)
 
--- a parcel that waits in the way of the answer is below the label of the node that the answer goes to
+-- a parcel that waits in the way of the answer is below the label of the node that the answer goes
+-- to
 behind_accepted : (s : State) (lanes : Lanes) (b c : ℕ) (x : Direction) (a d : ℕ) (n : Message) → IsSound s
     → ((y : Direction) → IsDirection s.net y → (lane_at lanes y).flight ≡ flight_of s y)
     → IsDirection s.net x → flight_of s x ≡ Some (record { amount = a; label = d }) → label_of s (far s.net x) + 1 ≡ d

@@ -6,8 +6,8 @@ use Rattle.block_events.specs.Directions.{forward, backward, near, far}
 use Rattle.block_events.specs.States.{State, room_of, residual_of}
 use Rattle.block_events.specs.Reach.{ReachesSinkIn}
 
--- the same nodes and ends of arcs; each arc carries what can be taken back in the state and has both residuals
--- as its capacity; and each node has its room left
+-- the same nodes and ends of arcs; each arc carries what can be taken back in the state and has
+-- both residuals as its capacity; and each node has its room left
 pub record IsShown (s : State) (net : Network) (flow : Flow) : Type 0 where
   pub count : nodes net ≡ nodes s.net
   pub arcs : length net.arcs ≡ length s.net.arcs

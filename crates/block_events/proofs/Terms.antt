@@ -1,4 +1,5 @@
--- In a sound state an enabled event is enabled in its block's own terms, and takes what stands in front.
+-- In a sound state an enabled event is enabled in its block's own terms, and takes what stands in
+-- front.
 use Rattle.std.proofs.Common.{◌≡◌, ◌≢◌, ℕ, ◌<◌, ◌≤◌, List, [], ◌∷◌, ◌++◌, refl, sym, ◌∙◌, ap, subst, inl, inr, arith}
 use Rattle.std.proofs.lemmas.Bool.{cases_eq}
 use Rattle.block_events.specs.declared.direction.Direction.{Direction}

@@ -1,5 +1,5 @@
--- What all blocks of a net hold of its nodes and directions, and what each event does to that. What an event does
--- to the messages on the way stands beside it in Events.
+-- What all blocks of a net hold of its nodes and directions, and what each event does to that. What
+-- an event does to the messages on the way stands beside it in Events.
 use Rattle.std.specs.Prelude.{ℕ, ◌+◌, ◌-◌, cond, max, List, length, map, slice_index, slice_set, Some, None}
 use Rattle.std.specs.Option.{is_some}
 use Rattle.std.specs.List.{range_with_len}
@@ -59,12 +59,14 @@ abbrev pub blocks_after_push : BlocksView → Direction → ℕ → BlocksView
 blocks_after_push b x a =
     let less = slice_set b.excess (near b.net x) (slice_index b.excess (near b.net x) - a) in
     let taken =
-    put_lane b.lanes x (record (lane_at b.lanes x) { residual = (lane_at b.lanes x).residual - a }) in
+    put_lane b.lanes x (record (lane_at b.lanes x)
+    { residual = (lane_at b.lanes x).residual - a }) in
     record b {
       excess = slice_set less (far b.net x) (slice_index less (far b.net x) + a);
       lanes =
           put_lane taken (opposite x)
-          (record (lane_at taken (opposite x)) { residual = (lane_at taken (opposite x)).residual + a });
+          (record (lane_at taken (opposite x))
+          { residual = (lane_at taken (opposite x)).residual + a });
     }
 
 -- an amount leaves along a direction
@@ -77,8 +79,8 @@ blocks_after_send b x a = record b {
   });
 }
 
--- the lane of the opposite direction, after a parcel was taken: it learns the parcel's label, but not
--- while a parcel of its own is out
+-- the lane of the opposite direction, after a parcel was taken: it learns the parcel's label, but
+-- not while a parcel of its own is out
 abbrev pub lane_after_accept : Lane → ℕ → ℕ → Lane
 lane_after_accept lane a d =
     record lane {
@@ -107,12 +109,13 @@ blocks_after_return b x a told = record b {
       (record { residual = (lane_at b.lanes x).residual + a; known = told; flight = None });
 }
 
--- a direction once it knows the label of its far end, where it leads to another block; inner directions know
--- nothing
+-- a direction once it knows the label of its far end, where it leads to another block; inner
+-- directions know nothing
 abbrev pub told_lane : BlocksView → Direction → Lane
 told_lane b x =
     record (lane_at b.lanes x) {
-      known = cond (is_border b.net b.blocks x) (slice_index b.labels (far b.net x)) (lane_at b.lanes x).known;
+      known = cond (is_border b.net b.blocks x) (slice_index b.labels (far b.net x))
+          (lane_at b.lanes x).known;
     }
 
 -- each direction to another block knows the label of its far end

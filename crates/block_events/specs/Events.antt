@@ -43,7 +43,8 @@ after_send s x a =
 -- the parcel in front is taken
 abbrev pub after_accept : State → ℕ → ℕ → List Message → State
 after_accept s b c (Parcel x a d ∷ rest) =
-    state_of (effects.blocks_after_accept (view_of s) x a d) (put_message (put_way s.ways b c rest) c b (Accepted x a)) s.got
+    state_of (effects.blocks_after_accept (view_of s) x a d)
+    (put_message (put_way s.ways b c rest) c b (Accepted x a)) s.got
 after_accept s b c way = s
 
 -- the parcel in front is sent back, with the label that stands against it
@@ -55,7 +56,8 @@ after_refuse s b c way = s
 
 -- the answer in front ends the flight
 abbrev pub after_settle : State → ℕ → ℕ → List Message → State
-after_settle s b c (Accepted x a ∷ rest) = state_of (effects.blocks_after_settle (view_of s) x) (put_way s.ways b c rest) s.got
+after_settle s b c (Accepted x a ∷ rest) =
+    state_of (effects.blocks_after_settle (view_of s) x) (put_way s.ways b c rest) s.got
 after_settle s b c (Refused x a d told ∷ rest) =
     state_of (effects.blocks_after_return (view_of s) x a told) (put_way s.ways b c rest) s.got
 after_settle s b c way = s
@@ -117,7 +119,8 @@ IsEnabled s (PushSink v) = IsActive s v × (0 < room_of s v) × (label_of s v �
 IsEnabled s (Relabel v) = IsActive s v × (label_of s v < highest_label s v)
 IsEnabled s (Send x) =
     IsDirection s.net x × (is_border s.net s.blocks x ≡ true) × IsActive s (near s.net x)
-    × (0 < residual_of s x) × (label_of s (near s.net x) ≡ known_of s x + 1) × (flight_of s x ≡ None)
+    × (0 < residual_of s x) × (label_of s (near s.net x) ≡ known_of s x + 1)
+    × (flight_of s x ≡ None)
 IsEnabled s (Accept b c) = IsWay s b c × MayAccept s (way_at s.ways b c)
 IsEnabled s (Refuse b c) = IsWay s b c × MayRefuse s (way_at s.ways b c)
 IsEnabled s (Settle b c) = IsWay s b c × MaySettle (way_at s.ways b c)

@@ -25,7 +25,8 @@ EventKeeps = (s t : State) (e : Event) → IsSound s → Happens s e t → IsSou
 
 -- each event but `RaiseAll` lowers the count
 abbrev pub EventLowers : Type 0
-EventLowers = (s t : State) (e : Event) → IsSound s → Happens s e t → e ≢ RaiseAll → potential t < potential s
+EventLowers = (s t : State) (e : Event) → IsSound s → Happens s e t → e ≢ RaiseAll
+    → potential t < potential s
 
 -- and `RaiseAll` does not raise it
 abbrev pub RaiseNeverRaises : Type 0
@@ -42,8 +43,8 @@ OpeningCount = (net : Network) (blocks : ℕ) → IsNet net → 1 ≤ blocks
     → potential (opening_state net blocks)
     ≡ top net * (nodes net + borders (opening_state net blocks)) * unit (opening_state net blocks)
 
--- a list of events from the opening leads to a sound state, and has at most as many events other than
--- `RaiseAll` as the count of the opening
+-- a list of events from the opening leads to a sound state, and has at most as many events other
+-- than `RaiseAll` as the count of the opening
 pub record IsRunOf (net : Network) (blocks : ℕ) (es : List Event) (t : State) : Type 0 where
   pub sound : IsSound t
   pub few : steps es + potential t ≤ potential (opening_state net blocks)
@@ -57,15 +58,16 @@ EveryList =
 abbrev pub GoesOn : Type 0
 GoesOn = (s : State) → IsSound s → ((e : Event) × (e ≢ RaiseAll) × IsEnabled s e) ⊎ IsFinished s
 
--- in a sound and finished state the nodes that reach the sink are the smallest least cut, and the sink
--- got its capacity
+-- in a sound and finished state the nodes that reach the sink are the smallest least cut, and the
+-- sink got its capacity
 pub record IsSmallestAndFullIn (s : State) (side : ℕ → Bool) : Type 0 where
   pub smallest : IsSmallestLeastCut s.net side
   pub full : s.got ≡ capacity_of s.net side
 
 abbrev pub FinishedIsSmallest : Type 0
 FinishedIsSmallest =
-    (s : State) (side : ℕ → Bool) → IsSound s → IsFinished s → IsReachOf s side → IsSmallestAndFullIn s side
+    (s : State) (side : ℕ → Bool) → IsSound s → IsFinished s → IsReachOf s side
+    → IsSmallestAndFullIn s side
 
 -- and the flow that the state shows certifies that cut, with what the sink got as its value
 abbrev pub FinishedIsCertified : Type 0
@@ -79,8 +81,8 @@ WayFits =
     (s : State) (b c : ℕ) → IsSound s → b < s.blocks → c < s.blocks
     → length (way_at s.ways b c) ≤ room_between s.net s.blocks b c
 
--- a parcel that is to be taken fits in the receiver's own terms: its label is within the labels, and its
--- amount within the arc beside the residual and the flight of the opposite direction
+-- a parcel that is to be taken fits in the receiver's own terms: its label is within the labels,
+-- and its amount within the arc beside the residual and the flight of the opposite direction
 abbrev pub AcceptFits : Type 0
 AcceptFits =
     (s : State) (b c : ℕ) (x : Direction) (a d : ℕ) (rest : List Message) → IsSound s
@@ -100,10 +102,12 @@ SettleFits =
 -- an excess and what a message in front carries are within what the source sends
 abbrev pub ExcessFits : Type 0
 ExcessFits =
-    (s : State) (b c v : ℕ) (m : Message) (rest : List Message) → IsSound s → way_at s.ways b c ≡ m ∷ rest
+    (s : State) (b c v : ℕ) (m : Message) (rest : List Message) → IsSound s
+    → way_at s.ways b c ≡ m ∷ rest
     → v < nodes s.net
     → excess_of s v + carries m ≤ sum s.net.sources
 
 -- where no message is on the way, what the sink got is at most the capacity of each cut
 abbrev pub SinkGotAtMostEachCut : Type 0
-SinkGotAtMostEachCut = (s : State) (side : ℕ → Bool) → IsSound s → IsQuiet s → s.got ≤ capacity_of s.net side
+SinkGotAtMostEachCut = (s : State) (side : ℕ → Bool) → IsSound s → IsQuiet s
+    → s.got ≤ capacity_of s.net side

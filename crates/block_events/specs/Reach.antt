@@ -18,7 +18,8 @@ ReachesSinkIn s (suc (suc d)) v =
 abbrev pub ReachesSink : State → ℕ → Type 0
 ReachesSink s v = (d : ℕ) × ReachesSinkIn s d v
 
--- the least number of residual directions from v to the sink; or the top label, where no path leads there
+-- the least number of residual directions from v to the sink; or the top label, where no path leads
+-- there
 abbrev pub IsExact : State → ℕ → ℕ → Type 0
 IsExact s v label =
     ((label ≤ nodes s.net) × ReachesSinkIn s label v × ((d : ℕ) → ReachesSinkIn s d v → label ≤ d))

@@ -33,8 +33,8 @@ no_messages n = replicate n (replicate n [])
 abbrev pub without_messages : State → State
 without_messages s = with_ways s (no_messages s.blocks)
 
--- what a history of block b makes of the ways: what it put stands at their ends, what it took is gone from
--- their fronts, and the ways between two other blocks stay
+-- what a history of block b makes of the ways: what it put stands at their ends, what it took is
+-- gone from their fronts, and the ways between two other blocks stay
 pub record IsPassed (b : ℕ) (before logs after : List (List (List Message))) : Type 0 where
   pub puts : (c : ℕ) → b ≢ c → way_at after b c ≡ way_at before b c ++ way_at logs b c
   pub takes : (c : ℕ) → b ≢ c → way_at before c b ≡ way_at logs c b ++ way_at after c b
@@ -48,7 +48,8 @@ HistoryRuns =
     (b : ℕ) (s t : State) (h : List Event) (left : ℕ → List Message)
     → IsSound s → IsHistory b (without_messages s) h t
     → ((c : ℕ) → b ≢ c → way_at s.ways c b ≡ way_at t.ways c b ++ left c)
-    → (ways : List (List (List Message))) × IsRunOfEvents s h (with_ways t ways) × IsPassed b s.ways t.ways ways
+    → (ways : List (List (List Message))) × IsRunOfEvents s h (with_ways t ways)
+    × IsPassed b s.ways t.ways ways
 
 -- the event is one of block b
 abbrev pub IsEventOf : ℕ → State → Event → Type 0
@@ -61,17 +62,19 @@ IsEventOf b s (Refuse c to) = to ≡ b
 IsEventOf b s (Settle c to) = to ≡ b
 IsEventOf b s RaiseAll = ⊥
 
--- what block b took from each other block stood in front of the way from there, and the rest is left
+-- what block b took from each other block stood in front of the way from there, and the rest is
+-- left
 abbrev pub TookFronts : ℕ → State → State → Type 0
 TookFronts b s t =
     (c : ℕ) → b ≢ c → (left : List Message) × (way_at s.ways c b ≡ way_at t.ways c b ++ left)
 
--- in a sound state each enabled event of a block is enabled in the block's own terms, too, and what it takes
--- there is the message in front
+-- in a sound state each enabled event of a block is enabled in the block's own terms, too, and what
+-- it takes there is the message in front
 abbrev pub OwnTermsHold : Type 0
 OwnTermsHold =
     (b : ℕ) (s : State) (e : Event)
-    → IsSound s → IsEventOf b s e → IsEnabled s e → (t : State) × DoesOwn b (without_messages s) e t × TookFronts b s t
+    → IsSound s → IsEventOf b s e → IsEnabled s e
+    → (t : State) × DoesOwn b (without_messages s) e t × TookFronts b s t
 
 -- where no message is on the way, the ways are empty lists
 abbrev pub QuietIsEmpty : Type 0

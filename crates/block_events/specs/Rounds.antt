@@ -44,4 +44,5 @@ pub record RoundOf (old new : State) : Type 0 where
   pub ways : (b c : ℕ) → b < old.blocks → c < old.blocks
       → way_at (ends b).ways b c ≡ way_at (ends c).ways b c ++ way_at new.ways b c
   -- a block that could do something without taking a message did something
-  pub busy : (b : ℕ) (e : Event) → b < old.blocks → MayStart b old e → slice_index_or histories b [] ≢ []
+  pub busy : (b : ℕ) (e : Event) → b < old.blocks → MayStart b old e
+      → slice_index_or histories b [] ≢ []

@@ -45,7 +45,8 @@ amount_out (Some f) = f.amount
 amount_out None = 0
 
 -- a parcel of this amount and label is out on a border direction from block b to block c
-pub record IsOut (net : Network) (blocks : ℕ) (lanes : Lanes) (x : Direction) (a d b c : ℕ) : Type 0 where
+pub record IsOut (net : Network) (blocks : ℕ) (lanes : Lanes) (x : Direction)
+    (a d b c : ℕ) : Type 0 where
   pub direction : IsDirection net x
   pub border : is_border net blocks x ≡ true
   pub near : near_block net blocks x ≡ b
@@ -53,18 +54,20 @@ pub record IsOut (net : Network) (blocks : ℕ) (lanes : Lanes) (x : Direction) 
   pub some : 1 ≤ a
   pub flight : (lane_at lanes x).flight ≡ Some (record { amount = a; label = d })
 
--- the message belongs into the way from block b to block c: it is of a parcel that is out, a parcel goes with
--- its direction and an answer against it, and a refusal tells a label that stands against the parcel
+-- the message belongs into the way from block b to block c: it is of a parcel that is out, a parcel
+-- goes with its direction and an answer against it, and a refusal tells a label that stands against
+-- the parcel
 abbrev pub Belongs : Network → ℕ → Lanes → List ℕ → ℕ → ℕ → Message → Type 0
 Belongs net blocks lanes labels b c (Parcel x a d) = IsOut net blocks lanes x a d b c
 Belongs net blocks lanes labels b c (Accepted x a) = (d : ℕ) × IsOut net blocks lanes x a d c b
 Belongs net blocks lanes labels b c (Refused x a d told) =
     IsOut net blocks lanes x a d c b × (d ≤ told) × (told ≤ slice_index labels (far net x))
 
--- a parcel that stands before the answer that the opposite direction's parcel was taken lies below the
--- label of the node that it goes to
+-- a parcel that stands before the answer that the opposite direction's parcel was taken lies below
+-- the label of the node that it goes to
 abbrev pub IsBehind : Network → List ℕ → Message → Message → Type 0
-IsBehind net labels (Parcel x a d) (Accepted y n) = y ≡ opposite x → d < slice_index labels (far net x)
+IsBehind net labels (Parcel x a d) (Accepted y n) = y ≡ opposite x
+    → d < slice_index labels (far net x)
 IsBehind net labels (Parcel x a d) m = Unit {0}
 IsBehind net labels (Accepted x a) m = Unit {0}
 IsBehind net labels (Refused x a d told) m = Unit {0}
@@ -102,7 +105,8 @@ pub record IsSound (s : State) : Type 0 where
   -- the sink got what the rooms lack
   pub got : s.got + sum s.rooms ≡ sum s.net.sinks
   pub rooms : (v : ℕ) → v < nodes s.net → room_of s v ≤ slice_index s.net.sinks v
-  -- the excess is what the net and the residuals say, an amount on the way counted as sent by its near end
+  -- the excess is what the net and the residuals say, an amount on the way counted as sent by its
+  -- near end
   pub balance : (v : ℕ) → v < nodes s.net
       → excess_of s v + slice_index s.net.sinks v + sum_leaving s.net v (first_residual s.net)
       ≡ slice_index s.net.sources v + room_of s v + sum_leaving s.net v (residual_of s)
@@ -113,12 +117,14 @@ pub record IsSound (s : State) : Type 0 where
       → label_of s (near s.net x) ≤ seen_label s x + 1
   pub known : (x : Direction) → IsDirection s.net x → is_border s.net s.blocks x ≡ true
       → known_of s x ≤ label_of s (far s.net x)
-  -- where a parcel is out, on a border direction, its label and the label seen are those that it was sent by
+  -- where a parcel is out, on a border direction, its label and the label seen are those that it
+  -- was sent by
   pub flights : (x : Direction) → IsDirection s.net x → (f : Flight) → flight_of s x ≡ Some f
       → (is_border s.net s.blocks x ≡ true) × (label_of s (near s.net x) ≡ known_of s x + 1)
       × (label_of s (near s.net x) ≡ f.label)
   -- a parcel is out exactly where one message names the direction
-  pub named : (x : Direction) → IsDirection s.net x → over_messages (names x) s.ways ≡ out (flight_of s x)
+  pub named : (x : Direction) → IsDirection s.net x
+      → over_messages (names x) s.ways ≡ out (flight_of s x)
   pub belong : (b c : ℕ) → All (Belongs s.net s.blocks s.lanes s.labels b c) (way_at s.ways b c)
   pub order : (b c : ℕ) → AllPairs (IsBehind s.net s.labels) (way_at s.ways b c)
 
@@ -164,7 +170,8 @@ weight (Refused x a d told) = 4 * (a * d) - 2
 
 -- how high excess and parcels stand
 abbrev pub height : State → ℕ
-height s = sum_below (nodes s.net) (λ v. 4 * (excess_of s v * label_of s v)) + over_messages weight s.ways
+height s = sum_below (nodes s.net) (λ v. 4 * (excess_of s v * label_of s v))
+    + over_messages weight s.ways
 
 -- more than the height can grow where a label rises by 1
 abbrev pub unit : State → ℕ
@@ -183,4 +190,5 @@ joins net blocks b c x =
 
 -- how many directions lie between two blocks: as many messages the ways between them can have
 abbrev pub room_between : Network → ℕ → ℕ → ℕ → ℕ
-room_between net blocks b c = over_directions (length net.arcs) (λ x. count_if (joins net blocks b c x) 1)
+room_between net blocks b c =
+    over_directions (length net.arcs) (λ x. count_if (joins net blocks b c x) 1)

@@ -39,8 +39,8 @@ put_message ways b c m = put_way ways b c (way_at ways b c ++ m ∷ [])
 abbrev pub over_messages : (Message → ℕ) → List (List (List Message)) → ℕ
 over_messages f ways = sum_by (λ row. sum_by (λ way. sum_by f way) row) ways
 
--- of each node the excess, the label and what it can still give the sink ("room"); of each direction
--- its lane; of each ordered pair of blocks the way; and what the sink got
+-- of each node the excess, the label and what it can still give the sink ("room"); of each
+-- direction its lane; of each ordered pair of blocks the way; and what the sink got
 pub record State : Type 0 where
   pub net : Network
   pub blocks : ℕ

@@ -1,8 +1,8 @@
 -- The events of one block, as a worker that holds the block sees them.
 --
--- A state stands here for one block: of nodes and lanes only the block's own are read and written, and the
--- ways are what went through the block's ends of them. The way from b to c is what b put for c so far, and
--- the way from c to b is what b took from c so far: both only grow.
+-- A state stands here for one block: of nodes and lanes only the block's own are read and written,
+-- and the ways are what went through the block's ends of them. The way from b to c is what b put
+-- for c so far, and the way from c to b is what b took from c so far: both only grow.
 use Rattle.std.specs.Prelude.{◌≡◌, ℕ, ◌+◌, ◌≤◌, true, List, [], ◌∷◌, ◌++◌, Some}
 use Rattle.flow_network.specs.Cut.{Network}
 use Rattle.flow_network.specs.Preflow.{arc_at}
@@ -32,7 +32,8 @@ pub record IsBetween (net : Network) (blocks : ℕ) (x : Direction) (b c : ℕ) 
   pub near : near_block net blocks x ≡ b
   pub far : far_block net blocks x ≡ c
 
--- a message that block b may put for block c: a parcel goes with its direction, an answer against it
+-- a message that block b may put for block c: a parcel goes with its direction, an answer against
+-- it
 abbrev pub IsAddressed : Network → ℕ → ℕ → ℕ → Message → Type 0
 IsAddressed net blocks b c (Parcel x a d) = IsBetween net blocks x b c
 IsAddressed net blocks b c (Accepted x a) = IsBetween net blocks x c b
@@ -47,7 +48,8 @@ pub record MayTake (s : State) (b c : ℕ) (m : Message) : Type 0 where
 abbrev pub FitsArc : State → Message → Type 0
 FitsArc s (Parcel x a d) =
     (d ≤ top s.net)
-    × (residual_of s (opposite x) + amount_out (flight_of s (opposite x)) + a ≤ (arc_at s.net x.arc).capacity)
+    × (residual_of s (opposite x) + amount_out (flight_of s (opposite x)) + a
+    ≤ (arc_at s.net x.arc).capacity)
 FitsArc s (Accepted x a) = ⊥
 FitsArc s (Refused x a d told) = ⊥
 
@@ -60,8 +62,8 @@ FitsFlight s (Refused x a d told) =
 
 -- ---- events
 
--- what b took from c so far, with one more message, which also stands in front, where an event looks for it:
--- the event drops it there, and what is left is what b took
+-- what b took from c so far, with one more message, which also stands in front, where an event
+-- looks for it: the event drops it there, and what is left is what b took
 abbrev pub taken_with : State → ℕ → ℕ → Message → List Message
 taken_with s b c m = m ∷ (way_at s.ways c b ++ m ∷ [])
 
@@ -71,15 +73,19 @@ DoesOwn b s (PushInner x) t =
     (near_block s.net s.blocks x ≡ b) × IsEnabled s (PushInner x) × (t ≡ effect s (PushInner x))
 DoesOwn b s (PushSink v) t =
     (block_of s.net s.blocks v ≡ b) × IsEnabled s (PushSink v) × (t ≡ effect s (PushSink v))
-DoesOwn b s (Relabel v) t = (block_of s.net s.blocks v ≡ b) × IsEnabled s (Relabel v) × (t ≡ effect s (Relabel v))
-DoesOwn b s (Send x) t = (near_block s.net s.blocks x ≡ b) × IsEnabled s (Send x) × (t ≡ effect s (Send x))
+DoesOwn b s (Relabel v) t =
+    (block_of s.net s.blocks v ≡ b) × IsEnabled s (Relabel v) × (t ≡ effect s (Relabel v))
+DoesOwn b s (Send x) t = (near_block s.net s.blocks x ≡ b) × IsEnabled s (Send x)
+    × (t ≡ effect s (Send x))
 DoesOwn b s (Accept c to) t =
     (to ≡ b) × (m : Message) × MayTake s b c m × MayAccept s (m ∷ []) × FitsArc s m
     × (t ≡ after_accept s c b (taken_with s b c m))
 DoesOwn b s (Refuse c to) t =
-    (to ≡ b) × (m : Message) × MayTake s b c m × MayRefuse s (m ∷ []) × (t ≡ after_refuse s c b (taken_with s b c m))
+    (to ≡ b) × (m : Message) × MayTake s b c m × MayRefuse s (m ∷ [])
+    × (t ≡ after_refuse s c b (taken_with s b c m))
 DoesOwn b s (Settle c to) t =
-    (to ≡ b) × (m : Message) × MayTake s b c m × FitsFlight s m × (t ≡ after_settle s c b (taken_with s b c m))
+    (to ≡ b) × (m : Message) × MayTake s b c m × FitsFlight s m
+    × (t ≡ after_settle s c b (taken_with s b c m))
 DoesOwn b s RaiseAll t = ⊥
 
 -- events of block b, one after another, lead from s to t

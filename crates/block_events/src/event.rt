@@ -4,7 +4,8 @@ use crate::direction::Direction;
 /// messages into it and the block that takes them out.
 #[derive(Clone, Copy)]
 pub enum Event {
-    /// Excess goes along a direction within a block: as much as the node has and the direction carries.
+    /// Excess goes along a direction within a block: as much as the node has and the direction
+    /// carries.
     PushInner { direction: Direction },
     /// Excess goes to the sink: as much as the node has and can still give the sink.
     PushSink { node: u32 },

@@ -44,16 +44,16 @@ pub fn goes_on()
     ensures { GoesOn }
 {}
 
-/// In a sound and finished state the nodes that reach the sink by residual directions are the sink's
-/// side of a least cut, within that of every least cut, and the sink got its capacity (Goldberg,
-/// Tarjan 1988, section 3; Ford, Fulkerson 1962).
+/// In a sound and finished state the nodes that reach the sink by residual directions are the
+/// sink's side of a least cut, within that of every least cut, and the sink got its capacity
+/// (Goldberg, Tarjan 1988, section 3; Ford, Fulkerson 1962).
 pub fn finished_is_smallest()
     ensures { FinishedIsSmallest }
 {}
 
-/// In a sound and finished state what can be taken back of each arc, and what each node gave the sink, are a
-/// preflow that certifies the cut of the nodes that reach the sink; its value is what the sink got (Goldberg,
-/// Tarjan 1988, section 2).
+/// In a sound and finished state what can be taken back of each arc, and what each node gave the
+/// sink, are a preflow that certifies the cut of the nodes that reach the sink; its value is what
+/// the sink got (Goldberg, Tarjan 1988, section 2).
 pub fn finished_is_certified()
     ensures { FinishedIsCertified }
 {}
@@ -63,8 +63,8 @@ pub fn way_fits()
     ensures { WayFits }
 {}
 
-/// In a sound state a parcel that may be taken fits what its receiver knows: the label is at most N,
-/// and the opposite residual, what is out on it and the amount are within the arc's capacity.
+/// In a sound state a parcel that may be taken fits what its receiver knows: the label is at most
+/// N, and the opposite residual, what is out on it and the amount are within the arc's capacity.
 pub fn accept_fits()
     ensures { AcceptFits }
 {}
@@ -81,7 +81,8 @@ pub fn excess_fits()
     ensures { ExcessFits }
 {}
 
-/// In a sound state with no message on the way, what the sink got is at most the capacity of each cut.
+/// In a sound state with no message on the way, what the sink got is at most the capacity of each
+/// cut.
 pub fn sink_got_at_most_each_cut()
     ensures { SinkGotAtMostEachCut }
 {}

@@ -1,7 +1,7 @@
 use crate::direction::Direction;
 
-/// What one block tells another about a border direction. A parcel goes along its direction, an answer
-/// against it.
+/// What one block tells another about a border direction. A parcel goes along its direction, an
+/// answer against it.
 #[derive(Clone, Copy)]
 pub enum Message {
     /// An amount is offered, by a node with this label.
@@ -15,8 +15,8 @@ pub enum Message {
         direction: Direction,
         amount: u64,
     },
-    /// The amount was not taken, since the node that it went to has the label `told`, and not one below
-    /// the parcel's label.
+    /// The amount was not taken, since the node that it went to has the label `told`, and not one
+    /// below the parcel's label.
     Refused {
         direction: Direction,
         amount: u64,

@@ -41,12 +41,13 @@ first_node n blocks b = (b * n + (blocks - 1)) / blocks
 abbrev pub homes_made : Network → ℕ → List ℕ
 homes_made net blocks = table (nodes net) (block_of net blocks)
 
--- what a direction is grouped by: the node that it leaves, and where it leads to another block that node's
--- number after those of all nodes
+-- what a direction is grouped by: the node that it leaves, and where it leads to another block that
+-- node's number after those of all nodes
 abbrev pub key : Network → ℕ → Direction → ℕ
 key net blocks x = cond (is_border net blocks x) (nodes net + near net x) (near net x)
 
--- indices of directions by the nodes that they leave: those of node v at the places starts v to starts (v + 1)
+-- indices of directions by the nodes that they leave: those of node v at the places starts v to
+-- starts (v + 1)
 pub record Rows : Type 0 where
   pub starts : List ℕ
   pub places : List ℕ
@@ -54,8 +55,8 @@ pub record Rows : Type 0 where
 abbrev pub rows_of : List ℕ → List ℕ → Rows
 rows_of starts places = record { starts = starts; places = places }
 
--- the directions, as indices of the table of slots, grouped by their keys, and the slot of each: its place among those of
--- its kind, within the block of the node that it leaves or to others
+-- the directions, as indices of the table of slots, grouped by their keys, and the slot of each:
+-- its place among those of its kind, within the block of the node that it leaves or to others
 pub record ByNode : Type 0 where
   pub starts : List ℕ
   pub places : List ℕ
@@ -109,7 +110,8 @@ HasSlots net blocks rows slots =
     (p : ℕ) → slice_index rows.starts 0 ≤ p → p < slice_index rows.starts (nodes net)
     → slice_index slots (slice_index rows.places p) ≡ slot_at net blocks rows p
 
--- the directions within blocks and those between blocks, each grouped by its near node, and all slots
+-- the directions within blocks and those between blocks, each grouped by its near node, and all
+-- slots
 pub record AreGrouped (net : Network) (blocks : ℕ) (rows : ByNode) : Type 0 where
   pub inner : AreRows net blocks false (inner_rows rows)
   pub outer : AreRows net blocks true (outer_rows (nodes net) rows)
@@ -131,18 +133,22 @@ ranks_made net blocks = table (directions net) (rank (keys_made net blocks))
 abbrev pub starts_made : Network → ℕ → List ℕ
 starts_made net blocks = table (2 * nodes net + 1) (λ v. count_below v (keys_made net blocks))
 
--- where the directions begin that leave the block of a direction's near node, and lead to another block just as it does
+-- where the directions begin that leave the block of a direction's near node, and lead to another
+-- block just as it does
 abbrev pub base_for : Network → ℕ → Direction → ℕ
 base_for net blocks x =
     slice_index (starts_made net blocks)
-    (cond (is_border net blocks x) (nodes net) 0 + first_node (nodes net) blocks (block_of net blocks (near net x)))
+    (cond (is_border net blocks x) (nodes net) 0
+    + first_node (nodes net) blocks (block_of net blocks (near net x)))
 
--- the directions of a net in blocks in the order of their keys: at each place the direction that has it as its rank
+-- the directions of a net in blocks in the order of their keys: at each place the direction that
+-- has it as its rank
 unfoldable pub rows_made : Network → ℕ → ByNode
 rows_made net blocks = record {
   starts = starts_made net blocks;
   places = table (directions net) (λ p. position_or_len (λ r. r == p) (ranks_made net blocks));
-  slots = table (directions net) (λ i. slice_index (ranks_made net blocks) i - base_for net blocks (direction_in net i));
+  slots = table (directions net)
+      (λ i. slice_index (ranks_made net blocks) i - base_for net blocks (direction_in net i));
 }
 
 -- ---- a block
@@ -160,7 +166,8 @@ lane_by net first opposite x = record {
   opposite = opposite;
 }
 
--- a direction to another block, by the first node of its own, the number of the other, and the slot of the opposite direction
+-- a direction to another block, by the first node of its own, the number of the other, and the slot
+-- of the opposite direction
 abbrev pub border_by : Network → ℕ → ℕ → ℕ → Direction → Border
 border_by net first to opposite x = record {
   direction = x;
@@ -178,10 +185,12 @@ lane_made net slots first x = lane_by net first (slice_index slots (index_of net
 
 abbrev pub border_made : Network → ℕ → List ℕ → ℕ → Direction → Border
 border_made net blocks slots first x =
-    border_by net first (block_of net blocks (far net x)) (slice_index slots (index_of net (opposite x))) x
+    border_by net first (block_of net blocks (far net x))
+    (slice_index slots (index_of net (opposite x))) x
 
 abbrev pub lanes_made : Network → List ℕ → ℕ → List ℕ → List InnerLane
-lanes_made net slots first indices = map (λ i. lane_made net slots first (direction_in net i)) indices
+lanes_made net slots first indices =
+    map (λ i. lane_made net slots first (direction_in net i)) indices
 
 abbrev pub borders_made : Network → ℕ → List ℕ → ℕ → List ℕ → List Border
 borders_made net blocks slots first indices =
@@ -203,7 +212,8 @@ no_rows = record { lanes = []; borders = [] }
 abbrev pub rows_from : Network → ℕ → ByNode → ℕ → ℕ → BlockRows
 rows_from net blocks rows first next = record {
   lanes = lanes_made net rows.slots first (span (inner_rows rows) first next);
-  borders = borders_made net blocks rows.slots first (span (outer_rows (nodes net) rows) first next);
+  borders = borders_made net blocks rows.slots first
+      (span (outer_rows (nodes net) rows) first next);
 }
 
 -- the nodes from one on to another as a block
@@ -239,9 +249,11 @@ all_rows net blocks rows = table blocks (block_rows net blocks rows)
 -- room for them, before any is written
 abbrev pub blank_rows : Network → ℕ → ByNode → ℕ → BlockRows
 blank_rows net blocks rows b = record {
-  lanes = replicate (base_of net blocks (inner_rows rows) (b + 1) - base_of net blocks (inner_rows rows) b) no_row;
+  lanes = replicate (base_of net blocks (inner_rows rows) (b + 1)
+      - base_of net blocks (inner_rows rows) b) no_row;
   borders =
-      replicate (base_of net blocks (outer_rows (nodes net) rows) (b + 1) - base_of net blocks (outer_rows (nodes net) rows) b)
+      replicate (base_of net blocks (outer_rows (nodes net) rows) (b + 1)
+      - base_of net blocks (outer_rows (nodes net) rows) b)
       no_border;
 }
 
@@ -254,25 +266,34 @@ abbrev pub rows_at : List BlockRows → ℕ → BlockRows
 rows_at lists b = slice_index_or lists b no_rows
 
 -- the lists have room for all directions, and those of which this holds stand at their slots
-pub record AreHeld (net : Network) (blocks : ℕ) (rows : ByNode) (held : Direction → Type 0) (lists : List BlockRows) : Type 0 where
+pub record AreHeld (net : Network) (blocks : ℕ) (rows : ByNode) (held : Direction → Type 0)
+    (lists : List BlockRows) : Type 0 where
   pub many : length lists ≡ blocks
   pub lanes_len : (b : ℕ) → b < blocks → length (rows_at lists b).lanes
       ≡ base_of net blocks (inner_rows rows) (b + 1) - base_of net blocks (inner_rows rows) b
   pub borders_len : (b : ℕ) → b < blocks → length (rows_at lists b).borders
-      ≡ base_of net blocks (outer_rows (nodes net) rows) (b + 1) - base_of net blocks (outer_rows (nodes net) rows) b
+      ≡ base_of net blocks (outer_rows (nodes net) rows) (b + 1)
+      - base_of net blocks (outer_rows (nodes net) rows) b
   pub lanes : (x : Direction) → IsDirection net x → held x → is_border net blocks x ≡ false
-      → slice_index_or (rows_at lists (block_of net blocks (near net x))).lanes (slice_index rows.slots (index_of net x)) no_row
+      → slice_index_or (rows_at lists (block_of net blocks (near net x))).lanes
+      (slice_index rows.slots (index_of net x)) no_row
       ≡ lane_made net rows.slots
       (first_node (nodes net) blocks (block_of net blocks (near net x))) x
   pub borders : (x : Direction) → IsDirection net x → held x → is_border net blocks x ≡ true
-      → slice_index_or (rows_at lists (block_of net blocks (near net x))).borders (slice_index rows.slots (index_of net x)) no_border
-      ≡ border_made net blocks rows.slots (first_node (nodes net) blocks (block_of net blocks (near net x))) x
+      → slice_index_or (rows_at lists (block_of net blocks (near net x))).borders
+      (slice_index rows.slots (index_of net x)) no_border
+      ≡ border_made net blocks rows.slots
+      (first_node (nodes net) blocks (block_of net blocks (near net x))) x
 
--- a table of all directions has what comes after at those of the first so many arcs, and at the others what was before
-pub record AreWritten (net : Network) (after before : List ℕ) (many : ℕ) (table : List ℕ) : Type 0 where
+-- a table of all directions has what comes after at those of the first so many arcs, and at the
+-- others what was before
+pub record AreWritten (net : Network) (after before : List ℕ) (many : ℕ)
+    (table : List ℕ) : Type 0 where
   pub len : length table ≡ directions net
-  pub done : (x : Direction) → IsDirection net x → x.arc < many → slice_index table (index_of net x) ≡ slice_index after (index_of net x)
-  pub rest : (x : Direction) → IsDirection net x → many ≤ x.arc → slice_index table (index_of net x) ≡ slice_index before (index_of net x)
+  pub done : (x : Direction) → IsDirection net x → x.arc < many
+      → slice_index table (index_of net x) ≡ slice_index after (index_of net x)
+  pub rest : (x : Direction) → IsDirection net x → many ≤ x.arc
+      → slice_index table (index_of net x) ≡ slice_index before (index_of net x)
 
 -- ---- the whole
 

@@ -2,8 +2,8 @@
 use Rattle.std.specs.Prelude.{◌≡◌, ℕ, ◌+◌, ◌-◌, ◌^◌, ◌<◌, ◌≤◌, min, List, length, replicate, slice_index, slice_index_or, slice_set}
 use Rattle.block_net.specs.Circles.{AreCircles}
 
--- how many buckets there are, and the row of each node: that of its bucket, after those the row of the nodes
--- that are set aside, and after that one where a node stands nowhere
+-- how many buckets there are, and the row of each node: that of its bucket, after those the row of
+-- the nodes that are set aside, and after that one where a node stands nowhere
 pub record BucketsView : Type 0 where
   pub buckets : ℕ
   pub rows : List ℕ
@@ -52,18 +52,21 @@ AreBucketsEmpty s = (v : ℕ) → v < row_count s → s.buckets ≤ row_in s v
 pub record IsRestored (labels : List ℕ) (old new : BucketsView) : Type 0 where
   pub same_buckets : new.buckets ≡ old.buckets
   pub same_nodes : row_count new ≡ row_count old
-  pub back : (v : ℕ) → v < row_count old → row_in old v ≡ aside old → row_in new v ≡ bucket_of old (slice_index labels v)
+  pub back : (v : ℕ) → v < row_count old → row_in old v ≡ aside old
+      → row_in new v ≡ bucket_of old (slice_index labels v)
   pub others : (v : ℕ) → v < row_count old → ¬ (row_in old v ≡ aside old)
       → row_in new v ≡ row_in old v
 
 -- ---- how it is held
 
--- the row of a place: a node's, or for a place after those of the nodes the row that begins and ends there
+-- the row of a place: a node's, or for a place after those of the nodes the row that begins and
+-- ends there
 abbrev pub row_at : List ℕ → ℕ → ℕ
 row_at rows x = slice_index_or rows x (x - length rows)
 
--- the nodes of a row stand in one circle with the place of the row, and the ranks of those before a node fall
--- until that place; a node that stands nowhere is alone; no node stands in a bucket above `top`
+-- the nodes of a row stand in one circle with the place of the row, and the ranks of those before a
+-- node fall until that place; a node that stands nowhere is alone; no node stands in a bucket above
+-- `top`
 pub record AreRows (top buckets : ℕ) (rows next prev : List ℕ) : Type 0 where
   pub small : length rows + buckets + 1 < 2 ^ 32
   pub top_in : top < buckets
@@ -73,5 +76,6 @@ pub record AreRows (top buckets : ℕ) (rows next prev : List ℕ) : Type 0 wher
   pub same : (x : ℕ) → x < length next → row_at rows (slice_index prev x) ≡ row_at rows x
   pub alone : (v : ℕ) → v < length rows → slice_index rows v ≡ buckets + 1 → slice_index prev v ≡ v
   pub ranks : (rank : ℕ → ℕ)
-      × ((v : ℕ) → v < length rows → slice_index rows v ≤ buckets → rank (slice_index prev v) < rank v)
+      × ((v : ℕ) → v < length rows → slice_index rows v ≤ buckets
+      → rank (slice_index prev v) < rank v)
   pub below : (v : ℕ) → v < length rows → slice_index rows v < buckets → slice_index rows v ≤ top

@@ -9,8 +9,8 @@ use Rattle.block_events.specs.declared.message.Message.TheVariants.{Parcel}
 use Rattle.block_net.specs.declared.lanes.InnerLane.{InnerLane}
 use Rattle.block_net.specs.declared.lanes.Border.{Border}
 
--- of each node the excess, the label and what it can still give the sink; the directions of node v within
--- the block at the places starts v to starts (v + 1), and those to other blocks likewise
+-- of each node the excess, the label and what it can still give the sink; the directions of node v
+-- within the block at the places starts v to starts (v + 1), and those to other blocks likewise
 pub record CellsView : Type 0 where
   pub top : ℕ
   pub excess : List ℕ
@@ -90,7 +90,8 @@ pub record IsBlock (b : CellsView) : Type 0 where
   pub starts_len : length b.starts ≡ length b.excess + 1
   pub border_starts_len : length b.border_starts ≡ length b.excess + 1
   pub within : (v : ℕ) → v ≤ length b.excess → slice_index b.starts v ≤ length b.lanes
-  pub border_within : (v : ℕ) → v ≤ length b.excess → slice_index b.border_starts v ≤ length b.borders
+  pub border_within : (v : ℕ) → v ≤ length b.excess
+      → slice_index b.border_starts v ≤ length b.borders
   pub labels : All (λ d. d ≤ b.top) b.labels
   pub lanes : All (IsLane (length b.excess) (length b.lanes)) b.lanes
   pub borders : All (IsBorder (length b.excess) b.top) b.borders
@@ -118,7 +119,8 @@ cells_after_push b v j a =
     let w = (lane_in b j).far in
     let o = (lane_in b j).opposite in
     let less = slice_set b.excess v (excess_in b v - a) in
-    let taken = slice_set b.lanes j (record (lane_in b j) { residual = (lane_in b j).residual - a }) in
+    let taken = slice_set b.lanes j
+    (record (lane_in b j) { residual = (lane_in b j).residual - a }) in
     record b {
       excess = slice_set less w (slice_index less w + a);
       lanes =
@@ -157,8 +159,8 @@ abbrev pub parcel_of : CellsView → ℕ → ℕ → Message
 parcel_of b v j =
     Parcel (border_in b j).direction (min (excess_in b v) (border_in b j).residual) (label_in b v)
 
--- an amount comes from another block: the direction learns the label, but not while a parcel of its own is
--- out
+-- an amount comes from another block: the direction learns the label, but not while a parcel of its
+-- own is out
 abbrev pub cells_after_accept : CellsView → ℕ → ℕ → ℕ → CellsView
 cells_after_accept b j a d =
     let x = border_in b j in
@@ -166,7 +168,11 @@ cells_after_accept b j a d =
       excess = slice_set b.excess x.near (excess_in b x.near + a);
       borders =
           slice_set b.borders j
-          (record x { residual = x.residual + a; known = cond (is_some x.flight) x.known (max x.known d) });
+          (record x {
+            residual = x.residual + a;
+            known =
+                cond (is_some x.flight) x.known (max x.known d);
+          });
     }
 
 -- a direction to another block knows a label of its far end
@@ -176,7 +182,8 @@ cells_with_known b j d = record b
 
 -- the parcel that was out was taken
 abbrev pub cells_after_settle : CellsView → ℕ → CellsView
-cells_after_settle b j = record b { borders = slice_set b.borders j (record (border_in b j) { flight = None }) }
+cells_after_settle b j = record b
+    { borders = slice_set b.borders j (record (border_in b j) { flight = None }) }
 
 -- the parcel that was out comes back
 abbrev pub cells_after_return : CellsView → ℕ → ℕ → ℕ → CellsView
@@ -184,7 +191,8 @@ cells_after_return b j a told =
     let x = border_in b j in
     record b {
       excess = slice_set b.excess x.near (excess_in b x.near + a);
-      borders = slice_set b.borders j (record x { residual = x.residual + a; known = told; flight = None });
+      borders = slice_set b.borders j
+          (record x { residual = x.residual + a; known = told; flight = None });
     }
 
 -- ---- the new label

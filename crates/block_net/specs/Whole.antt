@@ -75,7 +75,8 @@ place w v = v - slice_index w.firsts (home w v)
 abbrev pub near_home : Whole → Direction → ℕ
 near_home w x = home w (near w.net x)
 
--- where a direction stands in the table of slots: first all that lead from an arc's tail to its head
+-- where a direction stands in the table of slots: first all that lead from an arc's tail to its
+-- head
 abbrev pub index_of : Network → Direction → ℕ
 index_of net x = cond x.back (length net.arcs + x.arc) x.arc
 
@@ -98,9 +99,11 @@ abbrev pub shown_lane : InnerLane → Lane
 shown_lane lane = record { residual = lane.residual; known = 0; flight = None }
 
 abbrev pub shown_border : Border → Lane
-shown_border border = record { residual = border.residual; known = border.known; flight = border.flight }
+shown_border border = record
+    { residual = border.residual; known = border.known; flight = border.flight }
 
--- what the block of its near end holds of a direction; within a block no label is known and no parcel is out
+-- what the block of its near end holds of a direction; within a block no label is known and no
+-- parcel is out
 abbrev pub shown_of : Whole → Direction → Lane
 shown_of w x = cond (is_outer w x) (shown_border (border_of w x)) (shown_lane (lane_of w x))
 
@@ -122,8 +125,8 @@ state_shown w = record {
 
 -- ---- where everything stands
 
--- the block holds a direction within it in the range of its near node, with its far node and the slot
--- of the opposite direction
+-- the block holds a direction within it in the range of its near node, with its far node and the
+-- slot of the opposite direction
 pub record IsInnerAt (w : Whole) (x : Direction) : Type 0 where
   pub from : first_lane (block_with w (near w.net x)) (place w (near w.net x)) ≤ slot w x
   pub below : slot w x < first_lane (block_with w (near w.net x)) (place w (near w.net x) + 1)
@@ -131,8 +134,8 @@ pub record IsInnerAt (w : Whole) (x : Direction) : Type 0 where
   pub far : (lane_of w x).far ≡ place w (far w.net x)
   pub opposite : (lane_of w x).opposite ≡ slot w (opposite x)
 
--- the block holds a direction to another block in the range of its near node, with its number, its near
--- node, the other block, the slot of the opposite direction there and the arc's capacity
+-- the block holds a direction to another block in the range of its near node, with its number, its
+-- near node, the other block, the slot of the opposite direction there and the arc's capacity
 pub record IsBorderAt (w : Whole) (x : Direction) : Type 0 where
   pub from : first_border (block_with w (near w.net x)) (place w (near w.net x)) ≤ slot w x
   pub below : slot w x < first_border (block_with w (near w.net x)) (place w (near w.net x) + 1)
@@ -160,7 +163,8 @@ pub record IsPlaced (w : Whole) : Type 0 where
   pub tops : (b : ℕ) → b < length w.blocks → (block_at w b).top ≡ top w.net
   pub inner : (x : Direction) → IsDirection w.net x → is_outer w x ≡ false → IsInnerAt w x
   pub borders : (x : Direction) → IsDirection w.net x → is_outer w x ≡ true → IsBorderAt w x
-  pub apart : (x y : Direction) → IsDirection w.net x → IsDirection w.net y → is_outer w x ≡ is_outer w y
+  pub apart : (x y : Direction) → IsDirection w.net x → IsDirection w.net y
+      → is_outer w x ≡ is_outer w y
       → near_home w x ≡ near_home w y → slot w x ≡ slot w y → x ≡ y
   -- the ranges of a node hold nothing else
   pub lanes : (v j : ℕ) → v < nodes w.net → first_lane (block_with w v) (place w v) ≤ j
@@ -176,8 +180,8 @@ pub record LiesAt (w : Whole) (b p v : ℕ) : Type 0 where
   pub home : home w v ≡ b
   pub place : place w v ≡ p
 
--- each block has a label for each of its nodes, and holds no node and no direction to another block but those
--- that have their places there
+-- each block has a label for each of its nodes, and holds no node and no direction to another block
+-- but those that have their places there
 pub record IsFilled (w : Whole) : Type 0 where
   pub labels : (b : ℕ) → b < length w.blocks → length (block_at w b).labels ≡ count (block_at w b)
   pub nodes : (b p : ℕ) → b < length w.blocks → p < count (block_at w b) → (v : ℕ) × LiesAt w b p v

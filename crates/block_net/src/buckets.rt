@@ -5,7 +5,8 @@ use crate::circles::{alone, part, relink, unlink};
 use std::alloc::{AllocError, Global};
 use std::marker::Model;
 
-/// Nodes that stand in buckets, each in one row: its bucket's, or that of the nodes set aside; or that stand nowhere.
+/// Nodes that stand in buckets, each in one row: its bucket's, or that of the nodes set aside; or
+/// that stand nowhere.
 #[derive(Drop)]
 pub struct Buckets {
     /// No node stands in a higher bucket.
@@ -42,8 +43,8 @@ fn top_with(top: u32, row: u32, buckets: u32) -> u32
 }
 
 impl Buckets {
-    /// So many buckets for so many nodes, of which each stands nowhere. Takes 12 bytes a node and 8 a bucket, and 8 more.
-    /// Refuses only where memory runs out; no other call takes memory.
+    /// So many buckets for so many nodes, of which each stands nowhere. Takes 12 bytes a node and 8
+    /// a bucket, and 8 more. Refuses only where memory runs out; no other call takes memory.
     pub fn new(alloc: Global, nodes: usize, buckets: u32) -> Result<Buckets, AllocError>
         requires some { 0 < buckets }
         requires small { nodes + buckets < 2 ^ 32 - 1 }
@@ -110,7 +111,8 @@ impl Buckets {
         self.top = top_with(self.top, row, self.buckets);
     }
 
-    /// A node stands in the bucket of a label, wherever it stood: that of the label's number, or the last one.
+    /// A node stands in the bucket of a label, wherever it stood: that of the label's number, or
+    /// the last one.
     pub fn put(&mut self, node: usize, label: u32)
         requires { node < row_count self.old }
         ensures { self.new ≡ with_node_in_row self.old node (bucket_of self.old label) }
@@ -159,8 +161,9 @@ impl Buckets {
         self.first(self.buckets())
     }
 
-    /// A node of the highest bucket with nodes, the one that joined it last; none where no bucket has a node. It passes
-    /// over the empty buckets above it, each once until a node stands there again.
+    /// A node of the highest bucket with nodes, the one that joined it last; none where no bucket
+    /// has a node. It passes over the empty buckets above it, each once until a node stands there
+    /// again.
     pub fn highest(&mut self) -> Option<usize>
         ensures same { self.new ≡ self.old }
         ensures highest { MatchOption result (AreBucketsEmpty self.old) (IsHighest self.old) }

@@ -63,8 +63,8 @@ impl Model for Cells {
 }
 
 impl Cells {
-    /// A block of a net as it is at the opening, with the directions that leave its nodes: each node has what its source
-    /// sends it.
+    /// A block of a net as it is at the opening, with the directions that leave its nodes: each
+    /// node has what its source sends it.
     pub(crate) fn at_opening(
         alloc: Global,
         net: &Net,
@@ -77,7 +77,8 @@ impl Cells {
         requires starts { starts.now ≡ starts_made net.now blocks }
         requires block { block < blocks }
         requires leaving { leaving ≡ block_rows net.now blocks (rows_made net.now blocks) block }
-        ensures { IfOk result (λ cells. cells ≡ block_made net.now blocks (rows_made net.now blocks) block) }
+        ensures { IfOk result (λ cells.
+            cells ≡ block_made net.now blocks (rows_made net.now blocks) block) }
     {
         let (first, next) = bounds(net, blocks, block);
         let nodes = nodes_from(alloc, net, first, next)?;
@@ -98,7 +99,8 @@ impl Cells {
         })
     }
 
-    /// The room for the rows of its nodes, where it is there: a bucket for each label up to one more than there are nodes.
+    /// The room for the rows of its nodes, where it is there: a bucket for each label up to one
+    /// more than there are nodes.
     pub fn take_rows(&mut self) -> Option<Buckets>
         ensures { self.new ≡ self.old }
     {
@@ -226,9 +228,10 @@ impl Cells {
         }
     }
 
-    /// The highest label that a node may have: the least of that of a node that is cut off, 1 where the node
-    /// can give the sink, and 1 more than the label seen over each direction that is residual or on which a
-    /// parcel is out (Goldberg, Tarjan 1988, section 2). Reads the directions of the node alone.
+    /// The highest label that a node may have: the least of that of a node that is cut off, 1 where
+    /// the node can give the sink, and 1 more than the label seen over each direction that is
+    /// residual or on which a parcel is out (Goldberg, Tarjan 1988, section 2). Reads the
+    /// directions of the node alone.
     pub fn highest_label(&self, v: usize) -> u32
         requires { v < count self.now }
         ensures value { result ≡ highest self.now v }
@@ -275,12 +278,14 @@ impl Cells {
         border.residual > 0 && self.label(v) == border.known + 1 && border.flight.is_none()
     }
 
-    /// Excess of a node goes along a direction within the block: as much as the direction can carry.
+    /// Excess of a node goes along a direction within the block: as much as the direction can
+    /// carry.
     pub fn push(&mut self, v: usize, j: usize)
         requires node { v < count self.old }
         requires place { j < length self.old.lanes }
         requires other { (lane_in self.old j).far ≢ v }
-        ensures { self.new ≡ cells_after_push self.old v j (min (excess_in self.old v) (lane_in self.old j).residual) }
+        ensures { self.new ≡ cells_after_push self.old v j
+            (min (excess_in self.old v) (lane_in self.old j).residual) }
     {
         let lane = self.lanes[j];
         let amount = u64::min(self.excess[v], lane.residual);
@@ -290,10 +295,12 @@ impl Cells {
         self.lanes[lane.opposite as usize].residual += amount;
     }
 
-    /// Excess of a node goes to the sink: as much as the node can still give it. Answers that amount.
+    /// Excess of a node goes to the sink: as much as the node can still give it. Answers that
+    /// amount.
     pub fn give(&mut self, v: usize) -> u64
         requires { v < count self.old }
-        ensures given { self.new ≡ cells_after_sink_push self.old v (min (excess_in self.old v) (room_in self.old v)) }
+        ensures given { self.new ≡ cells_after_sink_push self.old v
+            (min (excess_in self.old v) (room_in self.old v)) }
         ensures amount { result ≡ min (excess_in self.old v) (room_in self.old v) }
         ensures place { v < length self.old.rooms }
     {
@@ -322,12 +329,14 @@ impl Cells {
         self.labels.as_mut_slice().copy_from_slice(labels);
     }
 
-    /// Excess of a node leaves for another block: as much as the direction can carry. Answers the parcel.
+    /// Excess of a node leaves for another block: as much as the direction can carry. Answers the
+    /// parcel.
     pub fn send(&mut self, v: usize, j: usize) -> Message
         requires node { v < count self.old }
         requires place { j < length self.old.borders }
         requires idle { (border_in self.old j).flight ≡ None }
-        ensures sent { self.new ≡ cells_after_send self.old v j (min (excess_in self.old v) (border_in self.old j).residual) }
+        ensures sent { self.new ≡ cells_after_send self.old v j
+            (min (excess_in self.old v) (border_in self.old j).residual) }
         ensures parcel { result ≡ parcel_of self.old v j }
     {
         let label = self.labels[v];
@@ -350,7 +359,8 @@ impl Cells {
         self.borders.len()
     }
 
-    /// Whether a parcel with a label, along the opposite of a direction to another block, is to be taken.
+    /// Whether a parcel with a label, along the opposite of a direction to another block, is to be
+    /// taken.
     pub fn may_accept(&self, j: usize, label: u32) -> bool
         requires { j < length self.now.borders }
         ensures { IsTrue result ↔ (label_in self.now (border_in self.now j).near + 1 ≡ label) }
@@ -358,7 +368,8 @@ impl Cells {
         self.label(self.border(j).near as usize) + 1 == label
     }
 
-    /// Whether a parcel with a label, along the opposite of a direction to another block, is to be sent back.
+    /// Whether a parcel with a label, along the opposite of a direction to another block, is to be
+    /// sent back.
     pub fn may_refuse(&self, j: usize, label: u32) -> bool
         requires { j < length self.now.borders }
         ensures { IsTrue result ↔ (label ≤ label_in self.now (border_in self.now j).near) }
@@ -366,10 +377,12 @@ impl Cells {
         label <= self.label(self.border(j).near as usize)
     }
 
-    /// An amount comes along the opposite of a direction to another block. Answers that it was taken.
+    /// An amount comes along the opposite of a direction to another block. Answers that it was
+    /// taken.
     pub fn accept(&mut self, j: usize, amount: u64, label: u32) -> Message
         requires place { j < length self.old.borders }
-        requires fits { (border_in self.old j).residual + out_of (border_in self.old j).flight + amount
+        requires fits { (border_in self.old j).residual
+            + out_of (border_in self.old j).flight + amount
             ≤ (border_in self.old j).capacity }
         requires label { label ≤ self.old.top }
         ensures accepted { self.new ≡ cells_after_accept self.old j amount label }
@@ -389,8 +402,8 @@ impl Cells {
         }
     }
 
-    /// The answer that a parcel, along the opposite of a direction to another block, was not taken: with the label that
-    /// stands against it.
+    /// The answer that a parcel, along the opposite of a direction to another block, was not taken:
+    /// with the label that stands against it.
     pub fn refusal(&self, j: usize, amount: u64, label: u32) -> Message
         requires { j < length self.now.borders }
         ensures { result ≡ Refused (opposite (border_in self.now j).direction) amount label

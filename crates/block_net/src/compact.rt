@@ -5,8 +5,8 @@ use crate::Border;
 use block_events::{Direction, Flight};
 use std::marker::Model;
 
-/// A direction to another block as a block keeps it, in 48 bytes: an arc's place is below `ARC_LIMIT`, and a
-/// block below `BLOCK_LIMIT`.
+/// A direction to another block as a block keeps it, in 48 bytes: an arc's place is below
+/// `ARC_LIMIT`, and a block below `BLOCK_LIMIT`.
 #[derive(Drop)]
 pub(crate) struct CompactBorder {
     capacity: u64,
@@ -69,10 +69,11 @@ impl CompactBorder {
         }
     }
 
-    /// What it can still carry, the label that is known of the far end and the parcel that is out are these
-    /// from now on.
+    /// What it can still carry, the label that is known of the far end and the parcel that is out
+    /// are these from now on.
     pub fn set(&mut self, residual: u64, known: u32, flight: Option<Flight>)
-        ensures { self.new ≡ record self.old { residual = residual; known = known; flight = flight } }
+        ensures { self.new ≡ record self.old
+            { residual = residual; known = known; flight = flight } }
     {
         self.residual = residual;
         self.known = known;

@@ -32,7 +32,8 @@ fn home_of(net: &Net, blocks: usize, homes: &[u8], node: u32) -> usize
     homes[node as usize] as usize
 }
 
-/// The slot of a direction takes the place of its rank: it is counted from where those of its block begin.
+/// The slot of a direction takes the place of its rank: it is counted from where those of its block
+/// begin.
 fn take_slot(slots: &mut [u32], index: usize, base: u32) -> u32
     requires index { index < length slots.old }
     requires base { base ≤ slice_index slots.old index }
@@ -133,10 +134,14 @@ fn put_arc(
     requires firsts { firsts.now ≡ firsts_made net.now blocks }
     requires starts { starts.now ≡ starts_made net.now blocks }
     requires arc { arc < length net.now.arcs }
-    requires slots { AreWritten net.now (rows_made net.now blocks).slots (ranks_made net.now blocks) arc slots.old }
-    requires lists { AreHeld net.now blocks (rows_made net.now blocks) (λ x. x.arc < arc) lists.old }
-    ensures slots { AreWritten net.now (rows_made net.now blocks).slots (ranks_made net.now blocks) (arc + 1) slots.new }
-    ensures lists { AreHeld net.now blocks (rows_made net.now blocks) (λ x. x.arc < arc + 1) lists.new }
+    requires slots { AreWritten net.now (rows_made net.now blocks).slots
+        (ranks_made net.now blocks) arc slots.old }
+    requires lists { AreHeld net.now blocks (rows_made net.now blocks)
+        (λ x. x.arc < arc) lists.old }
+    ensures slots { AreWritten net.now (rows_made net.now blocks).slots (ranks_made net.now blocks)
+        (arc + 1) slots.new }
+    ensures lists { AreHeld net.now blocks (rows_made net.now blocks)
+        (λ x. x.arc < arc + 1) lists.new }
 {
     let forth = Direction { arc, back: false };
     let back = Direction { arc, back: true };
@@ -184,7 +189,8 @@ pub(crate) fn put_arcs(
     requires firsts { firsts.now ≡ firsts_made net.now blocks }
     requires starts { starts.now ≡ starts_made net.now blocks }
     requires slots { slots.old ≡ ranks_made net.now blocks }
-    requires lists { lists.old ≡ table blocks (blank_rows net.now blocks (rows_made net.now blocks)) }
+    requires lists { lists.old
+        ≡ table blocks (blank_rows net.now blocks (rows_made net.now blocks)) }
     ensures slots { slots.new ≡ (rows_made net.now blocks).slots }
     ensures lists { lists.new ≡ all_rows net.now blocks (rows_made net.now blocks) }
 {
@@ -196,7 +202,8 @@ pub(crate) fn put_arcs(
 /// The directions of all blocks at their slots.
 #[derive(Drop)]
 pub(crate) struct Filling {
-    /// Where the directions of each node begin in the order of all: those within blocks, and after them those to others.
+    /// Where the directions of each node begin in the order of all: those within blocks, and after
+    /// them those to others.
     pub starts: Vec<u32>,
     /// The slot of each direction: first of all arcs from tail to head, then of all arcs back.
     pub slots: Vec<u32>,
@@ -204,7 +211,8 @@ pub(crate) struct Filling {
     pub lists: Vec<Leaving>,
 }
 
-/// The directions of all blocks at their slots, by the first node of each block. The only error is that memory runs out.
+/// The directions of all blocks at their slots, by the first node of each block. The only error is
+/// that memory runs out.
 pub(crate) fn fill_blocks(
     alloc: Global,
     net: &Net,
@@ -216,7 +224,8 @@ pub(crate) fn fill_blocks(
     requires firsts { firsts.now ≡ firsts_made net.now blocks }
     ensures starts { IfOk result (λ made. made.starts.items ≡ starts_made net.now blocks) }
     ensures slots { IfOk result (λ made. made.slots.items ≡ (rows_made net.now blocks).slots) }
-    ensures lists { IfOk result (λ made. made.lists.items ≡ all_rows net.now blocks (rows_made net.now blocks)) }
+    ensures lists { IfOk result
+        (λ made. made.lists.items ≡ all_rows net.now blocks (rows_made net.now blocks)) }
 {
     let homes = homes_of(alloc, net, blocks)?;
     let Ranked { starts, ranks } = directions_by_node(alloc, net, blocks, homes.as_slice())?;

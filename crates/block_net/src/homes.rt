@@ -28,8 +28,8 @@ fn add_homes(net: &Net, blocks: usize, block: usize, homes: &mut Vec<u8>)
     }
 }
 
-/// The block of each node of a net in so many blocks, one byte a node: the nodes of a block follow one another, so that
-/// none is divided. The only error is that memory runs out.
+/// The block of each node of a net in so many blocks, one byte a node: the nodes of a block follow
+/// one another, so that none is divided. The only error is that memory runs out.
 pub fn homes_of(alloc: Global, net: &Net, blocks: usize) -> Result<Vec<u8>, AllocError>
     requires { CanSplit net.now blocks }
     ensures { IfOk result (λ homes. homes.items ≡ homes_made net.now blocks) }

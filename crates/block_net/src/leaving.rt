@@ -8,7 +8,8 @@ use block_events::Direction;
 use std::alloc::{AllocError, Global};
 use std::marker::Model;
 
-/// The directions that leave the nodes of a block: those within the block, and those to other blocks.
+/// The directions that leave the nodes of a block: those within the block, and those to other
+/// blocks.
 #[derive(Drop)]
 pub(crate) struct Leaving {
     lanes: Vec<InnerLane>,

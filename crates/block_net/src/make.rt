@@ -19,7 +19,8 @@ pub(crate) fn starts_from(
 ) -> Result<Vec<u32>, AllocError>
     requires order { first ≤ next }
     requires within { next < length starts.now }
-    requires grow { (v : ℕ) → first ≤ v → v ≤ next → slice_index starts.now first ≤ slice_index starts.now v }
+    requires grow { (v : ℕ) → first ≤ v → v ≤ next
+        → slice_index starts.now first ≤ slice_index starts.now v }
     requires small { next ≤ node_limit }
     ensures { IfOk result (λ list. list.items ≡ starts_from starts.now first next) }
 {
@@ -42,7 +43,8 @@ fn blank(
     requires split { CanSplit net.now blocks }
     requires starts { starts.now ≡ starts_made net.now blocks }
     requires block { block < blocks }
-    ensures { IfOk result (λ made. made ≡ blank_rows net.now blocks (rows_made net.now blocks) block) }
+    ensures { IfOk result (λ made.
+        made ≡ blank_rows net.now blocks (rows_made net.now blocks) block) }
 {
     let (first, next) = bounds(net, blocks, block);
     let outer = outer_starts(net, starts);
@@ -61,7 +63,8 @@ pub(crate) fn blanks(
 ) -> Result<Vec<Leaving>, AllocError>
     requires split { CanSplit net.now blocks }
     requires starts { starts.now ≡ starts_made net.now blocks }
-    ensures { IfOk result (λ lists. lists.items ≡ table blocks (blank_rows net.now blocks (rows_made net.now blocks))) }
+    ensures { IfOk result (λ lists.
+        lists.items ≡ table blocks (blank_rows net.now blocks (rows_made net.now blocks))) }
 {
     let mut lists = Vec::with_capacity(alloc, blocks)?;
     for block in 0..blocks {

@@ -22,7 +22,8 @@ pub(crate) fn nodes_from(
     requires order { first ≤ next }
     requires within { next ≤ nodes net.now }
     requires same { length net.now.sinks ≡ nodes net.now }
-    ensures excess { IfOk result (λ made. made.excess.items ≡ slice_range net.now.sources first next) }
+    ensures excess { IfOk result
+        (λ made. made.excess.items ≡ slice_range net.now.sources first next) }
     ensures labels { IfOk result (λ made. made.labels.items ≡ replicate (next - first) 0) }
     ensures rooms { IfOk result (λ made. made.rooms.items ≡ slice_range net.now.sinks first next) }
 {

@@ -16,8 +16,9 @@ pub struct Parts {
     pub blocks: Vec<Cells>,
     /// The first node of each block.
     pub firsts: Vec<usize>,
-    /// The place of each direction in the block of the node that it leaves, among the directions within
-    /// the block or among those to other blocks: first of all arcs from tail to head, then of all arcs back.
+    /// The place of each direction in the block of the node that it leaves, among the directions
+    /// within the block or among those to other blocks: first of all arcs from tail to head, then
+    /// of all arcs back.
     pub slots: Vec<u32>,
 }
 
@@ -32,7 +33,8 @@ fn blocks_of(
     requires split { CanSplit net.now blocks }
     requires starts { starts.now ≡ starts_made net.now blocks }
     requires lists { lists.items ≡ all_rows net.now blocks (rows_made net.now blocks) }
-    ensures { IfOk result (λ list. list.items ≡ blocks_made net.now blocks (rows_made net.now blocks)) }
+    ensures { IfOk result (λ list.
+        list.items ≡ blocks_made net.now blocks (rows_made net.now blocks)) }
 {
     let mut list = Vec::with_capacity(alloc, blocks)?;
     let mut lists = lists.into_iter();
@@ -60,10 +62,11 @@ fn firsts_of(alloc: Global, net: &Net, blocks: usize) -> Result<Vec<usize>, Allo
 }
 
 impl Parts {
-    /// The net in this many blocks, 1 to `BLOCK_LIMIT`, where it has at most `ARC_LIMIT` arcs: node i of n in
-    /// block i * blocks / n. There may be more blocks than nodes; then some have no node.
+    /// The net in this many blocks, 1 to `BLOCK_LIMIT`, where it has at most `ARC_LIMIT` arcs: node
+    /// i of n in block i * blocks / n. There may be more blocks than nodes; then some have no node.
     ///
-    /// Takes time linear in the number of nodes, arcs and blocks. Refuses only where memory runs out.
+    /// Takes time linear in the number of nodes, arcs and blocks. Refuses only where memory runs
+    /// out.
     pub fn split(alloc: Global, net: &Net, blocks: usize) -> Result<Parts, AllocError>
         requires { CanSplit net.now blocks }
         ensures { IfOk result (λ parts. IsSplit net.now blocks

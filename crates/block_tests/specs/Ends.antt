@@ -18,7 +18,8 @@ abbrev pub front_of : Option Letter → Option Letter → Option Letter
 front_of came None = came
 front_of came (Some l) = None
 
--- by the letter that came, the one that was put for a block, and the one that was taken from a block
+-- by the letter that came, the one that was put for a block, and the one that was taken from a
+-- block
 abbrev pub seen_of : Option Letter → ℕ → Option Letter → ℕ → Option Letter → WaysView
 seen_of came put_for put taken_from taken = record {
   sent = log_of put_for put;

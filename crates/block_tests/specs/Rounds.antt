@@ -12,7 +12,8 @@ opened_blocks = opening_state two_source_net 2
 
 -- the one block relabels its node and sends; the other relabels its own
 abbrev pub parcel_on_the_way : State
-parcel_on_the_way = effect (effect (effect opened_blocks (Relabel 0)) (Send (forward 0))) (Relabel 1)
+parcel_on_the_way = effect
+    (effect (effect opened_blocks (Relabel 0)) (Send (forward 0))) (Relabel 1)
 
 abbrev pub histories_of_blocks : List (List Event)
 histories_of_blocks = (Relabel 0 ∷ Send (forward 0) ∷ []) ∷ (Relabel 1 ∷ []) ∷ []

@@ -21,11 +21,21 @@ AllEnabled s (e ∷ es) = IsEnabled s e × AllEnabled (effect s e) es
 
 abbrev pub one_source_net : Network
 one_source_net =
-    record { sources = 4 ∷ 0 ∷ []; sinks = 0 ∷ 3 ∷ []; arcs = record { from = 0; to = 1; capacity = 4 } ∷ [] }
+    record {
+      sources = 4 ∷ 0 ∷ [];
+      sinks = 0 ∷ 3 ∷ [];
+      arcs =
+          record { from = 0; to = 1; capacity = 4 } ∷ [];
+    }
 
 abbrev pub two_source_net : Network
 two_source_net =
-    record { sources = 4 ∷ 1 ∷ []; sinks = 0 ∷ 3 ∷ []; arcs = record { from = 0; to = 1; capacity = 4 } ∷ [] }
+    record {
+      sources = 4 ∷ 1 ∷ [];
+      sinks = 0 ∷ 3 ∷ [];
+      arcs =
+          record { from = 0; to = 1; capacity = 4 } ∷ [];
+    }
 
 abbrev pub two_blocks_run : List Event
 two_blocks_run =

@@ -1,5 +1,5 @@
--- Two nodes in two blocks, joined by an arc of capacity 4: in one round the first block sends a parcel, which
--- the other leaves on the way.
+-- Two nodes in two blocks, joined by an arc of capacity 4: in one round the first block sends a
+-- parcel, which the other leaves on the way.
 use Rattle.std.specs.Prelude.{ℕ, List, [], ◌∷◌, Option, Some, None}
 use Rattle.parcel.specs.Types.{Flight, Parcel}
 use Rattle.parcel.specs.Directions.{forward, backward}
@@ -62,7 +62,8 @@ whole_before =
 -- the first node is relabelled and sends all it has, the other is relabelled
 abbrev pub blocks_after : List CellsView
 blocks_after =
-    part 0 1 0 (border_there 0 (Some (record { amount = 4; label = 1 }))) ∷ part 1 1 3 border_back ∷ []
+    part 0 1 0 (border_there 0 (Some (record { amount = 4; label = 1 })))
+    ∷ part 1 1 3 border_back ∷ []
 
 abbrev pub left_on_the_way : Ways
 left_on_the_way = ([] ∷ (Parcel (forward 0) 4 1 ∷ []) ∷ []) ∷ ([] ∷ [] ∷ []) ∷ []

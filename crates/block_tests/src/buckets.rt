@@ -94,8 +94,8 @@ fn set_aside_all(rt: &HostRuntime, block: &mut Bucketed) -> Result<Vec<usize>, A
     Ok(order)
 }
 
-/// Of four nodes the second has no excess, and the last is cut off; then the third gives the sink what it has. The rows go
-/// with the block: a second time they are taken as they were left.
+/// Of four nodes the second has no excess, and the last is cut off; then the third gives the sink
+/// what it has. The rows go with the block: a second time they are taken as they were left.
 #[test]
 fn active_nodes_by_their_labels(rt: HostRuntime) -> Result<(), Fail> {
     let cells = four_nodes(&rt)?;

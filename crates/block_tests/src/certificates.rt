@@ -6,8 +6,8 @@ use std::alloc::{AllocError, Global};
 use std::process::Abort;
 use std::test::Fail;
 
-/// What is claimed, what each arc carries and each node gives the sink, the side, the value, and whether it is
-/// right.
+/// What is claimed, what each arc carries and each node gives the sink, the side, the value, and
+/// whether it is right.
 type Claim = (
     &'static str,
     &'static [u64],

@@ -6,7 +6,8 @@ use std::alloc::AllocError;
 use std::process::Abort;
 use std::test::Fail;
 
-/// What each node can give the sink and can still give it, the arcs and what each carries, and each node's distance.
+/// What each node can give the sink and can still give it, the arcs and what each carries, and each
+/// node's distance.
 struct Case {
     sinks: &'static [u64],
     rooms: &'static [u64],

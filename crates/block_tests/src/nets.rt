@@ -6,7 +6,8 @@ use std::alloc::{AllocError, Global};
 use std::process::Abort;
 use std::test::Fail;
 
-/// What the source can send and the nodes can send the sink, the arcs, and whether these make a net.
+/// What the source can send and the nodes can send the sink, the arcs, and whether these make a
+/// net.
 type Lists = (&'static [u64], &'static [u64], &'static [Row], bool);
 
 /// One below 2^62, less 9.

@@ -7,8 +7,8 @@ use std::alloc::{AllocError, Global};
 use std::process::Abort;
 use std::test::Fail;
 
-/// What the source can send, what the nodes can send the sink, the arcs, and what is found by trying every
-/// cut: the value, and the sink side of the smallest least cut.
+/// What the source can send, what the nodes can send the sink, the arcs, and what is found by
+/// trying every cut: the value, and the sink side of the smallest least cut.
 struct Case {
     name: &'static str,
     sources: &'static [u64],
@@ -38,8 +38,9 @@ const CHAIN: Case = Case {
     side: &[],
 };
 
-/// The first expansion of label 3 on a picture of 4 by 4 sites, whose sample is 3 in the second column and
-/// else 0: from all labels 0, data costs the distance to the sample, unequal neighbours cost 1.
+/// The first expansion of label 3 on a picture of 4 by 4 sites, whose sample is 3 in the second
+/// column and else 0: from all labels 0, data costs the distance to the sample, unequal neighbours
+/// cost 1.
 const STRIPES: Case = Case {
     name: "STRIPES",
     sources: &[5, 0, 4, 3, 4, 0, 3, 2, 4, 0, 3, 2, 3, 0, 2, 1],
@@ -120,7 +121,8 @@ fn push_blocks(events: &mut Vec<Event>, blocks: u32) -> Result<(), AllocError> {
     Ok(())
 }
 
-/// All events that some state of the net in so many blocks may enable, but that which raises all labels.
+/// All events that some state of the net in so many blocks may enable, but that which raises all
+/// labels.
 fn events_of(alloc: Global, net: &Net, blocks: u32) -> Result<Vec<Event>, AllocError> {
     let mut events = Vec::new(alloc);
     push_arcs(&mut events, net.arcs().len())?;
@@ -139,7 +141,8 @@ fn do_first(core: &mut Core, events: &[Event]) -> bool {
     false
 }
 
-/// The first enabled event from a place on, and from the front on where there is none; whether there was one.
+/// The first enabled event from a place on, and from the front on where there is none; whether
+/// there was one.
 fn step(core: &mut Core, events: &[Event], from: usize) -> bool {
     let (front, rest) = events.split_at(from.min(events.len()));
     do_first(core, rest) || do_first(core, front)
@@ -197,7 +200,8 @@ fn ends(
 /// After how many events of an order the rest is left to the solver.
 const MIDDLES: &[usize] = &[1, 5, 12];
 
-/// The state taken apart and put together again; none where its pieces tell another amount that the sink got.
+/// The state taken apart and put together again; none where its pieces tell another amount that the
+/// sink got.
 fn put_together(state: State) -> Option<State> {
     let pieces = state.into_pieces();
     if pieces.sink_total() != pieces.got {
@@ -259,7 +263,8 @@ fn expect_case(rt: &(impl Abort + AllocGlobal), case: &Case) -> Result<(), Alloc
     Ok(())
 }
 
-/// Whatever order the events come in, and in however many blocks: one value and one sink side a net.
+/// Whatever order the events come in, and in however many blocks: one value and one sink side a
+/// net.
 #[test]
 fn core_orders(rt: HostRuntime) -> Result<(), Fail> {
     for case in [&PAIR, &CHAIN, &STRIPES] {

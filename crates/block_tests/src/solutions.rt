@@ -1,4 +1,5 @@
-//! Least cuts, by hand and from a script that tries every cut, of the plain solver and of that over blocks.
+//! Least cuts, by hand and from a script that tries every cut, of the plain solver and of that over
+//! blocks.
 use crate::building::{Row, net_of};
 use crate::rows::expect;
 use crate::small_nets::{COUNT, NUMBERS};
@@ -12,8 +13,8 @@ use std::process::Abort;
 use std::slice::Iter;
 use std::test::Fail;
 
-/// What the source can send, what the nodes can send the sink, the arcs, the value of the least cut, and the
-/// smallest such cut as a number whose bit v is the node v.
+/// What the source can send, what the nodes can send the sink, the arcs, the value of the least
+/// cut, and the smallest such cut as a number whose bit v is the node v.
 type Case = (&'static [u64], &'static [u64], &'static [Row], u64, u32);
 
 const CASES: &[Case] = &[
@@ -99,8 +100,8 @@ fn state_of(
     State::open(rt.alloc(), net, blocks)
 }
 
-/// Whether the net is solved by this value and the smallest least cut, in one block and in several too, and where the
-/// solver takes it over.
+/// Whether the net is solved by this value and the smallest least cut, in one block and in several
+/// too, and where the solver takes it over.
 fn is_solved(
     rt: &(impl Abort + AllocGlobal),
     net: Net,

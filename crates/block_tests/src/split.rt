@@ -5,7 +5,8 @@ use std::alloc::AllocError;
 use std::process::Abort;
 use std::test::Fail;
 
-/// A number of blocks, and of each block the number of its nodes and of its directions to other blocks.
+/// A number of blocks, and of each block the number of its nodes and of its directions to other
+/// blocks.
 type Sizes = (usize, &'static [usize], &'static [usize]);
 
 /// The parts of a chain from node 0 over node 1 to node 2, with a fourth node apart.

@@ -6,7 +6,8 @@ use Rattle.block_turns.specs.Seen.{WaysView, IsLook}
 use Rattle.block_turns.specs.Steps.{Step, Accept, Refuse, Settle, IsStepEnabled, turn_view, turn_after}
 
 -- the event was enabled, and led from what the block held with its ways to what it holds now
-pub record Performs (b : CellsView) (s : WaysView) (e : Step) (b' : CellsView) (s' : WaysView) : Type 0 where
+pub record Performs (b : CellsView) (s : WaysView) (e : Step) (b' : CellsView)
+    (s' : WaysView) : Type 0 where
   pub enabled : IsStepEnabled b e
   pub effect : turn_view b' s' ≡ turn_after (turn_view b s) e
 

@@ -7,8 +7,8 @@ use Rattle.block_turns.specs.declared.letter.Letter.{Letter}
 abbrev pub add_to : (ℕ → List Message) → ℕ → Message → ℕ → List Message
 add_to logs c m x = cond (x == c) (logs x ++ m ∷ []) (logs x)
 
--- what was put for each block and what was taken from it since the beginning, in order; where room was seen,
--- and what was seen in front. There may be more room, and more in front, than was seen
+-- what was put for each block and what was taken from it since the beginning, in order; where room
+-- was seen, and what was seen in front. There may be more room, and more in front, than was seen
 pub record WaysView : Type 0 where
   pub sent : ℕ → List Message
   pub taken : ℕ → List Message

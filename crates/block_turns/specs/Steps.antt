@@ -1,4 +1,5 @@
--- A block's own events: when each is enabled, and what it does to the block, with what it puts and takes.
+-- A block's own events: when each is enabled, and what it does to the block, with what it puts and
+-- takes.
 use Rattle.std.specs.Prelude.{◌≡◌, ℕ, ◌+◌, ◌<◌, ◌≤◌, true, min, List, [], ◌∷◌, length, Some, None}
 use Rattle.block_events.specs.declared.message.Message.{Message}
 use Rattle.block_events.specs.declared.message.Message.TheVariants.{Parcel, Accepted, Refused}
@@ -9,8 +10,8 @@ use Rattle.block_turns.specs.Active.{IsActiveInBlock}
 use Rattle.block_turns.specs.declared.letter.Letter.{Letter}
 use Rattle.block_turns.specs.Seen.{WaysView, add_to}
 
--- an event of the block: a node and the place of one of its directions, a node, or another block and the
--- letter in front from there
+-- an event of the block: a node and the place of one of its directions, a node, or another block
+-- and the letter in front from there
 pub data Step : Type 0 where
   Push : ℕ → ℕ → Step
   Give : ℕ → Step
@@ -37,7 +38,8 @@ pub record IsFrom (b : CellsView) (c j : ℕ) : Type 0 where
   pub place : j < length b.borders
   pub to : (border_in b j).to ≡ c
 
--- a parcel from block c comes against the direction at the place, from one label above its node, and fits
+-- a parcel from block c comes against the direction at the place, from one label above its node,
+-- and fits
 abbrev pub MayAcceptAt : CellsView → ℕ → ℕ → Message → Type 0
 MayAcceptAt b c j (Parcel x a d) =
     IsFrom b c j × (opposite (border_in b j).direction ≡ x) × IsFair (Parcel x a d)
@@ -45,7 +47,8 @@ MayAcceptAt b c j (Parcel x a d) =
     × ((border_in b j).residual + out_of (border_in b j).flight + a ≤ (border_in b j).capacity)
 MayAcceptAt b c j m = ⊥
 
--- a parcel from block c comes against the direction at the place, from a label no higher than its node's
+-- a parcel from block c comes against the direction at the place, from a label no higher than its
+-- node's
 abbrev pub MayRefuseAt : CellsView → ℕ → ℕ → Message → Type 0
 MayRefuseAt b c j (Parcel x a d) =
     IsFrom b c j × (opposite (border_in b j).direction ≡ x) × IsFair (Parcel x a d)
@@ -116,7 +119,8 @@ turn_after h (Push v j) =
       block = cells_after_push h.block v j
           (min (excess_in h.block v) (lane_in h.block j).residual);
     }
-turn_after h (Give v) = record h { block = cells_after_sink_push h.block v (min (excess_in h.block v) (room_in h.block v)) }
+turn_after h (Give v) = record h
+    { block = cells_after_sink_push h.block v (min (excess_in h.block v) (room_in h.block v)) }
 turn_after h (Rise v) = record h { block = cells_after_relabel h.block v (highest h.block v) }
 turn_after h (Send v j) = record h {
   block = cells_after_send h.block v j (min (excess_in h.block v) (border_in h.block j).residual);

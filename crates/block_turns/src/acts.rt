@@ -16,7 +16,8 @@ pub(crate) fn try_give(cells: &mut Bucketed, v: usize) -> u32
     ensures does { (s : WaysView) → DoesEvents cells.old.block s result cells.new.block s }
     ensures done { 0 < result → (s : WaysView)
         → Performs cells.old.block s (Give v) cells.new.block s }
-    ensures idle { result ≡ 0 → ¬ ((0 < room_in cells.old.block v) × (label_in cells.old.block v ≡ 1)) }
+    ensures idle { result ≡ 0
+        → ¬ ((0 < room_in cells.old.block v) × (label_in cells.old.block v ≡ 1)) }
 {
     if !cells.cells().may_give(v) {
         return 0;
@@ -33,7 +34,8 @@ pub(crate) fn try_push(cells: &mut Bucketed, v: usize, j: usize) -> u32
     ensures few { result ≤ 1 }
     ensures still { result ≡ 0 → cells.new ≡ cells.old }
     ensures does { (s : WaysView) → DoesEvents cells.old.block s result cells.new.block s }
-    ensures done { 0 < result → (s : WaysView) → Performs cells.old.block s (Push v j) cells.new.block s }
+    ensures done { 0 < result → (s : WaysView)
+        → Performs cells.old.block s (Push v j) cells.new.block s }
     ensures idle { result ≡ 0 → ¬ MayPush cells.old.block v j }
 {
     if !cells.cells().may_push(v, j) {
@@ -51,7 +53,8 @@ pub(crate) fn try_send<W: Ways>(cells: &mut Bucketed, ways: &mut W, v: usize, j:
     ensures fixed { W.fixed ways.new ≡ W.fixed ways.old }
     ensures few { result ≤ 1 }
     ensures still { result ≡ 0 → cells.new ≡ cells.old }
-    ensures does { DoesEvents cells.old.block (W.seen ways.old) result cells.new.block (W.seen ways.new) }
+    ensures does { DoesEvents cells.old.block (W.seen ways.old) result cells.new.block
+        (W.seen ways.new) }
     ensures done { 0 < result
         → Performs cells.old.block (W.seen ways.old) (Send v j) cells.new.block (W.seen ways.new) }
     ensures idle { result ≡ 0 → ¬ IsSure cells.old.block (W.seen ways.old) (Send v j) }

@@ -121,7 +121,8 @@ fn events_left(rises_left: usize, limit: u32) -> u32
 pub fn turn<W: Ways>(block: &mut Block, ways: &mut W, limit: u32) -> u32
     ensures fixed { W.fixed ways.new ≡ W.fixed ways.old }
     ensures few { result ≤ limit }
-    ensures does { DoesMany (turn_view block.old (W.seen ways.old)) result (turn_view block.new (W.seen ways.new)) }
+    ensures does { DoesMany (turn_view block.old (W.seen ways.old)) result
+        (turn_view block.new (W.seen ways.new)) }
     ensures some { 0 < limit → (e : Step) → IsSure block.old (W.seen ways.old) e → 0 < result }
     ensures nodes { count block.new ≡ count block.old }
 {

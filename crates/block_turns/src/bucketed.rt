@@ -14,7 +14,8 @@ use block_net::{Border, Buckets, Cells, InnerLane};
 use std::alloc::{AllocError, Global};
 use std::marker::Model;
 
-/// A block, in which each active node stands in the bucket of its label, or aside, and no other node.
+/// A block, in which each active node stands in the bucket of its label, or aside, and no other
+/// node.
 #[derive(Drop)]
 pub struct Bucketed {
     cells: Cells,
@@ -31,8 +32,8 @@ impl Model for Bucketed {
     ghost invariant = { λ b. IsStanding b.cells b.buckets };
 }
 
-/// Rows for so many nodes, and two buckets more: those that are there, where they are as many. Where nodes stand in them is
-/// left open.
+/// Rows for so many nodes, and two buckets more: those that are there, where they are as many.
+/// Where nodes stand in them is left open.
 fn rows_for(alloc: Global, room: Option<Buckets>, count: usize) -> Result<Buckets, AllocError>
     requires { count ≤ node_limit }
     ensures nodes { IfOk result (λ rows. row_count rows ≡ count) }
@@ -48,8 +49,8 @@ fn rows_for(alloc: Global, room: Option<Buckets>, count: usize) -> Result<Bucket
 }
 
 impl Bucketed {
-    /// A block whose active nodes stand in their buckets. Refuses only where memory runs out; no other call takes memory.
-    /// Asks for none where the block has room for the rows of its nodes.
+    /// A block whose active nodes stand in their buckets. Refuses only where memory runs out; no
+    /// other call takes memory. Asks for none where the block has room for the rows of its nodes.
     pub fn new(alloc: Global, cells: Cells) -> Result<Bucketed, AllocError>
         ensures { IfOk result (λ made. made.block ≡ cells) }
     {
@@ -185,8 +186,8 @@ impl Bucketed {
         cells
     }
 
-    /// An active node of those in the highest bucket with nodes: none where each active node is set aside. The last
-    /// bucket has the labels above the number of nodes together.
+    /// An active node of those in the highest bucket with nodes: none where each active node is set
+    /// aside. The last bucket has the labels above the number of nodes together.
     pub fn highest(&mut self) -> Option<usize>
         ensures same { self.new ≡ self.old }
         ensures node { MatchOption result
@@ -208,7 +209,8 @@ impl Bucketed {
         self.buckets.set_aside(v);
     }
 
-    /// Excess of a node goes along a direction within the block: as much as the direction can carry.
+    /// Excess of a node goes along a direction within the block: as much as the direction can
+    /// carry.
     pub fn push(&mut self, v: usize, j: usize)
         requires node { v < count self.old.block }
         requires place { j < length self.old.block.lanes }
@@ -258,7 +260,8 @@ impl Bucketed {
         }
     }
 
-    /// Excess of a node leaves for another block: as much as the direction can carry. Answers the parcel.
+    /// Excess of a node leaves for another block: as much as the direction can carry. Answers the
+    /// parcel.
     pub fn send(&mut self, v: usize, j: usize) -> Message
         requires node { v < count self.old.block }
         requires place { j < length self.old.block.borders }
@@ -274,14 +277,17 @@ impl Bucketed {
         parcel
     }
 
-    /// An amount comes along the opposite of a direction to another block. Answers that it was taken.
+    /// An amount comes along the opposite of a direction to another block. Answers that it was
+    /// taken.
     pub fn accept(&mut self, j: usize, amount: u64, label: u32) -> Message
         requires place { j < length self.old.block.borders }
-        requires fits { (border_in self.old.block j).residual + out_of (border_in self.old.block j).flight + amount
+        requires fits { (border_in self.old.block j).residual
+            + out_of (border_in self.old.block j).flight + amount
             ≤ (border_in self.old.block j).capacity }
         requires label { label ≤ self.old.block.top }
         ensures block { self.new.block ≡ cells_after_accept self.old.block j amount label }
-        ensures answer { result ≡ Accepted (opposite (border_in self.old.block j).direction) amount }
+        ensures answer { result ≡ Accepted
+            (opposite (border_in self.old.block j).direction) amount }
         ensures aside { KeepsAside self.old self.new }
         ensures stays { StaysAside self.old self.new }
     {

@@ -5,7 +5,7 @@ use block_events::Message;
 pub struct Letter {
     /// The message.
     pub message: Message,
-    /// A place among the block's directions to other blocks: of the message's direction or of its opposite,
-    /// whichever leaves the block.
+    /// A place among the block's directions to other blocks: of the message's direction or of its
+    /// opposite, whichever leaves the block.
     pub place: u32,
 }

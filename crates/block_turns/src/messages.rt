@@ -85,7 +85,8 @@ pub(crate) fn receive_parcel<W: Ways>(
     ensures fixed { W.fixed ways.new ≡ W.fixed ways.old }
     ensures few { result ≤ 1 }
     ensures still { result ≡ 0 → cells.new ≡ cells.old }
-    ensures does { DoesEvents cells.old.block (W.seen ways.old) result cells.new.block (W.seen ways.new) }
+    ensures does { DoesEvents cells.old.block (W.seen ways.old) result cells.new.block
+        (W.seen ways.new) }
     ensures done { 0 < result → TakesParcel cells.old.block (W.seen ways.old) from
         (record { message = Parcel direction amount label; place = place })
         cells.new.block (W.seen ways.new) }
@@ -190,7 +191,8 @@ pub(crate) fn receive_accepted<W: Ways>(
     ensures fixed { W.fixed ways.new ≡ W.fixed ways.old }
     ensures few { result ≤ 1 }
     ensures still { result ≡ 0 → cells.new ≡ cells.old }
-    ensures does { DoesEvents cells.old.block (W.seen ways.old) result cells.new.block (W.seen ways.new) }
+    ensures does { DoesEvents cells.old.block (W.seen ways.old) result cells.new.block
+        (W.seen ways.new) }
     ensures done { 0 < result → Performs cells.old.block (W.seen ways.old)
         (Settle from (record { message = Accepted direction amount; place = place }))
         cells.new.block (W.seen ways.new) }
@@ -215,11 +217,15 @@ pub(crate) fn receive_refused<W: Ways>(
     told: u32,
 ) -> u32
     requires front { (W.seen ways.old).front from
-        ≡ Some (record { message = Refused direction flight.amount flight.label told; place = place }) }
+        ≡ Some (record {
+          message = Refused direction flight.amount flight.label told;
+          place = place;
+        }) }
     ensures fixed { W.fixed ways.new ≡ W.fixed ways.old }
     ensures few { result ≤ 1 }
     ensures still { result ≡ 0 → cells.new ≡ cells.old }
-    ensures does { DoesEvents cells.old.block (W.seen ways.old) result cells.new.block (W.seen ways.new) }
+    ensures does { DoesEvents cells.old.block (W.seen ways.old) result cells.new.block
+        (W.seen ways.new) }
     ensures done { 0 < result → Performs cells.old.block (W.seen ways.old)
         (Settle from
         (record { message = Refused direction flight.amount flight.label told; place = place }))
@@ -240,7 +246,8 @@ fn take_front<W: Ways>(cells: &mut Bucketed, ways: &mut W, from: u32) -> u32
     ensures fixed { W.fixed ways.new ≡ W.fixed ways.old }
     ensures few { result ≤ 1 }
     ensures still { result ≡ 0 → cells.new ≡ cells.old }
-    ensures does { DoesEvents cells.old.block (W.seen ways.old) result cells.new.block (W.seen ways.new) }
+    ensures does { DoesEvents cells.old.block (W.seen ways.old) result cells.new.block
+        (W.seen ways.new) }
     ensures idle { result ≡ 0 → IsIdleFrom cells.old.block (W.seen ways.old) from }
 {
     match ways.front(from) {
@@ -288,7 +295,8 @@ fn receive_from<W: Ways>(cells: &mut Bucketed, ways: &mut W, from: u32, limit: u
     ensures fixed { W.fixed ways.new ≡ W.fixed ways.old }
     ensures few { result ≤ limit }
     ensures still { result ≡ 0 → cells.new ≡ cells.old }
-    ensures does { DoesEvents cells.old.block (W.seen ways.old) result cells.new.block (W.seen ways.new) }
+    ensures does { DoesEvents cells.old.block (W.seen ways.old) result cells.new.block
+        (W.seen ways.new) }
     ensures idle { result ≡ 0 → 0 < limit → IsIdleFrom cells.old.block (W.seen ways.old) from }
 {
     'messages: for count in 0..limit {
@@ -309,7 +317,8 @@ pub(crate) fn receive_all<W: Ways>(
     ensures fixed { W.fixed ways.new ≡ W.fixed ways.old }
     ensures few { result ≤ limit }
     ensures still { result ≡ 0 → cells.new ≡ cells.old }
-    ensures does { DoesEvents cells.old.block (W.seen ways.old) result cells.new.block (W.seen ways.new) }
+    ensures does { DoesEvents cells.old.block (W.seen ways.old) result cells.new.block
+        (W.seen ways.new) }
     ensures idle { result ≡ 0 → 0 < limit → (k : ℕ) → k < length others.now
         → IsIdleFrom cells.old.block (W.seen ways.old) (slice_index others.now k) }
 {

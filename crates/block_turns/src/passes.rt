@@ -11,7 +11,8 @@ fn push_if_active<W: Ways>(cells: &mut Bucketed, ways: &mut W, v: usize, limit: 
     ensures fixed { W.fixed ways.new ≡ W.fixed ways.old }
     ensures few { result ≤ limit }
     ensures still { result ≡ 0 → cells.new ≡ cells.old }
-    ensures does { DoesEvents cells.old.block (W.seen ways.old) result cells.new.block (W.seen ways.new) }
+    ensures does { DoesEvents cells.old.block (W.seen ways.old) result cells.new.block
+        (W.seen ways.new) }
 {
     if v >= cells.len() {
         return 0;
@@ -22,8 +23,8 @@ fn push_if_active<W: Ways>(cells: &mut Bucketed, ways: &mut W, v: usize, limit: 
     push_on(cells, ways, v, limit)
 }
 
-/// The nodes of an order pass on what they have, the last of the order first, one after another and without new labels:
-/// at most `limit` events. What is no node of the block is passed over.
+/// The nodes of an order pass on what they have, the last of the order first, one after another and
+/// without new labels: at most `limit` events. What is no node of the block is passed over.
 pub(crate) fn push_wave<W: Ways>(
     cells: &mut Bucketed,
     ways: &mut W,
@@ -33,7 +34,8 @@ pub(crate) fn push_wave<W: Ways>(
     ensures fixed { W.fixed ways.new ≡ W.fixed ways.old }
     ensures few { result ≤ limit }
     ensures still { result ≡ 0 → cells.new ≡ cells.old }
-    ensures does { DoesEvents cells.old.block (W.seen ways.old) result cells.new.block (W.seen ways.new) }
+    ensures does { DoesEvents cells.old.block (W.seen ways.old) result cells.new.block
+        (W.seen ways.new) }
 {
     let mut count = 0;
     'wave: for place in (0..order.len()).rev() {
@@ -52,14 +54,15 @@ fn rest(cells: &mut Bucketed, v: usize)
     }
 }
 
-/// The events of the first node that has one, those of the highest bucket first: how many, at most `limit`, and how many
-/// of them were new labels. The nodes before it are set aside, and so is it where it got a new label: what can not reach
-/// the sink would rise again and again before others.
+/// The events of the first node that has one, those of the highest bucket first: how many, at most
+/// `limit`, and how many of them were new labels. The nodes before it are set aside, and so is it
+/// where it got a new label: what can not reach the sink would rise again and again before others.
 fn pass<W: Ways>(cells: &mut Bucketed, ways: &mut W, limit: u32) -> (u32, u32)
     ensures fixed { W.fixed ways.new ≡ W.fixed ways.old }
     ensures few { result.0 ≤ limit }
     ensures rises { result.1 ≤ result.0 }
-    ensures does { DoesEvents cells.old.block (W.seen ways.old) result.0 cells.new.block (W.seen ways.new) }
+    ensures does { DoesEvents cells.old.block (W.seen ways.old) result.0 cells.new.block
+        (W.seen ways.new) }
     ensures idle { result.0 ≡ 0 → 0 < limit
         → ((v : ℕ) → v < count cells.old.block → ¬ IsAside cells.old v)
         → (v : ℕ) → IsIdle cells.old.block (W.seen ways.old) v }
@@ -78,13 +81,14 @@ fn pass<W: Ways>(cells: &mut Bucketed, ways: &mut W, limit: u32) -> (u32, u32)
     (0, 0)
 }
 
-/// Events of a block that take no message, until each active node is set aside, or there are `limit`, or more than `most`
-/// new labels: how many, and how many of them were new labels.
+/// Events of a block that take no message, until each active node is set aside, or there are
+/// `limit`, or more than `most` new labels: how many, and how many of them were new labels.
 fn sweep<W: Ways>(cells: &mut Bucketed, ways: &mut W, limit: u32, most: usize) -> (u32, u32)
     ensures fixed { W.fixed ways.new ≡ W.fixed ways.old }
     ensures few { result.0 ≤ limit }
     ensures rises { result.1 ≤ result.0 }
-    ensures does { DoesEvents cells.old.block (W.seen ways.old) result.0 cells.new.block (W.seen ways.new) }
+    ensures does { DoesEvents cells.old.block (W.seen ways.old) result.0 cells.new.block
+        (W.seen ways.new) }
     ensures idle { result.0 ≡ 0 → 0 < limit
         → ((v : ℕ) → v < count cells.old.block → ¬ IsAside cells.old v)
         → (v : ℕ) → IsIdle cells.old.block (W.seen ways.old) v }
@@ -108,10 +112,10 @@ fn sweep<W: Ways>(cells: &mut Bucketed, ways: &mut W, limit: u32, most: usize) -
     (count, all_rises)
 }
 
-/// Events of a block that take no message, until each active node is set aside, or there are `limit`, or more than `most`
-/// new labels: how many, and how many of them were new labels. Where it is told to go on, all nodes that were set aside
-/// stand again then, as long as some got new labels since they stood last: so a node gets a second one only once each
-/// other was looked at.
+/// Events of a block that take no message, until each active node is set aside, or there are
+/// `limit`, or more than `most` new labels: how many, and how many of them were new labels. Where
+/// it is told to go on, all nodes that were set aside stand again then, as long as some got new
+/// labels since they stood last: so a node gets a second one only once each other was looked at.
 pub(crate) fn work<W: Ways>(
     cells: &mut Bucketed,
     ways: &mut W,
@@ -122,7 +126,8 @@ pub(crate) fn work<W: Ways>(
     ensures fixed { W.fixed ways.new ≡ W.fixed ways.old }
     ensures few { result.0 ≤ limit }
     ensures rises { result.1 ≤ result.0 }
-    ensures does { DoesEvents cells.old.block (W.seen ways.old) result.0 cells.new.block (W.seen ways.new) }
+    ensures does { DoesEvents cells.old.block (W.seen ways.old) result.0 cells.new.block
+        (W.seen ways.new) }
     ensures idle { result.0 ≡ 0 → 0 < limit
         → ((v : ℕ) → v < count cells.old.block → ¬ IsAside cells.old v)
         → (v : ℕ) → IsIdle cells.old.block (W.seen ways.old) v }

@@ -35,7 +35,8 @@ fn rise_once(cells: &mut Bucketed, v: usize, limit: u32) -> u32
     try_rise(cells, v)
 }
 
-/// A node's excess goes along its directions within the block, where that is enabled: at most `limit` events.
+/// A node's excess goes along its directions within the block, where that is enabled: at most
+/// `limit` events.
 fn push_all(cells: &mut Bucketed, v: usize, limit: u32) -> u32
     requires node { v < count cells.old.block }
     ensures few { result ≤ limit }
@@ -57,15 +58,17 @@ fn push_all(cells: &mut Bucketed, v: usize, limit: u32) -> u32
     count
 }
 
-/// A node's excess leaves along its directions to other blocks, where that is enabled and there is room: at
-/// most `limit` events.
+/// A node's excess leaves along its directions to other blocks, where that is enabled and there is
+/// room: at most `limit` events.
 fn send_all<W: Ways>(cells: &mut Bucketed, ways: &mut W, v: usize, limit: u32) -> u32
     requires { v < count cells.old.block }
     ensures fixed { W.fixed ways.new ≡ W.fixed ways.old }
     ensures few { result ≤ limit }
     ensures still { result ≡ 0 → cells.new ≡ cells.old }
-    ensures does { DoesEvents cells.old.block (W.seen ways.old) result cells.new.block (W.seen ways.new) }
-    ensures idle { result ≡ 0 → 0 < limit → (j : ℕ) → ¬ IsSure cells.old.block (W.seen ways.old) (Send v j) }
+    ensures does { DoesEvents cells.old.block (W.seen ways.old) result cells.new.block
+        (W.seen ways.new) }
+    ensures idle { result ≡ 0 → 0 < limit → (j : ℕ)
+        → ¬ IsSure cells.old.block (W.seen ways.old) (Send v j) }
 {
     let mut count = 0;
     let (first, end) = cells.border_range(v);
@@ -81,14 +84,15 @@ fn send_all<W: Ways>(cells: &mut Bucketed, ways: &mut W, v: usize, limit: u32) -
     count
 }
 
-/// What a node has goes on, in this order: to the sink, along its directions within the block, and to other
-/// blocks. At most `limit` events.
+/// What a node has goes on, in this order: to the sink, along its directions within the block, and
+/// to other blocks. At most `limit` events.
 pub(crate) fn push_on<W: Ways>(cells: &mut Bucketed, ways: &mut W, v: usize, limit: u32) -> u32
     requires node { v < count cells.old.block }
     ensures fixed { W.fixed ways.new ≡ W.fixed ways.old }
     ensures few { result ≤ limit }
     ensures still { result ≡ 0 → cells.new ≡ cells.old }
-    ensures does { DoesEvents cells.old.block (W.seen ways.old) result cells.new.block (W.seen ways.new) }
+    ensures does { DoesEvents cells.old.block (W.seen ways.old) result cells.new.block
+        (W.seen ways.new) }
     ensures stuck { result ≡ 0 → 0 < limit → IsStuckInBlock cells.old.block (W.seen ways.old) v }
 {
     let gifts = give_once(cells, v, limit);
@@ -97,15 +101,16 @@ pub(crate) fn push_on<W: Ways>(cells: &mut Bucketed, ways: &mut W, v: usize, lim
     gifts + pushes + sends
 }
 
-/// What a node has goes on, and what stays gives it a new label: how many events, at most `limit`, and how many of
-/// them were new labels.
+/// What a node has goes on, and what stays gives it a new label: how many events, at most `limit`,
+/// and how many of them were new labels.
 pub(crate) fn visit<W: Ways>(cells: &mut Bucketed, ways: &mut W, v: usize, limit: u32) -> (u32, u32)
     requires node { v < count cells.old.block }
     ensures fixed { W.fixed ways.new ≡ W.fixed ways.old }
     ensures few { result.0 ≤ limit }
     ensures still { result.0 ≡ 0 → cells.new ≡ cells.old }
     ensures rises { result.1 ≤ result.0 }
-    ensures does { DoesEvents cells.old.block (W.seen ways.old) result.0 cells.new.block (W.seen ways.new) }
+    ensures does { DoesEvents cells.old.block (W.seen ways.old) result.0 cells.new.block
+        (W.seen ways.new) }
     ensures idle { result.0 ≡ 0 → 0 < limit → IsIdle cells.old.block (W.seen ways.old) v }
 {
     let pushes = push_on(cells, ways, v, limit);

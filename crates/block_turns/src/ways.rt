@@ -6,8 +6,8 @@ ghost use Rattle.block_turns.specs.Seen.{WaysView, IsLook, IsPut, IsTake};
 
 use crate::Letter;
 
-/// A block's ends of the ways to and from the other blocks, which it names by their numbers. None of its
-/// calls takes memory.
+/// A block's ends of the ways to and from the other blocks, which it names by their numbers. None
+/// of its calls takes memory.
 pub trait Ways {
     /// What tells these ends from all others, for clauses alone.
     type Fixed;
@@ -15,7 +15,8 @@ pub trait Ways {
     /// No call changes it.
     ghost fixed: { Self → Self.Fixed };
 
-    /// What the block has put and taken since the beginning, and what it has seen of room and fronts.
+    /// What the block has put and taken since the beginning, and what it has seen of room and
+    /// fronts.
     ghost seen: { Self → WaysView };
 
     /// Whether there is room for a message to another block.
@@ -24,8 +25,8 @@ pub trait Ways {
         ensures look { IsLook (seen self.old) (seen self.new) }
         ensures value { result ≡ (seen self.new).room to };
 
-    /// Puts a message for another block, where room was seen. Amounts and labels are at least 1, a label told
-    /// is at least the parcel's, and the arc's place is a `u32`.
+    /// Puts a message for another block, where room was seen. Amounts and labels are at least 1, a
+    /// label told is at least the parcel's, and the arc's place is a `u32`.
     fn put(&mut self, to: u32, letter: Letter)
         requires room { (seen self.old).room to ≡ true }
         requires fair { IsFair letter.message }

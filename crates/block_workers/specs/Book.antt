@@ -11,7 +11,8 @@ pub record Turns : Type 0 where
 abbrev pub new_turns : ℕ → ℕ → Turns
 new_turns turns blocks = record { left = turns; drawn = 0; busy = replicate blocks true }
 
--- one turn was moved from those that are left to those that were drawn, and nothing else was changed
+-- one turn was moved from those that are left to those that were drawn, and nothing else was
+-- changed
 pub record DrawsOne (old new : Turns) : Type 0 where
   pub left : old.left ≡ new.left + 1
   pub drawn : new.drawn ≡ old.drawn + 1

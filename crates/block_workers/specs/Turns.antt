@@ -25,7 +25,8 @@ pub record Went (n : ℕ) (old new : Seat) : Type 0 where
   pub number : new.number ≡ old.number
   pub nodes : new.nodes ≡ old.nodes
   pub ends : AreSame (ports old.ends) (ports new.ends)
-  pub does : DoesMany (turn_view old.block (ways_of_ports (ports old.ends))) n (turn_view new.block (ways_of_ports (ports new.ends)))
+  pub does : DoesMany (turn_view old.block (ways_of_ports (ports old.ends))) n
+      (turn_view new.block (ways_of_ports (ports new.ends)))
 
 -- the events of so many turns: at least one where one was sure before the first
 pub record HasWorkedTurns (turns : ℕ) (old new : Seat) : Type 0 where

@@ -20,8 +20,8 @@ pub record HasAdvanced (old new : Seat) : Type 0 where
   pub went : Went count old new
   pub few : count + old.turn * most old ≤ new.turn * most old
 
--- the events of turn 0, which is free, and of the turns that were drawn: at least one where one was sure at
--- the beginning
+-- the events of turn 0, which is free, and of the turns that were drawn: at least one where one was
+-- sure at the beginning
 pub record HasWorked (old new : Seat) : Type 0 where
   pub count : ℕ
   pub went : Went count old new
@@ -30,8 +30,10 @@ pub record HasWorked (old new : Seat) : Type 0 where
 
 pub record AllAdvanced (old new : List Seat) : Type 0 where
   pub seats : length new ≡ length old
-  pub each : (i : ℕ) (d : Seat) → i < length old → HasAdvanced (slice_index_or old i d) (slice_index_or new i d)
+  pub each : (i : ℕ) (d : Seat) → i < length old
+      → HasAdvanced (slice_index_or old i d) (slice_index_or new i d)
 
 pub record AllWorked (old new : List Seat) : Type 0 where
   pub seats : length new ≡ length old
-  pub each : (i : ℕ) (d : Seat) → i < length old → HasWorked (slice_index_or old i d) (slice_index_or new i d)
+  pub each : (i : ℕ) (d : Seat) → i < length old
+      → HasWorked (slice_index_or old i d) (slice_index_or new i d)

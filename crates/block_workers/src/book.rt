@@ -8,8 +8,8 @@ use std::sync::ledger::{Blank, Book, Share};
 
 /// The turns that workers draw in a round, and a mark for each block: whether it is busy or idle.
 ///
-/// At every moment the turns that are left and those that were drawn are together those that the book began
-/// with.
+/// At every moment the turns that are left and those that were drawn are together those that the
+/// book began with.
 #[derive(Drop)]
 pub struct TurnBook<J: Job> {
     left: u32,
@@ -32,9 +32,9 @@ impl<J: Job> Model for TurnBook<J> {
 }
 
 impl<J: Job> TurnBook<J> {
-    /// A book of so many turns, none of them drawn, for so many blocks, all marked busy; with it the whole
-    /// share of each ledger, first that of the budget, then that of the turns drawn. The blanks become those
-    /// ledgers. The only error is that memory runs out.
+    /// A book of so many turns, none of them drawn, for so many blocks, all marked busy; with it
+    /// the whole share of each ledger, first that of the budget, then that of the turns drawn. The
+    /// blanks become those ledgers. The only error is that memory runs out.
     pub fn new(
         alloc: Global,
         budget: Blank,
@@ -63,7 +63,8 @@ impl<J: Job> TurnBook<J> {
         Ok((book, whole, none))
     }
 
-    /// Draws a turn into the share, where one is left; where none is, nothing is changed. Takes no memory.
+    /// Draws a turn into the share, where one is left; where none is, nothing is changed. Takes no
+    /// memory.
     pub fn draw(&mut self, mine: &mut Share<J::Drawn>) -> bool
         requires { 0 < mine.old.parts }
         ensures answer { IsTrue result ↔ (0 < self.old.left) }
@@ -82,8 +83,8 @@ impl<J: Job> TurnBook<J> {
         true
     }
 
-    /// Marks a block idle or busy, and answers whether some block is marked busy. A number that is no block's
-    /// changes no mark. Takes no memory.
+    /// Marks a block idle or busy, and answers whether some block is marked busy. A number that is
+    /// no block's changes no mark. Takes no memory.
     pub fn mark(&mut self, block: u32, idle: bool) -> bool
         ensures book { self.new ≡ with_mark self.old block idle }
         ensures answer { IsTrue result ↔ HasBusy self.new }
@@ -108,10 +109,12 @@ impl<J: Job> TurnBook<J> {
         self.drawn
     }
 
-    /// Changes nothing. No share has more turns than were drawn, and all shares together have just those.
+    /// Changes nothing. No share has more turns than were drawn, and all shares together have just
+    /// those.
     pub fn audit_drawn(&mut self, share: &mut Share<J::Drawn>)
         ensures book { self.new ≡ self.old }
-        ensures share { (share.new.parts ≡ share.old.parts) × (share.new.amount ≡ share.old.amount) }
+        ensures share { (share.new.parts ≡ share.old.parts)
+            × (share.new.amount ≡ share.old.amount) }
         ensures most { share.old.amount ≤ self.old.drawn }
         ensures all { share.old.parts ≡ J.Drawn.parts → share.old.amount ≡ self.old.drawn }
     {
@@ -122,7 +125,8 @@ impl<J: Job> TurnBook<J> {
     pub fn audit_budget(&mut self, whole: &mut Share<J::Budget>)
         requires { whole.old.parts ≡ J.Budget.parts }
         ensures book { self.new ≡ self.old }
-        ensures share { (whole.new.parts ≡ whole.old.parts) × (whole.new.amount ≡ whole.old.amount) }
+        ensures share { (whole.new.parts ≡ whole.old.parts)
+            × (whole.new.amount ≡ whole.old.amount) }
         ensures turns { self.old.left + self.old.drawn ≡ whole.old.amount }
     {
         self.budget_book.audit(whole);

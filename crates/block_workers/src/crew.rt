@@ -52,7 +52,8 @@ pub fn all_work<J: Job + Sync, R: Threads + Wait + Sync, G: Gate>(
         → AreNew (slice_index_or workers.items i d).seats.items }
     ensures len { IfOk result (λ v. vec_len v ≡ vec_len workers) }
     ensures each { IfOk result (λ v. (i : ℕ) (d : _) → i < vec_len workers
-        → AllWorked (slice_index_or workers.items i d).seats.items (slice_index_or v.items i d).seats.items) }
+        → AllWorked (slice_index_or workers.items i d).seats.items
+        (slice_index_or v.items i d).seats.items) }
 {
     let mut handles = Vec::with_capacity(alloc, workers.len())?;
     let mut back = Vec::with_capacity(alloc, workers.len())?;

@@ -18,7 +18,8 @@ pub struct Ends {
 /// The place of the port to a block, where there is one.
 fn place_of(ports: &Vec<Port>, places: &Vec<u32>, other: u32) -> Option<usize>
     requires { AreFound ports.now.items places.now.items }
-    ensures { MatchOption result (LeadNotTo ports.now.items other) (λ k. IsPlaceOfPort ports.now.items other k) }
+    ensures { MatchOption result (LeadNotTo ports.now.items other)
+        (λ k. IsPlaceOfPort ports.now.items other k) }
 {
     let c = other as usize;
     if c >= places.len() {
@@ -66,8 +67,8 @@ impl Ends {
     ghost use Rattle.block_turns.specs.Seen.{IsPut, IsTake};
     ghost use Rattle.block_workers.specs.Ends.{ports};
 
-    /// The ends with these ports, which lead to blocks below `blocks` by rising numbers. The only error is that
-    /// memory runs out.
+    /// The ends with these ports, which lead to blocks below `blocks` by rising numbers. The only
+    /// error is that memory runs out.
     pub fn new(alloc: Global, ports: Vec<Port>, blocks: u32) -> Result<Ends, AllocError>
         requires { AreRising blocks ports.items }
         ensures { IfOk result (λ ends. ends.ports ≡ ports) }
@@ -95,7 +96,8 @@ impl Ends {
         replace(self, none)
     }
 
-    /// Whether there is room for a letter to another block. There is none where no port leads there.
+    /// Whether there is room for a letter to another block. There is none where no port leads
+    /// there.
     pub(crate) fn room(&mut self, to: u32) -> bool
         ensures look { IsLook (ways_of_ports (ports self.old)) (ways_of_ports (ports self.new)) }
         ensures same { AreSame (ports self.old) (ports self.new) }
@@ -144,8 +146,8 @@ impl Ends {
             self.ports[k].take();
         }
     }
-    /// Whether a letter is in front of one of the rings. That it answers so is shown by tests; the clauses say what it
-    /// leaves as it was.
+    /// Whether a letter is in front of one of the rings. That it answers so is shown by tests; the
+    /// clauses say what it leaves as it was.
     pub(crate) fn has_letter(&mut self) -> bool
         ensures look { IsLook (ways_of_ports (ports self.old)) (ways_of_ports (ports self.new)) }
         ensures same { AreSame (ports self.old) (ports self.new) }

@@ -7,8 +7,8 @@ use block_turns::Letter;
 use rtrb::RingBuffer;
 use std::alloc::{AllocError, Global};
 
-/// Two new rings, one each way between two blocks, with room for so many letters each; the port of the first
-/// block, and that of the second. The only error is that memory runs out.
+/// Two new rings, one each way between two blocks, with room for so many letters each; the port of
+/// the first block, and that of the second. The only error is that memory runs out.
 pub fn join_blocks(
     alloc: Global,
     first: u32,
@@ -35,8 +35,9 @@ pub fn join_blocks(
     Ok((first_port, second_port))
 }
 
-/// Looks at what is left in the ring from one port to another, once neither is in use elsewhere: how many
-/// letters wait there. What was put is then what was taken, followed by what was seen. Takes no memory.
+/// Looks at what is left in the ring from one port to another, once neither is in use elsewhere:
+/// how many letters wait there. What was put is then what was taken, followed by what was seen.
+/// Takes no memory.
 pub fn see_left(from: &mut Port, to: &mut Port) -> usize
     requires joined { LeadsTo from.old to.old }
     ensures left { letters_put from.old ≡ letters_taken to.old ++ letters_waiting to.new }
@@ -49,8 +50,8 @@ pub fn see_left(from: &mut Port, to: &mut Port) -> usize
     to.from_ring.slots_beside(&mut from.to_ring)
 }
 
-/// Takes all that is left in the ring from one port to another into a list with room for a full ring. What
-/// was put is then what was taken, followed by that list. Takes no memory.
+/// Takes all that is left in the ring from one port to another into a list with room for a full
+/// ring. What was put is then what was taken, followed by that list. Takes no memory.
 pub fn take_left(from: &mut Port, to: &mut Port, left: &mut Vec<Letter>)
     requires joined { LeadsTo from.old to.old }
     requires empty { vec_len left.old ≡ 0 }

@@ -1,16 +1,17 @@
 //! Workers over blocks: each block is moved to a worker, does turns there, and comes back.
 //!
-//! Two blocks that share a border have two rings, one each way, and each block has a port to the other: the
-//! ring that it puts into, and the ring that it takes from. What one port put is, in order, what the other took,
-//! followed by what is left in the ring. A block's ports are its `Ends`, and go with it from thread to thread.
+//! Two blocks that share a border have two rings, one each way, and each block has a port to the
+//! other: the ring that it puts into, and the ring that it takes from. What one port put is, in
+//! order, what the other took, followed by what is left in the ring. A block's ports are its
+//! `Ends`, and go with it from thread to thread.
 //!
-//! A worker takes turns of its blocks without a lock round any of them. Each turn is a list of the block's own
-//! enabled events, and what it puts and takes is what its ports have put and taken.
+//! A worker takes turns of its blocks without a lock round any of them. Each turn is a list of the
+//! block's own enabled events, and what it puts and takes is what its ports have put and taken.
 //!
-//! The turns are drawn from a book (`TurnBook`), which the workers share under one lock: how many are left to
-//! draw, and which blocks are still busy. Two ledgers go with a book, so that what was drawn under the lock is
-//! known outside it: a share of the one tells how many turns the book began with, and the shares of the other,
-//! one with each worker, how many were drawn.
+//! The turns are drawn from a book (`TurnBook`), which the workers share under one lock: how many
+//! are left to draw, and which blocks are still busy. Two ledgers go with a book, so that what was
+//! drawn under the lock is known outside it: a share of the one tells how many turns the book began
+//! with, and the shares of the other, one with each worker, how many were drawn.
 #![tactic(auto)]
 
 mod book;

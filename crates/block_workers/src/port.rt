@@ -24,8 +24,8 @@ impl Port {
         self.other
     }
 
-    /// Whether room for a letter is seen. There may be more by now. Room that was seen stays, but for one place for each
-    /// letter that is put.
+    /// Whether room for a letter is seen. There may be more by now. Room that was seen stays, but
+    /// for one place for each letter that is put.
     pub fn room(&mut self) -> bool
         ensures look { Looks self.old self.new }
         ensures value { IsTrue result ↔ (0 < free self.new) }
@@ -42,8 +42,8 @@ impl Port {
         self.to_ring.push_reserved(letter);
     }
 
-    /// The letter that is to be taken next, where one is seen. One may have come by now where none is. What was seen
-    /// stays in front until it is taken.
+    /// The letter that is to be taken next, where one is seen. One may have come by now where none
+    /// is. What was seen stays in front until it is taken.
     pub fn front(&mut self) -> Option<Letter>
         ensures look { Looks self.old self.new }
         ensures value { result ≡ first self.new }

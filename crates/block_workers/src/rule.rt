@@ -3,7 +3,8 @@ ghost use Rattle.block_events.specs.Workers.{IsFair};
 use block_turns::Letter;
 use rtrb::Protocol;
 
-/// The rule of the rings: who takes a letter knows that its message is fair, since none other may be put.
+/// The rule of the rings: who takes a letter knows that its message is fair, since none other may
+/// be put.
 #[derive(Clone, Copy)]
 pub struct Fair;
 

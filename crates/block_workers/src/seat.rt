@@ -11,8 +11,8 @@ use worker_options::Gate;
 /// How many events a turn may do beside as many as the block has nodes.
 const MORE_EVENTS: u32 = 16;
 
-/// A block at its worker's: its number, its ends of the rings to the other blocks, how many nodes it has, and how far
-/// it has come in the round.
+/// A block at its worker's: its number, its ends of the rings to the other blocks, how many nodes
+/// it has, and how far it has come in the round.
 #[derive(Drop)]
 pub struct Seat {
     pub(crate) number: u32,
@@ -58,11 +58,13 @@ impl Seat {
         (self.block, self.ends)
     }
 
-    /// One turn: at most as many events as the block has nodes, plus 16, and at least one where one is sure.
+    /// One turn: at most as many events as the block has nodes, plus 16, and at least one where one
+    /// is sure.
     fn do_turn(&mut self) -> u32
         ensures went { Went result self.old self.new }
         ensures few { result ≤ most self.old }
-        ensures some { (e : Step) → IsSure self.old.block (ways_of_ports (ports self.old.ends)) e → 0 < result }
+        ensures some { (e : Step)
+            → IsSure self.old.block (ways_of_ports (ports self.old.ends)) e → 0 < result }
         ensures turn { self.new.turn ≡ self.old.turn }
     {
         let count = turn_with(&mut self.block, &mut self.ends, self.nodes + MORE_EVENTS);
@@ -84,7 +86,8 @@ impl Seat {
         self.do_turn()
     }
 
-    /// Turn 0, which is free. Answers whether some block is marked busy after it, which no clause says.
+    /// Turn 0, which is free. Answers whether some block is marked busy after it, which no clause
+    /// says.
     pub(crate) fn begin<J: Job, R: Wait, G: Gate>(
         &mut self,
         rt: &R,
@@ -99,9 +102,9 @@ impl Seat {
         book.lock(rt).mark(self.number, !self.did_event)
     }
 
-    /// The turn after the last one, for which a turn was drawn; where the gate says no it does nothing, and the block
-    /// has ended. Answers whether some block is marked busy after it. No clause says what it answers, nor what the
-    /// gate's no ends.
+    /// The turn after the last one, for which a turn was drawn; where the gate says no it does
+    /// nothing, and the block has ended. Answers whether some block is marked busy after it. No
+    /// clause says what it answers, nor what the gate's no ends.
     pub(crate) fn go_on<J: Job, R: Wait, G: Gate>(
         &mut self,
         rt: &R,
@@ -118,8 +121,8 @@ impl Seat {
         book.lock(rt).mark(self.number, !self.did_event)
     }
 
-    /// Whether the block wants a turn: it has not ended, and its last turn did an event or a letter is in front
-    /// of one of its rings. That it answers so is shown by tests.
+    /// Whether the block wants a turn: it has not ended, and its last turn did an event or a letter
+    /// is in front of one of its rings. That it answers so is shown by tests.
     pub(crate) fn wants(&mut self) -> bool
         ensures went { Went 0 self.old self.new }
         ensures turn { self.new.turn ≡ self.old.turn }

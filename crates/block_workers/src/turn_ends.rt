@@ -86,14 +86,16 @@ fn turn_from<N: Start>(block: &mut Block, ends: Ends, limit: u32) -> (Ends, u32)
     (ways.ends, count)
 }
 
-/// A turn of a block with its ends: a list of the block's own enabled events, at most `limit`, and at least
-/// one where one is sure. Answers how many. The block has as many nodes as before. Takes no memory.
+/// A turn of a block with its ends: a list of the block's own enabled events, at most `limit`, and
+/// at least one where one is sure. Answers how many. The block has as many nodes as before. Takes
+/// no memory.
 pub(crate) fn turn_with(block: &mut Block, ends: &mut Ends, limit: u32) -> u32
     ensures few { result ≤ limit }
     ensures does { DoesMany
         (turn_view block.old (ways_of_ports (ports ends.old))) result
         (turn_view block.new (ways_of_ports (ports ends.new))) }
-    ensures some { 0 < limit → (e : Step) → IsSure block.old (ways_of_ports (ports ends.old)) e → 0 < result }
+    ensures some { 0 < limit → (e : Step)
+        → IsSure block.old (ways_of_ports (ports ends.old)) e → 0 < result }
     ensures same { AreSame (ports ends.old) (ports ends.new) }
     ensures nodes { count block.new ≡ count block.old }
 {

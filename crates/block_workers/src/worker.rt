@@ -6,8 +6,8 @@ use std::sync::ledger::Share;
 use std::sync::{Mutex, Wait};
 use worker_options::Gate;
 
-/// A worker with the blocks that were moved to it, by rising numbers, and its part of the ledger of turns
-/// drawn: as many as its blocks drew.
+/// A worker with the blocks that were moved to it, by rising numbers, and its part of the ledger of
+/// turns drawn: as many as its blocks drew.
 #[derive(Drop)]
 pub struct Worker<J: Job> {
     pub(crate) seats: Vec<Seat>,
@@ -46,7 +46,8 @@ fn lowest_left(seats: &Vec<Seat>) -> Option<usize>
 }
 
 impl<J: Job> Worker<J> {
-    /// A worker with these blocks and one part of the ledger, which has as many turns as the blocks drew.
+    /// A worker with these blocks and one part of the ledger, which has as many turns as the blocks
+    /// drew.
     pub fn new(seats: Vec<Seat>, share: Share<J::Drawn>) -> Worker<J>
         requires counted { turns_of seats.items ≡ share.amount }
         requires part { share.parts ≡ 1 }
@@ -59,7 +60,8 @@ impl<J: Job> Worker<J> {
         }
     }
 
-    /// The blocks in their order, and the part of the ledger: it has as many turns as the blocks drew.
+    /// The blocks in their order, and the part of the ledger: it has as many turns as the blocks
+    /// drew.
     pub fn into_parts(self) -> (Vec<Seat>, Share<J::Drawn>)
         ensures seats { result.0 ≡ self.seats }
         ensures counted { turns_of result.0.items ≡ result.1.amount }
@@ -68,7 +70,8 @@ impl<J: Job> Worker<J> {
         (self.seats, self.share)
     }
 
-    /// Draws a turn and does it for the block at a place among its blocks. Answers whether one was drawn.
+    /// Draws a turn and does it for the block at a place among its blocks. Answers whether one was
+    /// drawn.
     fn take_turn<R: Wait, G: Gate>(
         &mut self,
         rt: &R,
@@ -96,8 +99,8 @@ impl<J: Job> Worker<J> {
         }
     }
 
-    /// A turn of the block at a place, where it wants one. Answers whether it did, and nothing where no turn was
-    /// left to draw.
+    /// A turn of the block at a place, where it wants one. Answers whether it did, and nothing
+    /// where no turn was left to draw.
     fn turn_if_wanted<R: Wait, G: Gate>(
         &mut self,
         rt: &R,
@@ -117,8 +120,8 @@ impl<J: Job> Worker<J> {
         Some(true)
     }
 
-    /// A turn of each block that wants one. Answers whether some block did, and nothing where no turn was left
-    /// to draw.
+    /// A turn of each block that wants one. Answers whether some block did, and nothing where no
+    /// turn was left to draw.
     fn pass<R: Wait, G: Gate>(
         &mut self,
         rt: &R,
@@ -137,8 +140,8 @@ impl<J: Job> Worker<J> {
         Some(is_wanted)
     }
 
-    /// A turn of the lowest block that has not ended, as long as some block is marked busy. Answers whether there
-    /// was one.
+    /// A turn of the lowest block that has not ended, as long as some block is marked busy. Answers
+    /// whether there was one.
     fn wait_turn<R: Wait, G: Gate>(&mut self, rt: &R, book: &Mutex<TurnBook<J>>, gate: &G) -> bool
         ensures { AllAdvanced self.old.seats.items self.new.seats.items }
     {
@@ -151,10 +154,11 @@ impl<J: Job> Worker<J> {
         }
     }
 
-    /// All that the worker does in a round: turn 0 of each block, and then the turns that it draws, in rising
-    /// number of the blocks, again and again. A block wants a turn where it has not ended, and its last turn did
-    /// an event or a letter is in front of one of its rings. Where no block wants one, the lowest that has not
-    /// ended has a turn, as long as some block of the round is marked busy. Takes no memory.
+    /// All that the worker does in a round: turn 0 of each block, and then the turns that it draws,
+    /// in rising number of the blocks, again and again. A block wants a turn where it has not
+    /// ended, and its last turn did an event or a letter is in front of one of its rings. Where no
+    /// block wants one, the lowest that has not ended has a turn, as long as some block of the
+    /// round is marked busy. Takes no memory.
     ///
     /// Who gets a turn is shown by tests: the clauses say of any turns what they did.
     pub fn work<R: Wait, G: Gate>(&mut self, rt: &R, book: &Mutex<TurnBook<J>>, gate: &G)

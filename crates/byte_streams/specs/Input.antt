@@ -21,8 +21,8 @@ abbrev pub IsReadOr : List ℕ → Result (Vec ℕ Global) ReadError → Type 0
 IsReadOr input (Ok v) = (v.items ≡ input) × (length input ≤ input_limit)
 IsReadOr input (Err error) = IsReadRefusal input error
 
--- the stream gave as many bytes as the call answers, and none only at its end or to a buffer without room; and it
--- counts the call exactly where it answered a fault
+-- the stream gave as many bytes as the call answers, and none only at its end or to a buffer
+-- without room; and it counts the call exactly where it answered a fault
 abbrev pub Gives : {E : Type 0} → Stream → Stream → Result ℕ E → List ℕ → Type 0
 Gives old new r buffer = ReadConsumes old.bytes new.bytes r buffer
     × (new.failures ≡ failures_after (is_err r) old.failures)

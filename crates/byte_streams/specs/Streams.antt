@@ -2,8 +2,8 @@
 use Rattle.std.specs.Prelude.{◌≡◌, ◌⊎◌, ◌<◌, ◌+◌, ◌%◌, ◌^◌, ℕ, Bool, true, false, List, length, Option, take}
 use Rattle.std.specs.Io.KnownBytes.{Appends}
 
--- the bytes that a stream has still to give, or has taken, where they are known; and how many of its calls have failed,
--- counted in 64 bits, where one more failure is always another number
+-- the bytes that a stream has still to give, or has taken, where they are known; and how many of
+-- its calls have failed, counted in 64 bits, where one more failure is always another number
 pub record Stream : Type 0 where
   pub bytes : Option (List ℕ)
   pub failures : ℕ

@@ -1,5 +1,5 @@
-//! Bytes in and out: a whole input with a limit, and a whole text to a writer with exact counts. Readers and
-//! writers are watched, so that contracts can say that one really failed.
+//! Bytes in and out: a whole input with a limit, and a whole text to a writer with exact counts.
+//! Readers and writers are watched, so that contracts can say that one really failed.
 #![tactic(auto)]
 
 mod input;

@@ -1,5 +1,5 @@
--- Choices that are right for good, each for itself: persistency, or partial optimality (Boros and Hammer 2002; Kohli,
--- Shekhovtsov, Rother, Kolmogorov, Torr, ICML 2008).
+-- Choices that are right for good, each for itself: persistency, or partial optimality (Boros and
+-- Hammer 2002; Kohli, Shekhovtsov, Rother, Kolmogorov, Torr, ICML 2008).
 use Rattle.std.specs.Prelude.{◌≡◌, ◌⊎◌, ◌==◌, ℕ, ◌<◌, Bool, true, false, cond, List, ℤ, pos, ◌≤ℤ◌, ◌<ℤ◌}
 use Rattle.move_energy.specs.declared.choice.Choice.{Choice}
 use Rattle.move_energy.specs.declared.choice.Choice.TheVariants.{Open, Zero, One}
@@ -29,8 +29,9 @@ abbrev pub AreOfDecisions : ℕ → List Decision → (ℕ → Choice) → Type 
 AreOfDecisions n ds choice = (x : ℕ → Bool) (p : ℕ) → p < n
     → with_decisions ds x p ≡ bit_of (choice p) (x p)
 
--- the test of one variable: it may be 0 where its turning to 1 does not lower the value even if every other open one is
--- 1, and is to be 1 where it lowers the value even if every other open one is 0
+-- the test of one variable: it may be 0 where its turning to 1 does not lower the value even if
+-- every other open one is 1, and is to be 1 where it lowers the value even if every other open one
+-- is 0
 abbrev pub TellsOne : ((ℕ → Bool) → ℤ) → (ℕ → Choice) → ℕ → Bool → Type 0
 TellsOne E choice p false = pos 0 ≤ℤ rise E p (with_choices choice (λ k. true))
 TellsOne E choice p true = rise E p (with_choices choice (λ k. false)) <ℤ pos 0

@@ -1,5 +1,5 @@
--- The border of a strip in a move: of what its pairs to open sites outside it add, the function with those at 1 differs
--- from the function with those at 0 at the strip's own sites alone.
+-- The border of a strip in a move: of what its pairs to open sites outside it add, the function
+-- with those at 1 differs from the function with those at 0 at the strip's own sites alone.
 use Rattle.std.specs.Prelude.{◌==◌, ◌&&◌, ◌||◌, ℕ, Bool, true, false, not, nat_lt}
 use Rattle.std.specs.List.{sum_by}
 use Rattle.sums.specs.Sums.{sum_below, count_if}
@@ -40,7 +40,8 @@ leads_beyond choice set p pair =
 
 -- the surplus of a pair, if it does
 abbrev pub pair_border : Instance → Move → (ℕ → ℕ) → (ℕ → Choice) → (ℕ → Bool) → ℕ → Pair → ℕ
-pair_border m move f choice set p pair = count_if (leads_beyond choice set p pair) (pair_surplus m move f pair)
+pair_border m move f choice set p pair =
+    count_if (leads_beyond choice set p pair) (pair_surplus m move f pair)
 
 -- of all pairs of a site
 abbrev pub border_at : Instance → Move → (ℕ → ℕ) → (ℕ → Choice) → (ℕ → Bool) → ℕ → ℕ
@@ -49,4 +50,5 @@ border_at m move f choice set p = sum_by (pair_border m move f choice set p) m.p
 -- and of all open sites of the set that are 1
 abbrev pub border_sum : Instance → Move → (ℕ → ℕ) → (ℕ → Choice) → (ℕ → Bool) → (ℕ → Bool) → ℕ
 border_sum m move f choice set x =
-    sum_below m.sites (λ p. count_if (is_inside choice set p && x p) (border_at m move f choice set p))
+    sum_below m.sites (λ p.
+    count_if (is_inside choice set p && x p) (border_at m move f choice set p))

@@ -27,33 +27,35 @@ use Rattle.closing_in.specs.Forms.{bits_by_site, IsOneToOne, IsReweighed}
 
 -- ---- bounds
 
--- of a function fixed in two ways: where what the first fixes to 1 is 1 in a least assignment of the second, and what
--- the second fixes to 0 is 0 in the least one with the fewest ones of the first, that one lies within the other
--- (Topkis 1978)
+-- of a function fixed in two ways: where what the first fixes to 1 is 1 in a least assignment of
+-- the second, and what the second fixes to 0 is 0 in the least one with the fewest ones of the
+-- first, that one lies within the other (Topkis 1978)
 abbrev pub LeastRises : Type 0
 LeastRises =
     (n : ℕ) (E : (ℕ → Bool) → ℤ) (low high : ℕ → Choice) (x y : ℕ → Bool)
-    → IsSubmodular E → IsOver n E → IsSmallestLeast n (fixed_value E low) x → IsLeast (fixed_value E high) y
-    → HasOnes n low (with_choices high y) → HasZeros n high (with_choices low x) → OnesLieWithin n (with_choices low x) (with_choices high y)
+    → IsSubmodular E → IsOver n E → IsSmallestLeast n (fixed_value E low) x
+    → IsLeast (fixed_value E high) y
+    → HasOnes n low (with_choices high y) → HasZeros n high (with_choices low x)
+    → OnesLieWithin n (with_choices low x) (with_choices high y)
 
--- where what is fixed to 0 is 0 in the least assignment with the fewest ones, its ones lie within those of
--- every least assignment of what is left
+-- where what is fixed to 0 is 0 in the least assignment with the fewest ones, its ones lie within
+-- those of every least assignment of what is left
 abbrev pub OnesBoundLeast : Type 0
 OnesBoundLeast =
     (n : ℕ) (E : (ℕ → Bool) → ℤ) (choice : ℕ → Choice) (s z : ℕ → Bool)
     → IsSubmodular E → IsOver n E → IsSmallestLeast n E s → HasZeros n choice s
     → IsLeast (fixed_value E choice) z → OnesLieWithin n s (with_choices choice z)
 
--- where what is fixed to 1 is 1 in a least assignment, its zeros lie within those of the least assignment
--- with the fewest ones of what is left
+-- where what is fixed to 1 is 1 in a least assignment, its zeros lie within those of the least
+-- assignment with the fewest ones of what is left
 abbrev pub ZerosBoundLeast : Type 0
 ZerosBoundLeast =
     (n : ℕ) (E : (ℕ → Bool) → ℤ) (choice : ℕ → Choice) (s z : ℕ → Bool)
     → IsSubmodular E → IsOver n E → IsLeast E s → HasOnes n choice s
     → IsSmallestLeast n (fixed_value E choice) z → OnesLieWithin n (with_choices choice z) s
 
--- where what is fixed is fixed as in the least assignment with the fewest ones, that of what is left, with
--- what is fixed, is the whole's
+-- where what is fixed is fixed as in the least assignment with the fewest ones, that of what is
+-- left, with what is fixed, is the whole's
 abbrev pub RestAndFixedIsLeast : Type 0
 RestAndFixedIsLeast =
     (n : ℕ) (E : (ℕ → Bool) → ℤ) (choice : ℕ → Choice) (s z : ℕ → Bool)
@@ -74,7 +76,8 @@ ForcedAgree =
     (n : ℕ) (E : (ℕ → Bool) → ℤ) (ds : List Decision) (choice : ℕ → Choice)
     → AreForced E ds → AreOfDecisions n ds choice → Agree n E choice
 
--- with choices that agree, the least assignment with the fewest ones of what is left is that of the whole
+-- with choices that agree, the least assignment with the fewest ones of what is left is that of the
+-- whole
 abbrev pub RestAgrees : Type 0
 RestAgrees =
     (n : ℕ) (E : (ℕ → Bool) → ℤ) (choice : ℕ → Choice) (z : ℕ → Bool)
@@ -91,7 +94,8 @@ AgreeByRest =
 abbrev pub SameChoicesSame : Type 0
 SameChoicesSame =
     (n : ℕ) (E : (ℕ → Bool) → ℤ) (choice other : ℕ → Choice) → IsOver n E
-    → ((p : ℕ) → p < n → choice p ≡ other p) → (x : ℕ → Bool) → fixed_value E choice x ≡ fixed_value E other x
+    → ((p : ℕ) → p < n → choice p ≡ other p) → (x : ℕ → Bool)
+    → fixed_value E choice x ≡ fixed_value E other x
 
 -- ---- strips
 
@@ -100,7 +104,8 @@ abbrev pub LowerWithinUpper : Type 0
 LowerWithinUpper =
     (n : ℕ) (E : (ℕ → Bool) → ℤ) (choice : ℕ → Choice) (strip : Strip)
     → IsSubmodular E → IsOver n E → IsStripBounded n E choice strip
-    → (p : ℕ) → p < n → strip.set p ≡ true → choice p ≡ Open → strip.lower p ≡ true → strip.upper p ≡ true
+    → (p : ℕ) → p < n → strip.set p ≡ true → choice p ≡ Open → strip.lower p ≡ true
+    → strip.upper p ≡ true
 
 -- where the choices agree, they do with what a strip tells; and each of its sides can be left out
 abbrev pub StripAgrees : Type 0
@@ -112,7 +117,8 @@ StripAgrees =
 abbrev pub LowerAgrees : Type 0
 LowerAgrees =
     (n : ℕ) (E : (ℕ → Bool) → ℤ) (choice : ℕ → Choice) (set z : ℕ → Bool)
-    → IsSubmodular E → IsOver n E → Agree n E choice → IsSmallestLeast n (lower_value E choice set) z
+    → IsSubmodular E → IsOver n E → Agree n E choice
+    → IsSmallestLeast n (lower_value E choice set) z
     → Agree n E (choices_or choice (told_by (record { set = set; lower = z; upper = λ p. true })))
 
 abbrev pub UpperAgrees : Type 0
@@ -128,7 +134,8 @@ TestedAgree =
     → IsSubmodular E → IsOver n E → Agree n E choice → choice p ≡ Open → TellsOne E choice p value
     → Agree n E (with_one choice p value)
 
--- a strip that was bounded with choices that agree may add what it tells later, to choices that agree and go on from them
+-- a strip that was bounded with choices that agree may add what it tells later, to choices that
+-- agree and go on from them
 abbrev pub StripAddsLater : Type 0
 StripAddsLater =
     (n : ℕ) (E : (ℕ → Bool) → ℤ) (start choice : ℕ → Choice) (strip : Strip)
@@ -144,7 +151,8 @@ StripsSideBySide =
     → IsSubmodular E → IsOver n E → Agree n E choice → All (IsStripBounded n E choice) strips
     → Agree n E (with_strips choice strips)
 
--- after any rounds of strips, the least assignment with the fewest ones of what is left is that of the whole
+-- after any rounds of strips, the least assignment with the fewest ones of what is left is that of
+-- the whole
 abbrev pub RoundsAndRestAreLeast : Type 0
 RoundsAndRestAreLeast =
     (n : ℕ) (E : (ℕ → Bool) → ℤ) (choice : ℕ → Choice) (rounds : List (List Strip)) (z : ℕ → Bool)
@@ -158,7 +166,8 @@ RoundsAndRestAreLeast =
 abbrev pub DecidedAgree : Type 0
 DecidedAgree =
     (m : Instance) (move : Move) (f : ℕ → ℕ) (choice : ℕ → Choice)
-    → IsInstance m → IsAllowed m move f → AreDecided m move f choice → Agree m.sites (move_value m move f) choice
+    → IsInstance m → IsAllowed m move f → AreDecided m move f choice
+    → Agree m.sites (move_value m move f) choice
 
 -- so does what is decided so far, and the bounds of a site tell of it what the test tells
 abbrev pub PartlyDecidedAgree : Type 0
@@ -173,28 +182,32 @@ BoundsTellOne =
     → IsInstance m → ArePartlyDecided m move f k b → p < k → choice_at b.choices.items p ≡ Open
     → TellsValue b p value → TellsOne (move_value m move f) (choice_at b.choices.items) p value
 
--- after any rounds of strips, the least assignment with the fewest ones of what is left is that of the move
+-- after any rounds of strips, the least assignment with the fewest ones of what is left is that of
+-- the move
 abbrev pub RoundsEndMove : Type 0
 RoundsEndMove =
-    (m : Instance) (move : Move) (f : ℕ → ℕ) (choice : ℕ → Choice) (rounds : List (List Strip)) (z : ℕ → Bool)
+    (m : Instance) (move : Move) (f : ℕ → ℕ) (choice : ℕ → Choice)
+    (rounds : List (List Strip)) (z : ℕ → Bool)
     → IsInstance m → IsAllowed m move f → Agree m.sites (move_value m move f) choice
     → AreRounds m.sites (move_value m move f) choice rounds
     → IsSmallestLeast m.sites (fixed_value (move_value m move f) (with_rounds choice rounds)) z
     → IsSmallestLeast m.sites (move_value m move f) (with_choices (with_rounds choice rounds) z)
 
--- the rise of an open site of a strip is lower with the others at 1 than with them at 0, by the surplus of its pairs that
--- lead beyond the strip
+-- the rise of an open site of a strip is lower with the others at 1 than with them at 0, by the
+-- surplus of its pairs that lead beyond the strip
 abbrev pub UpperRiseIsLower : Type 0
 UpperRiseIsLower =
     (m : Instance) (move : Move) (f : ℕ → ℕ) (choice : ℕ → Choice) (set x : ℕ → Bool) (p : ℕ)
     → IsInstance m → IsAllowed m move f → p < m.sites → is_inside choice set p ≡ true
-    → rise (upper_value (move_value m move f) choice set) p x +ℤ pos (border_at m move f choice set p)
+    → rise (upper_value (move_value m move f) choice set) p x
+    +ℤ pos (border_at m move f choice set p)
     ≡ rise (lower_value (move_value m move f) choice set) p x
 
 -- a site's border is a sum over its own pairs
 abbrev pub BorderBySite : Type 0
 BorderBySite =
-    (m : Instance) (move : Move) (f : ℕ → ℕ) (choice : ℕ → Choice) (set : ℕ → Bool) (p : ℕ) (ends : Neighbours)
+    (m : Instance) (move : Move) (f : ℕ → ℕ) (choice : ℕ → Choice) (set : ℕ → Bool) (p : ℕ)
+    (ends : Neighbours)
     → IsInstance m → AreNeighboursOf m ends → p < m.sites
     → border_at m move f choice set p
     ≡ sum_below (degree ends p) (λ k. pair_border m move f choice set p (pair_of ends p k))
@@ -205,24 +218,28 @@ UpperIsLowerWithBorder =
     (m : Instance) (move : Move) (f : ℕ → ℕ) (choice : ℕ → Choice) (set : ℕ → Bool)
     → IsInstance m → IsAllowed m move f
     → (rest : ℤ) × ((x : ℕ → Bool) → upper_value (move_value m move f) choice set x
-    +ℤ pos (border_sum m move f choice set x) ≡ lower_value (move_value m move f) choice set x +ℤ rest)
+    +ℤ pos (border_sum m move f choice set x)
+    ≡ lower_value (move_value m move f) choice set x +ℤ rest)
 
--- the weights of the open sites are those of a strip with the others at 0; less the border, with the others at 1
+-- the weights of the open sites are those of a strip with the others at 0; less the border, with
+-- the others at 1
 abbrev pub WeightsOfStrip : Type 0
 WeightsOfStrip =
-    (m : Instance) (move : Move) (f : ℕ → ℕ) (choice : ℕ → Choice) (set : ℕ → Bool) (weights : List ℤ)
+    (m : Instance) (move : Move) (f : ℕ → ℕ) (choice : ℕ → Choice) (set : ℕ → Bool)
+    (weights : List ℤ)
     → AreWeights m move f choice weights → AreWeights m move f (others_at Zero set choice) weights
 
 abbrev pub WeightsLessBorder : Type 0
 WeightsLessBorder =
-    (m : Instance) (move : Move) (f : ℕ → ℕ) (choice : ℕ → Choice) (set : ℕ → Bool) (weights less : List ℤ)
+    (m : Instance) (move : Move) (f : ℕ → ℕ) (choice : ℕ → Choice) (set : ℕ → Bool)
+    (weights less : List ℤ)
     → IsInstance m → IsAllowed m move f → AreWeights m move f choice weights
     → ((p : ℕ) → p < m.sites → is_inside choice set p ≡ true
     → weight_at weights p ≡ weight_at less p +ℤ pos (border_at m move f choice set p))
     → AreWeights m move f (others_at One set choice) less
 
--- where more is chosen, the weights of the sites that are still open are less by the surplus of their pairs to sites that
--- are now at 1
+-- where more is chosen, the weights of the sites that are still open are less by the surplus of
+-- their pairs to sites that are now at 1
 abbrev pub WeightsGoOn : Type 0
 WeightsGoOn =
     (m : Instance) (move : Move) (f : ℕ → ℕ) (choice more : ℕ → Choice) (weights less : List ℤ)
@@ -236,36 +253,45 @@ WeightsGoOn =
 -- the least bits of the form, by site, are the least values of what is left
 abbrev pub FormTellsLeast : Type 0
 FormTellsLeast =
-    (m : Instance) (move : Move) (f : ℕ → ℕ) (choice : ℕ → Choice) (q : Quadratic) (variable : ℕ → ℕ) (y : ℕ → Bool)
+    (m : Instance) (move : Move) (f : ℕ → ℕ) (choice : ℕ → Choice) (q : Quadratic)
+    (variable : ℕ → ℕ) (y : ℕ → Bool)
     → IsInstance m → StandsFor m move f choice q variable → IsLeast (quadratic_value q) y
     → IsLeast (fixed_value (move_value m move f) choice) (bits_by_site choice variable y)
 
 abbrev pub FormTellsSmallestLeast : Type 0
 FormTellsSmallestLeast =
-    (m : Instance) (move : Move) (f : ℕ → ℕ) (choice : ℕ → Choice) (q : Quadratic) (variable : ℕ → ℕ) (y : ℕ → Bool)
+    (m : Instance) (move : Move) (f : ℕ → ℕ) (choice : ℕ → Choice) (q : Quadratic)
+    (variable : ℕ → ℕ) (y : ℕ → Bool)
     → IsInstance m → StandsFor m move f choice q variable
     → IsSmallestLeast (vec_len q.weights) (quadratic_value q) y
-    → IsSmallestLeast m.sites (fixed_value (move_value m move f) choice) (bits_by_site choice variable y)
+    → IsSmallestLeast m.sites (fixed_value (move_value m move f) choice)
+    (bits_by_site choice variable y)
 
--- a form that is lower by the border of the ones stands for the strip with the others at 1, where the form stands for the
--- strip with the others at 0
+-- a form that is lower by the border of the ones stands for the strip with the others at 1, where
+-- the form stands for the strip with the others at 0
 abbrev pub FormLessBorder : Type 0
 FormLessBorder =
-    (m : Instance) (move : Move) (f : ℕ → ℕ) (choice : ℕ → Choice) (set : ℕ → Bool) (q less : Quadratic)
+    (m : Instance) (move : Move) (f : ℕ → ℕ) (choice : ℕ → Choice) (set : ℕ → Bool)
+    (q less : Quadratic)
     (variable : ℕ → ℕ)
     → IsInstance m → IsAllowed m move f → StandsFor m move f (others_at Zero set choice) q variable
     → vec_len less.weights ≡ vec_len q.weights
-    → ((x : ℕ → Bool) → quadratic_value less x +ℤ pos (border_sum m move f choice set (λ p. x (variable p)))
+    → ((x : ℕ → Bool) → quadratic_value less x
+    +ℤ pos (border_sum m move f choice set (λ p. x (variable p)))
     ≡ quadratic_value q x)
     → StandsFor m move f (others_at One set choice) less variable
 
--- and that is the same form, each weight less the border of its site: the same network, but for more room to the sink
+-- and that is the same form, each weight less the border of its site: the same network, but for
+-- more room to the sink
 abbrev pub ReweighedLessBorder : Type 0
 ReweighedLessBorder =
-    (m : Instance) (move : Move) (f : ℕ → ℕ) (choice : ℕ → Choice) (set : ℕ → Bool) (q less : Quadratic)
+    (m : Instance) (move : Move) (f : ℕ → ℕ) (choice : ℕ → Choice) (set : ℕ → Bool)
+    (q less : Quadratic)
     (variable site : ℕ → ℕ)
     → IsInstance m → IsAllowed m move f → StandsFor m move f (others_at Zero set choice) q variable
-    → IsOneToOne m.sites (is_inside choice set) (vec_len q.weights) variable site → IsReweighed q less
+    → IsOneToOne m.sites (is_inside choice set) (vec_len q.weights) variable site
+    → IsReweighed q less
     → ((k : ℕ) → k < vec_len q.weights
-    → entry less.weights.items k +ℤ pos (border_at m move f choice set (site k)) ≡ entry q.weights.items k)
+    → entry less.weights.items k +ℤ pos (border_at m move f choice set (site k))
+    ≡ entry q.weights.items k)
     → StandsFor m move f (others_at One set choice) less variable

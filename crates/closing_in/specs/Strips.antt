@@ -1,5 +1,5 @@
--- Variables closed in from both sides, strip by strip: what is 1 even with all others at 0 is 1 for good, and what is 0
--- even with all others at 1 is 0 for good (Topkis 1978).
+-- Variables closed in from both sides, strip by strip: what is 1 even with all others at 0 is 1 for
+-- good, and what is 0 even with all others at 1 is 0 for good (Topkis 1978).
 use Rattle.std.specs.Prelude.{ℕ, Bool, cond, List, [], ◌∷◌, ℤ}
 use Rattle.std.specs.List.{All}
 use Rattle.move_energy.specs.declared.choice.Choice.{Choice}
@@ -8,7 +8,8 @@ use Rattle.deciding.specs.Decisions.{IsSmallestLeast}
 use Rattle.closing_in.specs.Fixing.{fixed_value, IsLeast}
 use Rattle.closing_in.specs.Agreeing.{or_else, choices_or}
 
--- a set of variables, and two assignments that bound what its variables are, from below and from above
+-- a set of variables, and two assignments that bound what its variables are, from below and from
+-- above
 pub record Strip : Type 0 where
   pub set : ℕ → Bool
   pub lower : ℕ → Bool
@@ -25,9 +26,10 @@ lower_value E choice set = fixed_value E (others_at Zero set choice)
 abbrev pub upper_value : ((ℕ → Bool) → ℤ) → (ℕ → Choice) → (ℕ → Bool) → (ℕ → Bool) → ℤ
 upper_value E choice set = fixed_value E (others_at One set choice)
 
--- the bounds of the strip, as the choices are: the least assignment with the fewest ones where all others are at 0, and
--- one of the least where they are at 1
-pub record IsStripBounded (n : ℕ) (E : (ℕ → Bool) → ℤ) (choice : ℕ → Choice) (strip : Strip) : Type 0 where
+-- the bounds of the strip, as the choices are: the least assignment with the fewest ones where all
+-- others are at 0, and one of the least where they are at 1
+pub record IsStripBounded (n : ℕ) (E : (ℕ → Bool) → ℤ) (choice : ℕ → Choice)
+    (strip : Strip) : Type 0 where
   pub lower : IsSmallestLeast n (lower_value E choice strip.set) strip.lower
   pub upper : IsLeast (upper_value E choice strip.set) strip.upper
 

@@ -1,4 +1,5 @@
-//! How much more room to the sink the node of a site has where the open sites outside its strip are at 1, and not at 0.
+//! How much more room to the sink the node of a site has where the open sites outside its strip are
+//! at 1, and not at 0.
 ghost use Rattle.std.specs.Prelude.{◌≡◌, ◌<◌, ◌≤◌, ◌*◌, ℕ, pos, length, unsigned_abs};
 ghost use Rattle.label_field.specs.PairLists.{IsPair};
 ghost use Rattle.labellings.specs.Energies.{labelling};
@@ -46,7 +47,8 @@ fn pair_border<F: Fn(u32, u32) -> i64 + Sync, V: Fn(u32, u32) -> i64 + Sync>(
     requires pair { IsPair (length at.now) pair }
     requires asked { IsAsked problem.now at.now change }
     requires choices { length choices.now ≡ length at.now }
-    ensures value { WhereMeant F.Fn V.Fn problem.now (λ m. IsRegularPair m change (labelling at.now) pair →
+    ensures value { WhereMeant F.Fn V.Fn problem.now
+        (λ m. IsRegularPair m change (labelling at.now) pair →
         result ≡ pos (border_of_pair m change (labelling at.now) (choice_at choices.now)
         (range_of from to) site pair)) }
     ensures range { unsigned_abs result ≤ surplus_limit }
@@ -58,7 +60,8 @@ fn pair_border<F: Fn(u32, u32) -> i64 + Sync, V: Fn(u32, u32) -> i64 + Sync>(
     surplus(&table)
 }
 
-/// The border of a site of a strip that is a range of sites: what its pairs to open sites outside the range come to.
+/// The border of a site of a strip that is a range of sites: what its pairs to open sites outside
+/// the range come to.
 pub fn border<F: Fn(u32, u32) -> i64 + Sync, V: Fn(u32, u32) -> i64 + Sync>(
     problem: &Problem<F, V>,
     ends: &Neighbours,
@@ -75,7 +78,8 @@ pub fn border<F: Fn(u32, u32) -> i64 + Sync, V: Fn(u32, u32) -> i64 + Sync>(
     requires choices { length choices.now ≡ length at.now }
     requires site { site < length at.now }
     ensures value { WhereMeant F.Fn V.Fn problem.now (λ m. IsAllowed m change (labelling at.now) →
-        result ≡ pos (border_at m change (labelling at.now) (choice_at choices.now) (range_of from to) site)) }
+        result ≡ pos (border_at m change (labelling at.now) (choice_at choices.now)
+        (range_of from to) site)) }
     ensures range { unsigned_abs result ≤ surplus_limit * degree ends.now site }
 {
     let mut total = 0i64;

@@ -33,8 +33,9 @@ fn or_else(choice: Choice, other: Choice) -> Choice
     }
 }
 
-/// Adds what a strip tells: of each of its sites that is still open, what the bounds at the site's place tell. Strips that
-/// were bounded with the same choices may be added one after another, in any order.
+/// Adds what a strip tells: of each of its sites that is still open, what the bounds at the site's
+/// place tell. Strips that were bounded with the same choices may be added one after another, in
+/// any order.
 pub fn add_strip(choices: &mut [Choice], sites: &[u32], lower: &[bool], upper: &[bool])
     requires sites { All (λ p. p < length choices.old) sites.now }
     requires lower { length lower.now ≡ length sites.now }
@@ -43,7 +44,8 @@ pub fn add_strip(choices: &mut [Choice], sites: &[u32], lower: &[bool], upper: &
         p < length choices.old →
         choice_at choices.new p ≡ choices_or (choice_at choices.old) (told_by strip) p }
     ensures agree { (n : ℕ) (E : (ℕ → Bool) → ℤ) (start : ℕ → AnyChoice) (strip : Strip) →
-        n ≤ length choices.old → IsSubmodular E → IsOver n E → IsStripListed sites.now lower.now upper.now strip →
+        n ≤ length choices.old → IsSubmodular E → IsOver n E
+        → IsStripListed sites.now lower.now upper.now strip →
         IsStripBounded n E start strip → Agree n E start → Agree n E (choice_at choices.old) →
         ChooseMore n start (choice_at choices.old) →
         Agree n E (choice_at choices.new) × ChooseMore n start (choice_at choices.new) }

@@ -13,11 +13,13 @@ unfoldable pub label_app : App
 label_app = with_rules (with_rules (new_app (codes "label")) label_rules) worker_rules
 
 unfoldable pub restore_app : App
-restore_app = with_rules (with_rules (with_rules (new_app (codes "restore")) shared_rules) restore_rules) worker_rules
+restore_app = with_rules (with_rules (with_rules (new_app (codes "restore")) shared_rules)
+    restore_rules) worker_rules
 
 -- `stereo` shares options with `restore`, and has others
 unfoldable pub stereo_app : App
-stereo_app = with_rules (with_rules (with_rules (new_app (codes "stereo")) shared_rules) stereo_rules) worker_rules
+stereo_app = with_rules (with_rules (with_rules (new_app (codes "stereo")) shared_rules)
+    stereo_rules) worker_rules
 
 unfoldable pub segment_app : App
 segment_app = with_rules (with_rules (new_app (codes "segment")) segment_rules) worker_rules

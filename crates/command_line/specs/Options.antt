@@ -22,7 +22,8 @@ use Rattle.command_line.specs.declared.task.OptionName.TheVariants as option
 
 -- the text is a number, with or without a plus, and this is it
 abbrev pub Reads : Text → ℕ → Type 0
-Reads text n = IsNumeral 10 (without_leading_plus text) × (n ≡ digits_value 10 (without_leading_plus text))
+Reads text n = IsNumeral 10 (without_leading_plus text)
+    × (n ≡ digits_value 10 (without_leading_plus text))
 
 -- the value of the option of this name is this number
 abbrev pub HasValue : List Row → Text → ℕ → Type 0
@@ -56,7 +57,8 @@ pub record AreNames (rows : List Row) (smooth : Shape) (neighbours : Neighbours)
   pub neighbours_are : HasNeighbours rows neighbours
   pub moves_are : moves_option rows ≡ Some moves
 
--- the flag of this name is up exactly where its value is `true`, as clap has it where the words have the flag
+-- the flag of this name is up exactly where its value is `true`, as clap has it where the words
+-- have the flag
 abbrev pub HasFlag : List Row → Text → Bool → Type 0
 HasFlag rows name flag = IsTrue flag ↔ (first_of name rows ≡ Some (codes "true"))
 
@@ -150,4 +152,5 @@ IsOnlyBad rows name = (name ≡ option.Neighbours) × IsBad rows option.Neighbou
 abbrev pub IsFirstNone : Option Shape → Option Neighbours → Option Moves → OptionName → Type 0
 IsFirstNone smooth neighbours moves option.Smooth = smooth ≡ None
 IsFirstNone smooth neighbours moves option.Neighbours = (smooth ≢ None) × (neighbours ≡ None)
-IsFirstNone smooth neighbours moves option.Moves = (smooth ≢ None) × (neighbours ≢ None) × (moves ≡ None)
+IsFirstNone smooth neighbours moves option.Moves =
+    (smooth ≢ None) × (neighbours ≢ None) × (moves ≡ None)

@@ -12,7 +12,8 @@ use Rattle.worker_options.specs.Limits.{ring_limit, round_limit, thread_limit, t
 
 -- `--name` with any text as its value, or else the default
 abbrev pub text_rule : Text → Text → Rule
-text_rule name default = record (new_rule name) { long = Some name; value_names = 1; defaults = default ∷ [] }
+text_rule name default = record (new_rule name)
+    { long = Some name; value_names = 1; defaults = default ∷ [] }
 
 -- `--name` with a number from the least to the most as its value
 abbrev pub number_rule : Text → ℕ → ℕ → Rule
@@ -25,7 +26,8 @@ number_rule name least most =
 
 -- the same with a default, and one that has to be given
 abbrev pub defaulted_rule : Text → ℕ → ℕ → Text → Rule
-defaulted_rule name least most default = record (number_rule name least most) { defaults = default ∷ [] }
+defaulted_rule name least most default =
+    record (number_rule name least most) { defaults = default ∷ [] }
 
 abbrev pub required_rule : Text → ℕ → ℕ → Rule
 required_rule name least most = record (number_rule name least most) { required = true }

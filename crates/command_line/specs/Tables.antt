@@ -13,7 +13,8 @@ use Rattle.command_line.specs.declared.rules.Value.TheVariants.{Text, Number, Re
 
 -- a rule whose value is a number from the least to the most
 abbrev pub with_range : Rule → ℕ → ℕ → Rule
-with_range rule least most = record rule { value_names = 1; parser = Some (Signed (pos least) (pos most)) }
+with_range rule least most =
+    record rule { value_names = 1; parser = Some (Signed (pos least) (pos most)) }
 
 -- the rule of an option with this name
 abbrev pub rule_of_value : Word → Value → Rule
@@ -32,11 +33,13 @@ rules_for (choice ∷ choices) = rule_for choice ∷ rules_for choices
 
 -- what a command of the table is
 abbrev pub app_for : Chapter → App
-app_for chapter = with_rules (with_rules (new_app chapter.name.now) (rules_for chapter.options.now)) worker_rules
+app_for chapter = with_rules
+    (with_rules (new_app chapter.name.now) (rules_for chapter.options.now)) worker_rules
 
 abbrev pub with_chapters : App → List Chapter → App
 with_chapters a [] = a
-with_chapters a (chapter ∷ chapters) = with_chapters (with_subcommand a (app_for chapter).top) chapters
+with_chapters a (chapter ∷ chapters) =
+    with_chapters (with_subcommand a (app_for chapter).top) chapters
 
 -- the command has these commands more
 abbrev pub AddsChapters : Command → List Chapter → Command → Type 0

@@ -47,7 +47,8 @@ IsBadOptionOf name rows option =
 
 -- the words are a command line that names a subcommand, and it asks for this
 abbrev pub Asks : List Text → Request → Type 0
-Asks words request = AreWordsAccepted words × IsSomeAnd (subcommand_of gco_app words) (λ p. IsRequestOf p.0 p.1 request)
+Asks words request = AreWordsAccepted words
+    × IsSomeAnd (subcommand_of gco_app words) (λ p. IsRequestOf p.0 p.1 request)
 
 -- the words are a command line, and this option of its subcommand is the first bad one
 abbrev pub NamesBadOption : List Text → OptionName → Type 0
@@ -79,8 +80,8 @@ IsHelpKind k = (k ≡ kind.DisplayHelp) ⊎ (k ≡ kind.DisplayVersion)
 abbrev pub AsksForHelp : List Text → Type 0
 AsksForHelp words = (k : ErrorKind) × IsHelpKind k × IsAmong k (fault_of gco_app words)
 
--- The words are no command line, for a cause that is not help; or they are one that has no task and no bad
--- option. Of the word `help` both are said by clap: help, and that it is no subcommand.
+-- The words are no command line, for a cause that is not help; or they are one that has no task and
+-- no bad option. Of the word `help` both are said by clap: help, and that it is no subcommand.
 abbrev pub AreRefused : List Text → Type 0
 AreRefused words = ((k : ErrorKind) × (¬ IsHelpKind k) × IsAmong k (fault_of gco_app words))
     ⊎ (AreWordsAccepted words × ((request : Request) → ¬ Asks words request)
@@ -107,7 +108,8 @@ IsNoTaskOf e (Help text) = IsHelpKind (kind_of e)
 IsNoTaskOf e (Refused text) = (kind_of e ≢ kind.OutOfMemory) × (¬ IsHelpKind (kind_of e))
 IsNoTaskOf e (BadOption option) = ⊥
 
--- why a subcommand does not give what it is asked for: a bad option, or none such and nothing to give
+-- why a subcommand does not give what it is asked for: a bad option, or none such and nothing to
+-- give
 abbrev pub HasNo : {X : Type 0} → (X → Type 0) → (OptionName → Type 0) → Unmet → Type 0
 HasNo {X} gives bad (unmet.BadOption option) = bad option
 HasNo {X} gives bad unmet.NoTask = ((x : X) → ¬ gives x) × ((option : OptionName) → ¬ bad option)

@@ -16,7 +16,8 @@ pub enum Task {
         /// Whether it is to be told how near the labelling is to the least energy.
         bound: bool,
     },
-    /// One of the image commands: moves to labellings of the pixels, and the picture of the last one.
+    /// One of the image commands: moves to labellings of the pixels, and the picture of the last
+    /// one.
     Picture(PictureOptions),
 }
 
@@ -56,12 +57,14 @@ pub enum OptionName {
 pub enum NoTask {
     /// Memory was refused.
     OutOfMemory,
-    /// The words ask for help, by `--help` or by the word `help`. `clap` makes the text, which is not empty.
-    Help(String),
-    /// The words are no command line of the program, or have the word `help`. `clap` says why by this text, which is
+    /// The words ask for help, by `--help` or by the word `help`. `clap` makes the text, which is
     /// not empty.
+    Help(String),
+    /// The words are no command line of the program, or have the word `help`. `clap` says why by
+    /// this text, which is not empty.
     Refused(String),
-    /// This option's value is no name that it takes: the first such of `smooth`, `neighbours`, `moves`.
+    /// This option's value is no name that it takes: the first such of `smooth`, `neighbours`,
+    /// `moves`.
     BadOption(OptionName),
 }
 

@@ -267,7 +267,8 @@ fn text_in<'a>(matches: &ArgMatches<'a>, name: &str) -> Option<&'a str>
 
 // The value of an option, if it is a number from the least to the most.
 fn number_in(matches: &ArgMatches<'_>, name: &str, least: u32, most: u32) -> Option<u32>
-    ensures number { IfSome result (HasNumber (rows_of (found_of matches.now)) name.now least most) }
+    ensures number { IfSome result
+        (HasNumber (rows_of (found_of matches.now)) name.now least most) }
     ensures none { IfNone result ((n : ℕ) →
         ¬ HasNumber (rows_of (found_of matches.now)) name.now least most n) }
 {

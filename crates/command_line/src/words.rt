@@ -13,13 +13,15 @@ use std::alloc::{AllocError, Global};
 use std::convert::AsStr;
 use std::string::ToString;
 
-/// The task that the words ask for, and the workers that are to do it. The first word is the program's name.
+/// The task that the words ask for, and the workers that are to do it. The first word is the
+/// program's name.
 ///
-/// The words are read by `clap`: a subcommand is required, and each command takes `--help`. Each option takes
-/// the next word as its value, and a number out of its range is refused by `clap`; a name that is not listed
-/// is the answer `BadOption`, of the first such option in the order `smooth`, `neighbours`, `moves`. Of `help`
-/// in the place of a subcommand the answer is `Help` or `Refused`, or memory: which of them follows from the
-/// word after it is not said. What is told is not empty.
+/// The words are read by `clap`: a subcommand is required, and each command takes `--help`. Each
+/// option takes the next word as its value, and a number out of its range is refused by `clap`; a
+/// name that is not listed is the answer `BadOption`, of the first such option in the order
+/// `smooth`, `neighbours`, `moves`. Of `help` in the place of a subcommand the answer is `Help` or
+/// `Refused`, or memory: which of them follows from the word after it is not said. What is told is
+/// not empty.
 pub fn parse<S: AsStr>(alloc: Global, words: &[S]) -> Result<Request, NoTask>
     ensures asked { IfOk result (Asks (map S.text words.now)) }
     ensures fits { IfOk result FitsRequest }
@@ -84,7 +86,8 @@ fn entered_request(matches: &ArgMatches<'_>) -> Result<Request, Unmet>
         (λ p. IsRequestOf p.0 p.1 request)) }
     ensures unmet { IfErr result (HasNo
         (λ request. IsSomeAnd (subcommand_rows_of matches.now) (λ p. IsRequestOf p.0 p.1 request))
-        (λ option. IsSomeAnd (subcommand_rows_of matches.now) (λ p. IsBadOptionOf p.0 p.1 option))) }
+        (λ option. IsSomeAnd (subcommand_rows_of matches.now)
+        (λ p. IsBadOptionOf p.0 p.1 option))) }
 {
     match task_entered(matches) {
         Some((name, inner)) => request_of(name, inner),

@@ -16,7 +16,8 @@ reached u v k m n c d at_u at_v a e same = omega (arith, ints, at_u, at_v, a, e,
 least_too : (net : Network) (side other : ℕ → Bool) → IsLeastCut net side → capacity_of net other ≤ capacity_of net side → IsLeastCut net other
 least_too net side other least low third = let base = least third in omega (arith, low, base)
 
--- the assignment that it shows is a least one, whose ones are among the ones of every least assignment
+-- the assignment that it shows is a least one, whose ones are among the ones of every least
+-- assignment
 pub best_of_cut : (e : Energy) (net : Network) (k : ℤ) (side x : ℕ → Bool) → e.variables ≤ nodes net → ShowsValues net k e
     → IsSmallestLeastCut net side → Shows e.variables x side → IsSmallestLeastAssignment e x
 best_of_cut e net k side x within shown best shows =

@@ -1,4 +1,5 @@
--- Weights as capacities: one above 0 is the source's of its node, one below 0 the sink's, and a constant.
+-- Weights as capacities: one above 0 is the source's of its node, one below 0 the sink's, and a
+-- constant.
 use Rattle.std.proofs.Common.{◌≡◌, ℕ, zero, suc, ◌+◌, ◌≤◌, ◌⊎◌, inl, inr, Bool, true, false, not, List, [], ◌∷◌, length, map, sum, All, slice_index, ℤ, pos, negsuc, ◌+ℤ◌, ◌-ℤ◌, unsigned_abs, refl, arith}
 use Rattle.std.proofs.lemmas.Int.{ints}
 use Rattle.std.proofs.lemmas.List.{length-map}

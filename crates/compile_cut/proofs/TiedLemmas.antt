@@ -14,7 +14,8 @@ use Rattle.compile_cut.specs.Shown.{Shows}
 use Rattle.compile_cut.proofs.PartLemmas.{passed_is}
 use Rattle.compile_cut.proofs.WeightLemmas.{extended, extended-at, extended-below}
 
--- a cost for each node that passes a test: at least the cost where one does, and nothing where none does
+-- a cost for each node that passes a test: at least the cost where one does, and nothing where none
+-- does
 abbrev pub paid : (ℕ → Bool) → List ℕ → ℕ → ℕ
 paid t nodes cost = sum_by (λ node. count_if (t node) cost) nodes
 

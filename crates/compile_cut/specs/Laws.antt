@@ -4,8 +4,9 @@ use Rattle.pseudo_bool.specs.Energies.{Energy, value_at}
 use Rattle.flow_network.specs.Cut.{Network, nodes, capacity_of, IsSmallestLeastCut}
 use Rattle.compile_cut.specs.Shown.{Shows, ShowsValues, IsSmallestLeastAssignment}
 
--- the assignment that a smallest least cut shows is a least one, its ones are among the ones of every least
--- assignment, and its value is the cut's capacity and the constant (Kolmogorov and Zabih 2004, section 3)
+-- the assignment that a smallest least cut shows is a least one, its ones are among the ones of
+-- every least assignment, and its value is the cut's capacity and the constant (Kolmogorov and
+-- Zabih 2004, section 3)
 abbrev pub SmallestCutIsSmallestAssignment : Type 0
 SmallestCutIsSmallestAssignment =
     (e : Energy) (net : Network) (constant : ℤ) (side x : ℕ → Bool) → e.variables ≤ nodes net

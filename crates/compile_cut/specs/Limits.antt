@@ -6,8 +6,9 @@ use Rattle.pseudo_bool.specs.Limits.{variable_limit, term_limit, value_limit, co
 abbrev pub form_nodes : ℕ
 form_nodes = variable_limit + term_limit
 
--- the most that the weights and the arcs of one term come to: a term of three has 20 times a number of its
--- table in weights, 12 times in arcs between variables, and 24 times in arcs of its hidden node
+-- the most that the weights and the arcs of one term come to: a term of three has 20 times a number
+-- of its table in weights, 12 times in arcs between variables, and 24 times in arcs of its hidden
+-- node
 abbrev pub term_size : ℕ
 term_size = 56 * value_limit
 

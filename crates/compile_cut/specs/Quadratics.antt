@@ -10,7 +10,8 @@ use Rattle.compile_cut.specs.Weights.{weights_value, weights_size, arcs_value, a
 
 -- the value at a set of nodes
 abbrev pub quadratic_value : Quadratic → (ℕ → Bool) → ℤ
-quadratic_value q x = q.constant +ℤ weights_value q.weights.items x +ℤ pos (arcs_value q.arcs.items x)
+quadratic_value q x = q.constant +ℤ weights_value q.weights.items x
+    +ℤ pos (arcs_value q.arcs.items x)
 
 -- what is true after this many terms
 pub record IsQuadraticBounded (terms : ℕ) (q : Quadratic) : Type 0 where
@@ -42,9 +43,11 @@ pub record AddsLeast (old new : Quadratic) (cost : (ℕ → Bool) → ℕ) : Typ
 -- one node more, and at most as many terms more as come to that many times the cost
 pub record IsTied (times cost : ℕ) (old new : Quadratic) : Type 0 where
   pub nodes : vec_len new.weights ≡ vec_len old.weights + 1
-  pub bounded : (k terms : ℕ) → cost * times ≤ value_limit * terms → IsQuadraticBounded k old → IsQuadraticBounded (k + terms) new
+  pub bounded : (k terms : ℕ) → cost * times ≤ value_limit * terms → IsQuadraticBounded k old
+      → IsQuadraticBounded (k + terms) new
 
 -- of the sets that show an assignment, the least value is the energy's
 pub record SaysValues (e : Energy) (q : Quadratic) : Type 0 where
   pub lower : (x : ℕ → Bool) → value_at e x ≤ℤ quadratic_value q x
-  pub reached : (x : ℕ → Bool) → (y : ℕ → Bool) × Shows e.variables x y × (quadratic_value q y ≡ value_at e x)
+  pub reached : (x : ℕ → Bool)
+      → (y : ℕ → Bool) × Shows e.variables x y × (quadratic_value q y ≡ value_at e x)

@@ -8,8 +8,8 @@ use Rattle.flow_network.specs.Cut.{Network, capacity_of, LiesWithin}
 abbrev pub Shows : ℕ → (ℕ → Bool) → (ℕ → Bool) → Type 0
 Shows variables x side = (i : ℕ) → i < variables → side i ≡ x i
 
--- a function of more variables, hidden behind the first n: the least of its values at the sets that are the same on
--- these is another function's value, but for a fixed number
+-- a function of more variables, hidden behind the first n: the least of its values at the sets that
+-- are the same on these is another function's value, but for a fixed number
 pub record Hides (n : ℕ) (value hiding : (ℕ → Bool) → ℤ) : Type 0 where
   pub offset : ℤ
   pub lower : (x : ℕ → Bool) → value x ≤ℤ (hiding x +ℤ offset)

@@ -20,7 +20,8 @@ turned_table table =
 -- what the arcs between a hidden node of this weight and three others carry into a set:
 -- where the weight is above 0 they lead to the three, and where it is below 0 to the hidden node
 abbrev pub hidden_value : ℤ → Bool → Bool → Bool → Bool → ℕ
-hidden_value (pos n) w x y z = count_if (x && not w) n + count_if (y && not w) n + count_if (z && not w) n
+hidden_value (pos n) w x y z =
+    count_if (x && not w) n + count_if (y && not w) n + count_if (z && not w) n
 hidden_value (negsuc n) w x y z =
     count_if (w && not x) (suc n) + count_if (w && not y) (suc n) + count_if (w && not z) (suc n)
 

@@ -17,16 +17,19 @@ pub fn add_weight(weights: &mut Vec<i64>, at: u32, by: i64)
     requires room { weights_size weights.old.items ≤ form_size + term_size }
     requires step { unsigned_abs by ≤ 8 * value_limit }
     ensures len { vec_len weights.new ≡ vec_len weights.old }
-    ensures value { (x : ℕ → Bool) → weights_value weights.new.items x ≡ weights_value weights.old.items x
+    ensures value { (x : ℕ → Bool)
+        → weights_value weights.new.items x ≡ weights_value weights.old.items x
         +ℤ int_counted (x at) by }
-    ensures size { weights_size weights.new.items ≤ weights_size weights.old.items + unsigned_abs by }
+    ensures size { weights_size weights.new.items
+        ≤ weights_size weights.old.items + unsigned_abs by }
 {
     weights[at as usize] += by;
 }
 
 /// Adds an arc, if it carries anything.
 pub fn add_arc(arcs: &mut Vec<Arc>, from: u32, to: u32, capacity: u64) -> Result<(), AllocError>
-    ensures value { OnOk result ((x : ℕ → Bool) → arcs_value arcs.new.items x ≡ arcs_value arcs.old.items x
+    ensures value { OnOk result
+        ((x : ℕ → Bool) → arcs_value arcs.new.items x ≡ arcs_value arcs.old.items x
         + count_if (x to && not (x from)) capacity) }
     ensures size { OnOk result (arcs_size arcs.new.items ≡ arcs_size arcs.old.items + capacity) }
     ensures nodes { OnOk result ((n : ℕ) → from < n → to < n → All (IsArc n) arcs.old.items
@@ -55,10 +58,13 @@ pub fn add_three_weights(weights: &mut Vec<i64>, nodes: Nodes, part: &ThreePart)
     requires room { weights_size weights.old.items + 12 * value_limit ≤ form_size + term_size }
     requires small { IsThreePartSmall part.now }
     ensures len { vec_len weights.new ≡ vec_len weights.old }
-    ensures value { (x : ℕ → Bool) → weights_value weights.new.items x ≡ weights_value weights.old.items x
+    ensures value { (x : ℕ → Bool)
+        → weights_value weights.new.items x ≡ weights_value weights.old.items x
         +ℤ int_counted (x nodes.first) part.now.first
-        +ℤ int_counted (x nodes.second) part.now.second +ℤ int_counted (x nodes.third) part.now.third }
-    ensures size { weights_size weights.new.items ≤ weights_size weights.old.items + 12 * value_limit }
+        +ℤ int_counted (x nodes.second) part.now.second
+        +ℤ int_counted (x nodes.third) part.now.third }
+    ensures size { weights_size weights.new.items
+        ≤ weights_size weights.old.items + 12 * value_limit }
 {
     add_weight(weights, nodes.first, part.first);
     add_weight(weights, nodes.second, part.second);
@@ -67,11 +73,13 @@ pub fn add_three_weights(weights: &mut Vec<i64>, nodes: Nodes, part: &ThreePart)
 
 /// Adds the arcs among three variables, each from an earlier to a later.
 pub fn add_three_arcs(arcs: &mut Vec<Arc>, nodes: Nodes, part: &ThreeArcs) -> Result<(), AllocError>
-    ensures value { OnOk result ((x : ℕ → Bool) → arcs_value arcs.new.items x ≡ arcs_value arcs.old.items x
+    ensures value { OnOk result
+        ((x : ℕ → Bool) → arcs_value arcs.new.items x ≡ arcs_value arcs.old.items x
         + count_if (x nodes.second && not (x nodes.first)) part.now.first_second
         + count_if (x nodes.third && not (x nodes.first)) part.now.first_third
         + count_if (x nodes.third && not (x nodes.second)) part.now.second_third) }
-    ensures size { OnOk result (arcs_size arcs.new.items ≡ arcs_size arcs.old.items + part.now.first_second
+    ensures size { OnOk result
+        (arcs_size arcs.new.items ≡ arcs_size arcs.old.items + part.now.first_second
         + part.now.first_third + part.now.second_third) }
     ensures nodes { OnOk result ((n : ℕ) → nodes.first < n → nodes.second < n → nodes.third < n
         → All (IsArc n) arcs.old.items → All (IsArc n) arcs.new.items) }
@@ -91,7 +99,8 @@ pub fn add_hidden_arcs(
     nodes: Nodes,
     weight: i64,
 ) -> Result<(), AllocError>
-    ensures value { OnOk result ((x : ℕ → Bool) → arcs_value arcs.new.items x ≡ arcs_value arcs.old.items x
+    ensures value { OnOk result
+        ((x : ℕ → Bool) → arcs_value arcs.new.items x ≡ arcs_value arcs.old.items x
         + hidden_value weight (x hidden) (x nodes.first) (x nodes.second) (x nodes.third)) }
     ensures size { OnOk result (arcs_size arcs.new.items ≡ arcs_size arcs.old.items
         + 3 * unsigned_abs weight) }

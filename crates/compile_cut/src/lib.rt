@@ -1,5 +1,5 @@
-//! Regular energies as nets: the least capacity of the cuts that show an assignment, plus a constant, is
-//! its value (Kolmogorov and Zabih, PAMI 2004, section 4).
+//! Regular energies as nets: the least capacity of the cuts that show an assignment, plus a
+//! constant, is its value (Kolmogorov and Zabih, PAMI 2004, section 4).
 #![tactic(auto)]
 
 mod adding;

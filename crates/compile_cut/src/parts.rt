@@ -18,7 +18,8 @@ pub fn balance(table: &[i64], a: usize, b: usize, c: usize, d: usize) -> i64
     requires values { All IsValue table.now }
     requires places { (a < length table.now) × (b < length table.now) × (c < length table.now)
         × (d < length table.now) }
-    ensures value { result ≡ entry table.now a +ℤ entry table.now b -ℤ entry table.now c -ℤ entry table.now d }
+    ensures value { result ≡ entry table.now a +ℤ entry table.now b -ℤ entry table.now c
+        -ℤ entry table.now d }
     ensures small { unsigned_abs result ≤ 4 * value_limit }
 {
     balance_of(table[a], table[b], table[c], table[d])
@@ -41,7 +42,8 @@ pub fn gain(table: &[i64], a: usize, b: usize, c: usize, d: usize) -> u64
     requires values { All IsValue table.now }
     requires places { (a < length table.now) × (b < length table.now) × (c < length table.now)
         × (d < length table.now) }
-    requires regular { (entry table.now c +ℤ entry table.now d) ≤ℤ (entry table.now a +ℤ entry table.now b) }
+    requires regular { (entry table.now c +ℤ entry table.now d)
+        ≤ℤ (entry table.now a +ℤ entry table.now b) }
     ensures value { pos result ≡ entry table.now a
         +ℤ entry table.now b -ℤ entry table.now c -ℤ entry table.now d }
     ensures small { result ≤ 4 * value_limit }
@@ -80,7 +82,8 @@ pub fn split_one(table: &[i64; 2]) -> OnePart
     }
 }
 
-/// A table over two variables as a number, two weights, and what an arc from the first to the second carries.
+/// A table over two variables as a number, two weights, and what an arc from the first to the
+/// second carries.
 #[derive(Clone, Copy)]
 pub struct PairPart {
     pub constant: i64,

@@ -20,16 +20,17 @@ use flow_network::Arc;
 use pseudo_bool::{Energy, Term};
 use std::alloc::{AllocError, Global};
 
-/// A number, a weight for each node, and arcs: what the terms of an energy add up to. Its value at a set of nodes is
-/// the number, the weights of the nodes of the set and the capacities of the arcs that lead into it from outside, all
-/// in the unit of the energy (Kolmogorov and Zabih, PAMI 2004, section 4). Terms may be added one after another,
-/// without an energy that lists them, and `net_of` makes the net.
+/// A number, a weight for each node, and arcs: what the terms of an energy add up to. Its value at
+/// a set of nodes is the number, the weights of the nodes of the set and the capacities of the arcs
+/// that lead into it from outside, all in the unit of the energy (Kolmogorov and Zabih, PAMI 2004,
+/// section 4). Terms may be added one after another, without an energy that lists them, and
+/// `net_of` makes the net.
 #[derive(Drop)]
 pub struct Quadratic {
     /// What each assignment costs.
     pub constant: i64,
-    /// What each node costs where it is 1: a node for each variable, in their order, and then hidden nodes, at most one
-    /// for each term of three variables.
+    /// What each node costs where it is 1: a node for each variable, in their order, and then
+    /// hidden nodes, at most one for each term of three variables.
     pub weights: Vec<i64>,
     /// What a pair of nodes costs where the first is 0 and the second is 1.
     pub arcs: Vec<Arc>,
@@ -58,9 +59,10 @@ impl Quadratic {
         })
     }
 
-    /// Adds a term of one variable, whose node is there: what it costs where the variable is 0 and where it is 1, each
-    /// number from `-VALUE_LIMIT` to `VALUE_LIMIT` of `pseudo_bool`. As many terms as an energy has at most may be
-    /// added to a form; `IsQuadraticBounded` counts them. It takes no memory (Kolmogorov and Zabih, PAMI 2004, section 4.1).
+    /// Adds a term of one variable, whose node is there: what it costs where the variable is 0 and
+    /// where it is 1, each number from `-VALUE_LIMIT` to `VALUE_LIMIT` of `pseudo_bool`. As many
+    /// terms as an energy has at most may be added to a form; `IsQuadraticBounded` counts them. It
+    /// takes no memory (Kolmogorov and Zabih, PAMI 2004, section 4.1).
     pub fn add_one(&mut self, first: u32, table: &[i64; 2])
         requires bounded { IsQuadraticBounded term_limit self.old }
         requires first { first < vec_len self.old.weights }
@@ -76,10 +78,11 @@ impl Quadratic {
         self.constant += part.constant;
     }
 
-    /// Adds a regular term of two variables, whose nodes are there: what it costs at 00, 01, 10 and 11, where the first
-    /// variable is the first digit, each number from `-VALUE_LIMIT` to `VALUE_LIMIT`. As many terms as an energy has at
-    /// most may be added to a form. Refuses only where memory runs out, and then nothing is said of the form
-    /// (Kolmogorov and Zabih, PAMI 2004, section 4.1).
+    /// Adds a regular term of two variables, whose nodes are there: what it costs at 00, 01, 10 and
+    /// 11, where the first variable is the first digit, each number from `-VALUE_LIMIT` to
+    /// `VALUE_LIMIT`. As many terms as an energy has at most may be added to a form. Refuses only
+    /// where memory runs out, and then nothing is said of the form (Kolmogorov and Zabih, PAMI
+    /// 2004, section 4.1).
     pub fn add_pair(&mut self, first: u32, second: u32, table: &[i64; 4]) -> Result<(), AllocError>
         requires bounded { IsQuadraticBounded term_limit self.old }
         requires first { first < vec_len self.old.weights }
@@ -87,9 +90,11 @@ impl Quadratic {
         requires values { All IsValue table.now }
         requires regular { IsRegularTable table.now }
         ensures len { vec_len self.new.weights ≡ vec_len self.old.weights }
-        ensures bounded { OnOk result ((k : ℕ) → IsQuadraticBounded k self.old → IsQuadraticBounded (k + 1) self.new) }
+        ensures bounded { OnOk result
+            ((k : ℕ) → IsQuadraticBounded k self.old → IsQuadraticBounded (k + 1) self.new) }
         ensures value { OnOk result ((x : ℕ → Bool) → quadratic_value self.new x
-            ≡ quadratic_value self.old x +ℤ entry table.now (2 * digit (x first) + digit (x second))) }
+            ≡ quadratic_value self.old x
+            +ℤ entry table.now (2 * digit (x first) + digit (x second))) }
     {
         let part = split_pair(table);
         add_arc(&mut self.arcs, first, second, part.arc)?;
@@ -110,7 +115,8 @@ impl Quadratic {
         requires regular { (fixed : Fixed) → fixed.position < 3
             → IsRegularTable (projection table.now fixed) }
         ensures len { OnOk result (vec_len self.new.weights ≡ vec_len self.old.weights + 1) }
-        ensures bounded { OnOk result ((k : ℕ) → IsQuadraticBounded k self.old → IsQuadraticBounded (k + 1) self.new) }
+        ensures bounded { OnOk result
+            ((k : ℕ) → IsQuadraticBounded k self.old → IsQuadraticBounded (k + 1) self.new) }
         ensures value { OnOk result (AddsTerm self.old self.new
             (Term.Three nodes.first nodes.second nodes.third table.now)) }
     {
@@ -132,7 +138,8 @@ impl Quadratic {
         requires room { vec_len self.old.weights < form_nodes }
         ensures len { OnOk result (vec_len self.new.weights ≡ vec_len self.old.weights
             + three_digit term.now) }
-        ensures bounded { OnOk result ((k : ℕ) → IsQuadraticBounded k self.old → IsQuadraticBounded (k + 1) self.new) }
+        ensures bounded { OnOk result
+            ((k : ℕ) → IsQuadraticBounded k self.old → IsQuadraticBounded (k + 1) self.new) }
         ensures value { OnOk result (AddsTerm self.old self.new term.now) }
     {
         match term {
@@ -163,8 +170,9 @@ fn without_terms(alloc: Global, energy: &Energy) -> Result<Quadratic, AllocError
     Ok(form)
 }
 
-/// The terms of a regular energy, added up: the first half of `compile`. The energy is needed no more afterwards, so who
-/// owns it may give its memory back before `net_of` makes the net. Refuses only where memory runs out.
+/// The terms of a regular energy, added up: the first half of `compile`. The energy is needed no
+/// more afterwards, so who owns it may give its memory back before `net_of` makes the net. Refuses
+/// only where memory runs out.
 pub fn quadratic_of(alloc: Global, energy: &Energy) -> Result<Quadratic, AllocError>
     requires { IsRegular energy.now }
     ensures values { IfOk result (λ form. SaysValues energy.now form) }

@@ -15,9 +15,9 @@ pub struct ThreeArcs {
     pub second_third: u64,
 }
 
-/// A table over three variables as a number, three weights, what the arcs between the variables carry, and
-/// the weight of a hidden node. Each arc between the hidden node and a variable carries as much as that
-/// weight is without its sign.
+/// A table over three variables as a number, three weights, what the arcs between the variables
+/// carry, and the weight of a hidden node. Each arc between the hidden node and a variable carries
+/// as much as that weight is without its sign.
 #[derive(Clone, Copy)]
 pub struct ThreePart {
     pub constant: i64,
@@ -28,12 +28,13 @@ pub struct ThreePart {
     pub hidden: i64,
 }
 
-/// The table's parts, by the sign of the product's coefficient, which is the hidden node's weight: where it
-/// is above 0, they come from those of the table over the complemented variables (Kolmogorov and Zabih
-/// 2004, section 4.2).
+/// The table's parts, by the sign of the product's coefficient, which is the hidden node's weight:
+/// where it is above 0, they come from those of the table over the complemented variables
+/// (Kolmogorov and Zabih 2004, section 4.2).
 pub fn split_three(table: &[i64; 8]) -> ThreePart
     requires values { All IsValue table.now }
-    requires regular { (fixed : Fixed) → fixed.position < 3 → IsRegularTable (projection table.now fixed) }
+    requires regular { (fixed : Fixed) → fixed.position < 3
+        → IsRegularTable (projection table.now fixed) }
     ensures value { IsLeastOverHidden table.now result }
     ensures small { IsThreePartSmall result }
 {
@@ -55,8 +56,8 @@ fn product_weight(table: &[i64; 8]) -> i64
     sum(balance(table, 1, 2, 0, 3), balance(table, 4, 7, 5, 6))
 }
 
-/// The table over the complemented variables in the reverse order, so that an earlier variable stays the
-/// one from which an arc leads.
+/// The table over the complemented variables in the reverse order, so that an earlier variable
+/// stays the one from which an arc leads.
 fn turned_table(table: &[i64; 8]) -> [i64; 8]
     requires { All IsValue table.now }
     ensures value { result ≡ turned_table table.now }
@@ -67,12 +68,13 @@ fn turned_table(table: &[i64; 8]) -> [i64; 8]
     ]
 }
 
-/// The parts of a table from those of the turned one. The constant is what the turned parts have where all
-/// four are 1.
+/// The parts of a table from those of the turned one. The constant is what the turned parts have
+/// where all four are 1.
 fn turned_part(part: &ThreePart, constant: i64) -> ThreePart
     requires small { IsThreePartSmall part.now }
     requires sign { part.now.hidden ≤ℤ pos 0 }
-    requires constant { constant ≡ part.now.constant +ℤ part.now.first +ℤ part.now.second +ℤ part.now.third
+    requires constant { constant
+        ≡ part.now.constant +ℤ part.now.first +ℤ part.now.second +ℤ part.now.third
         +ℤ part.now.hidden }
     requires range { IsValue constant }
     ensures value { (w x y z : Bool) → part_value result w x y z
@@ -93,11 +95,12 @@ fn turned_part(part: &ThreePart, constant: i64) -> ThreePart
     }
 }
 
-/// The parts by what the table has where one variable is 0: the product's coefficient, the hidden weight,
-/// is at most 0.
+/// The parts by what the table has where one variable is 0: the product's coefficient, the hidden
+/// weight, is at most 0.
 fn split_at_zeros(table: &[i64; 8], hidden: i64) -> ThreePart
     requires values { All IsValue table.now }
-    requires regular { (fixed : Fixed) → fixed.position < 3 → IsRegularTable (projection table.now fixed) }
+    requires regular { (fixed : Fixed) → fixed.position < 3
+        → IsRegularTable (projection table.now fixed) }
     requires hidden { unsigned_abs hidden ≤ 8 * value_limit }
     ensures constant { result.constant ≡ entry table.now 0 }
     ensures first { result.first ≡ entry table.now 4 -ℤ entry table.now 0 }
@@ -127,14 +130,16 @@ fn split_at_zeros(table: &[i64; 8], hidden: i64) -> ThreePart
 /// What the arcs carry, by what the table has where one variable is 0.
 fn arcs_at_zeros(table: &[i64; 8]) -> ThreeArcs
     requires values { All IsValue table.now }
-    requires regular { (fixed : Fixed) → fixed.position < 3 → IsRegularTable (projection table.now fixed) }
+    requires regular { (fixed : Fixed) → fixed.position < 3
+        → IsRegularTable (projection table.now fixed) }
     ensures first_second { pos result.first_second ≡ entry table.now 2
         +ℤ entry table.now 4 -ℤ entry table.now 0 -ℤ entry table.now 6 }
     ensures first_third { pos result.first_third ≡ entry table.now 1
         +ℤ entry table.now 4 -ℤ entry table.now 0 -ℤ entry table.now 5 }
     ensures second_third { pos result.second_third ≡ entry table.now 1
         +ℤ entry table.now 2 -ℤ entry table.now 0 -ℤ entry table.now 3 }
-    ensures small { result.first_second + result.first_third + result.second_third ≤ 12 * value_limit }
+    ensures small { result.first_second + result.first_third + result.second_third
+        ≤ 12 * value_limit }
 {
     ThreeArcs {
         first_second: gain(table, 2, 4, 0, 6),

@@ -14,7 +14,8 @@ use std::alloc::AllocError;
 
 /// Adds an arc from each node to one node.
 fn add_arcs_to(arcs: &mut Vec<Arc>, nodes: &[u32], to: u32, capacity: u64) -> Result<(), AllocError>
-    ensures value { OnOk result ((x : ℕ → Bool) → arcs_value arcs.new.items x ≡ arcs_value arcs.old.items x
+    ensures value { OnOk result
+        ((x : ℕ → Bool) → arcs_value arcs.new.items x ≡ arcs_value arcs.old.items x
         + sum_by (λ node. count_if (x to && not (x node)) capacity) nodes.now) }
     ensures size { OnOk result (arcs_size arcs.new.items ≡ arcs_size arcs.old.items
         + capacity * length nodes.now) }
@@ -35,7 +36,8 @@ fn add_arcs_from(
     nodes: &[u32],
     capacity: u64,
 ) -> Result<(), AllocError>
-    ensures value { OnOk result ((x : ℕ → Bool) → arcs_value arcs.new.items x ≡ arcs_value arcs.old.items x
+    ensures value { OnOk result
+        ((x : ℕ → Bool) → arcs_value arcs.new.items x ≡ arcs_value arcs.old.items x
         + sum_by (λ node. count_if (x node && not (x from)) capacity) nodes.now) }
     ensures size { OnOk result (arcs_size arcs.new.items ≡ arcs_size arcs.old.items
         + capacity * length nodes.now) }
@@ -50,9 +52,10 @@ fn add_arcs_from(
 }
 
 impl Quadratic {
-    /// Adds a cost that is paid unless each of these nodes is 1, by a hidden node behind all others: of the sets that are
-    /// the same on the other nodes, the least value is the old one and the cost, or the old one where each is 1. Refuses
-    /// only where memory runs out, and then nothing is said of the form.
+    /// Adds a cost that is paid unless each of these nodes is 1, by a hidden node behind all
+    /// others: of the sets that are the same on the other nodes, the least value is the old one and
+    /// the cost, or the old one where each is 1. Refuses only where memory runs out, and then
+    /// nothing is said of the form.
     pub fn add_unless_all(&mut self, nodes: &[u32], cost: u64) -> Result<(), AllocError>
         requires bounded { IsQuadraticBounded term_limit self.old }
         requires room { vec_len self.old.weights < form_nodes }
@@ -69,14 +72,16 @@ impl Quadratic {
         Ok(())
     }
 
-    /// Adds a cost that is paid if any of these nodes is 1, by a hidden node, as `add_unless_all` does.
+    /// Adds a cost that is paid if any of these nodes is 1, by a hidden node, as `add_unless_all`
+    /// does.
     pub fn add_if_any(&mut self, nodes: &[u32], cost: u64) -> Result<(), AllocError>
         requires bounded { IsQuadraticBounded term_limit self.old }
         requires room { vec_len self.old.weights < form_nodes }
         requires nodes { All (λ node. node < vec_len self.old.weights) nodes.now }
         requires cost { cost ≤ value_limit }
         ensures tied { OnOk result (IsTied (length nodes.now + 1) cost self.old self.new) }
-        ensures value { OnOk result (AddsLeast self.old self.new (λ x. count_if (list_any x nodes.now) cost)) }
+        ensures value { OnOk result
+            (AddsLeast self.old self.new (λ x. count_if (list_any x nodes.now) cost)) }
     {
         let hidden = self.weights.len() as u32;
         self.weights.push(cost as i64)?;

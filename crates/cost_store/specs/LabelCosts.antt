@@ -43,7 +43,8 @@ AreFree costs = (label : ℕ) → cost_at costs label ≡ 0
 -- of each label that there can be the mark says whether one of the first n sites has it
 pub record AreLabelMarks (n : ℕ) (f : ℕ → ℕ) (marks : List Bool) : Type 0 where
   pub size : length marks ≡ label_limit
-  pub each : (label : ℕ) → label < label_limit → slice_index_or marks label false ≡ is_used n f label
+  pub each : (label : ℕ) → label < label_limit
+      → slice_index_or marks label false ≡ is_used n f label
 
 -- why costs were not set: the first label whose cost is out of range, or memory was refused
 abbrev pub IsSetRefusal : List ℤ → LabelCostError → Type 0

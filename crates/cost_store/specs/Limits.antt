@@ -1,12 +1,13 @@
 -- How large costs may be.
 use Rattle.std.specs.Prelude.{ℕ, ℤ, pos}
 
--- the greatest cost of a label at a site, 10^7: with it and the next limit every energy stays below 2^62
+-- the greatest cost of a label at a site, 10^7: with it and the next limit every energy stays below
+-- 2^62
 abbrev pub data_limit : ℤ
 data_limit = pos 10000000
 
--- the greatest cost of two labels at a pair of weight 1, 10^4: with a weight of 1,000 a pair costs at most
--- 10^7, as a label does
+-- the greatest cost of two labels at a pair of weight 1, 10^4: with a weight of 1,000 a pair costs
+-- at most 10^7, as a label does
 abbrev pub smooth_limit : ℤ
 smooth_limit = pos 10000
 
@@ -18,7 +19,8 @@ label_cost_limit = 10000000
 abbrev pub site_cost_limit : ℕ
 site_cost_limit = 10000000
 
--- the greatest cost of a pair, 10^7: the greatest weight, 1,000, times the greatest smooth cost, 10,000
+-- the greatest cost of a pair, 10^7: the greatest weight, 1,000, times the greatest smooth cost,
+-- 10,000
 abbrev pub pair_cost_limit : ℕ
 pair_cost_limit = 10000000
 

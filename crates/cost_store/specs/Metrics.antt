@@ -12,7 +12,8 @@ potts a b = if a == b then 0 else 1
 abbrev pub linear : ℕ → ℕ → ℕ → ℕ
 linear most a b = min (distance a b) most
 
--- the costs of k labels are a metric, whose least and greatest costs of two unequal labels are these
+-- the costs of k labels are a metric, whose least and greatest costs of two unequal labels are
+-- these
 pub record IsMetricOfRatio (k : ℕ) (cost : ℕ → ℕ → ℕ) (least greatest : ℕ) : Type 0 where
   pub metric : IsMetric k cost
   pub ratio : IsRatio k cost least greatest
@@ -23,7 +24,8 @@ PottsIsMetric = (k : ℕ) → IsMetricOfRatio k potts 1 1
 
 -- truncated linear costs are a metric, whatever they are cut off at, from 1 on
 abbrev pub LinearIsMetric : Type 0
-LinearIsMetric = (k most : ℕ) → 1 ≤ most → IsMetricOfRatio k (linear most) 1 (max 1 (min (k - 1) most))
+LinearIsMetric = (k most : ℕ) → 1 ≤ most
+    → IsMetricOfRatio k (linear most) 1 (max 1 (min (k - 1) most))
 
 -- the table of costs that are a metric is one that `is_metric` says yes of
 abbrev pub MetricHasMetricTable : Type 0

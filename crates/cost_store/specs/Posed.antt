@@ -24,23 +24,28 @@ takes {F} g f a b = g.pre f (a, (b, tt))
 abbrev pub gives : {F : Type 0} → Closure F → F → ℕ → ℕ → ℤ → Type 0
 gives {F} g f a b z = g.post f (a, (b, tt)) z
 
--- the problem is posed: both closures keep their promises, the pairs are a list of pairs, and its parts have the same sites
--- and labels
+-- the problem is posed: both closures keep their promises, the pairs are a list of pairs, and its
+-- parts have the same sites and labels
 pub record IsPosed {F V : Type 0} (f : Closure F) (v : Closure V) (p : Problem F V) : Type 0 where
-  pub costs : Keeps (takes f p.data_cost.f) (gives f p.data_cost.f) p.data_cost.sites p.data_cost.labels data_limit
-  pub smooth : KeepsSmooth (takes v p.smooth_cost.v) (gives v p.smooth_cost.v) p.smooth_cost.labels p.smooth_cost.by_metric
+  pub costs : Keeps (takes f p.data_cost.f) (gives f p.data_cost.f)
+      p.data_cost.sites p.data_cost.labels data_limit
+  pub smooth : KeepsSmooth (takes v p.smooth_cost.v) (gives v p.smooth_cost.v)
+      p.smooth_cost.labels p.smooth_cost.by_metric
   pub pairs : IsPairList p.pairs
   pub data_sites : p.data_cost.sites ≡ p.pairs.sites
   pub smooth_labels : p.smooth_cost.labels ≡ p.data_cost.labels
   pub label_costs : AreLabelCosts p.data_cost.labels p.label_costs
 
--- the instance is what the problem says: its pairs, what the closures answer, and what was set of the labels
-pub record IsMeant {F V : Type 0} (f : Closure F) (v : Closure V) (p : Problem F V) (m : Instance) : Type 0 where
+-- the instance is what the problem says: its pairs, what the closures answer, and what was set of
+-- the labels
+pub record IsMeant {F V : Type 0} (f : Closure F) (v : Closure V) (p : Problem F V)
+    (m : Instance) : Type 0 where
   pub sites_are : m.sites ≡ p.pairs.sites
   pub labels_are : m.labels ≡ p.data_cost.labels
   pub pairs_are : m.pairs ≡ p.pairs.list
   pub data_are : AnswersTable (gives f p.data_cost.f) m.data_cost p.pairs.sites p.data_cost.labels
-  pub smooth_are : AnswersTable (gives v p.smooth_cost.v) m.smooth_cost p.data_cost.labels p.data_cost.labels
+  pub smooth_are : AnswersTable (gives v p.smooth_cost.v)
+      m.smooth_cost p.data_cost.labels p.data_cost.labels
   pub costs_are : HasCosts m p.label_costs
 
 -- the instance of these pairs and tables, in which no label costs anything by itself
@@ -55,7 +60,8 @@ instance_of_costs pairs labels at_sites between = record {
 }
 
 -- this holds of each instance that the problem means
-abbrev pub WhereMeant : {F V : Type 0} → Closure F → Closure V → Problem F V → (Instance → Type 0) → Type 0
+abbrev pub WhereMeant : {F V : Type 0} → Closure F → Closure V → Problem F V
+    → (Instance → Type 0) → Type 0
 WhereMeant {F} {V} f v p P = (m : Instance) → IsMeant f v p m → P m
 
 -- a labelling of the problem's sites by its labels

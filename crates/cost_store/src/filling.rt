@@ -10,10 +10,12 @@ use std::thread::Threads;
 impl<F: Fn(u32, u32) -> i64> DataCost<F> {
     /// The cost at a place of the table, whose rows stand one after another.
     fn cost_at(&self, place: usize) -> i64
-        requires keeps { Keeps (F.pre self.now.f) (F.post self.now.f) self.now.sites self.now.labels data_limit }
+        requires keeps { Keeps (F.pre self.now.f) (F.post self.now.f)
+            self.now.sites self.now.labels data_limit }
         requires inside { place < self.now.sites * self.now.labels }
         requires small { self.now.sites < 2 ^ 32 }
-        ensures { (cost : ℕ → ℕ → ℕ) → AnswersTable (F.post self.now.f) cost self.now.sites self.now.labels →
+        ensures { (cost : ℕ → ℕ → ℕ)
+            → AnswersTable (F.post self.now.f) cost self.now.sites self.now.labels →
             result ≡ pos (cost (place / self.now.labels) (place % self.now.labels)) }
     {
         let labels = self.labels as usize;
@@ -28,7 +30,8 @@ impl<F: Fn(u32, u32) -> i64> DataCost<F> {
     ) -> Result<Vec<i64>, AllocError>
     where
         F: Sync,
-        requires keeps { Keeps (F.pre self.now.f) (F.post self.now.f) self.now.sites self.now.labels data_limit }
+        requires keeps { Keeps (F.pre self.now.f) (F.post self.now.f)
+            self.now.sites self.now.labels data_limit }
         ensures { IfOk result (λ table. (cost : ℕ → ℕ → ℕ) →
             AnswersTable (F.post self.now.f) cost self.now.sites self.now.labels →
             IsTable self.now.sites self.now.labels cost table.items) }
@@ -38,22 +41,26 @@ impl<F: Fn(u32, u32) -> i64> DataCost<F> {
             .into_par_iter()
             .map(
                 |place: usize| -> i64
-                    requires { Keeps (F.pre self.now.f) (F.post self.now.f) self.now.sites self.now.labels data_limit
+                    requires { Keeps (F.pre self.now.f) (F.post self.now.f)
+                        self.now.sites self.now.labels data_limit
                         × (place < self.now.sites * self.now.labels) × (self.now.sites < 2 ^ 32) }
                     ensures { (cost : ℕ → ℕ → ℕ) →
-                        AnswersTable (F.post self.entry.now.f) cost self.entry.now.sites self.entry.now.labels →
-                        result ≡ pos (cost (place / self.entry.now.labels) (place % self.entry.now.labels)) }
+                        AnswersTable (F.post self.entry.now.f)
+                        cost self.entry.now.sites self.entry.now.labels →
+                        result ≡ pos (cost (place / self.entry.now.labels)
+                        (place % self.entry.now.labels)) }
                 { self.cost_at(place) },
             )
             .collect(rt, alloc)
     }
 
-    /// The table that the closure answers, as `table_of` gives it, by as many threads as there are processors; plainly
-    /// where they give no list. Refuses only where memory runs out.
+    /// The table that the closure answers, as `table_of` gives it, by as many threads as there are
+    /// processors; plainly where they give no list. Refuses only where memory runs out.
     pub fn fill<R: Threads + Sync>(&self, rt: &R, alloc: Global) -> Result<Vec<i64>, AllocError>
     where
         F: Sync,
-        requires keeps { Keeps (F.pre self.now.f) (F.post self.now.f) self.now.sites self.now.labels data_limit }
+        requires keeps { Keeps (F.pre self.now.f) (F.post self.now.f)
+            self.now.sites self.now.labels data_limit }
         ensures { IfOk result (λ table. (cost : ℕ → ℕ → ℕ) →
             AnswersTable (F.post self.now.f) cost self.now.sites self.now.labels →
             IsTable self.now.sites self.now.labels cost table.items) }
@@ -66,7 +73,8 @@ impl<F: Fn(u32, u32) -> i64> DataCost<F> {
 
     /// What a label costs each site, in the order of the sites.
     pub fn column_of(&self, alloc: Global, label: u32) -> Result<Vec<i64>, AllocError>
-        requires keeps { Keeps (F.pre self.now.f) (F.post self.now.f) self.now.sites self.now.labels data_limit }
+        requires keeps { Keeps (F.pre self.now.f) (F.post self.now.f)
+            self.now.sites self.now.labels data_limit }
         requires inside { label < self.now.labels }
         ensures { IfOk result (λ column. (cost : ℕ → ℕ → ℕ) →
             AnswersTable (F.post self.now.f) cost self.now.sites self.now.labels →
@@ -88,7 +96,8 @@ impl<F: Fn(u32, u32) -> i64> DataCost<F> {
     ) -> Result<Vec<i64>, AllocError>
     where
         F: Sync,
-        requires keeps { Keeps (F.pre self.now.f) (F.post self.now.f) self.now.sites self.now.labels data_limit }
+        requires keeps { Keeps (F.pre self.now.f) (F.post self.now.f)
+            self.now.sites self.now.labels data_limit }
         requires inside { label < self.now.labels }
         ensures { IfOk result (λ column. (cost : ℕ → ℕ → ℕ) →
             AnswersTable (F.post self.now.f) cost self.now.sites self.now.labels →
@@ -98,18 +107,20 @@ impl<F: Fn(u32, u32) -> i64> DataCost<F> {
             .into_par_iter()
             .map(
                 |site: u32| -> i64
-                    requires { Keeps (F.pre self.now.f) (F.post self.now.f) self.now.sites self.now.labels data_limit
+                    requires { Keeps (F.pre self.now.f) (F.post self.now.f)
+                        self.now.sites self.now.labels data_limit
                         × (site < self.now.sites) × (label < self.now.labels) }
                     ensures { (cost : ℕ → ℕ → ℕ) →
-                        AnswersTable (F.post self.entry.now.f) cost self.entry.now.sites self.entry.now.labels →
+                        AnswersTable (F.post self.entry.now.f)
+                        cost self.entry.now.sites self.entry.now.labels →
                         result ≡ pos (cost site label) }
                 { self.cost(site, label) },
             )
             .collect(rt, alloc)
     }
 
-    /// What a label costs each site, as `column_of` gives it, by as many threads as there are processors; plainly where
-    /// they give no list. Refuses only where memory runs out.
+    /// What a label costs each site, as `column_of` gives it, by as many threads as there are
+    /// processors; plainly where they give no list. Refuses only where memory runs out.
     pub fn fill_column<R: Threads + Sync>(
         &self,
         rt: &R,
@@ -118,7 +129,8 @@ impl<F: Fn(u32, u32) -> i64> DataCost<F> {
     ) -> Result<Vec<i64>, AllocError>
     where
         F: Sync,
-        requires keeps { Keeps (F.pre self.now.f) (F.post self.now.f) self.now.sites self.now.labels data_limit }
+        requires keeps { Keeps (F.pre self.now.f) (F.post self.now.f)
+            self.now.sites self.now.labels data_limit }
         requires inside { label < self.now.labels }
         ensures { IfOk result (λ column. (cost : ℕ → ℕ → ℕ) →
             AnswersTable (F.post self.now.f) cost self.now.sites self.now.labels →

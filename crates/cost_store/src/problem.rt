@@ -36,9 +36,11 @@ impl<F: Fn(u32, u32) -> i64 + Sync, V: Fn(u32, u32) -> i64 + Sync> Problem<F, V>
     /// The problem of these pairs and costs, in which no label costs anything by itself. What it
     /// means is the instance of the tables that the closures answer: who calls it names them.
     pub fn new(pairs: Pairs, data_cost: DataCost<F>, smooth_cost: SmoothCost<V>) -> Problem<F, V>
-        requires costs { Keeps (F.pre data_cost.f) (F.post data_cost.f) data_cost.sites data_cost.labels
+        requires costs { Keeps (F.pre data_cost.f) (F.post data_cost.f)
+            data_cost.sites data_cost.labels
             data_limit }
-        requires smooth { KeepsSmooth (V.pre smooth_cost.v) (V.post smooth_cost.v) smooth_cost.labels
+        requires smooth { KeepsSmooth (V.pre smooth_cost.v) (V.post smooth_cost.v)
+            smooth_cost.labels
             smooth_cost.by_metric }
         requires sites { data_cost.sites ≡ pairs.sites }
         requires labels { smooth_cost.labels ≡ data_cost.labels }
@@ -83,7 +85,8 @@ impl<F: Fn(u32, u32) -> i64 + Sync, V: Fn(u32, u32) -> i64 + Sync> Problem<F, V>
     pub fn pair_cost(&self, weight: u32, first: u32, second: u32) -> i64
         requires posed { IsPosed F.Fn V.Fn self.now }
         requires weight { weight ≤ weight_limit }
-        requires inside { (first < self.now.data_cost.labels) × (second < self.now.data_cost.labels) }
+        requires inside { (first < self.now.data_cost.labels)
+            × (second < self.now.data_cost.labels) }
         ensures cost { WhereMeant F.Fn V.Fn self.now
             (λ m. result ≡ pos (weight * m.smooth_cost first second)) }
         ensures range { (pos 0 ≤ℤ result) × (result ≤ℤ pos pair_cost_limit) }

@@ -37,7 +37,8 @@ impl Ratio {
 }
 
 impl<V: Fn(u32, u32) -> i64> SmoothCost<V> {
-    /// The two numbers with one more cost, of two unequal labels, or as they are for two equal ones.
+    /// The two numbers with one more cost, of two unequal labels, or as they are for two equal
+    /// ones.
     fn widen(&self, first: u32, second: u32, seen: Ratio) -> Ratio
         requires keeps { KeepsSmooth (V.pre self.now.v) (V.post self.now.v) self.now.labels
             self.now.by_metric }
@@ -74,12 +75,13 @@ impl<V: Fn(u32, u32) -> i64> SmoothCost<V> {
         now
     }
 
-    /// The least and the greatest cost of two unequal labels, both 1 where there is one label. It takes no memory
-    /// (Boykov, Veksler, Zabih, PAMI 2001, section 6).
+    /// The least and the greatest cost of two unequal labels, both 1 where there is one label. It
+    /// takes no memory (Boykov, Veksler, Zabih, PAMI 2001, section 6).
     pub fn ratio(&self) -> Ratio
         requires keeps { KeepsSmooth (V.pre self.now.v) (V.post self.now.v) self.now.labels
             self.now.by_metric }
-        ensures { (cost : ℕ → ℕ → ℕ) → AnswersTable (V.post self.now.v) cost self.now.labels self.now.labels →
+        ensures { (cost : ℕ → ℕ → ℕ)
+            → AnswersTable (V.post self.now.v) cost self.now.labels self.now.labels →
             IsRatio self.now.labels cost result.least result.greatest }
     {
         if self.labels < 2 {

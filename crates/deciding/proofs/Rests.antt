@@ -4,7 +4,8 @@ use Rattle.std.proofs.lemmas.Int.{ints}
 use Rattle.deciding.specs.Decisions.{Decision, with_decisions, AreForced, IsOver, IsSmallestLeast, IsRest}
 use Rattle.deciding.proofs.Putting.{put-le, put_ones, cases_put}
 
--- an assignment of what is left, put together with the decisions, is what the decisions make of the whole assignment
+-- an assignment of what is left, put together with the decisions, is what the decisions make of the
+-- whole assignment
 taken : (n : ℕ) (E : (ℕ → Bool) → ℤ) (ds : List Decision) (r : ℕ) (R : (ℕ → Bool) → ℤ) (number variable : ℕ → ℕ) (y : ℕ → Bool)
     → IsRest n E ds r R number variable → (i : ℕ) → i < n → with_decisions ds (λ k. y (variable (number k))) i ≡ with_decisions ds y i
 taken n E ds r R number variable y is i l = elim (cases_put ds i) [

@@ -20,8 +20,8 @@ pub record AreDecided (m : Instance) (move : Move) (f : ℕ → ℕ) (choice : �
   pub none_left : (p : ℕ) (b : Bool) → p < m.sites → choice p ≡ Open
       → ¬ Passes (move_value m move f) decisions p b
 
--- what the deciding of a move from f answers: each pair's term is regular, and the sites are decided; or the
--- first pair whose term is not regular; or memory was refused
+-- what the deciding of a move from f answers: each pair's term is regular, and the sites are
+-- decided; or the first pair whose term is not regular; or memory was refused
 abbrev pub IsDecidedMove : Instance → Move → List ℕ → List Choice → Result Unit BuildError → Type 0
 IsDecidedMove m move f choices (Ok done) =
     IsAllowed m move (labelling f) × AreDecided m move (labelling f) (choice_at choices)

@@ -1,5 +1,6 @@
--- Variables of a function of yes-no variables whose value in its least assignment with the fewest ones is
--- known before the rest is looked at (Iyer, Jegelka, Bilmes, ICML 2013, section 4; Boros and Hammer 2002).
+-- Variables of a function of yes-no variables whose value in its least assignment with the fewest
+-- ones is known before the rest is looked at (Iyer, Jegelka, Bilmes, ICML 2013, section 4; Boros
+-- and Hammer 2002).
 use Rattle.std.specs.Prelude.{◌≡◌, ℕ, ◌<◌, ◌==◌, Bool, true, false, cond, List, [], ◌∷◌, ℤ, pos, ◌+ℤ◌, ◌-ℤ◌, ◌≤ℤ◌, ◌<ℤ◌}
 
 -- a variable and its value
@@ -16,11 +17,13 @@ abbrev pub with_decisions : List Decision → (ℕ → Bool) → ℕ → Bool
 with_decisions [] x = x
 with_decisions (d ∷ ds) x = set_bit (with_decisions ds x) d.variable d.value
 
--- whatever the other variables are: a variable may be 0 where its 1 never has a lower value, and is to be 1
--- where its 1 always has a lower value
+-- whatever the other variables are: a variable may be 0 where its 1 never has a lower value, and is
+-- to be 1 where its 1 always has a lower value
 abbrev pub IsForced : ((ℕ → Bool) → ℤ) → List Decision → ℕ → Bool → Type 0
-IsForced E ds i false = (x : ℕ → Bool) → E (set_bit (with_decisions ds x) i false) ≤ℤ E (set_bit (with_decisions ds x) i true)
-IsForced E ds i true = (x : ℕ → Bool) → E (set_bit (with_decisions ds x) i true) <ℤ E (set_bit (with_decisions ds x) i false)
+IsForced E ds i false = (x : ℕ → Bool)
+    → E (set_bit (with_decisions ds x) i false) ≤ℤ E (set_bit (with_decisions ds x) i true)
+IsForced E ds i true = (x : ℕ → Bool)
+    → E (set_bit (with_decisions ds x) i true) <ℤ E (set_bit (with_decisions ds x) i false)
 
 -- each decision is forced, given those before it
 abbrev pub AreForced : ((ℕ → Bool) → ℤ) → List Decision → Type 0
@@ -39,8 +42,8 @@ OnesWithin x y = (k : ℕ) → x k ≡ true → y k ≡ true
 abbrev pub IsSubmodular : ((ℕ → Bool) → ℤ) → Type 0
 IsSubmodular E = (x y : ℕ → Bool) (i : ℕ) → OnesWithin x y → rise E i y ≤ℤ rise E i x
 
--- the test: a variable may be 0 where its turning to 1 does not lower the value even if every undecided one
--- is 1, and is to be 1 where it lowers the value even if every undecided one is 0
+-- the test: a variable may be 0 where its turning to 1 does not lower the value even if every
+-- undecided one is 1, and is to be 1 where it lowers the value even if every undecided one is 0
 abbrev pub Passes : ((ℕ → Bool) → ℤ) → List Decision → ℕ → Bool → Type 0
 Passes E ds i false = pos 0 ≤ℤ rise E i (with_decisions ds (λ k. true))
 Passes E ds i true = rise E i (with_decisions ds (λ k. false)) <ℤ pos 0
@@ -63,8 +66,8 @@ pub record IsSmallestLeast (n : ℕ) (E : (ℕ → Bool) → ℤ) (x : ℕ → B
 abbrev pub IsFree : List Decision → ℕ → Type 0
 IsFree ds i = (x : ℕ → Bool) → with_decisions ds x i ≡ x i
 
--- a function of the variables that are left, `number` being each one's number in it and `variable` the way
--- back: but for a fixed number, its value is that of the whole with the decisions put in
+-- a function of the variables that are left, `number` being each one's number in it and `variable`
+-- the way back: but for a fixed number, its value is that of the whole with the decisions put in
 pub record IsRest (n : ℕ) (E : (ℕ → Bool) → ℤ) (ds : List Decision) (r : ℕ) (R : (ℕ → Bool) → ℤ)
     (number variable : ℕ → ℕ) : Type 0 where
   pub offset : ℤ

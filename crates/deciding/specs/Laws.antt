@@ -12,10 +12,12 @@ ForcedIsLeast =
     (n : ℕ) (E : (ℕ → Bool) → ℤ) (ds : List Decision) (x : ℕ → Bool) (i : ℕ) → AreForced E ds
     → IsSmallestLeast n E x → i < n → with_decisions ds x i ≡ x i
 
--- the least assignment with the fewest ones of what is left, put together with the forced values, is that of the whole
+-- the least assignment with the fewest ones of what is left, put together with the forced values,
+-- is that of the whole
 abbrev pub RestAndForcedIsLeast : Type 0
 RestAndForcedIsLeast =
-    (n : ℕ) (E : (ℕ → Bool) → ℤ) (ds : List Decision) (r : ℕ) (R : (ℕ → Bool) → ℤ) (number variable : ℕ → ℕ)
+    (n : ℕ) (E : (ℕ → Bool) → ℤ) (ds : List Decision) (r : ℕ) (R : (ℕ → Bool) → ℤ)
+    (number variable : ℕ → ℕ)
     (z : ℕ → Bool)
     → IsOver n E → AreForced E ds → IsRest n E ds r R number variable → IsSmallestLeast r R z
     → IsSmallestLeast n E (with_decisions ds (λ i. z (number i)))
@@ -23,5 +25,6 @@ RestAndForcedIsLeast =
 -- in a move whose terms are regular, the sites that passed the test are forced
 abbrev pub PassedSitesAreForced : Type 0
 PassedSitesAreForced =
-    (m : Instance) (move : Move) (f : ℕ → ℕ) (ds : List Decision) → IsInstance m → IsAllowed m move f
+    (m : Instance) (move : Move) (f : ℕ → ℕ) (ds : List Decision) → IsInstance m
+    → IsAllowed m move f
     → HavePassed (move_value m move f) ds → AreForced (move_value m move f) ds

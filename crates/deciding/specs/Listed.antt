@@ -19,9 +19,10 @@ abbrev pub changes : Move → (ℕ → ℕ) → List Choice → ℕ → Bool
 changes move f choices p =
     open_at choices p || not (label_after move (f p) (bit_of (choice_at choices p) false) == f p)
 
--- the open sites are counted; where they are an eighth of all at most, they are listed, and so are the sites
--- whose labels can still become others
-pub record AreListed (move : Move) (f : ℕ → ℕ) (choices : List Choice) (lists : Lists) : Type 0 where
+-- the open sites are counted; where they are an eighth of all at most, they are listed, and so are
+-- the sites whose labels can still become others
+pub record AreListed (move : Move) (f : ℕ → ℕ) (choices : List Choice)
+    (lists : Lists) : Type 0 where
   pub count : lists.count ≡ open_count choices
   pub few : IsTrue lists.listed ↔ (lists.count * 8 ≤ length choices)
   pub opened : IsTrue lists.listed → AreOpenSites choices lists.opened.items

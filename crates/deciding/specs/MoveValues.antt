@@ -13,7 +13,8 @@ move_value m move f x = pos (plain_energy m (labelling_made move f x))
 -- how much more the label costs a site where its value turns from 0 to 1
 abbrev pub data_rise : Instance → Move → (ℕ → ℕ) → ℕ → ℤ
 data_rise m move f u =
-    pos (m.data_cost u (label_after move (f u) true)) -ℤ pos (m.data_cost u (label_after move (f u) false))
+    pos (m.data_cost u (label_after move (f u) true))
+    -ℤ pos (m.data_cost u (label_after move (f u) false))
 
 -- how much more a pair costs where the value of one site turns
 abbrev pub pair_rise : Instance → Move → (ℕ → ℕ) → ℕ → (ℕ → Bool) → Pair → ℤ

@@ -1,4 +1,5 @@
--- The table of a move's rises: by how much a pair's cost rises where one of its ends turns, by the labels of both.
+-- The table of a move's rises: by how much a pair's cost rises where one of its ends turns, by the
+-- labels of both.
 use Rattle.std.specs.Prelude.{◌≡◌, ℕ, ◌+◌, ◌*◌, ◌<◌, ◌≤◌, Bool, true, false, cond, length, slice_index_or, ℤ, pos, unsigned_abs}
 use Rattle.labellings.specs.declared.change.Move.{Move}
 use Rattle.labellings.specs.Energies.{Instance}
@@ -12,19 +13,23 @@ use Rattle.deciding.specs.Working.{end_rise}
 abbrev pub table_labels : ℕ
 table_labels = 64
 
--- where the rises of these labels stand: a row for each own label, those of first ends before those of second ends
+-- where the rises of these labels stand: a row for each own label, those of first ends before those
+-- of second ends
 abbrev pub entry_place : Bool → ℕ → ℕ → ℕ
 entry_place first own other = (cond first 0 64 + own) * 64 + other
 
 -- the rises of an end of this label, the first or the second, whose neighbour has the other label
 abbrev pub rises_at : RiseTable → Bool → ℕ → ℕ → EndRises
 rises_at table first own other =
-    slice_index_or table.entries.items (entry_place first own other) (record { low = pos 0; high = pos 0 })
+    slice_index_or table.entries.items (entry_place first own other)
+    (record { low = pos 0; high = pos 0 })
 
--- by how much the cost of a pair of this weight rises where such an end turns, while the neighbour's value is this bit
+-- by how much the cost of a pair of this weight rises where such an end turns, while the
+-- neighbour's value is this bit
 abbrev pub label_rise : Instance → Move → ℕ → Bool → ℕ → ℕ → Bool → ℤ
 label_rise m move weight first own other bit =
-    end_rise m weight first (label_after move own false) (label_after move own true) (label_after move other bit)
+    end_rise m weight first (label_after move own false) (label_after move own true)
+    (label_after move other bit)
 
 -- these are the rises, while the neighbour's value is 0 and while it is 1
 abbrev pub AreRises : Instance → Move → ℕ → Bool → ℕ → ℕ → EndRises → Type 0
@@ -34,7 +39,8 @@ AreRises m move weight first own other rises =
 
 -- neither is larger than a pair's cost
 abbrev pub AreRisesSmall : EndRises → Type 0
-AreRisesSmall rises = (unsigned_abs rises.low ≤ pair_cost_limit) × (unsigned_abs rises.high ≤ pair_cost_limit)
+AreRisesSmall rises = (unsigned_abs rises.low ≤ pair_cost_limit)
+    × (unsigned_abs rises.high ≤ pair_cost_limit)
 
 -- a table that stands has a place for each two of so many labels, and small rises there
 pub record IsRiseTable (labels : ℕ) (table : RiseTable) : Type 0 where
@@ -45,5 +51,6 @@ pub record IsRiseTable (labels : ℕ) (table : RiseTable) : Type 0 where
 
 -- a table that stands has the move's rises
 abbrev pub IsTableOf : Instance → Move → RiseTable → Type 0
-IsTableOf m move table = table.stands ≡ true → (first : Bool) (own other : ℕ) → own < m.labels → other < m.labels
+IsTableOf m move table = table.stands ≡ true → (first : Bool) (own other : ℕ) → own < m.labels
+    → other < m.labels
     → AreRises m move table.weight first own other (rises_at table first own other)

@@ -44,8 +44,8 @@ abbrev pub open_ends : Neighbours → ℕ → List Choice → ℕ
 open_ends ends n choices =
     sum_below n (λ u. count_if (is_open (choice_at choices u)) (degree ends u))
 
--- how large a bound may be while so many ends are left: each end that is looked at changes one by at most a
--- surplus
+-- how large a bound may be while so many ends are left: each end that is looked at changes one by
+-- at most a surplus
 abbrev pub budget_of : ℕ → ℕ
 budget_of n = bound_limit - surplus_limit * n
 
@@ -79,7 +79,8 @@ pub record AreOfNoSites (b : Bounds) : Type 0 where
   pub sized : AreOfSites 0 b
   pub none : length b.waiting.items ≡ 0
 
--- exactly the sites that the move can change are open, the others are at 0, none was summed, and none waits
+-- exactly the sites that the move can change are open, the others are at 0, none was summed, and
+-- none waits
 pub record AreUndecided (move : Move) (f : List ℕ) (b : Bounds) : Type 0 where
   pub opened : AreAllOpen move f b.choices.items
   pub least : length b.least.items ≡ 0
@@ -120,9 +121,11 @@ AreTermsTested m move f (Err e) = IsPrepareRefusal m move f e
 
 -- the labels that the move gives a site of this label, at 0 and at 1
 abbrev pub AreTurned : Move → ℕ → ℕ → ℕ → Type 0
-AreTurned move old stays turns = (stays ≡ label_after move old false) × (turns ≡ label_after move old true)
+AreTurned move old stays turns =
+    (stays ≡ label_after move old false) × (turns ≡ label_after move old true)
 
--- by how much a pair's cost rises where its first end, or its second, turns from the one label to the other
+-- by how much a pair's cost rises where its first end, or its second, turns from the one label to
+-- the other
 abbrev pub end_rise : Instance → ℕ → Bool → ℕ → ℕ → ℕ → ℤ
 end_rise m weight true stays turns other =
     pos (weight * m.smooth_cost turns other) -ℤ pos (weight * m.smooth_cost stays other)
@@ -133,9 +136,10 @@ end_rise m weight false stays turns other =
 abbrev pub decided_or : List Choice → Bool → ℕ → Bool
 decided_or choices b p = bit_of (choice_at choices p) b
 
--- the sites were decided one after another, each by the test, and the bounds of each open site below k are its
--- rises with all undecided sites at 1 and at 0
-pub record ArePartlyDecided (m : Instance) (move : Move) (f : ℕ → ℕ) (k : ℕ) (b : Bounds) : Type 0 where
+-- the sites were decided one after another, each by the test, and the bounds of each open site
+-- below k are its rises with all undecided sites at 1 and at 0
+pub record ArePartlyDecided (m : Instance) (move : Move) (f : ℕ → ℕ) (k : ℕ)
+    (b : Bounds) : Type 0 where
   pub decisions : List Decision
   pub passed : HavePassed (move_value m move f) decisions
   pub shown : (x : ℕ → Bool) (p : ℕ) → p < m.sites
@@ -154,7 +158,8 @@ pub record AddsBounds (low high : ℤ) (old new : Bounds) : Type 0 where
   pub choices : new.choices ≡ old.choices
   pub waiting : new.waiting ≡ old.waiting
 
--- the sites from one on, before another, are closed and have the bounds 0; the other one is open, if it is a site
+-- the sites from one on, before another, are closed and have the bounds 0; the other one is open,
+-- if it is a site
 pub record PassesClosed (from to : ℕ) (old new : Bounds) : Type 0 where
   pub on : from ≤ to
   pub within : to ≤ length old.choices.items
@@ -175,9 +180,10 @@ pub record IsMarked (site : ℕ) (value : Bool) (old new : Bounds) : Type 0 wher
   pub greatest : new.greatest ≡ old.greatest
   pub waiting : new.waiting ≡ old.waiting
 
--- a pair of this site is seen with the site's value: the bounds of each other open site below k change as the
--- pair's rise does
-pub record SeesPair (m : Instance) (move : Move) (f : ℕ → ℕ) (k site : ℕ) (value : Bool) (pair : Pair)
+-- a pair of this site is seen with the site's value: the bounds of each other open site below k
+-- change as the pair's rise does
+pub record SeesPair (m : Instance) (move : Move) (f : ℕ → ℕ) (k site : ℕ)
+    (value : Bool) (pair : Pair)
     (old new : Bounds) : Type 0 where
   pub least : (x : ℕ → Bool) (u : ℕ) → x site ≡ true → u < k → u ≢ site
       → choice_at old.choices.items u ≡ Open
@@ -201,7 +207,8 @@ greatest_shift false surplus = pos 0
 
 -- the bounds of a site are shifted, as the value of its neighbour wants it
 pub record Shifts (site : ℕ) (value : Bool) (surplus : ℤ) (old new : Bounds) : Type 0 where
-  pub least : bound_at new.least.items site ≡ bound_at old.least.items site +ℤ least_shift value surplus
+  pub least : bound_at new.least.items site
+      ≡ bound_at old.least.items site +ℤ least_shift value surplus
   pub greatest : bound_at new.greatest.items site
       ≡ bound_at old.greatest.items site +ℤ greatest_shift value surplus
   pub others : (u : ℕ) → u ≢ site
@@ -212,18 +219,20 @@ pub record Shifts (site : ℕ) (value : Bool) (surplus : ℤ) (old new : Bounds)
 pub record CallsUp (site : ℕ) (old new : Bounds) : Type 0 where
   pub kept : (u : ℕ) → Contains old.waiting.items u → Contains new.waiting.items u
   pub called : CanDecide old site → Contains new.waiting.items site
-  pub sites : (n : ℕ) → site < n → All (λ u. u < n) old.waiting.items → All (λ u. u < n) new.waiting.items
+  pub sites : (n : ℕ) → site < n → All (λ u. u < n) old.waiting.items
+      → All (λ u. u < n) new.waiting.items
   pub more : length new.waiting.items ≤ length old.waiting.items + 1
 
--- a site waits if its bounds tell its value; or it has that value at once, where no open site before it is beside it
+-- a site waits if its bounds tell its value; or it has that value at once, where no open site
+-- before it is beside it
 abbrev pub IsAnswered : ℕ → Bool → Bounds → Bounds → Type 0
 IsAnswered site beside old new =
     (CallsUp site old new × (new.choices ≡ old.choices) × (new.least ≡ old.least)
     × (new.greatest ≡ old.greatest))
     ⊎ ((value : Bool) × IsMarked site value old new × TellsValue old site value × (beside ≡ false))
 
--- the choices stay, no bound grows by more than a surplus for each, nor all greatest ones together, and at most so
--- many sites more wait
+-- the choices stay, no bound grows by more than a surplus for each, nor all greatest ones together,
+-- and at most so many sites more wait
 pub record IsLooking (more : ℕ) (old new : Bounds) : Type 0 where
   pub choices : new.choices ≡ old.choices
   pub least_len : length new.least.items ≡ length old.least.items

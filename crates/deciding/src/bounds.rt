@@ -5,15 +5,18 @@ ghost use Rattle.deciding.specs.Working.{bound_at, CanDecide, CallsUp, AreOfNoSi
 use move_energy::Choice;
 use std::alloc::{AllocError, Global};
 
-/// Of each site what is known of its value, and of each that was summed by how much the energy rises where its value
-/// turns from 0 to 1: at least, with every other undecided site at 1, and at most, with every other at 0. Then the sites
-/// that wait: those whose bounds tell their value. It takes 21 bytes a site at most.
+/// Of each site what is known of its value, and of each that was summed by how much the energy
+/// rises where its value turns from 0 to 1: at least, with every other undecided site at 1, and at
+/// most, with every other at 0. Then the sites that wait: those whose bounds tell their value. It
+/// takes 21 bytes a site at most.
 #[derive(Drop)]
 pub struct Bounds {
     pub choices: Vec<Choice>,
-    /// One of each site that was summed. What the numbers are once the sites are decided, no clause says.
+    /// One of each site that was summed. What the numbers are once the sites are decided, no clause
+    /// says.
     pub least: Vec<i64>,
-    /// One of each site that was summed. Once the sites are decided, those of the open ones are their weights in the energy.
+    /// One of each site that was summed. Once the sites are decided, those of the open ones are
+    /// their weights in the energy.
     pub greatest: Vec<i64>,
     pub(crate) waiting: Vec<u32>,
 }
@@ -22,7 +25,8 @@ pub struct Bounds {
 fn add_at(numbers: &mut Vec<i64>, place: usize, by: i64)
     requires place { place < length numbers.old.items }
     requires room { unsigned_abs (bound_at numbers.old.items place) + unsigned_abs by < 2 ^ 62 }
-    ensures { numbers.new.items ≡ slice_set numbers.old.items place (bound_at numbers.old.items place +ℤ by) }
+    ensures { numbers.new.items
+        ≡ slice_set numbers.old.items place (bound_at numbers.old.items place +ℤ by) }
 {
     numbers[place] += by;
 }
@@ -42,21 +46,26 @@ impl Bounds {
 
     /// Adds to the two bounds of a site.
     pub(crate) fn raise(&mut self, site: usize, least: i64, greatest: i64)
-        requires site { (site < length self.old.least.items) × (site < length self.old.greatest.items) }
-        requires least { unsigned_abs (bound_at self.old.least.items site) + unsigned_abs least < 2 ^ 62 }
-        requires greatest { unsigned_abs (bound_at self.old.greatest.items site) + unsigned_abs greatest
+        requires site { (site < length self.old.least.items)
+            × (site < length self.old.greatest.items) }
+        requires least { unsigned_abs (bound_at self.old.least.items site)
+            + unsigned_abs least < 2 ^ 62 }
+        requires greatest { unsigned_abs (bound_at self.old.greatest.items site)
+            + unsigned_abs greatest
             < 2 ^ 62 }
         ensures least { self.new.least.items ≡ slice_set self.old.least.items site
             (bound_at self.old.least.items site +ℤ least) }
         ensures greatest { self.new.greatest.items ≡ slice_set self.old.greatest.items site
             (bound_at self.old.greatest.items site +ℤ greatest) }
-        ensures same { (self.new.choices ≡ self.old.choices) × (self.new.waiting ≡ self.old.waiting) }
+        ensures same { (self.new.choices ≡ self.old.choices)
+            × (self.new.waiting ≡ self.old.waiting) }
     {
         add_at(&mut self.least, site, least);
         add_at(&mut self.greatest, site, greatest);
     }
 
-    /// Whether the bounds of a site tell its value: 0 where turning never lowers the energy, and 1 where it always does.
+    /// Whether the bounds of a site tell its value: 0 where turning never lowers the energy, and 1
+    /// where it always does.
     pub(crate) fn can_decide(&self, site: usize) -> bool
         requires { (site < length self.now.least.items) × (site < length self.now.greatest.items) }
         ensures { IsTrue result ↔ CanDecide self.now site }

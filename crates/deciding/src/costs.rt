@@ -11,8 +11,8 @@ use cost_store::Problem;
 use labellings::Move;
 use move_energy::surplus;
 
-/// How much more the label costs a site where its value turns from 0 to 1. A site that the move cannot change is not
-/// asked.
+/// How much more the label costs a site where its value turns from 0 to 1. A site that the move
+/// cannot change is not asked.
 pub fn data_rise<F: Fn(u32, u32) -> i64 + Sync, V: Fn(u32, u32) -> i64 + Sync>(
     problem: &Problem<F, V>,
     change: Move,
@@ -22,7 +22,8 @@ pub fn data_rise<F: Fn(u32, u32) -> i64 + Sync, V: Fn(u32, u32) -> i64 + Sync>(
     requires posed { IsPosed F.Fn V.Fn problem.now }
     requires inside { (site < problem.now.pairs.sites) × (label < problem.now.data_cost.labels) }
     requires change { IsMoveOf problem.now.data_cost.labels change }
-    ensures rise { WhereMeant F.Fn V.Fn problem.now (λ m. result ≡ pos (m.data_cost site (label_after change label
+    ensures rise { WhereMeant F.Fn V.Fn problem.now
+        (λ m. result ≡ pos (m.data_cost site (label_after change label
         true)) -ℤ pos (m.data_cost site (label_after change label false))) }
     ensures range { unsigned_abs result ≤ site_cost_limit }
 {

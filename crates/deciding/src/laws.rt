@@ -1,6 +1,6 @@
-//! Laws of deciding variables one after another: each function does nothing, and its contract is the law. The first
-//! two are of submodular functions of an assignment, the next three of any function, the last of the labellings that a
-//! move makes.
+//! Laws of deciding variables one after another: each function does nothing, and its contract is
+//! the law. The first two are of submodular functions of an assignment, the next three of any
+//! function, the last of the labellings that a move makes.
 
 ghost use Rattle.std.specs.Prelude.{ℕ, ◌≤◌, ◌++◌, Bool, List, ℤ};
 ghost use Rattle.compile_cut.specs.Shown.{Hides};
@@ -31,20 +31,21 @@ pub fn forced_is_least()
     ensures { ForcedIsLeast }
 {}
 
-/// The least assignment with the fewest ones of what is left, put together with the forced values, is that of the whole.
+/// The least assignment with the fewest ones of what is left, put together with the forced values,
+/// is that of the whole.
 pub fn rest_and_forced_is_least()
     ensures { RestAndForcedIsLeast }
 {}
 
-/// The least assignment with the fewest ones of a function that hides variables is, on the variables that are not hidden,
-/// that of what it is least to.
+/// The least assignment with the fewest ones of a function that hides variables is, on the
+/// variables that are not hidden, that of what it is least to.
 pub fn hidden_is_least()
     ensures { (n r : ℕ) (E F : (ℕ → Bool) → ℤ) (z : ℕ → Bool) → n ≤ r → Hides n E F →
         IsSmallestLeast r F z → IsSmallestLeast n E z }
 {}
 
-/// Of a move whose terms are regular, the energies of the labellings that it makes have rises that fall, and depend on
-/// the sites alone. So a site that passes the test is forced.
+/// Of a move whose terms are regular, the energies of the labellings that it makes have rises that
+/// fall, and depend on the sites alone. So a site that passes the test is forced.
 pub fn move_is_submodular()
     ensures falls { (m : Instance) (move : Move) (f : ℕ → ℕ) → IsInstance m → IsAllowed m move f →
         IsSubmodular (move_value m move f) }

@@ -17,9 +17,10 @@ const BLOCK: usize = 32;
 /// The sites are listed where at most one in so many is open.
 const LISTED_SHARE: usize = 8;
 
-/// How many sites are open, and where they are at most an eighth of all (`listed`) the rising lists of the open ones
-/// and of those whose labels can still change: the open ones, and those that were decided to get another label than
-/// they have. The lists keep their memory for the next move, at most 4.5 bytes a site.
+/// How many sites are open, and where they are at most an eighth of all (`listed`) the rising lists
+/// of the open ones and of those whose labels can still change: the open ones, and those that were
+/// decided to get another label than they have. The lists keep their memory for the next move, at
+/// most 4.5 bytes a site.
 #[derive(Drop)]
 pub struct Lists {
     pub count: usize,
@@ -44,7 +45,8 @@ fn count_open(choices: &[Choice]) -> usize
 
 /// Whether the label of a site can still become another.
 fn can_change(choice: Choice, change: Move, label: u32) -> bool
-    ensures { result ≡ (is_open choice || not (label_after change label (bit_of choice false) == label)) }
+    ensures { result ≡ (is_open choice
+        || not (label_after change label (bit_of choice false) == label)) }
 {
     choice.is_open() || change.label(label, choice.bit(false)) != label
 }
@@ -97,7 +99,8 @@ impl Lists {
     ) -> Result<(), AllocError>
         ensures opened { OnOk result (self.new.opened.items ≡
             self.old.opened.items ++ cond (is_open choice) (site ∷ []) []) }
-        ensures changing { OnOk result (self.new.changing.items ≡ self.old.changing.items ++ cond (is_open
+        ensures changing { OnOk result
+            (self.new.changing.items ≡ self.old.changing.items ++ cond (is_open
             choice || not (label_after change label (bit_of choice false) == label))
             (site ∷ []) []) }
         ensures same { (self.new.count ≡ self.old.count) × (self.new.listed ≡ self.old.listed) }
@@ -134,8 +137,8 @@ impl Lists {
         Ok(())
     }
 
-    /// Lists the open sites, and those whose labels can still change. They are few, so that many blocks of sites are passed
-    /// over at once.
+    /// Lists the open sites, and those whose labels can still change. They are few, so that many
+    /// blocks of sites are passed over at once.
     fn list(&mut self, at: &[u8], change: Move, choices: &[Choice]) -> Result<(), AllocError>
         requires sites { (length choices.now ≡ length at.now) × (length at.now ≤ site_limit) }
         ensures opened { OnOk result (AreOpenSites choices.now self.new.opened.items) }
@@ -155,8 +158,8 @@ impl Lists {
         Ok(())
     }
 
-    /// Counts the open sites of a move that was decided, and lists them where they are few. `listed` is written once they
-    /// are.
+    /// Counts the open sites of a move that was decided, and lists them where they are few.
+    /// `listed` is written once they are.
     pub(crate) fn fill(
         &mut self,
         at: &[u8],

@@ -1,4 +1,5 @@
-//! By how much the energy rises where the value of one site turns from 0 to 1, as far as the others are decided.
+//! By how much the energy rises where the value of one site turns from 0 to 1, as far as the others
+//! are decided.
 ghost use Rattle.std.specs.Prelude.{◌≡◌, ◌==◌, cond, All, ◌<◌, ◌≤◌, ◌+◌, ◌*◌, ◌⊎◌, ℕ, ℤ, pos, ◌-ℤ◌, Bool, true, false, length, unsigned_abs};
 ghost use Rattle.label_field.specs.Limits.{weight_limit};
 ghost use Rattle.label_field.specs.PairLists.{IsPair};
@@ -40,15 +41,16 @@ impl Turn {
     }
 }
 
-/// By how much the energy rises where the value of a site turns from 0 to 1: at least, which is with all undecided
-/// neighbours at 1, and at most, which is with all of them at 0.
+/// By how much the energy rises where the value of a site turns from 0 to 1: at least, which is
+/// with all undecided neighbours at 1, and at most, which is with all of them at 0.
 #[derive(Clone, Copy)]
 pub struct Rises {
     pub least: i64,
     pub greatest: i64,
 }
 
-/// The rises of a site, at least and at most, and whether an open site before it has a pair with it.
+/// The rises of a site, at least and at most, and whether an open site before it has a pair with
+/// it.
 #[derive(Clone, Copy)]
 pub struct SiteRises {
     pub least: i64,
@@ -105,8 +107,9 @@ pub(crate) fn end_rise<F: Fn(u32, u32) -> i64 + Sync, V: Fn(u32, u32) -> i64 + S
     }
 }
 
-/// By how much a pair's cost rises where its end at a site turns, as the costs are asked. Where both values of the other end's variable make
-/// one label, as they do once it is decided, one rise is both.
+/// By how much a pair's cost rises where its end at a site turns, as the costs are asked. Where
+/// both values of the other end's variable make one label, as they do once it is decided, one rise
+/// is both.
 fn asked_rises<F: Fn(u32, u32) -> i64 + Sync, V: Fn(u32, u32) -> i64 + Sync>(
     problem: &Problem<F, V>,
     choices: &[Choice],
@@ -184,12 +187,18 @@ pub(crate) fn table_rises(
     requires choices { length choices.now ≡ length at.now }
     requires few { All (λ label. label < table_labels) at.now }
     requires size { length table.now.entries.items ≡ 8192 }
-    ensures least { (other : ℕ) → AreEnds pair site other → result.least ≡ cond (decided_or choices.now true other)
-        (rises_at table.now (pair.first == site) (labelling at.now site) (labelling at.now other)).high
-        (rises_at table.now (pair.first == site) (labelling at.now site) (labelling at.now other)).low }
-    ensures greatest { (other : ℕ) → AreEnds pair site other → result.greatest ≡ cond (decided_or choices.now false other)
-        (rises_at table.now (pair.first == site) (labelling at.now site) (labelling at.now other)).high
-        (rises_at table.now (pair.first == site) (labelling at.now site) (labelling at.now other)).low }
+    ensures least { (other : ℕ) → AreEnds pair site other
+        → result.least ≡ cond (decided_or choices.now true other)
+        (rises_at table.now (pair.first == site) (labelling at.now site)
+        (labelling at.now other)).high
+        (rises_at table.now (pair.first == site) (labelling at.now site)
+        (labelling at.now other)).low }
+    ensures greatest { (other : ℕ) → AreEnds pair site other
+        → result.greatest ≡ cond (decided_or choices.now false other)
+        (rises_at table.now (pair.first == site) (labelling at.now site)
+        (labelling at.now other)).high
+        (rises_at table.now (pair.first == site) (labelling at.now site)
+        (labelling at.now other)).low }
 {
     let first = pair.first == site;
     let other = other_end(pair, site);
@@ -251,8 +260,8 @@ fn either(one: bool, other: bool) -> bool
     one || other
 }
 
-/// By how much the energy rises where a site turns: its own cost's rise and those of its pairs. And whether a site before it
-/// that is open has a pair with it.
+/// By how much the energy rises where a site turns: its own cost's rise and those of its pairs. And
+/// whether a site before it that is open has a pair with it.
 pub(crate) fn site_rises<F: Fn(u32, u32) -> i64 + Sync, V: Fn(u32, u32) -> i64 + Sync>(
     problem: &Problem<F, V>,
     ends: &Neighbours,
@@ -274,8 +283,10 @@ pub(crate) fn site_rises<F: Fn(u32, u32) -> i64 + Sync, V: Fn(u32, u32) -> i64 +
     ensures greatest { WhereMeant F.Fn V.Fn problem.now
         (λ m. result.greatest ≡ rise (move_value m change
         (labelling at.now)) site (decided_or choices.now false)) }
-    ensures range { (unsigned_abs result.least ≤ site_cost_limit + pair_cost_limit * degree ends.now site)
-        × (unsigned_abs result.greatest ≤ site_cost_limit + pair_cost_limit * degree ends.now site) }
+    ensures range { (unsigned_abs result.least
+        ≤ site_cost_limit + pair_cost_limit * degree ends.now site)
+        × (unsigned_abs result.greatest
+        ≤ site_cost_limit + pair_cost_limit * degree ends.now site) }
     ensures alone { result.beside ≡ false → HasNoneBefore choices.now ends.now site }
 {
     let label = u32::from(at[site as usize]);

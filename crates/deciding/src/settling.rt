@@ -32,7 +32,8 @@ fn choice_of(value: bool) -> Choice
     if value { Choice::One } else { Choice::Zero }
 }
 
-/// What is added to the least rise of a site of which a neighbour got a value, and their pair has this surplus.
+/// What is added to the least rise of a site of which a neighbour got a value, and their pair has
+/// this surplus.
 fn least_shift(value: bool, surplus: i64) -> i64
     requires { unsigned_abs surplus ≤ surplus_limit }
     ensures value { result ≡ least_shift_of value surplus }
@@ -50,14 +51,17 @@ fn greatest_shift(value: bool, surplus: i64) -> i64
     if value { -surplus } else { 0 }
 }
 
-/// What the values of two sites save together, as the table tells it: the difference of the two rises of the first.
+/// What the values of two sites save together, as the table tells it: the difference of the two
+/// rises of the first.
 #[inline]
 pub(crate) fn table_surplus(table: &RiseTable, at: &[u8], pair: Pair) -> i64
     requires pair { IsPair (length at.now) pair }
     requires few { All (λ label. label < table_labels) at.now }
     requires size { length table.now.entries.items ≡ 8192 }
-    ensures { result ≡ (rises_at table.now true (labelling at.now pair.first) (labelling at.now pair.second)).low
-        -ℤ (rises_at table.now true (labelling at.now pair.first) (labelling at.now pair.second)).high }
+    ensures { result ≡ (rises_at table.now true (labelling at.now pair.first)
+        (labelling at.now pair.second)).low
+        -ℤ (rises_at table.now true (labelling at.now pair.first)
+        (labelling at.now pair.second)).high }
 {
     let own = u32::from(at[pair.first as usize]);
     let other = u32::from(at[pair.second as usize]);
@@ -93,7 +97,8 @@ pub fn pair_surplus<F: Fn(u32, u32) -> i64 + Sync, V: Fn(u32, u32) -> i64 + Sync
 impl Bounds {
     /// Changes the bounds of a site of which a neighbour got a value, by their pair's surplus.
     fn turn(&mut self, site: usize, value: bool, surplus: i64)
-        requires site { (site < length self.old.least.items) × (site < length self.old.greatest.items) }
+        requires site { (site < length self.old.least.items)
+            × (site < length self.old.greatest.items) }
         requires surplus { unsigned_abs surplus ≤ surplus_limit }
         requires range { IsWithinRange (2 ^ 60) self.old }
         ensures shifts { Shifts site value surplus self.old self.new }
@@ -102,7 +107,8 @@ impl Bounds {
         ensures total { greatest_total self.new ≤ greatest_total self.old + surplus_limit }
         ensures sized { (length self.new.least.items ≡ length self.old.least.items)
             × (length self.new.greatest.items ≡ length self.old.greatest.items) }
-        ensures same { (self.new.choices ≡ self.old.choices) × (self.new.waiting ≡ self.old.waiting) }
+        ensures same { (self.new.choices ≡ self.old.choices)
+            × (self.new.waiting ≡ self.old.waiting) }
     {
         self.raise(
             site,
@@ -111,15 +117,17 @@ impl Bounds {
         );
     }
 
-    /// Changes the bounds of a site of which a neighbour got a value. The site waits from now on if they tell its value and did
-    /// not before.
+    /// Changes the bounds of a site of which a neighbour got a value. The site waits from now on if
+    /// they tell its value and did not before.
     fn shift(&mut self, site: u32, value: bool, surplus: i64) -> Result<(), AllocError>
-        requires site { (site < length self.old.least.items) × (site < length self.old.greatest.items) }
+        requires site { (site < length self.old.least.items)
+            × (site < length self.old.greatest.items) }
         requires surplus { unsigned_abs surplus ≤ surplus_limit }
         requires range { IsWithinRange (2 ^ 60) self.old }
         ensures looking { OnOk result (IsLooking 1 self.old self.new) }
         ensures shifts { OnOk result (Shifts site value surplus self.old self.new) }
-        ensures waiting { OnOk result ((n : ℕ) → site < n → AreWaiting n self.old → AreWaiting n self.new) }
+        ensures waiting { OnOk result
+            ((n : ℕ) → site < n → AreWaiting n self.old → AreWaiting n self.new) }
     {
         let waits = self.can_decide(site as usize);
         self.turn(site as usize, value, surplus);
@@ -138,7 +146,8 @@ impl Bounds {
         (site as usize) < self.least.len() && self.choices[site as usize].is_open()
     }
 
-    /// Sees a pair with the value of one of its sites. A site that was not summed sees it when it is.
+    /// Sees a pair with the value of one of its sites. A site that was not summed sees it when it
+    /// is.
     fn see<F: Fn(u32, u32) -> i64 + Sync, V: Fn(u32, u32) -> i64 + Sync>(
         &mut self,
         problem: &Problem<F, V>,
@@ -211,7 +220,8 @@ impl Bounds {
             length self.old.waiting.items + degree ends.now site) }
         ensures left { OnOk result (open_ends ends.now (length at.now) self.new.choices.items
             + degree ends.now site ≡ open_ends ends.now (length at.now) self.old.choices.items) }
-        ensures decided { OnOk result (WhereMeant F.Fn V.Fn problem.now (λ m. TellsValue self.old site value →
+        ensures decided { OnOk result
+            (WhereMeant F.Fn V.Fn problem.now (λ m. TellsValue self.old site value →
             ArePartlyDecided m change (labelling at.now) (summed_count self.old) self.old →
             ArePartlyDecided m change (labelling at.now) (summed_count self.old) self.new)) }
     {
@@ -225,7 +235,8 @@ impl Bounds {
 
     /// The value that the bounds of a site tell: 0 where they tell both.
     pub(crate) fn told_value(&self, site: usize) -> bool
-        requires site { (site < length self.now.least.items) × (site < length self.now.greatest.items) }
+        requires site { (site < length self.now.least.items)
+            × (site < length self.now.greatest.items) }
         requires told { CanDecide self.now site }
         ensures { TellsValue self.now site result }
     {
@@ -262,13 +273,15 @@ impl Bounds {
         ensures range { OnOk result (IsWithinRange
             (budget_of (open_ends ends.now (length at.now) self.new.choices.items)) self.new) }
         ensures total { OnOk result (greatest_total self.new
-            + surplus_limit * open_ends ends.now (length at.now) self.new.choices.items ≤ greatest_total self.old
+            + surplus_limit * open_ends ends.now (length at.now) self.new.choices.items
+            ≤ greatest_total self.old
             + surplus_limit * open_ends ends.now (length at.now) self.old.choices.items) }
         ensures less { OnOk result (length self.new.waiting.items
             + open_ends ends.now (length at.now) self.new.choices.items
             ≤ length self.old.waiting.items
             + open_ends ends.now (length at.now) self.old.choices.items) }
-        ensures decided { OnOk result (WhereMeant F.Fn V.Fn problem.now (λ m. ArePartlyDecided m change (labelling
+        ensures decided { OnOk result
+            (WhereMeant F.Fn V.Fn problem.now (λ m. ArePartlyDecided m change (labelling
             at.now) (summed_count self.old) self.old →
             ArePartlyDecided m change (labelling at.now) (summed_count self.old) self.new)) }
     {
@@ -309,9 +322,11 @@ impl Bounds {
         ensures range { OnOk result (IsWithinRange
             (budget_of (open_ends ends.now (length at.now) self.new.choices.items)) self.new) }
         ensures total { OnOk result (greatest_total self.new
-            + surplus_limit * open_ends ends.now (length at.now) self.new.choices.items ≤ greatest_total self.old
+            + surplus_limit * open_ends ends.now (length at.now) self.new.choices.items
+            ≤ greatest_total self.old
             + surplus_limit * open_ends ends.now (length at.now) self.old.choices.items) }
-        ensures decided { OnOk result (WhereMeant F.Fn V.Fn problem.now (λ m. ArePartlyDecided m change (labelling
+        ensures decided { OnOk result
+            (WhereMeant F.Fn V.Fn problem.now (λ m. ArePartlyDecided m change (labelling
             at.now) (summed_count self.old) self.old →
             ArePartlyDecided m change (labelling at.now) (summed_count self.old) self.new)) }
     {

@@ -22,7 +22,8 @@ use move_energy::{BuildError, Neighbours, group_pairs};
 use solvers::How;
 use std::alloc::{AllocError, Global};
 
-/// The neighbours of each site by a list of pairs, made once a run, and the room in which the sites of a move are decided.
+/// The neighbours of each site by a list of pairs, made once a run, and the room in which the sites
+/// of a move are decided.
 #[derive(Drop)]
 pub struct Deciding {
     pub ends: Neighbours,
@@ -64,18 +65,21 @@ impl Deciding {
         })
     }
 
-    /// Decides the sites of a move, one after another, until none can be told: `bounds.choices` says of each site that it
-    /// keeps its label or what else its variable has at 0 (`Zero`), that it takes the label of the move (`One`), or that a
-    /// cut has to tell (`Open`). Turning a site that was decided the other way would raise the energy, or not lower it, whatever
-    /// the open sites do. Refused: the first pair whose term is not regular; smooth costs that were stored as a metric are not
-    /// tested, since a metric makes no other term.
+    /// Decides the sites of a move, one after another, until none can be told: `bounds.choices`
+    /// says of each site that it keeps its label or what else its variable has at 0 (`Zero`), that
+    /// it takes the label of the move (`One`), or that a cut has to tell (`Open`). Turning a site
+    /// that was decided the other way would raise the energy, or not lower it, whatever the open
+    /// sites do. Refused: the first pair whose term is not regular; smooth costs that were stored
+    /// as a metric are not tested, since a metric makes no other term.
     ///
-    /// Sites that the move cannot change are `Zero` from the beginning. It looks at the pairs of each other site once, and
-    /// once more where it decides the site (Iyer, Jegelka, Bilmes, ICML 2013). A site that it decides as soon as it is summed is not
-    /// looked at again if none of its neighbours before it is open. Then `bounds.greatest` says of each open site by
-    /// how much the energy rises where it turns to 1 while every other open site is at 0; `lists` has how many sites are open,
-    /// and lists them where they are few. `table` has the move's rises, if it stands. Where it refuses, nothing is listed, and no
-    /// more is said of `bounds`, `lists` and `table`.
+    /// Sites that the move cannot change are `Zero` from the beginning. It looks at the pairs of
+    /// each other site once, and once more where it decides the site (Iyer, Jegelka, Bilmes, ICML
+    /// 2013). A site that it decides as soon as it is summed is not looked at again if none of its
+    /// neighbours before it is open. Then `bounds.greatest` says of each open site by how much the
+    /// energy rises where it turns to 1 while every other open site is at 0; `lists` has how many
+    /// sites are open, and lists them where they are few. `table` has the move's rises, if it
+    /// stands. Where it refuses, nothing is listed, and no more is said of `bounds`, `lists` and
+    /// `table`.
     pub fn decide<F: Fn(u32, u32) -> i64 + Sync, V: Fn(u32, u32) -> i64 + Sync>(
         &mut self,
         problem: &Problem<F, V>,
@@ -89,14 +93,16 @@ impl Deciding {
         ensures count { OnOk result (length self.new.bounds.choices.items ≡ length at.now) }
         ensures sized { OnOk result (AreOfSites (length at.now) self.new.bounds) }
         ensures weights { WhereMeant F.Fn V.Fn problem.now (λ m. OnOk result (AreWeights m change
-            (labelling at.now) (choice_at self.new.bounds.choices.items) self.new.bounds.greatest.items)) }
+            (labelling at.now) (choice_at self.new.bounds.choices.items)
+            self.new.bounds.greatest.items)) }
         ensures small { OnOk result (weights_size self.new.bounds.greatest.items ≤ weights_limit) }
         ensures decided { WhereMeant F.Fn V.Fn problem.now (λ m. IsDecidedMove m change at.now
             self.new.bounds.choices.items result) }
         ensures table { OnOk result (IsRiseTable problem.now.data_cost.labels self.new.table) }
         ensures rises { WhereMeant F.Fn V.Fn problem.now (λ m.
             OnOk result (IsTableOf m change self.new.table)) }
-        ensures listed { OnOk result (AreListed change (labelling at.now) self.new.bounds.choices.items
+        ensures listed { OnOk result
+            (AreListed change (labelling at.now) self.new.bounds.choices.items
             self.new.lists) }
         ensures refused { OnErr result (self.new.lists.listed ≡ false) }
     {
@@ -129,14 +135,16 @@ impl Deciding {
         ensures count { OnOk result (length self.new.bounds.choices.items ≡ length at.now) }
         ensures sized { OnOk result (AreOfSites (length at.now) self.new.bounds) }
         ensures weights { WhereMeant F.Fn V.Fn problem.now (λ m. OnOk result (AreWeights m change
-            (labelling at.now) (choice_at self.new.bounds.choices.items) self.new.bounds.greatest.items)) }
+            (labelling at.now) (choice_at self.new.bounds.choices.items)
+            self.new.bounds.greatest.items)) }
         ensures small { OnOk result (weights_size self.new.bounds.greatest.items ≤ weights_limit) }
         ensures decided { WhereMeant F.Fn V.Fn problem.now (λ m. IsDecidedMove m change at.now
             self.new.bounds.choices.items result) }
         ensures table { OnOk result (IsRiseTable problem.now.data_cost.labels self.new.table) }
         ensures rises { WhereMeant F.Fn V.Fn problem.now (λ m.
             OnOk result (IsTableOf m change self.new.table)) }
-        ensures listed { OnOk result (AreListed change (labelling at.now) self.new.bounds.choices.items
+        ensures listed { OnOk result
+            (AreListed change (labelling at.now) self.new.bounds.choices.items
             self.new.lists) }
         ensures refused { OnErr result (self.new.lists.listed ≡ false) }
     {

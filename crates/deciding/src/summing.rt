@@ -1,4 +1,5 @@
-//! The sites of a move one after another: each is summed, and decided at once where its bounds tell its value.
+//! The sites of a move one after another: each is summed, and decided at once where its bounds tell
+//! its value.
 ghost use Rattle.std.specs.Prelude.{◌≡◌, ◌≢◌, ◌<◌, ◌≤◌, ◌*◌, ◌+◌, ◌-◌, ◌↔◌, ◌++◌, ◌∷◌, [], ℕ, pos, replicate, length, OnOk, IfOk};
 ghost use Rattle.label_field.specs.Limits.{site_limit};
 ghost use Rattle.move_energy.specs.BySite.{AreBySite, degree};
@@ -19,8 +20,8 @@ use labellings::Move;
 use move_energy::{Choice, Neighbours};
 use std::alloc::AllocError;
 
-/// What is known of a site before anything is summed. Where the move cannot change its label its value makes no
-/// difference, and is 0.
+/// What is known of a site before anything is summed. Where the move cannot change its label its
+/// value makes no difference, and is 0.
 fn first_choice(change: Move, label: u32) -> Choice
     ensures opened { (result ≡ Open) ↔ Changes change label }
     ensures none { result ≢ One }
@@ -71,7 +72,8 @@ fn fill_up(numbers: &mut Vec<i64>, count: usize) -> Result<(), AllocError>
 impl Bounds {
     /// Makes room for so many sites, and forgets what was known.
     fn clear(&mut self, sites: usize) -> Result<(), AllocError>
-        ensures empty { OnOk result ((length self.new.choices.items ≡ 0) × (length self.new.least.items ≡ 0)
+        ensures empty { OnOk result
+            ((length self.new.choices.items ≡ 0) × (length self.new.least.items ≡ 0)
             × (length self.new.greatest.items ≡ 0) × (length self.new.waiting.items ≡ 0)) }
     {
         self.choices.clear();
@@ -93,10 +95,12 @@ impl Bounds {
         Ok(())
     }
 
-    /// Passes over the closed sites from one on: their bounds are 0. It answers which site is the next, or how many there are.
+    /// Passes over the closed sites from one on: their bounds are 0. It answers which site is the
+    /// next, or how many there are.
     fn pass_closed(&mut self, from: usize) -> Result<usize, AllocError>
         requires from { from ≤ length self.old.choices.items }
-        requires summed { (length self.old.least.items ≡ from) × (length self.old.greatest.items ≡ from) }
+        requires summed { (length self.old.least.items ≡ from)
+            × (length self.old.greatest.items ≡ from) }
         ensures { IfOk result (λ to. PassesClosed from to self.old self.new) }
     {
         let next = next_open(&self.choices, from);
@@ -115,10 +119,11 @@ impl Bounds {
         Ok(())
     }
 
-    /// Decides the site that was summed last if its bounds tell its value and no open site before it is beside it: then none has to
-    /// be told. Else it waits, if they tell it.
+    /// Decides the site that was summed last if its bounds tell its value and no open site before
+    /// it is beside it: then none has to be told. Else it waits, if they tell it.
     fn answer(&mut self, site: u32, beside: bool) -> Result<(), AllocError>
-        requires bounds { (site < length self.old.least.items) × (site < length self.old.greatest.items) }
+        requires bounds { (site < length self.old.least.items)
+            × (site < length self.old.greatest.items) }
         requires choice { site < length self.old.choices.items }
         ensures { OnOk result (IsAnswered site beside self.old self.new) }
     {
@@ -133,7 +138,8 @@ impl Bounds {
         Ok(())
     }
 
-    /// Sums the next site, which is open, and decides it or lets it wait if its bounds tell its value.
+    /// Sums the next site, which is open, and decides it or lets it wait if its bounds tell its
+    /// value.
     fn sum_site<F: Fn(u32, u32) -> i64 + Sync, V: Fn(u32, u32) -> i64 + Sync>(
         &mut self,
         problem: &Problem<F, V>,
@@ -162,11 +168,14 @@ impl Bounds {
         ensures sized { OnOk result (IsSummed (length at.now) self.new) }
         ensures range { OnOk result (IsWithinRange
             (budget_of (open_ends ends.now (length at.now) self.old.choices.items)) self.new) }
-        ensures total { OnOk result (greatest_total self.new ≤ greatest_total self.old + site_cost_limit
+        ensures total { OnOk result
+            (greatest_total self.new ≤ greatest_total self.old + site_cost_limit
             + pair_cost_limit * degree ends.now site) }
         ensures waiting { OnOk result (AreWaiting (site + 1) self.new) }
-        ensures decided { OnOk result (WhereMeant F.Fn V.Fn problem.now (λ m. ArePartlyDecided m change (labelling
-            at.now) site self.old → ArePartlyDecided m change (labelling at.now) (site + 1) self.new)) }
+        ensures decided { OnOk result
+            (WhereMeant F.Fn V.Fn problem.now (λ m. ArePartlyDecided m change (labelling
+            at.now) site self.old
+            → ArePartlyDecided m change (labelling at.now) (site + 1) self.new)) }
     {
         let rises = site_rises(problem, ends, table, &self.choices, at, change, site);
         self.add_bounds(rises.least, rises.greatest)?;
@@ -190,11 +199,13 @@ impl Bounds {
         requires labels { IsRiseTable problem.now.data_cost.labels table.now }
         requires table { WhereMeant F.Fn V.Fn problem.now (λ m. IsTableOf m change table.now) }
         requires unsummed { AreUnsummed (length at.now) self.old }
-        requires begun { WhereMeant F.Fn V.Fn problem.now (λ m. ArePartlyDecided m change (labelling at.now) 0
+        requires begun { WhereMeant F.Fn V.Fn problem.now
+            (λ m. ArePartlyDecided m change (labelling at.now) 0
             self.old) }
         ensures sized { OnOk result (AreOfSites (length at.now) self.new) }
         ensures total { OnOk result (greatest_total self.new ≤ weights_limit) }
-        ensures none { OnOk result ((u : ℕ) → u < length at.now → choice_at self.new.choices.items u ≡ Open →
+        ensures none { OnOk result
+            ((u : ℕ) → u < length at.now → choice_at self.new.choices.items u ≡ Open →
             ¬ CanDecide self.new u) }
         ensures decided { OnOk result
             (WhereMeant F.Fn V.Fn problem.now (λ m. ArePartlyDecided m change

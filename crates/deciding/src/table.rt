@@ -1,5 +1,5 @@
-//! By how much a pair's cost rises in a move where one of its ends turns, in a table by the labels of its ends. So going round
-//! a site asks for no cost.
+//! By how much a pair's cost rises in a move where one of its ends turns, in a table by the labels
+//! of its ends. So going round a site asks for no cost.
 ghost use Rattle.std.specs.Prelude.{◌≡◌, ◌⊎◌, ◌+◌, ◌*◌, ◌<◌, ◌≤◌, ℕ, Bool, true, false, pos, length, slice_index_or, unsigned_abs, OnOk};
 ghost use Rattle.label_field.specs.Limits.{weight_limit};
 ghost use Rattle.labellings.specs.Moves.{IsMoveOf};
@@ -16,18 +16,20 @@ use std::alloc::{AllocError, Global};
 /// The most labels of which a move has a table.
 const TABLE_LABELS: u32 = 64;
 
-/// How many rises stand in a table: one for each label of a first end and of a second end, and for each label of its neighbour.
+/// How many rises stand in a table: one for each label of a first end and of a second end, and for
+/// each label of its neighbour.
 const ENTRIES: usize = 8192;
 
-/// By how much a pair's cost rises where one of its ends turns: while the value of the other end is 0, and while it is 1. What
-/// the two values together save is the difference.
+/// By how much a pair's cost rises where one of its ends turns: while the value of the other end is
+/// 0, and while it is 1. What the two values together save is the difference.
 #[derive(Clone, Copy)]
 pub struct EndRises {
     pub low: i32,
     pub high: i32,
 }
 
-/// The rises of a move for each two labels, of the pairs of one weight. It takes 64 KB once a table was made.
+/// The rises of a move for each two labels, of the pairs of one weight. It takes 64 KB once a table
+/// was made.
 #[derive(Drop)]
 pub struct RiseTable {
     pub stands: bool,
@@ -57,8 +59,10 @@ fn ask_rises<F: Fn(u32, u32) -> i64 + Sync, V: Fn(u32, u32) -> i64 + Sync>(
     requires posed { IsPosed F.Fn V.Fn problem.now }
     requires change { IsMoveOf problem.now.data_cost.labels change }
     requires weight { weight ≤ weight_limit }
-    requires inside { (own < problem.now.data_cost.labels) × (other < problem.now.data_cost.labels) }
-    ensures rises { WhereMeant F.Fn V.Fn problem.now (λ m. AreRises m change weight first own other result) }
+    requires inside { (own < problem.now.data_cost.labels)
+        × (other < problem.now.data_cost.labels) }
+    ensures rises { WhereMeant F.Fn V.Fn problem.now
+        (λ m. AreRises m change weight first own other result) }
     ensures small { AreRisesSmall result }
 {
     let turn = Turn::of(change, own);
@@ -114,7 +118,8 @@ impl RiseTable {
         requires few { problem.now.data_cost.labels ≤ table_labels }
         requires own { own < problem.now.data_cost.labels }
         requires size { length self.old.entries.items ≡ 8192 }
-        ensures rises { WhereMeant F.Fn V.Fn problem.now (λ m. (other : ℕ) → other < problem.now.data_cost.labels →
+        ensures rises { WhereMeant F.Fn V.Fn problem.now
+            (λ m. (other : ℕ) → other < problem.now.data_cost.labels →
             AreRises m change self.old.weight first own other (rises_at self.new first own other)) }
         ensures small { (other : ℕ) → other < problem.now.data_cost.labels →
             AreRisesSmall (rises_at self.new first own other) }
@@ -151,8 +156,8 @@ impl RiseTable {
         }
     }
 
-    /// Makes the table of a move over so many sites, for the pairs of this weight, where it has fewer rises than there are sites
-    /// and labels for it.
+    /// Makes the table of a move over so many sites, for the pairs of this weight, where it has
+    /// fewer rises than there are sites and labels for it.
     pub(crate) fn make<F: Fn(u32, u32) -> i64 + Sync, V: Fn(u32, u32) -> i64 + Sync>(
         &mut self,
         problem: &Problem<F, V>,
@@ -163,7 +168,8 @@ impl RiseTable {
         requires posed { IsPosed F.Fn V.Fn problem.now }
         requires change { IsMoveOf problem.now.data_cost.labels change }
         ensures sized { OnOk result (IsRiseTable problem.now.data_cost.labels self.new) }
-        ensures rises { OnOk result (WhereMeant F.Fn V.Fn problem.now (λ m. IsTableOf m change self.new)) }
+        ensures rises { OnOk result
+            (WhereMeant F.Fn V.Fn problem.now (λ m. IsTableOf m change self.new)) }
     {
         self.stands = false;
         self.weight = weight;

@@ -23,7 +23,8 @@ fn can_change_end(at: &[u8], change: Move, pair: Pair) -> bool
         || change.can_change(u32::from(at[pair.second as usize]))
 }
 
-/// Whether the term of a pair is regular. That of a pair of which the move can change no end is, so it is not looked at.
+/// Whether the term of a pair is regular. That of a pair of which the move can change no end is, so
+/// it is not looked at.
 fn is_term_regular<F: Fn(u32, u32) -> i64 + Sync, V: Fn(u32, u32) -> i64 + Sync>(
     problem: &Problem<F, V>,
     at: &[u8],
@@ -43,8 +44,9 @@ fn is_term_regular<F: Fn(u32, u32) -> i64 + Sync, V: Fn(u32, u32) -> i64 + Sync>
     is_regular(&table)
 }
 
-/// Tests the term of each pair, and refuses the first that is not regular. Where the smooth costs were stored as a
-/// metric each term of each move is (Boykov, Veksler and Zabih, PAMI 2001, section 3), so none is tested.
+/// Tests the term of each pair, and refuses the first that is not regular. Where the smooth costs
+/// were stored as a metric each term of each move is (Boykov, Veksler and Zabih, PAMI 2001, section
+/// 3), so none is tested.
 pub(crate) fn test_terms<F: Fn(u32, u32) -> i64 + Sync, V: Fn(u32, u32) -> i64 + Sync>(
     problem: &Problem<F, V>,
     at: &[u8],

@@ -1,4 +1,5 @@
--- Where no node that reaches the sink has excess, the nodes that reach it are the smallest least cut.
+-- Where no node that reaches the sink has excess, the nodes that reach it are the smallest least
+-- cut.
 use Rattle.std.proofs.Common.{◌≡◌, ℕ, zero, suc, ◌-◌, ◌<◌, ◌≤◌, inl, inr, Bool, true, false, not, ◌&&◌, length, slice_index, refl, ◌∙◌, ap, arith}
 use Rattle.std.proofs.lemmas.Bool.{cases_lt, cases_Bool}
 use Rattle.sums.specs.Sums.{count_if}

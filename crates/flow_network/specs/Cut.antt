@@ -57,7 +57,8 @@ pub record IsArc (n : ℕ) (arc : Arc) : Type 0 where
 abbrev pub total_capacity : Network → ℕ
 total_capacity net = sum net.sources + sum net.sinks + sum_by (λ arc. arc.capacity) net.arcs
 
--- what is true of every net: a number for each node in both lists, arcs between nodes, and the limits
+-- what is true of every net: a number for each node in both lists, arcs between nodes, and the
+-- limits
 pub record IsNet (net : Network) : Type 0 where
   pub same : length net.sinks ≡ length net.sources
   pub count : length net.sources ≤ node_limit
@@ -66,7 +67,8 @@ pub record IsNet (net : Network) : Type 0 where
 
 -- the net in which each node can send the sink so much more
 abbrev pub with_larger_sinks : Network → List ℕ → Network
-with_larger_sinks net more = network_of net.sources (zip2 (λ sink extra. sink + extra) net.sinks more) net.arcs
+with_larger_sinks net more =
+    network_of net.sources (zip2 (λ sink extra. sink + extra) net.sinks more) net.arcs
 
 -- a number for each node, and the net stays within the limits with so much more
 pub record AreExtras (net : Network) (more : List ℕ) : Type 0 where

@@ -29,8 +29,8 @@ pub record IsSmallestAndFull (net : Network) (flow : Flow) (side : ℕ → Bool)
   pub smallest : IsSmallestLeastCut net side
   pub full : sink_gets net flow ≡ capacity_of net side
 
--- where no node that reaches the sink has excess, the nodes that reach it are the smallest least cut,
--- and the sink gets its capacity (Goldberg, Tarjan 1988, section 3)
+-- where no node that reaches the sink has excess, the nodes that reach it are the smallest least
+-- cut, and the sink gets its capacity (Goldberg, Tarjan 1988, section 3)
 abbrev pub ReachIsSmallest : Type 0
 ReachIsSmallest =
     (net : Network) (flow : Flow) (side : ℕ → Bool) → IsNet net → IsPreflow net flow

@@ -62,7 +62,8 @@ excess net flow v = gets net flow v - total_outflow net flow v
 abbrev pub sink_gets : Network → Flow → ℕ
 sink_gets net flow = sum_below (nodes net) (slice_index flow.sinks)
 
--- a number for each arc and for each node, within the capacities, and no node passes on more than it gets
+-- a number for each arc and for each node, within the capacities, and no node passes on more than
+-- it gets
 pub record IsPreflow (net : Network) (flow : Flow) : Type 0 where
   pub arcs_len : length flow.arcs ≡ length net.arcs
   pub sinks_len : length flow.sinks ≡ nodes net
@@ -87,8 +88,10 @@ IsResidual net flow v w =
 -- a path of this many residual directions, the last of them to the sink, leads on from v
 abbrev pub ReachesIn : Network → Flow → ℕ → ℕ → Type 0
 ReachesIn net flow zero v = ⊥
-ReachesIn net flow (suc zero) v = (v < nodes net) × (slice_index flow.sinks v < slice_index net.sinks v)
-ReachesIn net flow (suc (suc d)) v = (w : ℕ) × IsResidual net flow v w × ReachesIn net flow (suc d) w
+ReachesIn net flow (suc zero) v =
+    (v < nodes net) × (slice_index flow.sinks v < slice_index net.sinks v)
+ReachesIn net flow (suc (suc d)) v =
+    (w : ℕ) × IsResidual net flow v w × ReachesIn net flow (suc d) w
 
 -- a path of residual directions leads from v to the sink
 abbrev pub Reaches : Network → Flow → ℕ → Type 0

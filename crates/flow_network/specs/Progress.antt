@@ -5,8 +5,8 @@ use Rattle.flow_network.specs.Cut.{Network, nodes, total_capacity}
 use Rattle.flow_network.specs.Preflow.{Flow, excess, IsPreflow}
 use Rattle.flow_network.specs.Labels.{IsLabelling}
 
--- the label of a node that is cut off from the sink, where there are so many nodes: two more than they are,
--- above the length of every path
+-- the label of a node that is cut off from the sink, where there are so many nodes: two more than
+-- they are, above the length of every path
 abbrev pub top_label : ℕ → ℕ
 top_label count = count + 2
 
@@ -28,7 +28,8 @@ rise_left net labels = sum_below (nodes net) (λ v. top net - slice_index labels
 
 -- how far the excess stands above the sink
 abbrev pub excess_height : Network → List ℕ → List ℕ → ℕ
-excess_height net kept labels = sum_below (nodes net) (λ v. slice_index kept v * (slice_index labels v + 1))
+excess_height net kept labels =
+    sum_below (nodes net) (λ v. slice_index kept v * (slice_index labels v + 1))
 
 -- what each push and each new label lowers
 abbrev pub work_left : Network → List ℕ → List ℕ → ℕ

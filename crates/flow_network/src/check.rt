@@ -106,8 +106,10 @@ fn nodes_capacity(sources: &[u64], sinks: &[u64], side: &[bool]) -> u64
     requires sinks_len { length sinks.now ≡ length sources.now }
     requires small { sum sources.now + sum sinks.now ≤ capacity_limit }
     ensures { result ≡
-        sum_below (length sources.now) (λ v. count_if (set_of side.now v) (slice_index sources.now v)) +
-        sum_below (length sources.now) (λ v. count_if (not (set_of side.now v)) (slice_index sinks.now v)) }
+        sum_below (length sources.now)
+        (λ v. count_if (set_of side.now v) (slice_index sources.now v)) +
+        sum_below (length sources.now)
+        (λ v. count_if (not (set_of side.now v)) (slice_index sinks.now v)) }
 {
     let mut total = 0;
     for v in 0..sources.len() {

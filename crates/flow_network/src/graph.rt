@@ -61,7 +61,8 @@ impl Graph {
         self.arcs.as_slice()
     }
 
-    /// The graph of the net that has these sinks in place of its own. The arcs stay where they stand.
+    /// The graph of the net that has these sinks in place of its own. The arcs stay where they
+    /// stand.
     pub fn with_sinks(self, sinks: &Vec<u64>) -> Graph
         requires { IsNet (network_of self.sources sinks.now.items self.arcs) }
         ensures { result ≡ network_of self.sources sinks.now.items self.arcs }
@@ -74,7 +75,8 @@ impl Graph {
         }
     }
 
-    /// The arcs alone, in the order in which they were put in. Their list can be given back as it is read.
+    /// The arcs alone, in the order in which they were put in. Their list can be given back as it
+    /// is read.
     pub fn into_arcs(self) -> Vec<Arc>
         ensures { result.items ≡ self.arcs }
     {

@@ -8,8 +8,8 @@ use std::marker::Model;
 /// the sink, and the arcs between nodes.
 ///
 /// It keeps that there are as many numbers for sinks as for sources, at most `NODE_LIMIT` nodes,
-/// arcs between nodes that are there, and capacities of at most `CAPACITY_LIMIT` together. The source
-/// and the sink are no nodes (Boykov, Veksler, Zabih 2001, section 4: their t-links are the
+/// arcs between nodes that are there, and capacities of at most `CAPACITY_LIMIT` together. The
+/// source and the sink are no nodes (Boykov, Veksler, Zabih 2001, section 4: their t-links are the
 /// numbers for sources and sinks, their n-links the arcs).
 #[derive(Drop)]
 pub struct Net {
@@ -109,8 +109,8 @@ impl Net {
         }
     }
 
-    /// Whether each node could send the sink so much more: a number for each node, and all capacities stay together at
-    /// most `CAPACITY_LIMIT`. It may be asked of any numbers.
+    /// Whether each node could send the sink so much more: a number for each node, and all
+    /// capacities stay together at most `CAPACITY_LIMIT`. It may be asked of any numbers.
     pub fn can_take(&self, more: &[u64]) -> bool
         ensures { IsTrue result ↔ AreExtras self.now more.now }
     {

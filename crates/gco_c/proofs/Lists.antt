@@ -45,7 +45,8 @@ refused_after e first terms refusal is = record {
   told = (let P : List Term → Type 0 = λ xs. IsTermTold (record e { terms = xs }) is.term refusal in subst P (append_assoc e.terms first is.before) is.told);
 }
 
--- the energy of a call, with its constant, then with its terms of one variable, then with those of two
+-- the energy of a call, with its constant, then with its terms of one variable, then with those of
+-- two
 with_constant : (e0 e1 : Energy) (variables : ℕ) (constant : ℤ) → e0 ≡ record { constant = pos 0; variables = variables; terms = [] }
     → e1 ≡ record e0 { constant = constant } → e1 ≡ record { constant = constant; variables = variables; terms = [] }
 with_constant e0 e1 variables constant is0 is1 = is1 ∙ ap (λ (e : Energy). record e { constant = constant }) is0

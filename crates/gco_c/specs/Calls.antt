@@ -47,11 +47,13 @@ pair_from_c given = record { first = given.first; second = given.second; weight 
 abbrev pub list_given : ℕ → List GcoPair → PairList
 list_given sites pairs = record { sites = sites; list = map pair_from_c pairs }
 
--- the problem that the arrays of a call are: site by site the cost of each label, label by label the cost of
--- each beside it, the pairs in their order, and label by label what it costs by itself, 0 where there are no such costs
+-- the problem that the arrays of a call are: site by site the cost of each label, label by label
+-- the cost of each beside it, the pairs in their order, and label by label what it costs by itself,
+-- 0 where there are no such costs
 abbrev pub instance_given : CallArrays → Instance
 instance_given a =
-    instance_of (list_given (length a.start) a.pairs) a.label_count (cost_in a.label_count a.data_costs) a.smooth_costs a.label_costs
+    instance_of (list_given (length a.start) a.pairs) a.label_count
+    (cost_in a.label_count a.data_costs) a.smooth_costs a.label_costs
 
 -- the tables of so many sites and labels are as long as they must be
 pub record AreCounted (sites labels data_count smooth_count cost_count : ℕ) : Type 0 where
@@ -62,7 +64,8 @@ pub record AreCounted (sites labels data_count smooth_count cost_count : ℕ) : 
 
 -- so are those of a call
 abbrev pub AreLong : CallArrays → Type 0
-AreLong a = AreCounted (length a.start) a.label_count (length a.data_costs) (length a.smooth_costs) (length a.label_costs)
+AreLong a = AreCounted (length a.start) a.label_count (length a.data_costs) (length a.smooth_costs)
+    (length a.label_costs)
 
 -- each cost is in its range
 pub record AreCostsInRange (data_costs smooth_costs label_costs : List ℤ) : Type 0 where
@@ -94,21 +97,23 @@ abbrev pub moves_number : Moves → ℕ
 moves_number Expansion = 0
 moves_number Swap = 1
 
--- the run from the start ended at the labels, and the outcome tells its cycles, whether it settled, the three parts of the
--- energy there, its bound, where it has one, and nothing else
-pub record IsRunTold (a : CallArrays) (number cycles : ℕ) (labels : List ℕ) (told : GcoOutcome) : Type 0 where
+-- the run from the start ended at the labels, and the outcome tells its cycles, whether it settled,
+-- the three parts of the energy there, its bound, where it has one, and nothing else
+pub record IsRunTold (a : CallArrays) (number cycles : ℕ) (labels : List ℕ)
+    (told : GcoOutcome) : Type 0 where
   pub moves : Moves
   pub numbered : number ≡ moves_number moves
   pub made : ℕ
   pub settled : Bool
-  pub chain : IsChain (instance_given a) (moves_of moves a.label_count) cycles a.start labels made settled
+  pub chain : IsChain (instance_given a) (moves_of moves a.label_count)
+      cycles a.start labels made settled
   pub bound : Option Bound
   pub tells : TellsBound (instance_given a) moves labels settled bound
   pub may : MayMake (instance_given a) moves
   pub told_is : told ≡ run_told (energy_told (instance_given a) labels) made settled bound
 
--- one move from the start reached the labels, and the outcome tells whether they are others, the three parts of the
--- energy there, and nothing else
+-- one move from the start reached the labels, and the outcome tells whether they are others, the
+-- three parts of the energy there, and nothing else
 pub record IsMoveTold (a : CallArrays) (move : Move) (labels : List ℕ)
     (told : GcoOutcome) : Type 0 where
   pub changed : Bool

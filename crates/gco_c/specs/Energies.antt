@@ -18,13 +18,14 @@ two_of given = Two given.first given.second (two_numbers given)
 
 abbrev pub three_numbers : GcoThree → List ℤ
 three_numbers given =
-    given.at000 ∷ given.at001 ∷ given.at010 ∷ given.at011 ∷ given.at100 ∷ given.at101 ∷ given.at110 ∷ given.at111 ∷ []
+    given.at000 ∷ given.at001 ∷ given.at010 ∷ given.at011 ∷ given.at100 ∷ given.at101 ∷ given.at110
+    ∷ given.at111 ∷ []
 
 abbrev pub three_of : GcoThree → Term
 three_of given = Three given.first given.second given.third (three_numbers given)
 
--- the energy that the arrays of a call are: the constant, the terms of one variable, then those of two, then those of
--- three
+-- the energy that the arrays of a call are: the constant, the terms of one variable, then those of
+-- two, then those of three
 abbrev pub energy_given : ℕ → ℤ → List GcoOne → List GcoTwo → List GcoThree → Energy
 energy_given variables constant ones twos threes = record {
   constant = constant;

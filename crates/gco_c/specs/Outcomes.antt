@@ -26,7 +26,12 @@ nothing_told = record {
 -- a refusal is told: the place and the labels of the move that it names
 abbrev pub refusal_told : Refusal → GcoOutcome
 refusal_told refusal =
-    record nothing_told { place = told_place refusal; alpha = (labels_of refusal).0; beta = (labels_of refusal).1 }
+    record nothing_told {
+      place = told_place refusal;
+      alpha = (labels_of refusal).0;
+      beta =
+          (labels_of refusal).1;
+    }
 
 -- the three parts of an energy are told
 abbrev pub outcome_of_parts : ℤ → ℤ → ℤ → GcoOutcome
@@ -45,7 +50,8 @@ abbrev pub bound_numbers : Option Bound → ℕ × ℕ
 bound_numbers None = (0, 0)
 bound_numbers (Some bound) = (bound.vmin, bound.vmax)
 
--- beside the parts of the energy where a run ended: its cycles, whether it settled, and its bound, where it has one
+-- beside the parts of the energy where a run ended: its cycles, whether it settled, and its bound,
+-- where it has one
 abbrev pub run_told : GcoOutcome → ℕ → Bool → Option Bound → GcoOutcome
 run_told parts cycles settled bound = record parts {
   cycles = cycles;
@@ -65,4 +71,5 @@ value_told value = record { value = value; place = 0; fixed = 3; fixed_at = 0 }
 -- a refusal of terms is told: the place, and what is fixed, where the refusal names these
 abbrev pub term_told : Refusal → GcoMinimum
 term_told refusal =
-    record (value_told (pos 0)) { place = told_place refusal; fixed = (fixed_of refusal).0; fixed_at = (fixed_of refusal).1 }
+    record (value_told (pos 0))
+    { place = told_place refusal; fixed = (fixed_of refusal).0; fixed_at = (fixed_of refusal).1 }

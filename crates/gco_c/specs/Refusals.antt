@@ -1,5 +1,5 @@
--- Why a call is refused. Each cause is told where what comes before it is in order: so it is told exactly where it holds
--- and none before it does, or memory is wanting.
+-- Why a call is refused. Each cause is told where what comes before it is in order: so it is told
+-- exactly where it holds and none before it does, or memory is wanting.
 use Rattle.std.specs.Prelude.{◌≡◌, ◌≢◌, ◌⊎◌, ℕ, ◌*◌, ◌<◌, ◌≤◌, List, length, take, All, ℤ, pos, Some, Err, slice_get}
 use Rattle.label_field.specs.LabelFields.{AreSizes}
 use Rattle.label_field.specs.Limits.{site_limit, label_limit}
@@ -25,7 +25,8 @@ use Rattle.gco_c.specs.declared.pairs.GcoPair.{GcoPair}
 use Rattle.gco_c.specs.declared.refusal.Refusal.{Refusal}
 use Rattle.gco_c.specs.declared.refusal.Refusal.TheVariants as why
 
--- the first number that is wrong: of sites, of labels, of data costs, of smooth costs, of label costs
+-- the first number that is wrong: of sites, of labels, of data costs, of smooth costs, of label
+-- costs
 abbrev pub IsCountRefusal : ℕ → ℕ → ℕ → ℕ → ℕ → Refusal → Type 0
 IsCountRefusal sites labels data_count smooth_count cost_count why.TooManySites = site_limit < sites
 IsCountRefusal sites labels data_count smooth_count cost_count why.LabelCount =
@@ -41,7 +42,8 @@ IsCountRefusal sites labels data_count smooth_count cost_count _ = ⊥
 
 -- the first cost out of range, of the first table that has one
 abbrev pub IsRangeRefusal : List ℤ → List ℤ → List ℤ → Refusal → Type 0
-IsRangeRefusal data_costs smooth_costs label_costs (why.DataRange place) = IsFirstOutside data_limit data_costs (CostRange place)
+IsRangeRefusal data_costs smooth_costs label_costs (why.DataRange place) =
+    IsFirstOutside data_limit data_costs (CostRange place)
 IsRangeRefusal data_costs smooth_costs label_costs (why.SmoothRange place) =
     All (IsCost data_limit) data_costs × IsFirstOutside smooth_limit smooth_costs (CostRange place)
 IsRangeRefusal data_costs smooth_costs label_costs (why.LabelCostRange place) =
@@ -74,17 +76,20 @@ IsListRefusal sites given refusal =
 -- the first label of the start that is not there, or memory
 abbrev pub IsStartRefusal : ℕ → List ℕ → Refusal → Type 0
 IsStartRefusal labels start (why.NoSuchLabel site) =
-    (label : ℕ) × (slice_get start site ≡ Some label) × (labels ≤ label) × All (λ other. other < labels) (take site start)
+    (label : ℕ) × (slice_get start site ≡ Some label) × (labels ≤ label)
+    × All (λ other. other < labels) (take site start)
 IsStartRefusal labels start why.OutOfMemory = Unit {0}
 IsStartRefusal labels start _ = ⊥
 
 -- what a call was given is not in order
 abbrev pub IsGivenRefusal : CallArrays → Refusal → Type 0
 IsGivenRefusal a refusal =
-    IsCountRefusal (length a.start) a.label_count (length a.data_costs) (length a.smooth_costs) (length a.label_costs) refusal
+    IsCountRefusal (length a.start) a.label_count (length a.data_costs) (length a.smooth_costs)
+    (length a.label_costs) refusal
     ⊎ (AreLong a × IsRangeRefusal a.data_costs a.smooth_costs a.label_costs refusal)
     ⊎ (AreTables a × IsListRefusal (length a.start) a.pairs refusal)
-    ⊎ (AreTables a × IsPairList (list_given (length a.start) a.pairs) × IsStartRefusal a.label_count a.start refusal)
+    ⊎ (AreTables a × IsPairList (list_given (length a.start) a.pairs)
+    × IsStartRefusal a.label_count a.start refusal)
 
 -- the refusal of a call whose run or move was refused
 abbrev pub move_refusal : MoveError → Refusal
@@ -98,15 +103,16 @@ abbrev pub IsLabelRefusal : CallArrays → Moves → ℕ → Refusal → Type 0
 IsLabelRefusal a moves cycles refusal =
     IsGivenRefusal a refusal
     ⊎ (IsGiven a × ((error : MoveError) × IsRunRefusal (λ e. e ≡ NoMemory) error
-    × AnswersRun (instance_given a) moves cycles a.start (Err error) × (refusal ≡ move_refusal error)))
+    × AnswersRun (instance_given a) moves cycles a.start (Err error)
+    × (refusal ≡ move_refusal error)))
 
 -- the status and the outcome tell a refusal, and the outcome nothing else
 pub record IsTold (refusal : Refusal) (status : ℕ) (told : GcoOutcome) : Type 0 where
   pub status_is : status ≡ status_of refusal
   pub told_is : told ≡ refusal_told refusal
 
--- the status and the outcome tell a refusal, and its cause holds: the number names no moves, or what a run of the
--- moves that it names refuses
+-- the status and the outcome tell a refusal, and its cause holds: the number names no moves, or
+-- what a run of the moves that it names refuses
 pub record IsRefusalTold (a : CallArrays) (number cycles status : ℕ)
     (told : GcoOutcome) : Type 0 where
   pub refusal : Refusal
@@ -118,10 +124,12 @@ pub record IsRefusalTold (a : CallArrays) (number cycles status : ℕ)
 abbrev pub IsMoveCause : CallArrays → Move → Refusal → Type 0
 IsMoveCause a move refusal =
     IsGivenRefusal a refusal
-    ⊎ (IsGiven a × ((error : MoveError) × IsCauseOfRefusal (instance_given a) move a.start error × (refusal ≡ move_refusal error)))
+    ⊎ (IsGiven a × ((error : MoveError) × IsCauseOfRefusal (instance_given a) move a.start error
+    × (refusal ≡ move_refusal error)))
 
 -- the status and the outcome tell a refusal of one move, and its cause holds
-pub record IsMoveRefusalTold (a : CallArrays) (move : Move) (status : ℕ) (told : GcoOutcome) : Type 0 where
+pub record IsMoveRefusalTold (a : CallArrays) (move : Move) (status : ℕ)
+    (told : GcoOutcome) : Type 0 where
   pub refusal : Refusal
   pub is_told : IsTold refusal status told
   pub cause : IsMoveCause a move refusal

@@ -48,8 +48,8 @@ abbrev pub labels_of : Refusal → ℕ × ℕ
 labels_of (why.NotRegular place alpha beta) = (alpha, second_of alpha beta)
 labels_of _ = (0, 0)
 
--- the projection of a term of three that a refusal tells: which of the three variables is fixed, and at which value; 3
--- and 0 where none is
+-- the projection of a term of three that a refusal tells: which of the three variables is fixed,
+-- and at which value; 3 and 0 where none is
 abbrev pub fixed_numbers : Option Fixed → ℕ × ℕ
 fixed_numbers None = (3, 0)
 fixed_numbers (Some fixed) = (fixed.position, cond fixed.value 1 0)

@@ -1,4 +1,5 @@
--- Why a call over yes-no variables is refused. Each cause is told where what comes before it is in order.
+-- Why a call over yes-no variables is refused. Each cause is told where what comes before it is in
+-- order.
 use Rattle.std.specs.Prelude.{◌≡◌, ℕ, ◌<◌, List, [], ◌∷◌, ◌++◌, length, ◌⊎◌, Option}
 use Rattle.pseudo_bool.specs.Energies.{Energy, IsEnergy, IsValue}
 use Rattle.pseudo_bool.specs.Limits.{variable_limit}
@@ -25,7 +26,8 @@ term_refusal place term_why.OutOfMemory = why.OutOfMemory
 -- a term is refused beside those of an energy, and told by their number
 abbrev pub IsTermTold : Energy → Term → Refusal → Type 0
 IsTermTold e term refusal =
-    IsEnergy e × ((error : EnergyError) × IsTermRefusal e term error × (refusal ≡ term_refusal (length e.terms) error))
+    IsEnergy e × ((error : EnergyError) × IsTermRefusal e term error
+    × (refusal ≡ term_refusal (length e.terms) error))
 
 -- of terms that were to be added to an energy one is refused, and each before it was added
 pub record AreTermsRefused (e : Energy) (terms : List Term) (refusal : Refusal) : Type 0 where
@@ -41,12 +43,14 @@ IsTermsRefusal e refusal =
     ((refusal ≡ why.ConstantRange) × ¬ IsValue e.constant)
     ⊎ (IsValue e.constant × AreTermsRefused (record e { terms = [] }) e.terms refusal)
 
--- why a call is refused: too many variables, the constant, a term, a term that is not regular, or memory
+-- why a call is refused: too many variables, the constant, a term, a term that is not regular, or
+-- memory
 abbrev pub IsMinimumRefusal : Energy → Refusal → Type 0
 IsMinimumRefusal e refusal =
     ((refusal ≡ why.TooManySites) × (variable_limit < e.variables))
     ⊎ IsTermsRefusal e refusal
-    ⊎ (IsEnergy e × ((place : ℕ) × (fixed : Option Fixed) × (refusal ≡ why.TermNotRegular place fixed) × IsFirstFailing e place fixed))
+    ⊎ (IsEnergy e × ((place : ℕ) × (fixed : Option Fixed)
+    × (refusal ≡ why.TermNotRegular place fixed) × IsFirstFailing e place fixed))
     ⊎ (IsEnergy e × (refusal ≡ why.OutOfMemory))
 
 -- the status and the outcome tell a refusal, and the outcome nothing else

@@ -7,8 +7,8 @@ use crate::refusal::Refusal;
 use cost_store::{CostError, DATA_LIMIT, LABEL_COST_LIMIT, SMOOTH_LIMIT, check_table};
 use label_field::{LABEL_LIMIT, SITE_LIMIT};
 
-/// Whether the numbers of sites and labels are in their limits, and there is a cost for each label at each site, one
-/// for each two labels, and one for each label or none: the number of sites.
+/// Whether the numbers of sites and labels are in their limits, and there is a cost for each label
+/// at each site, one for each two labels, and one for each label or none: the number of sites.
 pub(crate) fn check_counts(
     sites: usize,
     labels: u32,
@@ -17,8 +17,10 @@ pub(crate) fn check_counts(
     cost_count: usize,
 ) -> Result<u32, Refusal>
     ensures sites { IfOk result (λ number. number ≡ sites) }
-    ensures counted { IfOk result (λ number. AreCounted sites labels data_count smooth_count cost_count) }
-    ensures refused { IfErr result (IsCountRefusal sites labels data_count smooth_count cost_count) }
+    ensures counted { IfOk result
+        (λ number. AreCounted sites labels data_count smooth_count cost_count) }
+    ensures refused { IfErr result
+        (IsCountRefusal sites labels data_count smooth_count cost_count) }
 {
     if sites > SITE_LIMIT as usize {
         return Err(Refusal::TooManySites);

@@ -90,7 +90,8 @@ fn run_call(
     ensures given { IfOk result (λ _.
         IsGiven (call_arrays labels data.now smooth.now label_costs.now given.now at.now)) }
     ensures run { IfOk result (λ run.
-        AnswersRun (instance_given (call_arrays labels data.now smooth.now label_costs.now given.now at.now))
+        AnswersRun (instance_given
+        (call_arrays labels data.now smooth.now label_costs.now given.now at.now))
         moves cycles at.now (Ok run)) }
     ensures sized { IfOk result (λ run. length run.labelling.at ≡ length at.now) }
     ensures refused { IfErr result

@@ -13,9 +13,9 @@ use labellings::Moves;
 use moves::Run;
 use std::alloc::Global;
 
-/// Makes moves from the labels that were given, until a whole cycle changes nothing or so many cycles are
-/// done, and writes the labels where they ended. `moves` is 0 for expansions and 1 for swaps. The answer is
-/// 0, or the status of a refusal, and then the labels are as they were.
+/// Makes moves from the labels that were given, until a whole cycle changes nothing or so many
+/// cycles are done, and writes the labels where they ended. `moves` is 0 for expansions and 1 for
+/// swaps. The answer is 0, or the status of a refusal, and then the labels are as they were.
 #[unsafe(no_mangle)]
 pub extern "C" fn gco_label(
     alloc: Global,
@@ -63,7 +63,8 @@ pub extern "C" fn gco_label(
     }
 }
 
-/// Makes the moves that were asked for over the arrays that were given, and answers where they ended.
+/// Makes the moves that were asked for over the arrays that were given, and answers where they
+/// ended.
 fn run_call(
     alloc: Global,
     labels: u32,
@@ -78,7 +79,8 @@ fn run_call(
     ensures given { IfOk result (λ _.
         IsGiven (call_arrays labels data.now smooth.now label_costs.now given.now at.now)) }
     ensures run { IfOk result (λ run.
-        AnswersRun (instance_given (call_arrays labels data.now smooth.now label_costs.now given.now at.now))
+        AnswersRun (instance_given
+        (call_arrays labels data.now smooth.now label_costs.now given.now at.now))
         moves cycles at.now (Ok run)) }
     ensures sized { IfOk result (λ run. length run.labelling.at ≡ length at.now) }
     ensures refused { IfErr result

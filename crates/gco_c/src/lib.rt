@@ -1,5 +1,5 @@
-//! gco for C and for all that calls C: one call for a whole problem, which keeps nothing when it returns. A call
-//! is the test of all that it is given, since nothing checks its caller.
+//! gco for C and for all that calls C: one call for a whole problem, which keeps nothing when it
+//! returns. A call is the test of all that it is given, since nothing checks its caller.
 #![tactic(auto)]
 
 mod checks;

@@ -22,14 +22,15 @@ pub struct GcoMinimum {
     pub value: i64,
     /// The place that a refusal names. Else 0.
     pub place: u64,
-    /// Of a term of three that is not regular: which of its variables is fixed where it is not, 0, 1 or 2, and at which
-    /// value. Else 3 and 0.
+    /// Of a term of three that is not regular: which of its variables is fixed where it is not, 0,
+    /// 1 or 2, and at which value. Else 3 and 0.
     pub fixed: u64,
     pub fixed_at: u64,
 }
 
-/// The least value over all assignments of the variables, and of the assignments that have it the one with the
-/// fewest ones. The answer is 0, or the status of a refusal, and then the assignment is as it was.
+/// The least value over all assignments of the variables, and of the assignments that have it the
+/// one with the fewest ones. The answer is 0, or the status of a refusal, and then the assignment
+/// is as it was.
 #[unsafe(no_mangle)]
 pub extern "C" fn gco_minimise(
     alloc: Global,

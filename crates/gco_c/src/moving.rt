@@ -34,8 +34,8 @@ pub(crate) struct Moved {
     pub(crate) label: i64,
 }
 
-/// Lets every site keep its label or take the label `alpha`, and writes the best of these labellings. The answer is
-/// 0, or the status of a refusal, and then the labels are as they were.
+/// Lets every site keep its label or take the label `alpha`, and writes the best of these
+/// labellings. The answer is 0, or the status of a refusal, and then the labels are as they were.
 #[unsafe(no_mangle)]
 pub extern "C" fn gco_expand(
     alloc: Global,
@@ -56,7 +56,8 @@ pub extern "C" fn gco_expand(
         (Expand alpha) labels.new outcome.new }
     ensures unchanged { result ≢ 0 → labels.new ≡ labels.old }
     ensures refused { result ≢ 0 →
-        IsMoveRefusalTold (call_arrays label_count data.now smooth.now label_costs.now pairs.now labels.old)
+        IsMoveRefusalTold (call_arrays label_count data.now smooth.now label_costs.now
+        pairs.now labels.old)
         (Expand alpha) result outcome.new }
 {
     let change = Move::Expand(alpha);
@@ -73,8 +74,9 @@ pub extern "C" fn gco_expand(
     )
 }
 
-/// Lets every site that has one of the labels `alpha` and `beta` take either, and writes the best of these labellings.
-/// The answer is 0, or the status of a refusal, and then the labels are as they were.
+/// Lets every site that has one of the labels `alpha` and `beta` take either, and writes the best
+/// of these labellings. The answer is 0, or the status of a refusal, and then the labels are as
+/// they were.
 #[unsafe(no_mangle)]
 pub extern "C" fn gco_swap(
     alloc: Global,
@@ -96,7 +98,8 @@ pub extern "C" fn gco_swap(
         (Swap alpha beta) labels.new outcome.new }
     ensures unchanged { result ≢ 0 → labels.new ≡ labels.old }
     ensures refused { result ≢ 0 →
-        IsMoveRefusalTold (call_arrays label_count data.now smooth.now label_costs.now pairs.now labels.old)
+        IsMoveRefusalTold (call_arrays label_count data.now smooth.now label_costs.now
+        pairs.now labels.old)
         (Swap alpha beta) result outcome.new }
 {
     let change = Move::Swap(alpha, beta);
@@ -133,7 +136,8 @@ fn make(
         change labels.new outcome.new }
     ensures unchanged { result ≢ 0 → labels.new ≡ labels.old }
     ensures refused { result ≢ 0 →
-        IsMoveRefusalTold (call_arrays label_count data.now smooth.now label_costs.now pairs.now labels.old)
+        IsMoveRefusalTold (call_arrays label_count data.now smooth.now label_costs.now
+        pairs.now labels.old)
         change result outcome.new }
 {
     match move_call(
@@ -169,7 +173,8 @@ fn move_call(
     ensures given { IfOk result (λ _.
         IsGiven (call_arrays labels data.now smooth.now label_costs.now given.now at.now)) }
     ensures moved { IfOk result (λ moved.
-        IsMovedTo (instance_given (call_arrays labels data.now smooth.now label_costs.now given.now at.now))
+        IsMovedTo (instance_given
+        (call_arrays labels data.now smooth.now label_costs.now given.now at.now))
         change at.now (Ok moved)) }
     ensures sized { IfOk result (λ moved. length moved.labelling.at ≡ length at.now) }
     ensures refused { IfErr result
@@ -281,7 +286,8 @@ fn make_move<F: Fn(u32, u32) -> i64 + Sync, V: Fn(u32, u32) -> i64 + Sync>(
 /// Tells where a move ended, and nothing else.
 fn tell_move(outcome: &mut GcoOutcome, moved: &Moved)
     ensures { outcome.new
-        ≡ move_told (outcome_of_parts moved.now.«data» moved.now.smooth moved.now.label) moved.now.changed }
+        ≡ move_told (outcome_of_parts moved.now.«data» moved.now.smooth moved.now.label)
+        moved.now.changed }
 {
     *outcome = GcoOutcome {
         data: moved.data,

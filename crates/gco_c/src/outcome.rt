@@ -18,8 +18,8 @@ pub struct GcoOutcome {
     pub label: i64,
     /// The place that a refusal names.
     pub place: u64,
-    /// Where a bound is known, `vmin` times the energy is at most twice `vmax` times that of any labelling; else 0
-    /// and 0.
+    /// Where a bound is known, `vmin` times the energy is at most twice `vmax` times that of any
+    /// labelling; else 0 and 0.
     pub vmin: u64,
     pub vmax: u64,
     /// How many cycles there were.

@@ -4,7 +4,8 @@ ghost use Rattle.gco_c.specs.Statuses.{fixed_numbers, fixed_of, labels_of, told_
 
 use regular::Fixed;
 
-/// Why a call was refused. Pairs, sites, terms and entries go by their place in the array that was given, from 0.
+/// Why a call was refused. Pairs, sites, terms and entries go by their place in the array that was
+/// given, from 0.
 #[derive(Clone, Copy)]
 pub(crate) enum Refusal {
     /// Memory was refused.
@@ -104,7 +105,8 @@ impl Refusal {
         }
     }
 
-    /// The labels of the move that it tells: twice the same of an expansion, and 0 and 0 of no move.
+    /// The labels of the move that it tells: twice the same of an expansion, and 0 and 0 of no
+    /// move.
     pub(crate) fn labels(self) -> (u32, u32)
         ensures { result ≡ labels_of self }
     {

@@ -9,7 +9,8 @@ use crate::refusal::Refusal;
 use pseudo_bool::{Energy, EnergyError};
 use std::alloc::Global;
 
-/// A term of one variable, as C hands it over: its numbers where the variable is 0 and where it is 1.
+/// A term of one variable, as C hands it over: its numbers where the variable is 0 and where it is
+/// 1.
 #[repr(C)]
 #[derive(Clone, Copy)]
 pub struct GcoOne {
@@ -31,7 +32,8 @@ pub struct GcoTwo {
     pub at11: i64,
 }
 
-/// A term of three variables, as C hands it over: its numbers at 000, 001, 010, 011, 100, 101, 110 and 111.
+/// A term of three variables, as C hands it over: its numbers at 000, 001, 010, 011, 100, 101, 110
+/// and 111.
 #[repr(C)]
 #[derive(Clone, Copy)]
 pub struct GcoThree {
@@ -49,8 +51,8 @@ pub struct GcoThree {
     pub at111: i64,
 }
 
-/// The energy of so many variables, the constant and the terms that were given: those of one variable, then those of
-/// two, then those of three.
+/// The energy of so many variables, the constant and the terms that were given: those of one
+/// variable, then those of two, then those of three.
 pub(crate) fn energy_of(
     alloc: Global,
     variables: u32,
@@ -82,7 +84,8 @@ fn add_constant(energy: &mut Energy, constant: i64) -> Result<(), Refusal>
     requires { energy.old.constant ≡ pos 0 }
     ensures added { OnOk result (energy.new ≡ record energy.old { constant = constant }) }
     ensures ok { OnOk result (IsValue constant) }
-    ensures refused { IfErr result (λ refusal. (refusal ≡ Refusal.ConstantRange) × ¬ IsValue constant) }
+    ensures refused { IfErr result
+        (λ refusal. (refusal ≡ Refusal.ConstantRange) × ¬ IsValue constant) }
 {
     match energy.add_constant(constant) {
         Ok(()) => Ok(()),

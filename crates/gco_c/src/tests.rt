@@ -59,8 +59,8 @@ fn no_outcome() -> GcoOutcome {
     }
 }
 
-/// Whether this and no more is told: the parts of the energy; place and bound; cycles, settled, changed and the labels of
-/// a move.
+/// Whether this and no more is told: the parts of the energy; place and bound; cycles, settled,
+/// changed and the labels of a move.
 fn tells(told: &GcoOutcome, parts: [i64; 3], place: [u64; 3], rest: [u32; 5]) -> bool {
     [told.data, told.smooth, told.label] == parts
         && [told.place, told.vmin, told.vmax] == place
@@ -157,8 +157,8 @@ fn single_moves(rt: HostRuntime) -> Result<(), Fail> {
     Ok(())
 }
 
-/// Two sites at 0 and 2 whose difference costs its square: the expansion of 1 has a term that is not regular, which
-/// names that move. A second pair of one site alone is refused by its place.
+/// Two sites at 0 and 2 whose difference costs its square: the expansion of 1 has a term that is
+/// not regular, which names that move. A second pair of one site alone is refused by its place.
 #[test]
 fn refused_calls(rt: HostRuntime) -> Result<(), Fail> {
     let mut pairs = [
@@ -209,8 +209,8 @@ fn refused_calls(rt: HostRuntime) -> Result<(), Fail> {
     Ok(())
 }
 
-/// The three variables of a term that costs 3 unless all are 1, beside terms that cost 2 where the first is 1, and 4
-/// where the last two differ: all 1 costs 2 and the constant 10.
+/// The three variables of a term that costs 3 unless all are 1, beside terms that cost 2 where the
+/// first is 1, and 4 where the last two differ: all 1 costs 2 and the constant 10.
 #[test]
 fn three_variables(rt: HostRuntime) -> Result<(), Fail> {
     let ones = [GcoOne {

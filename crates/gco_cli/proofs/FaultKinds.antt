@@ -1,4 +1,5 @@
--- Of which kind the program's faults are: those of the libraries are no writer's and of no option, and one alone is a reader's.
+-- Of which kind the program's faults are: those of the libraries are no writer's and of no option,
+-- and one alone is a reader's.
 use Rattle.std.proofs.Common.{◌≡◌, ◌⊎◌, inl, inr, ℕ, false, List, refl, sym, ◌∙◌, ap, subst}
 use Rattle.byte_streams.specs.Input.{IsReadRefusal, is_fault}
 use Rattle.byte_streams.specs.declared.input.ReadError.{ReadError}

@@ -94,7 +94,8 @@ stopped o bytes source old new stop fault job is of stops tells =
       (stop, tells, stops.took),
     )
 
--- a refusal of the command leaves what it must: nothing was written, and the fault is one of the input, or the sink failed
+-- a refusal of the command leaves what it must: nothing was written, and the fault is one of the
+-- input, or the sink failed
 pub refuses : (cut : SolveError → Type 0) (o : PictureOptions) (bytes : List ℕ) (source old new : Stream)
     (e : VisionError) (fault : Fault) → IsInput bytes source
     → LeavesWriter (IsPictureJob o bytes) (HasPictureError cut o bytes) old new e

@@ -16,9 +16,11 @@ digits_text bits = (if length bits == 0 then [] else codes " ") ++ map digit_cod
 -- the two lines of an answer
 abbrev pub answer_text : ℤ → List Bool → List ℕ
 answer_text minimum bits =
-    codes "minimum " ++ signed_decimal minimum ++ codes "\nassignment" ++ digits_text bits ++ codes "\n"
+    codes "minimum " ++ signed_decimal minimum ++ codes "\nassignment"
+    ++ digits_text bits ++ codes "\n"
 
--- the text tells the least value of the energy, and of the least assignments the one with the fewest ones
+-- the text tells the least value of the energy, and of the least assignments the one with the
+-- fewest ones
 pub record AnswersEnergy (e : Energy) (text : List ℕ) : Type 0 where
   pub bits : List Bool
   pub count : length bits ≡ e.variables

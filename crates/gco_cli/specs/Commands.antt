@@ -36,8 +36,10 @@ abbrev pub IsDueFor : Task → Stream → List ℕ → List ℕ → Type 0
 IsDueFor task source text said = OfSomeInput source (λ input. IsAnswer task input text said)
 
 abbrev pub IsFaultFor : (SolveError → Type 0) → Task → Stream → Fault → Type 0
-IsFaultFor refuses task source fault = OfSomeInput source (λ input. HasFaultFor refuses task input fault)
+IsFaultFor refuses task source fault =
+    OfSomeInput source (λ input. HasFaultFor refuses task input fault)
 
 -- and for what is asked for
 abbrev pub StandsForAsked : Request → Stream → Fault → Type 0
-StandsForAsked request source fault = IsFaultFor (cuts_refuse request.workers) request.task source fault
+StandsForAsked request source fault =
+    IsFaultFor (cuts_refuse request.workers) request.task source fault

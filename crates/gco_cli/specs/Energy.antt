@@ -28,10 +28,12 @@ HasFileFault input fault = TellsError read_fault (IsReadRefusal input) fault
 abbrev pub IsCutFault : (SolveError → Type 0) → Fault → Type 0
 IsCutFault refuses fault = (fault ≡ OutOfMemory) ⊎ TellsError cut_fault refuses fault
 
--- the energy has no answer: a term is not regular, the first such term; or all are regular, and the cut was refused
+-- the energy has no answer: a term is not regular, the first such term; or all are regular, and the
+-- cut was refused
 abbrev pub IsUnsolved : (SolveError → Type 0) → Energy → Fault → Type 0
 IsUnsolved refuses e fault =
-    ((failing : NotRegular) × IsFirstFailing e failing.term failing.fixed × (fault ≡ TermNotRegular failing))
+    ((failing : NotRegular) × IsFirstFailing e failing.term failing.fixed
+    × (fault ≡ TermNotRegular failing))
     ⊎ (IsRegular e × IsCutFault refuses fault)
 
 -- the fault that the input has: one of its reading, or the energy that it names has no answer

@@ -18,9 +18,11 @@ bit_text true = codes "1"
 -- which projection of a term failed, where it was one of a term of three
 abbrev pub fixed_words : Option Fixed → List ℕ
 fixed_words None = []
-fixed_words (Some fixed) = codes " fixed " ++ decimal fixed.position ++ codes " at " ++ bit_text fixed.value
+fixed_words (Some fixed) =
+    codes " fixed " ++ decimal fixed.position ++ codes " at " ++ bit_text fixed.value
 
--- a cost out of its range: a label goes by its number, another cost by its place in the list of its field
+-- a cost out of its range: a label goes by its number, another cost by its place in the list of its
+-- field
 abbrev pub cost_words : LabelKey → ℕ → List ℕ
 cost_words LabelCosts label = codes "label " ++ decimal label
 cost_words key place = label_field_name key ++ codes " " ++ decimal place
@@ -32,7 +34,8 @@ beta_words (Some beta) = codes " beta " ++ decimal beta
 
 -- a pair that is not regular in a move of one label or of two
 abbrev pub move_words : ℕ → ℕ → Option ℕ → List ℕ
-move_words pair alpha beta = codes "24 pair " ++ decimal pair ++ codes " alpha " ++ decimal alpha ++ beta_words beta
+move_words pair alpha beta =
+    codes "24 pair " ++ decimal pair ++ codes " alpha " ++ decimal alpha ++ beta_words beta
 
 -- the option whose value is no name that it takes
 abbrev pub option_words : OptionName → List ℕ
@@ -63,7 +66,8 @@ fault_words (SameVariable term) = codes "17 term " ++ decimal term
 fault_words (ValueRange term) = codes "18 term " ++ decimal term
 fault_words ConstantRange = codes "18 constant"
 fault_words TooManyTerms = codes "19"
-fault_words (TermNotRegular failing) = codes "20 term " ++ decimal failing.term ++ fixed_words failing.fixed
+fault_words (TermNotRegular failing) =
+    codes "20 term " ++ decimal failing.term ++ fixed_words failing.fixed
 fault_words Workers = codes "22"
 fault_words BadOptions = codes "23"
 fault_words (PairNotRegular pair alpha beta) = move_words pair alpha beta
@@ -72,9 +76,11 @@ fault_words (BadSeed index) = codes "26 sample " ++ decimal index
 fault_words LabelCostInSwap = codes "27"
 fault_words BadToml = codes "28"
 fault_words (BadEnergyField key) = codes "29 " ++ field_name key
-fault_words (BadEnergyElement key place) = codes "29 " ++ field_name key ++ codes " " ++ decimal place
+fault_words (BadEnergyElement key place) =
+    codes "29 " ++ field_name key ++ codes " " ++ decimal place
 fault_words (BadLabelField key) = codes "29 " ++ label_field_name key
-fault_words (BadLabelElement key place) = codes "29 " ++ label_field_name key ++ codes " " ++ decimal place
+fault_words (BadLabelElement key place) =
+    codes "29 " ++ label_field_name key ++ codes " " ++ decimal place
 fault_words (BadOption option) = option_words option
 fault_words TooManyLevels = codes "30"
 fault_words ReadFailed = codes "31"

@@ -1,4 +1,5 @@
--- What the libraries refuse, as the program tells it: each case by itself, and memory as memory, whoever asked for it.
+-- What the libraries refuse, as the program tells it: each case by itself, and memory as memory,
+-- whoever asked for it.
 use Rattle.std.specs.Prelude.{◌≡◌}
 use Rattle.byte_streams.specs.declared.input.ReadError.{ReadError}
 use Rattle.byte_streams.specs.declared.input.ReadError.TheVariants as read

@@ -34,16 +34,18 @@ parts_of run = record {
 -- the energy with its parts, the label of each site, and the bound where it is asked for
 abbrev pub run_text : Bool → Bool → Run → List ℕ
 run_text tells asked run =
-    energy_words tells (parts_of run) ++ codes "\nlabels" ++ numbers_text run.labelling.at ++ codes "\n"
+    energy_words tells (parts_of run) ++ codes "\nlabels"
+    ++ numbers_text run.labelling.at ++ codes "\n"
     ++ bound_line asked run.bound
 
 -- the input is not too long, names this problem, and states it
 abbrev pub HoldsProblem : List ℕ → Problem → Type 0
 HoldsProblem input p =
-    (length input ≤ input_limit) × IsUtf8 input × (problem_in input ≡ Ok p) × TextStatesProblem input p
+    (length input ≤ input_limit) × IsUtf8 input × (problem_in input ≡ Ok p)
+    × TextStatesProblem input p
 
--- the text tells where a run of the problem's moves from its start ends: the part of the labels where the problem has
--- costs of labels, and the bound where it is asked for
+-- the text tells where a run of the problem's moves from its start ends: the part of the labels
+-- where the problem has costs of labels, and the bound where it is asked for
 pub record AnswersProblem (p : Problem) (asked : Bool) (text : List ℕ) : Type 0 where
   pub run : Run
   pub ended : AnswersRun (instance_named p) p.moves p.cycles p.start.at (Ok run)
@@ -59,8 +61,8 @@ HasProblemFault input label.OutOfMemory = ⊤
 HasProblemFault input label.BadToml = IsUtf8 input → problem_in input ≡ Err label.BadToml
 HasProblemFault input fault = IsUtf8 input × (problem_in input ≡ Err fault)
 
--- a run of the problem's moves from its start has this fault: memory may always be refused, and a move for a pair or
--- for its cut
+-- a run of the problem's moves from its start has this fault: memory may always be refused, and a
+-- move for a pair or for its cut
 abbrev pub IsRunFault : (SolveError → Type 0) → Problem → Fault → Type 0
 IsRunFault refuses p fault = (fault ≡ OutOfMemory)
     ⊎ ((error : MoveError) × IsRunRefusal refuses error

@@ -14,8 +14,8 @@ energy_words tells parts =
     codes "energy " ++ decimal parts.whole ++ codes " data " ++ decimal parts.sites
     ++ codes " smooth " ++ decimal parts.pairs ++ label_words tells parts.labels
 
--- how near the energy is to the least, where it is known: the first number times it is at most the second times
--- that of any labelling
+-- how near the energy is to the least, where it is known: the first number times it is at most the
+-- second times that of any labelling
 abbrev pub near_words : Option Bound → List ℕ
 near_words None = codes "none"
 near_words (Some bound) = decimal bound.vmin ++ codes " " ++ decimal (2 * bound.vmax)

@@ -38,11 +38,12 @@ report_parts report = record {
 
 -- the line of an energy and its parts, and that of the bound where it is asked for
 abbrev pub picture_lines : Bool → Bool → Parts → Option Bound → List ℕ
-picture_lines tells asked parts bound = energy_words tells parts ++ codes "\n" ++ bound_line asked bound
+picture_lines tells asked parts bound =
+    energy_words tells parts ++ codes "\n" ++ bound_line asked bound
 
--- the text is the picture of the labels where the chain of the job ends, and what is said beside it tells
--- their energy, the part of the labels where it is to be told, and where that is asked for how near the energy is to the
--- least
+-- the text is the picture of the labels where the chain of the job ends, and what is said beside it
+-- tells their energy, the part of the labels where it is to be told, and where that is asked for
+-- how near the energy is to the least
 pub record AnswersJob (tells : Bool) (job : Job) (text said : List ℕ) : Type 0 where
   pub labels : List ℕ
   pub ends : EndsAt job labels
@@ -63,7 +64,8 @@ HasPictureError refuses (Restore o) input error = HasRestoreError refuses o inpu
 HasPictureError refuses (Stereo o) input error = HasStereoError refuses o input error
 HasPictureError refuses (Segment o) input error = HasSegmentError refuses o input error
 
--- whether the part of the labels is to be told: where restoring is asked for with a cost of the labels
+-- whether the part of the labels is to be told: where restoring is asked for with a cost of the
+-- labels
 abbrev pub tells_labels : PictureOptions → Bool
 tells_labels (Restore o) = is_some o.label_cost
 tells_labels (Stereo o) = false
@@ -78,9 +80,11 @@ asks_bound (Segment o) = false
 -- the text is the answer to the job that the pictures of the input name
 abbrev pub AnswersPicture : PictureOptions → List ℕ → List ℕ → List ℕ → Type 0
 AnswersPicture o input text said =
-    (length input ≤ input_limit) × ((job : Job) × IsPictureJob o input job × AnswersJob (tells_labels o) job text said)
+    (length input ≤ input_limit)
+    × ((job : Job) × IsPictureJob o input job × AnswersJob (tells_labels o) job text said)
 
 -- the fault that the input has: it was not read, or its pictures have it
 abbrev pub HasPictureFault : (SolveError → Type 0) → PictureOptions → List ℕ → Fault → Type 0
 HasPictureFault refuses o input fault = TellsError read_fault (IsReadRefusal input) fault
-    ⊎ ((length input ≤ input_limit) × TellsError picture_fault (HasPictureError refuses o input) fault)
+    ⊎ ((length input ≤ input_limit)
+    × TellsError picture_fault (HasPictureError refuses o input) fault)

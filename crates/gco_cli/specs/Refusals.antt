@@ -16,7 +16,8 @@ IsRefusalFor words source source_new sink sink_new (Fault fault) =
     Refuses (IsDue words source) (IsFaultOf words source) sink sink_new fault
     × LeavesSource source source_new fault
 IsRefusalFor words source source_new sink sink_new (Words text) =
-    IsNoTaskFor words (Refused text) × (source_new ≡ source) × (sink_new ≡ sink) × (0 < length (string_bytes text))
+    IsNoTaskFor words (Refused text) × (source_new ≡ source) × (sink_new ≡ sink)
+    × (0 < length (string_bytes text))
 
 -- this help, which is not empty, and nothing is said beside it
 abbrev pub TellsHelp : List ℕ → List ℕ → List ℕ → Type 0
@@ -39,7 +40,8 @@ abbrev pub IsRefusalOf : NoTask → Stream → Stream → Refusal → Type 0
 IsRefusalOf OutOfMemory old new refusal = (refusal ≡ Fault fault.OutOfMemory) × (new ≡ old)
 IsRefusalOf (Help text) old new refusal = IsCutHelp (string_bytes text) old new refusal
 IsRefusalOf (Refused text) old new refusal = (refusal ≡ Words text) × (new ≡ old)
-IsRefusalOf (BadOption option) old new refusal = (refusal ≡ Fault (fault.BadOption option)) × (new ≡ old)
+IsRefusalOf (BadOption option) old new refusal =
+    (refusal ≡ Fault (fault.BadOption option)) × (new ≡ old)
 
 -- what is said of a refusal: the line of its fault, or the text that the words were refused with
 abbrev pub SaysRefusal : Stream → Stream → Refusal → Type 0

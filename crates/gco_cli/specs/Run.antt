@@ -14,14 +14,14 @@ use Rattle.gco_cli.specs.declared.fault.Fault.TheVariants.{OutOfMemory, Write, B
 use Rattle.gco_cli.specs.Commands.{IsDueFor, StandsForAsked}
 use Rattle.byte_streams.specs.Streams.{Stream, Stops, Takes, Took, failures_after}
 
--- what a run of these words writes, and says beside it: help that was asked for, which is not empty, or the answer
--- of a command
+-- what a run of these words writes, and says beside it: help that was asked for, which is not
+-- empty, or the answer of a command
 abbrev pub IsDue : List (List ℕ) → Stream → List ℕ → List ℕ → Type 0
 IsDue words source text said = (AsksForHelp words × (0 < length text) × (said ≡ []))
     ⊎ ((request : Request) × Asks words request × IsDueFor request.task source text said)
 
--- the fault is one of a run of these words: memory may always be refused, the words may name a bad option,
--- and a command has its faults
+-- the fault is one of a run of these words: memory may always be refused, the words may name a bad
+-- option, and a command has its faults
 abbrev pub IsFaultOf : List (List ℕ) → Stream → Fault → Type 0
 IsFaultOf words source fault = (fault ≡ OutOfMemory)
     ⊎ (((option : OptionName) × NamesBadOption words option × (fault ≡ BadOption option))
@@ -48,23 +48,27 @@ Writes Due old new said = (text : List ℕ) × Due text said × Takes old new te
 
 -- the sink failed within the text, as the fault says
 abbrev pub IsCutIn : List ℕ → Stream → Stream → Fault → Type 0
-IsCutIn text old new fault = (failed : WriteFailed) × (fault ≡ Write failed) × Stops old new text failed.count
+IsCutIn text old new fault =
+    (failed : WriteFailed) × (fault ≡ Write failed) × Stops old new text failed.count
 
 -- the sink failed within the due text, as the fault says
 abbrev pub IsCut : (List ℕ → List ℕ → Type 0) → Stream → Stream → Fault → Type 0
-IsCut Due old new fault = (text : List ℕ) × (said : List ℕ) × Due text said × IsCutIn text old new fault
+IsCut Due old new fault =
+    (text : List ℕ) × (said : List ℕ) × Due text said × IsCutIn text old new fault
 
 -- nothing was written, and the fault stands; or the sink failed within the due text
-abbrev pub Refuses : (List ℕ → List ℕ → Type 0) → (Fault → Type 0) → Stream → Stream → Fault → Type 0
-Refuses Due Is old new fault = (Is fault × (is_write fault ≡ false) × (new ≡ old)) ⊎ IsCut Due old new fault
+abbrev pub Refuses : (List ℕ → List ℕ → Type 0) → (Fault → Type 0) → Stream
+    → Stream → Fault → Type 0
+Refuses Due Is old new fault =
+    (Is fault × (is_write fault ≡ false) × (new ≡ old)) ⊎ IsCut Due old new fault
 
 -- a call of the source failed on the way, one, exactly where the answer says so
 abbrev pub TellsRead : {T : Type 0} → Stream → Stream → Result T Fault → Type 0
 TellsRead old new (Ok x) = new.failures ≡ old.failures
 TellsRead old new (Err fault) = new.failures ≡ failures_after (is_failed_read fault) old.failures
 
--- in a refused run a call of the source failed exactly where its fault says so, and nothing was read where an option
--- was refused
+-- in a refused run a call of the source failed exactly where its fault says so, and nothing was
+-- read where an option was refused
 pub record LeavesSource (old new : Stream) (fault : Fault) : Type 0 where
   pub failed : new.failures ≡ failures_after (is_failed_read fault) old.failures
   pub unread : is_bad_option fault ≡ true → new ≡ old
@@ -92,7 +96,8 @@ pub record IsRefused (words : List (List ℕ)) (old new : Streams) : Type 0 wher
   pub told : Took old.faults new.faults (fault_line fault)
   pub read : LeavesSource old.source new.source fault
 
--- status 2: the words were refused with a text that is not empty, it was said, and nothing was read or written
+-- status 2: the words were refused with a text that is not empty, it was said, and nothing was read
+-- or written
 pub record IsRejected (words : List (List ℕ)) (old new : Streams) : Type 0 where
   pub text : String Global
   pub refused : IsNoTaskFor words (Refused text)
@@ -113,10 +118,12 @@ pub record IsSaid (old new : Stream) (text : List ℕ) (due status : ℕ) : Type
   pub told : Took old new text
   pub ended : status ≡ due
 
--- The words could not be had, for an error of this kind: one of them is no text, or memory was refused. That was
--- said, and nothing was read or written.
+-- The words could not be had, for an error of this kind: one of them is no text, or memory was
+-- refused. That was said, and nothing was read or written.
 pub record IsUnread (kind : ErrorKind) (old new : Streams) (status : ℕ) : Type 0 where
-  pub no_text : kind ≡ InvalidData → IsSaid old.faults new.faults (codes "error: an argument is not text\n") 2 status
-  pub no_memory : kind ≢ InvalidData → IsSaid old.faults new.faults (fault_line OutOfMemory) 1 status
+  pub no_text : kind ≡ InvalidData
+      → IsSaid old.faults new.faults (codes "error: an argument is not text\n") 2 status
+  pub no_memory : kind ≢ InvalidData
+      → IsSaid old.faults new.faults (fault_line OutOfMemory) 1 status
   pub read : new.source ≡ old.source
   pub written : new.sink ≡ old.sink

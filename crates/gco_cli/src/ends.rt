@@ -9,7 +9,8 @@ use byte_streams::{Sink, put_text};
 
 /// Says what is due at the end of a run, and answers the exit status.
 pub fn say_end<E: Sink>(faults: &mut E, end: Result<Line, Refusal>) -> u8
-    ensures told { MatchResult end (λ said. Took (E.stream faults.old) (E.stream faults.new) said.bytes)
+    ensures told { MatchResult end
+        (λ said. Took (E.stream faults.old) (E.stream faults.new) said.bytes)
         (SaysRefusal (E.stream faults.old) (E.stream faults.new)) }
     ensures status { result ≡ exit_status end }
     ensures kept { E.loan faults.new ≡ E.loan faults.old }

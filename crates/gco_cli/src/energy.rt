@@ -24,8 +24,10 @@ pub fn answer_energy<H: How, R: Source>(
     source: &mut R,
 ) -> Result<Answer, Fault>
     requires { H.ready how.now }
-    ensures due { IfOk result (λ a. IsDueFor EnergyTask (R.stream source.old) a.text.items a.said.bytes) }
-    ensures stands { IfErr result (IsFaultFor (H.refuses how.now) EnergyTask (R.stream source.old)) }
+    ensures due { IfOk result
+        (λ a. IsDueFor EnergyTask (R.stream source.old) a.text.items a.said.bytes) }
+    ensures stands { IfErr result
+        (IsFaultFor (H.refuses how.now) EnergyTask (R.stream source.old)) }
     ensures read { TellsRead (R.stream source.old) (R.stream source.new) result }
 {
     let energy = read_problem(alloc, source)?;

@@ -4,8 +4,8 @@ use command_line::OptionName;
 use problem_files::{EnergyKey, LabelKey};
 use regular::NotRegular;
 
-/// Why a run was refused: one case for each line that says so. Terms, pairs, sites and samples go by their index from 0,
-/// bytes are counted from the first one of the input.
+/// Why a run was refused: one case for each line that says so. Terms, pairs, sites and samples go
+/// by their index from 0, bytes are counted from the first one of the input.
 #[derive(Clone, Copy, Drop)]
 pub enum Fault {
     /// Memory was refused, whoever asked for it.
@@ -74,7 +74,8 @@ pub enum Fault {
     BadEnergyField(EnergyKey),
     /// The element at this place of a field's list has another shape.
     BadEnergyElement(EnergyKey, usize),
-    /// A field of the file of a problem of labels is missing, has another kind or length, or is out of its range.
+    /// A field of the file of a problem of labels is missing, has another kind or length, or is out
+    /// of its range.
     BadLabelField(LabelKey),
     /// The element at this place of a field's list has another kind or shape.
     BadLabelElement(LabelKey, usize),

@@ -74,7 +74,8 @@ fn push_words(line: &mut Line, fault: Fault)
     }
 }
 
-// A cost out of its range: a label goes by its number, another cost by its place in the list of its field.
+// A cost out of its range: a label goes by its number, another cost by its place in the list of its
+// field.
 fn push_cost(line: &mut Line, key: LabelKey, place: usize)
     requires { array_string_len line.old ≤ 60 }
     ensures bytes { line.new.bytes ≡ line.old.bytes ++ codes "15 " ++ cost_words key place }
@@ -111,10 +112,12 @@ fn push_field(line: &mut Line, number: &str, name: &str)
     line.push_str(name);
 }
 
-// A term that is not regular, and which projection of it failed, where it was one of a term of three.
+// A term that is not regular, and which projection of it failed, where it was one of a term of
+// three.
 fn push_term(line: &mut Line, term: usize, fixed: Option<Fixed>)
     requires { array_string_len line.old ≤ 60 }
-    ensures bytes { line.new.bytes ≡ line.old.bytes ++ codes "20 term " ++ decimal term ++ fixed_words fixed }
+    ensures bytes { line.new.bytes
+        ≡ line.old.bytes ++ codes "20 term " ++ decimal term ++ fixed_words fixed }
     ensures len { array_string_len line.new ≤ array_string_len line.old + 130 }
 {
     push_numbered(line, "20 term ", term);

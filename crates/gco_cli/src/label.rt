@@ -37,7 +37,8 @@ pub fn answer_label<H: How, R: Source>(
     requires { H.ready how.now }
     ensures due { IfOk result (λ a.
         IsDueFor (LabelTask bound) (R.stream source.old) a.text.items a.said.bytes) }
-    ensures stands { IfErr result (IsFaultFor (H.refuses how.now) (LabelTask bound) (R.stream source.old)) }
+    ensures stands { IfErr result
+        (IsFaultFor (H.refuses how.now) (LabelTask bound) (R.stream source.old)) }
     ensures read { TellsRead (R.stream source.old) (R.stream source.new) result }
 {
     let problem = read_problem(alloc, source)?;
@@ -87,7 +88,8 @@ fn answer_problem<H: How>(
 fn run_named<H: How>(alloc: Global, problem: LabelProblem, how: &H) -> Result<Run, MoveError>
     requires limits { IsInLimits (problem_view problem) }
     requires ready { H.ready how.now }
-    ensures run { AnswersRun (instance_named (problem_view problem)) problem.moves problem.cycles problem.start.at
+    ensures run { AnswersRun (instance_named (problem_view problem))
+        problem.moves problem.cycles problem.start.at
         result }
     ensures refused { IfErr result (IsRunRefusal (H.refuses how.now)) }
     ensures sized { IfOk result (IsRunInRange problem.start) }

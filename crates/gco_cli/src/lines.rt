@@ -23,8 +23,8 @@ pub struct Parts {
     pub labels: u64,
 }
 
-/// What is said beside a picture: the line of its energy, in which the cost of the labels by themselves stands where it
-/// is to be told, and the line of the bound where that is asked for.
+/// What is said beside a picture: the line of its energy, in which the cost of the labels by
+/// themselves stands where it is to be told, and the line of the bound where that is asked for.
 pub fn report_lines(report: &Report, tells: bool, asked: bool) -> Line
     requires { IfSome report.now.bound (λ bound. bound.vmax ≤ greatest_smooth_cost) }
     ensures { result.bytes ≡ picture_lines tells asked (report_parts report.now) report.now.bound }

@@ -56,7 +56,8 @@ fn run_picture<H: How, W: Sink>(
     ensures done { IfOk result (λ report. (job : Job) × IsPictureJob options.now input.now job
         × WritesPicture job (W.stream sink.old) (W.stream sink.new) report) }
     ensures refused { IfErr result (LeavesWriter (IsPictureJob options.now input.now)
-        (HasPictureError (H.refuses how.now) options.now input.now) (W.stream sink.old) (W.stream sink.new)) }
+        (HasPictureError (H.refuses how.now) options.now input.now) (W.stream sink.old)
+        (W.stream sink.new)) }
     ensures unchanged { IfErr result (λ e. (¬ IsWrite e) → sink.new ≡ sink.old) }
     ensures kept { W.loan sink.new ≡ W.loan sink.old }
 {

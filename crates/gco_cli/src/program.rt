@@ -13,9 +13,9 @@ use std::sync::Wait;
 use std::thread::Threads;
 use std::{env, io};
 
-/// One run of the program: `run_words` over the words that the system gives and its standard streams, which are
-/// watched. What the system gives and takes is in no clause, so that this has none; that all words that it gives come
-/// to the run is one (`all_of`).
+/// One run of the program: `run_words` over the words that the system gives and its standard
+/// streams, which are watched. What the system gives and takes is in no clause, so that this has
+/// none; that all words that it gives come to the run is one (`all_of`).
 pub fn run_program<
     A: AllocGlobal + Env + Threads + Wait + Sync,
     R: Read + Drop,
@@ -32,7 +32,8 @@ pub fn run_program<
     ExitCode::from(run_words(rt, words, &mut source, &mut sink, &mut faults))
 }
 
-// The words of the command line. The error's kind is `InvalidData` where one is not text; else memory was refused.
+// The words of the command line. The error's kind is `InvalidData` where one is not text; else
+// memory was refused.
 fn words_of(rt: &(impl Env + AllocGlobal)) -> io::Result<Vec<String>> {
     match env::args(rt) {
         Ok(words) => Ok(all_of(rt.alloc(), words)?),

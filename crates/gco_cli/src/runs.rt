@@ -149,7 +149,8 @@ fn run_by_workers<A: Threads + Wait + Sync, R: Source, W: Sink>(
     ensures done { IfOk result (λ said. Writes (IsDueFor task (R.stream source.old))
         (W.stream sink.old) (W.stream sink.new) said.bytes) }
     ensures refused { IfErr result (Refuses (IsDueFor task (R.stream source.old))
-        (IsFaultFor (MayFailToSolve options) task (R.stream source.old)) (W.stream sink.old) (W.stream sink.new)) }
+        (IsFaultFor (MayFailToSolve options) task (R.stream source.old)) (W.stream sink.old)
+        (W.stream sink.new)) }
     ensures read { TellsRead (R.stream source.old) (R.stream source.new) result }
     ensures kept { W.loan sink.new ≡ W.loan sink.old }
 {

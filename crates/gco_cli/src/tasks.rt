@@ -30,7 +30,8 @@ pub fn run_task<H: How, R: Source, W: Sink>(
     ensures done { IfOk result (λ said. Writes (IsDueFor task (R.stream source.old))
         (W.stream sink.old) (W.stream sink.new) said.bytes) }
     ensures refused { IfErr result (Refuses (IsDueFor task (R.stream source.old))
-        (IsFaultFor (H.refuses how.now) task (R.stream source.old)) (W.stream sink.old) (W.stream sink.new)) }
+        (IsFaultFor (H.refuses how.now) task (R.stream source.old)) (W.stream sink.old)
+        (W.stream sink.new)) }
     ensures read { TellsRead (R.stream source.old) (R.stream source.new) result }
     ensures kept { W.loan sink.new ≡ W.loan sink.old }
 {

@@ -11,8 +11,8 @@ use crate::fault_line::line_of;
 use byte_streams::Sink;
 use std::io::ErrorKind;
 
-/// Says why the words could not be had, and answers the exit status: an argument is not text where the kind is
-/// `InvalidData`, and else memory was refused.
+/// Says why the words could not be had, and answers the exit status: an argument is not text where
+/// the kind is `InvalidData`, and else memory was refused.
 pub fn refuse_unread<E: Sink>(kind: ErrorKind, faults: &mut E) -> u8
     ensures no_text { kind ≡ InvalidData
         → IsSaid (E.stream faults.old) (E.stream faults.new)

@@ -41,7 +41,8 @@ steps8 =
 -- a step from a column and a row stays in the image
 abbrev pub stays : ℕ → ℕ → ℕ → ℕ → Step → Bool
 stays width height x y step =
-    nat_le step.left x && nat_lt (x + step.right) (width + step.left) && nat_lt (y + step.down) height
+    nat_le step.left x && nat_lt (x + step.right) (width + step.left)
+    && nat_lt (y + step.down) height
 
 -- the site where a step from a column and a row ends
 abbrev pub step_end : ℕ → ℕ → ℕ → Step → ℕ
@@ -71,9 +72,14 @@ pub record AreSmallSteps (steps : List Step) : Type 0 where
 -- the pair of a site with the site where a step from it ends
 abbrev pub pair_to : ℕ → ℕ → ℕ → Step → Pair
 pair_to width weight site step =
-    record { first = site; second = step_end width (column width site) (row width site) step; weight = weight }
+    record {
+      first = site;
+      second = step_end width (column width site) (row width site) step;
+      weight = weight;
+    }
 
--- the pairs of a site with the places of the image where the steps from it end, in the order of the steps
+-- the pairs of a site with the places of the image where the steps from it end, in the order of the
+-- steps
 abbrev pub pairs_of_steps : ℕ → ℕ → ℕ → List Step → ℕ → List Pair
 pairs_of_steps width height weight steps site =
     map
@@ -99,9 +105,10 @@ abbrev pub Touch : ℕ → ℕ → ℕ → Type 0
 Touch width p q =
     (distance (column width p) (column width q) ≤ 1) × (distance (row width p) (row width q) ≤ 1)
 
--- the list has exactly the related pairs of sites, the lower one first, each once, in rising order of the
--- first
-pub record ListsOnce (sites weight : ℕ) (AreRelated : ℕ → ℕ → Type 0) (list : List Pair) : Type 0 where
+-- the list has exactly the related pairs of sites, the lower one first, each once, in rising order
+-- of the first
+pub record ListsOnce (sites weight : ℕ) (AreRelated : ℕ → ℕ → Type 0)
+    (list : List Pair) : Type 0 where
   pub members : (pair : Pair) → Contains list pair
       ↔ ((pair.first < pair.second) × (pair.second < sites) × AreRelated pair.first pair.second
       × (pair.weight ≡ weight))

@@ -1,5 +1,6 @@
--- The greatest numbers of sites, labels and pairs, and the greatest weight. With costs in their limits they
--- keep the energy of every labelling, and all capacities of a move's network together, far below 2^62.
+-- The greatest numbers of sites, labels and pairs, and the greatest weight. With costs in their
+-- limits they keep the energy of every labelling, and all capacities of a move's network together,
+-- far below 2^62.
 use Rattle.std.specs.Prelude.{ℕ}
 
 -- 2^20, one for each pixel of a picture of 1,024 by 1,024
@@ -14,8 +15,8 @@ label_limit = 256
 abbrev pub pair_limit : ℕ
 pair_limit = 4194304
 
--- times a cost of two labels, which is at most 10,000, it is at most 10,000,000, which is also the greatest
--- cost of a label at a site
+-- times a cost of two labels, which is at most 10,000, it is at most 10,000,000, which is also the
+-- greatest cost of a label at a site
 abbrev pub weight_limit : ℕ
 weight_limit = 1000
 

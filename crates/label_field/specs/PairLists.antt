@@ -40,9 +40,11 @@ abbrev pub IsPairRefusal : PairList → ℕ → ℕ → ℤ → LabelFieldError 
 IsPairRefusal pairs first second weight NoSuchSite = (pairs.sites ≤ first) ⊎ (pairs.sites ≤ second)
 IsPairRefusal pairs first second weight SamePair = (first < pairs.sites) × (first ≡ second)
 IsPairRefusal pairs first second weight TooManyPairs =
-    (first < pairs.sites) × (second < pairs.sites) × (first ≢ second) × (pair_limit ≤ length pairs.list)
+    (first < pairs.sites) × (second < pairs.sites) × (first ≢ second)
+    × (pair_limit ≤ length pairs.list)
 IsPairRefusal pairs first second weight WeightRange =
-    (first < pairs.sites) × (second < pairs.sites) × (first ≢ second) × (length pairs.list < pair_limit)
+    (first < pairs.sites) × (second < pairs.sites) × (first ≢ second)
+    × (length pairs.list < pair_limit)
     × (¬ IsWeight weight)
 IsPairRefusal pairs first second weight (OutOfMemory _) = IsPairAccepted pairs first second weight
 IsPairRefusal pairs first second weight NoSuchLabel = ⊥

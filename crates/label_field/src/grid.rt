@@ -12,8 +12,8 @@ use std::alloc::{AllocError, Global};
 /// The greatest width and the greatest height of an image, in pixels; the least is 1.
 pub const SIDE_LIMIT: u32 = 4096;
 
-/// A step from a place of an image to a neighbour that comes after it: so many columns to the right,
-/// less so many to the left, and so many rows down.
+/// A step from a place of an image to a neighbour that comes after it: so many columns to the
+/// right, less so many to the left, and so many rows down.
 #[derive(Clone, Copy)]
 pub(crate) struct Step {
     right: u32,
@@ -96,7 +96,8 @@ fn pair_at(image: Image, site: u32, step: &Step, weight: u32) -> Option<Pair>
     requires site { site < image.width * image.height }
     requires small { IsSmallStep step.now }
     ensures { result ≡ (if stays image.width image.height (column image.width site)
-        (row image.width site) step.now then Some (pair_to image.width weight site step.now) else None) }
+        (row image.width site) step.now then Some
+        (pair_to image.width weight site step.now) else None) }
 {
     let second = step.end(image, site % image.width, site / image.width)?;
     Some(Pair {
@@ -163,10 +164,11 @@ impl Pairs {
             && width * height <= SITE_LIMIT
     }
 
-    /// The pairs of the sites of an image that share an edge, all of one weight, from 0 to `WEIGHT_LIMIT`.
-    /// The site in column x and row y is x + y * width. For each site in rising order comes its pair with the
-    /// one on its right, and then with the one below, where there is one. `Pairs::fits_image` tells whether
-    /// an image may have these sides. Refused for memory alone.
+    /// The pairs of the sites of an image that share an edge, all of one weight, from 0 to
+    /// `WEIGHT_LIMIT`. The site in column x and row y is x + y * width. For each site in rising
+    /// order comes its pair with the one on its right, and then with the one below, where there is
+    /// one. `Pairs::fits_image` tells whether an image may have these sides. Refused for memory
+    /// alone.
     pub fn grid4(alloc: Global, width: u32, height: u32, weight: u32) -> Result<Pairs, AllocError>
         requires image { IsImage width height }
         requires weight { weight ≤ weight_limit }
@@ -178,8 +180,8 @@ impl Pairs {
     }
 
     /// The pairs of the sites of an image that share an edge or a corner, all of one weight. As
-    /// `Pairs::grid4`, and after these two come the pairs of the site with the ones down on the right and
-    /// down on the left, where there is one.
+    /// `Pairs::grid4`, and after these two come the pairs of the site with the ones down on the
+    /// right and down on the left, where there is one.
     pub fn grid8(alloc: Global, width: u32, height: u32, weight: u32) -> Result<Pairs, AllocError>
         requires image { IsImage width height }
         requires weight { weight ≤ weight_limit }

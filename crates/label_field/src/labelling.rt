@@ -7,16 +7,16 @@ use crate::LabelFieldError;
 use std::alloc::{AllocError, Global};
 use std::marker::Model;
 
-/// The greatest number of sites of a labelling or a list of pairs; the least is 0. It is that of the pixels
-/// of a picture of 1,024 by 1,024.
+/// The greatest number of sites of a labelling or a list of pairs; the least is 0. It is that of
+/// the pixels of a picture of 1,024 by 1,024.
 pub const SITE_LIMIT: u32 = 1_048_576;
 
 /// The greatest number of labels of a labelling; the least is 1. A label below it takes one byte.
 pub const LABEL_LIMIT: u32 = 256;
 
-/// A labelling: to each of its sites, numbered from 0, one of its labels, numbered from 0 (Boykov, Veksler,
-/// Zabih 2001, section 1). There are 0 to `SITE_LIMIT` sites and 1 to `LABEL_LIMIT` labels, and these two
-/// numbers stay as they were at the beginning. It keeps one byte a site.
+/// A labelling: to each of its sites, numbered from 0, one of its labels, numbered from 0 (Boykov,
+/// Veksler, Zabih 2001, section 1). There are 0 to `SITE_LIMIT` sites and 1 to `LABEL_LIMIT`
+/// labels, and these two numbers stay as they were at the beginning. It keeps one byte a site.
 #[derive(Drop)]
 pub struct Labelling {
     labels: u32,
@@ -34,16 +34,16 @@ impl Model for Labelling {
 }
 
 impl Labelling {
-    /// Whether a labelling may have these numbers of sites and labels: 0 to `SITE_LIMIT` sites, and 1 to
-    /// `LABEL_LIMIT` labels.
+    /// Whether a labelling may have these numbers of sites and labels: 0 to `SITE_LIMIT` sites, and
+    /// 1 to `LABEL_LIMIT` labels.
     pub fn fits(sites: u32, labels: u32) -> bool
         ensures { IsTrue result ↔ AreSizes sites labels }
     {
         sites <= SITE_LIMIT && 1 <= labels && labels <= LABEL_LIMIT
     }
 
-    /// The labelling that gives each site the label 0. `Labelling::fits` tells whether there is one of these
-    /// sizes. It asks for `sites` bytes of memory, and is refused for that alone.
+    /// The labelling that gives each site the label 0. `Labelling::fits` tells whether there is one
+    /// of these sizes. It asks for `sites` bytes of memory, and is refused for that alone.
     pub fn new(alloc: Global, sites: u32, labels: u32) -> Result<Labelling, AllocError>
         requires { AreSizes sites labels }
         ensures { IfOk result (λ l. l ≡ record { labels = labels; at = replicate sites 0 }) }
@@ -52,8 +52,8 @@ impl Labelling {
         Ok(Labelling { labels, at })
     }
 
-    /// That it is a labelling, told to a proof: it has at most `SITE_LIMIT` sites, 1 to `LABEL_LIMIT` labels, and each site
-    /// one of them. It does nothing.
+    /// That it is a labelling, told to a proof: it has at most `SITE_LIMIT` sites, 1 to
+    /// `LABEL_LIMIT` labels, and each site one of them. It does nothing.
     pub fn keeps(&self)
         ensures { IsLabelField self.now }
     {
@@ -84,8 +84,8 @@ impl Labelling {
         &self.at
     }
 
-    /// The label of a site, or `NoSuchSite` where the site is not below the number of sites. It takes no
-    /// memory.
+    /// The label of a site, or `NoSuchSite` where the site is not below the number of sites. It
+    /// takes no memory.
     pub fn label(&self, site: u32) -> Result<u32, LabelFieldError>
         ensures value { result ≡ ok_or (slice_get self.now.at site) LabelFieldError.NoSuchSite }
         ensures below { IfOk result (λ label. label < self.now.labels) }
@@ -96,15 +96,16 @@ impl Labelling {
         Ok(u32::from(*label))
     }
 
-    /// Gives one site a label, and leaves every other site as it is. It takes no memory. Refused, and nothing
-    /// is changed: `NoSuchSite` where the site is not below the number of sites, and else `NoSuchLabel` where
-    /// the label is not below the number of labels.
+    /// Gives one site a label, and leaves every other site as it is. It takes no memory. Refused,
+    /// and nothing is changed: `NoSuchSite` where the site is not below the number of sites, and
+    /// else `NoSuchLabel` where the label is not below the number of labels.
     pub fn set_label(&mut self, site: u32, label: u32) -> Result<(), LabelFieldError>
         ensures no_site { IsErrOf result LabelFieldError.NoSuchSite ↔ (length self.old.at ≤ site) }
         ensures no_label { IsErrOf result LabelFieldError.NoSuchLabel
             ↔ ((site < length self.old.at) × (self.old.labels ≤ label)) }
         ensures succeeds { IsOk result ↔ ((site < length self.old.at) × (label < self.old.labels)) }
-        ensures ok { OnOk result (self.new ≡ record self.old { at = slice_set self.old.at site label }) }
+        ensures ok { OnOk result (self.new
+            ≡ record self.old { at = slice_set self.old.at site label }) }
         ensures err { OnErr result (self.new ≡ self.old) }
     {
         if site as usize >= self.at.len() {

@@ -1,5 +1,5 @@
-//! Labellings of sites, and lists of weighted pairs of sites, as in an energy of labels over an image
-//! or a graph (Boykov, Veksler, Zabih 2001, section 1).
+//! Labellings of sites, and lists of weighted pairs of sites, as in an energy of labels over an
+//! image or a graph (Boykov, Veksler, Zabih 2001, section 1).
 #![tactic(auto)]
 
 mod error;

@@ -1,7 +1,7 @@
 //! A weighted pair of sites.
 
-/// Two sites, and the weight of their term in the energy (Boykov, Veksler, Zabih 2001, section 1). It takes
-/// 12 bytes.
+/// Two sites, and the weight of their term in the energy (Boykov, Veksler, Zabih 2001, section 1).
+/// It takes 12 bytes.
 #[derive(Clone, Copy, Debug, PartialEq, Eq)]
 pub struct Pair {
     /// The number of the first site, as it was given: it may be above the second.

@@ -8,16 +8,18 @@ use crate::{LabelFieldError, Pair, SITE_LIMIT};
 use std::alloc::Global;
 use std::marker::Model;
 
-/// The greatest number of pairs of a list; the least is 0. It is four for each of `SITE_LIMIT` sites.
+/// The greatest number of pairs of a list; the least is 0. It is four for each of `SITE_LIMIT`
+/// sites.
 pub const PAIR_LIMIT: usize = 4_194_304;
 
-/// The greatest weight of a pair; the least is 0. A weight is the factor of the pair's term in the energy, in
-/// no unit of its own.
+/// The greatest weight of a pair; the least is 0. A weight is the factor of the pair's term in the
+/// energy, in no unit of its own.
 pub const WEIGHT_LIMIT: u32 = 1000;
 
-/// A list of weighted pairs of two unequal sites, in the order in which they were added: the neighbours of an
-/// energy of labels (Boykov, Veksler, Zabih 2001, section 1). A pair may stand in it more than once, and then
-/// counts as often. There are 0 to `SITE_LIMIT` sites, numbered from 0, and 0 to `PAIR_LIMIT` pairs.
+/// A list of weighted pairs of two unequal sites, in the order in which they were added: the
+/// neighbours of an energy of labels (Boykov, Veksler, Zabih 2001, section 1). A pair may stand in
+/// it more than once, and then counts as often. There are 0 to `SITE_LIMIT` sites, numbered from 0,
+/// and 0 to `PAIR_LIMIT` pairs.
 #[derive(Drop)]
 pub struct Pairs {
     sites: u32,
@@ -35,8 +37,8 @@ impl Model for Pairs {
 }
 
 impl Pairs {
-    /// That it is a list of pairs, told to a proof: at most `SITE_LIMIT` sites and `PAIR_LIMIT` pairs, each of two unequal sites
-    /// and of a weight up to `WEIGHT_LIMIT`. It does nothing.
+    /// That it is a list of pairs, told to a proof: at most `SITE_LIMIT` sites and `PAIR_LIMIT`
+    /// pairs, each of two unequal sites and of a weight up to `WEIGHT_LIMIT`. It does nothing.
     pub fn keeps(&self)
         ensures { IsPairList self.now }
     {
@@ -50,8 +52,8 @@ impl Pairs {
         sites <= SITE_LIMIT
     }
 
-    /// No pairs yet, of this many sites. `Pairs::fits` tells whether there may be so many. It takes no
-    /// memory.
+    /// No pairs yet, of this many sites. `Pairs::fits` tells whether there may be so many. It takes
+    /// no memory.
     pub fn new(alloc: Global, sites: u32) -> Pairs
         requires { sites ≤ site_limit }
         ensures { result ≡ record { sites = sites; list = [] } }
@@ -70,9 +72,10 @@ impl Pairs {
     }
 
     /// Adds a pair at the end of the list. Refused, the first that holds, and nothing is changed:
-    /// `NoSuchSite` where one of the two is not below the number of sites, `SamePair` where they are one,
-    /// `TooManyPairs` where there are `PAIR_LIMIT` pairs already, `WeightRange` where the weight is not from
-    /// 0 to `WEIGHT_LIMIT`, and `OutOfMemory` where the list has to grow and cannot.
+    /// `NoSuchSite` where one of the two is not below the number of sites, `SamePair` where they
+    /// are one, `TooManyPairs` where there are `PAIR_LIMIT` pairs already, `WeightRange` where the
+    /// weight is not from 0 to `WEIGHT_LIMIT`, and `OutOfMemory` where the list has to grow and
+    /// cannot.
     pub fn add(&mut self, first: u32, second: u32, weight: i64) -> Result<(), LabelFieldError>
         ensures accepted { OnOk result (IsPairAccepted self.old first second weight) }
         ensures added { OnOk result (self.new ≡ record self.old {
@@ -151,7 +154,10 @@ impl Pairs {
         requires in_list { index < length self.old.list }
         requires in_limit { weight ≤ weight_limit }
         ensures { IfSome (slice_get self.old.list index) (λ pair. self.new
-            ≡ record self.old { list = slice_set self.old.list index (record pair { weight = weight }) }) }
+            ≡ record self.old {
+              list =
+                  slice_set self.old.list index (record pair { weight = weight });
+            }) }
     {
         let pair = &mut self.list[index];
         pair.weight = weight;

@@ -29,7 +29,8 @@ best_again m move f g best = record {
   smallest = λ lower. absurd (omega (arith, lower));
 }
 
--- a label that a move made: the move has the same two labels for it as before, or one at both values
+-- a label that a move made: the move has the same two labels for it as before, or one at both
+-- values
 made_again : (move : Move) (old new : ℕ) → MayBecome move old new
     → ((bit : Bool) → label_after move new bit ≡ label_after move old bit) ⊎ (label_after move new true ≡ label_after move new false)
 made_again (Expand a) old new (inl stays) = inl (λ bit. ap (λ (label : ℕ). cond bit a label) stays)

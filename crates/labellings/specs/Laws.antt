@@ -16,17 +16,20 @@ abbrev pub IsWithinTwice : Instance → ℕ → ℕ → List ℕ → Type 0
 IsWithinTwice m least greatest g =
     (h : ℕ → ℕ) → IsLabelled m h → least * energy m (labelling g) ≤ (2 * greatest) * energy m h
 
--- a settled run of expansions over a metric, where no label costs anything by itself, is within twice the ratio of
--- every labelling (Boykov, Veksler, Zabih, PAMI 2001, theorem 6.1)
+-- a settled run of expansions over a metric, where no label costs anything by itself, is within
+-- twice the ratio of every labelling (Boykov, Veksler, Zabih, PAMI 2001, theorem 6.1)
 abbrev pub SettledIsNear : Type 0
 SettledIsNear =
     (m : Instance) (allowed : ℕ) (f g : List ℕ) (done least greatest : ℕ) → IsInstance m
-    → IsMetric m.labels m.smooth_cost → IsRatio m.labels m.smooth_cost least greatest → AreLabelsFree m
+    → IsMetric m.labels m.smooth_cost → IsRatio m.labels m.smooth_cost least greatest
+    → AreLabelsFree m
     → IsChain m (expansions m.labels) allowed f g done true → IsLabelled m (labelling g)
     → IsWithinTwice m least greatest g
 
 -- in a move over a metric each pair's term is regular
 abbrev pub MetricIsAllowed : Type 0
 MetricIsAllowed =
-    (m : Instance) (move : Move) (f : ℕ → ℕ) (place : ℕ) → IsInstance m → IsMetric m.labels m.smooth_cost
-    → IsMoveOf m.labels move → IsLabelled m f → IsAllowed m move f × (¬ IsFirstIrregular m move f place)
+    (m : Instance) (move : Move) (f : ℕ → ℕ) (place : ℕ) → IsInstance m
+    → IsMetric m.labels m.smooth_cost
+    → IsMoveOf m.labels move → IsLabelled m f
+    → IsAllowed m move f × (¬ IsFirstIrregular m move f place)

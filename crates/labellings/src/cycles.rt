@@ -12,7 +12,8 @@ use crate::Move;
 pub enum Moves {
     /// To each label in rising order: any set of sites may take it.
     Expansion,
-    /// Between each two labels in dictionary order: any set of the sites that have one of them may take the other.
+    /// Between each two labels in dictionary order: any set of the sites that have one of them may
+    /// take the other.
     Swap,
 }
 

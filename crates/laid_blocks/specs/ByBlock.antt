@@ -52,7 +52,8 @@ pub record IsToldFrom (old new : BlocksView) (b : ℕ) : Type 0 where
   pub rest : new ≡ record old { lanes = new.lanes }
   pub forth : length new.lanes.forth ≡ length old.net.arcs
   pub back : length new.lanes.back ≡ length old.net.arcs
-  pub told : (x : Direction) → IsDirection old.net x → core.block_of old.net old.blocks (near old.net x) ≡ b
+  pub told : (x : Direction) → IsDirection old.net x
+      → core.block_of old.net old.blocks (near old.net x) ≡ b
       → core.lane_at new.lanes x ≡ told_lane old x
   pub others : (x : Direction) → IsDirection old.net x
       → (core.block_of old.net old.blocks (near old.net x) ≡ b → ⊥)

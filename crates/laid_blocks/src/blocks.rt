@@ -24,9 +24,10 @@ use std::marker::Model;
 
 /// What the blocks of a net hold of its nodes and of its directions.
 ///
-/// Beside the net that is 48 bytes a node (excess and room 8 each, its two starts and the label 4 each, and 20 for where
-/// it stands in the rows of its block's turns), 40 bytes an arc within a block (of each direction 16, and 4 for its
-/// place), and 104 bytes an arc between two blocks (of each direction 48, and 4 for its place).
+/// Beside the net that is 48 bytes a node (excess and room 8 each, its two starts and the label 4
+/// each, and 20 for where it stands in the rows of its block's turns), 40 bytes an arc within a
+/// block (of each direction 16, and 4 for its place), and 104 bytes an arc between two blocks (of
+/// each direction 48, and 4 for its place).
 #[derive(Drop)]
 pub struct Blocks {
     net: Net,
@@ -119,8 +120,8 @@ fn row(net: &Net, parts: &Parts, direction: Direction) -> (usize, usize)
 }
 
 impl Blocks {
-    /// A net in so many blocks before any flow: what the source can send is excess, and all labels are 0. It takes
-    /// the net over.
+    /// A net in so many blocks before any flow: what the source can send is excess, and all labels
+    /// are 0. It takes the net over.
     pub fn open(alloc: Global, net: Net, blocks: usize) -> Result<Blocks, AllocError>
         requires { CanSplit net blocks }
         ensures first { IfOk result (λ b. b ≡ opening_blocks net blocks) }
@@ -294,13 +295,15 @@ impl Blocks {
     /// Whether excess of an active node can go to the sink, as its block tells.
     pub fn may_give(&self, v: usize) -> bool
         requires { v < nodes self.now.net }
-        ensures { IsTrue result ↔ (0 < slice_index self.now.rooms v) × (slice_index self.now.labels v ≡ 1) }
+        ensures { IsTrue result ↔ (0 < slice_index self.now.rooms v)
+            × (slice_index self.now.labels v ≡ 1) }
     {
         let (block, place) = spot(&self.net, &self.parts, v);
         self.parts.blocks[block].may_give(place)
     }
 
-    /// Whether excess of an active node can go along a direction within its block, as the block tells.
+    /// Whether excess of an active node can go along a direction within its block, as the block
+    /// tells.
     pub fn may_push(&self, direction: Direction) -> bool
         requires direction { IsDirection self.now.net direction }
         requires inner { is_border self.now.net self.now.blocks direction ≡ false }
@@ -313,7 +316,8 @@ impl Blocks {
         self.parts.blocks[block].may_push(place, slot)
     }
 
-    /// Whether excess of an active node can leave along a direction to another block, as the node's block tells.
+    /// Whether excess of an active node can leave along a direction to another block, as the node's
+    /// block tells.
     pub fn may_send(&self, direction: Direction) -> bool
         requires direction { IsDirection self.now.net direction }
         requires border { is_border self.now.net self.now.blocks direction ≡ true }
@@ -339,18 +343,21 @@ impl Blocks {
     pub fn relabel_block(&mut self, block: usize, labels: &[u32])
         requires block { block < self.old.blocks }
         requires len { length labels.now ≡ nodes self.old.net }
-        requires limit { (v : ℕ) → v < nodes self.old.net → slice_index labels.now v ≤ top self.old.net }
+        requires limit { (v : ℕ) → v < nodes self.old.net
+            → slice_index labels.now v ≤ top self.old.net }
         ensures { IsRelabelled self.old self.new block labels.now }
     {
         label_block(&self.net, &mut self.parts, block, labels);
     }
 
-    /// Excess of a node goes to the sink: as much as the node can still give it. Answers that amount.
+    /// Excess of a node goes to the sink: as much as the node can still give it. Answers that
+    /// amount.
     pub fn give(&mut self, v: usize) -> u64
         requires { v < nodes self.old.net }
         ensures given { self.new ≡ blocks_after_sink_push self.old v
             (min (slice_index self.old.excess v) (slice_index self.old.rooms v)) }
-        ensures amount { result ≡ min (slice_index self.old.excess v) (slice_index self.old.rooms v) }
+        ensures amount { result ≡ min (slice_index self.old.excess v)
+            (slice_index self.old.rooms v) }
     {
         let (block, place) = spot(&self.net, &self.parts, v);
         self.parts.blocks[block].give(place)
@@ -366,7 +373,8 @@ impl Blocks {
         self.parts.blocks[block].relabel(place, label);
     }
 
-    /// Excess of the near end goes along a direction within a block to the far end: as much as the direction can carry.
+    /// Excess of the near end goes along a direction within a block to the far end: as much as the
+    /// direction can carry.
     pub fn push(&mut self, direction: Direction)
         requires direction { IsDirection self.old.net direction }
         requires inner { is_border self.old.net self.old.blocks direction ≡ false }
@@ -380,8 +388,8 @@ impl Blocks {
         self.parts.blocks[block].push(place, slot);
     }
 
-    /// Excess of the near end leaves along a direction to another block: as much as the direction can carry. Answers the
-    /// parcel.
+    /// Excess of the near end leaves along a direction to another block: as much as the direction
+    /// can carry. Answers the parcel.
     pub fn send(&mut self, direction: Direction) -> Message
         requires direction { IsDirection self.old.net direction }
         requires border { is_border self.old.net self.old.blocks direction ≡ true }
@@ -399,29 +407,33 @@ impl Blocks {
         self.parts.blocks[block].send(place, slot)
     }
 
-    /// Whether a parcel with a label, along a direction from another block, is to be taken, as the far end's block tells.
+    /// Whether a parcel with a label, along a direction from another block, is to be taken, as the
+    /// far end's block tells.
     pub fn may_accept(&self, direction: Direction, label: u32) -> bool
         requires direction { IsDirection self.now.net direction }
         requires border { is_border self.now.net self.now.blocks direction ≡ true }
-        ensures { IsTrue result ↔ (slice_index self.now.labels (far self.now.net direction) + 1 ≡ label) }
+        ensures { IsTrue result ↔
+            (slice_index self.now.labels (far self.now.net direction) + 1 ≡ label) }
     {
         let (block, slot) = row(&self.net, &self.parts, opposite_of(direction));
         self.parts.blocks[block].may_accept(slot, label)
     }
 
-    /// Whether a parcel with a label, along a direction from another block, is to be sent back, as the far end's block
-    /// tells.
+    /// Whether a parcel with a label, along a direction from another block, is to be sent back, as
+    /// the far end's block tells.
     pub fn may_refuse(&self, direction: Direction, label: u32) -> bool
         requires direction { IsDirection self.now.net direction }
         requires border { is_border self.now.net self.now.blocks direction ≡ true }
-        ensures { IsTrue result ↔ (label ≤ slice_index self.now.labels (far self.now.net direction)) }
+        ensures { IsTrue result ↔
+            (label ≤ slice_index self.now.labels (far self.now.net direction)) }
     {
         let (block, slot) = row(&self.net, &self.parts, opposite_of(direction));
         self.parts.blocks[block].may_refuse(slot, label)
     }
 
-    /// An amount comes along a direction from another block: its far end gets it, and the opposite direction
-    /// learns the label that it was sent by, but not while a parcel of its own is out. Answers that it was taken.
+    /// An amount comes along a direction from another block: its far end gets it, and the opposite
+    /// direction learns the label that it was sent by, but not while a parcel of its own is out.
+    /// Answers that it was taken.
     pub fn accept(&mut self, direction: Direction, amount: u64, label: u32) -> Message
         requires direction { IsDirection self.old.net direction }
         requires border { is_border self.old.net self.old.blocks direction ≡ true }
@@ -436,8 +448,8 @@ impl Blocks {
         self.parts.blocks[block].accept(slot, amount, label)
     }
 
-    /// The answer that a parcel along a direction from another block was not taken: with the label that stands against
-    /// it.
+    /// The answer that a parcel along a direction from another block was not taken: with the label
+    /// that stands against it.
     pub fn refusal(&self, direction: Direction, amount: u64, label: u32) -> Message
         requires direction { IsDirection self.now.net direction }
         requires border { is_border self.now.net self.now.blocks direction ≡ true }

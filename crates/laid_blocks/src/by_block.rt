@@ -10,8 +10,8 @@ use crate::blocks::near_of;
 use block_net::{Parts, opposite_of};
 use flow_network::Net;
 
-/// The label of the far end of the direction at a place of a block, among those to other blocks. The block of the far
-/// end is kept with the direction, so that nothing is divided.
+/// The label of the far end of the direction at a place of a block, among those to other blocks.
+/// The block of the far end is kept with the direction, so that nothing is divided.
 fn far_label(net: &Net, parts: &Parts, block: usize, j: usize) -> u32
     requires laid { IsLaid (whole_of net.now parts.now) }
     requires block { block < length parts.now.blocks.items }
@@ -28,7 +28,8 @@ fn far_label(net: &Net, parts: &Parts, block: usize, j: usize) -> u32
     parts.blocks[to].label(far - parts.firsts[to])
 }
 
-/// The direction at a place of a block, among those to other blocks, knows the label of its far end.
+/// The direction at a place of a block, among those to other blocks, knows the label of its far
+/// end.
 fn tell_border(net: &Net, parts: &mut Parts, block: usize, j: usize)
     requires laid { IsLaid (whole_of net.now parts.old) }
     requires block { block < length parts.old.blocks.items }
@@ -52,13 +53,15 @@ pub fn tell_block(net: &Net, parts: &mut Parts, block: usize)
     }
 }
 
-/// The nodes of a block get the labels that stand at their numbers in the list, by one write of the block's list.
+/// The nodes of a block get the labels that stand at their numbers in the list, by one write of the
+/// block's list.
 pub fn label_block(net: &Net, parts: &mut Parts, block: usize, labels: &[u32])
     requires laid { IsLaid (whole_of net.now parts.old) }
     requires block { block < length parts.old.blocks.items }
     requires len { length labels.now ≡ nodes net.now }
     requires limit { (v : ℕ) → v < nodes net.now → slice_index labels.now v ≤ top net.now }
-    ensures { HasLabelsInBlock (whole_of net.now parts.old) (whole_of net.now parts.new) block labels.now }
+    ensures { HasLabelsInBlock (whole_of net.now parts.old) (whole_of net.now parts.new)
+        block labels.now }
 {
     let nodes = parts.blocks[block].len();
     if nodes == 0 {

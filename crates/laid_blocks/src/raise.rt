@@ -26,8 +26,8 @@ impl Blocks {
         true
     }
 
-    /// The near end of a residual direction gets the label of the far end and 1, where its label is above;
-    /// whether it was.
+    /// The near end of a residual direction gets the label of the far end and 1, where its label is
+    /// above; whether it was.
     fn lower_along(&mut self, direction: Direction) -> bool
         requires { IsDirection self.old.net direction }
         ensures lowered { IsLowered self.old self.new result }
@@ -99,7 +99,8 @@ impl Blocks {
         ensures rest { self.new ≡ record self.old { labels = self.new.labels } }
         ensures long { IsLong self.old }
         ensures len { length self.new.labels ≡ nodes self.old.net }
-        ensures tops { (v : ℕ) → v < nodes self.old.net → slice_index self.new.labels v ≡ top self.old.net }
+        ensures tops { (v : ℕ) → v < nodes self.old.net
+            → slice_index self.new.labels v ≡ top self.old.net }
     {
         let top = self.nodes() as u32 + 2;
         'nodes: for v in 0..self.nodes() {
@@ -107,8 +108,8 @@ impl Blocks {
         }
     }
 
-    /// Each label becomes the exact one, by passes from the top label down until none changes. Takes no
-    /// memory (Bellman 1958; Goldberg, Tarjan 1988, section 2).
+    /// Each label becomes the exact one, by passes from the top label down until none changes.
+    /// Takes no memory (Bellman 1958; Goldberg, Tarjan 1988, section 2).
     fn find_labels(&mut self)
         ensures rest { self.new ≡ record self.old { labels = self.new.labels } }
         ensures exact { AreExact (bare self.old) self.new.labels }
@@ -117,7 +118,8 @@ impl Blocks {
         'passes: while self.lower_all() {}
     }
 
-    /// Each direction to another block knows the label of its far end: one pass over the directions between blocks.
+    /// Each direction to another block knows the label of its far end: one pass over the directions
+    /// between blocks.
     fn tell_all(&mut self)
         ensures { self.new ≡ blocks_with_known_labels self.old }
     {
@@ -129,7 +131,8 @@ impl Blocks {
     /// Each node gets the label that is told, block by block.
     fn set_labels(&mut self, labels: &[u32])
         requires len { length labels.now ≡ nodes self.old.net }
-        requires limit { (v : ℕ) → v < nodes self.old.net → slice_index labels.now v ≤ top self.old.net }
+        requires limit { (v : ℕ) → v < nodes self.old.net
+            → slice_index labels.now v ≤ top self.old.net }
         ensures { self.new ≡ record self.old { labels = labels.now } }
     {
         'each: for block in 0..self.count() {
@@ -137,17 +140,20 @@ impl Blocks {
         }
     }
 
-    /// Each node gets the label that is told, and each direction to another block knows that of its far end.
+    /// Each node gets the label that is told, and each direction to another block knows that of its
+    /// far end.
     pub fn raise_to(&mut self, labels: &[u32])
         requires len { length labels.now ≡ nodes self.old.net }
-        requires limit { (v : ℕ) → v < nodes self.old.net → slice_index labels.now v ≤ top self.old.net }
+        requires limit { (v : ℕ) → v < nodes self.old.net
+            → slice_index labels.now v ≤ top self.old.net }
         ensures { self.new ≡ blocks_with_known_labels (record self.old { labels = labels.now }) }
     {
         self.set_labels(labels);
         self.tell_all();
     }
 
-    /// Each label becomes the exact one, and each direction to another block knows that of its far end.
+    /// Each label becomes the exact one, and each direction to another block knows that of its far
+    /// end.
     pub fn raise(&mut self)
         ensures { (labels : List ℕ) × AreExact (bare self.old) labels
             × (self.new ≡ blocks_with_known_labels (record self.old { labels = labels })) }

@@ -27,8 +27,10 @@ pub struct Minimum {
 /// runs out.
 pub fn minimise(alloc: Global, energy: Regular<'_>) -> Result<Minimum, AllocError>
     ensures count { IfOk result (λ m. length m.assignment.items ≡ energy.entry.variables) }
-    ensures best { IfOk result (λ m. IsSmallestLeastAssignment energy.entry (assignment m.assignment.items)) }
-    ensures value { IfOk result (λ m. m.value ≡ value_at energy.entry (assignment m.assignment.items)) }
+    ensures best { IfOk result
+        (λ m. IsSmallestLeastAssignment energy.entry (assignment m.assignment.items)) }
+    ensures value { IfOk result
+        (λ m. m.value ≡ value_at energy.entry (assignment m.assignment.items)) }
 {
     match minimise_by(alloc, energy, &Alone) {
         Ok(minimum) => Ok(minimum),
@@ -45,8 +47,10 @@ pub fn minimise_by<H: How>(
 ) -> Result<Minimum, SolveError>
     requires { H.ready how.now }
     ensures count { IfOk result (λ m. length m.assignment.items ≡ energy.entry.variables) }
-    ensures best { IfOk result (λ m. IsSmallestLeastAssignment energy.entry (assignment m.assignment.items)) }
-    ensures value { IfOk result (λ m. m.value ≡ value_at energy.entry (assignment m.assignment.items)) }
+    ensures best { IfOk result
+        (λ m. IsSmallestLeastAssignment energy.entry (assignment m.assignment.items)) }
+    ensures value { IfOk result
+        (λ m. m.value ≡ value_at energy.entry (assignment m.assignment.items)) }
     ensures refused { IfErr result (λ e. (e ≡ OutOfMemory) ⊎ H.refuses how.now e) }
 {
     let formula = energy.energy();

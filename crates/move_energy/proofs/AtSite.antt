@@ -75,7 +75,8 @@ parts_by : (list : List Pair) (g : Pair → ℤ) → int_sum_by g list ≡ pos (
 parts_by [] g = omega (arith, ints)
 parts_by (p ∷ ps) g = omega (arith, ints, parts_by ps g, parts (g p), sum_by-cons (λ q. above (g q)) p ps, sum_by-cons (λ q. below (g q)) p ps)
 
--- what is nothing at each pair without an end at the site has the same sum over all pairs and over the site's
+-- what is nothing at each pair without an end at the site has the same sum over all pairs and over
+-- the site's
 pub site_sum : (n site : ℕ) (list : List Pair) (ends : Groups) (g : Pair → ℤ) → All (IsPair n) list → IsGrouped n (pair_ends list) ends → site < n
     → ((pair : Pair) → pair.first ≢ site → pair.second ≢ site → g pair ≡ pos 0)
     → int_sum_by g list ≡ int_sum_below (degree ends site) (λ k. g (pair_of list ends site k))

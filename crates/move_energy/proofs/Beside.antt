@@ -37,7 +37,8 @@ pairs_are_met_once pairs ends chosen value all b =
     ∙ sym (listed_sites_are_summed chosen n met)
     ∙ meetings.pairs_are_met_once n pairs.list (grouped_at ends b.places) chosen value all b.grouped
 
--- what is nothing at each pair without an end at the site has the same sum over all pairs and over the site's
+-- what is nothing at each pair without an end at the site has the same sum over all pairs and over
+-- the site's
 pub site_sum : (pairs : PairList) (ends : Neighbours) (site : ℕ) (g : Pair → ℤ) → All (IsPair pairs.sites) pairs.list → AreBySite pairs ends → site < pairs.sites
     → ((pair : Pair) → pair.first ≢ site → pair.second ≢ site → g pair ≡ pos 0)
     → int_sum_by g pairs.list ≡ int_sum_below (degree ends site) (λ k. g (pair_of ends site k))

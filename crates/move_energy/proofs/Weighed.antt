@@ -1,4 +1,5 @@
--- The form of the weights of the open sites, and what it stands for once the pairs' savings are added.
+-- The form of the weights of the open sites, and what it stands for once the pairs' savings are
+-- added.
 use Rattle.std.proofs.Common.{◌≡◌, ◌==◌, ℕ, zero, suc, ◌+◌, ◌-◌, ◌*◌, ◌<◌, ◌≤◌, Bool, true, false, cond, List, [], ◌∷◌, ◌++◌, length, vec_len, take, get_or, All, map, sum_by, ℤ, pos, ◌+ℤ◌, ◌-ℤ◌, ◌≤ℤ◌, ◌<ℤ◌, unsigned_abs, w64, to_z, of_z, lit<, refl, sym, ap, ◌∙◌, subst, add-one, arith}
 use Rattle.std.specs.Prelude.{◌&&◌, ◌||◌, not, slice_get, Some}
 use Rattle.std.proofs.lemmas.Option.{get_or_from_slice_get}

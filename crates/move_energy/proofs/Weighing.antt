@@ -1,4 +1,5 @@
--- The energy of a partly decided move, from the weights of its open sites and what pairs of two of them save.
+-- The energy of a partly decided move, from the weights of its open sites and what pairs of two of
+-- them save.
 use Rattle.std.proofs.Common.{◌≡◌, ◌≢◌, ℕ, zero, suc, ◌+◌, ◌-◌, ◌<◌, ◌≤◌, ◌==◌, Bool, true, false, List, [], ◌∷◌, ℤ, pos, ◌+ℤ◌, ◌-ℤ◌, refl, sym, ap, ◌∙◌, inl, inr, arith}
 use Rattle.std.specs.Prelude.{◌&&◌, not}
 use Rattle.std.specs.List.{All, sum_by}
@@ -192,7 +193,8 @@ ones_more n own both choice x pair ps =
     (λ u. ap (int_counted (is_one choice x u)) (rise_more n own both choice pair ps u)
     ∙ counted_parts (is_one choice x u) (own_rise n own both choice ps u) (turned (both pair) choice pair.first pair.second u))
 
--- the costs at any values are those with every open site at 0, the rise of each site at 1 by itself, less what pairs save
+-- the costs at any values are those with every open site at 0, the rise of each site at 1 by
+-- itself, less what pairs save
 pub costs_law : (n : ℕ) (own : ℕ → Bool → ℕ) (both : Pair → Bool → Bool → ℕ) (choice : ℕ → Choice) (x : ℕ → Bool) (ps : List Pair) → All (IsPair n) ps
     → All (λ pair. both pair false false + both pair true true ≤ both pair false true + both pair true false) ps
     → pos (costs n own both ps (valued choice x)) +ℤ pos (saved_at_most both choice ps)

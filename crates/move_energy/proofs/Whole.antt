@@ -72,7 +72,8 @@ fixed_second m move f pair fixed =
     let q = ap (λ l. pair.weight * m.smooth_cost (label_after move (f pair.first) false) l) fixed in
     omega (arith, p, q)
 
--- so where the open sites are those that it can change, the pairs with two open ends are all that matter
+-- so where the open sites are those that it can change, the pairs with two open ends are all that
+-- matter
 pub fit_regular : (m : Instance) (move : Move) (f : List ℕ) (choices : List Choice) (pair : Pair) → length f ≡ m.sites → AreAllOpen move f choices
     → IsPair m.sites pair → IsFitPair m move (labelling f) (choice_at choices) pair → IsRegularPair m move (labelling f) pair
 fit_regular m move f choices pair size whole within fit = elim (cases_label_in move (labelling f pair.first)) [

@@ -1,5 +1,5 @@
--- What is known of a move's variables before its energy is built, how the open ones are numbered, and what is
--- known of them once the energy is least.
+-- What is known of a move's variables before its energy is built, how the open ones are numbered,
+-- and what is known of them once the energy is least.
 use Rattle.std.specs.Prelude.{◌≡◌, ◌≢◌, ◌↔◌, ℕ, ◌<◌, Bool, true, false, List, length, slice_index_or, ℤ, pos, ◌+ℤ◌, vec_len}
 use Rattle.sums.specs.Sums.{sum_below}
 use Rattle.move_energy.specs.BySite.{IsListing}
@@ -85,13 +85,15 @@ pub record AreSettled (old : List Choice) (bits : List Bool) (new : List Choice)
 abbrev pub made_by : Move → (ℕ → ℕ) → (ℕ → Choice) → (ℕ → ℕ) → (ℕ → Bool) → ℕ → ℕ
 made_by move f choice variable x = labelling_made move f (λ p. bit_of (choice p) (x (variable p)))
 
--- the form stands for the partly decided move from f: but for a fixed number, its value at each assignment
--- is what the labels that the assignment and what was decided make cost the sites and the pairs. `variable` is each
--- site's variable, and `site` each variable's site (Boykov, Veksler, Zabih 2001, section 4)
+-- the form stands for the partly decided move from f: but for a fixed number, its value at each
+-- assignment is what the labels that the assignment and what was decided make cost the sites and
+-- the pairs. `variable` is each site's variable, and `site` each variable's site (Boykov, Veksler,
+-- Zabih 2001, section 4)
 pub record StandsFor (m : Instance) (move : Move) (f : ℕ → ℕ) (choice : ℕ → Choice) (q : Quadratic)
     (variable : ℕ → ℕ) : Type 0 where
   pub rest : ℤ
   pub site : ℕ → ℕ
-  pub value : (x : ℕ → Bool) → quadratic_value q x +ℤ rest ≡ pos (plain_energy m (made_by move f choice variable x))
+  pub value : (x : ℕ → Bool)
+      → quadratic_value q x +ℤ rest ≡ pos (plain_energy m (made_by move f choice variable x))
   pub covers : (p : ℕ) → p < m.sites → choice p ≡ Open → (variable p < vec_len q.weights)
       × (site (variable p) ≡ p)

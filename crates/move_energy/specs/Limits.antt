@@ -1,8 +1,9 @@
 -- How large the parts of a move's form are at most.
 use Rattle.std.specs.Prelude.{ℕ}
 
--- the most terms that one label's cost comes to: the greatest cost at 2^20 nodes and once more is at most 10,486 times the
--- greatest number of a term, and those of 256 labels leave room for the terms of 2^20 sites and 2^22 pairs
+-- the most terms that one label's cost comes to: the greatest cost at 2^20 nodes and once more is
+-- at most 10,486 times the greatest number of a term, and those of 256 labels leave room for the
+-- terms of 2^20 sites and 2^22 pairs
 abbrev pub label_terms : ℕ
 label_terms = 10486
 
@@ -10,8 +11,9 @@ label_terms = 10486
 abbrev pub surplus_limit : ℕ
 surplus_limit = 20000000
 
--- the most that the weights of all open sites come to without their signs, 3 * 10^14: of each of 2^20 sites a cost, and of
--- each end of 2^22 pairs a cost and a surplus; far below the size of as many terms
+-- the most that the weights of all open sites come to without their signs, 3 * 10^14: of each of
+-- 2^20 sites a cost, and of each end of 2^22 pairs a cost and a surplus; far below the size of as
+-- many terms
 abbrev pub weights_limit : ℕ
 weights_limit = 300000000000000
 

@@ -20,8 +20,8 @@ abbrev pub open_energy : Instance → Move → (ℕ → ℕ) → (ℕ → Choice
 open_energy m move f choice x =
     pos (plain_energy m (labelling_made move f (λ p. bit_of (choice p) (x p))))
 
--- the weight of each open site is by how much that rises where this site turns from 0 to 1, every other open one
--- being at 0
+-- the weight of each open site is by how much that rises where this site turns from 0 to 1, every
+-- other open one being at 0
 abbrev pub AreWeights : Instance → Move → (ℕ → ℕ) → (ℕ → Choice) → List ℤ → Type 0
 AreWeights m move f choice weights = (u : ℕ) → u < m.sites → choice u ≡ Open
     → weight_at weights u
@@ -42,7 +42,8 @@ abbrev pub unsaved_surplus : Instance → Move → (ℕ → ℕ) → (ℕ → Ch
     → (ℕ → Bool) → Pair → ℕ
 unsaved_surplus m move f choice variable x pair =
     count_if (are_open choice pair)
-    (count_if (not (x (variable pair.first) && x (variable pair.second))) (pair_surplus m move f pair))
+    (count_if (not (x (variable pair.first) && x (variable pair.second)))
+    (pair_surplus m move f pair))
 
 -- the weights of the open ones of the first n sites
 abbrev pub open_weights : List Choice → List ℤ → ℕ → List ℤ

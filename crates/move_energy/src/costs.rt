@@ -24,7 +24,8 @@ struct Known {
 }
 
 impl Known {
-    /// What the pair costs at two labels, which are asked only where they are others than those that are known.
+    /// What the pair costs at two labels, which are asked only where they are others than those
+    /// that are known.
     fn pair_cost<F: Fn(u32, u32) -> i64 + Sync, V: Fn(u32, u32) -> i64 + Sync>(
         self,
         problem: &Problem<F, V>,
@@ -34,11 +35,13 @@ impl Known {
     ) -> i64
         requires posed { IsPosed F.Fn V.Fn problem.now }
         requires weight { weight ≤ weight_limit }
-        requires inside { (first < problem.now.data_cost.labels) × (second < problem.now.data_cost.labels) }
+        requires inside { (first < problem.now.data_cost.labels)
+            × (second < problem.now.data_cost.labels) }
         requires known { WhereMeant F.Fn V.Fn problem.now (λ m. self.cost ≡ pos
             (weight * m.smooth_cost self.first self.second)) }
         requires range { (pos 0 ≤ℤ self.cost) × (self.cost ≤ℤ pos pair_cost_limit) }
-        ensures cost { WhereMeant F.Fn V.Fn problem.now (λ m. result ≡ pos (weight * m.smooth_cost first second)) }
+        ensures cost { WhereMeant F.Fn V.Fn problem.now
+            (λ m. result ≡ pos (weight * m.smooth_cost first second)) }
         ensures range { (pos 0 ≤ℤ result) × (result ≤ℤ pos pair_cost_limit) }
     {
         if first == self.first && second == self.second {
@@ -83,8 +86,10 @@ fn corner_costs<F: Fn(u32, u32) -> i64 + Sync, V: Fn(u32, u32) -> i64 + Sync>(
         (first.turns < problem.now.data_cost.labels) }
     requires second { (second.stays < problem.now.data_cost.labels) ×
         (second.turns < problem.now.data_cost.labels) }
-    ensures table { WhereMeant F.Fn V.Fn problem.now (λ m. result ≡ pos (weight * m.smooth_cost first.stays
-        second.stays) ∷ pos (weight * m.smooth_cost first.stays second.turns) ∷ pos (weight * m.smooth_cost
+    ensures table { WhereMeant F.Fn V.Fn problem.now
+        (λ m. result ≡ pos (weight * m.smooth_cost first.stays
+        second.stays) ∷ pos (weight * m.smooth_cost first.stays second.turns)
+        ∷ pos (weight * m.smooth_cost
         first.turns second.stays) ∷ pos (weight * m.smooth_cost first.turns second.turns) ∷ []) }
     ensures range { All (IsCost (pos pair_cost_limit)) result }
 {
@@ -105,7 +110,8 @@ fn corner_costs<F: Fn(u32, u32) -> i64 + Sync, V: Fn(u32, u32) -> i64 + Sync>(
     [neither, second_alone, first_alone, both]
 }
 
-/// What a pair of this weight, whose ends have these labels, costs in a move at the values 00, 01, 10 and 11 of its ends.
+/// What a pair of this weight, whose ends have these labels, costs in a move at the values 00, 01,
+/// 10 and 11 of its ends.
 pub fn pair_table<F: Fn(u32, u32) -> i64 + Sync, V: Fn(u32, u32) -> i64 + Sync>(
     problem: &Problem<F, V>,
     change: Move,
@@ -115,7 +121,8 @@ pub fn pair_table<F: Fn(u32, u32) -> i64 + Sync, V: Fn(u32, u32) -> i64 + Sync>(
 ) -> [i64; 4]
     requires posed { IsPosed F.Fn V.Fn problem.now }
     requires weight { weight ≤ weight_limit }
-    requires inside { (first < problem.now.data_cost.labels) × (second < problem.now.data_cost.labels) }
+    requires inside { (first < problem.now.data_cost.labels)
+        × (second < problem.now.data_cost.labels) }
     requires change { IsMoveOf problem.now.data_cost.labels change }
     ensures table { WhereMeant F.Fn V.Fn problem.now (λ m. result ≡ pos (weight * m.smooth_cost
         (label_after change first false) (label_after change second false))
@@ -123,7 +130,8 @@ pub fn pair_table<F: Fn(u32, u32) -> i64 + Sync, V: Fn(u32, u32) -> i64 + Sync>(
         (label_after change second true))
         ∷ pos (weight * m.smooth_cost (label_after change first true)
         (label_after change second false))
-        ∷ pos (weight * m.smooth_cost (label_after change first true) (label_after change second true)) ∷ []) }
+        ∷ pos (weight * m.smooth_cost (label_after change first true)
+        (label_after change second true)) ∷ []) }
     ensures range { All (IsCost (pos pair_cost_limit)) result }
     ensures within { All (IsWithin pair_cost_limit) result }
 {
@@ -145,7 +153,8 @@ pub fn term<F: Fn(u32, u32) -> i64 + Sync, V: Fn(u32, u32) -> i64 + Sync>(
     requires posed { IsPosed F.Fn V.Fn problem.now }
     requires pair { IsPair (length at.now) pair }
     requires asked { IsAsked problem.now at.now change }
-    ensures table { WhereMeant F.Fn V.Fn problem.now (λ m. result ≡ pair_table m change (labelling at.now) pair) }
+    ensures table { WhereMeant F.Fn V.Fn problem.now
+        (λ m. result ≡ pair_table m change (labelling at.now) pair) }
     ensures range { All (IsCost (pos pair_cost_limit)) result }
     ensures size { length result ≡ 4 }
 {
@@ -154,8 +163,8 @@ pub fn term<F: Fn(u32, u32) -> i64 + Sync, V: Fn(u32, u32) -> i64 + Sync>(
     pair_table(problem, change, pair.weight, first, second)
 }
 
-/// By how much a pair's costs at 01 and 10 are together above those at 00 and 11: below 0 exactly where its term is not
-/// regular (Kolmogorov and Zabih, PAMI 2004, section 4.1).
+/// By how much a pair's costs at 01 and 10 are together above those at 00 and 11: below 0 exactly
+/// where its term is not regular (Kolmogorov and Zabih, PAMI 2004, section 4.1).
 pub fn surplus(table: &[i64; 4]) -> i64
     requires { All (IsCost (pos pair_cost_limit)) table.now }
     ensures value { result ≡ surplus_of table.now }

@@ -57,12 +57,14 @@ fn add_first<F: Fn(u32, u32) -> i64 + Sync, V: Fn(u32, u32) -> i64 + Sync>(
 )
     requires posed { IsPosed F.Fn V.Fn problem.now }
     requires weight { weight ≤ weight_limit }
-    requires inside { (end.label < problem.now.data_cost.labels) × (other < problem.now.data_cost.labels) }
+    requires inside { (end.label < problem.now.data_cost.labels)
+        × (other < problem.now.data_cost.labels) }
     requires change { IsMoveOf problem.now.data_cost.labels change }
     requires variable { end.variable < vec_len form.old.weights }
     requires bounded { IsQuadraticBounded term_limit form.old }
     ensures longer { IsLonger 1 form.old form.new }
-    ensures adds { WhereMeant F.Fn V.Fn problem.now (λ m. AddsCost form.old form.new (λ x. weight * m.smooth_cost
+    ensures adds { WhereMeant F.Fn V.Fn problem.now
+        (λ m. AddsCost form.old form.new (λ x. weight * m.smooth_cost
         (label_after change end.label (x end.variable)) other)) }
 {
     let stays = problem.pair_cost(weight, change.label(end.label, false), other);
@@ -81,12 +83,14 @@ fn add_second<F: Fn(u32, u32) -> i64 + Sync, V: Fn(u32, u32) -> i64 + Sync>(
 )
     requires posed { IsPosed F.Fn V.Fn problem.now }
     requires weight { weight ≤ weight_limit }
-    requires inside { (end.label < problem.now.data_cost.labels) × (other < problem.now.data_cost.labels) }
+    requires inside { (end.label < problem.now.data_cost.labels)
+        × (other < problem.now.data_cost.labels) }
     requires change { IsMoveOf problem.now.data_cost.labels change }
     requires variable { end.variable < vec_len form.old.weights }
     requires bounded { IsQuadraticBounded term_limit form.old }
     ensures longer { IsLonger 1 form.old form.new }
-    ensures adds { WhereMeant F.Fn V.Fn problem.now (λ m. AddsCost form.old form.new (λ x. weight * m.smooth_cost
+    ensures adds { WhereMeant F.Fn V.Fn problem.now
+        (λ m. AddsCost form.old form.new (λ x. weight * m.smooth_cost
         other (label_after change end.label (x end.variable)))) }
 {
     let stays = problem.pair_cost(weight, other, change.label(end.label, false));
@@ -94,7 +98,8 @@ fn add_second<F: Fn(u32, u32) -> i64 + Sync, V: Fn(u32, u32) -> i64 + Sync>(
     form.add_one(end.variable, &[stays, turns]);
 }
 
-/// Adds what a pair costs: a term of its open ends. It answers no where both are open and their term is not regular.
+/// Adds what a pair costs: a term of its open ends. It answers no where both are open and their
+/// term is not regular.
 pub fn add_ends<F: Fn(u32, u32) -> i64 + Sync, V: Fn(u32, u32) -> i64 + Sync>(
     problem: &Problem<F, V>,
     form: &mut Quadratic,

@@ -19,7 +19,8 @@ use compile_cut::Quadratic;
 use cost_store::mark_used;
 use std::alloc::{AllocError, Global};
 
-/// Adds what the label of the expansion costs by itself: it is paid if any site takes it, where none has it before.
+/// Adds what the label of the expansion costs by itself: it is paid if any site takes it, where
+/// none has it before.
 fn add_own(
     form: &mut Quadratic,
     nodes: &mut Vec<u32>,
@@ -48,8 +49,8 @@ fn add_own(
     form.add_if_any(nodes, cost)
 }
 
-/// Adds what another label costs by itself: it is paid unless all its sites take the label of the expansion, and never
-/// where it has none.
+/// Adds what another label costs by itself: it is paid unless all its sites take the label of the
+/// expansion, and never where it has none.
 fn add_other(
     form: &mut Quadratic,
     nodes: &mut Vec<u32>,
@@ -112,10 +113,11 @@ fn add_label(
     add_other(form, nodes, variables, at, alpha, label, used, cost)
 }
 
-/// Adds what the labels cost by themselves to the form of an expansion of which nothing is decided, by a hidden node for
-/// each label that costs something and has a site that may leave it, and for that of the expansion where no site has it: of
-/// the sets that are the same on the other nodes, the least value is, but for a fixed number, the old one and what the
-/// labels of the labelling cost. Refuses only where memory runs out.
+/// Adds what the labels cost by themselves to the form of an expansion of which nothing is decided,
+/// by a hidden node for each label that costs something and has a site that may leave it, and for
+/// that of the expansion where no site has it: of the sets that are the same on the other nodes,
+/// the least value is, but for a fixed number, the old one and what the labels of the labelling
+/// cost. Refuses only where memory runs out.
 pub fn add_label_costs(
     alloc: Global,
     form: &mut Quadratic,
@@ -130,7 +132,8 @@ pub fn add_label_costs(
     requires costs { All (IsCost (pos label_cost_limit)) costs.now }
     requires nodes { vec_len form.old.weights ≡ open_count variables.now.choices.items }
     requires bounded { IsQuadraticBounded (site_limit + pair_limit) form.old }
-    ensures nodes { OnOk result (vec_len form.new.weights ≤ vec_len form.old.weights + label_limit) }
+    ensures nodes { OnOk result
+        (vec_len form.new.weights ≤ vec_len form.old.weights + label_limit) }
     ensures bounded { OnOk result (IsQuadraticBounded term_limit form.new) }
     ensures adds { OnOk result (AddsHidden form.old form.new
         (costs_below (length costs.now) alpha at.now variables.now.choices.items costs.now)) }

@@ -1,4 +1,5 @@
-//! The yes-no energy of a move of which few sites are open, added up from the open sites and their pairs.
+//! The yes-no energy of a move of which few sites are open, added up from the open sites and their
+//! pairs.
 ghost use Rattle.std.specs.Prelude.{◌≡◌, ◌<◌, ◌≤◌, All, length, vec_len, OnOk, sum_by};
 ghost use Rattle.label_field.specs.Limits.{site_limit};
 ghost use Rattle.move_energy.specs.BySite.{AreBySite};
@@ -39,7 +40,8 @@ fn add_listed_sites<F: Fn(u32, u32) -> i64 + Sync, V: Fn(u32, u32) -> i64 + Sync
     ensures longer { IsLonger (length opened.now) form.old form.new }
     ensures adds { WhereMeant F.Fn V.Fn problem.now (λ m. AddsCost form.old form.new (λ x. sum_by
         (λ p. m.data_cost p (made_by change (labelling at.now)
-        (choice_at variables.now.choices.items) (open_rank variables.now.choices.items) x p)) opened.now)) }
+        (choice_at variables.now.choices.items) (open_rank variables.now.choices.items)
+        x p)) opened.now)) }
 {
     for index in 0..opened.len() {
         let end = variables.end(at, opened[index]);
@@ -48,9 +50,10 @@ fn add_listed_sites<F: Fn(u32, u32) -> i64 + Sync, V: Fn(u32, u32) -> i64 + Sync
 }
 
 impl MoveEnergy {
-    /// The energy of a partly decided move, as `build` makes it, where the open sites are listed and each pair of two open
-    /// ends makes a regular term: its value at an assignment is, but for a fixed number, the energy of the labelling that
-    /// the assignment and what was decided make. What decided sites and pairs of none but those cost is no part of the form.
+    /// The energy of a partly decided move, as `build` makes it, where the open sites are listed
+    /// and each pair of two open ends makes a regular term: its value at an assignment is, but for
+    /// a fixed number, the energy of the labelling that the assignment and what was decided make.
+    /// What decided sites and pairs of none but those cost is no part of the form.
     ///
     /// It takes time and memory in proportion to the listed sites and their pairs.
     pub fn build_listed<F: Fn(u32, u32) -> i64 + Sync, V: Fn(u32, u32) -> i64 + Sync>(
@@ -77,7 +80,8 @@ impl MoveEnergy {
             self.new.variables.of_sites.items) }
         ensures variables { OnOk result (vec_len self.new.form.weights ≡ open_count
             self.new.variables.choices.items) }
-        ensures built { WhereMeant F.Fn V.Fn problem.now (λ m. OnOk result (Stands m change at.now self.new)) }
+        ensures built { WhereMeant F.Fn V.Fn problem.now
+            (λ m. OnOk result (Stands m change at.now self.new)) }
     {
         let count = self.variables.number_listed(opened)?;
         let form = Quadratic::zero(alloc, count)?;

@@ -1,5 +1,5 @@
-//! What the pairs of the open sites add to a form where these sites are listed. Each pair is met once, at one of its open
-//! ends.
+//! What the pairs of the open sites add to a form where these sites are listed. Each pair is met
+//! once, at one of its open ends.
 ghost use Rattle.std.specs.Prelude.{◌≡◌, ◌<◌, ◌≤◌, ◌-◌, All, length, vec_len, OnOk, sum_by};
 ghost use Rattle.sums.specs.Sums.{count_if};
 ghost use Rattle.label_field.specs.Limits.{site_limit};
@@ -50,9 +50,12 @@ fn add_of_pair<F: Fn(u32, u32) -> i64 + Sync, V: Fn(u32, u32) -> i64 + Sync>(
     requires variables { vec_len form.old.weights ≡ open_count variables.now.choices.items }
     requires bounded { IsQuadraticBounded term_limit form.old }
     ensures longer { OnOk result (IsLonger 1 form.old form.new) }
-    ensures adds { OnOk result (WhereMeant F.Fn V.Fn problem.now (λ m. IsRightFor adds m change (labelling at.now)
-        (choice_at variables.now.choices.items) pair → AddsCost form.old form.new (λ x. added_by_pair adds m change
-        (labelling at.now) (choice_at variables.now.choices.items) (open_rank variables.now.choices.items) x
+    ensures adds { OnOk result
+        (WhereMeant F.Fn V.Fn problem.now (λ m. IsRightFor adds m change (labelling at.now)
+        (choice_at variables.now.choices.items) pair
+        → AddsCost form.old form.new (λ x. added_by_pair adds m change
+        (labelling at.now) (choice_at variables.now.choices.items)
+        (open_rank variables.now.choices.items) x
         pair))) }
 {
     match adds {
@@ -90,10 +93,13 @@ fn add_counted<F: Fn(u32, u32) -> i64 + Sync, V: Fn(u32, u32) -> i64 + Sync>(
     requires numbering { IsNumbering variables.now.choices.items variables.now.of_sites.items }
     requires variables { vec_len form.old.weights ≡ open_count variables.now.choices.items }
     requires bounded { IsQuadraticBounded term_limit form.old }
-    ensures longer { OnOk result (IsLonger (count_if (is_counted (open_at variables.now.choices.items) site
+    ensures longer { OnOk result
+        (IsLonger (count_if (is_counted (open_at variables.now.choices.items) site
         pair) 1) form.old form.new) }
-    ensures adds { OnOk result (WhereMeant F.Fn V.Fn problem.now (λ m. IsRightFor adds m change (labelling at.now)
-        (choice_at variables.now.choices.items) pair → AddsCost form.old form.new (λ x. count_if (is_counted
+    ensures adds { OnOk result
+        (WhereMeant F.Fn V.Fn problem.now (λ m. IsRightFor adds m change (labelling at.now)
+        (choice_at variables.now.choices.items) pair
+        → AddsCost form.old form.new (λ x. count_if (is_counted
         (open_at variables.now.choices.items) site pair)
         (added_by_pair adds m change (labelling at.now)
         (choice_at variables.now.choices.items) (open_rank variables.now.choices.items) x pair)))) }
@@ -166,7 +172,8 @@ pub(crate) fn add_listed_pairs<F: Fn(u32, u32) -> i64 + Sync, V: Fn(u32, u32) ->
         (labelling at.now) (choice_at variables.now.choices.items)) problem.now.pairs.list →
         AddsCost form.old form.new (λ x. sum_by (met_at ends.now
         (open_at variables.now.choices.items) (added_by_pair adds m change (labelling at.now)
-        (choice_at variables.now.choices.items) (open_rank variables.now.choices.items) x)) opened.now))) }
+        (choice_at variables.now.choices.items) (open_rank variables.now.choices.items)
+        x)) opened.now))) }
 {
     for index in 0..opened.len() {
         add_pairs_at(

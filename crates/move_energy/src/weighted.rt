@@ -1,5 +1,6 @@
-//! The yes-no energy of a partly decided move from the weights of its open sites, which who decided the others knows. Then no
-//! site is asked what it costs, and of the pairs only those of two open sites.
+//! The yes-no energy of a partly decided move from the weights of its open sites, which who decided
+//! the others knows. Then no site is asked what it costs, and of the pairs only those of two open
+//! sites.
 ghost use Rattle.std.specs.Prelude.{◌≡◌, ◌<◌, ◌≤◌, ◌+◌, ◌-ℤ◌, ◌<ℤ◌, ◌++◌, ◌∷◌, [], cond, ℕ, ℤ, pos, true, not, ◌&&◌, All, length, unsigned_abs, vec_len, IfOk, OnOk, sum_by};
 ghost use Rattle.sums.specs.Sums.{count_if};
 ghost use Rattle.label_field.specs.Limits.{site_limit, pair_limit};
@@ -83,7 +84,8 @@ fn open_surplus<F: Fn(u32, u32) -> i64 + Sync, V: Fn(u32, u32) -> i64 + Sync>(
     requires pair { IsPair (length at.now) pair }
     requires asked { IsAsked problem.now at.now change }
     requires choices { length variables.now.choices.items ≡ length at.now }
-    ensures value { WhereMeant F.Fn V.Fn problem.now (λ m. IsRegularPair m change (labelling at.now) pair →
+    ensures value { WhereMeant F.Fn V.Fn problem.now
+        (λ m. IsRegularPair m change (labelling at.now) pair →
         result ≡ pos (count_if (are_open (choice_at variables.now.choices.items) pair)
         (pair_surplus m change (labelling at.now) pair))) }
     ensures range { unsigned_abs result ≤ surplus_limit }
@@ -139,7 +141,8 @@ pub(crate) fn add_surplus<F: Fn(u32, u32) -> i64 + Sync, V: Fn(u32, u32) -> i64 
     requires variables { vec_len form.old.weights ≡ open_count variables.now.choices.items }
     requires bounded { IsQuadraticBounded term_limit form.old }
     ensures longer { OnOk result (IsLonger 1 form.old form.new) }
-    ensures adds { OnOk result (WhereMeant F.Fn V.Fn problem.now (λ m. IsRegularPair m change (labelling at.now)
+    ensures adds { OnOk result
+        (WhereMeant F.Fn V.Fn problem.now (λ m. IsRegularPair m change (labelling at.now)
         pair → AddsCost form.old form.new (λ x. unsaved_surplus m change (labelling at.now)
         (choice_at variables.now.choices.items) (open_rank variables.now.choices.items) x pair))) }
 {
@@ -168,7 +171,8 @@ fn add_surpluses<F: Fn(u32, u32) -> i64 + Sync, V: Fn(u32, u32) -> i64 + Sync>(
     requires bounded { IsQuadraticBounded site_limit form.old }
     ensures nodes { OnOk result (vec_len form.new.weights ≡ vec_len form.old.weights) }
     ensures small { OnOk result (IsQuadraticBounded (site_limit + pair_limit) form.new) }
-    ensures adds { OnOk result (WhereMeant F.Fn V.Fn problem.now (λ m. IsAllowed m change (labelling at.now) →
+    ensures adds { OnOk result
+        (WhereMeant F.Fn V.Fn problem.now (λ m. IsAllowed m change (labelling at.now) →
         AddsCost form.old form.new (λ x. sum_by (unsaved_surplus m change (labelling at.now)
         (choice_at variables.now.choices.items)
         (open_rank variables.now.choices.items) x) m.pairs))) }
@@ -181,9 +185,10 @@ fn add_surpluses<F: Fn(u32, u32) -> i64 + Sync, V: Fn(u32, u32) -> i64 + Sync>(
 }
 
 impl MoveEnergy {
-    /// The energy of a partly decided move, as `build` makes it, where the weights of the open sites are known and each
-    /// pair makes a regular term: its value at an assignment is, but for a fixed number, the energy of the labelling that
-    /// the assignment and what was decided make. A pair of two open sites is asked for its costs, and nothing else is.
+    /// The energy of a partly decided move, as `build` makes it, where the weights of the open
+    /// sites are known and each pair makes a regular term: its value at an assignment is, but for a
+    /// fixed number, the energy of the labelling that the assignment and what was decided make. A
+    /// pair of two open sites is asked for its costs, and nothing else is.
     pub fn build_weighted<F: Fn(u32, u32) -> i64 + Sync, V: Fn(u32, u32) -> i64 + Sync>(
         &mut self,
         alloc: Global,
@@ -200,7 +205,8 @@ impl MoveEnergy {
         requires weights { WhereMeant F.Fn V.Fn problem.now
             (λ m. AreWeights m change (labelling at.now)
             (choice_at self.old.variables.choices.items) weights.now) }
-        requires allowed { WhereMeant F.Fn V.Fn problem.now (λ m. IsAllowed m change (labelling at.now)) }
+        requires allowed { WhereMeant F.Fn V.Fn problem.now
+            (λ m. IsAllowed m change (labelling at.now)) }
         ensures kept { self.new.variables.choices.items ≡ self.old.variables.choices.items }
         ensures small { OnOk result (IsQuadraticBounded (site_limit + pair_limit) self.new.form) }
         ensures few { OnOk result (vec_len self.new.form.weights ≤ site_limit) }
@@ -208,7 +214,8 @@ impl MoveEnergy {
             self.new.variables.of_sites.items) }
         ensures variables { OnOk result (vec_len self.new.form.weights ≡ open_count
             self.new.variables.choices.items) }
-        ensures built { WhereMeant F.Fn V.Fn problem.now (λ m. OnOk result (Stands m change at.now self.new)) }
+        ensures built { WhereMeant F.Fn V.Fn problem.now
+            (λ m. OnOk result (Stands m change at.now self.new)) }
     {
         let count = self.variables.number()?;
         let form = open_weights(alloc, &self.variables, count, weights)?;

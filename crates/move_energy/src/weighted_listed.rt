@@ -59,7 +59,8 @@ impl MoveEnergy {
         requires form { IsOfWeights self.old.form.weights.items self.old.form }
         requires count { length self.old.form.weights.items ≡ length opened.now }
         requires size { weights_size self.old.form.weights.items ≤ form_weights_limit }
-        requires allowed { WhereMeant F.Fn V.Fn problem.now (λ m. IsAllowed m change (labelling at.now)) }
+        requires allowed { WhereMeant F.Fn V.Fn problem.now
+            (λ m. IsAllowed m change (labelling at.now)) }
         ensures kept { self.new.variables.choices.items ≡ self.old.variables.choices.items }
         ensures bounded { OnOk result (IsQuadraticBounded term_limit self.new.form) }
         ensures few { OnOk result (vec_len self.new.form.weights ≤ site_limit) }
@@ -108,7 +109,8 @@ impl MoveEnergy {
         requires weights { WhereMeant F.Fn V.Fn problem.now
             (λ m. AreWeights m change (labelling at.now)
             (choice_at self.old.variables.choices.items) weights.now) }
-        requires allowed { WhereMeant F.Fn V.Fn problem.now (λ m. IsAllowed m change (labelling at.now)) }
+        requires allowed { WhereMeant F.Fn V.Fn problem.now
+            (λ m. IsAllowed m change (labelling at.now)) }
         ensures kept { self.new.variables.choices.items ≡ self.old.variables.choices.items }
         ensures bounded { OnOk result (IsQuadraticBounded term_limit self.new.form) }
         ensures few { OnOk result (vec_len self.new.form.weights ≤ site_limit) }
@@ -116,7 +118,8 @@ impl MoveEnergy {
             self.new.variables.of_sites.items) }
         ensures variables { OnOk result (vec_len self.new.form.weights ≡ open_count
             self.new.variables.choices.items) }
-        ensures built { WhereMeant F.Fn V.Fn problem.now (λ m. OnOk result (Stands m change at.now self.new)) }
+        ensures built { WhereMeant F.Fn V.Fn problem.now
+            (λ m. OnOk result (Stands m change at.now self.new)) }
     {
         let form = listed_weights(alloc, opened, weights)?;
         self.form = form;

@@ -1,5 +1,5 @@
-//! Small random moves and runs where labels cost something by themselves, and the bounds of settled runs, against answers
-//! worked out over all labellings.
+//! Small random moves and runs where labels cost something by themselves, and the bounds of settled
+//! runs, against answers worked out over all labellings.
 ghost use Rattle.std.specs.Prelude.{◌≡◌, ◌≤◌, ◌<◌, ◌+◌, ◌*◌, ◌≤ℤ◌, pos, length, IfOk, All};
 ghost use Rattle.cost_store.specs.Limits.{smooth_limit};
 ghost use Rattle.cost_store.specs.Posed.{IsPosed, FitsProblem};
@@ -16,9 +16,9 @@ use std::alloc::{AllocError, Global};
 use std::process::Abort;
 use std::test::Fail;
 
-/// How many bytes a row has: those of `random`; what each of four labels costs by itself; the label energy after, of eight
-/// digits; the two numbers of the bound, of five digits each, 0 and 0 where there is none; and the least energy of all
-/// labellings, of nine digits.
+/// How many bytes a row has: those of `random`; what each of four labels costs by itself; the label
+/// energy after, of eight digits; the two numbers of the bound, of five digits each, 0 and 0 where
+/// there is none; and the least energy of all labellings, of nine digits.
 const COSTED_BYTES: usize = 129;
 
 /// A number of so many digits.
@@ -91,8 +91,8 @@ fn is_bounded<F: Fn(u32, u32) -> i64 + Sync, V: Fn(u32, u32) -> i64 + Sync>(
     }
 }
 
-/// Whether the move or the run of a row is answered as the row says, and is within its bound. The first bytes of the row
-/// are given once more.
+/// Whether the move or the run of a row is answered as the row says, and is within its bound. The
+/// first bytes of the row are given once more.
 fn is_told<F: Fn(u32, u32) -> i64 + Sync, V: Fn(u32, u32) -> i64 + Sync, H: How>(
     problem: &Problem<F, V>,
     alloc: Global,
@@ -162,7 +162,8 @@ const WORKED: [&[u8; COSTED_BYTES]; 11] = [
     b"230291200039093000000000000000000011010101100000000000002000000000000000000000000000000000000000002220000000040000000000000000004",
     // 0 1 and 1 1 both cost 9: label 1 at the fewer sites.
     b"220291200030093000000000000000000010010000000000000000001000000000000000000000000000000003000000003300000000060000000000000000009",
-    // Swaps where label 1 costs something by itself, in some cycles, in none, and one; label 2 is refused first.
+    // Swaps where label 1 costs something by itself, in some cycles, in none, and one; label 2 is
+    // refused first.
     b"220394000030093000000000000000000010010000000000000000000000000000000000000000000000000009000000000100000000000000000000000000004",
     b"220304000030093000000000000000000010010000000000000000000000000000000000000000000000000009000000000100000000000000000000000000004",
     b"220104001030093000000000000000000010010000000000000000000000000000000000000000000000000009000000000100000000000000000000000000004",

@@ -14,10 +14,10 @@ use std::alloc::Global;
 use std::process::Abort;
 use std::test::Fail;
 
-/// How many bytes a row has: how many sites, labels and pairs; 0 for an expansion, 1 for a swap; alpha, beta; how many
-/// sites are left open; 1 where a label changes. Then three data costs of each of 24 sites, three smooth costs of each
-/// of three labels, the labels of 24 sites before and after, and 40 pairs with their weights. A byte is 48 more
-/// than its number.
+/// How many bytes a row has: how many sites, labels and pairs; 0 for an expansion, 1 for a swap;
+/// alpha, beta; how many sites are left open; 1 where a label changes. Then three data costs of
+/// each of 24 sites, three smooth costs of each of three labels, the labels of 24 sites before and
+/// after, and 40 pairs with their weights. A byte is 48 more than its number.
 const BYTES: usize = 257;
 
 /// A number of a row.
@@ -81,7 +81,8 @@ fn change_of(row: &[u8; BYTES], labels: u32) -> Move
     }
 }
 
-/// Whether a move ends with the wanted labels, and says that a label changes just where one does in the row.
+/// Whether a move ends with the wanted labels, and says that a label changes just where one does in
+/// the row.
 fn ends_right<F: Fn(u32, u32) -> i64 + Sync, V: Fn(u32, u32) -> i64 + Sync, H: How>(
     problem: &Problem<F, V>,
     alloc: Global,
@@ -102,8 +103,8 @@ fn ends_right<F: Fn(u32, u32) -> i64 + Sync, V: Fn(u32, u32) -> i64 + Sync, H: H
     told == Ok(number(row, 7) == 1) && labelling.as_slice() == wanted.as_slice()
 }
 
-/// Whether a move leaves so many sites open as the row says, and ends as it says: with sites decided first, and
-/// without. The labellings are that before the move, twice, and that after it.
+/// Whether a move leaves so many sites open as the row says, and ends as it says: with sites
+/// decided first, and without. The labellings are that before the move, twice, and that after it.
 fn is_told<F: Fn(u32, u32) -> i64 + Sync, V: Fn(u32, u32) -> i64 + Sync>(
     problem: &Problem<F, V>,
     alloc: Global,

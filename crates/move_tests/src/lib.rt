@@ -1,8 +1,8 @@
-//! Tests of moves between labellings, as tables: by hand, and small random ones and runs with what scripts
-//! answer that try every labelling, without label costs and with them, and the bounds of runs; how many sites
-//! deciding leaves open on a picture, and how many the cuts of a run have whose later expansions look near the
-//! changes; listed moves of which few sites, none or all are left open; sites that are decided by parts; and tables
-//! of costs that threads fill.
+//! Tests of moves between labellings, as tables: by hand, and small random ones and runs with what
+//! scripts answer that try every labelling, without label costs and with them, and the bounds of
+//! runs; how many sites deciding leaves open on a picture, and how many the cuts of a run have
+//! whose later expansions look near the changes; listed moves of which few sites, none or all are
+//! left open; sites that are decided by parts; and tables of costs that threads fill.
 #![tactic(auto)]
 
 #[cfg(test)]

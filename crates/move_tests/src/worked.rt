@@ -108,8 +108,8 @@ const BOTH_CHANGE: Case = Case {
     ..ALIKE
 };
 
-/// Two neighbours of three labels cost the square of their distance. The first site is best with the
-/// label 0, the second with the label 2: to expand 0 would cost 9 in place of 4.
+/// Two neighbours of three labels cost the square of their distance. The first site is best with
+/// the label 0, the second with the label 2: to expand 0 would cost 9 in place of 4.
 const APART: Case = Case {
     data: &[&[0, 9, 9], &[9, 9, 0]],
     smooth: &[&[0, 1, 4], &[1, 0, 1], &[4, 1, 0]],

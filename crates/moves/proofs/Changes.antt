@@ -127,8 +127,8 @@ sites_apart chosen n sites i k listed l less same =
 
 -- ---- labels that are written at the listed sites
 
--- at the first i listed sites the labels are as they are to be, the others as they were, and whether one is another than
--- it was
+-- at the first i listed sites the labels are as they are to be, the others as they were, and
+-- whether one is another than it was
 pub record AreWrittenAt (old new : List ℕ) (label : ℕ → ℕ) (sites : List ℕ) (i : ℕ) (changed : Bool) : Type 0 where
   pub len : length new ≡ length old
   pub done : (k : ℕ) → k < i → slice_index new (get_or sites k 0) ≡ label (get_or sites k 0)

@@ -16,7 +16,8 @@ use Rattle.moves.proofs.Answers.{metric_refusal}
 pub place_in : (a b k n len : ℕ) → a < n → b < k → len ≡ n * k → a * k + b < len
 place_in a b k n len la lb size = omega (arith, mul-add-lt a k b n la lb, mul_comm n k, size)
 
--- a closure that reads a table of costs in range may be called everywhere, and answers costs in range
+-- a closure that reads a table of costs in range may be called everywhere, and answers costs in
+-- range
 pub smooth_keeps : (most : ℤ) (table : List ℤ) (n k : ℕ) → length table ≡ n * k → k ≤ 256 → All (IsCost most) table
     → (a b : ℕ) → a < n → b < k
     → ((a * k + b < length table) × (k ≤ 256)) × ((z : ℤ) → z ≡ entry_at k table a b → IsCost most z)

@@ -67,7 +67,8 @@ smallest_of m move f h x pairs least reached low p l is =
       ]
     ]
 
--- the labelling that the least values make is the best one, if it is the labelling itself where it is no lower
+-- the labelling that the least values make is the best one, if it is the labelling itself where it
+-- is no lower
 best_of : (m : Instance) (move : Move) (f g : List ℕ) (x : ℕ → Bool) → IsInstance m → IsSmallestLeast m.sites (made_value m move (labelling f)) x
     → length g ≡ length f → Agrees m.sites (labelling g) (labelling_made move (labelling f) x)
     → (energy m (labelling f) ≤ energy m (labelling g) → g ≡ f) → IsBest m move f g
@@ -125,8 +126,8 @@ kept_best m move f x pairs least low = record {
 least_too : (net : Network) (side other : ℕ → Bool) → IsLeastCut net side → capacity_of net other ≤ capacity_of net side → IsLeastCut net other
 least_too net side other least low third = let base = least third in omega (arith, low, base)
 
--- where the capacity of each cut and a constant are the form's value, a smallest least cut is its least assignment with the
--- fewest ones
+-- where the capacity of each cut and a constant are the form's value, a smallest least cut is its
+-- least assignment with the fewest ones
 pub cut_least : (q : Quadratic) (net : Network) (k : ℤ) (side : ℕ → Bool) → nodes net ≡ vec_len q.weights
     → ((x : ℕ → Bool) → pos (capacity_of net x) +ℤ k ≡ quadratic_value q x) → IsSmallestLeastCut net side
     → IsSmallestLeast (vec_len q.weights) (quadratic_value q) side
@@ -147,7 +148,8 @@ smallest_along n E x y value same least = record {
   smallest = λ z level k l one. least.smallest z (level ∙ value) k l (sym (same k l) ∙ one);
 }
 
--- where choices agree, the least assignment of the open sites and what is chosen make the least values of all sites
+-- where choices agree, the least assignment of the open sites and what is chosen make the least
+-- values of all sites
 pub agreed_least : (m : Instance) (move : Move) (f : ℕ → ℕ) (choice : ℕ → Choice) (q : Quadratic) (variable : ℕ → ℕ) (y : ℕ → Bool)
     → IsInstance m → IsAllowed m move f → Agree m.sites (move_value m move f) choice → StandsFor m move f choice q variable
     → IsSmallestLeast (vec_len q.weights) (quadratic_value q) y
@@ -310,7 +312,8 @@ same_along n E F x same least = record {
 pub free_least : (m : Instance) (move : Move) (f : ℕ → ℕ) (x : ℕ → Bool) → AreLabelsFree m → IsSmallestLeast m.sites (move_value m move f) x → IsSmallestLeast m.sites (made_value m move f) x
 free_least m move f x free least = same_along m.sites (move_value m move f) (made_value m move f) x (λ z. ap pos (free-plain m (labelling_made move f z) free)) least
 
--- an energy that is no lower, or lower, without label costs, where no label costs anything by itself
+-- an energy that is no lower, or lower, without label costs, where no label costs anything by
+-- itself
 pub free_le : (m : Instance) (f g : ℕ → ℕ) → AreLabelsFree m → plain_energy m f ≤ plain_energy m g → energy m f ≤ energy m g
 free_le m f g free low = (let at_f = free-plain m f free in let at_g = free-plain m g free in rw (at_f, at_g) low)
 

@@ -9,7 +9,8 @@ use Rattle.labellings.specs.Moves.{MayBecome, IsReached, label_after}
 use Rattle.labellings.proofs.Best.{lists_agree}
 use Rattle.labellings.proofs.Reaching.{becomes_label_in}
 
--- the labels below n are as they are to be, the others as they were, and whether one is another than it was
+-- the labels below n are as they are to be, the others as they were, and whether one is another
+-- than it was
 pub record AreWritten (old new : List ℕ) (label : ℕ → ℕ) (n : ℕ) (changed : Bool) : Type 0 where
   pub len : length new ≡ length old
   pub done : (p : ℕ) → p < n → slice_index new p ≡ label p

@@ -103,7 +103,8 @@ not_taken a f g took p taken l none = taken p l ∙ ap (λ b. cond b a (labellin
 
 -- ---- labels that are given to listed sites
 
--- the first i listed sites have the label, the others the labels that they had, and whether one of these was another
+-- the first i listed sites have the label, the others the labels that they had, and whether one of
+-- these was another
 pub record AreGiven (a : ℕ) (old new sites : List ℕ) (i : ℕ) (changed : Bool) : Type 0 where
   pub len : length new ≡ length old
   pub done : (k : ℕ) → k < i → slice_index new (get_or sites k 0) ≡ a

@@ -35,10 +35,13 @@ pub record HasListsOfMove (pairs : PairList) (move : Move) (f : List ℕ)
 
 -- they are, where a move is to look at the listed sites alone
 abbrev pub IsNearWhereListed : PairList → Move → List ℕ → Workspace → Type 0
-IsNearWhereListed pairs move f space = IsTrue space.deciding.lists.listed → HasListsOfMove pairs move f space
+IsNearWhereListed pairs move f space = IsTrue space.deciding.lists.listed
+    → HasListsOfMove pairs move f space
 
--- what is left of a move is listed: its open sites, and among the changing ones each whose label can still become another
-pub record IsRestListed (pairs : PairList) (move : Move) (f : List ℕ) (space : Workspace) : Type 0 where
+-- what is left of a move is listed: its open sites, and among the changing ones each whose label
+-- can still become another
+pub record IsRestListed (pairs : PairList) (move : Move) (f : List ℕ)
+    (space : Workspace) : Type 0 where
   pub by_site : AreBySite pairs space.deciding.ends
   pub opened : AreOpenSites space.built.variables.choices.items space.deciding.lists.opened.items
   pub chosen : ℕ → Bool
@@ -48,7 +51,8 @@ pub record IsRestListed (pairs : PairList) (move : Move) (f : List ℕ) (space :
 
 -- it is, where a move is to look at the listed sites alone
 abbrev pub IsRestWhereListed : PairList → Move → List ℕ → Workspace → Type 0
-IsRestWhereListed pairs move f space = IsTrue space.deciding.lists.listed → IsRestListed pairs move f space
+IsRestWhereListed pairs move f space = IsTrue space.deciding.lists.listed
+    → IsRestListed pairs move f space
 
 -- the workspace has a weight for each site, and together they are in their limit
 abbrev pub AreWeightsSized : ℕ → Workspace → Type 0
@@ -75,37 +79,44 @@ abbrev pub moved_met : Neighbours → (ℕ → Bool) → (Pair → ℕ) → ℕ 
 moved_met ends moved value site = count_if (moved site) (met_at ends moved value site)
 
 -- the sites are listed, and among them are all whose labels the values change
-pub record HasChanges (move : Move) (f : List ℕ) (choices : List Choice) (sites : List ℕ) : Type 0 where
+pub record HasChanges (move : Move) (f : List ℕ) (choices : List Choice)
+    (sites : List ℕ) : Type 0 where
   pub chosen : ℕ → Bool
   pub listed : IsListing chosen (length f) sites
-  pub each : (p : ℕ) → p < length f → moves_site move (labelling f) choices p ≡ true → chosen p ≡ true
+  pub each : (p : ℕ) → p < length f → moves_site move (labelling f) choices p ≡ true
+      → chosen p ≡ true
 
 -- so it is in the workspace of a settled move, whose pairs are by their sites
-pub record AreChangesListed (pairs : PairList) (move : Move) (f : List ℕ) (space : Workspace) : Type 0 where
+pub record AreChangesListed (pairs : PairList) (move : Move) (f : List ℕ)
+    (space : Workspace) : Type 0 where
   pub by_site : AreBySite pairs space.deciding.ends
-  pub changes : HasChanges move f space.built.variables.choices.items space.deciding.lists.changing.items
+  pub changes : HasChanges move f space.built.variables.choices.items
+      space.deciding.lists.changing.items
 
 -- the energy of the labelling that a value for each site makes
 abbrev pub made_value : Instance → Move → (ℕ → ℕ) → (ℕ → Bool) → ℤ
 made_value m move f x = pos (energy m (labelling_made move f x))
 
--- the least assignment of the form with the fewest ones makes the least values of all sites with the fewest ones
+-- the least assignment of the form with the fewest ones makes the least values of all sites with
+-- the fewest ones
 abbrev pub MakesLeast : Instance → Move → List ℕ → MoveEnergy → Type 0
 MakesLeast m move f made = (bits : List Bool)
     → IsSmallestLeast (vec_len made.form.weights) (quadratic_value made.form) (assignment bits)
-    → IsSmallestLeast m.sites (made_value m move (labelling f)) (value_of made.variables.choices.items bits)
+    → IsSmallestLeast m.sites (made_value m move (labelling f))
+    (value_of made.variables.choices.items bits)
 
 -- what the building of the energy of a move answers
 abbrev pub IsBuiltMove : Instance → Move → List ℕ → MoveEnergy → Result Unit BuildError → Type 0
 IsBuiltMove m move f made (Ok done) = IsAllowed m move (labelling f) × MakesLeast m move f made
 IsBuiltMove m move f made (Err e) = IsPrepareRefusal m move (labelling f) e
 
--- without label costs: the least assignment of the form with the fewest ones makes, with what was decided, the least
--- values of all sites with the fewest ones
+-- without label costs: the least assignment of the form with the fewest ones makes, with what was
+-- decided, the least values of all sites with the fewest ones
 abbrev pub MakesPlain : Instance → Move → List ℕ → MoveEnergy → Type 0
 MakesPlain m move f made = (bits : List Bool)
     → IsSmallestLeast (vec_len made.form.weights) (quadratic_value made.form) (assignment bits)
-    → IsSmallestLeast m.sites (move_value m move (labelling f)) (value_of made.variables.choices.items bits)
+    → IsSmallestLeast m.sites (move_value m move (labelling f))
+    (value_of made.variables.choices.items bits)
 
 -- what the building of the energy of such a move answers
 abbrev pub IsBuiltPlain : Instance → Move → List ℕ → MoveEnergy → Result Unit BuildError → Type 0

@@ -5,9 +5,10 @@ use Rattle.cost_store.specs.Promises.{AnswersTable, IsTable, cost_in}
 use Rattle.labellings.specs.Energies.{Instance}
 use Rattle.cost_store.specs.LabelCosts.{cost_at}
 
--- the instance has these pairs and their sites, and so many labels; the closure answers its data costs, and
--- the table has its smooth costs, a row for each label of a pair's first site
-pub record IsInstanceOf (data_post : ℕ → ℕ → ℤ → Type 0) (pairs : PairList) (labels : ℕ) (smooth : List ℤ)
+-- the instance has these pairs and their sites, and so many labels; the closure answers its data
+-- costs, and the table has its smooth costs, a row for each label of a pair's first site
+pub record IsInstanceOf (data_post : ℕ → ℕ → ℤ → Type 0) (pairs : PairList) (labels : ℕ)
+    (smooth : List ℤ)
     (m : Instance) : Type 0 where
   pub sites_are : m.sites ≡ pairs.sites
   pub labels_are : m.labels ≡ labels

@@ -15,24 +15,27 @@ use Rattle.moves.specs.Bounds.{IsBoundOf, IsWithinBound}
 use Rattle.moves.specs.Problems.{IsMoved, IsRunOfCycles, IsLabelledBy, TellsPairNotRegular}
 use Rattle.moves.specs.Refusals.{IsMemoryOrCut}
 
--- a run of expansions that ended settled is within twice its bound of every labelling (Boykov, Veksler, Zabih,
--- PAMI 2001, theorem 6.1)
+-- a run of expansions that ended settled is within twice its bound of every labelling (Boykov,
+-- Veksler, Zabih, PAMI 2001, theorem 6.1)
 abbrev pub SettledRunIsNear : Type 0
 SettledRunIsNear =
-    (m : Instance) (allowed : ℕ) (f g : List ℕ) (ended : Ended) (bound : Bound) → IsInstance m → IsBoundOf m bound
+    (m : Instance) (allowed : ℕ) (f g : List ℕ) (ended : Ended) (bound : Bound) → IsInstance m
+    → IsBoundOf m bound
     → IsRunOfCycles m (expansions m.labels) allowed f g (Ok ended) → IsTrue ended.settled
     → IsLabelled m (labelling g) → IsWithinTwice m bound.vmin bound.vmax g
 
--- over Potts costs, where no label costs anything by itself, labels within the bound have at most twice
--- the energy of any labelling
+-- over Potts costs, where no label costs anything by itself, labels within the bound have at most
+-- twice the energy of any labelling
 abbrev pub PottsRunIsNear : Type 0
 PottsRunIsNear =
-    (m : Instance) (g : List ℕ) (h : ℕ → ℕ) → m.smooth_cost ≡ potts → AreLabelsFree m → IsWithinBound m g
+    (m : Instance) (g : List ℕ) (h : ℕ → ℕ) → m.smooth_cost ≡ potts → AreLabelsFree m
+    → IsWithinBound m g
     → IsLabelled m h → pos (energy m (labelling g)) ≤ℤ pos (2 * energy m h)
 
 -- where a cut is refused for memory alone, memory is all that is refused of a metric
 abbrev pub AloneRefusesMemory : Type 0
-AloneRefusesMemory = (e : MoveError) → IsMemoryOrCut (λ failed. failed ≡ NoMemory) e → e ≡ OutOfMemory
+AloneRefusesMemory = (e : MoveError) → IsMemoryOrCut (λ failed. failed ≡ NoMemory) e
+    → e ≡ OutOfMemory
 
 -- no move over a metric is refused for a pair whose term is not regular
 abbrev pub MetricMoveHasRegularPairs : Type 0
@@ -44,6 +47,8 @@ MetricMoveHasRegularPairs =
 -- nor is a run
 abbrev pub MetricRunHasRegularPairs : Type 0
 MetricRunHasRegularPairs =
-    (m : Instance) (moves : List Move) (allowed : ℕ) (f : List ℕ) (g : LabelField) (e : MoveError) → IsInstance m
-    → IsMetric m.labels m.smooth_cost → IsLabelledBy m g → IsRunOfCycles m moves allowed f g.at (Err e)
+    (m : Instance) (moves : List Move) (allowed : ℕ) (f : List ℕ) (g : LabelField)
+    (e : MoveError) → IsInstance m
+    → IsMetric m.labels m.smooth_cost → IsLabelledBy m g
+    → IsRunOfCycles m moves allowed f g.at (Err e)
     → ¬ TellsPairNotRegular e

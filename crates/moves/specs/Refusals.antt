@@ -14,7 +14,8 @@ cut_told NoOptions = BadOptions
 
 -- memory; or what was refused of a cut, as a move tells it
 abbrev pub IsMemoryOrCut : (SolveError → Type 0) → MoveError → Type 0
-IsMemoryOrCut refuses e = (e ≡ OutOfMemory) ⊎ ((failed : SolveError) × refuses failed × (e ≡ cut_told failed))
+IsMemoryOrCut refuses e =
+    (e ≡ OutOfMemory) ⊎ ((failed : SolveError) × refuses failed × (e ≡ cut_told failed))
 
 -- what may be refused of a problem: where its smooth costs are a metric, memory or a cut alone
 abbrev pub IsRefusalOver : Instance → (SolveError → Type 0) → MoveError → Type 0

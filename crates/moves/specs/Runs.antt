@@ -17,16 +17,17 @@ abbrev pub MayMake : Instance → Moves → Type 0
 MayMake m Expansion = Unit {0}
 MayMake m Swap = AreLabelsFree m
 
--- a run has a bound: expansions of labels whose smooth costs are a metric and that cost nothing by themselves, the last
--- cycle of which changed nothing
+-- a run has a bound: expansions of labels whose smooth costs are a metric and that cost nothing by
+-- themselves, the last cycle of which changed nothing
 pub record HasBound (m : Instance) (moves : Moves) (settled : Bool) : Type 0 where
   pub expansion : moves ≡ Expansion
   pub is_settled : IsTrue settled
   pub metric : IsMetric m.labels m.smooth_cost
   pub free : AreLabelsFree m
 
--- these are the least and the greatest smooth cost of two unequal labels, and by them the labels are near the least
--- energy: the one times theirs is at most twice the other times that of any labelling
+-- these are the least and the greatest smooth cost of two unequal labels, and by them the labels
+-- are near the least energy: the one times theirs is at most twice the other times that of any
+-- labelling
 pub record IsNearLeast (m : Instance) (labels : List ℕ) (bound : Bound) : Type 0 where
   pub ratio : IsRatio m.labels m.smooth_cost bound.vmin bound.vmax
   pub near : (h : ℕ → ℕ) → IsLabelled m h
@@ -38,8 +39,8 @@ TellsBound m moves labels settled None = ¬ HasBound m moves settled
 TellsBound m moves labels settled (Some bound) =
     HasBound m moves settled × IsNearLeast m labels bound
 
--- the run of so many cycles from a labelling: where it ended, and the three parts of the energy there; or the
--- refusal of the next move of the chain, from the labelling that the run had come to
+-- the run of so many cycles from a labelling: where it ended, and the three parts of the energy
+-- there; or the refusal of the next move of the chain, from the labelling that the run had come to
 abbrev pub AnswersRun : Instance → Moves → ℕ → List ℕ → Result Run MoveError → Type 0
 AnswersRun m moves cycles start (Ok run) =
     IsRunOfCycles m (moves_of moves m.labels) cycles start run.labelling.at (Ok run.ended)

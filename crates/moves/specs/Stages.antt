@@ -20,16 +20,17 @@ use Rattle.moves.specs.declared.error.MoveError.{MoveError}
 use Rattle.moves.specs.declared.workspace.Workspace.{Workspace}
 use Rattle.moves.specs.Problems.{IsMoved}
 
--- the bits of the open sites and what is fixed are the least values of a stage: of all sites, some of which are fixed, the
--- least with the fewest ones
-pub record IsStageLeast (m : Instance) (move : Move) (f : ℕ → ℕ) (choices : List Choice) (bits : List Bool)
+-- the bits of the open sites and what is fixed are the least values of a stage: of all sites, some
+-- of which are fixed, the least with the fewest ones
+pub record IsStageLeast (m : Instance) (move : Move) (f : ℕ → ℕ) (choices : List Choice)
+    (bits : List Bool)
     : Type 0 where
   pub values : ℕ → Bool
   pub least : IsSmallestLeast m.sites (fixed_value (move_value m move f) (choice_at choices)) values
   pub shown : (p : ℕ) → with_choices (choice_at choices) values p ≡ value_of choices bits p
 
--- a stage can be cut: its choices are of the sites, its open sites and its fresh sites are listed, and the pairs are by
--- their sites
+-- a stage can be cut: its choices are of the sites, its open sites and its fresh sites are listed,
+-- and the pairs are by their sites
 pub record IsStageReady (pairs : PairList) (space : Workspace) : Type 0 where
   pub by_site : AreBySite pairs space.deciding.ends
   pub sites : length space.built.variables.choices.items ≡ pairs.sites
@@ -41,9 +42,11 @@ pub record IsStageReady (pairs : PairList) (space : Workspace) : Type 0 where
 -- the stage's zeros are zeros of the least values of the expansion
 abbrev pub AreStageZeros : Instance → ℕ → List ℕ → Workspace → Type 0
 AreStageZeros m a f space =
-    AreLeastZeros m.sites (move_value m (Expand a) (labelling f)) (choice_at space.built.variables.choices.items)
+    AreLeastZeros m.sites (move_value m (Expand a) (labelling f))
+    (choice_at space.built.variables.choices.items)
 
--- among the stage's fresh sites are all that changed since the label's last expansion, and those beside them
+-- among the stage's fresh sites are all that changed since the label's last expansion, and those
+-- beside them
 abbrev pub AreStageFresh : Instance → ℕ → List ℕ → Changes → Workspace → Type 0
 AreStageFresh m a f changes space =
     AreFresh m a (labelling f) (changed_after changes a) (is_marked space.stage.fresh.items)
@@ -63,9 +66,11 @@ EndsMove m a f old new =
 
 -- each site has the label that its value makes in an expansion
 abbrev pub HasTaken : ℕ → (ℕ → Bool) → List ℕ → List ℕ → Type 0
-HasTaken a took f g = (p : ℕ) → p < length f → labelling g p ≡ label_after (Expand a) (labelling f p) (took p)
+HasTaken a took f g = (p : ℕ) → p < length f
+    → labelling g p ≡ label_after (Expand a) (labelling f p) (took p)
 
--- what an expansion that looks near the changes alone answers: what the whole one would; or nothing, the labels as they were
+-- what an expansion that looks near the changes alone answers: what the whole one would; or
+-- nothing, the labels as they were
 abbrev pub IsLater : Instance → ℕ → List ℕ → List ℕ → Result (Option Bool) MoveError → Type 0
 IsLater m a f g (Ok None) = g ≡ f
 IsLater m a f g (Ok (Some changed)) = IsMoved m (Expand a) f g (Ok changed)

@@ -15,9 +15,10 @@ pub struct Bound {
     pub vmax: u64,
 }
 
-/// The numbers by which a settled run of expansions is near: `vmin` times its energy is at most twice `vmax` times that
-/// of any labelling (Boykov, Veksler, Zabih, PAMI 2001, theorem 6.1). `NoBound` exactly where the smooth costs were not
-/// stored as a metric, or some label costs something by itself. It takes no memory.
+/// The numbers by which a settled run of expansions is near: `vmin` times its energy is at most
+/// twice `vmax` times that of any labelling (Boykov, Veksler, Zabih, PAMI 2001, theorem 6.1).
+/// `NoBound` exactly where the smooth costs were not stored as a metric, or some label costs
+/// something by itself. It takes no memory.
 pub fn expansion_bound<F: Fn(u32, u32) -> i64 + Sync, V: Fn(u32, u32) -> i64 + Sync>(
     problem: &Problem<F, V>,
 ) -> Result<Bound, MoveError>

@@ -20,8 +20,10 @@ pub trait Columns: How {
         requires keeps { Keeps (F.pre data_cost.now.f) (F.post data_cost.now.f) data_cost.now.sites
             data_cost.now.labels data_limit }
         requires inside { label < data_cost.now.labels }
-        ensures { IfOk result (λ column. (cost : ℕ → ℕ → ℕ) → AnswersTable (F.post data_cost.now.f) cost
-            data_cost.now.sites data_cost.now.labels → IsColumn data_cost.now.sites label cost column.items) }
+        ensures { IfOk result (λ column. (cost : ℕ → ℕ → ℕ)
+            → AnswersTable (F.post data_cost.now.f) cost
+            data_cost.now.sites data_cost.now.labels
+            → IsColumn data_cost.now.sites label cost column.items) }
     {
         data_cost.column_of(alloc, label)
     }

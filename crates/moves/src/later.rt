@@ -87,7 +87,8 @@ fn begin_stages<F: Fn(u32, u32) -> i64 + Sync, V: Fn(u32, u32) -> i64 + Sync>(
     ensures stage { OnOk result (IsStageReady problem.now.pairs space.new) }
     ensures fresh { WhereMeant F.Fn V.Fn problem.now
         (λ m. OnOk result (AreStageFresh m alpha at.now changes.now space.new)) }
-    ensures zeros { WhereMeant F.Fn V.Fn problem.now (λ m. OnOk result (AreStageZeros m alpha at.now space.new)) }
+    ensures zeros { WhereMeant F.Fn V.Fn problem.now
+        (λ m. OnOk result (AreStageZeros m alpha at.now space.new)) }
 {
     space.group(alloc, &problem.pairs)?;
     space.stage.mark_fresh(
@@ -155,7 +156,8 @@ fn take(labelling: &mut Labelling, alpha: u32, sites: &[u32]) -> bool
     requires inside { All (λ p. p < length labelling.old.at) sites.now }
     ensures sizes { AreOfOneSize labelling.old labelling.new }
     ensures each { (took : ℕ → Bool) → ((p : ℕ) → p < length labelling.old.at →
-        (took p ≡ true) ↔ Contains sites.now p) → HasTaken alpha took labelling.old.at labelling.new.at }
+        (took p ≡ true) ↔ Contains sites.now p)
+        → HasTaken alpha took labelling.old.at labelling.new.at }
     ensures changed { (IsTrue result → labelling.new.at ≢ labelling.old.at)
         × (IsFalse result → labelling.new.at ≡ labelling.old.at) }
 {
@@ -199,7 +201,8 @@ pub(crate) fn make_later<F: Fn(u32, u32) -> i64 + Sync, V: Fn(u32, u32) -> i64 +
         × AreFree (costs_in problem.now.label_costs))) }
     ensures unchanged { OnErr result (labelling.new ≡ labelling.old) }
     ensures kept { IfOk result (λ later. later ≡ None → labelling.new ≡ labelling.old) }
-    ensures refused { IfErr result (IsMoveRefusal (H.refuses how.now) labelling.old.labels (Expand alpha)) }
+    ensures refused { IfErr result
+        (IsMoveRefusal (H.refuses how.now) labelling.old.labels (Expand alpha)) }
 {
     if !how.decides_first() || !can_look(problem, labelling, alpha, changes) {
         return Ok(None);

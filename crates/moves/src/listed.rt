@@ -1,4 +1,5 @@
-//! Whether a move whose changes are listed lowers the energy: the listed sites and their pairs alone are asked.
+//! Whether a move whose changes are listed lowers the energy: the listed sites and their pairs
+//! alone are asked.
 ghost use Rattle.std.specs.Prelude.{◌≡◌, ◌<◌, ◌≤◌, ◌*◌, ◌↔◌, ℕ, pos, ◌-ℤ◌, All, length, unsigned_abs, IsTrue};
 ghost use Rattle.sums.specs.Sums.{count_if};
 ghost use Rattle.label_field.specs.Limits.{site_limit};
@@ -26,7 +27,8 @@ fn is_moved(at: &[u8], change: Move, choices: &[Choice], site: u32) -> bool
     made_label(at, change, choices, site) != u32::from(at[site as usize])
 }
 
-/// Whether a pair of a site is counted there: each pair is at its first end, or at its second where the first keeps its label.
+/// Whether a pair of a site is counted there: each pair is at its first end, or at its second where
+/// the first keeps its label.
 fn is_counted(at: &[u8], change: Move, choices: &[Choice], site: u32, pair: Pair) -> bool
     requires pair { IsPair (length at.now) pair }
     requires choices { length choices.now ≡ length at.now }
@@ -35,7 +37,8 @@ fn is_counted(at: &[u8], change: Move, choices: &[Choice], site: u32, pair: Pair
     pair.first == site || !is_moved(at, change, choices, pair.first)
 }
 
-/// By how much more the labels that the values make cost the sites, of which those that change are listed.
+/// By how much more the labels that the values make cost the sites, of which those that change are
+/// listed.
 fn data_rise_listed<F: Fn(u32, u32) -> i64 + Sync, V: Fn(u32, u32) -> i64 + Sync>(
     problem: &Problem<F, V>,
     at: &[u8],
@@ -47,7 +50,8 @@ fn data_rise_listed<F: Fn(u32, u32) -> i64 + Sync, V: Fn(u32, u32) -> i64 + Sync
     requires asked { IsAsked problem.now at.now change }
     requires choices { length choices.now ≡ length at.now }
     requires changes { HasChanges change at.now choices.now sites.now }
-    ensures rise { WhereMeant F.Fn V.Fn problem.now (λ m. result ≡ pos (data_energy m (labelling_made change (labelling
+    ensures rise { WhereMeant F.Fn V.Fn problem.now
+        (λ m. result ≡ pos (data_energy m (labelling_made change (labelling
         at.now) (site_values choices.now))) -ℤ pos (data_energy m (labelling at.now))) }
     ensures range { unsigned_abs result ≤ data_energy_limit }
 {
@@ -58,7 +62,8 @@ fn data_rise_listed<F: Fn(u32, u32) -> i64 + Sync, V: Fn(u32, u32) -> i64 + Sync
     total
 }
 
-/// By how much more the labels that the values make cost a pair of a site, where it is counted at the site.
+/// By how much more the labels that the values make cost a pair of a site, where it is counted at
+/// the site.
 fn counted_rise<F: Fn(u32, u32) -> i64 + Sync, V: Fn(u32, u32) -> i64 + Sync>(
     problem: &Problem<F, V>,
     at: &[u8],
@@ -71,10 +76,12 @@ fn counted_rise<F: Fn(u32, u32) -> i64 + Sync, V: Fn(u32, u32) -> i64 + Sync>(
     requires pair { IsPair (length at.now) pair }
     requires asked { IsAsked problem.now at.now change }
     requires choices { length choices.now ≡ length at.now }
-    ensures rise { WhereMeant F.Fn V.Fn problem.now (λ m. result ≡ pos (count_if (is_counted_at (moves_site change
+    ensures rise { WhereMeant F.Fn V.Fn problem.now
+        (λ m. result ≡ pos (count_if (is_counted_at (moves_site change
         (labelling at.now) choices.now) site pair)
         (cost_of_pair m (labelling_made change (labelling at.now)
-        (site_values choices.now)) pair)) -ℤ pos (count_if (is_counted_at (moves_site change (labelling at.now)
+        (site_values choices.now)) pair))
+        -ℤ pos (count_if (is_counted_at (moves_site change (labelling at.now)
         choices.now) site pair) (cost_of_pair m (labelling at.now) pair))) }
     ensures range { unsigned_abs result ≤ pair_cost_limit
         * count_if (is_counted_at (moves_site change (labelling at.now) choices.now) site pair) 1 }
@@ -100,7 +107,8 @@ fn met_rise<F: Fn(u32, u32) -> i64 + Sync, V: Fn(u32, u32) -> i64 + Sync>(
     requires by_site { AreBySite problem.now.pairs ends.now }
     requires site { site < length at.now }
     ensures rise { WhereMeant F.Fn V.Fn problem.now (λ m. result ≡ pos (met_at ends.now
-        (moves_site change (labelling at.now) choices.now) (cost_of_pair m (labelling_made change (labelling at.now)
+        (moves_site change (labelling at.now) choices.now)
+        (cost_of_pair m (labelling_made change (labelling at.now)
         (site_values choices.now))) site) -ℤ pos (met_at ends.now (moves_site change
         (labelling at.now) choices.now) (cost_of_pair m (labelling at.now)) site)) }
     ensures range { unsigned_abs result ≤ pair_cost_limit * met_at ends.now (moves_site
@@ -129,7 +137,8 @@ fn moved_rise<F: Fn(u32, u32) -> i64 + Sync, V: Fn(u32, u32) -> i64 + Sync>(
     requires by_site { AreBySite problem.now.pairs ends.now }
     requires site { site < length at.now }
     ensures rise { WhereMeant F.Fn V.Fn problem.now (λ m. result ≡ pos (moved_met ends.now
-        (moves_site change (labelling at.now) choices.now) (cost_of_pair m (labelling_made change (labelling at.now)
+        (moves_site change (labelling at.now) choices.now)
+        (cost_of_pair m (labelling_made change (labelling at.now)
         (site_values choices.now))) site) -ℤ pos (moved_met ends.now (moves_site change
         (labelling at.now) choices.now) (cost_of_pair m (labelling at.now)) site)) }
     ensures range { unsigned_abs result ≤ pair_cost_limit * moved_met ends.now
@@ -155,7 +164,8 @@ fn smooth_rise_listed<F: Fn(u32, u32) -> i64 + Sync, V: Fn(u32, u32) -> i64 + Sy
     requires choices { length choices.now ≡ length at.now }
     requires by_site { AreBySite problem.now.pairs ends.now }
     requires changes { HasChanges change at.now choices.now sites.now }
-    ensures rise { WhereMeant F.Fn V.Fn problem.now (λ m. result ≡ pos (smooth_energy m (labelling_made change (labelling
+    ensures rise { WhereMeant F.Fn V.Fn problem.now
+        (λ m. result ≡ pos (smooth_energy m (labelling_made change (labelling
         at.now) (site_values choices.now))) -ℤ pos (smooth_energy m (labelling at.now))) }
     ensures range { unsigned_abs result ≤ smooth_energy_limit }
 {
@@ -166,7 +176,8 @@ fn smooth_rise_listed<F: Fn(u32, u32) -> i64 + Sync, V: Fn(u32, u32) -> i64 + Sy
     total
 }
 
-/// Whether the labels that the values make have a lower energy, where the sites that change are listed.
+/// Whether the labels that the values make have a lower energy, where the sites that change are
+/// listed.
 fn lowers_listed<F: Fn(u32, u32) -> i64 + Sync, V: Fn(u32, u32) -> i64 + Sync>(
     problem: &Problem<F, V>,
     at: &[u8],
@@ -177,8 +188,10 @@ fn lowers_listed<F: Fn(u32, u32) -> i64 + Sync, V: Fn(u32, u32) -> i64 + Sync>(
     requires asked { IsAsked problem.now at.now change }
     requires choices { length space.now.built.variables.choices.items ≡ length at.now }
     requires changes { AreChangesListed problem.now.pairs change at.now space.now }
-    ensures { WhereMeant F.Fn V.Fn problem.now (λ m. IsTrue result ↔ plain_energy m (labelling_made change (labelling at.now)
-        (site_values space.now.built.variables.choices.items)) < plain_energy m (labelling at.now)) }
+    ensures { WhereMeant F.Fn V.Fn problem.now
+        (λ m. IsTrue result ↔ plain_energy m (labelling_made change (labelling at.now)
+        (site_values space.now.built.variables.choices.items))
+        < plain_energy m (labelling at.now)) }
 {
     let choices = space.built.variables.choices.as_slice();
     let sites = space.deciding.lists.changing.as_slice();
@@ -200,8 +213,10 @@ pub(crate) fn lowers<F: Fn(u32, u32) -> i64 + Sync, V: Fn(u32, u32) -> i64 + Syn
     requires choices { length space.now.built.variables.choices.items ≡ length at.now }
     requires changes { IsTrue space.now.deciding.lists.listed →
         AreChangesListed problem.now.pairs change at.now space.now }
-    ensures { WhereMeant F.Fn V.Fn problem.now (λ m. IsTrue result ↔ plain_energy m (labelling_made change (labelling at.now)
-        (site_values space.now.built.variables.choices.items)) < plain_energy m (labelling at.now)) }
+    ensures { WhereMeant F.Fn V.Fn problem.now
+        (λ m. IsTrue result ↔ plain_energy m (labelling_made change (labelling at.now)
+        (site_values space.now.built.variables.choices.items))
+        < plain_energy m (labelling at.now)) }
 {
     if space.deciding.lists.listed {
         lowers_listed(problem, at, change, space)

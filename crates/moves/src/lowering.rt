@@ -1,4 +1,5 @@
-//! Whether the labels that the values of a move's sites make have a lower energy. Only what changes is asked.
+//! Whether the labels that the values of a move's sites make have a lower energy. Only what changes
+//! is asked.
 ghost use Rattle.std.specs.Prelude.{◌≡◌, ◌<◌, ◌≤◌, ◌↔◌, ℕ, pos, ◌-ℤ◌, ◌<ℤ◌, All, length, unsigned_abs, IsTrue};
 ghost use Rattle.label_field.specs.Limits.{site_limit};
 ghost use Rattle.label_field.specs.PairLists.{IsPair};
@@ -42,8 +43,10 @@ pub(crate) fn site_rise<F: Fn(u32, u32) -> i64 + Sync, V: Fn(u32, u32) -> i64 + 
     requires site { site < length at.now }
     requires asked { IsAsked problem.now at.now change }
     requires choices { length choices.now ≡ length at.now }
-    ensures rise { WhereMeant F.Fn V.Fn problem.now (λ m. result ≡ pos (m.data_cost site (labelling_made change (labelling
-        at.now) (site_values choices.now) site)) -ℤ pos (m.data_cost site (labelling at.now site))) }
+    ensures rise { WhereMeant F.Fn V.Fn problem.now
+        (λ m. result ≡ pos (m.data_cost site (labelling_made change (labelling
+        at.now) (site_values choices.now) site))
+        -ℤ pos (m.data_cost site (labelling at.now site))) }
     ensures range { unsigned_abs result ≤ site_cost_limit }
 {
     let old = u32::from(at[site as usize]);
@@ -64,7 +67,8 @@ fn data_rise<F: Fn(u32, u32) -> i64 + Sync, V: Fn(u32, u32) -> i64 + Sync>(
     requires posed { IsPosed F.Fn V.Fn problem.now }
     requires asked { IsAsked problem.now at.now change }
     requires choices { length choices.now ≡ length at.now }
-    ensures rise { WhereMeant F.Fn V.Fn problem.now (λ m. result ≡ pos (data_energy m (labelling_made change (labelling
+    ensures rise { WhereMeant F.Fn V.Fn problem.now
+        (λ m. result ≡ pos (data_energy m (labelling_made change (labelling
         at.now) (site_values choices.now))) -ℤ pos (data_energy m (labelling at.now))) }
     ensures range { unsigned_abs result ≤ data_energy_limit }
 {
@@ -87,7 +91,8 @@ pub(crate) fn pair_rise<F: Fn(u32, u32) -> i64 + Sync, V: Fn(u32, u32) -> i64 + 
     requires pair { IsPair (length at.now) pair }
     requires asked { IsAsked problem.now at.now change }
     requires choices { length choices.now ≡ length at.now }
-    ensures rise { WhereMeant F.Fn V.Fn problem.now (λ m. result ≡ pos (cost_of_pair m (labelling_made change (labelling
+    ensures rise { WhereMeant F.Fn V.Fn problem.now
+        (λ m. result ≡ pos (cost_of_pair m (labelling_made change (labelling
         at.now) (site_values choices.now)) pair) -ℤ pos (cost_of_pair m (labelling at.now) pair)) }
     ensures range { unsigned_abs result ≤ pair_cost_limit }
 {
@@ -113,7 +118,8 @@ fn smooth_rise<F: Fn(u32, u32) -> i64 + Sync, V: Fn(u32, u32) -> i64 + Sync>(
     requires posed { IsPosed F.Fn V.Fn problem.now }
     requires asked { IsAsked problem.now at.now change }
     requires choices { length choices.now ≡ length at.now }
-    ensures rise { WhereMeant F.Fn V.Fn problem.now (λ m. result ≡ pos (smooth_energy m (labelling_made change (labelling
+    ensures rise { WhereMeant F.Fn V.Fn problem.now
+        (λ m. result ≡ pos (smooth_energy m (labelling_made change (labelling
         at.now) (site_values choices.now))) -ℤ pos (smooth_energy m (labelling at.now))) }
     ensures range { unsigned_abs result ≤ smooth_energy_limit }
 {
@@ -134,7 +140,8 @@ pub(crate) fn lowers_all<F: Fn(u32, u32) -> i64 + Sync, V: Fn(u32, u32) -> i64 +
     requires posed { IsPosed F.Fn V.Fn problem.now }
     requires asked { IsAsked problem.now at.now change }
     requires choices { length choices.now ≡ length at.now }
-    ensures { WhereMeant F.Fn V.Fn problem.now (λ m. IsTrue result ↔ plain_energy m (labelling_made change (labelling at.now)
+    ensures { WhereMeant F.Fn V.Fn problem.now
+        (λ m. IsTrue result ↔ plain_energy m (labelling_made change (labelling at.now)
         (site_values choices.now)) < plain_energy m (labelling at.now)) }
 {
     let rise = data_rise(problem, at, change, choices);

@@ -22,8 +22,9 @@ use move_energy::Choice;
 use stages::{Changes, Stage};
 use std::alloc::Global;
 
-/// What a run remembers at its beginning: its moves from then on where it is one of expansions that come again, the smooth
-/// costs were stored as a metric, and no label costs anything by itself. Else, and where memory for that is refused, nothing.
+/// What a run remembers at its beginning: its moves from then on where it is one of expansions that
+/// come again, the smooth costs were stored as a metric, and no label costs anything by itself.
+/// Else, and where memory for that is refused, nothing.
 pub(crate) fn begin_run<F: Fn(u32, u32) -> i64 + Sync, V: Fn(u32, u32) -> i64 + Sync>(
     alloc: Global,
     problem: &Problem<F, V>,
@@ -32,7 +33,8 @@ pub(crate) fn begin_run<F: Fn(u32, u32) -> i64 + Sync, V: Fn(u32, u32) -> i64 + 
     cycles: u32,
 ) -> Changes
     requires fits { FitsProblem problem.now labelling.now }
-    ensures { WhereMeant F.Fn V.Fn problem.now (λ m. AreStamped m (labelling_of labelling.now.at) result) }
+    ensures { WhereMeant F.Fn V.Fn problem.now
+        (λ m. AreStamped m (labelling_of labelling.now.at) result) }
 {
     let comes_again = moves == Moves::Expansion && cycles > 1;
     if !comes_again || !problem.smooth_cost.by_metric || has_cost(costs_of(&problem.label_costs)) {
@@ -44,7 +46,8 @@ pub(crate) fn begin_run<F: Fn(u32, u32) -> i64 + Sync, V: Fn(u32, u32) -> i64 + 
     }
 }
 
-/// Notes an expansion that was made whole. Where a label costs something by itself, none is remembered.
+/// Notes an expansion that was made whole. Where a label costs something by itself, none is
+/// remembered.
 fn note_whole<F: Fn(u32, u32) -> i64 + Sync, V: Fn(u32, u32) -> i64 + Sync>(
     problem: &Problem<F, V>,
     changes: &mut Changes,
@@ -79,7 +82,8 @@ fn note_later<F: Fn(u32, u32) -> i64 + Sync, V: Fn(u32, u32) -> i64 + Sync>(
     changes.note_sites(alpha, &stage.taking);
 }
 
-/// An expansion of a run, near what changed since its label's last where that is known, and else whole.
+/// An expansion of a run, near what changed since its label's last where that is known, and else
+/// whole.
 fn make_expansion<F: Fn(u32, u32) -> i64 + Sync, V: Fn(u32, u32) -> i64 + Sync, H: How>(
     alloc: Global,
     problem: &Problem<F, V>,
@@ -99,7 +103,8 @@ fn make_expansion<F: Fn(u32, u32) -> i64 + Sync, V: Fn(u32, u32) -> i64 + Sync, 
     ensures sizes { AreOfOneSize labelling.old labelling.new }
     ensures moved { WhereMeant F.Fn V.Fn problem.now
         (λ m. IsMoved m (Expand alpha) labelling.old.at labelling.new.at result) }
-    ensures refused { IfErr result (IsMoveRefusal (H.refuses how.now) labelling.old.labels (Expand alpha)) }
+    ensures refused { IfErr result
+        (IsMoveRefusal (H.refuses how.now) labelling.old.labels (Expand alpha)) }
     ensures stamped { WhereMeant F.Fn V.Fn problem.now
         (λ m. AreStamped m (labelling_of labelling.new.at) changes.new) }
 {

@@ -83,7 +83,8 @@ fn cut_stage<F: Fn(u32, u32) -> i64 + Sync, V: Fn(u32, u32) -> i64 + Sync, H: Ho
     ensures kept { built.new.variables.choices.items ≡ built.old.variables.choices.items }
     ensures numbering { OnOk result (IsNumbering built.new.variables.choices.items
         built.new.variables.of_sites.items) }
-    ensures count { IfOk result (λ bits. length bits.items ≡ open_count built.new.variables.choices.items) }
+    ensures count { IfOk result
+        (λ bits. length bits.items ≡ open_count built.new.variables.choices.items) }
     ensures least { WhereMeant F.Fn V.Fn problem.now
         (λ m. IfOk result (λ bits. IsStageLeast m change
         (labelling at.now) built.new.variables.choices.items bits.items)) }
@@ -101,7 +102,8 @@ fn end_stage(space: &mut Workspace, pairs: &Pairs, bits: &[bool]) -> Result<Stan
     requires numbering { IsNumbering space.old.built.variables.choices.items
         space.old.built.variables.of_sites.items }
     requires bits { length bits.now ≡ open_count space.old.built.variables.choices.items }
-    ensures same { (space.new.grouped ≡ space.old.grouped) × (space.new.deciding ≡ space.old.deciding) }
+    ensures same { (space.new.grouped ≡ space.old.grouped)
+        × (space.new.deciding ≡ space.old.deciding) }
     ensures fresh { space.new.stage.fresh.items ≡ space.old.stage.fresh.items }
     ensures closed { IfOk result (λ standing. standing ≡ Standing.Closed → IsClosedIn pairs.now
         (value_of space.old.built.variables.choices.items bits.now)
@@ -109,8 +111,10 @@ fn end_stage(space: &mut Workspace, pairs: &Pairs, bits: &[bool]) -> Result<Stan
         (is_marked space.new.stage.taken.items) (is_marked space.old.stage.fresh.items)) }
     ensures taking { IfOk result (λ standing. standing ≡ Standing.Closed →
         AreTaking pairs.now.sites space.new.stage) }
-    ensures open { IfOk result (λ standing. standing ≡ Standing.Open → IsStageReady pairs.now space.new) }
-    ensures zeros { IfOk result (λ standing. standing ≡ Standing.Open → (p : ℕ) → p < pairs.now.sites →
+    ensures open { IfOk result
+        (λ standing. standing ≡ Standing.Open → IsStageReady pairs.now space.new) }
+    ensures zeros { IfOk result
+        (λ standing. standing ≡ Standing.Open → (p : ℕ) → p < pairs.now.sites →
         choice_at space.new.built.variables.choices.items p ≡ Zero →
         value_of space.old.built.variables.choices.items bits.now p ≡ false) }
 {
@@ -146,8 +150,10 @@ pub(crate) fn make_stage<F: Fn(u32, u32) -> i64 + Sync, V: Fn(u32, u32) -> i64 +
     requires asked { IsAsked problem.now at.now (Expand alpha) }
     requires posed { IsPosed F.Fn V.Fn problem.now }
     requires stage { IsStageReady problem.now.pairs space.old }
-    requires allowed { WhereMeant F.Fn V.Fn problem.now (λ m. IsAllowed m (Expand alpha) (labelling at.now)) }
-    ensures same { (space.new.grouped ≡ space.old.grouped) × (space.new.deciding ≡ space.old.deciding) }
+    requires allowed { WhereMeant F.Fn V.Fn problem.now
+        (λ m. IsAllowed m (Expand alpha) (labelling at.now)) }
+    ensures same { (space.new.grouped ≡ space.old.grouped)
+        × (space.new.deciding ≡ space.old.deciding) }
     ensures fresh { space.new.stage.fresh.items ≡ space.old.stage.fresh.items }
     ensures closed { WhereMeant F.Fn V.Fn problem.now (λ m. IfOk result (λ standing.
         standing ≡ Standing.Closed → EndsMove m alpha at.now space.old space.new)) }
@@ -155,7 +161,8 @@ pub(crate) fn make_stage<F: Fn(u32, u32) -> i64 + Sync, V: Fn(u32, u32) -> i64 +
         AreTaking problem.now.pairs.sites space.new.stage) }
     ensures open { IfOk result (λ standing. standing ≡ Standing.Open →
         IsStageReady problem.now.pairs space.new) }
-    ensures zeros { WhereMeant F.Fn V.Fn problem.now (λ m. IfOk result (λ standing. standing ≡ Standing.Open →
+    ensures zeros { WhereMeant F.Fn V.Fn problem.now
+        (λ m. IfOk result (λ standing. standing ≡ Standing.Open →
         AreStageZeros m alpha at.now space.old → AreStageZeros m alpha at.now space.new)) }
     ensures refused { IfErr result (IsCutRefusal (H.refuses how.now)) }
 {

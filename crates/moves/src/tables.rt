@@ -18,7 +18,8 @@ use label_field::{Labelling, Pairs};
 use labellings::Moves;
 use std::alloc::Global;
 
-/// What a run is asked for: the labels that it starts from, the kind of its moves, and how many cycles it may make.
+/// What a run is asked for: the labels that it starts from, the kind of its moves, and how many
+/// cycles it may make.
 #[derive(Drop)]
 pub struct Request {
     pub start: Labelling,
@@ -39,21 +40,23 @@ pub struct Run {
     pub smooth: i64,
     /// What the labels that some site has cost by themselves.
     pub label: i64,
-    /// How near the labelling is to the least energy: `vmin` times its energy is at most twice `vmax` times that of any
-    /// labelling. Told exactly of a run of expansions whose last cycle changed nothing, where the smooth costs are a
-    /// metric and no label costs anything by itself.
+    /// How near the labelling is to the least energy: `vmin` times its energy is at most twice
+    /// `vmax` times that of any labelling. Told exactly of a run of expansions whose last cycle
+    /// changed nothing, where the smooth costs are a metric and no label costs anything by itself.
     pub bound: Option<Bound>,
 }
 
-/// Makes the moves of a request, and answers where they ended. `smooth` has a row for each label of a pair's first site, and
-/// in it an entry from 0 to `SMOOTH_LIMIT` for each of the second; `by_metric` says whether it is a metric, which
-/// `is_metric` tells of a table that is not known. `label_costs` has what each label costs by itself, from 0 to
-/// `LABEL_COST_LIMIT`: 0 where it has none.
+/// Makes the moves of a request, and answers where they ended. `smooth` has a row for each label of
+/// a pair's first site, and in it an entry from 0 to `SMOOTH_LIMIT` for each of the second;
+/// `by_metric` says whether it is a metric, which `is_metric` tells of a table that is not known.
+/// `label_costs` has what each label costs by itself, from 0 to `LABEL_COST_LIMIT`: 0 where it has
+/// none.
 ///
-/// Refused: `LabelCostInSwap` exactly where swaps are to be made and some label costs something by itself, before
-/// any move; `PairNotRegular` where the next move of the chain has a term that is not regular, which never
-/// happens where the table is a metric; what `how` refuses; and out of memory. The contract speaks of every
-/// instance whose data costs the closure answers: who knows them names it.
+/// Refused: `LabelCostInSwap` exactly where swaps are to be made and some label costs something by
+/// itself, before any move; `PairNotRegular` where the next move of the chain has a term that is
+/// not regular, which never happens where the table is a metric; what `how` refuses; and out of
+/// memory. The contract speaks of every instance whose data costs the closure answers: who knows
+/// them names it.
 pub fn run_with_table<F: Fn(u32, u32) -> i64 + Sync, H: How>(
     alloc: Global,
     pairs: Pairs,
@@ -73,18 +76,23 @@ pub fn run_with_table<F: Fn(u32, u32) -> i64 + Sync, H: How>(
         × All (IsCost smooth_limit) smooth.now }
     requires known { IsTrue by_metric ↔ IsMetricTable request.start.labels smooth.now }
     requires label_costs { AreLabelCosts request.start.labels label_costs }
-    ensures run { (m : Instance) → IsInstanceOf (F.post data_cost.f) pairs request.start.labels smooth.now m →
+    ensures run { (m : Instance)
+        → IsInstanceOf (F.post data_cost.f) pairs request.start.labels smooth.now m →
         HasCosts m label_costs → AnswersRun m request.moves request.cycles request.start.at result }
     ensures refused { IfErr result (IsRunRefusal (H.refuses how.now)) }
-    ensures metric { IsMetricTable request.start.labels smooth.now → (m : Instance) → IsInstanceOf (F.post
-        data_cost.f) pairs request.start.labels smooth.now m → HasCosts m label_costs → IfErr result (λ e. ¬
+    ensures metric { IsMetricTable request.start.labels smooth.now → (m : Instance)
+        → IsInstanceOf (F.post
+        data_cost.f) pairs request.start.labels smooth.now m → HasCosts m label_costs
+        → IfErr result (λ e. ¬
         TellsPairNotRegular e) }
     ensures over_metric { (m : Instance) →
         IsInstanceOf (F.post data_cost.f) pairs request.start.labels smooth.now m →
         HasCosts m label_costs → MayMake m request.moves →
         IfErr result (IsRefusalOver m (H.refuses how.now)) }
-    ensures bounded { (m : Instance) → IsInstanceOf (F.post data_cost.f) pairs request.start.labels smooth.now
-        m → HasCosts m label_costs → IfOk result (λ run. IfSome run.bound (λ bound. pos bound.vmax ≤ℤ
+    ensures bounded { (m : Instance)
+        → IsInstanceOf (F.post data_cost.f) pairs request.start.labels smooth.now
+        m → HasCosts m label_costs
+        → IfOk result (λ run. IfSome run.bound (λ bound. pos bound.vmax ≤ℤ
         smooth_limit)) }
     ensures sized { IfOk result (IsRunInRange request.start) }
 {
@@ -123,14 +131,17 @@ pub fn run_tables<H: How>(
     requires smooth { (length smooth.now ≡ request.start.labels * request.start.labels)
         × All (IsCost smooth_limit) smooth.now }
     requires label_costs { AreLabelCosts request.start.labels label_costs }
-    ensures run { AnswersRun (instance_of pairs request.start.labels (data_entry request.start.labels data.now)
+    ensures run { AnswersRun (instance_of pairs request.start.labels
+        (data_entry request.start.labels data.now)
         smooth.now (costs_of label_costs)) request.moves request.cycles request.start.at result }
     ensures refused { IfErr result (IsRunRefusal (H.refuses how.now)) }
     ensures over_metric { let labels = request.start.labels in
-        let m = instance_of pairs labels (data_entry labels data.now) smooth.now (costs_of label_costs) in
+        let m = instance_of pairs labels (data_entry labels data.now) smooth.now
+        (costs_of label_costs) in
         MayMake m request.moves → IfErr result (IsRefusalOver m (H.refuses how.now)) }
     ensures sized { IfOk result (IsRunInRange request.start) }
-    ensures bounded { IfOk result (λ run. IfSome run.bound (λ bound. pos bound.vmax ≤ℤ smooth_limit)) }
+    ensures bounded { IfOk result
+        (λ run. IfSome run.bound (λ bound. pos bound.vmax ≤ℤ smooth_limit)) }
 {
     let labels = request.start.labels();
     let sites = request.start.sites();

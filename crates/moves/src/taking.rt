@@ -18,8 +18,9 @@ use label_field::Labelling;
 use labellings::Move;
 use move_energy::Choice;
 
-/// Takes the labels that the least values of the sites with the fewest ones make. Where no labels are better, an
-/// expansion makes the labels as they are; a swap need not, so it takes them only where their energy is lower.
+/// Takes the labels that the least values of the sites with the fewest ones make. Where no labels
+/// are better, an expansion makes the labels as they are; a swap need not, so it takes them only
+/// where their energy is lower.
 pub(crate) fn take_best<F: Fn(u32, u32) -> i64 + Sync, V: Fn(u32, u32) -> i64 + Sync>(
     problem: &Problem<F, V>,
     field: &mut Labelling,
@@ -37,9 +38,12 @@ pub(crate) fn take_best<F: Fn(u32, u32) -> i64 + Sync, V: Fn(u32, u32) -> i64 + 
     ensures made { IsMade change field.old.at field.new.at result }
     ensures taken { (a : ℕ) → change ≡ Expand a →
         HasTaken a (site_values space.now.built.variables.choices.items) field.old.at field.new.at }
-    ensures best { WhereMeant F.Fn V.Fn problem.now (λ m. IsSmallestLeast m.sites (made_value m change (labelling
-        field.old.at)) (site_values space.now.built.variables.choices.items) → (IsBest m change field.old.at
-        field.new.at × ((IsTrue result → field.new.at ≢ field.old.at) × (IsFalse result → field.new.at ≡
+    ensures best { WhereMeant F.Fn V.Fn problem.now
+        (λ m. IsSmallestLeast m.sites (made_value m change (labelling
+        field.old.at)) (site_values space.now.built.variables.choices.items)
+        → (IsBest m change field.old.at
+        field.new.at × ((IsTrue result → field.new.at ≢ field.old.at)
+        × (IsFalse result → field.new.at ≡
         field.old.at)))) }
 {
     match change {
@@ -53,8 +57,8 @@ pub(crate) fn take_best<F: Fn(u32, u32) -> i64 + Sync, V: Fn(u32, u32) -> i64 + 
     }
 }
 
-/// Gives each site the label that its value makes. It answers whether a label changed. Where the sites whose labels can
-/// change are listed, no other is looked at.
+/// Gives each site the label that its value makes. It answers whether a label changed. Where the
+/// sites whose labels can change are listed, no other is looked at.
 fn relabel(labelling: &mut Labelling, space: &Workspace, change: Move) -> bool
     requires below { IsMoveOf labelling.old.labels change }
     requires choices { length space.now.built.variables.choices.items ≡ length labelling.old.at }
@@ -62,7 +66,8 @@ fn relabel(labelling: &mut Labelling, space: &Workspace, change: Move) -> bool
         space.now.built.variables.choices.items space.now.deciding.lists.changing.items }
     ensures sizes { (labelling.new.labels ≡ labelling.old.labels)
         × (length labelling.new.at ≡ length labelling.old.at) }
-    ensures each { (p : ℕ) → p < length labelling.old.at → slice_index labelling.new.at p ≡ label_after change
+    ensures each { (p : ℕ) → p < length labelling.old.at
+        → slice_index labelling.new.at p ≡ label_after change
         (slice_index labelling.old.at p) (site_values space.now.built.variables.choices.items p) }
     ensures changed { (IsTrue result → labelling.new.at ≢ labelling.old.at) × (IsFalse result →
         labelling.new.at ≡ labelling.old.at) }
@@ -75,7 +80,8 @@ fn relabel(labelling: &mut Labelling, space: &Workspace, change: Move) -> bool
     }
 }
 
-/// Gives each site the label that its value makes, where the sites whose labels can change are listed.
+/// Gives each site the label that its value makes, where the sites whose labels can change are
+/// listed.
 fn relabel_listed(
     labelling: &mut Labelling,
     choices: &[Choice],
@@ -108,7 +114,8 @@ fn relabel_all(labelling: &mut Labelling, choices: &[Choice], change: Move) -> b
     requires choices { length choices.now ≡ length labelling.old.at }
     ensures sizes { (labelling.new.labels ≡ labelling.old.labels)
         × (length labelling.new.at ≡ length labelling.old.at) }
-    ensures each { (p : ℕ) → p < length labelling.old.at → slice_index labelling.new.at p ≡ label_after change
+    ensures each { (p : ℕ) → p < length labelling.old.at
+        → slice_index labelling.new.at p ≡ label_after change
         (slice_index labelling.old.at p) (site_values choices.now p) }
     ensures changed { (IsTrue result → labelling.new.at ≢ labelling.old.at) × (IsFalse result →
         labelling.new.at ≡ labelling.old.at) }
@@ -139,7 +146,8 @@ pub(crate) fn relabel_site(labelling: &mut Labelling, site: u32, bit: bool, chan
       at = slice_set labelling.old.at site (label_after
           change (slice_index labelling.old.at site) bit);
     } }
-    ensures changed { IsTrue result ↔ (label_after change (slice_index labelling.old.at site) bit ≢ slice_index
+    ensures changed { IsTrue result
+        ↔ (label_after change (slice_index labelling.old.at site) bit ≢ slice_index
         labelling.old.at site) }
 {
     let Ok(old) = labelling.label(site) else {

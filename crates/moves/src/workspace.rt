@@ -54,7 +54,8 @@ fn give_bounds_back(alloc: Global, bounds: &mut Bounds) {
 fn give_groups_back(alloc: Global, grouped: &mut bool, deciding: &mut Deciding)
     requires far { deciding.old.lists.listed ≡ false }
     ensures far { deciding.new.lists.listed ≡ false }
-    ensures kept { IsTrue grouped.new → IsTrue grouped.old × (deciding.new.ends ≡ deciding.old.ends) }
+    ensures kept { IsTrue grouped.new
+        → IsTrue grouped.old × (deciding.new.ends ≡ deciding.old.ends) }
     ensures bounds { deciding.new.bounds ≡ deciding.old.bounds }
 {
     if deciding.lists.count > GROUPED_SITES {
@@ -117,10 +118,12 @@ impl Workspace {
     /// Gives each open site its value, the listed ones alone where they are listed.
     pub(crate) fn settle(&mut self, bits: &[bool])
         requires { IsTrue self.old.deciding.lists.listed →
-            AreOpenSites self.old.built.variables.choices.items self.old.deciding.lists.opened.items }
+            AreOpenSites self.old.built.variables.choices.items
+            self.old.deciding.lists.opened.items }
         ensures settled { AreSettled self.old.built.variables.choices.items bits.now
             self.new.built.variables.choices.items }
-        ensures same { (self.new.grouped ≡ self.old.grouped) × (self.new.deciding ≡ self.old.deciding) }
+        ensures same { (self.new.grouped ≡ self.old.grouped)
+            × (self.new.deciding ≡ self.old.deciding) }
     {
         if self.deciding.lists.listed {
             self.built
@@ -186,11 +189,14 @@ fn build_near<F: Fn(u32, u32) -> i64 + Sync, V: Fn(u32, u32) -> i64 + Sync>(
         (λ m. KnowsWeights m change at.now space.old) }
     requires allowed { WhereMeant F.Fn V.Fn problem.now
         (λ m. IsAllowed m change (labelling at.now)) }
-    ensures same { (space.new.grouped ≡ space.old.grouped) × (space.new.deciding ≡ space.old.deciding) }
-    ensures kept { space.new.built.variables.choices.items ≡ space.old.built.variables.choices.items }
+    ensures same { (space.new.grouped ≡ space.old.grouped)
+        × (space.new.deciding ≡ space.old.deciding) }
+    ensures kept { space.new.built.variables.choices.items
+        ≡ space.old.built.variables.choices.items }
     ensures bounded { OnOk result (IsQuadraticBounded term_limit space.new.built.form) }
     ensures few { OnOk result (vec_len space.new.built.form.weights ≤ site_limit) }
-    ensures stands { WhereMeant F.Fn V.Fn problem.now (λ m. OnOk result (Stands m change at.now space.new.built)) }
+    ensures stands { WhereMeant F.Fn V.Fn problem.now
+        (λ m. OnOk result (Stands m change at.now space.new.built)) }
 {
     space.built.build_weighted_listed(
         alloc,
@@ -224,10 +230,12 @@ fn build_all<F: Fn(u32, u32) -> i64 + Sync, V: Fn(u32, u32) -> i64 + Sync>(
         (λ m. IsAllowed m change (labelling at.now)) }
     ensures by_site { IsGroupedFor problem.now.pairs space.new }
     ensures far { space.new.deciding.lists.listed ≡ false }
-    ensures kept { space.new.built.variables.choices.items ≡ space.old.built.variables.choices.items }
+    ensures kept { space.new.built.variables.choices.items
+        ≡ space.old.built.variables.choices.items }
     ensures bounded { OnOk result (IsQuadraticBounded term_limit space.new.built.form) }
     ensures few { OnOk result (vec_len space.new.built.form.weights ≤ site_limit) }
-    ensures stands { WhereMeant F.Fn V.Fn problem.now (λ m. OnOk result (Stands m change at.now space.new.built)) }
+    ensures stands { WhereMeant F.Fn V.Fn problem.now
+        (λ m. OnOk result (Stands m change at.now space.new.built)) }
 {
     give_groups_back(alloc, &mut space.grouped, &mut space.deciding);
     let weights = &space.deciding.bounds.greatest;
@@ -258,10 +266,12 @@ fn build_open<F: Fn(u32, u32) -> i64 + Sync, V: Fn(u32, u32) -> i64 + Sync>(
         (λ m. IsAllowed m change (labelling at.now)) }
     ensures by_site { IsGroupedFor problem.now.pairs space.new }
     ensures near { IsNearWhereListed problem.now.pairs change at.now space.new }
-    ensures kept { space.new.built.variables.choices.items ≡ space.old.built.variables.choices.items }
+    ensures kept { space.new.built.variables.choices.items
+        ≡ space.old.built.variables.choices.items }
     ensures bounded { OnOk result (IsQuadraticBounded term_limit space.new.built.form) }
     ensures few { OnOk result (vec_len space.new.built.form.weights ≤ site_limit) }
-    ensures stands { WhereMeant F.Fn V.Fn problem.now (λ m. OnOk result (Stands m change at.now space.new.built)) }
+    ensures stands { WhereMeant F.Fn V.Fn problem.now
+        (λ m. OnOk result (Stands m change at.now space.new.built)) }
 {
     if space.deciding.lists.listed {
         build_near(alloc, problem, space, at, change)
@@ -300,7 +310,8 @@ fn build_strips<F: Fn(u32, u32) -> i64 + Sync, V: Fn(u32, u32) -> i64 + Sync, H:
     ensures choices { OnOk result (length space.new.built.variables.choices.items ≡ length at.now) }
     ensures bounded { OnOk result (IsQuadraticBounded term_limit space.new.built.form) }
     ensures few { OnOk result (vec_len space.new.built.form.weights ≤ site_limit) }
-    ensures stands { WhereMeant F.Fn V.Fn problem.now (λ m. OnOk result (Stands m change at.now space.new.built)) }
+    ensures stands { WhereMeant F.Fn V.Fn problem.now
+        (λ m. OnOk result (Stands m change at.now space.new.built)) }
     ensures agree { WhereMeant F.Fn V.Fn problem.now (λ m.
         Agree m.sites (move_value m change (labelling at.now))
         (choice_at space.old.built.variables.choices.items) →
@@ -349,7 +360,8 @@ fn build_decided<F: Fn(u32, u32) -> i64 + Sync, V: Fn(u32, u32) -> i64 + Sync, H
     ensures choices { OnOk result (length space.new.built.variables.choices.items ≡ length at.now) }
     ensures bounded { OnOk result (IsQuadraticBounded term_limit space.new.built.form) }
     ensures few { OnOk result (vec_len space.new.built.form.weights ≤ site_limit) }
-    ensures built { WhereMeant F.Fn V.Fn problem.now (λ m. IsBuiltPlain m change at.now space.new.built result) }
+    ensures built { WhereMeant F.Fn V.Fn problem.now
+        (λ m. IsBuiltPlain m change at.now space.new.built result) }
 {
     decide(alloc, problem, space, at, change, how)?;
     let opened = space.deciding.lists.count;
@@ -378,7 +390,8 @@ fn build_whole<F: Fn(u32, u32) -> i64 + Sync, V: Fn(u32, u32) -> i64 + Sync>(
     ensures choices { OnOk result (length space.new.built.variables.choices.items ≡ length at.now) }
     ensures bounded { OnOk result (IsQuadraticBounded term_limit space.new.built.form) }
     ensures few { OnOk result (vec_len space.new.built.form.weights ≤ site_limit) }
-    ensures built { WhereMeant F.Fn V.Fn problem.now (λ m. IsBuiltPlain m change at.now space.new.built result) }
+    ensures built { WhereMeant F.Fn V.Fn problem.now
+        (λ m. IsBuiltPlain m change at.now space.new.built result) }
 {
     space.deciding.lists.listed = false;
     space.built.prepare(alloc, problem, at, change)
@@ -402,7 +415,8 @@ fn build_plain<F: Fn(u32, u32) -> i64 + Sync, V: Fn(u32, u32) -> i64 + Sync, H: 
     ensures choices { OnOk result (length space.new.built.variables.choices.items ≡ length at.now) }
     ensures bounded { OnOk result (IsQuadraticBounded term_limit space.new.built.form) }
     ensures few { OnOk result (vec_len space.new.built.form.weights ≤ site_limit) }
-    ensures built { WhereMeant F.Fn V.Fn problem.now (λ m. IsBuiltPlain m change at.now space.new.built result) }
+    ensures built { WhereMeant F.Fn V.Fn problem.now
+        (λ m. IsBuiltPlain m change at.now space.new.built result) }
 {
     if how.decides_first() {
         build_decided(alloc, problem, space, at, change, how)
@@ -427,7 +441,8 @@ fn build_costed<F: Fn(u32, u32) -> i64 + Sync, V: Fn(u32, u32) -> i64 + Sync>(
     requires few { problem.now.data_cost.labels ≤ label_limit }
     requires by_site { IsGroupedFor problem.now.pairs space.old }
     ensures by_site { IsGroupedFor problem.now.pairs space.new }
-    ensures near { OnOk result (IsRestWhereListed problem.now.pairs (Expand alpha) at.now space.new) }
+    ensures near { OnOk result
+        (IsRestWhereListed problem.now.pairs (Expand alpha) at.now space.new) }
     ensures choices { OnOk result (length space.new.built.variables.choices.items ≡ length at.now) }
     ensures bounded { OnOk result (IsQuadraticBounded term_limit space.new.built.form) }
     ensures few { OnOk result (vec_len space.new.built.form.weights ≤ site_limit + label_limit) }
@@ -470,7 +485,8 @@ pub(crate) fn build_move<F: Fn(u32, u32) -> i64 + Sync, V: Fn(u32, u32) -> i64 +
     ensures choices { OnOk result (length space.new.built.variables.choices.items ≡ length at.now) }
     ensures bounded { OnOk result (IsQuadraticBounded term_limit space.new.built.form) }
     ensures few { OnOk result (vec_len space.new.built.form.weights ≤ site_limit + label_limit) }
-    ensures built { WhereMeant F.Fn V.Fn problem.now (λ m. IsBuiltMove m change at.now space.new.built result) }
+    ensures built { WhereMeant F.Fn V.Fn problem.now
+        (λ m. IsBuiltMove m change at.now space.new.built result) }
 {
     let costs = costs_of(&problem.label_costs);
     let costly = has_cost(costs);

@@ -8,8 +8,8 @@ use Rattle.pgm_image.specs.declared.error.PgmError.TheVariants.{OutOfMemory, Not
 use Rattle.pgm_image.specs.declared.header.Form.{Form}
 use Rattle.pgm_image.specs.declared.header.Form.TheVariants.{Raw, Plain}
 
--- The samples of an image are all of the body. The white-space byte that ends the header begins the gap
--- before the first plain sample. The last one ends with the bytes, or before white space.
+-- The samples of an image are all of the body. The white-space byte that ends the header begins the
+-- gap before the first plain sample. The last one ends with the bytes, or before white space.
 abbrev pub IsBody : Form → Picture → ℕ → List ℕ → List ℕ → Type 0
 IsBody Raw p last body rest = body ≡ raster p.maxval p.samples
 IsBody Plain p last body rest = AreNumbers p.samples (last ∷ body) × EndsNumber rest
@@ -27,7 +27,8 @@ pub record Front (bytes : List ℕ) (p : Picture) (used : ℕ) : Type 0 where
   pub used_is : used ≡ length header + length body
 
 -- A header stands at the front, and what follows it, with its last byte, is so.
-pub record AfterHeader (Says : Form → ℕ → ℕ → ℕ → ℕ → List ℕ → Type 0) (bytes : List ℕ) : Type 0 where
+pub record AfterHeader (Says : Form → ℕ → ℕ → ℕ → ℕ → List ℕ → Type 0)
+    (bytes : List ℕ) : Type 0 where
   pub form : Form
   pub header : List ℕ
   pub rest : List ℕ
@@ -44,7 +45,8 @@ FitNumbers w h m = SizeFits w h × (1 ≤ m) × (m ≤ maxval_limit)
 
 -- a width and a height, one of which or whose product is above its limit
 abbrev pub IsTooLarge : ℕ → ℕ → Type 0
-IsTooLarge w h = (1 ≤ w) × (1 ≤ h) × ((image_side_limit < w) ⊎ ((image_side_limit < h) ⊎ (sample_limit < w * h)))
+IsTooLarge w h = (1 ≤ w) × (1 ≤ h)
+    × ((image_side_limit < w) ⊎ ((image_side_limit < h) ⊎ (sample_limit < w * h)))
 
 -- some plain samples, fewer than the count and none above m, stand at the front, and this follows
 pub record FewerSamples (count m : ℕ) (bytes xs tail : List ℕ) : Type 0 where
@@ -70,8 +72,8 @@ HasAbove Plain count m last rest i =
     × FewerSamples count m (last ∷ rest) xs tail × AreNumbers (x ∷ []) sample × EndsNumber more
     × (tail ≡ sample ++ more) × (m < x) × (length xs ≡ i)
 
--- After some plain samples a byte cannot stand in the gap, in the number or directly after it. `end` is
--- how many bytes there are from the image's first one on.
+-- After some plain samples a byte cannot stand in the gap, in the number or directly after it.
+-- `end` is how many bytes there are from the image's first one on.
 abbrev pub HasBad : Form → ℕ → ℕ → ℕ → List ℕ → ℕ → ℕ → Type 0
 HasBad Raw count m last rest end at = ⊥
 HasBad Plain count m last rest end at = (xs : List ℕ) × (tail : List ℕ) × (k : ℕ)
@@ -89,11 +91,14 @@ RefusesFront bytes TooLarge = AfterHeader (λ form w h m last rest. IsTooLarge w
 RefusesFront bytes BadMaxval =
     AfterHeader (λ form w h m last rest. SizeFits w h × ((m ≡ 0) ⊎ (maxval_limit < m))) bytes
 RefusesFront bytes Truncated =
-    AfterHeader (λ form w h m last rest. FitNumbers w h m × EndsEarly form (w * h) m last rest) bytes
+    AfterHeader (λ form w h m last rest.
+    FitNumbers w h m × EndsEarly form (w * h) m last rest) bytes
 RefusesFront bytes (SampleAboveMax i) =
-    AfterHeader (λ form w h m last rest. FitNumbers w h m × HasAbove form (w * h) m last rest i) bytes
+    AfterHeader (λ form w h m last rest.
+    FitNumbers w h m × HasAbove form (w * h) m last rest i) bytes
 RefusesFront bytes (BadSample at) =
-    AfterHeader (λ form w h m last rest. FitNumbers w h m × HasBad form (w * h) m last rest (length bytes) at) bytes
+    AfterHeader (λ form w h m last rest.
+    FitNumbers w h m × HasBad form (w * h) m last rest (length bytes) at) bytes
 
 -- what the format says of some bytes: their image, or its refusal
 abbrev pub IsReadingOf : List ℕ → Result (Picture × ℕ) PgmError → Type 0

@@ -4,8 +4,8 @@ use Rattle.pgm_image.specs.Signs.{is_space, is_line_end, is_digit}
 use Rattle.pgm_image.specs.declared.header.Form.{Form}
 use Rattle.pgm_image.specs.declared.header.Form.TheVariants.{Raw, Plain}
 
--- Any mix of white-space bytes and comments. A comment runs from a `#` to the next line end, that byte
--- included. `true`: a comment's rest, and then such a mix.
+-- Any mix of white-space bytes and comments. A comment runs from a `#` to the next line end, that
+-- byte included. `true`: a comment's rest, and then such a mix.
 unfoldable pub is_mix : Bool → List ℕ → Bool
 is_mix c [] = not c
 is_mix true (b ∷ bs) = if is_line_end b then is_mix false bs else is_mix true bs
@@ -35,7 +35,8 @@ pub record IsNumber (text : List ℕ) (n : ℕ) : Type 0 where
 abbrev pub AreNumbers : List ℕ → List ℕ → Type 0
 AreNumbers [] text = text ≡ []
 AreNumbers (n ∷ ns) text = (gap : List ℕ) × (digits : List ℕ) × (more : List ℕ)
-    × (is_gap gap ≡ true) × IsNumber digits n × AreNumbers ns more × (text ≡ gap ++ (digits ++ more))
+    × (is_gap gap ≡ true) × IsNumber digits n × AreNumbers ns more
+    × (text ≡ gap ++ (digits ++ more))
 
 abbrev pub magic : Form → List ℕ
 magic Raw = 80 ∷ 53 ∷ []
@@ -67,7 +68,8 @@ abbrev pub EndsNumber : List ℕ → Type 0
 EndsNumber [] = Unit {0}
 EndsNumber (b ∷ bs) = is_space b ≡ true
 
--- No front of the bytes is such a text, and the longest front that begins such a text has this length.
+-- No front of the bytes is such a text, and the longest front that begins such a text has this
+-- length.
 pub record StopsAt (IsText : List ℕ → Type 0) (bytes : List ℕ) (at : ℕ) : Type 0 where
   pub none : (front rest : List ℕ) → bytes ≡ front ++ rest → IsText front → ⊥
   pub longest : List ℕ

@@ -19,7 +19,8 @@ abbrev pub form_at : List ℕ → Option (Form × List ℕ)
 form_at [] = None
 form_at (a ∷ []) = None
 form_at (a ∷ b ∷ rest) =
-    if a == 80 then (if b == 53 then Some (Raw, rest) else if b == 50 then Some (Plain, rest) else None)
+    if a == 80 then (if b == 53 then Some (Raw, rest) else if b == 50 then Some
+    (Plain, rest) else None)
     else None
 
 -- the first of the limits that a header breaks
@@ -41,7 +42,8 @@ abbrev pub with_header : Result (Unit {0}) PgmError → Form → Header → List
 with_header (Ok u) form h rest = Ok (form, h, rest)
 with_header (Err e) form h rest = Err e
 
-abbrev pub after_numbers : Result (List ℕ × List ℕ) ℕ → Form → ℕ → Result (Form × Header × List ℕ) PgmError
+abbrev pub after_numbers : Result (List ℕ × List ℕ) ℕ → Form → ℕ
+    → Result (Form × Header × List ℕ) PgmError
 after_numbers (Ok x) form end = with_header (check_limits (header_of x.0)) form (header_of x.0) x.1
 after_numbers (Err left) form end = Err (BadHeader (end - left))
 
@@ -75,7 +77,8 @@ abbrev pub fault_error : ℕ → Fault → PgmError
 fault_error end Ended = Truncated
 fault_error end (Bad left) = BadSample (end - left)
 
-abbrev pub with_front : List ℕ → Result (List ℕ × List ℕ) PgmError → Result (List ℕ × List ℕ) PgmError
+abbrev pub with_front : List ℕ → Result (List ℕ × List ℕ) PgmError
+    → Result (List ℕ × List ℕ) PgmError
 with_front xs (Ok y) = Ok (xs ++ y.0, y.1)
 with_front xs (Err e) = Err e
 
@@ -116,8 +119,10 @@ abbrev pub image_of : Header → ℕ → Result (List ℕ × List ℕ) PgmError 
 image_of h end (Ok x) = Ok (picture h.width h.height h.maxval x.0, end - length x.1)
 image_of h end (Err e) = Err e
 
-abbrev pub after_header : Result (Form × Header × List ℕ) PgmError → ℕ → Result (Picture × ℕ) PgmError
-after_header (Ok x) end = image_of x.1 end (samples_at x.0 (x.1.width * x.1.height) x.1.maxval end x.2)
+abbrev pub after_header : Result (Form × Header × List ℕ) PgmError → ℕ
+    → Result (Picture × ℕ) PgmError
+after_header (Ok x) end =
+    image_of x.1 end (samples_at x.0 (x.1.width * x.1.height) x.1.maxval end x.2)
 after_header (Err e) end = Err e
 
 -- the image at the front, and how many bytes it takes

@@ -36,8 +36,8 @@ fn form_at(bytes: &[u8]) -> Option<(Form, &[u8])>
     }
 }
 
-/// A number of the header and the bytes from the white space after it on, or how many bytes are left
-/// where the first cannot go on the header.
+/// A number of the header and the bytes from the white space after it on, or how many bytes are
+/// left where the first cannot go on the header.
 fn whole_number(bytes: &[u8]) -> Result<(u32, &[u8]), usize>
     ensures value { MatchResult result (λ x. whole_number bytes.now ≡ Ok (x.0, x.1.now))
         (λ left. whole_number bytes.now ≡ Err left) }
@@ -51,8 +51,8 @@ fn whole_number(bytes: &[u8]) -> Result<(u32, &[u8]), usize>
     }
 }
 
-/// The header's numbers and the bytes from the white space after them on, or how many bytes are left
-/// where the first cannot go on the header.
+/// The header's numbers and the bytes from the white space after them on, or how many bytes are
+/// left where the first cannot go on the header.
 #[tactic(auto, unfolding(crate::specs::Words::numbers_at))]
 fn numbers_at(bytes: &[u8]) -> Result<(Header, &[u8]), usize>
     ensures value { MatchResult result

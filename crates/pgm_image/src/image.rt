@@ -13,8 +13,8 @@ pub const SAMPLE_LIMIT: u32 = 1_048_576;
 /// The greatest maxval; the least is 1. It is the PGM format's own.
 pub const MAXVAL_LIMIT: u32 = 65_535;
 
-/// A grey image: its samples by rows from the top, each row from the left, and none above `maxval`. 0 is
-/// black, `maxval` is white (the Netpbm project's PGM page).
+/// A grey image: its samples by rows from the top, each row from the left, and none above `maxval`.
+/// 0 is black, `maxval` is white (the Netpbm project's PGM page).
 #[derive(Debug, Drop)]
 pub struct Image {
     width: u32,
@@ -48,8 +48,8 @@ fn none_above(maxval: u32, samples: &[u16]) -> bool
 }
 
 impl Image {
-    /// An image of these samples, by rows from the top and each row from the left. `Image::fits` tells
-    /// whether they make one.
+    /// An image of these samples, by rows from the top and each row from the left. `Image::fits`
+    /// tells whether they make one.
     pub fn new(width: u32, height: u32, maxval: u32, samples: Vec<u16>) -> Image
         requires { IsPicture (picture width height maxval samples.items) }
         ensures { result ≡ picture width height maxval samples.items }
@@ -62,9 +62,9 @@ impl Image {
         }
     }
 
-    /// Whether these four make an image: the width and the height from 1 to `SIDE_LIMIT`, their product at
-    /// most `SAMPLE_LIMIT`, `maxval` from 1 to `MAXVAL_LIMIT`, as many samples as that product, and none
-    /// above `maxval`.
+    /// Whether these four make an image: the width and the height from 1 to `SIDE_LIMIT`, their
+    /// product at most `SAMPLE_LIMIT`, `maxval` from 1 to `MAXVAL_LIMIT`, as many samples as that
+    /// product, and none above `maxval`.
     pub fn fits(width: u32, height: u32, maxval: u32, samples: &[u16]) -> bool
         ensures { IsTrue result ↔ IsPicture (picture width height maxval samples.now) }
     {
@@ -96,8 +96,8 @@ impl Image {
         self.maxval
     }
 
-    /// The samples, by rows from the top and each row from the left: `width` times `height` of them, each
-    /// from 0 to `maxval`.
+    /// The samples, by rows from the top and each row from the left: `width` times `height` of
+    /// them, each from 0 to `maxval`.
     pub fn samples(&self) -> &[u16]
         ensures value { result.now ≡ self.now.samples }
         ensures valid { IsPicture self.now }

@@ -13,7 +13,8 @@ pub fn some_answer()
 
 /// The format says one thing at most of any bytes.
 pub fn one_answer()
-    ensures { (bytes : List ℕ) (a b : Result (Picture × ℕ) PgmError) → IsReadingOf bytes a → IsReadingOf bytes b
+    ensures { (bytes : List ℕ) (a b : Result (Picture × ℕ) PgmError) → IsReadingOf bytes a
+        → IsReadingOf bytes b
         → a ≡ b }
 {}
 

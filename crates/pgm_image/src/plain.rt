@@ -31,8 +31,8 @@ fn sample_at(bytes: &[u8]) -> Result<(u32, &[u8]), Fault>
     }
 }
 
-/// `count` samples at the front, each after a gap, and the bytes after them. `end` is where the bytes
-/// end, as positions are counted.
+/// `count` samples at the front, each after a gap, and the bytes after them. `end` is where the
+/// bytes end, as positions are counted.
 pub(crate) fn plain_samples(
     alloc: Global,
     count: usize,

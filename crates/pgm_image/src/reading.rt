@@ -11,7 +11,8 @@ use crate::plain::plain_samples;
 use crate::raster::raster_samples;
 use std::alloc::Global;
 
-/// The bytes after the header's last one, which is one white-space byte, also where it is the CR of a CR LF.
+/// The bytes after the header's last one, which is one white-space byte, also where it is the CR of
+/// a CR LF.
 fn past_header(bytes: &[u8]) -> &[u8]
     requires { 0 < length bytes.now }
     ensures { result.now ≡ drop 1 bytes.now }
@@ -34,7 +35,8 @@ fn samples_at(
     ensures value { MatchResult result
         (λ x. samples_at form (header.width * header.height) header.maxval end bytes.now
         ≡ Ok (x.0.items, x.1.now))
-        (λ e. RefusesAs e (samples_at form (header.width * header.height) header.maxval end bytes.now)) }
+        (λ e. RefusesAs e (samples_at form (header.width * header.height)
+        header.maxval end bytes.now)) }
     ensures each { IfOk result (λ x. (length x.0.items ≡ header.width * header.height)
         × All (λ y. y ≤ header.maxval) x.0.items × (length x.1.now ≤ length bytes.now)) }
 {
@@ -66,8 +68,8 @@ fn image_at(alloc: Global, bytes: &[u8]) -> Result<(Image, usize), PgmError>
 /// The image at the front, and how many bytes it took. Bytes may follow it.
 ///
 /// The grammar is the Netpbm project's PGM page in this project's profile (docs/PGM.md): an image
-/// is answered exactly where one is at the front, and else the first refusal of the profile's order.
-/// `OutOfMemory` comes in place of either, and only behind a header within the limits.
+/// is answered exactly where one is at the front, and else the first refusal of the profile's
+/// order. `OutOfMemory` comes in place of either, and only behind a header within the limits.
 pub fn read_image(alloc: Global, bytes: &[u8]) -> Result<(Image, usize), PgmError>
     ensures image { IfOk result (λ x. Front bytes.now x.0 x.1) }
     ensures refused { IfErr result (λ e. RefusesFront bytes.now e) }

@@ -81,7 +81,8 @@ fn raster_of(maxval: u32, samples: &[u16]) -> ArrayVec<u8, PART_ROOM>
 fn put_raster<S: Sink>(sink: &mut S, maxval: u32, samples: &[u16]) -> Result<(), WriteFailed>
     requires small { All (λ x. x ≤ maxval) samples.now }
     requires size { 2 * length samples.now < 2 ^ 40 }
-    ensures takes { OnOk result (Takes (S.stream sink.old) (S.stream sink.new) (raster maxval samples.now)) }
+    ensures takes { OnOk result
+        (Takes (S.stream sink.old) (S.stream sink.new) (raster maxval samples.now)) }
     ensures stops { IfErr result (λ e.
         Stops (S.stream sink.old) (S.stream sink.new) (raster maxval samples.now) e.count) }
     ensures kept { S.loan sink.new ≡ S.loan sink.old }
@@ -105,11 +106,13 @@ fn put_raster<S: Sink>(sink: &mut S, maxval: u32, samples: &[u16]) -> Result<(),
 
 /// Puts the image as `P5` into a sink that counts the calls that failed. Takes no memory.
 ///
-/// `WriteFailed` comes only where a call of the sink failed in this writing, whatever failed before. The sink
-/// then took exactly the told count of bytes, the first ones of the written form.
+/// `WriteFailed` comes only where a call of the sink failed in this writing, whatever failed
+/// before. The sink then took exactly the told count of bytes, the first ones of the written form.
 pub fn put_image<S: Sink>(image: &Image, sink: &mut S) -> Result<(), WriteError>
-    ensures takes { OnOk result (Takes (S.stream sink.old) (S.stream sink.new) (written_form image.now)) }
-    ensures stops { IfErr result (StopsAsTold (S.stream sink.old) (S.stream sink.new) (written_form image.now)) }
+    ensures takes { OnOk result
+        (Takes (S.stream sink.old) (S.stream sink.new) (written_form image.now)) }
+    ensures stops { IfErr result
+        (StopsAsTold (S.stream sink.old) (S.stream sink.new) (written_form image.now)) }
     ensures kept { S.loan sink.new ≡ S.loan sink.old }
 {
     let header = header_of(image);
@@ -126,9 +129,9 @@ pub fn put_image<S: Sink>(image: &Image, sink: &mut S) -> Result<(), WriteError>
 
 /// Writes the image as `P5` to a writer of std that is watched. Takes no memory.
 ///
-/// `WriteFailed` comes only where a call of the writer answered a fault in this writing, or took no byte of a piece
-/// that was not empty; what failed before is not told again. The writer then took exactly the told count of bytes,
-/// the first ones of the written form, which are fewer than all.
+/// `WriteFailed` comes only where a call of the writer answered a fault in this writing, or took no
+/// byte of a piece that was not empty; what failed before is not told again. The writer then took
+/// exactly the told count of bytes, the first ones of the written form, which are fewer than all.
 pub fn write_image<'a, W: Write>(image: &Image, sink: &mut Watched<'a, W>) -> Result<(), WriteError>
     ensures takes { OnOk result (Takes (⟦<Watched<'a, W> as Sink>⟧.stream sink.old)
         (⟦<Watched<'a, W> as Sink>⟧.stream sink.new) (written_form image.now)) }

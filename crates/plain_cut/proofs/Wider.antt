@@ -1,4 +1,5 @@
--- Work of a net is work of the net in which nodes can send the sink more, once the rooms have grown and all labels are 0.
+-- Work of a net is work of the net in which nodes can send the sink more, once the rooms have grown
+-- and all labels are 0.
 use Rattle.std.proofs.Common.{◌≡◌, ℕ, suc, ◌+◌, ◌<◌, ◌≤◌, List, [], ◌∷◌, length, slice_index, refl, sym, ◌∙◌, ap, arith}
 use Rattle.flow_network.specs.Limits.{capacity_limit}
 use Rattle.flow_network.proofs.Bounds.{number-le-sum}

@@ -9,8 +9,8 @@ use Rattle.plain_cut.specs.declared.work.Work.{Work}
 abbrev pub work_flow : Network → Work → Flow
 work_flow net w = flow_by (carried_flow w.rows) (sink_flows net w.rooms.items)
 
--- a preflow with its excess, rows that show it, rooms for what the sink can still get, labels that fit it, and a queue
--- of nodes
+-- a preflow with its excess, rows that show it, rooms for what the sink can still get, labels that
+-- fit it, and a queue of nodes
 pub record IsWork (net : Network) (w : Work) : Type 0 where
   pub sound : IsLabelledPreflow net (work_flow net w) w.excess.items w.labels.items
   pub shown : IsRows net w.rows
@@ -34,14 +34,15 @@ IsQueuedBut net limit but w = (v : ℕ) → v < nodes net → v ≢ but → 0 < 
 -- no node whose label is below the limit has excess
 abbrev pub HasNoExcessBelow : Network → ℕ → Work → Type 0
 HasNoExcessBelow net limit w =
-    (v : ℕ) → v < nodes net → slice_index w.labels.items v < limit → slice_index w.excess.items v ≡ 0
+    (v : ℕ) → v < nodes net → slice_index w.labels.items v < limit
+    → slice_index w.excess.items v ≡ 0
 
 -- no node whose label is below the top has excess
 abbrev pub HasNoActiveNode : Network → Work → Type 0
 HasNoActiveNode net w = HasNoExcessBelow net (top net) w
 
--- a push or a new label at a node: less is left, also of what new labels lower and count; at most one more
--- node is queued, and none is forgotten
+-- a push or a new label at a node: less is left, also of what new labels lower and count; at most
+-- one more node is queued, and none is forgotten
 pub record IsStep (net : Network) (but : ℕ) (old new : Work) : Type 0 where
   pub work : IsWork net new
   pub lower : work_measure net new < work_measure net old
@@ -71,8 +72,8 @@ pub record IsStuck (w : Work) (v : ℕ) : Type 0 where
   pub row : (p : ℕ) → IsPlace w.rows v p → 0 < residual_at w.rows p
       → slice_index w.labels.items v ≤ slice_index w.labels.items (head_at w.rows p)
 
--- pushes of a node along directions: the labels, the gifts to the sink and the ends of directions stay, and its excess
--- does not grow
+-- pushes of a node along directions: the labels, the gifts to the sink and the ends of directions
+-- stay, and its excess does not grow
 pub record IsPush (v : ℕ) (old new : Work) : Type 0 where
   pub labels : new.labels.items ≡ old.labels.items
   pub sinks : new.rooms.items ≡ old.rooms.items
@@ -95,7 +96,8 @@ IsSpent w v p =
 pub record IsRaised (net : Network) (old new : Work) : Type 0 where
   pub work : IsWork net new
   pub fall : work_measure net new ≤ work_measure net old
-  pub labels : (v : ℕ) → v < nodes net → slice_index old.labels.items v ≤ slice_index new.labels.items v
+  pub labels : (v : ℕ) → v < nodes net
+      → slice_index old.labels.items v ≤ slice_index new.labels.items v
   pub excess : new.excess.items ≡ old.excess.items
   pub queue : new.queue.items ≡ old.queue.items
 
@@ -105,8 +107,8 @@ pub record IsWave (net : Network) (old new : Work) : Type 0 where
   pub fall : work_measure net new ≤ work_measure net old
   pub counted : work_measure net new + new.relabels ≤ work_measure net old + old.relabels
 
--- the work at the start of a round: of the nodes whose label is below the limit none with excess is forgotten, and the
--- others stand aside
+-- the work at the start of a round: of the nodes whose label is below the limit none with excess is
+-- forgotten, and the others stand aside
 pub record IsRoundStart (net : Network) (limit : ℕ) (old new : Work) : Type 0 where
   pub work : IsWork net new
   pub counted : work_measure net new + new.relabels ≤ work_measure net old

@@ -12,7 +12,8 @@ use sink_distances::{Outline, Spare, rows_of};
 use std::alloc::{AllocError, Global};
 use std::mem::replace;
 
-/// The sink sides of a net that is cut twice, as `both_sides_in` finds them: one bit for each node in both.
+/// The sink sides of a net that is cut twice, as `both_sides_in` finds them: one bit for each node
+/// in both.
 #[derive(Drop)]
 pub struct BothSides {
     /// The sink side of the smallest least cut of the net.
@@ -57,7 +58,8 @@ fn are_none(more: &[u64]) -> bool
     true
 }
 
-/// Gives each node so much more room to the sink, and the label 0: work of the net becomes work of the wider one.
+/// Gives each node so much more room to the sink, and the label 0: work of the net becomes work of
+/// the wider one.
 fn add_room(net: &Outline, wider: &Outline, work: &mut Work, more: &[u64])
     requires limits { IsNet net.now }
     requires extras { AreExtras net.now more.now }
@@ -69,8 +71,8 @@ fn add_room(net: &Outline, wider: &Outline, work: &mut Work, more: &[u64])
     work.labels.as_mut_slice().fill(0);
 }
 
-/// The sink side of the smallest least cut of the wider net, of work that is finished in the net: the second cut goes on
-/// from its preflow.
+/// The sink side of the smallest least cut of the wider net, of work that is finished in the net:
+/// the second cut goes on from its preflow.
 fn wider_side(
     alloc: Global,
     net: &Outline,
@@ -89,7 +91,8 @@ fn wider_side(
     requires order { length order.old ≡ nodes net.now }
     requires found { length found.old ≡ nodes net.now }
     ensures bits { IfOk result (λ side. length side.items ≡ nodes net.now) }
-    ensures smallest { IfOk result (λ side. IsSmallestLeastCut (with_larger_sinks net.now more.now) (set_of side.items)) }
+    ensures smallest { IfOk result
+        (λ side. IsSmallestLeastCut (with_larger_sinks net.now more.now) (set_of side.items)) }
 {
     if are_none(more) {
         return least_side(alloc, net, work);
@@ -99,12 +102,13 @@ fn wider_side(
     least_side(alloc, wider, work)
 }
 
-/// The sink sides of the smallest least cuts of the net, and of the net in which each node can send the sink so much
-/// more, `more` of which `Net::can_take` says yes. The second cut goes on from the preflow of the first: what the sink
-/// has got stays, and only the excess that was left is pushed again.
+/// The sink sides of the smallest least cuts of the net, and of the net in which each node can send
+/// the sink so much more, `more` of which `Net::can_take` says yes. The second cut goes on from the
+/// preflow of the first: what the sink has got stays, and only the excess that was left is pushed
+/// again.
 ///
-/// Where `more` is all 0 the second costs a copy, and where no node has excess that now reaches the sink one search.
-/// Refuses for the same reasons as `smallest_side_in`.
+/// Where `more` is all 0 the second costs a copy, and where no node has excess that now reaches the
+/// sink one search. Refuses for the same reasons as `smallest_side_in`.
 pub fn both_sides_in(
     alloc: Global,
     net: Net,
@@ -115,7 +119,8 @@ pub fn both_sides_in(
     ensures lower_bits { IfOk result (λ sides. length sides.lower.items ≡ nodes net) }
     ensures upper_bits { IfOk result (λ sides. length sides.upper.items ≡ nodes net) }
     ensures lower { IfOk result (λ sides. IsSmallestLeastCut net (set_of sides.lower.items)) }
-    ensures upper { IfOk result (λ sides. IsSmallestLeastCut (with_larger_sinks net more.now) (set_of sides.upper.items)) }
+    ensures upper { IfOk result
+        (λ sides. IsSmallestLeastCut (with_larger_sinks net more.now) (set_of sides.upper.items)) }
     ensures within { IfOk result (λ sides.
         LiesWithin (nodes net) (set_of sides.lower.items) (set_of sides.upper.items)) }
 {

@@ -1,7 +1,7 @@
 //! A least cut of a net by the preflow method, proved to be the smallest one.
 //!
-//! `work` is what the solver changes, `pushes` and `relabels` are its moves, `opening`, `rounds` and `turns` are their
-//! order, and `solver` is the whole (Goldberg, Tarjan 1988).
+//! `work` is what the solver changes, `pushes` and `relabels` are its moves, `opening`, `rounds`
+//! and `turns` are their order, and `solver` is the whole (Goldberg, Tarjan 1988).
 #![tactic(auto)]
 
 mod both;

@@ -52,8 +52,8 @@ fn try_send(net: &Outline, work: &mut Work, v: usize, p: usize, up: bool)
     }
 }
 
-/// Gives the sink what it can of the node's excess, and sends the rest along the node's directions to higher nodes, the
-/// first before the others.
+/// Gives the sink what it can of the node's excess, and sends the rest along the node's directions
+/// to higher nodes, the first before the others.
 fn send_first(net: &Outline, work: &mut Work, v: usize)
     requires work { IsUnlabelled net.now work.old }
     requires node { v < nodes net.now }
@@ -68,8 +68,8 @@ fn send_first(net: &Outline, work: &mut Work, v: usize)
     }
 }
 
-/// Gives the sink what it can of the node's excess, and sends the rest along the node's directions to higher nodes, or
-/// to lower ones, the last before the others.
+/// Gives the sink what it can of the node's excess, and sends the rest along the node's directions
+/// to higher nodes, or to lower ones, the last before the others.
 fn send_last(net: &Outline, work: &mut Work, v: usize, up: bool)
     requires work { IsUnlabelled net.now work.old }
     requires node { v < nodes net.now }
@@ -84,12 +84,14 @@ fn send_last(net: &Outline, work: &mut Work, v: usize, up: bool)
     }
 }
 
-/// The work after the first pushes, which ask for no labels: once up from each node in their order, once down from each
-/// in the reverse order, and once more up from each, along its last direction first. Where the arcs lead from lower to
-/// higher nodes, all excess goes as far as it can in the first pass, what the sink has not taken comes back in the
-/// second, and goes other ways in the third.
+/// The work after the first pushes, which ask for no labels: once up from each node in their order,
+/// once down from each in the reverse order, and once more up from each, along its last direction
+/// first. Where the arcs lead from lower to higher nodes, all excess goes as far as it can in the
+/// first pass, what the sink has not taken comes back in the second, and goes other ways in the
+/// third.
 ///
-/// It takes the net's rows, sources and sinks over. Labels and queue stand in what these lists stood in.
+/// It takes the net's rows, sources and sinks over. Labels and queue stand in what these lists
+/// stood in.
 pub fn open(
     net: &Outline,
     rows: Rows,

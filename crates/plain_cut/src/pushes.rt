@@ -24,7 +24,8 @@ pub fn carry(excess: &mut [u64], from: usize, to: u32, amount: u64)
     excess[to as usize] += amount;
 }
 
-/// Takes an amount from the one node's excess and gives it to the other's, which is queued if it had none.
+/// Takes an amount from the one node's excess and gives it to the other's, which is queued if it
+/// had none.
 fn shift(
     excess: &mut [u64],
     queue: &mut VecDeque<u32>,
@@ -87,7 +88,8 @@ fn push_sink(net: &Outline, work: &mut Work, v: usize)
     ensures step { IsStep net.now v work.old work.new }
     ensures rows { work.new.rows ≡ work.old.rows }
     ensures labels { work.new.labels.items ≡ work.old.labels.items }
-    ensures spent { 0 < slice_index work.new.excess.items v → slice_index work.new.rooms.items v ≡ 0 }
+    ensures spent { 0 < slice_index work.new.excess.items v
+        → slice_index work.new.rooms.items v ≡ 0 }
 {
     let _nodes = net.nodes();
     let amount = u64::min(work.excess[v], work.rooms[v]);
@@ -102,7 +104,8 @@ pub fn try_push_sink(net: &Outline, work: &mut Work, v: usize)
     ensures steps { IsSteps net.now v work.old work.new }
     ensures rows { work.new.rows ≡ work.old.rows }
     ensures labels { work.new.labels.items ≡ work.old.labels.items }
-    ensures spent { 0 < slice_index work.new.excess.items v → slice_index work.new.rooms.items v ≡ 0 }
+    ensures spent { 0 < slice_index work.new.excess.items v
+        → slice_index work.new.rooms.items v ≡ 0 }
 {
     if work.rooms[v] > 0 && work.excess[v] > 0 {
         push_sink(net, work, v);

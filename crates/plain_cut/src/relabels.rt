@@ -7,7 +7,8 @@ ghost use Rattle.plain_cut.specs.State.{IsWork, IsStep, IsStuck, IsLowest};
 use crate::work::Work;
 use sink_distances::Outline;
 
-/// The lesser of a label and one more than that to which the direction leads, where it can carry more.
+/// The lesser of a label and one more than that to which the direction leads, where it can carry
+/// more.
 fn lower(net: &Outline, work: &Work, v: usize, p: usize, least: u32) -> u32
     requires work { IsWork net.now work.now }
     requires node { v < nodes net.now }

@@ -22,8 +22,9 @@ fn push_wave(net: &Outline, work: &mut Work, order: &[u32]) -> Result<(), AllocE
     Ok(())
 }
 
-/// Begins a round, where the labels have just been raised: pushes at each of these nodes once, the last first, and queues
-/// anew the nodes that still have excess and a label below the limit. The others stand aside until the next search.
+/// Begins a round, where the labels have just been raised: pushes at each of these nodes once, the
+/// last first, and queues anew the nodes that still have excess and a label below the limit. The
+/// others stand aside until the next search.
 pub fn begin_round(
     net: &Outline,
     work: &mut Work,

@@ -20,8 +20,8 @@ use std::alloc::{AllocError, Global};
 use std::collections::VecDeque;
 use std::mem::replace;
 
-/// The work at its end, whose labels are the exact distances. It takes the net's rows, sources and sinks over, and the
-/// workspace's labels and queue; what the searches use goes back to it.
+/// The work at its end, whose labels are the exact distances. It takes the net's rows, sources and
+/// sinks over, and the workspace's labels and queue; what the searches use goes back to it.
 pub fn finish(
     alloc: Global,
     net: &Outline,
@@ -53,7 +53,8 @@ pub fn finish(
     Ok(work)
 }
 
-/// Whether the search that ended at this limit was a full one, and no node that reaches the sink has excess.
+/// Whether the search that ended at this limit was a full one, and no node that reaches the sink
+/// has excess.
 fn is_settled(net: &Outline, work: &Work, limit: u32) -> bool
     requires { IsWork net.now work.now }
     ensures full { IsTrue result → top net.now ≤ limit }
@@ -71,8 +72,8 @@ fn is_settled(net: &Outline, work: &Work, limit: u32) -> bool
     true
 }
 
-/// How many times the room is looked for after a round: twice as many as before it, where its queue is empty. So only 64
-/// rounds of a cut have few new labels.
+/// How many times the room is looked for after a round: twice as many as before it, where its queue
+/// is empty. So only 64 rounds of a cut have few new labels.
 fn times_after(work: &Work, times: u64) -> u64 {
     if work.queue.is_empty() {
         times.saturating_mul(2)
@@ -81,8 +82,8 @@ fn times_after(work: &Work, times: u64) -> u64 {
     }
 }
 
-/// A search after a round: one that ends early; or a full one where the round has given no new label. What stands in
-/// `order` behind the nodes that a full search found does no harm.
+/// A search after a round: one that ends early; or a full one where the round has given no new
+/// label. What stands in `order` behind the nodes that a full search found does no harm.
 fn search_again(
     net: &Outline,
     work: &mut Work,
@@ -113,10 +114,11 @@ fn search_again(
     }
 }
 
-/// Rounds until no node that reaches the sink has excess; at the end the labels are the exact distances. Where none has
-/// at the start, all that is done is to find these.
+/// Rounds until no node that reaches the sink has excess; at the end the labels are the exact
+/// distances. Where none has at the start, all that is done is to find these.
 ///
-/// Each round begins with a search, and ends where no node that it found has excess, or there were many new labels.
+/// Each round begins with a search, and ends where no node that it found has excess, or there were
+/// many new labels.
 pub fn settle(
     net: &Outline,
     work: &mut Work,
@@ -129,7 +131,8 @@ pub fn settle(
     requires found { length found.old ≡ nodes net.now }
     ensures work { OnOk result (IsWork net.now work.new) }
     ensures finished { OnOk result (HasNoActiveNode net.now work.new) }
-    ensures exact { OnOk result (AreDistances net.now (work_flow net.now work.new) work.new.labels.items) }
+    ensures exact { OnOk result
+        (AreDistances net.now (work_flow net.now work.new) work.new.labels.items) }
 {
     let mut times = 2;
     let mut extent = raise_near(net, work, times, order, found);
@@ -146,22 +149,25 @@ pub fn settle(
     Ok(())
 }
 
-/// A least cut of the net, with the preflow that certifies it. Of all least cuts it is the smallest: its sink side
-/// lies within that of every other. Its capacity, `value`, is at most `CAPACITY_LIMIT`.
+/// A least cut of the net, with the preflow that certifies it. Of all least cuts it is the
+/// smallest: its sink side lies within that of every other. Its capacity, `value`, is at most
+/// `CAPACITY_LIMIT`.
 ///
-/// The preflow method with one queue, first in and first out (Goldberg, Tarjan 1988, "A new approach to the
-/// maximum-flow problem", sections 2 to 4). First excess goes from each node to higher ones, back to lower ones,
-/// and up once more, with no labels yet; then come rounds. A round raises the labels to the exact distances (Cherkassky,
-/// Goldberg 1997, "On implementing the push-relabel method for the maximum flow problem"), by a search from the sink that
-/// ends at the level at which it has found more than twice as much excess as the sink can still take; later searches look
-/// for more. Nodes that it did not find stand aside until the next search. Then it pushes once at each node that was found, the farthest from the sink
-/// first, so that excess moves down all the way in one pass, and discharges those that have excess left, until none has,
-/// or there were more than n / 32 new labels, where n is the number of nodes. The method stops where a full search finds
-/// that no node that reaches the sink has excess: a preflow certifies the cut as well as a flow. The sink side is the nodes
-/// that reach the sink over residual directions.
+/// The preflow method with one queue, first in and first out (Goldberg, Tarjan 1988, "A new
+/// approach to the maximum-flow problem", sections 2 to 4). First excess goes from each node to
+/// higher ones, back to lower ones, and up once more, with no labels yet; then come rounds. A round
+/// raises the labels to the exact distances (Cherkassky, Goldberg 1997, "On implementing the
+/// push-relabel method for the maximum flow problem"), by a search from the sink that ends at the
+/// level at which it has found more than twice as much excess as the sink can still take; later
+/// searches look for more. Nodes that it did not find stand aside until the next search. Then it
+/// pushes once at each node that was found, the farthest from the sink first, so that excess moves
+/// down all the way in one pass, and discharges those that have excess left, until none has, or
+/// there were more than n / 32 new labels, where n is the number of nodes. The method stops where a
+/// full search finds that no node that reaches the sink has excess: a preflow certifies the cut as
+/// well as a flow. The sink side is the nodes that reach the sink over residual directions.
 ///
-/// Takes every net, also of no nodes, with parallel and opposite arcs, and with arcs from a node to itself.
-/// Refuses only where memory runs out; a net of 2^31 arcs or more counts as that.
+/// Takes every net, also of no nodes, with parallel and opposite arcs, and with arcs from a node to
+/// itself. Refuses only where memory runs out; a net of 2^31 arcs or more counts as that.
 pub fn solve(alloc: Global, net: &Net) -> Result<Solved, AllocError>
     ensures certified { IfOk result (λ s. IsRightCut net.now s) }
     ensures smallest { IfOk result (λ s. IsSmallestLeastCut net.now (side_of s)) }
@@ -176,11 +182,12 @@ pub fn solve(alloc: Global, net: &Net) -> Result<Solved, AllocError>
     answer_of(alloc, net, &shape, work, firsts.as_slice())
 }
 
-/// The sink side of the smallest least cut of the net, one bit for each node: that which `solve` answers, found in
-/// the same way and refused for the same reasons.
+/// The sink side of the smallest least cut of the net, one bit for each node: that which `solve`
+/// answers, found in the same way and refused for the same reasons.
 ///
-/// It takes the net over: the net's own lists of sources and sinks become what the solver changes, so it needs 16
-/// bytes a node less than `solve`, and the arcs are given back as they are put into rows.
+/// It takes the net over: the net's own lists of sources and sinks become what the solver changes,
+/// so it needs 16 bytes a node less than `solve`, and the arcs are given back as they are put into
+/// rows.
 pub fn smallest_side(alloc: Global, net: Net) -> Result<Vec<bool>, AllocError>
     ensures bits { IfOk result (λ side. length side.items ≡ nodes net) }
     ensures smallest { IfOk result (λ side. IsSmallestLeastCut net (set_of side.items)) }
@@ -189,8 +196,8 @@ pub fn smallest_side(alloc: Global, net: Net) -> Result<Vec<bool>, AllocError>
     smallest_side_in(alloc, net, &mut space)
 }
 
-/// What `smallest_side` answers, in a workspace that is kept from one net to the next: up to 262,144 nodes the lists of
-/// rows, labels, queue and order stand in what they stood in before.
+/// What `smallest_side` answers, in a workspace that is kept from one net to the next: up to
+/// 262,144 nodes the lists of rows, labels, queue and order stand in what they stood in before.
 pub fn smallest_side_in(
     alloc: Global,
     net: Net,
@@ -216,7 +223,8 @@ pub fn least_side(alloc: Global, net: &Outline, work: &Work) -> Result<Vec<bool>
     requires finished { HasNoActiveNode net.now work.now }
     requires exact { AreDistances net.now (work_flow net.now work.now) work.now.labels.items }
     ensures bits { IfOk result (λ side. length side.items ≡ nodes net.now) }
-    ensures reach { IfOk result (λ side. IsReach net.now (work_flow net.now work.now) (set_of side.items)) }
+    ensures reach { IfOk result
+        (λ side. IsReach net.now (work_flow net.now work.now) (set_of side.items)) }
     ensures smallest { IfOk result (λ side. IsSmallestLeastCut net.now (set_of side.items)) }
 {
     side_below(alloc, net, work.labels.as_slice())
@@ -225,7 +233,8 @@ pub fn least_side(alloc: Global, net: &Outline, work: &Work) -> Result<Vec<bool>
 /// Turns what each node can still give the sink into what it gives.
 fn turn_to_given(sinks: &[u64], rooms: &mut [u64])
     requires len { length rooms.old ≡ length sinks.now }
-    requires within { (v : ℕ) → v < length sinks.now → slice_index rooms.old v ≤ slice_index sinks.now v }
+    requires within { (v : ℕ) → v < length sinks.now
+        → slice_index rooms.old v ≤ slice_index sinks.now v }
     ensures { rooms.new ≡ zip2 (λ sink room. sink - room) sinks.now rooms.old }
 {
     'nodes: for v in 0..sinks.len() {
@@ -233,11 +242,14 @@ fn turn_to_given(sinks: &[u64], rooms: &mut [u64])
     }
 }
 
-/// What each arc carries: what its direction back can carry. `firsts` tells where each arc's other direction stands.
+/// What each arc carries: what its direction back can carry. `firsts` tells where each arc's other
+/// direction stands.
 fn carried_by(alloc: Global, rows: &Rows, firsts: &[u32]) -> Result<Vec<u64>, AllocError>
     requires firsts { firsts.now ≡ firsts_of rows.now }
-    requires first { (k : ℕ) → k < length firsts.now → first_at rows.now k < length rows.now.cells.items }
-    requires second { (k : ℕ) → k < length firsts.now → second_at rows.now k < length rows.now.cells.items }
+    requires first { (k : ℕ) → k < length firsts.now
+        → first_at rows.now k < length rows.now.cells.items }
+    requires second { (k : ℕ) → k < length firsts.now
+        → second_at rows.now k < length rows.now.cells.items }
     ensures { IfOk result (λ flow. flow.items ≡ carried_flow rows.now) }
 {
     let mut flow = vec![in alloc; 0u64; firsts.len()]?;
@@ -247,8 +259,8 @@ fn carried_by(alloc: Global, rows: &Rows, firsts: &[u32]) -> Result<Vec<u64>, Al
     Ok(flow)
 }
 
-/// The answer of work that is finished, whose labels are the exact distances: the nodes that reach the sink, and
-/// the preflow.
+/// The answer of work that is finished, whose labels are the exact distances: the nodes that reach
+/// the sink, and the preflow.
 fn answer_of(
     alloc: Global,
     net: &Net,

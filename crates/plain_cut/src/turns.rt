@@ -9,8 +9,8 @@ use crate::work::Work;
 use sink_distances::Outline;
 use std::alloc::{AllocError, Global};
 
-/// Pushes and new labels until the node has no excess, or its label has come to the limit. A node whose label is there
-/// already stands aside: it does not push.
+/// Pushes and new labels until the node has no excess, or its label has come to the limit. A node
+/// whose label is there already stands aside: it does not push.
 pub fn discharge(net: &Outline, work: &mut Work, v: usize, limit: u32) -> Result<(), AllocError>
     requires work { IsWork net.now work.old }
     requires node { v < nodes net.now }
@@ -18,7 +18,8 @@ pub fn discharge(net: &Outline, work: &mut Work, v: usize, limit: u32) -> Result
     ensures steps { OnOk result (IsSteps net.now v work.old work.new) }
     ensures done { OnOk result (slice_index work.new.labels.items v < limit →
         slice_index work.new.excess.items v ≡ 0) }
-    ensures aside { OnOk result (limit ≤ slice_index work.old.labels.items v → work.new ≡ work.old) }
+    ensures aside { OnOk result
+        (limit ≤ slice_index work.old.labels.items v → work.new ≡ work.old) }
 {
     let _nodes = net.nodes();
     'steps: while work.labels[v] < limit {
@@ -31,8 +32,8 @@ pub fn discharge(net: &Outline, work: &mut Work, v: usize, limit: u32) -> Result
     Ok(())
 }
 
-/// Discharges the nodes in the order of the queue, until none whose label is below the limit has excess, or there were
-/// more than n / 32 new labels, where n is the number of nodes.
+/// Discharges the nodes in the order of the queue, until none whose label is below the limit has
+/// excess, or there were more than n / 32 new labels, where n is the number of nodes.
 pub fn take_turns(net: &Outline, work: &mut Work, limit: u32) -> Result<(), AllocError>
     requires work { IsWork net.now work.old }
     requires limit { limit ≤ top net.now }

@@ -10,7 +10,8 @@ use sink_distances::{Extent, Outline, Rows, raise_labels, write_row_distances, z
 use std::alloc::AllocError;
 use std::collections::VecDeque;
 
-/// What the solver changes: a preflow, its excess, the labels, and the nodes that wait for their turn.
+/// What the solver changes: a preflow, its excess, the labels, and the nodes that wait for their
+/// turn.
 #[derive(Drop)]
 pub struct Work {
     /// The directions of each node's arcs, and what each can still carry.
@@ -19,7 +20,8 @@ pub struct Work {
     pub rooms: Vec<u64>,
     /// What each node has got and not passed on.
     pub excess: Vec<u64>,
-    /// Of each node at most the number of residual directions that lead to the sink, or `top_label`.
+    /// Of each node at most the number of residual directions that lead to the sink, or
+    /// `top_label`.
     pub labels: Vec<u32>,
     /// Nodes that had excess when they came, in the order of their turns.
     pub queue: VecDeque<u32>,
@@ -50,9 +52,9 @@ pub fn queue_again(
     Ok(())
 }
 
-/// The work at the start: no flow but that of the source, all labels 0, no node queued. It takes the net's rows,
-/// sources and sinks over: what the source sends each node is what the node has, and what it can send the sink its room.
-/// Labels and queue stand in what these lists stood in.
+/// The work at the start: no flow but that of the source, all labels 0, no node queued. It takes
+/// the net's rows, sources and sinks over: what the source sends each node is what the node has,
+/// and what it can send the sink its room. Labels and queue stand in what these lists stood in.
 pub fn start(
     net: &Outline,
     rows: Rows,
@@ -81,8 +83,8 @@ pub fn start(
     })
 }
 
-/// Raises all labels to the exact distances. `order` has one place for each node: the search leaves there the nodes
-/// that reach the sink, the nearest first.
+/// Raises all labels to the exact distances. `order` has one place for each node: the search leaves
+/// there the nodes that reach the sink, the nearest first.
 pub fn raise_all(net: &Outline, work: &mut Work, order: &mut [u32])
     requires limits { IsNet net.now }
     requires work { IsWork net.now work.old }
@@ -101,9 +103,9 @@ pub fn raise_all(net: &Outline, work: &mut Work, order: &mut [u32])
     work.relabels = 0;
 }
 
-/// Raises the labels by a search that ends early, as `raise_labels` does: once it has found so many times as much excess as
-/// there is room. `order` and `found` have one place for each node: the nodes that were found then stand first in `order`,
-/// the nearest before the others.
+/// Raises the labels by a search that ends early, as `raise_labels` does: once it has found so many
+/// times as much excess as there is room. `order` and `found` have one place for each node: the
+/// nodes that were found then stand first in `order`, the nearest before the others.
 pub fn raise_near(
     net: &Outline,
     work: &mut Work,

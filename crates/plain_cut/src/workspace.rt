@@ -3,7 +3,8 @@ use sink_distances::Spare;
 use std::alloc::Global;
 use std::collections::VecDeque;
 
-/// The lists of a solver between two nets: what they stood in serves the next. What they hold does not matter.
+/// The lists of a solver between two nets: what they stood in serves the next. What they hold does
+/// not matter.
 #[derive(Drop)]
 pub struct Workspace {
     pub(crate) rows: Spare,
@@ -13,12 +14,12 @@ pub struct Workspace {
     pub(crate) found: Vec<u32>,
 }
 
-/// The most nodes of a net whose lists are kept, as many as a picture of 512 by 512 has: they take 84 bytes a node of two
-/// arcs while the next net is made. Lists of larger nets are given back.
+/// The most nodes of a net whose lists are kept, as many as a picture of 512 by 512 has: they take
+/// 84 bytes a node of two arcs while the next net is made. Lists of larger nets are given back.
 const KEPT_NODES: usize = 262_144;
 
-/// The most directions, 16 bytes each, of a net whose lists are kept: those of such a picture where each site has 8
-/// neighbours.
+/// The most directions, 16 bytes each, of a net whose lists are kept: those of such a picture where
+/// each site has 8 neighbours.
 const KEPT_CELLS: usize = 8 * KEPT_NODES;
 
 impl Workspace {

@@ -23,11 +23,13 @@ out_of_range Start i = NoSuchLabel i
 out_of_range field i = CostRange field i
 
 -- what is read next, unless there was a fault
-abbrev pub and_then : {A B : Type 0} → Result A LabelFault → (A → Result B LabelFault) → Result B LabelFault
+abbrev pub and_then : {A B : Type 0} → Result A LabelFault → (A → Result B LabelFault)
+    → Result B LabelFault
 and_then (Ok x) next = next x
 and_then (Err fault) next = Err fault
 
 -- the fault of the place, if there is one, and else the answer
-abbrev pub unless : {A : Type 0} → Option ℕ → (ℕ → LabelFault) → Result A LabelFault → Result A LabelFault
+abbrev pub unless : {A : Type 0} → Option ℕ → (ℕ → LabelFault) → Result A LabelFault
+    → Result A LabelFault
 unless (Some i) fault answer = Err (fault i)
 unless None fault answer = answer

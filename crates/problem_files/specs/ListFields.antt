@@ -29,8 +29,8 @@ natural_of d = unsigned_abs (integer_of d)
 abbrev pub is_out_of_range : ℕ → Data → Bool
 is_out_of_range most d = not (int_le (pos 0) (integer_of d) && int_le (integer_of d) (pos most))
 
--- the list, if it has so many items, all integers, and each from 0 to the most; its first fault, in this
--- order, if not
+-- the list, if it has so many items, all integers, and each from 0 to the most; its first fault, in
+-- this order, if not
 unfoldable pub integers_or_fault : LabelKey → ℕ → ℕ → List Data → Result (List Data) LabelFault
 integers_or_fault field count most ds =
     if length ds == count then

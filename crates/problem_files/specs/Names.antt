@@ -66,7 +66,8 @@ names_rest ms sites labels data_costs smooth_costs =
       label_costs = label_costs;
     }))))))
 
--- the problem that a table names: the fields in this order, and the first fault of the first that has one
+-- the problem that a table names: the fields in this order, and the first fault of the first that
+-- has one
 abbrev pub problem_of_table : Members → Result Problem LabelFault
 problem_of_table ms =
     and_then (number_in ms Sites 0 site_limit) (λ sites.

@@ -41,7 +41,8 @@ pair_at n i d = pair_field n i (option_and_then integers_of (as_array d))
 abbrev pub pairs_from : ℕ → ℕ → List Data → Result (List Pair) LabelFault
 pairs_from n i [] = Ok []
 pairs_from n i (d ∷ ds) =
-    and_then (pair_at n i d) (λ pair. and_then (pairs_from n (i + 1) ds) (λ pairs. Ok (pair ∷ pairs)))
+    and_then (pair_at n i d)
+    (λ pair. and_then (pairs_from n (i + 1) ds) (λ pairs. Ok (pair ∷ pairs)))
 
 abbrev pub pairs_or_fault : ℕ → List Data → Result (List Pair) LabelFault
 pairs_or_fault n ds = if nat_le (length ds) pair_limit then pairs_from n 0 ds else Err TooManyPairs

@@ -61,9 +61,11 @@ term_or_fault n i on values term =
 
 -- the term at place i, over n variables, that lists of integers name
 abbrev pub term_from : ℕ → ℕ → List ℤ → List ℤ → Result Term EnergyFault
-term_from n i (x ∷ []) (a ∷ b ∷ []) = term_or_fault n i (x ∷ []) (a ∷ b ∷ []) (One (unsigned_abs x) (a ∷ b ∷ []))
+term_from n i (x ∷ []) (a ∷ b ∷ []) =
+    term_or_fault n i (x ∷ []) (a ∷ b ∷ []) (One (unsigned_abs x) (a ∷ b ∷ []))
 term_from n i (x ∷ y ∷ []) (a ∷ b ∷ c ∷ d ∷ []) =
-    term_or_fault n i (x ∷ y ∷ []) (a ∷ b ∷ c ∷ d ∷ []) (Two (unsigned_abs x) (unsigned_abs y) (a ∷ b ∷ c ∷ d ∷ []))
+    term_or_fault n i (x ∷ y ∷ []) (a ∷ b ∷ c ∷ d ∷ [])
+    (Two (unsigned_abs x) (unsigned_abs y) (a ∷ b ∷ c ∷ d ∷ []))
 term_from n i (x ∷ y ∷ z ∷ []) (a ∷ b ∷ c ∷ d ∷ e ∷ f ∷ g ∷ h ∷ []) =
     term_or_fault n i (x ∷ y ∷ z ∷ []) (a ∷ b ∷ c ∷ d ∷ e ∷ f ∷ g ∷ h ∷ [])
     (Three (unsigned_abs x) (unsigned_abs y) (unsigned_abs z) (a ∷ b ∷ c ∷ d ∷ e ∷ f ∷ g ∷ h ∷ []))
@@ -72,7 +74,8 @@ term_from n i _ _ = Err (BadElement Terms i)
 -- the integers of an array that has nothing else
 abbrev pub integers_of : Items → Option (List ℤ)
 integers_of no_items = Some []
-integers_of (item d ds) = option_and_then (λ z. option_map (λ zs. z ∷ zs) (integers_of ds)) (as_integer d)
+integers_of (item d ds) =
+    option_and_then (λ z. option_map (λ zs. z ∷ zs) (integers_of ds)) (as_integer d)
 
 -- the integers of the array at a key
 abbrev pub integers_at : List ℕ → Data → Option (List ℤ)
@@ -90,7 +93,8 @@ term_at n i d = term_field n i (integers_at (codes "on") d) (integers_at (codes 
 abbrev pub terms_from : ℕ → ℕ → Items → Result (List Term) EnergyFault
 terms_from n i no_items = Ok []
 terms_from n i (item d ds) =
-    and_then (term_at n i d) (λ term. and_then (terms_from n (i + 1) ds) (λ terms. Ok (term ∷ terms)))
+    and_then (term_at n i d)
+    (λ term. and_then (terms_from n (i + 1) ds) (λ terms. Ok (term ∷ terms)))
 
 abbrev pub item_count : Items → ℕ
 item_count no_items = zero
@@ -98,7 +102,8 @@ item_count (item d ds) = suc (item_count ds)
 
 abbrev pub terms_or_fault : ℕ → Option Items → Result (List Term) EnergyFault
 terms_or_fault n None = Err (BadField Terms)
-terms_or_fault n (Some ds) = if nat_le (item_count ds) term_limit then terms_from n 0 ds else Err TooManyTerms
+terms_or_fault n (Some ds) =
+    if nat_le (item_count ds) term_limit then terms_from n 0 ds else Err TooManyTerms
 
 abbrev pub terms_at : ℕ → Option Data → Result (List Term) EnergyFault
 terms_at n None = Ok []

@@ -12,14 +12,16 @@ use Rattle.run_options.specs.Shapes.{shape_table}
 use Rattle.run_options.specs.declared.shape.Shape.{Shape}
 use Rattle.run_options.specs.declared.shape.Shape.TheVariants.{Potts}
 
--- the table of k labels that a name stands for, for each number at which costs by distance may be cut off
+-- the table of k labels that a name stands for, for each number at which costs by distance may be
+-- cut off
 abbrev pub table_named : ℕ → Option Shape → Result (ℕ → List ℤ) LabelFault
 table_named k None = Err (BadField Smooth)
 table_named k (Some shape) = Ok (shape_table shape k)
 
 -- the table that a list is, whatever the cut
 unfoldable pub listed_from : ℕ → Data → Result (ℕ → List ℤ) LabelFault
-listed_from k d = and_then (list_from Smooth (k * k) greatest_smooth_cost d) (λ ds. Ok (λ most. map integer_of ds))
+listed_from k d = and_then (list_from Smooth (k * k) greatest_smooth_cost d)
+    (λ ds. Ok (λ most. map integer_of ds))
 
 -- the table of k labels that a value is, for each number at which costs by distance may be cut off
 unfoldable pub smooth_from : ℕ → Data → Result (ℕ → List ℤ) LabelFault

@@ -1,4 +1,5 @@
--- What a table states of a problem of labels: each of its numbers, as it stands, or what is due where a field is missing.
+-- What a table states of a problem of labels: each of its numbers, as it stands, or what is due
+-- where a field is missing.
 use Rattle.std.specs.Prelude.{◌≡◌, ◌⊎◌, ⊤, ℕ, ℤ, pos, List, [], ◌∷◌, map, replicate, Option, Some, None, codes}
 use Rattle.toml.specs.Data.{Data, string, integer, array, Items, no_items, item, Members, get_member}
 use Rattle.toml.specs.Parse.{parse_document}
@@ -19,8 +20,8 @@ abbrev pub StatesNumber : Option Data → ℕ → ℕ → Type 0
 StatesNumber None due n = n ≡ due
 StatesNumber (Some d) due n = d ≡ integer (pos n)
 
--- `smooth` for k labels, where costs by distance are cut off at the most: nothing, which is as `"potts"`; one of three
--- names, and the costs are those of the name; or the list of the costs
+-- `smooth` for k labels, where costs by distance are cut off at the most: nothing, which is as
+-- `"potts"`; one of three names, and the costs are those of the name; or the list of the costs
 abbrev pub StatesSmooth : Option Data → ℕ → ℕ → List ℤ → Type 0
 StatesSmooth None most k costs = costs ≡ shape_table Potts k most
 StatesSmooth (Some d) most k costs =
@@ -56,7 +57,8 @@ StatesStart (Some d) sites at = StatesNumbers d at
 abbrev pub StatesMoves : Option Data → Moves → Type 0
 StatesMoves None moves = moves ≡ Expansion
 StatesMoves (Some d) moves =
-    ((d ≡ string (codes "expansion")) × (moves ≡ Expansion)) ⊎ ((d ≡ string (codes "swap")) × (moves ≡ Swap))
+    ((d ≡ string (codes "expansion")) × (moves ≡ Expansion))
+    ⊎ ((d ≡ string (codes "swap")) × (moves ≡ Swap))
 
 -- `label_costs`: nothing where no label costs something by itself, or the list of the costs
 abbrev pub StatesLabelCosts : Option Data → Option (List ℤ) → Type 0

@@ -24,8 +24,8 @@ NamesEnergy bytes energy = IsUtf8 bytes × (energy_in bytes ≡ Ok energy)
 abbrev pub TextStates : List ℕ → Energy → Type 0
 TextStates bytes energy = (ms : Members) × (parse_document bytes ≡ Some ms) × States ms energy
 
--- The bytes have this fault: they are no TOML text, or a text with this first fault. Memory may always be
--- refused.
+-- The bytes have this fault: they are no TOML text, or a text with this first fault. Memory may
+-- always be refused.
 abbrev pub HasFault : List ℕ → EnergyFault → Type 0
 HasFault bytes OutOfMemory = ⊤
 HasFault bytes BadToml = IsUtf8 bytes → energy_in bytes ≡ Err BadToml

@@ -44,7 +44,8 @@ pub(crate) fn label_costs_in(
     table: &Table,
     labels: u32,
 ) -> Result<Option<Vec<i64>>, LabelFault>
-    ensures ok { IfOk result (λ costs. label_costs_in (table_view table.now) labels ≡ Ok (costs_told costs)) }
+    ensures ok { IfOk result (λ costs.
+        label_costs_in (table_view table.now) labels ≡ Ok (costs_told costs)) }
     ensures refused { IfErr result (λ fault. fault ≢ OutOfMemory →
         label_costs_in (table_view table.now) labels ≡ Err fault) }
 {
@@ -60,7 +61,8 @@ fn label_costs_from(
     value: &Value,
     labels: u32,
 ) -> Result<Option<Vec<i64>>, LabelFault>
-    ensures ok { IfOk result (λ costs. label_costs_from labels (view value.now) ≡ Ok (costs_told costs)) }
+    ensures ok { IfOk result (λ costs.
+        label_costs_from labels (view value.now) ≡ Ok (costs_told costs)) }
     ensures refused { IfErr result (λ fault. fault ≢ OutOfMemory →
         label_costs_from labels (view value.now) ≡ Err fault) }
 {

@@ -27,9 +27,8 @@ pub fn read_energy(alloc: Global, bytes: &[u8]) -> Result<Energy, EnergyFault>
     energy_of(alloc, &table)
 }
 
-/// The energy that a table names, or its first fault.
-/// The fields are read in the order `variables`, `constant`, `terms`, and each term whole before the next;
-/// other fields are ignored.
+/// The energy that a table names, or its first fault. The fields are read in the order `variables`,
+/// `constant`, `terms`, and each term whole before the next; other fields are ignored.
 pub fn energy_of(alloc: Global, table: &Table) -> Result<Energy, EnergyFault>
     ensures ok { IfOk result (λ energy. energy_of_table (table_view table.now) ≡ Ok energy) }
     ensures stated { IfOk result (States (table_view table.now)) }
@@ -60,9 +59,11 @@ fn without_terms(alloc: Global, variables: u32, constant: i64) -> Energy
 fn add_terms(energy: &mut Energy, table: &Table) -> Result<(), EnergyFault>
     requires variables { energy.old.variables ≤ variable_limit }
     requires empty { energy.old.terms ≡ [] }
-    ensures ok { OnOk result (GainsAll energy.old energy.new (terms_in energy.old.variables (table_view
+    ensures ok { OnOk result (GainsAll energy.old energy.new
+        (terms_in energy.old.variables (table_view
         table.now))) }
-    ensures refused { IfErr result (IsFirstOf (terms_in energy.old.variables (table_view table.now))) }
+    ensures refused { IfErr result
+        (IsFirstOf (terms_in energy.old.variables (table_view table.now))) }
 {
     let Some(value) = member(table, EnergyKey::Terms.name()) else {
         return Ok(());
@@ -83,7 +84,8 @@ fn add_items(energy: &mut Energy, items: &Vec<Value>) -> Result<(), EnergyFault>
     requires room { vec_len items.now ≤ term_limit }
     ensures ok { OnOk result (GainsAll energy.old energy.new (terms_from energy.old.variables 0
         (array_view items.now))) }
-    ensures refused { IfErr result (IsFirstOf (terms_from energy.old.variables 0 (array_view items.now))) }
+    ensures refused { IfErr result
+        (IsFirstOf (terms_from energy.old.variables 0 (array_view items.now))) }
 {
     for (place, item) in items.iter().enumerate() {
         add_term(energy, place, item)?;

@@ -48,7 +48,8 @@ pub fn constant_of(table: &Table) -> Result<i64, EnergyFault>
 
 /// The integers of the array at a key, if it has at most N items, and nothing else.
 pub fn integers_at<const N: usize>(value: &Value, key: &str) -> Option<ArrayVec<i64, N>>
-    ensures { option_map (λ v. v.items) result ≡ option_and_then (list_within N) (integers_at key.now (view
+    ensures { option_map (λ v. v.items) result
+        ≡ option_and_then (list_within N) (integers_at key.now (view
         value.now)) }
 {
     integers_of(member(value.as_table()?, key)?.as_array()?)

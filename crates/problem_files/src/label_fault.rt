@@ -49,7 +49,8 @@ impl LabelKey {
     }
 }
 
-/// The first fault of a problem file. An element goes by its place in the list of its field, from 0.
+/// The first fault of a problem file. An element goes by its place in the list of its field, from
+/// 0.
 #[derive(Clone, Copy, Debug, PartialEq, Eq, Error)]
 pub enum LabelFault {
     /// Memory was refused.
@@ -58,7 +59,8 @@ pub enum LabelFault {
     /// The bytes are not a TOML text.
     #[error("not a TOML text")]
     BadToml,
-    /// A field that must be there is missing, has another kind or another length, or is out of its range.
+    /// A field that must be there is missing, has another kind or another length, or is out of its
+    /// range.
     #[error("bad field")]
     BadField(LabelKey),
     /// The element at this place of a field's list has another kind or another shape.

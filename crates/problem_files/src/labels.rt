@@ -21,12 +21,14 @@ use toml::Table;
 
 /// The problem of labels that the bytes of a TOML text name, or its first fault.
 pub fn read_label(alloc: Global, bytes: &[u8]) -> Result<LabelProblem, LabelFault>
-    ensures ok { IfOk result (λ problem. IsUtf8 bytes.now × (problem_in bytes.now ≡ Ok (problem_view problem))) }
+    ensures ok { IfOk result (λ problem.
+        IsUtf8 bytes.now × (problem_in bytes.now ≡ Ok (problem_view problem))) }
     ensures stated { IfOk result (λ problem. TextStatesProblem bytes.now (problem_view problem)) }
     ensures limits { IfOk result (λ problem. IsInLimits (problem_view problem)) }
     ensures refused { IfErr result (λ fault. fault ≢ OutOfMemory →
         IsUtf8 bytes.now → problem_in bytes.now ≡ Err fault) }
-    ensures text { IfErr result (λ fault. fault ≢ OutOfMemory → fault ≢ BadToml → IsUtf8 bytes.now) }
+    ensures text { IfErr result
+        (λ fault. fault ≢ OutOfMemory → fault ≢ BadToml → IsUtf8 bytes.now) }
 {
     let table = match read_table(alloc, bytes) {
         Ok(table) => table,
@@ -36,15 +38,17 @@ pub fn read_label(alloc: Global, bytes: &[u8]) -> Result<LabelProblem, LabelFaul
     problem_of(alloc, &table)
 }
 
-/// The problem of labels that a table names, or its first fault. The fields are read in the order `sites`,
-/// `labels`, `data`, `smooth`, `trunc`, `pairs`, `start`, `moves`, `cycles`, `label_costs`; other fields are ignored.
+/// The problem of labels that a table names, or its first fault. The fields are read in the order
+/// `sites`, `labels`, `data`, `smooth`, `trunc`, `pairs`, `start`, `moves`, `cycles`,
+/// `label_costs`; other fields are ignored.
 pub fn problem_of(alloc: Global, table: &Table) -> Result<LabelProblem, LabelFault>
     ensures ok { IfOk result (λ problem.
         problem_of_table (table_view table.now) ≡ Ok (problem_view problem)) }
     ensures stated { IfOk result
         (λ problem. StatesProblem (table_view table.now) (problem_view problem)) }
     ensures limits { IfOk result (λ problem. IsInLimits (problem_view problem)) }
-    ensures refused { IfErr result (λ fault. fault ≢ OutOfMemory → problem_of_table (table_view table.now) ≡ Err fault) }
+    ensures refused { IfErr result
+        (λ fault. fault ≢ OutOfMemory → problem_of_table (table_view table.now) ≡ Err fault) }
 {
     let sites = number_in(table, LabelKey::Sites, 0, SITE_LIMIT)?;
     let labels = number_in(table, LabelKey::Labels, 1, LABEL_LIMIT)?;
@@ -57,7 +61,8 @@ pub fn problem_of(alloc: Global, table: &Table) -> Result<LabelProblem, LabelFau
     rest_of(alloc, table, sites, labels, data, smooth)
 }
 
-/// The problem of these sizes and costs whose other fields a table names, or the first fault of these.
+/// The problem of these sizes and costs whose other fields a table names, or the first fault of
+/// these.
 fn rest_of(
     alloc: Global,
     table: &Table,
@@ -69,7 +74,8 @@ fn rest_of(
     requires sizes { AreSizes sites labels }
     requires costs { AreCostsInLimits sites labels data.items smooth.items }
     ensures ok { IfOk result (λ problem.
-        names_rest (table_view table.now) sites labels data.items smooth.items ≡ Ok (problem_view problem)) }
+        names_rest (table_view table.now) sites labels data.items smooth.items
+        ≡ Ok (problem_view problem)) }
     ensures limits { IfOk result (λ problem. IsInLimits (problem_view problem)) }
     ensures refused { IfErr result (λ fault. fault ≢ OutOfMemory →
         names_rest (table_view table.now) sites labels data.items smooth.items ≡ Err fault) }

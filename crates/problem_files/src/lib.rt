@@ -1,5 +1,6 @@
-//! Problem files, TOML texts: the energy of yes-no variables that one names, or the problem of labels (sites, labels,
-//! costs, weighted pairs and the moves to make), or the first fault of the text.
+//! Problem files, TOML texts: the energy of yes-no variables that one names, or the problem of
+//! labels (sites, labels, costs, weighted pairs and the moves to make), or the first fault of the
+//! text.
 #![tactic(auto)]
 
 mod costs;

@@ -15,8 +15,10 @@ pub(crate) fn list_from<'a>(
     count: usize,
     most: u32,
 ) -> Result<&'a Vec<Value>, LabelFault>
-    ensures ok { IfOk result (λ v. list_from field count most (view value.now) ≡ Ok (map view v.now.items)) }
-    ensures refused { IfErr result (λ fault. list_from field count most (view value.now) ≡ Err fault) }
+    ensures ok { IfOk result (λ v.
+        list_from field count most (view value.now) ≡ Ok (map view v.now.items)) }
+    ensures refused { IfErr result
+        (λ fault. list_from field count most (view value.now) ≡ Err fault) }
     ensures count { IfOk result (λ v. vec_len v.now ≡ count) }
     ensures range { IfOk result (λ v. All (λ item. natural_of (view item) ≤ most) v.now.items) }
 {
@@ -27,8 +29,8 @@ pub(crate) fn list_from<'a>(
     Ok(items)
 }
 
-/// Refuses a list of another length, then one with an element that is no integer, then one with an element
-/// that is out of range.
+/// Refuses a list of another length, then one with an element that is no integer, then one with an
+/// element that is out of range.
 #[tactic(auto, using(crate::proofs::Listed::length_viewed, crate::proofs::Listed::all_in_range), unfolding(crate::specs::ListFields::integers_or_fault))]
 fn check(items: &Vec<Value>, field: LabelKey, count: usize, most: u32) -> Result<(), LabelFault>
     ensures ok { IfOk result (λ _.

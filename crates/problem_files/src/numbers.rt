@@ -10,7 +10,8 @@ use toml::{Table, Value};
 
 /// The value of a field.
 pub(crate) fn value_of<'a>(table: &'a Table, field: LabelKey) -> Option<&'a Value>
-    ensures { option_map (λ v. view v.now) result ≡ get_member (field_name field) (table_view table.now) }
+    ensures { option_map (λ v. view v.now) result
+        ≡ get_member (field_name field) (table_view table.now) }
 {
     member(table, field.name())
 }
@@ -32,7 +33,8 @@ pub(crate) fn number_in(
     }
 }
 
-/// The number that a field is, from the least to the most, or the default where there is no such field.
+/// The number that a field is, from the least to the most, or the default where there is no such
+/// field.
 #[tactic(auto, unfolding(crate::specs::NumberFields::number_or))]
 pub(crate) fn number_or(
     table: &Table,

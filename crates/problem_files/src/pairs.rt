@@ -42,7 +42,8 @@ fn add_items(pairs: &mut Pairs, items: &Vec<Value>) -> Result<(), LabelFault>
     requires sites { pairs.old.sites ≤ site_limit }
     requires empty { pairs.old.list ≡ [] }
     requires room { vec_len items.now ≤ pair_limit }
-    ensures ok { OnOk result (pairs_from pairs.old.sites 0 (map view items.now.items) ≡ Ok pairs.new.list) }
+    ensures ok { OnOk result (pairs_from pairs.old.sites 0 (map view items.now.items)
+        ≡ Ok pairs.new.list) }
     ensures refused { IfErr result (λ fault. fault ≢ OutOfMemory →
         pairs_from pairs.old.sites 0 (map view items.now.items) ≡ Err fault) }
     ensures sites { pairs.new.sites ≡ pairs.old.sites }
@@ -58,7 +59,8 @@ fn add_items(pairs: &mut Pairs, items: &Vec<Value>) -> Result<(), LabelFault>
 fn add_item(pairs: &mut Pairs, place: usize, item: &Value) -> Result<(), LabelFault>
     requires sites { pairs.old.sites ≤ site_limit }
     requires room { length pairs.old.list < pair_limit }
-    ensures ok { OnOk result (Gains pairs.old pairs.new (pair_at pairs.old.sites place (view item.now))) }
+    ensures ok { OnOk result (Gains pairs.old pairs.new
+        (pair_at pairs.old.sites place (view item.now))) }
     ensures refused { IfErr result (λ fault. fault ≢ OutOfMemory →
         pair_at pairs.old.sites place (view item.now) ≡ Err fault) }
     ensures sites { pairs.new.sites ≡ pairs.old.sites }

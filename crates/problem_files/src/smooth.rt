@@ -39,7 +39,8 @@ pub(crate) fn smooth_in(alloc: Global, table: &Table, labels: u32) -> Result<Smo
 #[tactic(auto, unfolding(crate::specs::SmoothFields::smooth_from))]
 fn smooth_from(alloc: Global, value: &Value, labels: u32) -> Result<Smooth, LabelFault>
     requires { labels ≤ label_limit }
-    ensures ok { IfOk result (λ smooth. smooth_from labels (view value.now) ≡ Ok (table_by labels smooth)) }
+    ensures ok { IfOk result (λ smooth.
+        smooth_from labels (view value.now) ≡ Ok (table_by labels smooth)) }
     ensures refused { IfErr result (λ fault. fault ≢ OutOfMemory →
         smooth_from labels (view value.now) ≡ Err fault) }
 {
@@ -56,7 +57,8 @@ fn smooth_from(alloc: Global, value: &Value, labels: u32) -> Result<Smooth, Labe
 #[tactic(auto, unfolding(crate::specs::SmoothFields::listed_from))]
 fn listed_in(alloc: Global, value: &Value, labels: u32) -> Result<Smooth, LabelFault>
     requires { labels ≤ label_limit }
-    ensures ok { IfOk result (λ smooth. listed_from labels (view value.now) ≡ Ok (table_by labels smooth)) }
+    ensures ok { IfOk result (λ smooth.
+        listed_from labels (view value.now) ≡ Ok (table_by labels smooth)) }
     ensures refused { IfErr result (λ fault. fault ≢ OutOfMemory →
         listed_from labels (view value.now) ≡ Err fault) }
 {

@@ -61,7 +61,8 @@ fn fill(start: &mut Labelling, items: &Vec<Value>)
     requires sizes { AreSizes (length start.old.at) start.old.labels }
     requires count { vec_len items.now ≡ length start.old.at }
     requires range { All (λ item. natural_of (view item) < start.old.labels) items.now.items }
-    ensures { start.new ≡ record start.old { at = map (λ item. natural_of (view item)) items.now.items } }
+    ensures { start.new ≡ record start.old
+        { at = map (λ item. natural_of (view item)) items.now.items } }
 {
     for (site, item) in items.iter().enumerate() {
         let _ = start.set_label(site as u32, number_of(item));

@@ -8,12 +8,14 @@ use crate::EnergyFault;
 use std::alloc::Global;
 use toml::Table;
 
-/// The table that the bytes of a TOML text are. `OutOfMemory` may come of any bytes. Any other refusal is
-/// `BadToml`, which comes of UTF-8 only where it is no TOML text.
+/// The table that the bytes of a TOML text are. `OutOfMemory` may come of any bytes. Any other
+/// refusal is `BadToml`, which comes of UTF-8 only where it is no TOML text.
 pub fn read_table(alloc: Global, bytes: &[u8]) -> Result<Table, EnergyFault>
-    ensures ok { IfOk result (λ table. IsUtf8 bytes.now × (parse_document bytes.now ≡ Some (table_view
+    ensures ok { IfOk result (λ table.
+        IsUtf8 bytes.now × (parse_document bytes.now ≡ Some (table_view
         table))) }
-    ensures refused { IfErr result (λ fault. fault ≢ OutOfMemory → (fault ≡ BadToml) × (IsUtf8 bytes.now
+    ensures refused { IfErr result
+        (λ fault. fault ≢ OutOfMemory → (fault ≡ BadToml) × (IsUtf8 bytes.now
         → parse_document bytes.now ≡ None)) }
 {
     match toml::table_from_slice(alloc, bytes) {

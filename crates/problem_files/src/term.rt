@@ -19,7 +19,8 @@ pub fn add_term(energy: &mut Energy, place: usize, item: &Value) -> Result<(), E
     requires room { length energy.old.terms < term_limit }
     ensures ok { OnOk result (Gains energy.old energy.new (term_at energy.old.variables place (view
         item.now))) }
-    ensures refused { IfErr result (IsFirstOf (term_at energy.old.variables place (view item.now))) }
+    ensures refused { IfErr result
+        (IsFirstOf (term_at energy.old.variables place (view item.now))) }
 {
     let shape = EnergyFault::BadElement(EnergyKey::Terms, place);
     let Some(on) = integers_at::<3>(item, "on") else {
@@ -40,9 +41,11 @@ fn add_listed(
 ) -> Result<(), EnergyFault>
     requires variables { energy.old.variables ≤ variable_limit }
     requires room { length energy.old.terms < term_limit }
-    ensures ok { OnOk result (Gains energy.old energy.new (term_from energy.old.variables place on.now
+    ensures ok { OnOk result (Gains energy.old energy.new
+        (term_from energy.old.variables place on.now
         values.now)) }
-    ensures refused { IfErr result (IsFirstOf (term_from energy.old.variables place on.now values.now)) }
+    ensures refused { IfErr result
+        (IsFirstOf (term_from energy.old.variables place on.now values.now)) }
 {
     let shape = EnergyFault::BadElement(EnergyKey::Terms, place);
     match on {
@@ -66,9 +69,11 @@ fn add_listed(
 fn add_one(energy: &mut Energy, place: usize, on: i64, table: [i64; 2]) -> Result<(), EnergyFault>
     requires variables { energy.old.variables ≤ variable_limit }
     requires room { length energy.old.terms < term_limit }
-    ensures ok { OnOk result (Gains energy.old energy.new (term_or_fault energy.old.variables place (on ∷ [])
+    ensures ok { OnOk result (Gains energy.old energy.new
+        (term_or_fault energy.old.variables place (on ∷ [])
         table (One (unsigned_abs on) table))) }
-    ensures refused { IfErr result (IsFirstOf (term_or_fault energy.old.variables place (on ∷ []) table (One
+    ensures refused { IfErr result
+        (IsFirstOf (term_or_fault energy.old.variables place (on ∷ []) table (One
         (unsigned_abs on) table))) }
 {
     let first = variable_of(place, on)?;
@@ -88,9 +93,11 @@ fn add_two(
 ) -> Result<(), EnergyFault>
     requires variables { energy.old.variables ≤ variable_limit }
     requires room { length energy.old.terms < term_limit }
-    ensures ok { OnOk result (Gains energy.old energy.new (term_or_fault energy.old.variables place (on ∷ and ∷
+    ensures ok { OnOk result (Gains energy.old energy.new
+        (term_or_fault energy.old.variables place (on ∷ and ∷
         []) table (Two (unsigned_abs on) (unsigned_abs and) table))) }
-    ensures refused { IfErr result (IsFirstOf (term_or_fault energy.old.variables place (on ∷ and ∷ []) table
+    ensures refused { IfErr result
+        (IsFirstOf (term_or_fault energy.old.variables place (on ∷ and ∷ []) table
         (Two (unsigned_abs on) (unsigned_abs and) table))) }
 {
     let first = variable_of(place, on)?;
@@ -112,9 +119,11 @@ fn add_three(
 ) -> Result<(), EnergyFault>
     requires variables { energy.old.variables ≤ variable_limit }
     requires room { length energy.old.terms < term_limit }
-    ensures ok { OnOk result (Gains energy.old energy.new (term_or_fault energy.old.variables place (on ∷ and ∷
+    ensures ok { OnOk result (Gains energy.old energy.new
+        (term_or_fault energy.old.variables place (on ∷ and ∷
         also ∷ []) table (Three (unsigned_abs on) (unsigned_abs and) (unsigned_abs also) table))) }
-    ensures refused { IfErr result (IsFirstOf (term_or_fault energy.old.variables place (on ∷ and ∷ also ∷ [])
+    ensures refused { IfErr result
+        (IsFirstOf (term_or_fault energy.old.variables place (on ∷ and ∷ also ∷ [])
         table (Three (unsigned_abs on) (unsigned_abs and) (unsigned_abs also) table))) }
 {
     let x = variable_of(place, on)?;

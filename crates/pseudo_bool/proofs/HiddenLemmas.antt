@@ -149,7 +149,8 @@ sum_zero : (names : List ℕ) → int_sum_by (λ (v : ℕ). pos 0) names ≡ pos
 sum_zero [] = refl
 sum_zero (v ∷ vs) = omega (arith, ints, sum_zero vs)
 
--- a cost for each name that passes a test: at least the cost where one does, and nothing where none does
+-- a cost for each name that passes a test: at least the cost where one does, and nothing where none
+-- does
 abbrev paid : (ℕ → Bool) → List ℕ → ℤ → ℤ
 paid t names cost = int_sum_by (λ name. int_counted (t name) cost) names
 

@@ -12,7 +12,8 @@ entry table place = slice_index_or table place (pos 0)
 abbrev pub digit : Bool → ℕ
 digit b = cond b 1 0
 
--- what a term's table has at an assignment: the first variable is the most significant digit of the place
+-- what a term's table has at an assignment: the first variable is the most significant digit of the
+-- place
 abbrev pub term_value : (ℕ → Bool) → Term → ℤ
 term_value x (One first table) = entry table (digit (x first))
 term_value x (Two first second table) = entry table (2 * digit (x first) + digit (x second))
@@ -44,7 +45,8 @@ IsValue z = IsWithin value_limit z
 -- the term is over variables below n, no two of them equal, and its numbers are in their range
 abbrev pub IsTerm : ℕ → Term → Type 0
 IsTerm n (One first table) = (first < n) × All IsValue table
-IsTerm n (Two first second table) = (first < n) × (second < n) × (first ≢ second) × All IsValue table
+IsTerm n (Two first second table) =
+    (first < n) × (second < n) × (first ≢ second) × All IsValue table
 IsTerm n (Three first second third table) =
     (first < n) × (second < n) × (third < n) × (first ≢ second) × (first ≢ third) × (second ≢ third)
     × All IsValue table

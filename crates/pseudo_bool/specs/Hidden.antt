@@ -43,7 +43,8 @@ IsTieCost cost = (pos 0 ≤ℤ cost) × IsValue cost
 abbrev pub CanTie : Energy → List ℕ → Type 0
 CanTie e names = (e.variables < variable_limit) × All (λ name. name < e.variables) names
 
--- a cost over named variables that may be added: also room in the list for a term, and one for each of them
+-- a cost over named variables that may be added: also room in the list for a term, and one for each
+-- of them
 pub record IsTieable (e : Energy) (names : List ℕ) (cost : ℤ) : Type 0 where
   pub variables : CanTie e names
   pub cost_is : IsTieCost cost

@@ -9,8 +9,8 @@ variable_limit = 2097152
 abbrev pub term_limit : ℕ
 term_limit = 8388608
 
--- the greatest size of a number of a table, and of a constant in one call, 10^9: it fits 32 bits with its
--- sign, and all the numbers of all terms together stay far below 2^62
+-- the greatest size of a number of a table, and of a constant in one call, 10^9: it fits 32 bits
+-- with its sign, and all the numbers of all terms together stay far below 2^62
 abbrev pub value_limit : ℕ
 value_limit = 1000000000
 

@@ -37,8 +37,8 @@ HasValues (One first table) = All IsValue table
 HasValues (Two first second table) = All IsValue table
 HasValues (Three first second third table) = All IsValue table
 
--- a term that may be added: over variables of the energy, no two equal, its numbers in their range, and room
--- in the list
+-- a term that may be added: over variables of the energy, no two equal, its numbers in their range,
+-- and room in the list
 pub record IsTermAccepted (e : Energy) (term : Term) : Type 0 where
   pub is_term : IsTerm e.variables term
   pub room : length e.terms < term_limit

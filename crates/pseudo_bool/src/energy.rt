@@ -13,7 +13,8 @@ use std::alloc::Global;
 use std::marker::Model;
 
 /// An energy of yes-no variables: a constant, how many variables there are, and a list of terms.
-/// Contracts see these three, and that they keep the limits. An addition that is refused changes nothing.
+/// Contracts see these three, and that they keep the limits. An addition that is refused changes
+/// nothing.
 #[derive(Drop)]
 pub struct Energy {
     constant: i64,
@@ -63,8 +64,9 @@ impl Energy {
         variables <= VARIABLE_LIMIT
     }
 
-    /// Makes it the energy 0 of this many variables, with no terms. It keeps the room of its lists for the
-    /// terms to come, so that an energy that is cleared and filled again seldom grows. It takes no memory.
+    /// Makes it the energy 0 of this many variables, with no terms. It keeps the room of its lists
+    /// for the terms to come, so that an energy that is cleared and filled again seldom grows. It
+    /// takes no memory.
     pub fn clear(&mut self, variables: u32)
         requires { variables ≤ variable_limit }
         ensures { self.new ≡ record { constant = pos 0; variables = variables; terms = [] } }
@@ -109,12 +111,13 @@ impl Energy {
         self.rows[index].term(self.triples.as_slice())
     }
 
-    /// A further variable, which answers its number: 0 for the first. `NoSuchVariable` where there are
-    /// `VARIABLE_LIMIT` variables already. It takes no memory.
+    /// A further variable, which answers its number: 0 for the first. `NoSuchVariable` where there
+    /// are `VARIABLE_LIMIT` variables already. It takes no memory.
     pub fn add_variable(&mut self) -> Result<u32, EnergyError>
         ensures accepted { IsOk result ↔ (self.old.variables < variable_limit) }
         ensures number { IfOk result (λ number. number ≡ self.old.variables) }
-        ensures added { OnOk result (self.new ≡ record self.old { variables = self.old.variables + 1 }) }
+        ensures added { OnOk result
+            (self.new ≡ record self.old { variables = self.old.variables + 1 }) }
         ensures refused { IfErr result (λ e. e ≡ EnergyError.NoSuchVariable) }
         ensures unchanged { OnErr result (self.new ≡ self.old) }
     {
@@ -126,8 +129,9 @@ impl Energy {
         Ok(number)
     }
 
-    /// Adds a number to the constant: both the number, from `-VALUE_LIMIT` to `VALUE_LIMIT`, and the sum of
-    /// all of them, from `-CONSTANT_LIMIT` to `CONSTANT_LIMIT`. Refused is `ValueRange` alone.
+    /// Adds a number to the constant: both the number, from `-VALUE_LIMIT` to `VALUE_LIMIT`, and
+    /// the sum of all of them, from `-CONSTANT_LIMIT` to `CONSTANT_LIMIT`. Refused is `ValueRange`
+    /// alone.
     pub fn add_constant(&mut self, constant: i64) -> Result<(), EnergyError>
         ensures accepted { IsOk result
             ↔ (IsValue constant × IsWithin constant_limit (self.old.constant +ℤ constant)) }
@@ -147,11 +151,11 @@ impl Energy {
         Ok(())
     }
 
-    /// Adds a term of one variable at the end of the list: its numbers where the variable is 0 and where it
-    /// is 1 (Kolmogorov and Zabih, PAMI 2004, section 2). Refused, the first that holds: `NoSuchVariable`
-    /// where the variable is not one of the energy's, `ValueRange` where a number is not from
-    /// `-VALUE_LIMIT` to `VALUE_LIMIT`, `TooManyTerms` where the list is full, `OutOfMemory` where a growth
-    /// was refused.
+    /// Adds a term of one variable at the end of the list: its numbers where the variable is 0 and
+    /// where it is 1 (Kolmogorov and Zabih, PAMI 2004, section 2). Refused, the first that holds:
+    /// `NoSuchVariable` where the variable is not one of the energy's, `ValueRange` where a number
+    /// is not from `-VALUE_LIMIT` to `VALUE_LIMIT`, `TooManyTerms` where the list is full,
+    /// `OutOfMemory` where a growth was refused.
     pub fn add_term1(&mut self, first: u32, table: [i64; 2]) -> Result<(), EnergyError>
         ensures accepted { OnOk result (IsTermAccepted self.old (Term.One first table)) }
         ensures added { OnOk result (IsAdded self.old self.new (Term.One first table)) }
@@ -167,9 +171,10 @@ impl Energy {
         self.add_row(Row::One(shorten(first), narrow(&table)))
     }
 
-    /// Adds a term of two variables at the end of the list: its numbers at 00, 01, 10 and 11, where the
-    /// first variable is the first digit. Refused, the first that holds: `NoSuchVariable`, `SameVariable`
-    /// where the two are one, `ValueRange`, `TooManyTerms`, `OutOfMemory`, as by `add_term1`.
+    /// Adds a term of two variables at the end of the list: its numbers at 00, 01, 10 and 11, where
+    /// the first variable is the first digit. Refused, the first that holds: `NoSuchVariable`,
+    /// `SameVariable` where the two are one, `ValueRange`, `TooManyTerms`, `OutOfMemory`, as by
+    /// `add_term1`.
     pub fn add_term2(&mut self, first: u32, second: u32, table: [i64; 4]) -> Result<(), EnergyError>
         ensures accepted { OnOk result (IsTermAccepted self.old (Term.Two first second table)) }
         ensures added { OnOk result (IsAdded self.old self.new (Term.Two first second table)) }
@@ -188,10 +193,10 @@ impl Energy {
         self.add_row(Row::Two(shorten(first), shorten(second), narrow(&table)))
     }
 
-    /// Adds a term of three variables at the end of the list: its numbers at 000, 001, 010, 011, 100, 101,
-    /// 110 and 111, where the first variable is the first digit. Refused, the first that holds:
-    /// `NoSuchVariable`, `SameVariable` where two of the three are one, `ValueRange`, `TooManyTerms`,
-    /// `OutOfMemory`, as by `add_term1`.
+    /// Adds a term of three variables at the end of the list: its numbers at 000, 001, 010, 011,
+    /// 100, 101, 110 and 111, where the first variable is the first digit. Refused, the first that
+    /// holds: `NoSuchVariable`, `SameVariable` where two of the three are one, `ValueRange`,
+    /// `TooManyTerms`, `OutOfMemory`, as by `add_term1`.
     pub fn add_term3(
         &mut self,
         first: u32,
@@ -201,7 +206,8 @@ impl Energy {
     ) -> Result<(), EnergyError>
         ensures accepted { OnOk result
             (IsTermAccepted self.old (Term.Three first second third table)) }
-        ensures added { OnOk result (IsAdded self.old self.new (Term.Three first second third table)) }
+        ensures added { OnOk result
+            (IsAdded self.old self.new (Term.Three first second third table)) }
         ensures refused { IfErr result
             (IsTermRefusal self.old (Term.Three first second third table)) }
         ensures unchanged { OnErr result (self.new ≡ self.old) }
@@ -257,12 +263,14 @@ impl Energy {
         Ok(())
     }
 
-    /// Adds a cost that is paid unless each named variable is 1, by a further variable, which answers its number: the
-    /// least value over that variable is the old value and the cost, or the old value where all named ones are 1. No
-    /// name counts as all. It adds a term of the new variable, and one of each name and it, at the end of the list. Refused, the
-    /// first that holds: `NoSuchVariable` where a name is not one of the energy's, or there are `VARIABLE_LIMIT`
-    /// variables already; `ValueRange` where the cost is not from 0 to `VALUE_LIMIT`; `TooManyTerms` where the list has
-    /// no room for all these terms; `OutOfMemory` where a growth was refused.
+    /// Adds a cost that is paid unless each named variable is 1, by a further variable, which
+    /// answers its number: the least value over that variable is the old value and the cost, or the
+    /// old value where all named ones are 1. No name counts as all. It adds a term of the new
+    /// variable, and one of each name and it, at the end of the list. Refused, the first that
+    /// holds: `NoSuchVariable` where a name is not one of the energy's, or there are
+    /// `VARIABLE_LIMIT` variables already; `ValueRange` where the cost is not from 0 to
+    /// `VALUE_LIMIT`; `TooManyTerms` where the list has no room for all these terms; `OutOfMemory`
+    /// where a growth was refused.
     pub fn add_unless_all(&mut self, names: &[u32], cost: i64) -> Result<u32, EnergyError>
         ensures accepted { OnOk result (IsTieable self.old names.now cost) }
         ensures number { IfOk result (λ number. number ≡ self.old.variables) }
@@ -277,9 +285,10 @@ impl Energy {
         self.add_tied(names, cost, &[cost, 0], &[0, cost, 0, 0])
     }
 
-    /// Adds a cost that is paid if any of the named variables is 1, by a further variable, which answers its number:
-    /// the least value over that variable is the old value, or the old value and the cost where a named one is 1. No name
-    /// counts as none. It adds the terms that `add_unless_all` adds, and refuses as it does.
+    /// Adds a cost that is paid if any of the named variables is 1, by a further variable, which
+    /// answers its number: the least value over that variable is the old value, or the old value
+    /// and the cost where a named one is 1. No name counts as none. It adds the terms that
+    /// `add_unless_all` adds, and refuses as it does.
     pub fn add_if_any(&mut self, names: &[u32], cost: i64) -> Result<u32, EnergyError>
         ensures accepted { OnOk result (IsTieable self.old names.now cost) }
         ensures number { IfOk result (λ number. number ≡ self.old.variables) }
@@ -311,7 +320,8 @@ impl Energy {
         Ok(())
     }
 
-    /// Adds a variable, a term of it alone and a term of each named variable and it, if there is memory.
+    /// Adds a variable, a term of it alone and a term of each named variable and it, if there is
+    /// memory.
     fn add_tied(
         &mut self,
         names: &[u32],
@@ -336,9 +346,9 @@ impl Energy {
         Ok(hidden)
     }
 
-    /// The value at an assignment, one bit for each variable in their order: the constant plus what each
-    /// term's table has there (Kolmogorov and Zabih, PAMI 2004, section 2). Its size is at most
-    /// `CONSTANT_LIMIT + TERM_LIMIT * VALUE_LIMIT`. It takes no memory.
+    /// The value at an assignment, one bit for each variable in their order: the constant plus what
+    /// each term's table has there (Kolmogorov and Zabih, PAMI 2004, section 2). Its size is at
+    /// most `CONSTANT_LIMIT + TERM_LIMIT * VALUE_LIMIT`. It takes no memory.
     pub fn value(&self, bits: &[bool]) -> i64
         requires { length bits.now ≡ self.now.variables }
         ensures { result ≡ value_at self.now (assignment bits.now) }

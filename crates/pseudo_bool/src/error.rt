@@ -7,7 +7,8 @@ use thiserror::Error;
 /// Why an energy refused an addition. It is then as it was.
 #[derive(Clone, Copy, Debug, PartialEq, Eq, Error)]
 pub enum EnergyError {
-    /// A term names a variable that the energy does not have, or a further variable is beyond the limit.
+    /// A term names a variable that the energy does not have, or a further variable is beyond the
+    /// limit.
     #[error("no such variable")]
     NoSuchVariable,
     /// Two of a term's variables are the same.

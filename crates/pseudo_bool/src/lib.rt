@@ -1,6 +1,6 @@
-//! Energies of yes-no variables: a constant and a list of terms, each a table of numbers over one, two or
-//! three variables. The value at an assignment is the constant plus what each term's table has there
-//! (Kolmogorov and Zabih, PAMI 2004, sections 2 and 4).
+//! Energies of yes-no variables: a constant and a list of terms, each a table of numbers over one,
+//! two or three variables. The value at an assignment is the constant plus what each term's table
+//! has there (Kolmogorov and Zabih, PAMI 2004, sections 2 and 4).
 #![tactic(auto)]
 
 mod energy;

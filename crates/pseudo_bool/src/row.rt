@@ -5,9 +5,9 @@ ghost use Rattle.pseudo_bool.specs.Rows.{number_of_bytes, term_of, triple_term, 
 
 use crate::Term;
 
-/// A term of one or two variables as the energy keeps it, or the place of one of three in a list of its own,
-/// so that the rows of shorter terms stay small: 24 bytes. A number of a table fits 32 bits, that of a variable three bytes,
-/// the lowest first.
+/// A term of one or two variables as the energy keeps it, or the place of one of three in a list of
+/// its own, so that the rows of shorter terms stay small: 24 bytes. A number of a table fits 32
+/// bits, that of a variable three bytes, the lowest first.
 #[derive(Clone, Copy)]
 pub enum Row {
     One([u8; 3], [i32; 2]),
@@ -166,7 +166,8 @@ pub fn push_tied(
     requires alone { All IsValue alone.now }
     requires beside { All IsValue beside.now }
     requires room { vec_len rows.old + 1 + length names.now ≤ vec_capacity rows.old }
-    ensures { AddsRows rows.old.items rows.new.items (tied_terms names.now variable alone.now beside.now) }
+    ensures { AddsRows rows.old.items rows.new.items
+        (tied_terms names.now variable alone.now beside.now) }
 {
     push_alone(rows, variable, alone);
     push_beside(rows, names, variable, beside);

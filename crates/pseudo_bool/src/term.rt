@@ -1,8 +1,8 @@
 /// A term of an energy: its variables by number, and its table of whole numbers.
 ///
-/// The first variable is the most significant digit of a number's place in the table. An energy holds terms
-/// whose variables are its own, no two of them equal, and whose numbers are from `-VALUE_LIMIT` to
-/// `VALUE_LIMIT`.
+/// The first variable is the most significant digit of a number's place in the table. An energy
+/// holds terms whose variables are its own, no two of them equal, and whose numbers are from
+/// `-VALUE_LIMIT` to `VALUE_LIMIT`.
 #[derive(Clone, Copy, Debug, PartialEq, Eq)]
 pub enum Term {
     /// A variable, and the numbers where it is 0 and where it is 1.

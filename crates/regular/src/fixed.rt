@@ -15,7 +15,7 @@ pub struct Fixed {
 pub struct NotRegular {
     /// Its place in the list of terms.
     pub term: usize,
-    /// What was fixed in the first of its projections that is not regular: nothing, in a term of two
-    /// variables.
+    /// What was fixed in the first of its projections that is not regular: nothing, in a term of
+    /// two variables.
     pub fixed: Option<Fixed>,
 }

@@ -48,7 +48,8 @@ pub fn round<R: Threads + Wait + Abort + AllocGlobal + Sync, G: Gate>(
     round_from(rt, state, options, gate)
 }
 
-/// Options of a round, by a number: 1 to 8 threads, 2 to 64 blocks, rings of 1 to 64 letters, few turns and many.
+/// Options of a round, by a number: 1 to 8 threads, 2 to 64 blocks, rings of 1 to 64 letters, few
+/// turns and many.
 fn options_of(number: usize) -> Options {
     Options {
         threads: 1 + (number % 8) as u32,
@@ -65,8 +66,8 @@ const RINGS: &[u32] = &[1, 2, 5, 16, 64];
 
 const TURNS: &[u32] = &[0, 7, 300, 4_096];
 
-/// Whether a round over these options, after which the solver over blocks goes on, ends in the answer of the plain
-/// solver, with a preflow that certifies it.
+/// Whether a round over these options, after which the solver over blocks goes on, ends in the
+/// answer of the plain solver, with a preflow that certifies it.
 fn is_right<R: Threads + Wait + Abort + AllocGlobal + Sync>(
     rt: &R,
     net: &Net,

@@ -50,8 +50,8 @@ pub fn net_of_rows(
 /// An arc of capacity 4 from the first of two nodes to the second.
 const ONE_ARC: &[Row] = &[(0, 1, 4)];
 
-/// Two nodes, of which the first gets 4 and the second 1, the second can give the sink 3, and an arc
-/// of capacity 4 leads from the first to the second.
+/// Two nodes, of which the first gets 4 and the second 1, the second can give the sink 3, and an
+/// arc of capacity 4 leads from the first to the second.
 pub fn two_nodes(rt: &(impl Abort + AllocGlobal)) -> Result<Net, AllocError> {
     net_of_rows(rt, &[4, 1], &[0, 3], ONE_ARC)
 }
@@ -92,8 +92,8 @@ fn units_at(alloc: Global, nodes: usize, places: &[usize]) -> Result<Vec<u64>, A
     Ok(units)
 }
 
-/// Arcs of capacity 1, as many as are told: from a node to a node, from the next to the next, and so
-/// on.
+/// Arcs of capacity 1, as many as are told: from a node to a node, from the next to the next, and
+/// so on.
 fn add_steps(arcs: &mut Vec<Arc>, from: u32, to: u32, count: u32) -> Result<(), AllocError> {
     for j in 0..count {
         arcs.push(Arc {

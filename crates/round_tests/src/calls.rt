@@ -14,7 +14,8 @@ struct Entry {
     turn: AtomicU32,
 }
 
-/// Writes down the first calls in their order, and counts all. From turn 1 on it says no to the blocks below a number.
+/// Writes down the first calls in their order, and counts all. From turn 1 on it says no to the
+/// blocks below a number.
 #[derive(Drop)]
 pub struct Diary {
     entries: Vec<Entry>,
@@ -86,7 +87,8 @@ impl Gate for Only {
     }
 }
 
-/// Of three blocks holds block 1 at its turn 0 until block 2 has called for turn 2, and says no to block 0 at turn 3.
+/// Of three blocks holds block 1 at its turn 0 until block 2 has called for turn 2, and says no to
+/// block 0 at turn 3.
 #[derive(Drop)]
 pub struct Lowest {
     calls: Calls,
@@ -104,8 +106,8 @@ impl Lowest {
         }
     }
 
-    /// Whether block 2 called for turn 2 while block 1 was held, and block 0 for its turns 1 to 3 before block 2 for its
-    /// turn 1, and for none after them.
+    /// Whether block 2 called for turn 2 while block 1 was held, and block 0 for its turns 1 to 3
+    /// before block 2 for its turn 1, and for none after them.
     pub fn went_up(&self) -> bool {
         self.met.load(Ordering::SeqCst)
             && !self.out_of_turn.load(Ordering::SeqCst)

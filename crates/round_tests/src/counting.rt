@@ -28,9 +28,10 @@ fn gate_calls<R: Threads + Wait + Abort + AllocGlobal + Sync>(
     Ok(diary.count())
 }
 
-/// There is no round where nothing can get to the sink, and else there are as many as are needed, and no more than are
-/// allowed. The five letters of the fan take a round each where the ring has one place, and one round where it has more;
-/// and one round more, in which block 0 gives on what came.
+/// There is no round where nothing can get to the sink, and else there are as many as are needed,
+/// and no more than are allowed. The five letters of the fan take a round each where the ring has
+/// one place, and one round where it has more; and one round more, in which block 0 gives on what
+/// came.
 #[test]
 fn rounds_are_counted(rt: HostRuntime) -> Result<(), Fail> {
     assert!(rt; gate_calls(&rt, &idle_nodes(&rt)?, &FIRST)? == 0);
@@ -42,9 +43,10 @@ fn rounds_are_counted(rt: HostRuntime) -> Result<(), Fail> {
     Ok(())
 }
 
-/// Each round begins with exact labels. By those of the first, 41 for node 0, its unit goes over the nodes 64 to 103, at
-/// whose end the other unit has taken the way to the sink. By those of the second it goes back to node 0, and in the third
-/// over the nodes 1 to 60: 60 steps in one turn, none of which needs a new label.
+/// Each round begins with exact labels. By those of the first, 41 for node 0, its unit goes over
+/// the nodes 64 to 103, at whose end the other unit has taken the way to the sink. By those of the
+/// second it goes back to node 0, and in the third over the nodes 1 to 60: 60 steps in one turn,
+/// none of which needs a new label.
 #[test]
 fn rounds_begin_with_exact_labels(rt: HostRuntime) -> Result<(), Fail> {
     assert!(rt; gate_calls(&rt, &two_ways(&rt)?, &FIRST)? == 6);

@@ -21,8 +21,8 @@ const TURNS: u32 = 1_000;
 /// How many letters a ring has room for.
 const RING: usize = 4;
 
-/// Two nodes, of which the first gets 4 and the second 1, the second can give the sink 3, and an arc of capacity 4
-/// leads from the first to the second; each in a block of its own.
+/// Two nodes, of which the first gets 4 and the second 1, the second can give the sink 3, and an
+/// arc of capacity 4 leads from the first to the second; each in a block of its own.
 fn two_blocks(rt: &impl Abort, alloc: Global) -> Result<Vec<Cells>, AllocError> {
     let sources = Vec::from_slice(alloc, &[4, 1])?;
     let sinks = Vec::from_slice(alloc, &[0, 3])?;
@@ -86,8 +86,8 @@ fn worker_of<J: Job>(
     Ok(Worker::new(seats, share))
 }
 
-/// What a round came to: what the nodes have, what the second can still give the sink, and how many turns were
-/// drawn.
+/// What a round came to: what the nodes have, what the second can still give the sink, and how many
+/// turns were drawn.
 #[derive(Clone, Copy)]
 struct End {
     excess: u64,
@@ -123,7 +123,8 @@ fn round_of<J: Job + Sync, R: Threads + Wait + Abort + Sync>(
     workers: Vec<Worker<J>>,
     book: TurnBook<J>,
 ) -> Result<End, AllocError>
-    requires { (i : ℕ) (d : _) → i < vec_len workers → AreNew (slice_index_or workers.items i d).seats.items }
+    requires { (i : ℕ) (d : _) → i < vec_len workers
+        → AreNew (slice_index_or workers.items i d).seats.items }
 {
     let book = Mutex::new(book);
     match all_work(rt, alloc, workers, &book, &Open) {
@@ -207,9 +208,9 @@ fn two_with<B: Ledger + Send + Sync, D: Ledger + Send + Sync, R: Threads + Wait 
     run_in_two::<Ledgers<B, D>, R>(rt, alloc, budget, drawn)
 }
 
-/// One worker goes on until neither block can do anything: the sink got 3, all that it can get, and 2 stay. Where no
-/// turn can be drawn, each block has its turn 0 alone, in which its node gets a label above 0 and rests: all 5 are
-/// still there.
+/// One worker goes on until neither block can do anything: the sink got 3, all that it can get, and
+/// 2 stay. Where no turn can be drawn, each block has its turn 0 alone, in which its node gets a
+/// label above 0 and rests: all 5 are still there.
 #[test]
 fn two_blocks_at_one_worker(rt: HostRuntime) -> Result<(), Fail> {
     let (budget, drawn) = (Blank::new(1), Blank::new(1));
@@ -222,8 +223,8 @@ fn two_blocks_at_one_worker(rt: HostRuntime) -> Result<(), Fail> {
     Ok(())
 }
 
-/// Whatever two workers do of their turns, and however few of them the second gets, what the sink got and what the
-/// blocks have is no more than the 5 that were there.
+/// Whatever two workers do of their turns, and however few of them the second gets, what the sink
+/// got and what the blocks have is no more than the 5 that were there.
 #[test]
 fn two_blocks_at_two_workers(rt: HostRuntime) -> Result<(), Fail> {
     let (budget, drawn) = (Blank::new(1), Blank::new(2));

@@ -164,7 +164,8 @@ fn draw_with<B: Ledger + Send + Sync, D: Ledger + Send + Sync, R: Threads + Wait
     draw_out::<Ledgers<B, D>, R>(rt, alloc, budget, drawn, turns)
 }
 
-/// What two threads drew together is what the book counted, to the last turn; a further turn is refused.
+/// What two threads drew together is what the book counted, to the last turn; a further turn is
+/// refused.
 #[test]
 fn book_drawn_out(rt: HostRuntime) -> Result<(), Fail> {
     for turns in &[0, 1, TURNS] {

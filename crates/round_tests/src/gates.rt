@@ -85,7 +85,8 @@ impl Gate for Overlap {
     }
 }
 
-/// Holds block 0 at its turn 0, before which it is marked busy, until block 1 has called for turn 2.
+/// Holds block 0 at its turn 0, before which it is marked busy, until block 1 has called for turn
+/// 2.
 #[derive(Drop)]
 pub struct Held {
     calls: Calls,
@@ -120,8 +121,9 @@ impl Gate for Held {
 /// How far both blocks have to come before a wait may give up.
 const FAR: u32 = 2_000;
 
-/// Makes the turns of two blocks alternate: block 0's turn t, from 1 on, waits until block 1 has called for t, and
-/// block 1's until block 0 has called for t + 1. Once a wait gave up, no call waits.
+/// Makes the turns of two blocks alternate: block 0's turn t, from 1 on, waits until block 1 has
+/// called for t, and block 1's until block 0 has called for t + 1. Once a wait gave up, no call
+/// waits.
 #[derive(Drop)]
 pub struct Alternate {
     calls: Calls,

@@ -1,8 +1,9 @@
-//! Tests of what workers are told, share and do: the ranges of their options, a book from which two threads draw,
-//! a ring between two threads, and two blocks at one worker and at two. And of rounds of running workers: that their
-//! turns overlap, that a round goes on while work and turns are left, which block has a turn when, and that after rounds of
-//! any options the solver over blocks finds the one answer. The same of the solver that makes the rounds itself, and how many
-//! it makes.
+//! Tests of what workers are told, share and do: the ranges of their options, a book from which two
+//! threads draw, a ring between two threads, and two blocks at one worker and at two. And of rounds
+//! of running workers: that their turns overlap, that a round goes on while work and turns are
+//! left, which block has a turn when, and that after rounds of any options the solver over blocks
+//! finds the one answer. The same of the solver that makes the rounds itself, and how many it
+//! makes.
 #![tactic(auto)]
 
 #[cfg(test)]

@@ -31,7 +31,8 @@ fn sample(x: u32, y: u32) -> u32
     (x / 4).wrapping_add(noise % 5) % 8
 }
 
-/// Adds what the site of a picture of `side` by `side` costs, and what it and its neighbours on the right and below cost.
+/// Adds what the site of a picture of `side` by `side` costs, and what it and its neighbours on the
+/// right and below cost.
 fn add_site(energy: &mut Energy, side: u32, x: u32, y: u32) -> Result<(), EnergyError> {
     let site = y.wrapping_mul(side).wrapping_add(x);
     let seen = i64::from(sample(x, y));
@@ -53,8 +54,8 @@ fn add_row(energy: &mut Energy, side: u32, y: u32) -> Result<(), EnergyError> {
     Ok(())
 }
 
-/// The energy of the move in which each site of a picture keeps label 0 or turns to label 3: data costs are distances
-/// to the sample.
+/// The energy of the move in which each site of a picture keeps label 0 or turns to label 3: data
+/// costs are distances to the sample.
 fn energy_of_side(alloc: Global, side: u32) -> Result<Energy, EnergyError> {
     let mut energy = Energy::new(alloc);
     energy.clear(side.wrapping_mul(side).min(LARGE_SIDE * LARGE_SIDE));

@@ -1,7 +1,8 @@
 use crate::rows::expect;
 use worker_options::Options;
 
-/// Threads, blocks, messages in a ring, turns and rounds: each bound alone, all least and all greatest.
+/// Threads, blocks, messages in a ring, turns and rounds: each bound alone, all least and all
+/// greatest.
 const ACCEPTED: &[[u32; 5]] = &[
     [1, 1, 1, 0, 0],
     [64, 256, 65_536, 1_000_000, 10_000],

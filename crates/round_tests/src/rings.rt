@@ -95,8 +95,8 @@ fn are_last(left: &[Letter]) -> bool {
     next == PARCELS
 }
 
-/// Two threads, one of which puts what the other takes: each message comes once and in order, and those that
-/// were not taken are left in the ring.
+/// Two threads, one of which puts what the other takes: each message comes once and in order, and
+/// those that were not taken are left in the ring.
 fn exchange<R: Threads + Wait + Abort + Sync>(rt: &R, alloc: Global) -> Result<(), AllocError> {
     let (first, second) = join_blocks(alloc, 0, 1, RING)?;
     let mut left = Vec::with_capacity(alloc, RING)?;

@@ -1,4 +1,5 @@
-//! The solver that makes rounds of running workers: that it makes them, and that its answer is the plain solver's.
+//! The solver that makes rounds of running workers: that it makes them, and that its answer is the
+//! plain solver's.
 use crate::building::{long_way, two_nodes};
 use crate::gates::{Alternate, Closed, Open, Overlap};
 use crate::overlap::{LONG, TWO};
@@ -14,7 +15,8 @@ use std::test::Fail;
 use std::thread::Threads;
 use worker_options::{Gate, Options};
 
-/// Whether the solver over these options ends in the answer of the plain solver, with a preflow that certifies it.
+/// Whether the solver over these options ends in the answer of the plain solver, with a preflow
+/// that certifies it.
 fn is_plain<R: Threads + Wait + Abort + AllocGlobal + Sync, G: Gate>(
     rt: &R,
     net: &Net,
@@ -41,7 +43,8 @@ fn solver_overlaps(rt: HostRuntime) -> Result<(), Fail> {
     Ok(())
 }
 
-/// A round goes on until the sink has a unit that crosses the border 4,095 times, and no further round begins.
+/// A round goes on until the sink has a unit that crosses the border 4,095 times, and no further
+/// round begins.
 #[test]
 fn solver_drains(rt: HostRuntime) -> Result<(), Fail> {
     let net = long_way(&rt)?;
@@ -52,8 +55,8 @@ fn solver_drains(rt: HostRuntime) -> Result<(), Fail> {
     Ok(())
 }
 
-/// Options of the solver, by a number: 1 to 8 threads, 1 to 256 blocks, rings of 1 to 64 letters, no turns, few and
-/// many, and no rounds, few and many.
+/// Options of the solver, by a number: 1 to 8 threads, 1 to 256 blocks, rings of 1 to 64 letters,
+/// no turns, few and many, and no rounds, few and many.
 fn options_of(number: usize) -> Options {
     Options {
         threads: 1 + (number % 8) as u32,
@@ -113,8 +116,8 @@ fn is_plain_side<R: Threads + Wait + Abort + AllocGlobal + Sync>(
     Ok(side.as_slice() == wanted.sink_side.as_slice())
 }
 
-/// A large net, in which excess goes on within the blocks first: the solver and the side alone, in rounds to the end, in
-/// one round and in none.
+/// A large net, in which excess goes on within the blocks first: the solver and the side alone, in
+/// rounds to the end, in one round and in none.
 #[test]
 fn large_nets_end_alike(rt: HostRuntime) -> Result<(), Fail> {
     let net = large_net_of_move(&rt)?;
@@ -163,8 +166,8 @@ fn bad_options_ask_no_gate(rt: HostRuntime) -> Result<(), Fail> {
     Ok(())
 }
 
-/// Whether the solver over these options, whose gate says no after turn 0, ends in the plain answer, and no block goes on
-/// after a no; how often the gate is asked, and how often it says no.
+/// Whether the solver over these options, whose gate says no after turn 0, ends in the plain
+/// answer, and no block goes on after a no; how often the gate is asked, and how often it says no.
 fn asked_closed<R: Threads + Wait + Abort + AllocGlobal + Sync>(
     rt: &R,
     net: &Net,
@@ -176,7 +179,8 @@ fn asked_closed<R: Threads + Wait + Abort + AllocGlobal + Sync>(
     Ok((is_right && !gate.went_on(), gate.calls(), gate.noes()))
 }
 
-/// No round asks no gate. Rounds of one turn of each block, after which the gate says no, end in the plain answer.
+/// No round asks no gate. Rounds of one turn of each block, after which the gate says no, end in
+/// the plain answer.
 #[test]
 fn solver_asks_the_gate(rt: HostRuntime) -> Result<(), Fail> {
     let net = two_nodes(&rt)?;

@@ -1,4 +1,5 @@
-//! Which block has a turn when, what a gate's answers end, and that rings have the room that is told.
+//! Which block has a turn when, what a gate's answers end, and that rings have the room that is
+//! told.
 use crate::alike::round;
 use crate::building::{between_two, fan, idle_nodes, two_nodes};
 use crate::calls::{Diary, Lowest, Only};
@@ -24,9 +25,9 @@ fn diary_of<R: Threads + Wait + Abort + AllocGlobal + Sync>(
     Ok(diary)
 }
 
-/// At one worker the blocks that want a turn have one each, by rising numbers, again and again. A block to which the gate
-/// says no has no further turn, and counts as idle: so the other is soon at its end, and does not wait until all turns
-/// are drawn.
+/// At one worker the blocks that want a turn have one each, by rising numbers, again and again. A
+/// block to which the gate says no has no further turn, and counts as idle: so the other is soon at
+/// its end, and does not wait until all turns are drawn.
 #[test]
 fn blocks_take_turns(rt: HostRuntime) -> Result<(), Fail> {
     let diary = diary_of(&rt, 0)?;
@@ -37,7 +38,8 @@ fn blocks_take_turns(rt: HostRuntime) -> Result<(), Fail> {
     Ok(())
 }
 
-/// Of the idle blocks of a worker the lowest that has not ended has the turns, as long as another block is busy.
+/// Of the idle blocks of a worker the lowest that has not ended has the turns, as long as another
+/// block is busy.
 #[test]
 fn lowest_block_waits(rt: HostRuntime) -> Result<(), Fail> {
     let net = idle_nodes(&rt)?;
@@ -67,7 +69,8 @@ fn are_alike(first: &State, second: &State) -> bool {
 /// One thread over two blocks, with no turn to draw.
 const NO_TURNS: Options = Options { turns: 0, ..ONE };
 
-/// A block does nothing in a turn to which the gate says no: it is left as where there is no turn to draw.
+/// A block does nothing in a turn to which the gate says no: it is left as where there is no turn
+/// to draw.
 #[test]
 fn noes_do_nothing(rt: HostRuntime) -> Result<(), Fail> {
     let net = net_of_move(&rt)?;
@@ -97,10 +100,12 @@ fn first_turns_are_not_asked_for(rt: HostRuntime) -> Result<(), Fail> {
     Ok(())
 }
 
-/// Rings' numbers of places, and how many of five letters stay behind in a turn where nobody takes one.
+/// Rings' numbers of places, and how many of five letters stay behind in a turn where nobody takes
+/// one.
 const PLACES: &[(u32, u64)] = &[(1, 4), (2, 3), (4, 1), (5, 0), (64, 0)];
 
-/// Block 1 has five letters for block 0, which has had its turn: it puts as many as the ring has places.
+/// Block 1 has five letters for block 0, which has had its turn: it puts as many as the ring has
+/// places.
 #[test]
 fn rings_have_their_room(rt: HostRuntime) -> Result<(), Fail> {
     let net = fan(&rt)?;
@@ -116,8 +121,8 @@ fn rings_have_their_room(rt: HostRuntime) -> Result<(), Fail> {
     Ok(())
 }
 
-/// A letter from any other block is seen, also by a block with nothing else to do: block 2's comes to block 0 by its second
-/// ring.
+/// A letter from any other block is seen, also by a block with nothing else to do: block 2's comes
+/// to block 0 by its second ring.
 #[test]
 fn each_ring_is_looked_at(rt: HostRuntime) -> Result<(), Fail> {
     let net = between_two(&rt)?;

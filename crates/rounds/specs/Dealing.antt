@@ -12,7 +12,8 @@ pub record AreHands {X : Type 0} (threads cards : ℕ) (hands : List (List X)) :
   pub places : (q w : ℕ) → w < threads → q < length (hand hands w) ↔ (q * threads + w < cards)
 
 -- and has that card there
-pub record AreDealt {X : Type 0} (threads : ℕ) (cards : List X) (hands : List (List X)) : Type 0 where
+pub record AreDealt {X : Type 0} (threads : ℕ) (cards : List X)
+    (hands : List (List X)) : Type 0 where
   pub shape : AreHands threads (length cards) hands
   pub each : (q w : ℕ) (d : X) → w < threads → q * threads + w < length cards
       → slice_index_or (hand hands w) q d ≡ slice_index_or cards (q * threads + w) d

@@ -23,14 +23,16 @@ pub record IsPaired (p : Port) (other : Option Port) : Type 0 where
   pub there : LeadsTo p mate
   pub back : LeadsTo mate p
 
--- of each block the ports to others: new ends of rings, by rising numbers of the others, joined in pairs, one
--- to each other block to which a direction of the block leads or from which one leads to it, and no more
+-- of each block the ports to others: new ends of rings, by rising numbers of the others, joined in
+-- pairs, one to each other block to which a direction of the block leads or from which one leads to
+-- it, and no more
 pub record AreJoined (ring : ℕ) (cells : List CellsView) (lists : List (List Port)) : Type 0 where
   pub len : length lists ≡ length cells
   pub rising : (b : ℕ) → AreRising (length cells) (slice_index_or lists b [])
   pub fresh : (b c : ℕ) (p : Port) → port_to lists b c ≡ Some p → IsNewPort c ring p
   pub paired : (b c : ℕ) (p : Port) → port_to lists b c ≡ Some p → IsPaired p (port_to lists c b)
-  pub led : (b j : ℕ) (d : CellsView) → b < length cells → j < length (slice_index_or cells b d).borders
+  pub led : (b j : ℕ) (d : CellsView) → b < length cells
+      → j < length (slice_index_or cells b d).borders
       → (border_in (slice_index_or cells b d) j).to < length cells
       → ¬ ((border_in (slice_index_or cells b d) j).to ≡ b)
       → is_some (port_to lists b (border_in (slice_index_or cells b d) j).to) ≡ true

@@ -41,9 +41,10 @@ pub record AreScanned (cells : List CellsView) (rows : List (List Bool)) : Type 
   pub each : (b : ℕ) (d : CellsView) → b < length cells
       → IsScanned (length cells) (slice_index_or cells b d) (slice_index_or rows b [])
 
--- of the pairs of blocks, by rising first and then second number, those before (b, c) have ports to one
--- another just where a flag says so
-pub record AreBegun (ring blocks b c : ℕ) (rows : List (List Bool)) (lists : List (List Port)) : Type 0 where
+-- of the pairs of blocks, by rising first and then second number, those before (b, c) have ports to
+-- one another just where a flag says so
+pub record AreBegun (ring blocks b c : ℕ) (rows : List (List Bool))
+    (lists : List (List Port)) : Type 0 where
   pub len : length lists ≡ blocks
   pub rising : (x : ℕ) → AreRising blocks (slice_index_or lists x [])
   pub low_here : (x k : ℕ) → k < length (slice_index_or lists x []) → b ≤ x

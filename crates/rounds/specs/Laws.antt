@@ -19,5 +19,6 @@ HandsComeBack =
 abbrev pub SeatsAreWorked : Type 0
 SeatsAreWorked =
     (threads : ℕ) (old new : List Seat) (old_hands new_hands : List (List Seat))
-    → AreDealt threads old old_hands → AreWorked old_hands new_hands → AreDealt threads new new_hands
+    → AreDealt threads old old_hands → AreWorked old_hands new_hands
+    → AreDealt threads new new_hands
     → AllWorked old new

@@ -5,8 +5,10 @@ use Rattle.block_events.specs.States.{way_at}
 use Rattle.block_events.specs.Soundness.{IsSquare, direction_of}
 use Rattle.block_core.specs.Mails.{room_at}
 
--- what one block put for another is what the other took from it, followed by what is left on the way
-pub record AreLeft (blocks : ℕ) (sent taken : ℕ → ℕ → List Message) (left : List (List (List Message)))
+-- what one block put for another is what the other took from it, followed by what is left on the
+-- way
+pub record AreLeft (blocks : ℕ) (sent taken : ℕ → ℕ → List Message)
+    (left : List (List (List Message)))
     : Type 0 where
   pub square : IsSquare blocks left
   pub none : (b : ℕ) → b < blocks → way_at left b b ≡ []
@@ -14,7 +16,8 @@ pub record AreLeft (blocks : ℕ) (sent taken : ℕ → ℕ → List Message) (l
 
 -- what is left from one block to another has room there
 abbrev pub HaveRoomFor : ℕ → (ℕ → ℕ → ℕ) → List (List (List Message)) → Type 0
-HaveRoomFor blocks room left = (b c : ℕ) → b < blocks → c < blocks → length (way_at left b c) ≤ room b c
+HaveRoomFor blocks room left = (b c : ℕ) → b < blocks → c < blocks
+    → length (way_at left b c) ≤ room b c
 
 -- what is left of what was put, where so much of it was taken
 abbrev pub rest_of : List Message → List Message → List Message
@@ -25,8 +28,10 @@ abbrev pub AreKeptByWays : List Message → Type 0
 AreKeptByWays messages = All (λ m. (direction_of m).arc < 2 ^ 32) messages
 
 -- each way between two blocks has room for what is left there, and keeps each of these messages
-pub record AreFitting (blocks : ℕ) (rooms : List (List ℕ)) (left : List (List (List Message))) : Type 0 where
-  pub room : (b c : ℕ) → b < blocks → c < blocks → b ≢ c → length (way_at left b c) ≤ room_at rooms b c
+pub record AreFitting (blocks : ℕ) (rooms : List (List ℕ))
+    (left : List (List (List Message))) : Type 0 where
+  pub room : (b c : ℕ) → b < blocks → c < blocks → b ≢ c
+      → length (way_at left b c) ≤ room_at rooms b c
   pub arcs : (b c : ℕ) → b < blocks → c < blocks → b ≢ c → AreKeptByWays (way_at left b c)
 
 -- no message is on the way between so many blocks

@@ -8,7 +8,8 @@ use Rattle.block_workers.specs.Seeing.{messages}
 use Rattle.rounds.specs.Left.{rest_of}
 use Rattle.rounds.specs.declared.pair.Pair.{Pair}
 
--- what was put into a port and taken from it so far, and how many letters the ring that is put into has room for
+-- what was put into a port and taken from it so far, and how many letters the ring that is put into
+-- has room for
 pub record Traffic : Type 0 where
   pub sent : List Message
   pub taken : List Message
@@ -55,7 +56,8 @@ link_in (l ∷ links) b c =
     cond (is_link_of l b c) (Some l.of_first)
     (cond (is_link_of l c b) (Some l.of_second) (link_in links b c))
 
--- each link is of two blocks below `blocks`, the higher number first, and no two are of the same blocks
+-- each link is of two blocks below `blocks`, the higher number first, and no two are of the same
+-- blocks
 abbrev pub AreLinks : ℕ → List Link → Type 0
 AreLinks blocks [] = Unit {0}
 AreLinks blocks (l ∷ links) =
@@ -69,7 +71,8 @@ down l = rest_of l.of_first.sent l.of_second.taken
 abbrev pub up : Link → List Message
 up l = rest_of l.of_second.sent l.of_first.taken
 
--- in the rings of a link, what was put is what was taken, followed by what is left, for which there is room
+-- in the rings of a link, what was put is what was taken, followed by what is left, for which there
+-- is room
 pub record IsLinkSeen (l : Link) : Type 0 where
   pub down : l.of_first.sent ≡ l.of_second.taken ++ down l
   pub up : l.of_second.sent ≡ l.of_first.taken ++ up l
@@ -78,7 +81,8 @@ pub record IsLinkSeen (l : Link) : Type 0 where
 
 -- what is left in the ring from block b to block c
 abbrev pub left_in : List Link → ℕ → ℕ → List Message
-left_in links b c = rest_of (traffic_of (link_in links b c)).sent (traffic_of (link_in links c b)).taken
+left_in links b c = rest_of (traffic_of (link_in links b c)).sent
+    (traffic_of (link_in links c b)).taken
 
 -- the rings between so many blocks
 pub record RingsView : Type 0 where
@@ -99,4 +103,5 @@ ring_room rings b c = (traffic_of (link_in rings.links b c)).room
 
 -- no ring has more than it has room for
 abbrev pub AreWithinRoom : RingsView → Type 0
-AreWithinRoom rings = (b c : ℕ) → length (sent_in rings b c) ≤ length (taken_in rings c b) + ring_room rings b c
+AreWithinRoom rings = (b c : ℕ)
+    → length (sent_in rings b c) ≤ length (taken_in rings c b) + ring_room rings b c

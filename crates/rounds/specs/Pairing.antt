@@ -36,8 +36,10 @@ pub record IsTakenOut (blocks b : ℕ) (old new : List (List Port)) (p : Pair) :
   pub fewer : ports_in new + 2 ≡ ports_in old
   pub row : length (slice_index_or new b []) + 1 ≡ length (slice_index_or old b [])
 
--- of the ports that there were at first those of these links were taken out, and these lists are left
-pub record ArePaired (blocks : ℕ) (first lists : List (List Port)) (links : List Link) : Type 0 where
+-- of the ports that there were at first those of these links were taken out, and these lists are
+-- left
+pub record ArePaired (blocks : ℕ) (first lists : List (List Port))
+    (links : List Link) : Type 0 where
   pub linked : AreLinks blocks links
   pub taken : (b c : ℕ) (t : Traffic) → link_in links b c ≡ Some t
       → (option_traffic (port_to first b c) ≡ Some t) × (port_to lists b c ≡ None)

@@ -14,9 +14,10 @@ abbrev pub of_round : RoundError → ParallelError
 of_round round.OutOfMemory = OutOfMemory
 of_round round.Workers = Workers
 
--- what may be refused: the options exactly where a number is out of its range, and else memory; a worker only where
--- a round is allowed and the net is not too large for blocks
+-- what may be refused: the options exactly where a number is out of its range, and else memory; a
+-- worker only where a round is allowed and the net is not too large for blocks
 abbrev pub IsParallelRefusal : Network → Options → ParallelError → Type 0
 IsParallelRefusal net options BadOptions = ¬ AreInRange options
 IsParallelRefusal net options OutOfMemory = AreInRange options
-IsParallelRefusal net options Workers = AreInRange options × (1 ≤ options.rounds) × (length net.arcs ≤ arc_limit)
+IsParallelRefusal net options Workers =
+    AreInRange options × (1 ≤ options.rounds) × (length net.arcs ≤ arc_limit)

@@ -13,8 +13,8 @@ nodes_in s b = sum_below (nodes s.net) (λ v. count_if (block_of_node s v == b) 
 abbrev pub AreBlocksOf : ℕ → State → Type 0
 AreBlocksOf m s = (b : ℕ) → b < s.blocks → nodes_in s b ≤ m
 
--- a round of a free turn of each block and so many turns more, of all blocks together: a turn has at most 16
--- events more than its block has nodes
+-- a round of a free turn of each block and so many turns more, of all blocks together: a turn has
+-- at most 16 events more than its block has nodes
 pub record IsShortRound (turns : ℕ) (old new : State) : Type 0 where
   pub round : RoundOf old new
   pub few : (m : ℕ) → AreBlocksOf m old

@@ -14,20 +14,23 @@ use Rattle.rounds.specs.Left.{AreLeft}
 
 -- the state that the blocks show with the messages on the way: the sink got what the rooms lack
 abbrev pub gathered_state : Network → Parts → Ways → State
-gathered_state net parts ways = state_of (blocks_in (whole_of net parts)) ways (rooms_lack (whole_of net parts))
+gathered_state net parts ways =
+    state_of (blocks_in (whole_of net parts)) ways (rooms_lack (whole_of net parts))
 
--- the blocks are back, each after turn 0 and so many turns that it drew: a turn has at most 16 events more
--- than the block has nodes
+-- the blocks are back, each after turn 0 and so many turns that it drew: a turn has at most 16
+-- events more than the block has nodes
 pub record AreBackAfter (drawn : ℕ → ℕ) (w : Whole) (got : ℕ) (new : List CellsView) (left : Ways)
     : Type 0 where
   pub back : AreBack w got new left
-  pub few : (b : ℕ) → b < length w.blocks → back.steps b ≤ (drawn b + 1) * (count (block_at w b) + 16)
+  pub few : (b : ℕ) → b < length w.blocks
+      → back.steps b ≤ (drawn b + 1) * (count (block_at w b) + 16)
 
--- the blocks worked and drew at most so many turns, and what they left is in the rings: with it on the way
--- they are back
+-- the blocks worked and drew at most so many turns, and what they left is in the rings: with it on
+-- the way they are back
 pub record HaveRun (turns : ℕ) (old new : List CellsView) (rings : RingsView) : Type 0 where
   pub blocks : rings.blocks ≡ length old
   pub drawn : ℕ → ℕ
   pub few : sum_below (length old) drawn ≤ turns
   pub back : (w : Whole) (got : ℕ) (left : Ways) → w.blocks ≡ old → IsLaid w
-      → AreLeft rings.blocks (sent_in rings) (taken_in rings) left → AreBackAfter drawn w got new left
+      → AreLeft rings.blocks (sent_in rings) (taken_in rings) left
+      → AreBackAfter drawn w got new left

@@ -41,7 +41,8 @@ fn open_all<J: Job>(
 )
     requires none { vec_len hands.old ≡ 0 }
     requires room { vec_len workers ≤ vec_capacity hands.old }
-    ensures hands { map (λ h. into_iter_items h) hands.new.items ≡ map (λ w. w.seats.items) workers.items }
+    ensures hands { map (λ h. into_iter_items h) hands.new.items
+        ≡ map (λ w. w.seats.items) workers.items }
     ensures parts { share.new.parts ≡ share.old.parts + vec_len workers }
     ensures turns { share.new.amount
         ≡ share.old.amount + sum_by turns_of (map (λ w. w.seats.items) workers.items) }
@@ -55,7 +56,8 @@ fn open_all<J: Job>(
 
 /// So many seats, one after another, each from the hand whose turn it is.
 fn gather(hands: &mut Vec<IntoIter<Seat>>, seats: &mut Vec<Seat>, count: usize)
-    requires hands { AreHands (vec_len hands.old) count (map (λ h. into_iter_items h) hands.old.items) }
+    requires hands { AreHands (vec_len hands.old) count
+        (map (λ h. into_iter_items h) hands.old.items) }
     requires none { vec_len seats.old ≡ 0 }
     requires room { count ≤ vec_capacity seats.old }
     ensures dealt { AreDealt (vec_len hands.old) seats.new.items
@@ -71,17 +73,19 @@ fn gather(hands: &mut Vec<IntoIter<Seat>>, seats: &mut Vec<Seat>, count: usize)
     }
 }
 
-/// The seats that come back from workers to whom they were dealt, in their order again: the first of the
-/// first worker, and so on, and again from the first. The share gets the workers' parts, and what their seats
-/// drew. Takes no memory, and time linear in the number of seats.
+/// The seats that come back from workers to whom they were dealt, in their order again: the first
+/// of the first worker, and so on, and again from the first. The share gets the workers' parts, and
+/// what their seats drew. Takes no memory, and time linear in the number of seats.
 pub(crate) fn collect<J: Job>(
     workers: Vec<Worker<J>>,
     room: Room,
     share: &mut Share<J::Drawn>,
 ) -> Vec<Seat>
-    requires hands { AreHands (vec_len workers) room.count (map (λ w. w.seats.items) workers.items) }
+    requires hands { AreHands (vec_len workers) room.count
+        (map (λ w. w.seats.items) workers.items) }
     requires room { vec_len workers ≤ vec_capacity room.hands }
-    ensures dealt { AreDealt (vec_len workers) result.items (map (λ w. w.seats.items) workers.items) }
+    ensures dealt { AreDealt (vec_len workers) result.items
+        (map (λ w. w.seats.items) workers.items) }
     ensures len { vec_len result ≡ room.count }
     ensures parts { share.new.parts ≡ share.old.parts + vec_len workers }
     ensures turns { share.new.amount ≡ share.old.amount + turns_of result.items }

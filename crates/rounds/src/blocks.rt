@@ -18,19 +18,22 @@ use std::sync::ledger::Blank;
 use std::thread::Threads;
 use worker_options::{Gate, Options};
 
-/// The blocks before their first turn, with rings between them. The only error is that memory runs out.
+/// The blocks before their first turn, with rings between them. The only error is that memory runs
+/// out.
 fn seats_for(alloc: Global, blocks: Vec<Cells>, ring: usize) -> Result<Vec<Seat>, AllocError>
     requires few { vec_len blocks ≤ block_limit }
     requires small { AreBlocksSmall blocks.items }
-    ensures seated { IfOk result (λ seats. AreSeated blocks.items (ends_of_seats seats.items) seats.items) }
-    ensures joined { IfOk result (λ seats. AreJoined ring blocks.items (ports_of (ends_of_seats seats.items))) }
+    ensures seated { IfOk result
+        (λ seats. AreSeated blocks.items (ends_of_seats seats.items) seats.items) }
+    ensures joined { IfOk result
+        (λ seats. AreJoined ring blocks.items (ports_of (ends_of_seats seats.items))) }
 {
     let ends = join_all(alloc, blocks.as_slice(), ring)?;
     seats_of(alloc, blocks, ends)
 }
 
-/// The blocks are moved to workers, which do their turns, and come back. All growths come before the first
-/// worker starts. Each blank becomes one of the ledgers of the turns.
+/// The blocks are moved to workers, which do their turns, and come back. All growths come before
+/// the first worker starts. Each blank becomes one of the ledgers of the turns.
 pub(crate) fn run_blocks<J: Job + Sync, R: Threads + Wait + Sync, G: Gate>(
     rt: &R,
     alloc: Global,
@@ -48,7 +51,8 @@ pub(crate) fn run_blocks<J: Job + Sync, R: Threads + Wait + Sync, G: Gate>(
     requires parts { 0 < budget.parts }
     requires drawn { (drawn.name ≡ J.Drawn.name) × (drawn.parts ≡ J.Drawn.parts) }
     requires threads { drawn.parts ≡ options.now.threads }
-    ensures run { IfOk result (λ came. HaveRun options.now.turns blocks.items came.blocks.items came.rings) }
+    ensures run { IfOk result
+        (λ came. HaveRun options.now.turns blocks.items came.blocks.items came.rings) }
     ensures room { IfOk result (λ came. (b c : ℕ) → ring_room came.rings b c ≤ options.now.ring) }
 {
     let count = blocks.len();

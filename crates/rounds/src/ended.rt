@@ -45,7 +45,8 @@ impl Ended {
     pub(crate) fn side(self, alloc: Global) -> Result<Vec<bool>, AllocError>
         requires { IsEnded self }
         ensures bits { IfOk result (λ side. length side.items ≡ nodes self.state.net) }
-        ensures smallest { IfOk result (λ side. IsSmallestLeastCut self.state.net (set_of side.items)) }
+        ensures smallest { IfOk result
+            (λ side. IsSmallestLeastCut self.state.net (set_of side.items)) }
     {
         let Ended {
             state,

@@ -4,8 +4,8 @@ ghost use Rattle.rounds.specs.Joining.{AreScanned, AreSquare, IsScanned, flag};
 use block_net::Cells;
 use std::alloc::{AllocError, Global};
 
-/// For each block below `blocks` whether a direction of this block leads there. Directions that lead to no
-/// block below `blocks` are passed over.
+/// For each block below `blocks` whether a direction of this block leads there. Directions that
+/// lead to no block below `blocks` are passed over.
 fn scan_cells(alloc: Global, cells: &Cells, blocks: usize) -> Result<Vec<bool>, AllocError>
     ensures { IfOk result (λ flags. IsScanned blocks cells.now flags.items) }
 {

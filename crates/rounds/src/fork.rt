@@ -53,7 +53,8 @@ fn do_jobs_by_threads<R: Threads + Sync>(
     )
 }
 
-/// Each part and each job by a thread of its own. If the system does not start one, its work is done all the same.
+/// Each part and each job by a thread of its own. If the system does not start one, its work is
+/// done all the same.
 #[derive(Drop)]
 pub struct ByThreads<'a, R> {
     /// What starts threads.

@@ -10,7 +10,8 @@ use std::sync::ledger::Share;
 /// So many hands with no seat, each with room for so many.
 fn empty_hands(alloc: Global, threads: usize, room: usize) -> Result<Vec<Vec<Seat>>, AllocError>
     ensures none { IfOk result (λ hands. map (λ h. h.items) hands.items ≡ replicate threads []) }
-    ensures room { IfOk result (λ hands. map (λ h. vec_capacity h) hands.items ≡ replicate threads room) }
+    ensures room { IfOk result
+        (λ hands. map (λ h. vec_capacity h) hands.items ≡ replicate threads room) }
 {
     let mut hands = Vec::with_capacity(alloc, threads)?;
     for _hand in 0..threads {
@@ -51,9 +52,10 @@ fn enlist<J: Job>(hands: Vec<Vec<Seat>>, workers: &mut Vec<Worker<J>>, share: &m
     }
 }
 
-/// Seats that drew no turn, dealt one after another to so many workers: the first to the first of them, and
-/// so on, and again from the first. So each has its seats in their order. Each worker gets one part of the
-/// share. All growths come before the first seat moves, and the only error is that memory runs out.
+/// Seats that drew no turn, dealt one after another to so many workers: the first to the first of
+/// them, and so on, and again from the first. So each has its seats in their order. Each worker
+/// gets one part of the share. All growths come before the first seat moves, and the only error is
+/// that memory runs out.
 pub(crate) fn deal<J: Job>(
     alloc: Global,
     seats: Vec<Seat>,
@@ -64,7 +66,8 @@ pub(crate) fn deal<J: Job>(
     requires parts { threads ≤ share.old.parts }
     requires none { share.old.amount ≡ 0 }
     requires new { AreNew seats.items }
-    ensures dealt { IfOk result (λ v. AreDealt threads seats.items (map (λ w. w.seats.items) v.items)) }
+    ensures dealt { IfOk result
+        (λ v. AreDealt threads seats.items (map (λ w. w.seats.items) v.items)) }
     ensures new { IfOk result (λ v. (i : ℕ) (d : _) → i < vec_len v
         → AreNew (slice_index_or v.items i d).seats.items) }
     ensures parts { OnOk result (share.new.parts + threads ≡ share.old.parts) }

@@ -40,7 +40,8 @@ fn join_row(
     requires square { AreSquare (length rows.now.items) (map (λ row. row.items) rows.now.items) }
     requires few { length rows.now.items < 2 ^ 32 }
     requires block { b < length rows.now.items }
-    requires begun { AreBegun ring (length rows.now.items) b (b + 1) (map (λ row. row.items) rows.now.items)
+    requires begun { AreBegun ring (length rows.now.items) b (b + 1)
+        (map (λ row. row.items) rows.now.items)
         (map (λ l. l.items) lists.old.items) }
     ensures { OnOk result (AreBegun ring (length rows.now.items) (b + 1) (b + 2)
         (map (λ row. row.items) rows.now.items) (map (λ l. l.items) lists.new.items)) }
@@ -95,11 +96,12 @@ fn ends_of(alloc: Global, lists: Vec<Vec<Port>>, blocks: u32) -> Result<Vec<Ends
     Ok(all)
 }
 
-/// Of each block the ends of its rings to the others: for each two blocks between which a direction leads two
-/// rings, one each way, with room for `ring` letters each. Directions to no block of these are passed over.
-/// The only error is that memory runs out.
+/// Of each block the ends of its rings to the others: for each two blocks between which a direction
+/// leads two rings, one each way, with room for `ring` letters each. Directions to no block of
+/// these are passed over. The only error is that memory runs out.
 ///
-/// Takes time linear in the number of directions between blocks and in the square of that of the blocks.
+/// Takes time linear in the number of directions between blocks and in the square of that of the
+/// blocks.
 pub fn join_all(alloc: Global, cells: &[Cells], ring: usize) -> Result<Vec<Ends>, AllocError>
     requires { length cells.now < 2 ^ 32 }
     ensures { IfOk result (λ ends. AreJoined ring cells.now (map (λ e. ports e) ends.items)) }

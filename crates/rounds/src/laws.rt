@@ -1,4 +1,5 @@
-//! Laws of hands that come back from work. These functions do nothing: the contract of each is a law.
+//! Laws of hands that come back from work. These functions do nothing: the contract of each is a
+//! law.
 
 ghost use Rattle.rounds.specs.Laws.{HandsComeBack, SeatsAreWorked};
 
@@ -7,7 +8,8 @@ pub fn hands_come_back()
     ensures { HandsComeBack }
 {}
 
-/// Seats that were dealt to workers, worked on there and collected again were worked on, each in its place.
+/// Seats that were dealt to workers, worked on there and collected again were worked on, each in
+/// its place.
 pub fn seats_are_worked()
     ensures { SeatsAreWorked }
 {}

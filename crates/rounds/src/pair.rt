@@ -18,18 +18,20 @@ pub(crate) struct Pair {
     ghost back: { LeadsTo second first },
 }
 
-/// What is left in the ring from one port to another goes to the end of the way from block b to block c, which
-/// has room. Takes no memory.
+/// What is left in the ring from one port to another goes to the end of the way from block b to
+/// block c, which has room. Takes no memory.
 fn move_left(from: &mut Port, to: &mut Port, ways: &mut Mail, b: usize, c: usize)
     requires joined { LeadsTo from.old to.old }
     requires square { IsSquare (length ways.old.messages) ways.old.messages }
     requires first { b < length ways.old.messages }
     requires second { c < length ways.old.messages }
     requires room { length (way_at ways.old.messages b c)
-        + length (rest_of (messages (letters_put from.old)) (messages (letters_taken to.old))) ≤ room_at ways.old.rooms b c }
+        + length (rest_of (messages (letters_put from.old)) (messages (letters_taken to.old)))
+        ≤ room_at ways.old.rooms b c }
     requires arcs { AreKeptByWays
         (rest_of (messages (letters_put from.old)) (messages (letters_taken to.old))) }
-    ensures messages { ways.new.messages ≡ put_way ways.old.messages b c (way_at ways.old.messages b c
+    ensures messages { ways.new.messages
+        ≡ put_way ways.old.messages b c (way_at ways.old.messages b c
         ++ rest_of (messages (letters_put from.old)) (messages (letters_taken to.old))) }
     ensures rooms { ways.new.rooms ≡ ways.old.rooms }
     ensures from { Looks from.old from.new }
@@ -55,7 +57,8 @@ impl Pair {
         see_left(&mut self.second, &mut self.first);
     }
 
-    /// What is left in both rings goes to the ends of the ways between the two blocks. Takes no memory.
+    /// What is left in both rings goes to the ends of the ways between the two blocks. Takes no
+    /// memory.
     pub(crate) fn drain(self, ways: &mut Mail)
         requires square { IsSquare (length ways.old.messages) ways.old.messages }
         requires order { (link self).second < (link self).first }

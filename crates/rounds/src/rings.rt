@@ -44,7 +44,8 @@ fn drain_all(pairs: Vec<Pair>, ways: &mut Mail)
     requires square { IsSquare (length ways.old.messages) ways.old.messages }
     requires empty { AreWaysEmpty (length ways.old.messages) ways.old.messages }
     requires room { HaveRoom (length ways.old.messages) ways.old.rooms (links_of pairs.items) }
-    ensures messages { AreDraining (length ways.old.messages) (links_of pairs.items) [] ways.new.messages }
+    ensures messages { AreDraining (length ways.old.messages) (links_of pairs.items) []
+        ways.new.messages }
     ensures rooms { ways.new.rooms ≡ ways.old.rooms }
 {
     for pair in pairs {
@@ -53,9 +54,9 @@ fn drain_all(pairs: Vec<Pair>, ways: &mut Mail)
 }
 
 impl Rings {
-    /// The rings that these ports are the ends of: of each block its ports to others, by rising numbers of
-    /// the others. `room` is an empty list with room for half as many pairs as there are ports. Takes no
-    /// memory.
+    /// The rings that these ports are the ends of: of each block its ports to others, by rising
+    /// numbers of the others. `room` is an empty list with room for half as many pairs as there are
+    /// ports. Takes no memory.
     ///
     /// Takes time linear in the numbers of blocks and of ports.
     pub(crate) fn pair(lists: Vec<Vec<Port>>, room: Vec<Pair>) -> Rings
@@ -65,8 +66,10 @@ impl Rings {
         ensures blocks { result.blocks ≡ length lists.items }
         ensures sent { (b c : ℕ) → sent_in result b c
             ≡ messages_sent (map (λ l. l.items) lists.items) b c }
-        ensures taken { (b c : ℕ) → taken_in result b c ≡ messages_taken (map (λ l. l.items) lists.items) b c }
-        ensures room { (b c : ℕ) → ring_room result b c ≡ room_to (map (λ l. l.items) lists.items) b c }
+        ensures taken { (b c : ℕ)
+            → taken_in result b c ≡ messages_taken (map (λ l. l.items) lists.items) b c }
+        ensures room { (b c : ℕ) → ring_room result b c
+            ≡ room_to (map (λ l. l.items) lists.items) b c }
     {
         let blocks = lists.len();
         let mut lists = lists;
@@ -75,18 +78,19 @@ impl Rings {
         Rings { blocks, pairs }
     }
 
-    /// Looks at what is left in the rings: what was put is what was taken, followed by that, and no ring has more than
-    /// it has room for. Takes no memory.
+    /// Looks at what is left in the rings: what was put is what was taken, followed by that, and no
+    /// ring has more than it has room for. Takes no memory.
     pub(crate) fn see(&mut self)
         ensures same { self.new ≡ self.old }
-        ensures left { (left : _) × AreLeft self.old.blocks (sent_in self.old) (taken_in self.old) left }
+        ensures left { (left : _)
+            × AreLeft self.old.blocks (sent_in self.old) (taken_in self.old) left }
         ensures within { AreWithinRoom self.old }
     {
         see_all(&mut self.pairs);
     }
 
-    /// What is left in the rings goes to the ways, which are empty and have room for it: on each way no more messages
-    /// than the ring had room for. Takes no memory.
+    /// What is left in the rings goes to the ways, which are empty and have room for it: on each
+    /// way no more messages than the ring had room for. Takes no memory.
     pub(crate) fn drain(mut self, ways: &mut Mail)
         requires square { IsSquare self.blocks ways.old.messages }
         requires empty { AreWaysEmpty self.blocks ways.old.messages }

@@ -85,15 +85,17 @@ fn round_with<B: Ledger + Send + Sync, D: Ledger + Send + Sync, R: Threads + Wai
     round_of::<Ledgers<B, D>, R, G>(rt, alloc, pieces, options, gate, budget, drawn)
 }
 
-/// A round from a state with no message on the way: each block is moved to one of the workers, does turns
-/// there, and comes back, and what is left in the rings between blocks goes to the ways. Whatever the schedule
-/// is, what each block did is a list of its own enabled events, and a block that could do something without
-/// taking a message did something. All lists together have at most (blocks + turns) * (m + 16) events, where
-/// no block has more than m nodes and `turns` is the number of turns in the options, and no more than `ring` messages
-/// are left on the way from one block to another. No clause says in how many threads the turns are done. `blocks` and
-/// `rounds` of the options are not looked at: the state is in blocks already, and this is one round.
+/// A round from a state with no message on the way: each block is moved to one of the workers, does
+/// turns there, and comes back, and what is left in the rings between blocks goes to the ways.
+/// Whatever the schedule is, what each block did is a list of its own enabled events, and a block
+/// that could do something without taking a message did something. All lists together have at most
+/// (blocks + turns) * (m + 16) events, where no block has more than m nodes and `turns` is the
+/// number of turns in the options, and no more than `ring` messages are left on the way from one
+/// block to another. No clause says in how many threads the turns are done. `blocks` and `rounds`
+/// of the options are not looked at: the state is in blocks already, and this is one round.
 ///
-/// All growths come before the first worker starts. Where a round does not come about, the state is lost.
+/// All growths come before the first worker starts. Where a round does not come about, the state is
+/// lost.
 pub fn run_round<R: Threads + Wait + Sync, G: Gate>(
     rt: &R,
     alloc: Global,

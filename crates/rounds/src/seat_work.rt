@@ -11,12 +11,12 @@ use std::sync::{Mutex, Wait};
 use std::thread::Threads;
 use worker_options::Gate;
 
-/// The seats dealt to so many workers, each in a thread of its own, and collected again in their order. They
-/// did turn 0 and the turns that were drawn, which the share counts. All growths come before the first worker
-/// starts.
+/// The seats dealt to so many workers, each in a thread of its own, and collected again in their
+/// order. They did turn 0 and the turns that were drawn, which the share counts. All growths come
+/// before the first worker starts.
 ///
-/// After an error the seats are lost, and the share counts no turn. Where a worker was refused it lacks the parts that
-/// the workers got, and where memory ran out it lacks them or none.
+/// After an error the seats are lost, and the share counts no turn. Where a worker was refused it
+/// lacks the parts that the workers got, and where memory ran out it lacks them or none.
 pub(crate) fn work_seats<J: Job + Sync, R: Threads + Wait + Sync, G: Gate>(
     rt: &R,
     alloc: Global,
@@ -36,7 +36,8 @@ pub(crate) fn work_seats<J: Job + Sync, R: Threads + Wait + Sync, G: Gate>(
     ensures none { OnErr result (share.new.amount ≡ 0) }
     ensures lost { OnErr result ((share.new.parts ≡ share.old.parts)
         ⊎ (share.new.parts + threads ≡ share.old.parts)) }
-    ensures refused { IfErr result (λ e. e ≡ Workers → share.new.parts + threads ≡ share.old.parts) }
+    ensures refused { IfErr result
+        (λ e. e ≡ Workers → share.new.parts + threads ≡ share.old.parts) }
 {
     let room = Room::new(alloc, seats.len(), threads)?;
     let workers = deal::<J>(alloc, seats, threads, share)?;

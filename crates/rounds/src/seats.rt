@@ -10,12 +10,14 @@ use block_turns::Block;
 use block_workers::{Ends, Port, Seat};
 use std::alloc::{AllocError, Global};
 
-/// A round makes one new label for so many nodes, and each block its part of them. In a round no labels become exact,
-/// and what was cut off from the sink in it climbs by new labels that are done in vain.
+/// A round makes one new label for so many nodes, and each block its part of them. In a round no
+/// labels become exact, and what was cut off from the sink in it climbs by new labels that are done
+/// in vain.
 const NODES_A_RISE: usize = 4;
 
-/// A block before its first turn, with its ends. Its turns together make one new label for `NODES_A_RISE` of its nodes,
-/// the first of them as many as they can: then a turn takes its messages and does one event.
+/// A block before its first turn, with its ends. Its turns together make one new label for
+/// `NODES_A_RISE` of its nodes, the first of them as many as they can: then a turn takes its
+/// messages and does one event.
 fn seat_of(alloc: Global, number: u32, cells: Cells, ends: Ends) -> Result<Seat, AllocError>
     requires { count cells ≤ node_limit }
     ensures { IfOk result (λ seat. IsNewSeat number cells ends seat) }

@@ -34,7 +34,8 @@ pub(crate) struct Came {
 }
 
 impl Space {
-    /// Room for so many blocks, each joined with each other. The only error is that memory runs out.
+    /// Room for so many blocks, each joined with each other. The only error is that memory runs
+    /// out.
     pub(crate) fn new(alloc: Global, count: usize) -> Result<Space, AllocError>
         requires { count ≤ block_limit }
         ensures { IfOk result (λ space. space.count ≡ count) }
@@ -55,9 +56,12 @@ pub(crate) fn gather_seats(seats: Vec<Seat>, space: Space) -> Came
     requires mated { AreMated (length seats.items) (ports_of (ends_of_seats seats.items)) }
     ensures blocks { result.blocks.items ≡ blocks_of seats.items }
     ensures count { result.rings.blocks ≡ length seats.items }
-    ensures sent { (b c : ℕ) → sent_in result.rings b c ≡ messages_sent (ports_of (ends_of_seats seats.items)) b c }
-    ensures taken { (b c : ℕ) → taken_in result.rings b c ≡ messages_taken (ports_of (ends_of_seats seats.items)) b c }
-    ensures room { (b c : ℕ) → ring_room result.rings b c ≡ room_to (ports_of (ends_of_seats seats.items)) b c }
+    ensures sent { (b c : ℕ) → sent_in result.rings b c
+        ≡ messages_sent (ports_of (ends_of_seats seats.items)) b c }
+    ensures taken { (b c : ℕ)
+        → taken_in result.rings b c ≡ messages_taken (ports_of (ends_of_seats seats.items)) b c }
+    ensures room { (b c : ℕ) → ring_room result.rings b c
+        ≡ room_to (ports_of (ends_of_seats seats.items)) b c }
 {
     let Space {
         count: _,

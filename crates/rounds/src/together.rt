@@ -8,8 +8,8 @@ use block_core::{Mail, Pieces, State};
 use block_net::Parts;
 use flow_network::Net;
 
-/// The state that the blocks show with the messages on the way. What the sink got is what the rooms lack.
-/// Takes no memory.
+/// The state that the blocks show with the messages on the way. What the sink got is what the rooms
+/// lack. Takes no memory.
 pub(crate) fn put_together(net: Net, parts: Parts, ways: Mail) -> State
     requires laid { IsLaid (whole_of net parts) }
     requires held { IsHeld ways.rooms (gathered_state net parts ways.messages) }

@@ -9,9 +9,9 @@ use std::sync::{Mutex, Wait};
 use std::thread::Threads;
 use worker_options::Gate;
 
-/// The seats are dealt to so many workers, which do their turns, and are collected again. No more turns are
-/// drawn than the book began with, of which `whole` is the share. All growths come before the first worker
-/// starts.
+/// The seats are dealt to so many workers, which do their turns, and are collected again. No more
+/// turns are drawn than the book began with, of which `whole` is the share. All growths come before
+/// the first worker starts.
 pub(crate) fn work_on<J: Job + Sync, R: Threads + Wait + Sync, G: Gate>(
     rt: &R,
     alloc: Global,

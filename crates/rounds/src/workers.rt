@@ -15,8 +15,8 @@ use std::sync::Wait;
 use std::thread::Threads;
 use worker_options::{Gate, Options};
 
-/// The fewest sites that are decided by several threads at first: fewer take less time on one thread
-/// than the start of the others.
+/// The fewest sites that are decided by several threads at first: fewer take less time on one
+/// thread than the start of the others.
 const SHARED_SITES: usize = 1 << 16;
 
 /// By workers that run side by side over the blocks of a net. It refuses where memory runs out,
@@ -61,7 +61,8 @@ impl<'a, R: Threads + Wait + Sync> How for Workers<'a, R, &'a (dyn Gate + Sync)>
         (self.options.threads as usize).max(1)
     }
 
-    /// As many parts as threads. A thread decides fewer sites than are worth its start in less time.
+    /// As many parts as threads. A thread decides fewer sites than are worth its start in less
+    /// time.
     fn parts(&self, sites: usize) -> usize {
         if sites < SHARED_SITES {
             return 1;

@@ -5,7 +5,8 @@ use Rattle.std.specs.Prelude.{ℕ, ℤ, pos, ◌≤ℤ◌}
 abbrev pub greatest_smooth_cost : ℕ
 greatest_smooth_cost = 10000
 
--- the greatest cost of a label at a site, 10^7: as much as a pair costs at the greatest weight, 1,000
+-- the greatest cost of a label at a site, 10^7: as much as a pair costs at the greatest weight,
+-- 1,000
 abbrev pub greatest_data_cost : ℕ
 greatest_data_cost = 10000000
 
@@ -13,7 +14,8 @@ greatest_data_cost = 10000000
 abbrev pub greatest_label_cost : ℕ
 greatest_label_cost = greatest_data_cost
 
--- the greatest number at which a cost by distance may be cut off, so that what is cut off is a cost in range
+-- the greatest number at which a cost by distance may be cut off, so that what is cut off is a cost
+-- in range
 abbrev pub trunc_limit : ℕ
 trunc_limit = greatest_smooth_cost
 
@@ -21,8 +23,8 @@ trunc_limit = greatest_smooth_cost
 abbrev pub cycle_limit : ℕ
 cycle_limit = 1000
 
--- the greatest number at which the cost of a label at a pixel may be cut off: that of a cost of a label at a
--- site
+-- the greatest number at which the cost of a label at a pixel may be cut off: that of a cost of a
+-- label at a site
 abbrev pub cap_limit : ℕ
 cap_limit = greatest_data_cost
 

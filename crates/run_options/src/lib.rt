@@ -1,4 +1,5 @@
-//! What runs of moves are told: how two labels cost, the options of the image commands, and the limits of all that.
+//! What runs of moves are told: how two labels cost, the options of the image commands, and the
+//! limits of all that.
 #![tactic(auto)]
 
 pub mod laws;

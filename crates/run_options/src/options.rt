@@ -1,4 +1,5 @@
-//! The options of the image commands: one field for each, and the test that all are in their ranges.
+//! The options of the image commands: one field for each, and the test that all are in their
+//! ranges.
 ghost use Rattle.std.specs.Prelude.{◌↔◌, ◌≤◌, IfSome, IsTrue};
 ghost use Rattle.run_options.specs.Ranges.{AreRestoreOptions, AreRunOptions, AreSegmentOptions, AreStereoOptions};
 ghost use Rattle.run_options.specs.Limits.{greatest_label_cost};
@@ -31,15 +32,15 @@ pub struct RestoreOptions {
     pub moves: Moves,
     /// The most cycles of the run, from 0 to `CYCLE_LIMIT`.
     pub cycles: u32,
-    /// What each label costs by itself, wherever some pixel has it, from 0 to `LABEL_COST_LIMIT`, where that is asked
-    /// for.
+    /// What each label costs by itself, wherever some pixel has it, from 0 to `LABEL_COST_LIMIT`,
+    /// where that is asked for.
     pub label_cost: Option<u32>,
     /// Whether it is to be told how near the picture is to the least energy.
     pub bound: bool,
 }
 
-/// The options of matching a left and a right picture: a label is how far a pixel of the left one has moved
-/// to the left in the right one.
+/// The options of matching a left and a right picture: a label is how far a pixel of the left one
+/// has moved to the left in the right one.
 #[derive(Clone, Copy, Debug, PartialEq, Eq)]
 pub struct StereoOptions {
     /// The cost of two labels at the pixels of a pair.

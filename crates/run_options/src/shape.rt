@@ -27,8 +27,8 @@ impl Shape {
         }
     }
 
-    /// The cost of two labels, where a cost by distance is cut off at the most. Both labels are below
-    /// `LABEL_LIMIT`.
+    /// The cost of two labels, where a cost by distance is cut off at the most. Both labels are
+    /// below `LABEL_LIMIT`.
     pub fn cost(self, most: u32, first: u32, second: u32) -> u32
         requires first { first < label_limit }
         requires second { second < label_limit }

@@ -6,9 +6,10 @@ ghost use Rattle.run_options.specs.Shapes.{shape_row, shape_table};
 use crate::Shape;
 use std::alloc::{AllocError, Global};
 
-/// The table of a named cost: the cost of each label beside each, row after row by the first label. Costs by
-/// distance are cut off at the most. There are at most `LABEL_LIMIT` labels; where the most is at most
-/// `TRUNC_LIMIT`, each cost is at most `SMOOTH_LIMIT`. An error says that memory was refused.
+/// The table of a named cost: the cost of each label beside each, row after row by the first label.
+/// Costs by distance are cut off at the most. There are at most `LABEL_LIMIT` labels; where the
+/// most is at most `TRUNC_LIMIT`, each cost is at most `SMOOTH_LIMIT`. An error says that memory
+/// was refused.
 pub fn smooth_table(
     alloc: Global,
     shape: Shape,

@@ -21,7 +21,8 @@ pub rooms-small : (net : Network) (rooms : List ℕ) → IsNet net → AreRooms 
 rooms-small net rooms h r =
     omega (arith, h.total, sum-le-sum rooms net.sinks (r.len ∙ sym h.same) (λ v l. r.within v (omega (arith, l, h.same))))
 
--- where the search stands: the next node's label is one below the limit, or none is left and the limit is the top label
+-- where the search stands: the next node's label is one below the limit, or none is left and the
+-- limit is the top label
 pub data IsAt (net : Network) (next limit : ℕ) (s : Search) : Type 0 where
   Before : next < s.count → limit ≡ search_label s (node_at s next) + 1 → IsAt net next limit s
   Done : s.count ≤ next → limit ≡ top net → IsAt net next limit s

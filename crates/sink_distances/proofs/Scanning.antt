@@ -11,7 +11,8 @@ use Rattle.sink_distances.specs.Search.{Search, search_label, Grows, IsBefore}
 use Rattle.sink_distances.proofs.Ends.{into_place, into_found, out_place, out_found}
 use Rattle.sink_distances.proofs.Order.{grows_more, grows_falls}
 
--- the places of the node's group from its start to before p were seen: of each arc that is free the end is labelled
+-- the places of the node's group from its start to before p were seen: of each arc that is free the
+-- end is labelled
 pub record IsScanned (g : Groups) (end : ℕ → ℕ) (IsFree IsNext : ℕ → Type 0) (w label p : ℕ) (old new : Search) : Type 0 where
   pub grows : Grows label IsNext old new
   pub marked : (q : ℕ) → slice_index g.starts.items w ≤ q → q < p → IsFree (slice_index g.places.items q)

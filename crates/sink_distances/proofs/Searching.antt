@@ -12,7 +12,8 @@ use Rattle.sink_distances.proofs.Order.{count-le-length, label-le-count, listed_
 
 -- ---- the search
 
--- the labels are lengths of paths, and fall by at most 1 along each residual direction to a node that was expanded
+-- the labels are lengths of paths, and fall by at most 1 along each residual direction to a node
+-- that was expanded
 pub record IsSearched (net : Network) (flow : Flow) (next : ℕ) (found : Search) : Type 0 where
   pub len : length found.labels ≡ nodes net
   pub order : IsOrder found

@@ -1,4 +1,5 @@
--- Rows show the residual directions of the flow that they carry, and keep showing them as amounts are sent.
+-- Rows show the residual directions of the flow that they carry, and keep showing them as amounts
+-- are sent.
 use Rattle.std.proofs.Common.{◌≡◌, ◌≢◌, ℕ, ◌+◌, ◌-◌, ◌<◌, ◌≤◌, ◌⊎◌, inl, inr, List, length, map, set, slice_index, sym, ◌∙◌, ap, subst, arith, get_or-set_same, get_or-set_other}
 use Rattle.std.proofs.Math.ListN.{get_or-map}
 use Rattle.std.proofs.lemmas.Bool.{cases_eq}
@@ -25,7 +26,8 @@ carried_len net rows h = length-map (firsts_of rows) (λ p. residual_at rows (op
 
 -- ---- a place of a row
 
--- what is known of a direction: it leads from its row's node to another node's row, where its opposite stands
+-- what is known of a direction: it leads from its row's node to another node's row, where its
+-- opposite stands
 pub record IsDirected (net : Network) (rows : Rows) (v p : ℕ) : Type 0 where
   pub place : p < length rows.cells.items
   pub back : opposite_at rows p < length rows.cells.items

@@ -8,10 +8,12 @@ pub record IsDistance (net : Network) (flow : Flow) (v distance : ℕ) : Type 0 
   pub leads : ReachesIn net flow distance v
   pub least : (d : ℕ) → ReachesIn net flow d v → distance ≤ d
 
--- the distance, which is at most the number of nodes; or the top label, where no path leads to the sink
+-- the distance, which is at most the number of nodes; or the top label, where no path leads to the
+-- sink
 abbrev pub IsExactLabel : Network → Flow → ℕ → ℕ → Type 0
 IsExactLabel net flow v label =
-    ((label ≤ nodes net) × IsDistance net flow v label) ⊎ ((label ≡ top net) × (¬ Reaches net flow v))
+    ((label ≤ nodes net) × IsDistance net flow v label)
+    ⊎ ((label ≡ top net) × (¬ Reaches net flow v))
 
 -- an exact label for each node
 pub record AreDistances (net : Network) (flow : Flow) (labels : List ℕ) : Type 0 where
@@ -21,7 +23,8 @@ pub record AreDistances (net : Network) (flow : Flow) (labels : List ℕ) : Type
 -- each label below the limit is the distance
 abbrev pub AreExactBelow : Network → Flow → ℕ → List ℕ → Type 0
 AreExactBelow net flow limit labels =
-    (v : ℕ) → v < nodes net → slice_index labels v < limit → IsDistance net flow v (slice_index labels v)
+    (v : ℕ) → v < nodes net → slice_index labels v < limit
+    → IsDistance net flow v (slice_index labels v)
 
 -- the nodes whose label is below the top one
 abbrev pub is_below_top : Network → List ℕ → ℕ → Bool

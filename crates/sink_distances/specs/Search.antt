@@ -22,7 +22,8 @@ node_at found i = slice_index found.order i
 
 -- how many nodes have no label
 abbrev pub count_unlabelled : Search → ℕ
-count_unlabelled found = sum_by (λ label. count_if (label == top_label (length found.labels)) 1) found.labels
+count_unlabelled found = sum_by
+    (λ label. count_if (label == top_label (length found.labels)) 1) found.labels
 
 -- the order lists each labelled node once, by rising labels
 pub record IsOrder (found : Search) : Type 0 where
@@ -73,15 +74,17 @@ pub record AreStarts (net : Network) (rooms : List ℕ) (v : ℕ) (found : Searc
   pub sinks : (u : ℕ) → u < v → u < nodes net → 0 < slice_index rooms u
       → search_label found u ≤ 1
 
--- labels of a search that may have ended early: those below the limit are lengths of paths; those of nodes that can give
--- the sink more, and of nodes with a residual direction to one whose label is more than 1 below the limit, are right; and
--- all are where the limit is the top label
+-- labels of a search that may have ended early: those below the limit are lengths of paths; those
+-- of nodes that can give the sink more, and of nodes with a residual direction to one whose label
+-- is more than 1 below the limit, are right; and all are where the limit is the top label
 pub record AreDistancesUpTo (net : Network) (flow : Flow) (limit : ℕ)
     (found : List ℕ) : Type 0 where
   pub len : length found ≡ nodes net
   pub fits : limit ≤ top net
-  pub leads : (v : ℕ) → v < nodes net → slice_index found v < limit → ReachesIn net flow (slice_index found v) v
-  pub sinks : (v : ℕ) → v < nodes net → slice_index flow.sinks v < slice_index net.sinks v → slice_index found v ≤ 1
+  pub leads : (v : ℕ) → v < nodes net → slice_index found v < limit
+      → ReachesIn net flow (slice_index found v) v
+  pub sinks : (v : ℕ) → v < nodes net → slice_index flow.sinks v < slice_index net.sinks v
+      → slice_index found v ≤ 1
   pub falls : (v w : ℕ) → IsResidual net flow v w → slice_index found w + 1 < limit
       → slice_index found v ≤ slice_index found w + 1
   pub full : limit ≡ top net → AreDistances net flow found

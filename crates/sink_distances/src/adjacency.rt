@@ -30,7 +30,8 @@ fn heads(alloc: Global, arcs: &[Arc]) -> Result<Vec<u32>, AllocError>
 
 /// The arcs of the net by the node that each leaves, and by the node that each enters.
 ///
-/// The list of the nodes that arcs leave is given back before that of the nodes that they enter is made.
+/// The list of the nodes that arcs leave is given back before that of the nodes that they enter is
+/// made.
 ///
 /// Refuses only where memory runs out; a net of 2^32 arcs or more counts as that.
 pub fn arcs_by_node(alloc: Global, net: &Graph) -> Result<Adjacency, AllocError>

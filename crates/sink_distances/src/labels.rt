@@ -4,8 +4,8 @@ ghost use Rattle.flow_network.specs.Progress.{top};
 
 use flow_network::Graph;
 
-/// The label of a node that is cut off from the sink: two more than there are nodes, which is above the length
-/// of every path to the sink.
+/// The label of a node that is cut off from the sink: two more than there are nodes, which is above
+/// the length of every path to the sink.
 pub fn top_label(net: &Graph) -> u32
     ensures value { result ≡ top net.now }
     ensures limits { IsNet net.now }

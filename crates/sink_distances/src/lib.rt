@@ -1,7 +1,9 @@
-//! The exact distance of each node to the sink over residual directions, and the nodes that reach the sink.
+//! The exact distance of each node to the sink over residual directions, and the nodes that reach
+//! the sink.
 //!
-//! A distance is the least number of residual directions that lead from the node to the sink, and `top_label`
-//! where none leads there (Goldberg, Tarjan 1988, section 3: the greatest valid labelling).
+//! A distance is the least number of residual directions that lead from the node to the sink, and
+//! `top_label` where none leads there (Goldberg, Tarjan 1988, section 3: the greatest valid
+//! labelling).
 #![tactic(auto)]
 
 ghost use Rattle.sink_distances.specs.Laws.{DistancesLabel, DistancesRise, DistancesReach};

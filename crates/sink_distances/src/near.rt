@@ -15,7 +15,8 @@ use crate::{Outline, Rows};
 /// How far a search went.
 #[derive(Clone, Copy)]
 pub struct Extent {
-    /// No node that was not found is nearer to the sink than this. It is the top label where the search was a full one.
+    /// No node that was not found is nearer to the sink than this. It is the top label where the
+    /// search was a full one.
     pub limit: u32,
     /// How many nodes were found: they stand first in the order, the nearest before the others.
     pub count: usize,
@@ -29,8 +30,8 @@ fn room_times(rooms: &[u64], times: u64) -> u64
     room.saturating_mul(times)
 }
 
-/// An amount and what the nodes at these places of the order have, or the greatest number there is. What is no node is
-/// passed over.
+/// An amount and what the nodes at these places of the order have, or the greatest number there is.
+/// What is no node is passed over.
 fn with_excess(seen: u64, excess: &[u64], order: &[u32]) -> u64 {
     let mut sum = seen;
     'found: for place in 0..order.len() {
@@ -42,8 +43,9 @@ fn with_excess(seen: u64, excess: &[u64], order: &[u32]) -> u64 {
     sum
 }
 
-/// Searches as `write_row_distances` does, and ends at the level by which the nodes that were found have more than so many
-/// times as much excess as there is room to the sink: that level is the last that was found, and one above it the limit.
+/// Searches as `write_row_distances` does, and ends at the level by which the nodes that were found
+/// have more than so many times as much excess as there is room to the sink: that level is the last
+/// that was found, and one above it the limit.
 fn search_near(
     net: &Outline,
     rows: &Rows,
@@ -59,7 +61,8 @@ fn search_near(
     requires found_len { length found.old ≡ nodes net.now }
     requires order_len { length order.old ≡ nodes net.now }
     ensures limits { IsNet net.now }
-    ensures near { AreDistancesUpTo net.now (flow_by (carried_flow rows.now) (sink_flows net.now rooms.now)) result.limit found.new }
+    ensures near { AreDistancesUpTo net.now
+        (flow_by (carried_flow rows.now) (sink_flows net.now rooms.now)) result.limit found.new }
     ensures count { result.count ≤ length order.new }
 {
     let enough = room_times(rooms, times);
@@ -92,16 +95,17 @@ fn search_near(
 fn raise_to(labels: &mut [u32], found: &[u32], limit: u32)
     requires { length labels.old ≡ length found.now }
     ensures { (v : ℕ) → v < length labels.old →
-        slice_index labels.new v ≡ max (slice_index labels.old v) (min (slice_index found.now v) limit) }
+        slice_index labels.new v
+        ≡ max (slice_index labels.old v) (min (slice_index found.now v) limit) }
 {
     'nodes: for v in 0..found.len() {
         labels[v] = u32::max(labels[v], u32::min(found[v], limit));
     }
 }
 
-/// Raises labels by a search that ends early: once the nearest nodes have more than `times` as much excess as there is room
-/// to the sink, none beyond their level is looked for. Labels below the limit that it answers are then exact distances, and
-/// where the limit is the top label all are.
+/// Raises labels by a search that ends early: once the nearest nodes have more than `times` as much
+/// excess as there is room to the sink, none beyond their level is looked for. Labels below the
+/// limit that it answers are then exact distances, and where the limit is the top label all are.
 ///
 /// `found` and `order` are room for the search, one place for each node. Takes no memory.
 pub fn raise_labels(
@@ -116,12 +120,15 @@ pub fn raise_labels(
 ) -> Extent
     requires rows { IsRows net.now rows.now }
     requires rooms { AreRooms net.now rooms.now }
-    requires labels { IsLabelling net.now (flow_by (carried_flow rows.now) (sink_flows net.now rooms.now)) labels.old }
+    requires labels { IsLabelling net.now
+        (flow_by (carried_flow rows.now) (sink_flows net.now rooms.now)) labels.old }
     requires low { AreLow net.now labels.old }
     requires found_len { length found.old ≡ nodes net.now }
     requires order_len { length order.old ≡ nodes net.now }
-    ensures labelling { IsLabelling net.now (flow_by (carried_flow rows.now) (sink_flows net.now rooms.now)) labels.new }
-    ensures rises { (v : ℕ) → v < nodes net.now → slice_index labels.old v ≤ slice_index labels.new v }
+    ensures labelling { IsLabelling net.now
+        (flow_by (carried_flow rows.now) (sink_flows net.now rooms.now)) labels.new }
+    ensures rises { (v : ℕ) → v < nodes net.now
+        → slice_index labels.old v ≤ slice_index labels.new v }
     ensures low { AreLow net.now labels.new }
     ensures fits { result.limit ≤ top net.now }
     ensures count { result.count ≤ length order.new }

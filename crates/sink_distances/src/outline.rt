@@ -23,7 +23,8 @@ impl Model for Outline {
 
     ghost view = { λ o. o.net.value };
 
-    ghost invariant = { λ o. record { count : o.count ≡ nodes o.net.value; net : IsNet o.net.value } };
+    ghost invariant = { λ o. record
+        { count : o.count ≡ nodes o.net.value; net : IsNet o.net.value } };
 }
 
 impl Outline {

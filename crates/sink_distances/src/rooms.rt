@@ -3,8 +3,9 @@ ghost use Rattle.flow_network.specs.Preflow.{AreRooms};
 
 use flow_network::Net;
 
-/// Whether the numbers can be what each node can still give the sink, the condition of `write_distances`: one for
-/// each node, none above what the node can give the sink at all. It may be asked of any numbers.
+/// Whether the numbers can be what each node can still give the sink, the condition of
+/// `write_distances`: one for each node, none above what the node can give the sink at all. It may
+/// be asked of any numbers.
 pub fn are_rooms(net: &Net, rooms: &[u64]) -> bool
     ensures { IsTrue result ↔ AreRooms net.now rooms.now }
 {

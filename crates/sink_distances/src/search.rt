@@ -17,11 +17,12 @@ struct Carried<'a> {
     arc_flow: &'a [u64],
 }
 
-/// Labels the node where it has no label, and puts it last in the order: the step of a search by levels. Answers how
-/// many nodes stand there.
+/// Labels the node where it has no label, and puts it last in the order: the step of a search by
+/// levels. Answers how many nodes stand there.
 ///
-/// `labels` has a number for each node, two more than there are nodes where a node has no label. The first `count`
-/// places of `order` are the labelled nodes in the order in which they were found, by rising labels.
+/// `labels` has a number for each node, two more than there are nodes where a node has no label.
+/// The first `count` places of `order` are the labelled nodes in the order in which they were
+/// found, by rising labels.
 pub fn mark(labels: &mut [u32], order: &mut [u32], count: usize, v: u32, label: u32) -> usize
     requires node { v < length labels.old }
     requires ready { IsNextLabel label (found_of labels.old order.old count) }
@@ -48,7 +49,8 @@ pub(crate) fn mark_starts(
     requires order_len { length order.old ≡ nodes net.now }
     requires rooms_len { length rooms.now ≡ nodes net.now }
     ensures limits { IsNet net.now }
-    ensures starts { AreStarts net.now rooms.now (nodes net.now) (found_of labels.new order.new result) }
+    ensures starts { AreStarts net.now rooms.now (nodes net.now)
+        (found_of labels.new order.new result) }
 {
     labels.fill(net.top_label());
     let mut count = 0;
@@ -76,7 +78,8 @@ fn mark_tail(
     ensures grows { Grows label
         (IsBefore carried.now.net.now carried.now.arc_flow.now (arc_at carried.now.net.now k).to)
         (found_of labels.old order.old count) (found_of labels.new order.new result) }
-    ensures marked { slice_index carried.now.arc_flow.now k < (arc_at carried.now.net.now k).capacity →
+    ensures marked { slice_index carried.now.arc_flow.now k
+        < (arc_at carried.now.net.now k).capacity →
         slice_index labels.new (arc_at carried.now.net.now k).from ≤ label }
 {
     let arc = carried.net.arcs()[k];
@@ -103,7 +106,8 @@ fn mark_tails(
     requires ready { IsNextLabel label (found_of labels.old order.old count) }
     ensures grows { Grows label (IsBefore carried.now.net.now carried.now.arc_flow.now w)
         (found_of labels.old order.old count) (found_of labels.new order.new result) }
-    ensures marked { (k : ℕ) → k < length carried.now.net.now.arcs → (arc_at carried.now.net.now k).to ≡ w →
+    ensures marked { (k : ℕ) → k < length carried.now.net.now.arcs
+        → (arc_at carried.now.net.now k).to ≡ w →
         slice_index carried.now.arc_flow.now k < (arc_at carried.now.net.now k).capacity →
         slice_index labels.new (arc_at carried.now.net.now k).from ≤ label }
 {
@@ -164,7 +168,8 @@ fn mark_heads(
     requires ready { IsNextLabel label (found_of labels.old order.old count) }
     ensures grows { Grows label (IsBefore carried.now.net.now carried.now.arc_flow.now w)
         (found_of labels.old order.old count) (found_of labels.new order.new result) }
-    ensures marked { (k : ℕ) → k < length carried.now.net.now.arcs → (arc_at carried.now.net.now k).from ≡ w →
+    ensures marked { (k : ℕ) → k < length carried.now.net.now.arcs
+        → (arc_at carried.now.net.now k).from ≡ w →
         0 < slice_index carried.now.arc_flow.now k →
         slice_index labels.new (arc_at carried.now.net.now k).to ≤ label }
 {
@@ -208,12 +213,13 @@ fn mark_before(
     mark_heads(carried, labels, order, count, w, label)
 }
 
-/// Writes the exact distance of each node to the sink over residual directions, or `top_label` where no path
-/// leads there: a breadth-first search backwards from the sink (Goldberg, Tarjan 1988, section 3).
+/// Writes the exact distance of each node to the sink over residual directions, or `top_label`
+/// where no path leads there: a breadth-first search backwards from the sink (Goldberg, Tarjan
+/// 1988, section 3).
 ///
-/// `arc_flow` is what each arc carries and `rooms` what each node can still give the sink; they need be no preflow.
-/// `labels` takes the answer, one number for each node. `order` is room for the search: one place for each node,
-/// whose values before and after mean nothing. Takes no memory.
+/// `arc_flow` is what each arc carries and `rooms` what each node can still give the sink; they
+/// need be no preflow. `labels` takes the answer, one number for each node. `order` is room for the
+/// search: one place for each node, whose values before and after mean nothing. Takes no memory.
 pub fn write_distances(
     net: &Graph,
     adjacency: &Adjacency,
@@ -291,7 +297,8 @@ fn mark_row(
     requires ready { IsNextLabel label (found_of labels.old order.old count) }
     ensures grows { Grows label (IsBefore net.now (carried_flow rows.now) w)
         (found_of labels.old order.old count) (found_of labels.new order.new result) }
-    ensures marked { (v : ℕ) → IsBefore net.now (carried_flow rows.now) w v → slice_index labels.new v ≤ label }
+    ensures marked { (v : ℕ) → IsBefore net.now (carried_flow rows.now) w v
+        → slice_index labels.new v ≤ label }
 {
     'row: for p in rows.starts[w]..rows.starts[w + 1] {
         count = mark_place(net, rows, labels, order, count, w, p as usize, label);
@@ -336,7 +343,8 @@ pub fn write_row_distances(
     requires rooms { AreRooms net.now rooms.now }
     requires labels_len { length labels.old ≡ nodes net.now }
     requires order_len { length order.old ≡ nodes net.now }
-    ensures { AreDistances net.now (flow_by (carried_flow rows.now) (sink_flows net.now rooms.now)) labels.new }
+    ensures { AreDistances net.now
+        (flow_by (carried_flow rows.now) (sink_flows net.now rooms.now)) labels.new }
 {
     let mut count = mark_starts(net, rooms, labels, order);
     let mut next = 0;

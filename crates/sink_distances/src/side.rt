@@ -7,7 +7,8 @@ use crate::{Outline, arcs_by_node, write_distances};
 use flow_network::Graph;
 use std::alloc::{AllocError, Global};
 
-/// The exact distance of each node to the sink over residual directions, as `write_distances` writes it.
+/// The exact distance of each node to the sink over residual directions, as `write_distances`
+/// writes it.
 ///
 /// Refuses only where memory runs out; a net of 2^32 arcs or more counts as that.
 pub fn distances(
@@ -35,12 +36,13 @@ pub fn distances(
     Ok(labels)
 }
 
-/// The nodes that reach the sink over residual directions: those whose exact distance is below `top_label`. The
-/// answer has one bit for each number of `labels`.
+/// The nodes that reach the sink over residual directions: those whose exact distance is below
+/// `top_label`. The answer has one bit for each number of `labels`.
 ///
 /// Refuses only where memory runs out.
 pub fn sink_side(alloc: Global, net: &Graph, labels: &[u32]) -> Result<Vec<bool>, AllocError>
-    ensures bits { IfOk result (λ side. side.items ≡ map (λ label. nat_lt label (top net.now)) labels.now) }
+    ensures bits { IfOk result
+        (λ side. side.items ≡ map (λ label. nat_lt label (top net.now)) labels.now) }
     ensures reach { IfOk result (λ side. (flow : Flow) → AreDistances net.now flow labels.now →
         IsReach net.now flow (λ v. slice_index_or side.items v false)) }
 {
@@ -49,7 +51,8 @@ pub fn sink_side(alloc: Global, net: &Graph, labels: &[u32]) -> Result<Vec<bool>
 
 /// What `sink_side` answers, of a net whose arcs stand in rows.
 pub fn side_below(alloc: Global, net: &Outline, labels: &[u32]) -> Result<Vec<bool>, AllocError>
-    ensures bits { IfOk result (λ side. side.items ≡ map (λ label. nat_lt label (top net.now)) labels.now) }
+    ensures bits { IfOk result
+        (λ side. side.items ≡ map (λ label. nat_lt label (top net.now)) labels.now) }
     ensures reach { IfOk result (λ side. (flow : Flow) → AreDistances net.now flow labels.now →
         IsReach net.now flow (λ v. slice_index_or side.items v false)) }
 {

@@ -18,7 +18,8 @@ use Rattle.deciding.proofs.Putting.{set_at, set_other}
 use Rattle.closing_in.specs.Fixing.{OnesLieWithin}
 use Rattle.stages.specs.Fresh.{WasExpanded, IsFreshAcross, AreFresh, HoldsNoFresh, HoldsFresh, IsApart, IsPartOf}
 
--- ---- four labellings of which two and two are equal, one way or the other, at each site and at each pair
+-- ---- four labellings of which two and two are equal, one way or the other, at each site and at
+-- each pair
 
 abbrev Paired : (ℕ → ℕ) → (ℕ → ℕ) → (ℕ → ℕ) → (ℕ → ℕ) → ℕ → ℕ → Type 0
 Paired f g h k u v =

@@ -1,5 +1,5 @@
--- What a run of expansions remembers of its moves: their numbers, those of the last that changed each site, and
--- those of each label's last.
+-- What a run of expansions remembers of its moves: their numbers, those of the last that changed
+-- each site, and those of each label's last.
 use Rattle.std.specs.Prelude.{◌≡◌, ◌⊎◌, ℕ, ◌+◌, ◌-◌, ◌^◌, ◌<◌, ◌≤◌, Bool, cond, [], length, slice_index, slice_set}
 use Rattle.labellings.specs.Energies.{Instance}
 use Rattle.stages.specs.declared.changes.Changes.{Changes}
@@ -18,15 +18,15 @@ made_of changes a = slice_index changes.made.items a
 abbrev pub changed_after : Changes → ℕ → ℕ → Bool
 changed_after changes a = changed_since changes.stamps.items (made_of changes a)
 
--- each label whose expansion is remembered was expanded before f came, and each site that changed since has the number of
--- a later move
+-- each label whose expansion is remembered was expanded before f came, and each site that changed
+-- since has the number of a later move
 pub record AreStamped (m : Instance) (f : ℕ → ℕ) (changes : Changes) : Type 0 where
   pub sites : 0 < length changes.made.items → length changes.stamps.items ≡ m.sites
   pub made : (a : ℕ) → made_of changes a ≤ changes.count
   pub known : (a : ℕ) → 0 < made_of changes a → WasExpanded m a (changed_after changes a) f
 
--- an expansion of the label is noted: its number is the next one, which the label has now, and so has each site that took
--- the label
+-- an expansion of the label is noted: its number is the next one, which the label has now, and so
+-- has each site that took the label
 pub record IsNoted (a : ℕ) (took : ℕ → Bool) (old new : Changes) : Type 0 where
   pub within : a < length old.made.items
   pub count : new.count ≡ old.count + 1
@@ -35,7 +35,8 @@ pub record IsNoted (a : ℕ) (took : ℕ → Bool) (old new : Changes) : Type 0 
   pub stamps : (p : ℕ) → p < length old.stamps.items
       → slice_index new.stamps.items p ≡ cond (took p) new.count (slice_index old.stamps.items p)
 
--- all is forgotten, since the label is not one of those that are remembered, or the numbers are at their end
+-- all is forgotten, since the label is not one of those that are remembered, or the numbers are at
+-- their end
 pub record IsForgotten (a : ℕ) (old new : Changes) : Type 0 where
   pub none : new.made.items ≡ []
   pub cause : (length old.made.items ≤ a) ⊎ (old.count ≡ move_limit)

@@ -24,10 +24,11 @@ AreBeside pairs p q = (pair : Pair) × Contains pairs.list pair × AreEnds pair 
 
 -- the site changed, or is beside one that did
 abbrev pub IsNearChange : PairList → (ℕ → Bool) → ℕ → Type 0
-IsNearChange pairs changed p = (changed p ≡ true) ⊎ ((q : ℕ) × (changed q ≡ true) × AreBeside pairs q p)
+IsNearChange pairs changed p =
+    (changed p ≡ true) ⊎ ((q : ℕ) × (changed q ≡ true) × AreBeside pairs q p)
 
--- the fresh sites of the stage are those of an expansion of a from f, of which some sites changed, and no
--- others; the marked ones are listed
+-- the fresh sites of the stage are those of an expansion of a from f, of which some sites changed,
+-- and no others; the marked ones are listed
 pub record AreFreshSites (pairs : PairList) (a : ℕ) (f : ℕ → ℕ) (changed : ℕ → Bool)
     (stage : Stage) : Type 0 where
   pub count : length stage.fresh.items ≡ pairs.sites
@@ -47,9 +48,9 @@ pub record AreTaking (n : ℕ) (stage : Stage) : Type 0 where
   pub inside : All (λ p. p < n) stage.taking.items
   pub front : All (λ p. p < n) stage.front.items
 
--- what takes the label is a closed part of t, whose sites were all looked at: no pair leads from it to
--- another site of t, and it holds the fresh sites of t. It is so whatever the labels: a site that has the
--- label is 0 in t
+-- what takes the label is a closed part of t, whose sites were all looked at: no pair leads from it
+-- to another site of t, and it holds the fresh sites of t. It is so whatever the labels: a site
+-- that has the label is 0 in t
 pub record IsClosedIn (pairs : PairList) (t : ℕ → Bool) (choice : ℕ → Choice)
     (taken fresh : ℕ → Bool) : Type 0 where
   pub within : OnesLieWithin pairs.sites taken t

@@ -69,7 +69,8 @@ pub record IsWider (old new : Stage) : Type 0 where
 -- where no site is to be opened, the site takes the label if it is at 1
 abbrev pub IsSiteSeen : List Choice → List Bool → ℕ → Stage → Type 0
 IsSiteSeen choices bits site stage =
-    length stage.front.items ≡ 0 → value_of choices bits site ≡ true → is_marked stage.taken.items site ≡ true
+    length stage.front.items ≡ 0 → value_of choices bits site ≡ true
+    → is_marked stage.taken.items site ≡ true
 
 -- the other end of the pair was seen
 abbrev pub IsSeenAcross : List Choice → List Bool → ℕ → Pair → Stage → Type 0

@@ -7,9 +7,9 @@ ghost use Rattle.stages.specs.Changes.{made_of, IsForgotten, IsNotedMove};
 use move_energy::Choice;
 use std::alloc::{AllocError, Global};
 
-/// Of each site the number of the move that last changed it, and of each label that of its last expansion, in a run of
-/// expansions whose moves are numbered from 1; 0 where there is none. Where `made` is empty, nothing is remembered. It takes 4
-/// bytes a site and a label.
+/// Of each site the number of the move that last changed it, and of each label that of its last
+/// expansion, in a run of expansions whose moves are numbered from 1; 0 where there is none. Where
+/// `made` is empty, nothing is remembered. It takes 4 bytes a site and a label.
 #[derive(Drop)]
 pub struct Changes {
     pub stamps: Vec<u32>,
@@ -59,8 +59,8 @@ impl Changes {
         }
     }
 
-    /// Gives an expansion of a label the next number. It answers no, and forgets all, where the label is not one of those that
-    /// are remembered, or the numbers are at their end.
+    /// Gives an expansion of a label the next number. It answers no, and forgets all, where the
+    /// label is not one of those that are remembered, or the numbers are at their end.
     fn begin(&mut self, label: u32) -> bool
         ensures begun { IsTrue result → (label < length self.old.made.items)
             × (self.new.count ≡ self.old.count + 1)
@@ -79,7 +79,8 @@ impl Changes {
 
     /// Notes an expansion of a label that gave it to the sites whose value is 1.
     pub fn note_values(&mut self, label: u32, choices: &[Choice])
-        ensures { IsNotedMove label (λ p. bit_of (choice_at choices.now p) false) self.old self.new }
+        ensures { IsNotedMove label (λ p. bit_of (choice_at choices.now p) false)
+            self.old self.new }
     {
         if self.begin(label) {
             stamp_values(&mut self.stamps, self.count, choices);

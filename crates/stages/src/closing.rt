@@ -27,8 +27,8 @@ fn value_at(choices: &[Choice], numbers: &[u32], bits: &[bool], site: u32) -> bo
 }
 
 impl Stage {
-    /// Sees a site that is fresh, or beside one that takes the label: it takes the label too if the cut showed it at 1, and is
-    /// to be opened if it was not looked at.
+    /// Sees a site that is fresh, or beside one that takes the label: it takes the label too if the
+    /// cut showed it at 1, and is to be opened if it was not looked at.
     fn see(
         &mut self,
         choices: &[Choice],
@@ -43,7 +43,8 @@ impl Stage {
         ensures shown { OnOk result (AreShown choices.now bits.now self.new) }
         ensures wider { OnOk result (IsWider self.old self.new) }
         ensures seen { OnOk result (IsSiteSeen choices.now bits.now site self.new) }
-        ensures same { (self.new.fresh ≡ self.old.fresh) × (self.new.fresh_sites ≡ self.old.fresh_sites)
+        ensures same { (self.new.fresh ≡ self.old.fresh)
+            × (self.new.fresh_sites ≡ self.old.fresh_sites)
             × (self.new.opened ≡ self.old.opened) }
     {
         if !value_at(choices, numbers, bits, site) {
@@ -74,8 +75,10 @@ impl Stage {
         requires shown { AreShown choices.now bits.now self.old }
         ensures shown { OnOk result (AreShown choices.now bits.now self.new) }
         ensures wider { OnOk result (IsWider self.old self.new) }
-        ensures seen { OnOk result (AreSeenAround pairs.now ends.now choices.now bits.now site self.new) }
-        ensures same { (self.new.fresh ≡ self.old.fresh) × (self.new.fresh_sites ≡ self.old.fresh_sites)
+        ensures seen { OnOk result
+            (AreSeenAround pairs.now ends.now choices.now bits.now site self.new) }
+        ensures same { (self.new.fresh ≡ self.old.fresh)
+            × (self.new.fresh_sites ≡ self.old.fresh_sites)
             × (self.new.opened ≡ self.old.opened) }
     {
         for index in 0..ends_at(pairs, ends, site) {
@@ -99,7 +102,8 @@ impl Stage {
         ensures shown { OnOk result (AreShown choices.now bits.now self.new) }
         ensures seen { OnOk result (All (λ p. IsSiteSeen choices.now bits.now p self.new)
             self.old.fresh_sites.items) }
-        ensures same { (self.new.fresh ≡ self.old.fresh) × (self.new.fresh_sites ≡ self.old.fresh_sites)
+        ensures same { (self.new.fresh ≡ self.old.fresh)
+            × (self.new.fresh_sites ≡ self.old.fresh_sites)
             × (self.new.opened ≡ self.old.opened) }
     {
         for index in 0..self.fresh_sites.len() {
@@ -109,8 +113,8 @@ impl Stage {
         Ok(())
     }
 
-    /// Sees the sites beside each that takes the label, those that are taken meanwhile too. It answers whether it came to
-    /// the end, which it does, since a site is taken once.
+    /// Sees the sites beside each that takes the label, those that are taken meanwhile too. It
+    /// answers whether it came to the end, which it does, since a site is taken once.
     fn see_beside(
         &mut self,
         pairs: &Pairs,
@@ -126,9 +130,11 @@ impl Stage {
         requires shown { AreShown choices.now bits.now self.old }
         ensures shown { OnOk result (AreShown choices.now bits.now self.new) }
         ensures wider { OnOk result (IsWider self.old self.new) }
-        ensures seen { IfOk result (λ end. IsTrue end → All (λ p. AreSeenAround pairs.now ends.now choices.now
+        ensures seen { IfOk result
+            (λ end. IsTrue end → All (λ p. AreSeenAround pairs.now ends.now choices.now
             bits.now p self.new) self.new.taking.items) }
-        ensures same { (self.new.fresh ≡ self.old.fresh) × (self.new.fresh_sites ≡ self.old.fresh_sites)
+        ensures same { (self.new.fresh ≡ self.old.fresh)
+            × (self.new.fresh_sites ≡ self.old.fresh_sites)
             × (self.new.opened ≡ self.old.opened) }
     {
         for index in 0..choices.len() {
@@ -141,13 +147,15 @@ impl Stage {
         Ok(self.taking.len() <= choices.len())
     }
 
-    /// Finds the parts of what the cut of a stage showed at 1 that hold a fresh site, and answers whether they are closed:
-    /// whether no pair leads from them to a site that was not looked at and could take the label, and no fresh site was
-    /// left out. Then they are what takes the label (Boykov, Veksler, Zabih, PAMI 2001, for what an expansion is). Where
-    /// they are not closed, `front` has sites to open next. `numbers` are the numbers of the open sites' variables, and
+    /// Finds the parts of what the cut of a stage showed at 1 that hold a fresh site, and answers
+    /// whether they are closed: whether no pair leads from them to a site that was not looked at
+    /// and could take the label, and no fresh site was left out. Then they are what takes the label
+    /// (Boykov, Veksler, Zabih, PAMI 2001, for what an expansion is). Where they are not closed,
+    /// `front` has sites to open next. `numbers` are the numbers of the open sites' variables, and
     /// `bits` the values of these.
     ///
-    /// It takes time in proportion to the sites, one byte each, and to the fresh and taken ones and their pairs.
+    /// It takes time in proportion to the sites, one byte each, and to the fresh and taken ones and
+    /// their pairs.
     pub fn close(
         &mut self,
         pairs: &Pairs,
@@ -167,7 +175,8 @@ impl Stage {
             (value_of choices.now bits.now) (choice_at choices.now) (is_marked self.new.taken.items)
             (is_marked self.new.fresh.items)) }
         ensures taking { OnOk result (AreTaking pairs.now.sites self.new) }
-        ensures same { (self.new.fresh ≡ self.old.fresh) × (self.new.fresh_sites ≡ self.old.fresh_sites)
+        ensures same { (self.new.fresh ≡ self.old.fresh)
+            × (self.new.fresh_sites ≡ self.old.fresh_sites)
             × (self.new.opened ≡ self.old.opened) }
     {
         pairs.keeps();

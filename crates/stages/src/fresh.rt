@@ -23,7 +23,8 @@ impl Stage {
         ensures only { OnOk result ((p : ℕ) → is_marked self.new.fresh.items p ≡ true →
             (is_marked self.old.fresh.items p ≡ true)
             ⊎ ((labelling at.now p ≢ alpha) × (p ≡ site))) }
-        ensures here { OnOk result (labelling at.now site ≢ alpha → is_marked self.new.fresh.items site ≡ true) }
+        ensures here { OnOk result
+            (labelling at.now site ≢ alpha → is_marked self.new.fresh.items site ≡ true) }
     {
         if u32::from(at[site as usize]) != alpha {
             mark(&mut self.fresh, &mut self.fresh_sites, site)?;
@@ -51,7 +52,8 @@ impl Stage {
         ensures only { OnOk result ((p : ℕ) → is_marked self.new.fresh.items p ≡ true →
             (is_marked self.old.fresh.items p ≡ true) ⊎ ((labelling at.now p ≢ alpha)
             × ((p ≡ site) ⊎ AreBeside pairs.now site p))) }
-        ensures around { OnOk result (IsMarkedAround pairs.now ends.now alpha (labelling at.now) site
+        ensures around { OnOk result
+            (IsMarkedAround pairs.now ends.now alpha (labelling at.now) site
             (is_marked self.new.fresh.items)) }
     {
         self.mark_site(at, alpha, site)?;
@@ -62,8 +64,9 @@ impl Stage {
         Ok(())
     }
 
-    /// Marks the sites that changed since and those beside them, of all that could take the label. `stamps` has of each site
-    /// the number of the move that last changed it; it changed since where that is above `since`.
+    /// Marks the sites that changed since and those beside them, of all that could take the label.
+    /// `stamps` has of each site the number of the move that last changed it; it changed since
+    /// where that is above `since`.
     pub fn mark_fresh(
         &mut self,
         pairs: &Pairs,

@@ -18,8 +18,8 @@ use std::alloc::AllocError;
 /// So many rings of sites are opened around those that a stage has to look at.
 const RINGS: usize = 20;
 
-/// In the rings may be this many sites, and so many for each site that is open without them, and one for each around which
-/// they lie.
+/// In the rings may be this many sites, and so many for each site that is open without them, and
+/// one for each around which they lie.
 const RING_ROOM: usize = 16;
 
 const RING_SHARE: usize = 4;
@@ -27,7 +27,8 @@ const RING_SHARE: usize = 4;
 /// So many sites are looked over at once for an open one.
 const BLOCK: usize = 64;
 
-/// What is known of a site before the first stage: it is at 0 if it has the label, and else counts as 1.
+/// What is known of a site before the first stage: it is at 0 if it has the label, and else counts
+/// as 1.
 fn first_choice(label: u32, alpha: u32) -> Choice
     ensures { result ≡ choice_of (not (label == alpha)) }
 {
@@ -105,7 +106,8 @@ fn settle(choices: &mut Vec<Choice>, opened: &[u32], bits: &[bool])
 
 /// Adds a site to a list where it is open.
 fn add_open(list: &mut Vec<u32>, site: u32, choice: Choice) -> Result<(), AllocError>
-    ensures { OnOk result (list.new.items ≡ list.old.items ++ cond (is_open choice) (site ∷ []) []) }
+    ensures { OnOk result (list.new.items
+        ≡ list.old.items ++ cond (is_open choice) (site ∷ []) []) }
 {
     if choice.is_open() {
         list.push(site)?;
@@ -188,8 +190,8 @@ fn open_beside(
     Ok(())
 }
 
-/// Opens a ring: the sites beside those that are listed from a place on, of those that were not looked at. They are
-/// listed too.
+/// Opens a ring: the sites beside those that are listed from a place on, of those that were not
+/// looked at. They are listed too.
 fn open_ring(
     pairs: &Pairs,
     ends: &Neighbours,
@@ -235,7 +237,8 @@ fn open_rings(
     Ok(())
 }
 
-/// With the rings so many sites are listed, where so many lie at the front and so many are open without the rings.
+/// With the rings so many sites are listed, where so many lie at the front and so many are open
+/// without the rings.
 fn most_listed(front: usize, open: usize) -> usize {
     open.saturating_mul(RING_SHARE)
         .saturating_add(front)
@@ -244,8 +247,8 @@ fn most_listed(front: usize, open: usize) -> usize {
 }
 
 impl Stage {
-    /// The choices of the first stage: sites that have the label are at 0, fresh sites and rings around them are open, and
-    /// all others count as 1. `opened` lists the open ones.
+    /// The choices of the first stage: sites that have the label are at 0, fresh sites and rings
+    /// around them are open, and all others count as 1. `opened` lists the open ones.
     pub fn open_first(
         &mut self,
         choices: &mut Vec<Choice>,
@@ -261,7 +264,8 @@ impl Stage {
         ensures zeros { OnOk result ((p : ℕ) → p < length at.now →
             (choice_at choices.new.items p ≡ Zero ↔ labelling at.now p ≡ alpha)) }
         ensures opened { OnOk result (AreOpenSites choices.new.items self.new.opened.items) }
-        ensures same { (self.new.fresh ≡ self.old.fresh) × (self.new.fresh_sites ≡ self.old.fresh_sites) }
+        ensures same { (self.new.fresh ≡ self.old.fresh)
+            × (self.new.fresh_sites ≡ self.old.fresh_sites) }
     {
         pairs.keeps();
         choose_first(choices, at, alpha)?;
@@ -273,8 +277,9 @@ impl Stage {
         list_open(&mut self.opened, choices)
     }
 
-    /// The choices of the next stage: what the cut showed to be 0 is 0 for good; the parts that hold a fresh site, `front` and
-    /// rings around it are open, and all else counts as 1. `opened` lists the open ones.
+    /// The choices of the next stage: what the cut showed to be 0 is 0 for good; the parts that
+    /// hold a fresh site, `front` and rings around it are open, and all else counts as 1. `opened`
+    /// lists the open ones.
     pub fn reopen(
         &mut self,
         choices: &mut Vec<Choice>,
@@ -289,9 +294,11 @@ impl Stage {
         requires taking { AreTaking pairs.now.sites self.old }
         ensures count { OnOk result (length choices.new.items ≡ length choices.old.items) }
         ensures zeros { OnOk result ((p : ℕ) → p < length choices.old.items →
-            (choice_at choices.new.items p ≡ Zero ↔ value_of choices.old.items bits.now p ≡ false)) }
+            (choice_at choices.new.items p ≡ Zero
+            ↔ value_of choices.old.items bits.now p ≡ false)) }
         ensures opened { OnOk result (AreOpenSites choices.new.items self.new.opened.items) }
-        ensures same { (self.new.fresh ≡ self.old.fresh) × (self.new.fresh_sites ≡ self.old.fresh_sites) }
+        ensures same { (self.new.fresh ≡ self.old.fresh)
+            × (self.new.fresh_sites ≡ self.old.fresh_sites) }
     {
         pairs.keeps();
         settle(choices, &self.opened, bits);

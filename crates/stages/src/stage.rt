@@ -6,12 +6,13 @@ ghost use Rattle.stages.specs.Working.{IsMarkedToo, IsListedToo};
 use label_field::Pair;
 use std::alloc::{AllocError, Global};
 
-/// What an expansion that is made once more knows of the sites while it looks, in stages, only where something changed.
-/// It keeps its memory for the next one: 2 bytes a site, and 4 for each that is listed.
+/// What an expansion that is made once more knows of the sites while it looks, in stages, only
+/// where something changed. It keeps its memory for the next one: 2 bytes a site, and 4 for each
+/// that is listed.
 #[derive(Drop)]
 pub struct Stage {
-    /// Of each site whether it is fresh: it changed since the label's last expansion or is beside one that did, and could
-    /// take the label.
+    /// Of each site whether it is fresh: it changed since the label's last expansion or is beside
+    /// one that did, and could take the label.
     pub fresh: Vec<bool>,
     /// Those sites.
     pub fresh_sites: Vec<u32>,
@@ -53,7 +54,8 @@ pub(crate) fn unmark_all(flags: &mut Vec<bool>, sites: usize) -> Result<(), Allo
 pub(crate) fn mark(flags: &mut Vec<bool>, sites: &mut Vec<u32>, site: u32) -> Result<(), AllocError>
     requires { site < length flags.old.items }
     ensures marked { OnOk result (IsMarkedToo site flags.old.items flags.new.items) }
-    ensures listed { OnOk result (IsListedToo site flags.old.items sites.old.items sites.new.items) }
+    ensures listed { OnOk result
+        (IsListedToo site flags.old.items sites.old.items sites.new.items) }
 {
     if !flags[site as usize] {
         flags[site as usize] = true;

@@ -1,5 +1,5 @@
--- Why a command was refused: the first cause in the order first image, second image, sizes, seeds, levels,
--- moves, writing.
+-- Why a command was refused: the first cause in the order first image, second image, sizes, seeds,
+-- levels, moves, writing.
 use Rattle.std.specs.Prelude.{◌≡◌, ℕ, ◌<◌, ◌⊎◌, ⊤, List}
 use Rattle.byte_streams.specs.Streams.{Stream}
 use Rattle.byte_streams.specs.declared.sink.WriteFailed.{WriteFailed}
@@ -62,10 +62,12 @@ HasImageError input e = HasNoImage (RefusesFront input) e
 
 -- no image is at the front of the input or none behind it, or the two differ in size
 abbrev pub HasPairError : List ℕ → VisionError → Type 0
-HasPairError input e = HasNoImage (λ reason. RefusesFront input reason ⊎ RefusesSecond input reason) e
+HasPairError input e = HasNoImage
+    (λ reason. RefusesFront input reason ⊎ RefusesSecond input reason) e
     ⊎ (((a : Picture) × (b : Picture) × HoldsTwo input a b × (¬ SameSizes a b)) × (e ≡ SizesDiffer))
 
--- the run of a job was refused: memory may always be, and a move for a pair, for a label's cost, or for its cut
+-- the run of a job was refused: memory may always be, and a move for a pair, for a label's cost, or
+-- for its cut
 abbrev pub HasRunError : (SolveError → Type 0) → Job → VisionError → Type 0
 HasRunError refuses job e = (e ≡ OutOfMemory)
     ⊎ ((error : MoveError) × IsRunRefusal refuses error × RefusesMove job error × TellsRun error e)
@@ -81,7 +83,8 @@ HasRestoreError refuses o input e = HasImageError input e
     ⊎ HasJobError refuses (IsRestoreJob o input) e)
 
 abbrev pub HasStereoError : (SolveError → Type 0) → StereoOptions → List ℕ → VisionError → Type 0
-HasStereoError refuses o input e = HasPairError input e ⊎ HasJobError refuses (IsStereoJob o input) e
+HasStereoError refuses o input e =
+    HasPairError input e ⊎ HasJobError refuses (IsStereoJob o input) e
 
 -- the first seed above 2 has this index
 abbrev pub HasBadSeed : List ℕ → ℕ → Type 0
@@ -98,8 +101,8 @@ HasSegmentError refuses o input e = HasPairError input e
 abbrev pub IsStop : (ℕ → Type 0) → VisionError → Type 0
 IsStop After e = (failed : WriteFailed) × After failed.count × (e ≡ Write failed)
 
--- a refusal leaves the writer as it was, unless the writer failed: then it took the first bytes of the
--- picture's written form, as many as are told
+-- a refusal leaves the writer as it was, unless the writer failed: then it took the first bytes of
+-- the picture's written form, as many as are told
 abbrev pub LeavesWriter : (Job → Type 0) → (VisionError → Type 0) → Stream → Stream
     → VisionError → Type 0
 LeavesWriter IsJob HasError old new e = HasError e

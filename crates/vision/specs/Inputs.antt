@@ -15,15 +15,16 @@ use Rattle.vision.specs.Jobs.{Job, restore_job, stereo_job, segment_job}
 abbrev pub HoldsPicture : List ℕ → Picture → Type 0
 HoldsPicture input p = (used : ℕ) × Front input p used
 
--- from one place on all is white space up to the other, where the input ends or something else stands
+-- from one place on all is white space up to the other, where the input ends or something else
+-- stands
 pub record IsPastSpaces (input : List ℕ) (from at : ℕ) : Type 0 where
   pub ordered : from ≤ at
   pub within : at ≤ length input
   pub spaces : (k : ℕ) → from ≤ k → k < at → is_space (slice_index input k) ≡ true
   pub stops : at < length input → is_space (slice_index input at) ≡ false
 
--- the input begins with this picture, and behind the white space after it a second one is to begin at this
--- place
+-- the input begins with this picture, and behind the white space after it a second one is to begin
+-- at this place
 pub record BeginsSecond (input : List ℕ) (first : Picture) (at : ℕ) : Type 0 where
   pub used : ℕ
   pub front : Front input first used
@@ -31,12 +32,14 @@ pub record BeginsSecond (input : List ℕ) (first : Picture) (at : ℕ) : Type 0
 
 -- the input begins with these two pictures, with nothing but white space between them
 abbrev pub HoldsTwo : List ℕ → Picture → Picture → Type 0
-HoldsTwo input first second = (at : ℕ) × BeginsSecond input first at × HoldsPicture (drop at input) second
+HoldsTwo input first second =
+    (at : ℕ) × BeginsSecond input first at × HoldsPicture (drop at input) second
 
 abbrev pub SameSizes : Picture → Picture → Type 0
 SameSizes a b = (a.width ≡ b.width) × (a.height ≡ b.height)
 
--- the refusal of an image that begins at this place, its position counted from the first byte of the input
+-- the refusal of an image that begins at this place, its position counted from the first byte of
+-- the input
 abbrev pub refusal_from : ℕ → PgmError → PgmError
 refusal_from at (BadHeader k) = BadHeader (at + k)
 refusal_from at (BadSample k) = BadSample (at + k)
@@ -59,7 +62,8 @@ pub record RefusesSecond (input : List ℕ) (e : PgmError) : Type 0 where
 
 -- the job that options and an input name
 abbrev pub IsRestoreJob : RestoreOptions → List ℕ → Job → Type 0
-IsRestoreJob o input job = (p : Picture) × HoldsPicture input p × (p.maxval ≤ 255) × (job ≡ restore_job o p)
+IsRestoreJob o input job =
+    (p : Picture) × HoldsPicture input p × (p.maxval ≤ 255) × (job ≡ restore_job o p)
 
 abbrev pub IsStereoJob : StereoOptions → List ℕ → Job → Type 0
 IsStereoJob o input job =

@@ -20,8 +20,8 @@ use Rattle.vision.specs.Problems.{restore_problem, stereo_problem, segment_probl
 use Rattle.vision.specs.declared.job.Finished.{Finished}
 use Rattle.vision.specs.declared.report.Report.{Report}
 
--- a problem, the kind of moves, the most cycles, whether a bound is asked for, and the sizes and the maxval of the
--- picture that is made
+-- a problem, the kind of moves, the most cycles, whether a bound is asked for, and the sizes and
+-- the maxval of the picture that is made
 pub record Job : Type 0 where
   pub problem : Instance
   pub moves : Moves
@@ -68,8 +68,8 @@ all_zero job = replicate job.problem.sites 0
 abbrev pub picture_of : Job → List ℕ → Picture
 picture_of job labels = picture job.width job.height job.maxval labels
 
--- the chain of best moves from all 0 ends at these labels, which make a picture; swaps are made only where no label costs
--- anything by itself
+-- the chain of best moves from all 0 ends at these labels, which make a picture; swaps are made
+-- only where no label costs anything by itself
 pub record EndsAt (job : Job) (labels : List ℕ) : Type 0 where
   pub cycles : ℕ
   pub settled : Bool
@@ -77,8 +77,9 @@ pub record EndsAt (job : Job) (labels : List ℕ) : Type 0 where
   pub may_make : MayMake job.problem job.moves
   pub is_picture : IsPicture (picture_of job labels)
 
--- the report tells the energy of these labels and its three parts, and, where it is asked for, how near they are to
--- the least energy: a bound exactly where a run that ended so has one, of numbers in the range of smooth costs
+-- the report tells the energy of these labels and its three parts, and, where it is asked for, how
+-- near they are to the least energy: a bound exactly where a run that ended so has one, of numbers
+-- in the range of smooth costs
 pub record Reports (job : Job) (labels : List ℕ) (settled : Bool) (report : Report) : Type 0 where
   pub energy_is : report.energy ≡ pos (energy job.problem (labelling labels))
   pub data_is : report.data_part ≡ pos (data_energy job.problem (labelling labels))
@@ -88,15 +89,16 @@ pub record Reports (job : Job) (labels : List ℕ) (settled : Bool) (report : Re
   pub bound_none : IsFalse job.bound → report.bound ≡ None
   pub bound_most : IfSome report.bound (λ bound. bound.vmax ≤ greatest_smooth_cost)
 
--- the writer took exactly the written form of the picture of the chain's last labels, of which the report
--- tells
+-- the writer took exactly the written form of the picture of the chain's last labels, of which the
+-- report tells
 pub record WritesPicture (job : Job) (old new : Stream) (report : Report) : Type 0 where
   pub labels : List ℕ
   pub ends : EndsAt job labels
   pub took : Takes old new (written_form (picture_of job labels))
   pub tells : Reports job labels ends.settled report
 
--- the writer took exactly the first so many bytes of that written form, and not all; this is what would have been told
+-- the writer took exactly the first so many bytes of that written form, and not all; this is what
+-- would have been told
 pub record StopsAfter (job : Job) (old new : Stream) (count : ℕ) : Type 0 where
   pub labels : List ℕ
   pub ends : EndsAt job labels
@@ -104,11 +106,12 @@ pub record StopsAfter (job : Job) (old new : Stream) (count : ℕ) : Type 0 wher
   pub report : Report
   pub tells : Reports job labels ends.settled report
 
--- the next move of the chain, from the labels that the run had come to, is refused so, and swaps for what a label costs
--- by itself
+-- the next move of the chain, from the labels that the run had come to, is refused so, and swaps
+-- for what a label costs by itself
 abbrev pub RefusesMove : Job → MoveError → Type 0
 RefusesMove job e =
-    (reached : List ℕ) × IsRunOfCycles job.problem (job_moves job) job.cycles (all_zero job) reached (Err e)
+    (reached : List ℕ) × IsRunOfCycles job.problem (job_moves job) job.cycles
+    (all_zero job) reached (Err e)
     × (e ≡ LabelCostInSwap → ¬ MayMake job.problem job.moves)
 
 -- what is ready to be written: the picture of the chain's last labels, and their report

@@ -1,5 +1,5 @@
--- The problems of labels that pictures and options name. A site is a pixel, row by row from the top, each row
--- from the left.
+-- The problems of labels that pictures and options name. A site is a pixel, row by row from the
+-- top, each row from the left.
 use Rattle.std.specs.Prelude.{◌≡◌, ℕ, ◌+◌, ◌-◌, ◌*◌, ◌<◌, ◌==◌, nat_lt, nat_le, min, List, length, map, slice_index, unwrap_or, if◌then◌else◌}
 use Rattle.label_field.specs.declared.pair.Pair.{Pair}
 use Rattle.label_field.specs.Grids.{grid, steps4, steps8, column, distance}
@@ -22,8 +22,8 @@ abbrev pub pairs_of_picture : Neighbours → ℕ → Picture → List Pair
 pairs_of_picture Four weight p = grid p.width p.height weight steps4
 pairs_of_picture Eight weight p = grid p.width p.height weight steps8
 
--- restore: a label is a grey level, and costs a pixel as much as it is away from its sample, and by itself what is given,
--- or nothing
+-- restore: a label is a grey level, and costs a pixel as much as it is away from its sample, and by
+-- itself what is given, or nothing
 abbrev pub restore_problem : RestoreOptions → Picture → Instance
 restore_problem o p = record {
   sites = p.width * p.height;
@@ -34,9 +34,9 @@ restore_problem o p = record {
   label_cost = λ label. unwrap_or o.label_cost 0;
 }
 
--- what a shift to the left costs a pixel of the left picture: how far its sample is from the one so many
--- columns to the left of it in the right picture, at most the cap; the cap where the picture has no such
--- column
+-- what a shift to the left costs a pixel of the left picture: how far its sample is from the one so
+-- many columns to the left of it in the right picture, at most the cap; the cap where the picture
+-- has no such column
 abbrev pub shift_cost : ℕ → Picture → Picture → ℕ → ℕ → ℕ
 shift_cost cap left right site shift =
     if nat_lt (column left.width site) shift then cap
@@ -45,7 +45,8 @@ shift_cost cap left right site shift =
 -- of each pixel how many columns lie to its left, at most 255: no shift is greater
 pub record AreColumns (width : ℕ) (left columns : List ℕ) : Type 0 where
   pub count : length columns ≡ length left
-  pub each : (site : ℕ) → site < length left → slice_index columns site ≡ min (column width site) 255
+  pub each : (site : ℕ) → site < length left
+      → slice_index columns site ≡ min (column width site) 255
 
 -- the same by the samples of both pictures, and how many columns lie to the left of each pixel
 abbrev pub cost_by_columns : ℕ → List ℕ → List ℕ → List ℕ → ℕ → ℕ → ℕ
@@ -68,8 +69,8 @@ stereo_problem o left right = record {
 abbrev pub seed_cost : ℕ
 seed_cost = 10000000
 
--- what a label costs a pixel of this sample and this seed: a free pixel (0) its distance from the label's
--- sample, a seed of label 0 (1) and one of label 1 (2) the seed's cost for the other label
+-- what a label costs a pixel of this sample and this seed: a free pixel (0) its distance from the
+-- label's sample, a seed of label 0 (1) and one of label 1 (2) the seed's cost for the other label
 abbrev pub part_cost : SegmentOptions → ℕ → ℕ → ℕ → ℕ
 part_cost o x seed label =
     if seed == 0 then distance x (if label == 0 then o.low else o.high)
@@ -79,7 +80,8 @@ part_cost o x seed label =
 -- the weight of a pair of pixels: strong where their samples differ by at most the edge, else weak
 abbrev pub edge_weight : SegmentOptions → Picture → Pair → ℕ
 edge_weight o p pair =
-    if nat_le (distance (sample p pair.first) (sample p pair.second)) o.edge then o.strong else o.weak
+    if nat_le (distance (sample p pair.first) (sample p pair.second))
+    o.edge then o.strong else o.weak
 
 -- a pair with another weight
 abbrev pub with_weight : (Pair → ℕ) → Pair → Pair

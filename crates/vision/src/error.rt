@@ -10,10 +10,11 @@ use pgm_image::{PgmError, WriteError};
 use std::alloc::{AllocError, AllocFailed};
 use thiserror::Error;
 
-/// Why a command on pictures was refused: one case for each cause, and the first that holds in the order image, sizes,
-/// seeds, levels, moves, writing, but that memory may be refused anywhere before the first byte is written. The first
-/// image is looked at before the second. Positions count bytes from the first one of the input, also those of the
-/// second image; indices count samples, row by row, from 0.
+/// Why a command on pictures was refused: one case for each cause, and the first that holds in the
+/// order image, sizes, seeds, levels, moves, writing, but that memory may be refused anywhere
+/// before the first byte is written. The first image is looked at before the second. Positions
+/// count bytes from the first one of the input, also those of the second image; indices count
+/// samples, row by row, from 0.
 #[derive(Clone, Copy, Debug, PartialEq, Eq, Error)]
 pub enum VisionError {
     /// Memory was refused, whoever asked for it.
@@ -52,8 +53,8 @@ pub enum VisionError {
     /// The picture to be restored has more than 256 grey levels.
     #[error("too many grey levels")]
     TooManyLevels,
-    /// The first pair whose term in a move is not regular, and the labels of the move: one of an expansion, two of a
-    /// swap.
+    /// The first pair whose term in a move is not regular, and the labels of the move: one of an
+    /// expansion, two of a swap.
     #[error("the term of pair {pair} is not regular")]
     PairNotRegular {
         pair: usize,

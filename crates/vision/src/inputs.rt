@@ -17,8 +17,8 @@ pub(crate) fn read_one(alloc: Global, input: &[u8]) -> Result<Image, VisionError
     Ok(image)
 }
 
-/// The image at the front of the input and the one behind it, with white space alone between them. They have the same
-/// width and the same height.
+/// The image at the front of the input and the one behind it, with white space alone between them.
+/// They have the same width and the same height.
 pub(crate) fn read_two(alloc: Global, input: &[u8]) -> Result<(Image, Image), VisionError>
     ensures held { IfOk result (λ x. HoldsTwo input.now x.0 x.1 × SameSizes x.0 x.1) }
     ensures refused { IfErr result (HasPairError input.now) }
@@ -35,7 +35,8 @@ pub(crate) fn read_two(alloc: Global, input: &[u8]) -> Result<(Image, Image), Vi
     Ok((first, second))
 }
 
-/// A refusal of an image that begins at this place, with its position counted from the first byte of the input.
+/// A refusal of an image that begins at this place, with its position counted from the first byte
+/// of the input.
 fn refusal_from(error: PgmError, at: usize) -> PgmError
     requires { at + position_of error < 2 ^ 64 }
     ensures { result ≡ refusal_from at error }

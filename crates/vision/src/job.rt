@@ -26,7 +26,8 @@ use pgm_image::{Image, put_image};
 use run_options::{Shape, smooth_table};
 use std::alloc::{AllocError, Global};
 
-/// How a problem is run, whether a bound is asked for, and the maxval of the picture that its labels make.
+/// How a problem is run, whether a bound is asked for, and the maxval of the picture that its
+/// labels make.
 #[derive(Clone, Copy)]
 pub(crate) struct Plan {
     pub moves: Moves,
@@ -42,8 +43,8 @@ pub(crate) struct Finished {
     pub report: Report,
 }
 
-/// Makes the moves of a problem on the pixels of a picture, from the label 0 everywhere, and the picture of the last
-/// labels, which are its samples.
+/// Makes the moves of a problem on the pixels of a picture, from the label 0 everywhere, and the
+/// picture of the last labels, which are its samples.
 pub(crate) fn run_job<F: Fn(u32, u32) -> i64 + Sync, H: How>(
     alloc: Global,
     picture: &Image,
@@ -59,7 +60,8 @@ pub(crate) fn run_job<F: Fn(u32, u32) -> i64 + Sync, H: How>(
     requires sites { (data_cost.sites ≡ picture.now.width * picture.now.height)
         × (pairs.sites ≡ picture.now.width * picture.now.height) }
     requires labels { (1 ≤ data_cost.labels) × (data_cost.labels ≤ 256) }
-    requires maxval { (1 ≤ plan.maxval) × (data_cost.labels ≤ plan.maxval + 1) × (plan.maxval ≤ 65535) }
+    requires maxval { (1 ≤ plan.maxval) × (data_cost.labels ≤ plan.maxval + 1)
+        × (plan.maxval ≤ 65535) }
     requires costs { Keeps (F.pre data_cost.f) (F.post data_cost.f) data_cost.sites data_cost.labels
         data_limit }
     requires smooth { (length smooth.now ≡ data_cost.labels * data_cost.labels)
@@ -69,7 +71,8 @@ pub(crate) fn run_job<F: Fn(u32, u32) -> i64 + Sync, H: How>(
     ensures run { (m : Instance) →
         IsInstanceOf (F.post data_cost.f) pairs data_cost.labels smooth.now m →
         HasCosts m label_costs →
-        MatchResult result (IsReadyToWrite (job_of m plan.moves plan.cycles plan.bound picture.now plan.maxval))
+        MatchResult result (IsReadyToWrite
+        (job_of m plan.moves plan.cycles plan.bound picture.now plan.maxval))
         (HasRunError (H.refuses how.now)
         (job_of m plan.moves plan.cycles plan.bound picture.now plan.maxval)) }
     ensures metric { IsMetricTable data_cost.labels smooth.now → (m : Instance) →
@@ -99,7 +102,8 @@ pub(crate) fn run_job<F: Fn(u32, u32) -> i64 + Sync, H: How>(
     Ok(finish(alloc, picture, plan, &run)?)
 }
 
-/// The picture whose samples are the labels of a run, of the size of another picture, and the run's report.
+/// The picture whose samples are the labels of a run, of the size of another picture, and the run's
+/// report.
 fn finish(alloc: Global, source: &Image, plan: Plan, run: &Run) -> Result<Finished, AllocError>
     requires sites { length run.now.labelling.at ≡ source.now.width * source.now.height }
     requires labels { run.now.labelling.labels ≤ plan.maxval + 1 }
@@ -175,17 +179,19 @@ pub(crate) fn smooth_costs(
 ) -> Result<Vec<i64>, AllocError>
     requires labels { labels ≤ 256 }
     requires trunc { trunc ≤ trunc_limit }
-    ensures table { IfOk result (λ table. IsTable labels labels (shape_cost shape trunc) table.items) }
+    ensures table { IfOk result
+        (λ table. IsTable labels labels (shape_cost shape trunc) table.items) }
     ensures costs { IfOk result (λ table. All (IsCost smooth_limit) table.items) }
 {
     smooth_table(alloc, shape, trunc, labels)
 }
 
-/// Whether the table of a smooth cost is a metric: that of Potts costs and that of linear ones are, wherever they are cut
-/// off, and another is tested.
+/// Whether the table of a smooth cost is a metric: that of Potts costs and that of linear ones are,
+/// wherever they are cut off, and another is tested.
 pub(crate) fn is_metric_cost(shape: Shape, table: &[i64], labels: u32) -> bool
     requires labels { 1 ≤ labels }
-    requires table { (most : ℕ) × (1 ≤ most) × IsTable labels labels (shape_cost shape most) table.now }
+    requires table { (most : ℕ) × (1 ≤ most)
+        × IsTable labels labels (shape_cost shape most) table.now }
     ensures { IsTrue result ↔ IsMetricTable labels table.now }
 {
     match shape {
@@ -218,7 +224,8 @@ pub(crate) fn put_finished<S: Sink>(
     sink: &mut S,
 ) -> Result<Report, VisionError>
     ensures told { IfOk result (λ report. report ≡ finished.now.report) }
-    ensures takes { OnOk result (Takes (S.stream sink.old) (S.stream sink.new) (written_form finished.now.image)) }
+    ensures takes { OnOk result
+        (Takes (S.stream sink.old) (S.stream sink.new) (written_form finished.now.image)) }
     ensures stops { IfErr result (IsStop
         (Stops (S.stream sink.old) (S.stream sink.new) (written_form finished.now.image))) }
     ensures kept { S.loan sink.new ≡ S.loan sink.old }

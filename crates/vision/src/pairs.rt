@@ -62,7 +62,8 @@ fn weigh(pairs: &mut Pairs, picture: &Image, options: &SegmentOptions)
     }
 }
 
-/// The weight of a pair of pixels: `strong` where their samples differ by at most `edge`, else `weak`.
+/// The weight of a pair of pixels: `strong` where their samples differ by at most `edge`, else
+/// `weak`.
 fn edge_weight(options: &SegmentOptions, picture: &Image, pair: Pair) -> u32
     requires options { AreSegmentOptions options.now }
     requires pair { IsPair (picture.now.width * picture.now.height) pair }

@@ -11,8 +11,9 @@ pub struct Report {
     pub smooth_part: i64,
     /// What the labels that some pixel has cost by themselves.
     pub label_part: i64,
-    /// How near the picture is to the least energy, where that was asked for: `vmin` times its energy is at most twice
-    /// `vmax` times that of any labelling. None where the run does not tell: its moves were swaps, its last cycle changed
-    /// something, its smooth costs are no metric, or its labels cost something by themselves.
+    /// How near the picture is to the least energy, where that was asked for: `vmin` times its
+    /// energy is at most twice `vmax` times that of any labelling. None where the run does not
+    /// tell: its moves were swaps, its last cycle changed something, its smooth costs are no
+    /// metric, or its labels cost something by themselves.
     pub bound: Option<Bound>,
 }

@@ -25,18 +25,20 @@ const LEVEL_LIMIT: u32 = 255;
 
 /// Restores the picture at the front of the input, and writes the result as `P5`.
 ///
-/// A label is a grey level from 0 to maxval. It costs a pixel the distance to its sample, two labels cost a pair of
-/// neighbours the weight times their smooth cost, and each label that some pixel has costs the label cost once, where
-/// one is given. The picture that is written has the labels where the chain of best moves from all 0 ends, as samples,
-/// and the input's maxval; the report has their energy, and how near it is to the least where that is asked for. Nothing
-/// is written before the last move is finished. What follows the image in the input is not looked at.
+/// A label is a grey level from 0 to maxval. It costs a pixel the distance to its sample, two
+/// labels cost a pair of neighbours the weight times their smooth cost, and each label that some
+/// pixel has costs the label cost once, where one is given. The picture that is written has the
+/// labels where the chain of best moves from all 0 ends, as samples, and the input's maxval; the
+/// report has their energy, and how near it is to the least where that is asked for. Nothing is
+/// written before the last move is finished. What follows the image in the input is not looked at.
 ///
-/// Refused, the first that holds: as `read_image` is where no image is at the front of the input (`NotPgm` to
-/// `BadSample`), `TooManyLevels` where maxval is above 255, as the run of moves is (`PairNotRegular` to
-/// `BadOptions`): of `LabelCostInSwap` exactly where swaps are asked for and the label cost is above 0; `Write` where
-/// the sink failed, which then took the first bytes of the picture's written form, as many as are told. `OutOfMemory`
-/// may come before the first byte is written. `Potts` and `Linear` costs are a metric: with them no move is refused
-/// for a pair. The options are to be in their ranges, which `fits` tells.
+/// Refused, the first that holds: as `read_image` is where no image is at the front of the input
+/// (`NotPgm` to `BadSample`), `TooManyLevels` where maxval is above 255, as the run of moves is
+/// (`PairNotRegular` to `BadOptions`): of `LabelCostInSwap` exactly where swaps are asked for and
+/// the label cost is above 0; `Write` where the sink failed, which then took the first bytes of the
+/// picture's written form, as many as are told. `OutOfMemory` may come before the first byte is
+/// written. `Potts` and `Linear` costs are a metric: with them no move is refused for a pair. The
+/// options are to be in their ranges, which `fits` tells.
 pub fn run_restore<H: How, S: Sink>(
     alloc: Global,
     input: &[u8],
@@ -49,7 +51,8 @@ pub fn run_restore<H: How, S: Sink>(
     ensures done { IfOk result (λ report. (job : Job) × IsRestoreJob options.now input.now job
         × WritesPicture job (S.stream sink.old) (S.stream sink.new) report) }
     ensures refused { IfErr result (LeavesWriter (IsRestoreJob options.now input.now)
-        (HasRestoreError (H.refuses how.now) options.now input.now) (S.stream sink.old) (S.stream sink.new)) }
+        (HasRestoreError (H.refuses how.now) options.now input.now) (S.stream sink.old)
+        (S.stream sink.new)) }
     ensures metric { options.now.smooth ≢ Quadratic → IfErr result (λ e. ¬ IsOfPair e) }
     ensures unchanged { IfErr result (λ e. (¬ IsWrite e) → sink.new ≡ sink.old) }
     ensures kept { S.loan sink.new ≡ S.loan sink.old }

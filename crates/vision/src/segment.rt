@@ -25,20 +25,23 @@ const SEED_LIMIT: u16 = 2;
 /// What the other label costs a seed.
 const SEED_COST: u32 = 10_000_000;
 
-/// Parts the picture of the input in two, by the seeds of a second picture, and writes the labels as `P5`.
+/// Parts the picture of the input in two, by the seeds of a second picture, and writes the labels
+/// as `P5`.
 ///
-/// A label is 0 or 1. It costs a free pixel the distance of its sample to `low` or to `high`, and a seed of label 0 or of
-/// label 1 nothing or 10,000,000: a seed is a cost, not a bar. Two unequal labels cost a pair of neighbours `strong` where
-/// their samples differ by at most `edge`, else `weak`. The picture that is written has the labels where the chain of
-/// best expansions from all 0 ends, as samples, and maxval 1; the report has their energy. Nothing is written before
-/// the last move is finished. Between the images there may be white space, and what follows the second is not looked
-/// at.
+/// A label is 0 or 1. It costs a free pixel the distance of its sample to `low` or to `high`, and a
+/// seed of label 0 or of label 1 nothing or 10,000,000: a seed is a cost, not a bar. Two unequal
+/// labels cost a pair of neighbours `strong` where their samples differ by at most `edge`, else
+/// `weak`. The picture that is written has the labels where the chain of best expansions from all 0
+/// ends, as samples, and maxval 1; the report has their energy. Nothing is written before the last
+/// move is finished. Between the images there may be white space, and what follows the second is
+/// not looked at.
 ///
-/// Refused, the first that holds: as `read_image` is where no image is at the front of the input, or none behind it
-/// (`NotPgm` to `BadSample`), `SizesDiffer` where they differ in width or height, `BadSeed` with the first seed above
-/// 2, as the run of moves is (`Workers`, `BadOptions`), but never for a pair, `Write` where the sink failed, which
-/// then took the first bytes of the picture's written form, as many as are told. `OutOfMemory` may come before the
-/// first byte is written. The options are to be in their ranges, which `fits` tells.
+/// Refused, the first that holds: as `read_image` is where no image is at the front of the input,
+/// or none behind it (`NotPgm` to `BadSample`), `SizesDiffer` where they differ in width or height,
+/// `BadSeed` with the first seed above 2, as the run of moves is (`Workers`, `BadOptions`), but
+/// never for a pair, `Write` where the sink failed, which then took the first bytes of the
+/// picture's written form, as many as are told. `OutOfMemory` may come before the first byte is
+/// written. The options are to be in their ranges, which `fits` tells.
 pub fn run_segment<H: How, S: Sink>(
     alloc: Global,
     input: &[u8],
@@ -51,7 +54,8 @@ pub fn run_segment<H: How, S: Sink>(
     ensures done { IfOk result (λ report. (job : Job) × IsSegmentJob options.now input.now job
         × WritesPicture job (S.stream sink.old) (S.stream sink.new) report) }
     ensures refused { IfErr result (LeavesWriter (IsSegmentJob options.now input.now)
-        (HasSegmentError (H.refuses how.now) options.now input.now) (S.stream sink.old) (S.stream sink.new)) }
+        (HasSegmentError (H.refuses how.now) options.now input.now) (S.stream sink.old)
+        (S.stream sink.new)) }
     ensures metric { IfErr result (λ e. ¬ IsOfPair e) }
     ensures unchanged { IfErr result (λ e. (¬ IsWrite e) → sink.new ≡ sink.old) }
     ensures kept { S.loan sink.new ≡ S.loan sink.old }
@@ -104,7 +108,8 @@ fn part<H: How>(
     requires options { AreSegmentOptions options.now }
     requires sizes { SameSizes picture.now seeds.now }
     requires ready { H.ready how.now }
-    ensures run { MatchResult result (IsReadyToWrite (segment_job options.now picture.now seeds.now))
+    ensures run { MatchResult result
+        (IsReadyToWrite (segment_job options.now picture.now seeds.now))
         (HasRunError (H.refuses how.now) (segment_job options.now picture.now seeds.now)) }
     ensures metric { IfErr result (λ e. ¬ IsOfPair e) }
 {

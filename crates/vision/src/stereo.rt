@@ -20,21 +20,24 @@ use pgm_image::Image;
 use run_options::StereoOptions;
 use std::alloc::{AllocError, Global};
 
-/// Matches the two pictures of the input, the left one first, and writes the shifts of the left one's pixels as `P5`.
+/// Matches the two pictures of the input, the left one first, and writes the shifts of the left
+/// one's pixels as `P5`.
 ///
-/// A label is a shift: so many columns to the left is the pixel of the right picture that shows the same. It costs a
-/// pixel the distance of the two samples, as they stand, but at most the cap, and the cap where the picture has no such
-/// column; two labels cost a pair of neighbours the weight times their smooth cost. The picture that is written has the
-/// labels where the chain of best moves from all 0 ends, as samples, and as maxval the greatest label, but at least 1;
-/// the report has their energy, and how near it is to the least where that is asked for. Nothing is written before the
-/// last move is finished. Between the images there may be white space, and what follows the second is not looked at.
+/// A label is a shift: so many columns to the left is the pixel of the right picture that shows the
+/// same. It costs a pixel the distance of the two samples, as they stand, but at most the cap, and
+/// the cap where the picture has no such column; two labels cost a pair of neighbours the weight
+/// times their smooth cost. The picture that is written has the labels where the chain of best
+/// moves from all 0 ends, as samples, and as maxval the greatest label, but at least 1; the report
+/// has their energy, and how near it is to the least where that is asked for. Nothing is written
+/// before the last move is finished. Between the images there may be white space, and what follows
+/// the second is not looked at.
 ///
-/// Refused, the first that holds: as `read_image` is where no image is at the front of the input, or none behind it
-/// (`NotPgm` to `BadSample`), `SizesDiffer` where they differ in width or height, as the run of moves is
-/// (`PairNotRegular` to `BadOptions`), `Write` where the sink failed, which then took the first bytes of the picture's
-/// written form, as many as are told. `OutOfMemory` may come before the first byte is written. `Potts` and `Linear`
-/// costs are a metric: with them no move is refused for a pair. The options are to be in their ranges, which `fits`
-/// tells.
+/// Refused, the first that holds: as `read_image` is where no image is at the front of the input,
+/// or none behind it (`NotPgm` to `BadSample`), `SizesDiffer` where they differ in width or height,
+/// as the run of moves is (`PairNotRegular` to `BadOptions`), `Write` where the sink failed, which
+/// then took the first bytes of the picture's written form, as many as are told. `OutOfMemory` may
+/// come before the first byte is written. `Potts` and `Linear` costs are a metric: with them no
+/// move is refused for a pair. The options are to be in their ranges, which `fits` tells.
 pub fn run_stereo<H: How, S: Sink>(
     alloc: Global,
     input: &[u8],
@@ -47,7 +50,8 @@ pub fn run_stereo<H: How, S: Sink>(
     ensures done { IfOk result (λ report. (job : Job) × IsStereoJob options.now input.now job
         × WritesPicture job (S.stream sink.old) (S.stream sink.new) report) }
     ensures refused { IfErr result (LeavesWriter (IsStereoJob options.now input.now)
-        (HasStereoError (H.refuses how.now) options.now input.now) (S.stream sink.old) (S.stream sink.new)) }
+        (HasStereoError (H.refuses how.now) options.now input.now) (S.stream sink.old)
+        (S.stream sink.new)) }
     ensures metric { options.now.smooth ≢ Quadratic → IfErr result (λ e. ¬ IsOfPair e) }
     ensures unchanged { IfErr result (λ e. (¬ IsWrite e) → sink.new ≡ sink.old) }
     ensures kept { S.loan sink.new ≡ S.loan sink.old }
@@ -123,7 +127,8 @@ fn match_pictures<H: How>(
 /// The greatest number of columns that is told: no shift is greater.
 const COLUMN_LIMIT: u32 = 255;
 
-/// Of each pixel of a picture of this width how many columns lie to its left, at most 255. So a cost needs no division.
+/// Of each pixel of a picture of this width how many columns lie to its left, at most 255. So a
+/// cost needs no division.
 fn columns_of(alloc: Global, samples: &[u16], width: u32) -> Result<Vec<u8>, AllocError>
     requires width { 1 ≤ width }
     requires few { length samples.now ≤ sample_limit }
@@ -138,7 +143,8 @@ fn columns_of(alloc: Global, samples: &[u16], width: u32) -> Result<Vec<u8>, All
 
 /// What a shift costs a pixel of the left picture, by how many columns lie to the left of each.
 fn shift_cost(cap: u32, columns: &[u8], left: &[u16], right: &[u16], site: u32, shift: u32) -> u32
-    requires site { (site < length columns.now) × (site < length left.now) × (site < length right.now) }
+    requires site { (site < length columns.now) × (site < length left.now)
+        × (site < length right.now) }
     ensures cost { result ≡ cost_by_columns cap columns.now left.now right.now site shift }
     ensures capped { result ≤ cap }
 {

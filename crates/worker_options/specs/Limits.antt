@@ -5,8 +5,8 @@ use Rattle.std.specs.Prelude.{ℕ}
 abbrev pub thread_limit : ℕ
 thread_limit = 64
 
--- the most messages that a ring has room for, 2^16: two rings for each two of 256 blocks then stay far from
--- the bounds of memory's addresses
+-- the most messages that a ring has room for, 2^16: two rings for each two of 256 blocks then stay
+-- far from the bounds of memory's addresses
 abbrev pub ring_limit : ℕ
 ring_limit = 65536
 

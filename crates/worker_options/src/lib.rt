@@ -1,5 +1,5 @@
-//! What workers are told: how many there are, how much one round may take, and the gate that they ask before
-//! each turn.
+//! What workers are told: how many there are, how much one round may take, and the gate that they
+//! ask before each turn.
 #![tactic(auto)]
 
 mod gate;

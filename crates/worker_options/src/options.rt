@@ -19,15 +19,16 @@ pub struct Options {
     pub blocks: u32,
     /// How many messages can be on the way from one block to another, from 1 to `RING_LIMIT`.
     pub ring: u32,
-    /// How many turns are drawn in a round at most, beside the first of each block, from 0 to `TURN_LIMIT`.
+    /// How many turns are drawn in a round at most, beside the first of each block, from 0 to
+    /// `TURN_LIMIT`.
     pub turns: u32,
     /// How many rounds there are at most, from 0 to `ROUND_LIMIT`.
     pub rounds: u32,
 }
 
 impl Options {
-    /// Accepts the options where each number is in its range, and refuses them where one is not. Takes no
-    /// memory.
+    /// Accepts the options where each number is in its range, and refuses them where one is not.
+    /// Takes no memory.
     pub fn check(&self) -> Result<(), BadOptions>
         ensures { IsOk result ↔ AreInRange self.now }
     {

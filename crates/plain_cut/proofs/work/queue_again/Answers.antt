@@ -5,7 +5,8 @@ use Rattle.std.proofs.lemmas.Result.{IfOk-from_err}
 use Rattle.plain_cut.proofs.work.queue_again.Goals as goal
 use Rattle.plain_cut.proofs.work.queue_again.Goals.{then-excess-v-gt0+then-labels-v+in_ok-push_back, else-excess-v-gt0, else-excess-v-gt0-via-then-excess-v-gt0+else-labels-v, else-excess-v-gt0-via-else-excess-v-gt0}
 
--- of the nodes below one place exactly those that have excess and a label below the limit are queued
+-- of the nodes below one place exactly those that have excess and a label below the limit are
+-- queued
 abbrev Queued : ℕ → ℕ → ℕ → List ℕ → List ℕ → List ℕ → Type 0
 Queued n i limit excess labels xs =
     All (λ v. v < n) xs × ((v : ℕ) → v < i → 0 < slice_index excess v → slice_index labels v < limit → Contains xs v) × All (λ v. slice_index labels v < limit) xs
