@@ -21,8 +21,10 @@ pub use pgm_image::{
 pub use plain_cut::solve;
 pub use pseudo_bool::{Energy, EnergyError, Term};
 pub use regular::{Fixed, NotRegular, Regular, check, is_regular_table};
-pub use rounds::{BadOptions, Gate, Open, Options, ParallelError, Workers, solve_parallel};
-pub use solvers::{Alone, How, InOrder, SolveError};
+pub use rounds::{
+    BadOptions, ByThreads, Gate, Open, Options, ParallelError, Workers, solve_parallel,
+};
+pub use solvers::{Alone, Fork, How, InOrder, SidesJob, SolveError};
 pub use vision::{
     Neighbours, Report, RestoreOptions, SegmentOptions, Shape, StereoOptions, VisionError,
     run_restore, run_segment, run_stereo,
