@@ -85,7 +85,7 @@ impl Ends {
     }
 
     /// Takes the ends out, and leaves none.
-    pub(crate) fn take(&mut self) -> Ends
+    pub(crate) fn take_all(&mut self) -> Ends
         ensures { result ≡ self.old }
     {
         let alloc = *self.ports.allocator();

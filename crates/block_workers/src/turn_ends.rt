@@ -99,7 +99,7 @@ pub(crate) fn turn_with(block: &mut Block, ends: &mut Ends, limit: u32) -> u32
     ensures same { AreSame (ports ends.old) (ports ends.new) }
     ensures nodes { count block.new ≡ count block.old }
 {
-    let (back, count) = turn_from::<Brand>(block, ends.take(), limit);
+    let (back, count) = turn_from::<Brand>(block, ends.take_all(), limit);
     *ends = back;
     count
 }

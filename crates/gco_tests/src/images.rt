@@ -330,7 +330,7 @@ pub fn stripes(alloc: Global) -> Result<Vec<u8>, AllocError> {
 
 // In each row a stripe costs 2, its two borders, and would cost 3 if it were black.
 #[test]
-fn stripes(rt: HostRuntime) {
+fn stripes_are_restored(rt: HostRuntime) {
     let picture = stripes(rt.alloc()).expect(&rt, "memory");
     let said = "energy 2048 data 0 smooth 2048\n";
     for (place, words) in SHARED.iter().enumerate() {
