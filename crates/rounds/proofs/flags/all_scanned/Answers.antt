@@ -12,7 +12,7 @@ loop-b-preserved c =
     let items = λ (r : Vec Bool Global). r.items in
     let cells = c.args.cells.now in
     let rows = c.loop-b.rows.items in
-    let row = c.in_ok-scanned.field-0 in
+    let row = c.in_ok-scan_cells.field-0 in
     let block = c.index-cells-b.result in
     let here : block ≡ get_or cells c.loop-b.b block = grind (arith, common_steps) in
     record {
