@@ -1,8 +1,7 @@
 //! Tests of images, labellings and pairs, and of the image commands, as tables: inputs and answers
 //! by hand, pictures whose answers a script finds that tries every labelling
 //! (`tools/pictures_by_definition.py`), inputs that are refused, writers that stop; moves and
-//! pictures by workers, how workers share a net and the strips of a move, and cuts that are
-//! refused.
+//! pictures by workers, how workers share a net, and cuts that are refused.
 #![tactic(auto)]
 
 #[cfg(test)]
@@ -33,8 +32,6 @@ mod rows;
 mod sharing;
 #[cfg(test)]
 mod streams;
-#[cfg(test)]
-mod strips;
 #[cfg(test)]
 mod tasks;
 #[cfg(test)]
