@@ -14,7 +14,8 @@ PAGE = pathlib.Path(__file__).resolve().parent.parent.parent / "docs" / "PYTHON.
 
 def programs():
     """Each program of the page, and the name of the file that it is for, where the page gives one."""
-    return re.findall(r"(?:`(\w+\.py)`[^\n]*:\n\n)?```python\n(.*?)```", PAGE.read_text(), re.S)
+    named = r"(?:`(\w+\.py)`(?:[^\n]|\n(?!\n))*?:\n\n)?"
+    return re.findall(named + r"```python\n(.*?)```", PAGE.read_text(), re.S)
 
 
 def first_ones():
