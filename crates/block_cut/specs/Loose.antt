@@ -2,7 +2,8 @@
 use Rattle.std.specs.Prelude.{ℕ, ◌+◌, ◌<◌, ◌≤◌, List, length}
 use Rattle.block_events.specs.declared.message.Message.{Message}
 use Rattle.block_events.specs.Soundness.{IsSound}
-use Rattle.block_net.specs.Views.{CellsView, count, excess_in, label_in, room_in, lane_in, cells_after_push, cells_after_sink_push}
+use Rattle.block_net.specs.Views.{CellsView, count, excess_in, label_in, room_in, lane_in}
+use Rattle.block_net.specs.Views.{cells_after_push, cells_after_sink_push}
 use Rattle.block_net.specs.Whole.{Whole}
 use Rattle.block_turns.specs.Steps.{IsOfNode}
 use Rattle.block_cut.specs.Seats.{IsSeated, state_with}

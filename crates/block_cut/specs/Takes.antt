@@ -1,7 +1,8 @@
 -- Messages that are taken.
 use Rattle.std.specs.Prelude.{◌≡◌, ℕ, ◌<◌, Bool, List, [], All}
 use Rattle.block_events.specs.declared.event.Event.{Event}
-use Rattle.block_events.specs.declared.event.Event.TheVariants.{PushInner, PushSink, Relabel, Send, Accept, Refuse, Settle, RaiseAll}
+use Rattle.block_events.specs.declared.event.Event.TheVariants.{PushInner, PushSink, Relabel, Send}
+use Rattle.block_events.specs.declared.event.Event.TheVariants.{Accept, Refuse, Settle, RaiseAll}
 use Rattle.block_events.specs.States.{State, way_at}
 use Rattle.block_events.specs.Events.{IsRunOfEvents}
 use Rattle.block_events.specs.Soundness.{IsSound}

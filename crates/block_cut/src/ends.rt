@@ -1,7 +1,8 @@
 ghost use Rattle.std.specs.Prelude.{◌≡◌, ◌*◌, ◌≤◌, ◌<◌, ◌↔◌, IsTrue, true, length};
 ghost use Rattle.block_events.specs.Soundness.{IsSquare};
 ghost use Rattle.block_net.specs.Limits.{arc_limit};
-ghost use Rattle.block_cut.specs.Ends.{IsEnds, seen_by, is_other_block, place_in, outward_direction, ends_view};
+ghost use Rattle.block_cut.specs.Ends.{IsEnds, seen_by, is_other_block, place_in};
+ghost use Rattle.block_cut.specs.Ends.{outward_direction, ends_view};
 
 use block_core::Mail;
 use block_events::{Direction, Message};

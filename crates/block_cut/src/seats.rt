@@ -1,6 +1,7 @@
 //! Laws of seats. These functions do nothing: the contract of each is a law.
 
-ghost use Rattle.block_cut.specs.HistoryLaws.{SeatsMakeRound, StartIsSure, RoomsTellGot, QuietIsStart, RoundIsHeld};
+ghost use Rattle.block_cut.specs.HistoryLaws.{SeatsMakeRound, StartIsSure, RoomsTellGot};
+ghost use Rattle.block_cut.specs.HistoryLaws.{QuietIsStart, RoundIsHeld};
 
 /// Blocks that came back, each after steps of its own, are a round from the state that they showed
 /// before: what they show now, with the messages that are left on the way, is a sound state,

@@ -1,5 +1,6 @@
 -- The eight events: when each is enabled, and what it does.
-use Rattle.std.specs.Prelude.{◌≡◌, ℕ, zero, suc, ◌+◌, ◌<◌, ◌≤◌, Bool, true, false, cond, ◌==◌, ◌&&◌, ◌||◌, nat_lt, min, List, [], ◌∷◌, length, None}
+use Rattle.std.specs.Prelude.{◌≡◌, ℕ, zero, suc, ◌+◌, ◌<◌, ◌≤◌, Bool, true, false, cond, ◌==◌, ◌&&◌}
+use Rattle.std.specs.Prelude.{◌||◌, nat_lt, min, List, [], ◌∷◌, length, None}
 use Rattle.std.specs.Option.{is_some}
 use Rattle.flow_network.specs.Cut.{nodes}
 use Rattle.flow_network.specs.Progress.{top}
@@ -7,9 +8,12 @@ use Rattle.block_events.specs.declared.direction.Direction.{Direction}
 use Rattle.block_events.specs.declared.message.Message.{Message}
 use Rattle.block_events.specs.declared.message.Message.TheVariants.{Parcel, Accepted, Refused}
 use Rattle.block_events.specs.declared.event.Event.{Event}
-use Rattle.block_events.specs.declared.event.Event.TheVariants.{PushInner, PushSink, Relabel, Send, Accept, Refuse, Settle, RaiseAll}
+use Rattle.block_events.specs.declared.event.Event.TheVariants.{PushInner, PushSink, Relabel, Send}
+use Rattle.block_events.specs.declared.event.Event.TheVariants.{Accept, Refuse, Settle, RaiseAll}
 use Rattle.block_events.specs.Directions.{IsDirection, near, far, forward, backward}
-use Rattle.block_events.specs.States.{State, way_at, put_way, put_message, excess_of, label_of, room_of, residual_of, known_of, flight_of, near_block, far_block, is_border, seen_label, IsWay}
+use Rattle.block_events.specs.States.{State, way_at, put_way, put_message, excess_of, label_of}
+use Rattle.block_events.specs.States.{room_of, residual_of, known_of, flight_of, near_block}
+use Rattle.block_events.specs.States.{far_block, is_border, seen_label, IsWay}
 use Rattle.block_events.specs.Effects as effects
 use Rattle.block_events.specs.Effects.{state_of, view_of, blocks_with_known_labels}
 use Rattle.block_events.specs.Reach.{AreExact}
