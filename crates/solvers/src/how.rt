@@ -67,9 +67,9 @@ pub trait How {
         true
     }
 
-    /// How many open sites a move closes in at once, each time by two cuts on the thread of the
-    /// caller, before it asks for its last net; 0 where all that is open is one net. The answers
-    /// are the same, whatever the number.
+    /// How many open sites a move closes in at once, each time by two cuts, before it asks for its
+    /// last net; 0 where all that is open is one net. The answers are the same, whatever the
+    /// number.
     fn strip_sites(&self) -> usize {
         0
     }
