@@ -2,5 +2,6 @@ pub mod Bits
 pub mod Entries
 pub mod Given
 pub mod Lists
+pub mod Numbers
 pub mod Parts
 pub mod Told

@@ -43,15 +43,20 @@ IsTermsRefusal e refusal =
     ((refusal ≡ why.ConstantRange) × ¬ IsValue e.constant)
     ⊎ (IsValue e.constant × AreTermsRefused (record e { terms = [] }) e.terms refusal)
 
+-- there are more variables than an energy may have
+abbrev pub HasTooManyVariables : Energy → Refusal → Type 0
+HasTooManyVariables e refusal = (refusal ≡ why.TooManySites) × (variable_limit < e.variables)
+
+-- the first term that is not regular is told, and of a term of three what is fixed
+abbrev pub HasIrregularTerm : Energy → Refusal → Type 0
+HasIrregularTerm e refusal = (place : ℕ) × (fixed : Option Fixed)
+    × (refusal ≡ why.TermNotRegular place fixed) × IsFirstFailing e place fixed
+
 -- why a call is refused: too many variables, the constant, a term, a term that is not regular, or
 -- memory
 abbrev pub IsMinimumRefusal : Energy → Refusal → Type 0
-IsMinimumRefusal e refusal =
-    ((refusal ≡ why.TooManySites) × (variable_limit < e.variables))
-    ⊎ IsTermsRefusal e refusal
-    ⊎ (IsEnergy e × ((place : ℕ) × (fixed : Option Fixed)
-    × (refusal ≡ why.TermNotRegular place fixed) × IsFirstFailing e place fixed))
-    ⊎ (IsEnergy e × (refusal ≡ why.OutOfMemory))
+IsMinimumRefusal e refusal = HasTooManyVariables e refusal ⊎ IsTermsRefusal e refusal
+    ⊎ (IsEnergy e × HasIrregularTerm e refusal) ⊎ (IsEnergy e × (refusal ≡ why.OutOfMemory))
 
 -- the status and the outcome tell a refusal, and the outcome nothing else
 pub record IsRefusedIn (refusal : Refusal) (status : ℕ) (told : GcoMinimum) : Type 0 where

@@ -1,10 +1,12 @@
 //! Whether the arrays of a call are as long as they must be, and their costs in their ranges.
-ghost use Rattle.std.specs.Prelude.{◌≡◌, pos, IfOk, IfErr};
+ghost use Rattle.std.specs.Prelude.{◌≡◌, ◌↔◌, pos, All, map, IsTrue, IsOk, IfOk, IfErr};
+ghost use Rattle.cost_store.specs.Promises.{IsCost, IsFirstOutside};
 ghost use Rattle.gco_c.specs.Calls.{AreCounted, AreCostsInRange};
 ghost use Rattle.gco_c.specs.Refusals.{IsCountRefusal, IsRangeRefusal};
 
+use crate::cost::Number;
 use crate::refusal::Refusal;
-use cost_store::{CostError, DATA_LIMIT, LABEL_COST_LIMIT, SMOOTH_LIMIT, check_table};
+use cost_store::{CostError, DATA_LIMIT, LABEL_COST_LIMIT, SMOOTH_LIMIT};
 use label_field::{LABEL_LIMIT, SITE_LIMIT};
 
 /// Whether the numbers of sites and labels are in their limits, and there is a cost for each label
@@ -41,9 +43,15 @@ pub(crate) fn check_counts(
 }
 
 /// Whether each cost is in its range.
-pub(crate) fn check_ranges(data: &[i64], smooth: &[i64], label_costs: &[i64]) -> Result<(), Refusal>
-    ensures ok { IfOk result (λ _. AreCostsInRange data.now smooth.now label_costs.now) }
-    ensures refused { IfErr result (IsRangeRefusal data.now smooth.now label_costs.now) }
+pub(crate) fn check_ranges<N: Number>(
+    data: &[N],
+    smooth: &[N],
+    label_costs: &[N],
+) -> Result<(), Refusal>
+    ensures ok { IfOk result (λ _. AreCostsInRange (map N.value data.now)
+        (map N.value smooth.now) (map N.value label_costs.now)) }
+    ensures refused { IfErr result (IsRangeRefusal (map N.value data.now)
+        (map N.value smooth.now) (map N.value label_costs.now)) }
 {
     if let Err(CostError::CostRange(place)) = check_table(data, DATA_LIMIT) {
         return Err(Refusal::DataRange(place));
@@ -55,4 +63,24 @@ pub(crate) fn check_ranges(data: &[i64], smooth: &[i64], label_costs: &[i64]) ->
         return Err(Refusal::LabelCostRange(place));
     }
     Ok(())
+}
+
+/// Whether each entry of a table is from 0 to `most`: if not, the first that is not.
+fn check_table<N: Number>(table: &[N], most: i64) -> Result<(), CostError>
+    ensures fits { IsOk result ↔ All (IsCost most) (map N.value table.now) }
+    ensures first { IfErr result (IsFirstOutside most (map N.value table.now)) }
+{
+    for index in 0..table.len() {
+        if !is_cost(table[index].wide(), most) {
+            return Err(CostError::CostRange(index));
+        }
+    }
+    Ok(())
+}
+
+/// Whether a number is from 0 to `most`.
+fn is_cost(cost: i64, most: i64) -> bool
+    ensures { IsTrue result ↔ IsCost most cost }
+{
+    0 <= cost && cost <= most
 }

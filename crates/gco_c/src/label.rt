@@ -1,9 +1,10 @@
 //! Runs of moves for C.
-ghost use Rattle.std.specs.Prelude.{◌≡◌, ◌≢◌, length, IfSome, IfOk, IfErr, None, Ok};
+ghost use Rattle.std.specs.Prelude.{◌≡◌, ◌≢◌, length, map, IfSome, IfOk, IfErr, None, Ok};
 ghost use Rattle.moves.specs.Runs.{AnswersRun};
 ghost use Rattle.gco_c.specs.Calls.{IsGiven, IsRunTold, call_arrays, instance_given, moves_number};
 ghost use Rattle.gco_c.specs.Refusals.{IsRefusalTold, IsLabelRefusal};
 
+use crate::cost::{Number, wide_copy};
 use crate::outcome::{GcoOutcome, refuse, tell_run};
 use crate::pairs::GcoPair;
 use crate::ready::ready_of;
@@ -40,6 +41,85 @@ pub extern "C" fn gco_label(
         pairs.now labels.old)
         moves cycles result outcome.new }
 {
+    label_over(
+        alloc,
+        label_count,
+        data,
+        smooth,
+        label_costs,
+        pairs,
+        moves,
+        cycles,
+        labels,
+        outcome,
+    )
+}
+
+/// What `gco_label` does, over costs of 32 bits.
+#[unsafe(no_mangle)]
+pub extern "C" fn gco_label_int32(
+    alloc: Global,
+    label_count: u32,
+    data: &[i32],
+    smooth: &[i32],
+    label_costs: &[i32],
+    pairs: &[GcoPair],
+    moves: u32,
+    cycles: u32,
+    labels: &mut [u32],
+    outcome: &mut GcoOutcome,
+) -> u32
+    ensures given { result ≡ 0 →
+        IsGiven (call_arrays label_count data.now smooth.now label_costs.now pairs.now labels.old) }
+    ensures ran { result ≡ 0 →
+        IsRunTold (call_arrays label_count data.now smooth.now label_costs.now pairs.now labels.old)
+        moves cycles labels.new outcome.new }
+    ensures unchanged { result ≢ 0 → labels.new ≡ labels.old }
+    ensures refused { result ≢ 0 →
+        IsRefusalTold (call_arrays label_count data.now smooth.now label_costs.now
+        pairs.now labels.old)
+        moves cycles result outcome.new }
+{
+    label_over(
+        alloc,
+        label_count,
+        data,
+        smooth,
+        label_costs,
+        pairs,
+        moves,
+        cycles,
+        labels,
+        outcome,
+    )
+}
+
+/// Makes the moves that a number names over the arrays that were given, and tells where they ended.
+fn label_over<N: Number>(
+    alloc: Global,
+    label_count: u32,
+    data: &[N],
+    smooth: &[N],
+    label_costs: &[N],
+    pairs: &[GcoPair],
+    moves: u32,
+    cycles: u32,
+    labels: &mut [u32],
+    outcome: &mut GcoOutcome,
+) -> u32
+    ensures given { result ≡ 0 →
+        IsGiven (call_arrays label_count (map N.value data.now) (map N.value smooth.now)
+        (map N.value label_costs.now) pairs.now labels.old) }
+    ensures ran { result ≡ 0 →
+        IsRunTold (call_arrays label_count (map N.value data.now) (map N.value smooth.now)
+        (map N.value label_costs.now) pairs.now labels.old)
+        moves cycles labels.new outcome.new }
+    ensures unchanged { result ≢ 0 → labels.new ≡ labels.old }
+    ensures refused { result ≢ 0 →
+        IsRefusalTold (call_arrays label_count (map N.value data.now) (map N.value smooth.now)
+        (map N.value label_costs.now) pairs.now labels.old)
+        moves cycles result outcome.new }
+{
     let Some(kind) = moves_of(moves) else {
         return refuse(outcome, Refusal::NoSuchMoves);
     };
@@ -65,30 +145,36 @@ pub extern "C" fn gco_label(
 
 /// Makes the moves that were asked for over the arrays that were given, and answers where they
 /// ended.
-fn run_call(
+fn run_call<N: Number>(
     alloc: Global,
     labels: u32,
-    data: &[i64],
-    smooth: &[i64],
-    label_costs: &[i64],
+    data: &[N],
+    smooth: &[N],
+    label_costs: &[N],
     given: &[GcoPair],
     moves: Moves,
     cycles: u32,
     at: &[u32],
 ) -> Result<Run, Refusal>
     ensures given { IfOk result (λ _.
-        IsGiven (call_arrays labels data.now smooth.now label_costs.now given.now at.now)) }
+        IsGiven (call_arrays labels (map N.value data.now) (map N.value smooth.now)
+        (map N.value label_costs.now) given.now at.now)) }
     ensures run { IfOk result (λ run.
         AnswersRun (instance_given
-        (call_arrays labels data.now smooth.now label_costs.now given.now at.now))
+        (call_arrays labels (map N.value data.now) (map N.value smooth.now)
+        (map N.value label_costs.now) given.now at.now))
         moves cycles at.now (Ok run)) }
     ensures sized { IfOk result (λ run. length run.labelling.at ≡ length at.now) }
     ensures refused { IfErr result
-        (IsLabelRefusal (call_arrays labels data.now smooth.now label_costs.now given.now at.now)
+        (IsLabelRefusal (call_arrays labels (map N.value data.now) (map N.value smooth.now)
+        (map N.value label_costs.now) given.now at.now)
         moves cycles) }
 {
     let ready = ready_of(alloc, labels, data, smooth, label_costs, given, at)?;
-    match run_over(alloc, ready, data, smooth, moves, cycles) {
+    let Ok(smooth) = wide_copy(alloc, smooth) else {
+        return Err(Refusal::OutOfMemory);
+    };
+    match run_over(alloc, ready, data, &smooth, moves, cycles) {
         Ok(run) => Ok(run),
         Err(error) => Err(refusal_of(error)),
     }

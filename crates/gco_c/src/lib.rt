@@ -3,7 +3,7 @@
 #![tactic(auto)]
 
 mod checks;
-mod int32;
+mod cost;
 mod label;
 mod minimise;
 mod moving;
@@ -17,8 +17,7 @@ mod terms;
 #[cfg(test)]
 mod tests;
 
-pub use int32::gco_label_int32;
-pub use label::gco_label;
+pub use label::{gco_label, gco_label_int32};
 pub use minimise::{GcoMinimum, gco_minimise};
 pub use moving::{gco_expand, gco_swap};
 pub use outcome::GcoOutcome;

@@ -2,6 +2,7 @@
 ghost use Rattle.std.specs.Prelude.{◌≡◌, ◌≢◌, ℕ, ◌+◌, ◌*◌, ◌<◌, ◌≤◌, All, Ok, IfOk, IfErr, length};
 ghost use Rattle.cost_store.specs.Limits.{data_limit, smooth_limit};
 ghost use Rattle.cost_store.specs.Promises.{IsCost, cost_in, entry_at};
+ghost use Rattle.label_field.specs.Limits.{label_limit};
 ghost use Rattle.labellings.specs.declared.change.Move.TheVariants.{Expand, Swap};
 ghost use Rattle.moves.specs.Instances.{instance_of};
 ghost use Rattle.cost_store.specs.Posed.{IsPosed, WhereMeant, FitsProblem, AreOfOneSize};
@@ -212,7 +213,7 @@ fn move_over(
     ready.pairs.keeps();
     let data_cost = DataCost::new(
         |site: u32, label: u32| -> i64
-            requires { (site * labels + label < length data.now) × (labels ≤ 256) }
+            requires { (site * labels + label < length data.now) × (labels ≤ label_limit) }
             ensures { result ≡ entry_at labels data.entry.now site label }
         { data[site as usize * labels as usize + label as usize] },
         sites,
@@ -220,7 +221,7 @@ fn move_over(
     );
     let smooth_cost = SmoothCost::new(
         |first: u32, second: u32| -> i64
-            requires { (first * labels + second < length smooth.now) × (labels ≤ 256) }
+            requires { (first * labels + second < length smooth.now) × (labels ≤ label_limit) }
             ensures { result ≡ entry_at labels smooth.entry.now first second }
         { smooth[first as usize * labels as usize + second as usize] },
         labels,

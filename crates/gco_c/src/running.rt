@@ -1,7 +1,8 @@
 //! Runs and moves over tables of costs where they lie, in the caller's memory.
-ghost use Rattle.std.specs.Prelude.{◌≡◌, pos, ◌+◌, ◌*◌, ◌<◌, ◌≤◌, All, IfOk, IfErr, OnErr, length};
+ghost use Rattle.std.specs.Prelude.{◌≡◌, pos, ◌+◌, ◌*◌, ◌<◌, ◌≤◌, All, IfOk, IfErr, OnErr, length, map};
 ghost use Rattle.cost_store.specs.Limits.{data_limit, smooth_limit};
 ghost use Rattle.cost_store.specs.Promises.{IsCost, cost_in, entry_at};
+ghost use Rattle.label_field.specs.Limits.{label_limit};
 ghost use Rattle.moves.specs.Instances.{instance_of};
 ghost use Rattle.moves.specs.Runs.{AnswersRun, IsRunInRange};
 ghost use Rattle.cost_store.specs.LabelCosts.{AreLabelCosts, costs_of};
@@ -9,6 +10,7 @@ ghost use Rattle.moves.specs.Problems.{IsRunRefusal};
 ghost use Rattle.solvers.specs.declared.solve_error.SolveError.TheVariants.{OutOfMemory};
 ghost use Rattle.gco_c.specs.Refusals.{move_refusal};
 
+use crate::cost::Number;
 use crate::ready::Ready;
 use crate::refusal::Refusal;
 use cost_store::{DataCost, is_metric};
@@ -17,22 +19,22 @@ use moves::{Alone, MoveError, Request, Run, run_with_table};
 use std::alloc::Global;
 
 /// Makes moves over tables of costs.
-pub(crate) fn run_over(
+pub(crate) fn run_over<N: Number>(
     alloc: Global,
     ready: Ready,
-    data: &[i64],
+    data: &[N],
     smooth: &[i64],
     moves: Moves,
     cycles: u32,
 ) -> Result<Run, MoveError>
     requires sites { length ready.start.at ≡ ready.pairs.sites }
     requires data { (length data.now ≡ ready.pairs.sites * ready.start.labels)
-        × All (IsCost data_limit) data.now }
+        × All (IsCost data_limit) (map N.value data.now) }
     requires smooth { (length smooth.now ≡ ready.start.labels * ready.start.labels)
         × All (IsCost smooth_limit) smooth.now }
     requires label_costs { AreLabelCosts ready.start.labels ready.label_costs }
     ensures run { AnswersRun (instance_of ready.pairs ready.start.labels
-        (cost_in ready.start.labels data.now) smooth.now (costs_of ready.label_costs))
+        (cost_in ready.start.labels (map N.value data.now)) smooth.now (costs_of ready.label_costs))
         moves cycles ready.start.at result }
     ensures refused { IfErr result (IsRunRefusal (λ e. e ≡ OutOfMemory)) }
     ensures sized { IfOk result (IsRunInRange ready.start) }
@@ -41,9 +43,9 @@ pub(crate) fn run_over(
     let sites = ready.start.sites();
     let data_cost = DataCost::new(
         |site: u32, label: u32| -> i64
-            requires { (site * labels + label < length data.now) × (labels ≤ 256) }
-            ensures { result ≡ entry_at labels data.entry.now site label }
-        { data[site as usize * labels as usize + label as usize] },
+            requires { (site * labels + label < length data.now) × (labels ≤ label_limit) }
+            ensures { result ≡ entry_at labels (map N.value data.entry.now) site label }
+        { data[site as usize * labels as usize + label as usize].wide() },
         sites,
         labels,
     );
